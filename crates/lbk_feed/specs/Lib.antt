@@ -1,0 +1,4 @@
+-- What the contracts of this crate cite.
+pub mod Devices
+pub mod Device
+pub mod MemoryDevices

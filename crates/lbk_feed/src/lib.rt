@@ -1,0 +1,12 @@
+//! Devices that give and take bytes, and the feed that makes well-formed UTF-8 of what a device gives.
+#![tactic(auto)]
+
+mod adapter;
+#[cfg(test)]
+mod device_tests;
+pub mod devices;
+mod tally;
+mod traits;
+
+pub use adapter::Device;
+pub use traits::{Failed, Sink, Source};
