@@ -1,4 +1,7 @@
 -- What the contracts of this crate cite.
-pub mod Devices
 pub mod Device
-pub mod MemoryDevices
+pub mod Devices
+pub mod MemorySink
+pub mod MemorySource
+pub mod RepeatedSource
+pub mod Tally

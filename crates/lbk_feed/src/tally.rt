@@ -41,7 +41,7 @@ impl Tally {
 
     /// Notes a write.
     pub fn note_write(&mut self, outcome: &Result<usize, Failed>)
-        ensures failures { self.new.failures ≡ failures_after self.old.failures outcome.now }
+        ensures { self.new ≡ record self.old { failures = failures_after self.old.failures outcome.now } }
     {
         if outcome.is_err() {
             self.failures = self.failures.saturating_add(1);

@@ -1,0 +1,108 @@
+//! Memory that is written to, up to a room.
+
+ghost use Rattle.std.specs.Prelude.{◌≡◌, ◌<◌, ◌≤◌, ◌-◌, [], min, max, length, vec_capacity, Some, IfOk, OnErr};
+ghost use Rattle.lbk_feed.specs.Devices.{Puts};
+ghost use Rattle.lbk_feed.specs.Tally.{IsFresh};
+
+use crate::tally::Tally;
+use crate::traits::{Failed, Sink};
+use std::alloc::{AllocError, Global};
+
+/// A sink into memory, which takes a number of bytes and then fails.
+#[derive(Drop)]
+pub struct MemorySink {
+    bytes: Vec<u8>,
+    room: usize,
+    most: usize,
+    tally: Tally,
+    ghost moves: { 0 < most },
+    ghost reserved: { room ≤ vec_capacity bytes },
+}
+
+impl MemorySink {
+    ghost use Rattle.lbk_feed.specs.MemorySink.{sink_bytes, sink_room, most_in_a_write, sink_tally};
+
+    /// Takes `room` bytes, all that a write offers while there is room, and then fails.
+    ///
+    /// The memory is taken here, and none later.
+    pub fn new(alloc: Global, room: usize) -> Result<MemorySink, AllocError>
+        ensures bytes { IfOk result (λ s. sink_bytes s ≡ []) }
+        ensures room { IfOk result (λ s. sink_room s ≡ room) }
+        ensures most { IfOk result (λ s. most_in_a_write s ≡ usize.MAX) }
+        ensures fresh { IfOk result (λ s. IsFresh (sink_tally s)) }
+    {
+        Ok(MemorySink {
+            bytes: Vec::with_capacity(alloc, room)?,
+            room,
+            most: usize::MAX,
+            tally: Tally::new(),
+        })
+    }
+
+    /// The same sink, of which a write takes at most `most` bytes; 0 is read as 1.
+    pub fn at_most(self, most: usize) -> MemorySink
+        ensures bytes { sink_bytes result ≡ sink_bytes self }
+        ensures room { sink_room result ≡ sink_room self }
+        ensures most { most_in_a_write result ≡ max most 1 }
+        ensures tally { sink_tally result ≡ sink_tally self }
+    {
+        let MemorySink {
+            bytes,
+            room,
+            most: _,
+            tally,
+        } = self;
+        MemorySink {
+            bytes,
+            room,
+            most: most.max(1),
+            tally,
+        }
+    }
+
+    /// The bytes that were written.
+    pub fn bytes(&self) -> &[u8]
+        ensures { result.now ≡ sink_bytes self.now }
+    {
+        self.bytes.as_slice()
+    }
+
+    fn take(&mut self, bytes: &[u8]) -> Result<usize, Failed>
+        ensures within { IfOk result (λ n. n ≤ length bytes.now) }
+        ensures some { 0 < length bytes.now → IfOk result (λ n. 0 < n) }
+        ensures size { IfOk result (λ n.
+            n ≡ min (min (length bytes.now) (most_in_a_write self.old)) (sink_room self.old - length (sink_bytes self.old))) }
+        ensures fails { OnErr result (sink_room self.old ≤ length (sink_bytes self.old)) }
+        ensures bytes { Puts (Some (sink_bytes self.old)) (Some (sink_bytes self.new)) result bytes.now }
+        ensures tally { sink_tally self.new ≡ sink_tally self.old }
+    {
+        let room = self.room.saturating_sub(self.bytes.len());
+        let n = bytes.len().min(self.most).min(room);
+        if n == 0 && !bytes.is_empty() {
+            return Err(Failed);
+        }
+        match self.bytes.extend_from_slice(&bytes[..n]) {
+            Ok(()) => Ok(n),
+            Err(_) => unreachable!(),
+        }
+    }
+}
+
+impl Sink for MemorySink {
+    ghost use Rattle.std.specs.Prelude.{Some};
+    ghost use Rattle.lbk_feed.specs.MemorySink.{sink_bytes, sink_tally};
+
+    ghost written = { λ s. Some (sink_bytes s) };
+
+    ghost failure_count = { λ s. (sink_tally s).failures };
+
+    fn write(&mut self, bytes: &[u8]) -> Result<usize, Failed> {
+        let outcome = self.take(bytes);
+        self.tally.note_write(&outcome);
+        outcome
+    }
+
+    fn failures(&self) -> u64 {
+        self.tally.failures
+    }
+}

@@ -1,0 +1,123 @@
+//! Bytes in memory, read in pieces, with a read that fails.
+
+ghost use Rattle.std.specs.Prelude.{◌≡◌, ◌≤◌, ◌↔◌, [], min, length, Some, None, IsErr, IfOk};
+ghost use Rattle.lbk_feed.specs.Devices.{Takes};
+ghost use Rattle.lbk_feed.specs.Tally.{IsFresh};
+ghost use Rattle.lbk_feed.specs.MemorySource.{source_bytes, source_sizes, next_size_of, failing_read, source_tally};
+
+use crate::tally::Tally;
+use crate::traits::{Failed, Source};
+
+/// A source over bytes in memory.
+#[derive(Drop)]
+pub struct MemorySource<'a> {
+    rest: &'a [u8],
+    sizes: &'a [usize],
+    failing: Option<u64>,
+    tally: Tally,
+}
+
+impl<'a> MemorySource<'a> {
+    /// Gives `bytes`, as many in each read as there is room for.
+    pub fn new(bytes: &'a [u8]) -> MemorySource<'a>
+        ensures bytes { source_bytes result ≡ bytes.now }
+        ensures sizes { source_sizes result ≡ [] }
+        ensures failing { failing_read result ≡ None }
+        ensures fresh { IsFresh (source_tally result) }
+    {
+        MemorySource::cut(bytes, &[])
+    }
+
+    /// Gives `bytes`, in reads of the sizes in turn, the last of them for all that follow.
+    ///
+    /// A read gives fewer where there is no more room or where the bytes end; a size of 0 is read as 1.
+    pub fn cut(bytes: &'a [u8], sizes: &'a [usize]) -> MemorySource<'a>
+        ensures bytes { source_bytes result ≡ bytes.now }
+        ensures sizes { source_sizes result ≡ sizes.now }
+        ensures failing { failing_read result ≡ None }
+        ensures fresh { IsFresh (source_tally result) }
+    {
+        MemorySource {
+            rest: bytes,
+            sizes,
+            failing: None,
+            tally: Tally::new(),
+        }
+    }
+
+    /// The same source, whose read of that number, counted from 0, fails; the next one goes on.
+    pub fn failing_at(self, read: u64) -> MemorySource<'a>
+        ensures bytes { source_bytes result ≡ source_bytes self.entry }
+        ensures sizes { source_sizes result ≡ source_sizes self.entry }
+        ensures failing { failing_read result ≡ Some read }
+        ensures tally { source_tally result ≡ source_tally self.entry }
+    {
+        MemorySource {
+            failing: Some(read),
+            ..self
+        }
+    }
+
+    /// The most bytes that the next read gives.
+    fn next_size(&mut self) -> usize
+        ensures size { result ≡ next_size_of (source_sizes self.old) }
+        ensures bytes { source_bytes self.new ≡ source_bytes self.old }
+        ensures failing { failing_read self.new ≡ failing_read self.old }
+        ensures tally { source_tally self.new ≡ source_tally self.old }
+    {
+        match self.sizes {
+            [] => usize::MAX,
+            [last] => (*last).max(1),
+            [first, later @ ..] => {
+                self.sizes = later;
+                (*first).max(1)
+            }
+        }
+    }
+
+    fn give(&mut self, buf: &mut [u8]) -> Result<usize, Failed>
+        ensures within { IfOk result (λ n. n ≤ length buf.old) }
+        ensures fails { IsErr result ↔ (failing_read self.old ≡ Some (source_tally self.old).reads) }
+        ensures size { IfOk result (λ n. n ≡ min (min (next_size_of (source_sizes self.old)) (length buf.old)) (length (source_bytes self.old))) }
+        ensures bytes { Takes (Some (source_bytes self.old)) (Some (source_bytes self.new)) result buf.new }
+        ensures failing { failing_read self.new ≡ failing_read self.old }
+        ensures tally { source_tally self.new ≡ source_tally self.old }
+    {
+        if self.failing == Some(self.tally.reads) {
+            return Err(Failed);
+        }
+        let n = self.next_size().min(buf.len()).min(self.rest.len());
+        let (front, later) = self.rest.split_at(n);
+        buf[..n].copy_from_slice(front);
+        self.rest = later;
+        Ok(n)
+    }
+}
+
+impl Source for MemorySource<'_> {
+    ghost unread = { λ s. Some (source_bytes s) };
+
+    ghost read_count = { λ s. (source_tally s).reads };
+
+    ghost failure_count = { λ s. (source_tally s).failures };
+
+    ghost has_ended = { λ s. (source_tally s).ended };
+
+    fn read(&mut self, buf: &mut [u8]) -> Result<usize, Failed> {
+        let outcome = self.give(buf);
+        self.tally.note_read(&outcome, buf.len());
+        outcome
+    }
+
+    fn reads(&self) -> u64 {
+        self.tally.reads
+    }
+
+    fn failures(&self) -> u64 {
+        self.tally.failures
+    }
+
+    fn ended(&self) -> bool {
+        self.tally.ended
+    }
+}

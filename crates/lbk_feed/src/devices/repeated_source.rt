@@ -1,0 +1,70 @@
+//! One byte as often as it is wanted, for inputs that are too long to hold.
+
+ghost use Rattle.std.specs.Prelude.{◌≡◌, ◌<◌, ◌≤◌, [], ◌++◌, length, take, replicate, Some};
+ghost use Rattle.lbk_feed.specs.Tally.{IsFresh};
+ghost use Rattle.lbk_feed.specs.RepeatedSource.{repeated_bytes, repeated_tally};
+
+use crate::tally::Tally;
+use crate::traits::{Failed, Source};
+
+/// A source that gives one byte again and again, and holds none.
+#[derive(Drop)]
+pub struct RepeatedSource {
+    byte: u8,
+    left: u64,
+    tally: Tally,
+}
+
+impl RepeatedSource {
+    /// Gives `byte` `count` times, as many in each read as there is room for.
+    pub fn new(byte: u8, count: u64) -> RepeatedSource
+        ensures bytes { repeated_bytes result ≡ replicate count byte }
+        ensures fresh { IsFresh (repeated_tally result) }
+    {
+        RepeatedSource {
+            byte,
+            left: count,
+            tally: Tally::new(),
+        }
+    }
+
+    fn give(&mut self, buf: &mut [u8]) -> usize
+        ensures within { result ≤ length buf.old }
+        ensures bytes { repeated_bytes self.old ≡ take result buf.new ++ repeated_bytes self.new }
+        ensures end { result ≡ 0 → 0 < length buf.old → repeated_bytes self.new ≡ [] }
+        ensures tally { repeated_tally self.new ≡ repeated_tally self.old }
+    {
+        let n = self.left.min(buf.len() as u64) as usize;
+        buf[..n].fill(self.byte);
+        self.left -= n as u64;
+        n
+    }
+}
+
+impl Source for RepeatedSource {
+    ghost unread = { λ s. Some (repeated_bytes s) };
+
+    ghost read_count = { λ s. (repeated_tally s).reads };
+
+    ghost failure_count = { λ s. (repeated_tally s).failures };
+
+    ghost has_ended = { λ s. (repeated_tally s).ended };
+
+    fn read(&mut self, buf: &mut [u8]) -> Result<usize, Failed> {
+        let outcome = Ok(self.give(buf));
+        self.tally.note_read(&outcome, buf.len());
+        outcome
+    }
+
+    fn reads(&self) -> u64 {
+        self.tally.reads
+    }
+
+    fn failures(&self) -> u64 {
+        self.tally.failures
+    }
+
+    fn ended(&self) -> bool {
+        self.tally.ended
+    }
+}
