@@ -1,0 +1,7 @@
+pub mod Chain
+pub mod Classes
+pub mod Labels
+pub mod Rules
+pub mod Sides
+pub mod Units
+pub mod Verdict
