@@ -7,6 +7,7 @@ use Rattle.lbk_rules.specs.declared.cells.Cell.{Cell}
 use Rattle.lbk_rules.specs.Sides.{Side}
 use Rattle.lbk_rules.specs.Rules.{Line, cell_rules, space_rules, letter_rules}
 use Rattle.lbk_rules.specs.Units.{units}
+use Rattle.lbk_rules.specs.Facts.{units_before}
 
 -- the answer of the first line that holds, or else the answer given
 abbrev pub choose : List Line → Side → Side → Verdict → Verdict
@@ -20,5 +21,6 @@ from_28 left right = choose letter_rules left right (record { kind = May; rule =
 unfoldable pub from_18 : Side → Side → Verdict
 from_18 left right = choose space_rules left right (from_28 left right)
 
-unfoldable pub from_2 : List Cell → List Cell → Verdict
-from_2 left right = choose cell_rules (reverse left) right (from_18 (reverse (units left)) (units right))
+-- over the cells of both sides, the left read outwards
+unfoldable pub from_cells : Side → List Cell → Verdict
+from_cells left right = choose cell_rules left right (from_18 (units_before left) (units right))

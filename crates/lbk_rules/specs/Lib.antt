@@ -1,5 +1,6 @@
 pub mod Chain
 pub mod Classes
+pub mod Facts
 pub mod Labels
 pub mod Rules
 pub mod Sides

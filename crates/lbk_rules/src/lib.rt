@@ -6,8 +6,12 @@
 
 mod cells;
 mod classes;
+mod evaluator;
+mod facts;
+mod table;
 mod verdicts;
 
 pub use cells::{Cell, CellSource};
 pub use classes::{Class, Quote};
+pub use evaluator::decide;
 pub use verdicts::{Kind, Rule, Verdict};
