@@ -6,7 +6,6 @@ use Rattle.lbk_rules.specs.declared.verdicts.Kind.TheVariants.{May}
 use Rattle.lbk_rules.specs.declared.verdicts.Rule.TheVariants.{Lb31}
 use Rattle.lbk_rules.specs.Sides.{Side}
 use Rattle.lbk_rules.specs.Units.{units}
-use Rattle.lbk_rules.specs.Facts.{units_before}
 use Rattle.lbk_rules.specs.Rules.{Line, Entry, over_cells, over_units, first_match, rule_list, cell_rules, space_rules, letter_rules, last_rule}
 use Rattle.lbk_rules.specs.Chain.{choose, from_28, from_18, from_cells}
 use Rattle.lbk_rules.specs.Verdict.{verdict_between}
@@ -20,14 +19,14 @@ choose-append (line ∷ a) b left right otherwise =
 
 first_match-over_cells : (lines : List Line) (entries : List Entry) (left right : List Cell)
     → first_match (map over_cells lines ++ entries) left right
-        ≡ choose lines (reverse left) right (first_match entries left right)
+    ≡ choose lines (reverse left) right (first_match entries left right)
 first_match-over_cells [] entries left right = refl
 first_match-over_cells (line ∷ lines) entries left right =
     ap (λ v. cond (line.holds (reverse left) right) line.answer v) (first_match-over_cells lines entries left right)
 
 first_match-over_units : (lines : List Line) (left right : List Cell)
     → first_match (map over_units lines) left right
-        ≡ choose lines (reverse (units left)) (units right) (record { kind = May; rule = Lb31 })
+    ≡ choose lines (reverse (units left)) (units right) (record { kind = May; rule = Lb31 })
 first_match-over_units [] left right = refl
 first_match-over_units (line ∷ lines) left right =
     ap (λ v. cond (line.holds (reverse (units left)) (units right)) line.answer v) (first_match-over_units lines left right)
@@ -45,6 +44,6 @@ unfolding verdict_between from_cells rule_list
 verdict_between-chain left right =
     first_match-over_cells cell_rules (map over_units (space_rules ++ letter_rules ++ last_rule)) left right
     ∙ ap (λ v. choose cell_rules (reverse left) right v)
-      (first_match-over_units (space_rules ++ letter_rules ++ last_rule) left right
-      ∙ from_18-list (reverse (units left)) (units right)
-      ∙ ap (λ u. from_18 u (units right)) (sym (units_before-reverse left)))
+    (first_match-over_units (space_rules ++ letter_rules ++ last_rule) left right
+    ∙ from_18-list (reverse (units left)) (units right)
+    ∙ ap (λ u. from_18 u (units right)) (sym (units_before-reverse left)))

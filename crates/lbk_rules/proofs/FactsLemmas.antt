@@ -1,8 +1,7 @@
 -- What the facts of the left side say of its units.
-use Rattle.std.proofs.Common.{◌≡◌, Bool, true, false, cond, ◌||◌, List, [], ◌∷◌, refl, sym, ◌∙◌, ap, subst, reverse, append_assoc, ◌++◌, arith, rules}
+use Rattle.std.proofs.Common.{◌≡◌, true, false, cond, ◌||◌, List, [], ◌∷◌, refl, sym, ◌∙◌, ap, subst, reverse, append_assoc, ◌++◌}
 use Rattle.lbk_rules.specs.declared.cells.Cell.{Cell}
 use Rattle.lbk_rules.specs.declared.facts.Left.{Left}
-use Rattle.lbk_rules.specs.declared.facts.Before.{Before}
 use Rattle.lbk_rules.specs.Classes.{is, hard, mark, none_of}
 use Rattle.lbk_rules.specs.Facts.{nearest, units_before, facts_of_units, facts, Sees}
 use Rattle.lbk_rules.specs.Sides.{Side}
@@ -30,11 +29,15 @@ Sees-facts cell side left e =
     let begins = units_before-begins cell side in
     let P : Left → Type 0 = λ l. (rest : Side) × (units_before (cell ∷ side) ≡ l.units.last ∷ rest) × Sees l.units rest in
     let same = sym begins.1 in
-    subst P e (begins.0, begins.1, record {
-      spaces = ap (λ u. (facts_of_units u).before_spaces) same;
-      hebrew = ap (λ u. (facts_of_units u).hebrew_behind) same;
-      indicators = ap (λ u. (facts_of_units u).odd_indicators) same;
-    })
+    subst P e (
+      begins.0,
+      begins.1,
+      record {
+        spaces = ap (λ u. (facts_of_units u).before_spaces) same;
+        hebrew = ap (λ u. (facts_of_units u).hebrew_behind) same;
+        indicators = ap (λ u. (facts_of_units u).odd_indicators) same;
+      },
+    )
 
 -- cells put before a side one by one
 abbrev onto : List Cell → Side → Side
@@ -58,9 +61,9 @@ units-onto [] side = refl
 units-onto (cell ∷ cells) side =
     units-onto cells (cell ∷ side)
     ∙ (elim (hard (nearest side).class || none_of mark cell.class)
-       as (λ v. onto (units_after (hard cell.class) cells) (cond v (unit cell ∷ units_before side) (units_before side))
-           ≡ onto (cond v (unit cell ∷ units_after (hard cell.class) cells) (units_after (hard cell.class) cells)) (units_before side))
-       [ true ↦ refl | false ↦ refl ])
+    as (λ v. onto (units_after (hard cell.class) cells) (cond v (unit cell ∷ units_before side) (units_before side))
+    ≡ onto (cond v (unit cell ∷ units_after (hard cell.class) cells) (units_after (hard cell.class) cells)) (units_before side))
+    [ true ↦ refl | false ↦ refl ])
 
 pub units_before-reverse : (cells : List Cell) → units_before (reverse cells) ≡ reverse (units cells)
 unfolding is

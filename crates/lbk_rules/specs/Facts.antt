@@ -1,5 +1,5 @@
 -- The few facts of the left side that the rules ask for.
-use Rattle.std.specs.Prelude.{◌≡◌, false, ◌||◌, if◌then◌else◌, List, [], ◌∷◌}
+use Rattle.std.specs.Prelude.{◌≡◌, false, ◌||◌, if◌then◌else◌, [], ◌∷◌}
 use Rattle.lbk_rules.specs.declared.classes.Class.TheVariants.{Space}
 use Rattle.lbk_rules.specs.declared.classes.Quote.TheVariants.{Neither}
 use Rattle.lbk_rules.specs.declared.cells.Cell.{Cell}

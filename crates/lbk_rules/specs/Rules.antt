@@ -1,6 +1,6 @@
 -- The rules, in the annex's order (UAX #14, section 6): the first that matches decides.
 -- No × breaks, May ÷ breaks, Must ! breaks.
-use Rattle.std.specs.Prelude.{Bool, true, if◌then◌else◌, List, [], ◌∷◌, ◌++◌, map, reverse}
+use Rattle.std.specs.Prelude.{Bool, if◌then◌else◌, List, [], ◌∷◌, ◌++◌, map, reverse}
 use Rattle.lbk_rules.specs.declared.verdicts.Kind.TheVariants.{No, May, Must}
 use Rattle.lbk_rules.specs.declared.verdicts.Rule.{Rule}
 use Rattle.lbk_rules.specs.declared.verdicts.Rule.TheVariants.{Lb2, Lb3, Lb4, Lb5, Lb6, Lb7, Lb8, Lb8a, Lb9, Lb18, Lb28, Lb31}

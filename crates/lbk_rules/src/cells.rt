@@ -27,8 +27,13 @@ impl Cell {
     }
 }
 
-const LETTER: Cell =
-    Cell { class: Class::Alphabetic, wide: false, pict_cn: false, quote: Quote::Neither, letter: false };
+const LETTER: Cell = Cell {
+    class: Class::Alphabetic,
+    wide: false,
+    pict_cn: false,
+    quote: Quote::Neither,
+    letter: false,
+};
 
 /// Something that knows the cell of each scalar value.
 pub trait CellSource {

@@ -31,8 +31,13 @@ pub(crate) struct Left {
     pub(crate) units: Before,
 }
 
-const SPACE: Cell =
-    Cell { class: Class::Space, wide: false, pict_cn: false, quote: Quote::Neither, letter: false };
+const SPACE: Cell = Cell {
+    class: Class::Space,
+    wide: false,
+    pict_cn: false,
+    quote: Quote::Neither,
+    letter: false,
+};
 
 impl Before {
     /// What is known once a unit follows.
@@ -44,7 +49,11 @@ impl Before {
         let indicator = unit.class.is(Class::RegionalIndicator);
         Before {
             last: unit,
-            before_spaces: if space { self.before_spaces } else { unit.class },
+            before_spaces: if space {
+                self.before_spaces
+            } else {
+                unit.class
+            },
             hebrew_behind: self.last.class.is(Class::HebrewLetter),
             odd_indicators: indicator && !self.odd_indicators,
         }
@@ -63,7 +72,12 @@ impl Left {
             hebrew_behind: false,
             odd_indicators: false,
         };
-        Left { empty: true, last: Class::Space, past_zero_width: false, units }
+        Left {
+            empty: true,
+            last: Class::Space,
+            past_zero_width: false,
+            units,
+        }
     }
 
     /// What is known once a cell follows.
@@ -72,11 +86,23 @@ impl Left {
         ensures { (side : Side) → facts side ≡ self → result ≡ facts (cell ∷ side) }
     {
         let space = cell.class.is(Class::Space);
-        let past_zero_width =
-            if space { self.past_zero_width } else { cell.class.is(Class::ZWSpace) };
+        let past_zero_width = if space {
+            self.past_zero_width
+        } else {
+            cell.class.is(Class::ZWSpace)
+        };
         let heads = self.last.is_hard() || !cell.class.is_mark();
-        let units = if heads { self.units.then(cell.unit()) } else { self.units };
-        Left { empty: false, last: cell.class, past_zero_width, units }
+        let units = if heads {
+            self.units.then(cell.unit())
+        } else {
+            self.units
+        };
+        Left {
+            empty: false,
+            last: cell.class,
+            past_zero_width,
+            units,
+        }
     }
 
     /// What is known after some cells.

@@ -15,3 +15,6 @@ pub use cells::{Cell, CellSource};
 pub use classes::{Class, Quote};
 pub use evaluator::decide;
 pub use verdicts::{Kind, Rule, Verdict};
+
+#[cfg(test)]
+mod tests;

@@ -17,7 +17,11 @@ impl Left {
     pub(crate) fn verdict(self, right: Cell) -> Verdict
         ensures { (side more : Side) → facts side ≡ self → result ≡ from_cells side (right ∷ more) }
     {
-        if self.empty { Verdict::no(Rule::Lb2) } else { self.from_4(right) }
+        if self.empty {
+            Verdict::no(Rule::Lb2)
+        } else {
+            self.from_4(right)
+        }
     }
 
     /// The verdict at the end of the text.
@@ -25,7 +29,11 @@ impl Left {
     pub(crate) fn verdict_at_end(self) -> Verdict
         ensures { (side : Side) → facts side ≡ self → result ≡ from_cells side [] }
     {
-        if self.empty { Verdict::no(Rule::Lb2) } else { Verdict::must(Rule::Lb3) }
+        if self.empty {
+            Verdict::no(Rule::Lb2)
+        } else {
+            Verdict::must(Rule::Lb3)
+        }
     }
 
     /// The verdict before `right`, where some cell stands on the left.

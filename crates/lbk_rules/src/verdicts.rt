@@ -108,18 +108,27 @@ impl Verdict {
     pub(crate) fn no(rule: Rule) -> Self
         ensures { result ≡ record { kind = Kind.No; rule = rule } }
     {
-        Verdict { kind: Kind::No, rule }
+        Verdict {
+            kind: Kind::No,
+            rule,
+        }
     }
 
     pub(crate) fn may(rule: Rule) -> Self
         ensures { result ≡ record { kind = Kind.May; rule = rule } }
     {
-        Verdict { kind: Kind::May, rule }
+        Verdict {
+            kind: Kind::May,
+            rule,
+        }
     }
 
     pub(crate) fn must(rule: Rule) -> Self
         ensures { result ≡ record { kind = Kind.Must; rule = rule } }
     {
-        Verdict { kind: Kind::Must, rule }
+        Verdict {
+            kind: Kind::Must,
+            rule,
+        }
     }
 }
