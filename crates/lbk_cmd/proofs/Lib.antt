@@ -1,0 +1,4 @@
+pub mod Refusals
+pub mod Tokens
+pub mod Verdicts
+pub mod Writes

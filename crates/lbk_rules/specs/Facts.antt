@@ -1,0 +1,51 @@
+-- The few facts of the left side that the rules ask for.
+use Rattle.std.specs.Prelude.{◌≡◌, false, ◌||◌, if◌then◌else◌, [], ◌∷◌}
+use Rattle.lbk_rules.specs.declared.classes.Class.TheVariants.{Space}
+use Rattle.lbk_rules.specs.declared.classes.Quote.TheVariants.{Neither}
+use Rattle.lbk_rules.specs.declared.cells.Cell.{Cell}
+use Rattle.lbk_rules.specs.declared.facts.Left.{Left}
+use Rattle.lbk_rules.specs.declared.facts.Before.{Before}
+use Rattle.lbk_rules.specs.Classes.{hard, mark, none_of, ZW, HL}
+use Rattle.lbk_rules.specs.Sides.{Side, is_nothing, before_spaces, behind, past_spaces, at_odd_run}
+use Rattle.lbk_rules.specs.Units.{unit}
+
+-- a space, which stands for what is nearest where nothing is left
+abbrev pub space : Cell
+space = record { class = Space; wide = false; pict_cn = false; quote = Neither; letter = false }
+
+-- the nearest cell or unit
+abbrev pub nearest : Side → Cell
+nearest [] = space
+nearest (cell ∷ _) = cell
+
+-- the units of the cells on the left, read outwards
+abbrev pub units_before : Side → Side
+units_before [] = []
+units_before (cell ∷ side) =
+    if hard (nearest side).class || none_of mark cell.class
+    then unit cell ∷ units_before side
+    else units_before side
+
+-- what is known of units read outwards
+abbrev pub facts_of_units : Side → Before
+facts_of_units side = record {
+  last = nearest side;
+  before_spaces = before_spaces side;
+  hebrew_behind = behind HL side;
+  odd_indicators = at_odd_run side;
+}
+
+-- what is known of the cells on the left, read outwards
+unfoldable pub facts : Side → Left
+facts side = record {
+  empty = is_nothing side;
+  last = (nearest side).class;
+  past_zero_width = past_spaces ZW side;
+  units = facts_of_units (units_before side);
+}
+
+-- the facts of some units of which the nearest is known
+pub record Sees (before : Before) (side : Side) : Type 0 where
+  pub spaces : before_spaces (before.last ∷ side) ≡ before.before_spaces
+  pub hebrew : behind HL (before.last ∷ side) ≡ before.hebrew_behind
+  pub indicators : at_odd_run (before.last ∷ side) ≡ before.odd_indicators

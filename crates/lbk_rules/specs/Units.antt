@@ -1,0 +1,27 @@
+-- Units, the runs of cells that rules LB9 and LB10 make into one (UAX #14, section 6.1).
+use Rattle.std.specs.Prelude.{Bool, true, false, ◌||◌, if◌then◌else◌, List, [], ◌∷◌}
+use Rattle.lbk_rules.specs.declared.classes.Class.TheVariants.{Alphabetic}
+use Rattle.lbk_rules.specs.declared.classes.Quote.TheVariants.{Neither}
+use Rattle.lbk_rules.specs.declared.cells.Cell.{Cell}
+use Rattle.lbk_rules.specs.Classes.{hard, mark, none_of}
+
+-- a letter with no property of its own
+abbrev pub letter : Cell
+letter = record { class = Alphabetic; wide = false; pict_cn = false; quote = Neither; letter = false }
+
+-- the unit that a head heads: a mark that heads is read as a letter
+abbrev pub unit : Cell → Cell
+unit cell = if mark cell.class then letter else cell
+
+-- the units of some cells; fresh: no cell stands before them, or one of a hard class.
+-- A head is what is no mark, and a mark that stands fresh
+abbrev pub units_after : Bool → List Cell → List Cell
+units_after fresh [] = []
+units_after fresh (cell ∷ cells) =
+    if fresh || none_of mark cell.class
+    then unit cell ∷ units_after (hard cell.class) cells
+    else units_after (hard cell.class) cells
+
+-- the units of a list of cells
+abbrev pub units : List Cell → List Cell
+units cells = units_after true cells

@@ -1,0 +1,47 @@
+ghost use Rattle.std.specs.Prelude.{◌≡◌, ℕ};
+ghost use Rattle.lbk_rules.specs.Units.{unit};
+
+use crate::classes::{Class, Quote};
+
+/// What the rules see of a scalar value.
+#[derive(Clone, Copy, PartialEq, Eq, Debug)]
+pub struct Cell {
+    /// The class that rule LB1 resolves it to.
+    pub class: Class,
+    /// East Asian Width F, W or H (rule LB30).
+    pub wide: bool,
+    /// Extended_Pictographic and of category Cn (rule LB30b).
+    pub pict_cn: bool,
+    /// Whether it opens or closes a quotation.
+    pub quote: Quote,
+    /// Whether its category begins with L or N. No rule reads it; words are told by it.
+    pub letter: bool,
+}
+
+impl Cell {
+    /// The unit that this cell heads (rules LB9 and LB10): a mark by itself is a plain letter.
+    pub(crate) fn unit(self) -> Cell
+        ensures { result ≡ unit self }
+    {
+        if self.class.is_mark() { LETTER } else { self }
+    }
+}
+
+const LETTER: Cell = Cell {
+    class: Class::Alphabetic,
+    wide: false,
+    pict_cn: false,
+    quote: Quote::Neither,
+    letter: false,
+};
+
+/// Something that knows the cell of each scalar value.
+pub trait CellSource {
+    ghost use Rattle.lbk_rules.specs.declared.cells.Cell.{Cell};
+
+    ghost cell_of: { Self → ℕ → Cell };
+
+    /// The cell of `c`.
+    fn cell(&self, c: char) -> Cell
+        ensures { result ≡ cell_of self.now c };
+}

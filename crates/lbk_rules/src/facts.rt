@@ -1,0 +1,118 @@
+ghost use Rattle.std.specs.Prelude.{◌≡◌, [], ◌∷◌, reverse};
+ghost use Rattle.lbk_rules.specs.Facts.{facts, facts_of_units};
+ghost use Rattle.lbk_rules.specs.Sides.{Side};
+
+use crate::cells::Cell;
+use crate::classes::{Class, Quote};
+
+/// What the rules ask of the units before a position.
+#[derive(Clone, Copy, PartialEq, Eq, Debug)]
+pub(crate) struct Before {
+    /// The last unit, or a space where there is none.
+    pub(crate) last: Cell,
+    /// The class of the last unit that is no space, or of a space where there is none.
+    pub(crate) before_spaces: Class,
+    /// Whether the last unit but one is a Hebrew letter.
+    pub(crate) hebrew_behind: bool,
+    /// Whether the run of regional indicators at the end has odd length.
+    pub(crate) odd_indicators: bool,
+}
+
+/// What the rules ask of the cells before a position.
+#[derive(Clone, Copy, PartialEq, Eq, Debug)]
+pub(crate) struct Left {
+    /// Whether there are none.
+    pub(crate) empty: bool,
+    /// The class of the last cell, or of a space where there is none.
+    pub(crate) last: Class,
+    /// Whether they end with a zero width space and any number of spaces.
+    pub(crate) past_zero_width: bool,
+    /// What is asked of their units.
+    pub(crate) units: Before,
+}
+
+const SPACE: Cell = Cell {
+    class: Class::Space,
+    wide: false,
+    pict_cn: false,
+    quote: Quote::Neither,
+    letter: false,
+};
+
+impl Before {
+    /// What is known once a unit follows.
+    #[tactic(auto, unfolding(crate::specs::Classes::is, crate::specs::Sides::before_spaces, crate::specs::Sides::at_odd_run))]
+    fn then(self, unit: Cell) -> Before
+        ensures { (side : Side) → facts_of_units side ≡ self → result ≡ facts_of_units (unit ∷ side) }
+    {
+        let space = unit.class.is(Class::Space);
+        let indicator = unit.class.is(Class::RegionalIndicator);
+        Before {
+            last: unit,
+            before_spaces: if space {
+                self.before_spaces
+            } else {
+                unit.class
+            },
+            hebrew_behind: self.last.class.is(Class::HebrewLetter),
+            odd_indicators: indicator && !self.odd_indicators,
+        }
+    }
+}
+
+impl Left {
+    /// What is known at the start of a text.
+    #[tactic(auto, unfolding(crate::specs::Classes::is, crate::specs::Facts::facts, crate::specs::Sides::before_spaces, crate::specs::Sides::at_odd_run))]
+    pub(crate) fn start() -> Left
+        ensures { result ≡ facts [] }
+    {
+        let units = Before {
+            last: SPACE,
+            before_spaces: Class::Space,
+            hebrew_behind: false,
+            odd_indicators: false,
+        };
+        Left {
+            empty: true,
+            last: Class::Space,
+            past_zero_width: false,
+            units,
+        }
+    }
+
+    /// What is known once a cell follows.
+    #[tactic(auto, unfolding(crate::specs::Facts::facts, crate::specs::Sides::before_spaces))]
+    pub(crate) fn then(self, cell: Cell) -> Left
+        ensures { (side : Side) → facts side ≡ self → result ≡ facts (cell ∷ side) }
+    {
+        let space = cell.class.is(Class::Space);
+        let past_zero_width = if space {
+            self.past_zero_width
+        } else {
+            cell.class.is(Class::ZWSpace)
+        };
+        let heads = self.last.is_hard() || !cell.class.is_mark();
+        let units = if heads {
+            self.units.then(cell.unit())
+        } else {
+            self.units
+        };
+        Left {
+            empty: false,
+            last: cell.class,
+            past_zero_width,
+            units,
+        }
+    }
+
+    /// What is known after some cells.
+    pub(crate) fn of(cells: &[Cell]) -> Left
+        ensures { result ≡ facts (reverse cells.now) }
+    {
+        let mut left = Left::start();
+        for cell in cells {
+            left = left.then(*cell);
+        }
+        left
+    }
+}

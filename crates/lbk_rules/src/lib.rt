@@ -1,0 +1,20 @@
+//! Line breaking by the rules of Unicode Standard Annex #14, Unicode 15.0.
+//!
+//! A text is seen as a list of [`Cell`]s, one a scalar. [`decide`] answers for a position in it
+//! whether the line may break, must break or must not, and the rule that says so.
+#![tactic(auto)]
+
+mod cells;
+mod classes;
+mod evaluator;
+mod facts;
+mod table;
+mod verdicts;
+
+pub use cells::{Cell, CellSource};
+pub use classes::{Class, Quote};
+pub use evaluator::decide;
+pub use verdicts::{Kind, Rule, Verdict};
+
+#[cfg(test)]
+mod tests;
