@@ -1,2 +1,4 @@
+pub mod Line
 pub mod Rows
+pub mod Shown
 pub mod Tables

@@ -1,6 +1,7 @@
 //! The property files of the Unicode Character Database that line breaking reads, and the tables made of them.
 #![tactic(auto)]
 
+mod line;
 mod rows;
 mod tables;
 mod values;
