@@ -1,3 +1,4 @@
+pub mod File
 pub mod Line
 pub mod Rows
 pub mod Shown

@@ -1,7 +1,7 @@
 -- Ranges of codes with a value, and the value that lists of them give a code.
-use Rattle.std.specs.Prelude.{ℕ, ◌<◌, ◌≤◌, Bool, ◌&&◌, nat_le, List, reverse, Option, unwrap_or}
+use Rattle.std.specs.Prelude.{ℕ, ◌<◌, ◌≤◌, Bool, ◌&&◌, nat_le, List, length, reverse, Option, unwrap_or, ◌≡◌}
 use Rattle.std.specs.Option.{option_map}
-use Rattle.std.specs.List.{All, AllPairs, find}
+use Rattle.std.specs.List.{All, AllPairs, find, insert}
 use Rattle.lbk_ucd.specs.declared.rows.Row.{Row}
 
 -- whether a row holds a code
@@ -25,3 +25,9 @@ value_at rows defaults unlisted code =
 pub record IsInOrder {V : Type 0} (rows : List (Row V)) : Type 0 where
   pub each : All (λ row. row.first ≤ row.last) rows
   pub apart : AllPairs (λ row later. row.last < later.first) rows
+
+-- new is old with the row at some place
+pub record Inserts {V : Type 0} (row : Row V) (old new : List (Row V)) : Type 0 where
+  pub at : ℕ
+  pub within : at ≤ length old
+  pub is : new ≡ insert old at row
