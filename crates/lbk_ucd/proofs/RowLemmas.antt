@@ -17,8 +17,9 @@ module _ {V : Type 0} where
   pub ends_rise : (rows : List (Row V)) → IsInOrder rows → IsNonDecreasingBy (λ row. row.last) rows
   ends_rise rows h i j d le lt =
       elim (cases_lt i j) [
-        inl less ↦ omega (arith, h.apart i j d less lt, h.each j d lt)
-      | inr not_less ↦ let same : i ≡ j = omega arith in rw same (omega arith) ]
+        | inl less ↦ omega (arith, h.apart i j d less lt, h.each j d lt)
+        | inr not_less ↦ let same : i ≡ j = omega arith in rw same (omega arith)
+      ]
 
   -- a row that ends before the first of some codes, or begins after the last, shares none of them
   ends_before : (first last : ℕ) (row : Row V) → row.last < first → shares first last row ≡ false
@@ -41,14 +42,16 @@ module _ {V : Type 0} where
       → All (λ row. shares first last row ≡ false) rows
   none_shares rows first last at h before after k d lt =
       elim (cases_lt k at) [
-        inl less ↦ ends_before first last (get_or rows k d) (before k d (omega arith) less)
-      | inr not_less ↦
-          let here : last < (get_or rows at d).first = after d (omega arith) in
-          elim (cases_lt at k) [
-            inl more ↦ begins_after first last (get_or rows k d) (omega (arith, h.apart at k d more lt, h.each at d (omega arith)))
-          | inr not_more ↦
-              let same : k ≡ at = omega arith in
-              rw same (begins_after first last (get_or rows at d) here) ] ]
+        | inl less ↦ ends_before first last (get_or rows k d) (before k d (omega arith) less)
+        | inr not_less ↦
+            let here : last < (get_or rows at d).first = after d (omega arith) in
+            elim (cases_lt at k) [
+              | inl more ↦ begins_after first last (get_or rows k d) (omega (arith, h.apart at k d more lt, h.each at d (omega arith)))
+              | inr not_more ↦
+                  let same : k ≡ at = omega arith in
+                  rw same (begins_after first last (get_or rows at d) here)
+            ]
+      ]
 
   -- the row at a place holds the code
   pub first_value_here : (rows : List (Row V)) (code at : ℕ) (d : Row V) → at < length rows
@@ -56,9 +59,9 @@ module _ {V : Type 0} where
       → first_value code rows ≡ Some (get_or rows at d).value
   first_value_here rows code at d lt before here =
       let place : position_or_len (holds code) rows ≡ at
-            = position_or_len_is (holds code) rows at d (omega arith) (λ k less. ends_before code code (get_or rows k d) (before k d (omega arith) less)) (λ _. here) in
+      = position_or_len_is (holds code) rows at d (omega arith) (λ k less. ends_before code code (get_or rows k d) (before k d (omega arith) less)) (λ _. here) in
       let found : find (holds code) rows ≡ Some (get_or rows at d)
-            = find_at (holds code) rows ∙ ap (slice_get rows) place ∙ slice_get-get_or rows at d lt in
+      = find_at (holds code) rows ∙ ap (slice_get rows) place ∙ slice_get-get_or rows at d lt in
       ap (option_map (λ row. row.value)) found
 
   -- what no element passes is found nowhere
@@ -73,9 +76,9 @@ module _ {V : Type 0} where
   pub fails_each : (p : Row V → Bool) (rows : List (Row V)) → list_any p rows ≡ false → All (λ row. p row ≡ false) rows
   fails_each p rows none k d lt = go (p (get_or rows k d)) refl
     where
-    go : (passes : Bool) → p (get_or rows k d) ≡ passes → p (get_or rows k d) ≡ false
-    go true is = absurd (false≢true (sym none ∙ list_any_at p rows k d lt is))
-    go false is = is
+      go : (passes : Bool) → p (get_or rows k d) ≡ passes → p (get_or rows k d) ≡ false
+      go true is = absurd (false≢true (sym none ∙ list_any_at p rows k d lt is))
+      go false is = is
 
   -- the rows stay in order where a row goes in that shares no code with them
   module _ (rows : List (Row V)) (new : Row V) (at : ℕ)
@@ -94,40 +97,50 @@ module _ {V : Type 0} where
         ⊎ ((at < k) × (get_or (insert rows at new) k d ≡ get_or rows (k - 1) d)))
     placed k d =
         elim (cases_lt k at) [
-          inl less ↦ inl (less, get_or-insert_below rows at new d k less within)
-        | inr not_less ↦ elim (cases_lt at k) [
-            inl more ↦
-              let back : k - 1 + 1 ≡ k = omega arith in
-              inr (inr (more, rw back at (get_or-insert_above rows at new d (k - 1) (omega arith) within)))
-          | inr not_more ↦ let same : k ≡ at = omega arith in inr (inl (same, rw same (get_or-insert_at rows at new d within))) ] ]
+          | inl less ↦ inl (less, get_or-insert_below rows at new d k less within)
+          | inr not_less ↦ elim (cases_lt at k) [
+            | inl more ↦
+                let back : k - 1 + 1 ≡ k = omega arith in
+                inr (inr (more, rw back at (get_or-insert_above rows at new d (k - 1) (omega arith) within)))
+            | inr not_more ↦ let same : k ≡ at = omega arith in inr (inl (same, rw same (get_or-insert_at rows at new d within)))
+          ]
+        ]
 
     each : (k : ℕ) (d : Row V) → k < length (insert rows at new)
         → (get_or (insert rows at new) k d).first ≤ (get_or (insert rows at new) k d).last
     each k d lt =
         let longer = length-insert rows at new within in
         elim (placed k d) [
-          inl p ↦ rw p.1 (h.each k d (omega arith))
-        | inr q ↦ elim q [
-            inl p ↦ rw p.1 rises
-          | inr p ↦ rw p.1 (h.each (k - 1) d (omega arith)) ] ]
+          | inl p ↦ rw p.1 (h.each k d (omega arith))
+          | inr q ↦ elim q [
+            | inl p ↦ rw p.1 rises
+            | inr p ↦ rw p.1 (h.each (k - 1) d (omega arith))
+          ]
+        ]
 
     pairs : (i j : ℕ) (d : Row V) → i < j → j < length (insert rows at new)
         → (get_or (insert rows at new) i d).last < (get_or (insert rows at new) j d).first
     pairs i j d less lt =
         let longer = length-insert rows at new within in
         elim (placed j d) [
-          inl p ↦ elim (placed i d) [
-              inl q ↦ rw (p.1, q.1) (h.apart i j d less (omega arith))
-            | inr q ↦ absurd (elim q [ inl r ↦ omega arith | inr r ↦ omega arith ]) ]
-        | inr p' ↦ elim p' [
-            inl p ↦ elim (placed i d) [
-                inl q ↦ rw (p.1, q.1) (before i d (omega arith) q.0)
-              | inr q ↦ absurd (elim q [ inl r ↦ omega arith | inr r ↦ omega arith ]) ]
-          | inr p ↦ elim (placed i d) [
-                inl q ↦ rw (p.1, q.1) (h.apart i (j - 1) d (omega arith) (omega arith))
+          | inl p ↦ elim (placed i d) [
+            | inl q ↦ rw (p.1, q.1) (h.apart i j d less (omega arith))
+            | inr q ↦ absurd (elim q [ inl r ↦ omega arith | inr r ↦ omega arith ])
+          ]
+          | inr p' ↦ elim p' [
+            | inl p ↦ elim (placed i d) [
+              | inl q ↦ rw (p.1, q.1) (before i d (omega arith) q.0)
+              | inr q ↦ absurd (elim q [ inl r ↦ omega arith | inr r ↦ omega arith ])
+            ]
+            | inr p ↦ elim (placed i d) [
+              | inl q ↦ rw (p.1, q.1) (h.apart i (j - 1) d (omega arith) (omega arith))
               | inr q' ↦ elim q' [
-                  inl q ↦ rw (p.1, q.1) (behind (j - 1) d (omega arith) (omega arith))
-                | inr q ↦ rw (p.1, q.1) (h.apart (i - 1) (j - 1) d (omega arith) (omega arith)) ] ] ] ]
+                | inl q ↦ rw (p.1, q.1) (behind (j - 1) d (omega arith) (omega arith))
+                | inr q ↦ rw (p.1, q.1) (h.apart (i - 1) (j - 1) d (omega arith) (omega arith))
+              ]
+            ]
+          ]
+        ]
 
     pub inserted_in_order : IsInOrder (insert rows at new)
     inserted_in_order = record { each = each; apart = pairs }

@@ -1,5 +1,6 @@
 pub mod File
 pub mod Line
+pub mod Names
 pub mod Rows
 pub mod Shown
 pub mod Tables

@@ -1,9 +1,11 @@
 -- What the code's values show, without where they lie in memory.
-use Rattle.std.specs.Prelude.{ℕ, List}
+use Rattle.std.specs.Prelude.{ℕ, List, map}
 use Rattle.std.specs.Borrow.{Bor}
 use Rattle.lbk_ucd.specs.declared.line.Entry.{Entry as CodeEntry}
 use Rattle.lbk_ucd.specs.declared.line.Meaning.{Meaning as CodeMeaning}
 use Rattle.lbk_ucd.specs.declared.line.Meaning.TheVariants as code
+use Rattle.lbk_ucd.specs.declared.format.Format.{Format as CodeFormat}
+use Rattle.lbk_ucd.specs.File.{Format}
 use Rattle.lbk_ucd.specs.Line.{Entry, Meaning, nothing, row, default}
 
 abbrev pub shown_name : Bor (List ℕ) → List ℕ
@@ -16,3 +18,10 @@ abbrev pub shown_meaning : CodeMeaning → Meaning
 shown_meaning code.Nothing = nothing
 shown_meaning (code.Row entry) = row (shown_entry entry)
 shown_meaning (code.Default entry) = default (shown_entry entry)
+
+abbrev pub shown_names : {V : Type 0} → List (Bor (List ℕ) × V) → List (List ℕ × V)
+shown_names names = map (λ entry. (entry.0.now, entry.1)) names
+
+abbrev pub shown_format : {V : Type 0} → CodeFormat V → Format V
+shown_format format =
+    record { names = shown_names format.names.now; others = format.others; defaults = format.defaults; unlisted = format.unlisted }

@@ -2,6 +2,7 @@
 #![tactic(auto)]
 
 mod fault;
+mod format;
 mod line;
 mod rows;
 mod tables;

@@ -196,7 +196,11 @@ fn after(bytes: &[u8], byte: u8) -> &[u8]
     ensures { result.now ≡ after_first (λ b. b == byte) bytes.now }
 {
     let place = place_of(bytes, byte);
-    if place < bytes.len() { &bytes[place + 1..] } else { &[] }
+    if place < bytes.len() {
+        &bytes[place + 1..]
+    } else {
+        &[]
+    }
 }
 
 /// The place of the first such byte, or the length where there is none.

@@ -40,9 +40,10 @@ loop-digit-preserved c =
     let lt : i < length digits = omega arith in
     let value = c.in_ok-code.ensures.value in
     let here : c.from.result ≡ get_or digits i 0 = search rules in
-    let same : digit_value c.from.result ≡ digit_value (get_or digits i 0) = ap digit_value here in
-    (omega (arith, digits_value_more 16 digits i lt, value, same),
-     digits_more 16 digits i lt c.loop-digit.invariant.1 (omega (arith, value, same)))
+    let same : digit_value c.from.result ≡ digit_value (get_or digits i 0) = ap digit_value here in (
+      omega (arith, digits_value_more 16 digits i lt, value, same),
+      digits_more 16 digits i lt c.loop-digit.invariant.1 (omega (arith, value, same)),
+    )
 
 -- four to six digits, each of them one
 code_of-all : (digits : List ℕ) (code : ℕ) → 4 ≤ length digits → length digits ≤ 6 → AllDigits 16 digits → code ≡ digits_value 16 digits → Some code ≡ code_of digits

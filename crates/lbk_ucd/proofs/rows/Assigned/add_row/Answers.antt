@@ -15,5 +15,5 @@ invariant_of-self-clause-ordered g c =
     let rows = c.args.self.now.rows.items in
     let found = rw c.deref.ensures.value at c.first_from-at.ensures in
     either _ _ rows c.insert.new.self.items c.insert.ensures.items
-      (inserted_in_order rows c.args.row c.first_from-at.result c.args.self.now.ordered c.requires.rises found.within found.before found.after c.requires.apart)
-      c.args.self.now.ordered
+    (inserted_in_order rows c.args.row c.first_from-at.result c.args.self.now.ordered c.requires.rises found.within found.before found.after c.requires.apart)
+    c.args.self.now.ordered
