@@ -33,6 +33,10 @@ without_mark bytes = if starts_with nat_eq bytes (239 ∷ 187 ∷ 191 ∷ []) th
 abbrev pub lines_of : List ℕ → List (List ℕ)
 lines_of bytes = slice_split (λ byte. byte == 10) (without_mark bytes)
 
+-- whether there is room beside so many rows and defaults
+abbrev pub cause_of_room : ℕ → Option UcdCause
+cause_of_room count = if nat_lt count 65536 then None else Some TooManyRows
+
 module _ {V : Type 0} where
   -- an entry with the value of its name
   abbrev pub valued : Format V → Entry → Option (Row V)
@@ -63,12 +67,14 @@ module _ {V : Type 0} where
   abbrev pub defaults_in : Format V → List (List ℕ) → List (Row V)
   defaults_in format lines = filter_map (default_in format) lines
 
-  -- The cause of an entry whose name has a value or none: it may share no code with these rows, and there is room beside so many.
+  -- the cause of a row or a default that would be kept: it may share no code with these rows, and there is room beside so many
+  abbrev pub cause_of_kept : List (Row V) → ℕ → ℕ → ℕ → Option UcdCause
+  cause_of_kept rows count first last = if list_any (shares first last) rows then Some Overlap else cause_of_room count
+
+  -- that of an entry whose name has a value or none
   abbrev pub cause_of_value : Format V → List (Row V) → ℕ → Entry → Option V → Option UcdCause
   cause_of_value format rows count entry None = if format.others then None else Some UnknownValue
-  cause_of_value format rows count entry (Some value) =
-      if list_any (shares entry.first entry.last) rows then Some Overlap
-      else (if nat_lt count 65536 then None else Some TooManyRows)
+  cause_of_value format rows count entry (Some value) = cause_of_kept rows count entry.first entry.last
 
   unfoldable pub cause_of_entry : Format V → List (Row V) → ℕ → Entry → Option UcdCause
   cause_of_entry format rows count entry =

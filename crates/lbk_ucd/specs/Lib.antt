@@ -1,6 +1,7 @@
 pub mod File
 pub mod Line
 pub mod Names
+pub mod Reading
 pub mod Rows
 pub mod Shown
 pub mod Tables

@@ -1,5 +1,6 @@
 -- What the code's values show, without where they lie in memory.
-use Rattle.std.specs.Prelude.{ℕ, List, map}
+use Rattle.std.specs.Prelude.{ℕ, ◌==◌, List, [], map, Option, Some, None}
+use Rattle.std.specs.List.{slice_split}
 use Rattle.std.specs.Borrow.{Bor}
 use Rattle.lbk_ucd.specs.declared.line.Entry.{Entry as CodeEntry}
 use Rattle.lbk_ucd.specs.declared.line.Meaning.{Meaning as CodeMeaning}
@@ -25,3 +26,8 @@ shown_names names = map (λ entry. (entry.0.now, entry.1)) names
 abbrev pub shown_format : {V : Type 0} → CodeFormat V → Format V
 shown_format format =
     record { names = shown_names format.names.now; others = format.others; defaults = format.defaults; unlisted = format.unlisted }
+
+-- the lines of what follows an LF, none where there was none
+abbrev pub lines_left : Option (Bor (List ℕ)) → List (List ℕ)
+lines_left None = []
+lines_left (Some text) = slice_split (λ byte. byte == 10) text.now

@@ -2,6 +2,7 @@
 #![tactic(auto)]
 
 mod fault;
+mod file;
 mod format;
 mod line;
 mod rows;
