@@ -1,7 +1,6 @@
 -- What is kept after each line of a file: the rows and defaults of the lines so far, the rows in another order.
-use Rattle.std.proofs.Common.{◌≡◌, ℕ, suc, ◌==◌, nat_eq, ◌+◌, ◌-◌, ◌<◌, ◌≤◌, ◌&&◌, ◌||◌, Bool, true, false, cond, nat_lt, List, [], ◌∷◌, ◌++◌, length, get_or, take, drop, Option, Some, None, sym, ap, refl, ◌∙◌, arith, rules, inl, inr, ◌⊎◌, length-append, length-drop, append-nil}
-use Rattle.std.specs.List.{All, find, filter_map, insert, list_any, cons_option, starts_with}
-use Rattle.std.specs.List.Sorted.{IsPermutation}
+use Rattle.std.proofs.Common.{◌≡◌, ℕ, suc, ◌==◌, nat_eq, ◌+◌, ◌-◌, ◌<◌, ◌≤◌, ◌||◌, Bool, true, false, cond, nat_lt, List, [], ◌∷◌, ◌++◌, length, get_or, take, drop, Option, Some, None, sym, ap, refl, ◌∙◌, arith, inl, inr, length-append, length-drop, append-nil}
+use Rattle.std.specs.List.{All, find, insert, list_any, cons_option, starts_with}
 use Rattle.std.specs.Option.{option_map, option_or, option_to_list}
 use Rattle.std.proofs.lemmas.Bool.{cases_lt}
 use Rattle.std.proofs.lemmas.Bool.Decides.{nat_tests}
@@ -14,11 +13,11 @@ use Rattle.std.proofs.lemmas.List.Sorted.{IsPermutation-insert, list_any-IsPermu
 use Rattle.lbk_ucd.specs.declared.rows.Row.{Row}
 use Rattle.lbk_ucd.specs.declared.rows.Assigned.{Assigned}
 use Rattle.lbk_ucd.specs.declared.fault.UcdCause.{UcdCause}
-use Rattle.lbk_ucd.specs.declared.fault.UcdCause.TheVariants.{Overlap, Range, LineTooLong, RowSyntax, UnknownValue}
+use Rattle.lbk_ucd.specs.declared.fault.UcdCause.TheVariants.{Overlap, Range, LineTooLong}
 use Rattle.lbk_ucd.specs.Line.{Entry, Meaning, nothing, row, default, meaning_of}
 use Rattle.lbk_ucd.specs.Rows.{holds, shares, Inserts, value_at}
 use Rattle.lbk_ucd.specs.Tables.{count_of, value_of}
-use Rattle.lbk_ucd.specs.File.{Format, named, valued, row_meant, row_in, default_in, rows_in, defaults_in, cause_of_kept, cause_of_room, cause_of_value, cause_of_entry, cause_of_meaning, cause_beside, cause_after, cause_at, lines_of, without_mark, IsLawfulBefore}
+use Rattle.lbk_ucd.specs.File.{Format, named, row_meant, row_in, default_in, rows_in, defaults_in, cause_of_kept, cause_of_room, cause_of_value, cause_of_entry, cause_of_meaning, cause_beside, cause_after, cause_at, lines_of, without_mark, IsLawfulBefore}
 use Rattle.lbk_ucd.specs.Reading.{Adds, IsAnswered, IsRefusal}
 use Rattle.lbk_ucd.proofs.RowLemmas.{find_none, fails_each}
 
@@ -58,9 +57,9 @@ few_lines bytes =
     let text = without_mark bytes in
     omega (arith, length-slice_split (λ byte. byte == 10) text, count_by-le-length (λ byte. byte == 10) text, shorter (starts_with nat_eq bytes (239 ∷ 187 ∷ 191 ∷ [])))
   where
-  shorter : (marked : Bool) → length (cond marked (drop 3 bytes) bytes) ≤ length bytes
-  shorter true = omega (arith, length-drop 3 bytes)
-  shorter false = omega arith
+    shorter : (marked : Bool) → length (cond marked (drop 3 bytes) bytes) ≤ length bytes
+    shorter true = omega (arith, length-drop 3 bytes)
+    shorter false = omega arith
 
 module _ {V : Type 0} where
   -- two lists of the same rows, as tests of them and searches for codes see them
@@ -83,9 +82,9 @@ module _ {V : Type 0} where
   find-insert_no p rows at new fails =
       let tail : find p (new ∷ drop at rows) ≡ find p (drop at rows) = rw fails refl in
       find-append p (take at rows) (new ∷ drop at rows)
-        ∙ (ap (option_or (find p (take at rows))) tail
-        ∙ (sym (find-append p (take at rows) (drop at rows))
-        ∙ ap (find p) (take-append-drop at rows)))
+      ∙ (ap (option_or (find p (take at rows))) tail
+      ∙ (sym (find-append p (take at rows) (drop at rows))
+      ∙ ap (find p) (take-append-drop at rows)))
 
   find-insert_yes : (p : Row V → Bool) (rows : List (Row V)) (at : ℕ) (new : Row V) → p new ≡ true → All (λ other. p other ≡ false) rows
       → find p (insert rows at new) ≡ Some new
@@ -117,15 +116,16 @@ module _ {V : Type 0} where
     count = length-append xs (new ∷ []) ∙ (added ∙ sym (length_permutation (new ∷ ys) (insert ys at new) (IsPermutation-insert ys at new)));
   }
     where
-    added : length xs + 1 ≡ suc (length ys)
-    added = let count = same.count in omega arith
-    found : (code : ℕ) (here : Bool) → holds code new ≡ here → find (holds code) (xs ++ new ∷ []) ≡ find (holds code) (insert ys at new)
-    found code true here =
-        let none = none_holds code new ys here apart in
-        let missing = same.found code ∙ find_none (holds code) ys none in
-        find-push_yes (holds code) xs new here missing ∙ sym (find-insert_yes (holds code) ys at new here none)
-    found code false here =
-        find-push_no (holds code) xs new here ∙ (same.found code ∙ sym (find-insert_no (holds code) ys at new here))
+      added : length xs + 1 ≡ suc (length ys)
+      added = let count = same.count in omega arith
+
+      found : (code : ℕ) (here : Bool) → holds code new ≡ here → find (holds code) (xs ++ new ∷ []) ≡ find (holds code) (insert ys at new)
+      found code true here =
+          let none = none_holds code new ys here apart in
+          let missing = same.found code ∙ find_none (holds code) ys none in
+          find-push_yes (holds code) xs new here missing ∙ sym (find-insert_yes (holds code) ys at new here none)
+      found code false here =
+          find-push_no (holds code) xs new here ∙ (same.found code ∙ sym (find-insert_no (holds code) ys at new here))
 
   -- rows that tests see alike have alike causes beside them
   beside_kept : (xs ys : List (Row V)) (m n first last : ℕ) → AreSameRows xs ys → m ≡ n → cause_of_kept xs m first last ≡ cause_of_kept ys n first last
@@ -167,11 +167,12 @@ module _ {V : Type 0} where
   apart_value format rows count entry (Some value) kept none is =
       rw (sym (some_inside is)) (go (list_any (shares entry.first entry.last) rows) refl none)
     where
-    some_inside : {A : Type 0} {x y : A} → Some x ≡ Some y → x ≡ y
-    some_inside same = cc
-    go : (meets : Bool) → list_any (shares entry.first entry.last) rows ≡ meets → cond meets (Some Overlap) (cause_of_room count) ≡ None → list_any (shares entry.first entry.last) rows ≡ false
-    go true meets found = cc
-    go false meets found = meets
+      some_inside : {A : Type 0} {x y : A} → Some x ≡ Some y → x ≡ y
+      some_inside same = cc
+
+      go : (meets : Bool) → list_any (shares entry.first entry.last) rows ≡ meets → cond meets (Some Overlap) (cause_of_room count) ≡ None → list_any (shares entry.first entry.last) rows ≡ false
+      go true meets found = cc
+      go false meets found = meets
 
   apart_meaning : (format : Format V) (rows : List (Row V)) (count : ℕ) (meaning : Option Meaning) (kept : Row V)
       → cause_of_meaning format rows count meaning ≡ None → row_meant format meaning ≡ Some kept
@@ -182,10 +183,10 @@ module _ {V : Type 0} where
   apart_meaning format rows count (Some (default entry)) kept none is = cc
   apart_meaning format rows count (Some (row entry)) kept none is = go (nat_lt entry.last entry.first || nat_lt 0x10FFFF entry.last) none
     where
-    go : (outside : Bool) → cond outside (Some Range) (cause_of_value format rows count entry (named format.names entry.name)) ≡ None
-        → list_any (shares kept.first kept.last) rows ≡ false
-    go true found = cc
-    go false found = apart_value format rows count entry (named format.names entry.name) kept found is
+      go : (outside : Bool) → cond outside (Some Range) (cause_of_value format rows count entry (named format.names entry.name)) ≡ None
+          → list_any (shares kept.first kept.last) rows ≡ false
+      go true found = cc
+      go false found = apart_value format rows count entry (named format.names entry.name) kept found is
 
   pub apart_line : (format : Format V) (rows : List (Row V)) (count : ℕ) (line : List ℕ) (kept : Row V)
       → cause_beside format rows count line ≡ None → row_in format line ≡ Some kept
@@ -193,10 +194,10 @@ module _ {V : Type 0} where
   unfolding cause_beside
   apart_line format rows count line kept none is = go (nat_lt 1024 (length line)) none
     where
-    go : (long : Bool) → cond long (Some LineTooLong) (cause_of_meaning format rows count (meaning_of format.defaults line)) ≡ None
-        → list_any (shares kept.first kept.last) rows ≡ false
-    go true found = cc
-    go false found = apart_meaning format rows count (meaning_of format.defaults line) kept found is
+      go : (long : Bool) → cond long (Some LineTooLong) (cause_of_meaning format rows count (meaning_of format.defaults line)) ≡ None
+          → list_any (shares kept.first kept.last) rows ≡ false
+      go true found = cc
+      go false found = apart_meaning format rows count (meaning_of format.defaults line) kept found is
 
   -- what is kept after some lines
   pub record Keeps (format : Format V) (lines : List (List ℕ)) (assigned : Assigned V) : Type 0 where
@@ -209,7 +210,7 @@ module _ {V : Type 0} where
       → cause_after format lines line ≡ cause_beside format assigned.rows.items (count_of assigned) line
   cause_next format lines assigned line keeps =
       beside_same format (rows_in format lines) assigned.rows.items _ (count_of assigned) line keeps.rows
-        (let same = keeps.rows.count in let defaults = ap length keeps.defaults in omega arith)
+      (let same = keeps.rows.count in let defaults = ap length keeps.defaults in omega arith)
 
   -- one more line
   pub keeps_more : (format : Format V) (lines : List (List ℕ)) (line : List ℕ) (old new : Assigned V) → Keeps format lines old
@@ -221,17 +222,17 @@ module _ {V : Type 0} where
     unlisted = adds.unlisted ∙ keeps.unlisted;
   }
     where
-    rows : (kept : Option (Row V)) → row_in format line ≡ kept → AreSameRows (rows_in format (lines ++ line ∷ [])) new.rows.items
-    rows None is =
-        let before : rows_in format (lines ++ line ∷ []) ≡ rows_in format lines
-              = filter_map-append (row_in format) lines (line ∷ []) ∙ (ap (λ o. rows_in format lines ++ cons_option o []) is ∙ append-nil (rows_in format lines)) in
-        let after : new.rows.items ≡ old.rows.items = rw is at adds.rows in
-        rw (before, after) keeps.rows
-    rows (Some kept) is =
-        let before : rows_in format (lines ++ line ∷ []) ≡ rows_in format lines ++ kept ∷ []
-              = filter_map-append (row_in format) lines (line ∷ []) ∙ ap (λ o. rows_in format lines ++ cons_option o []) is in
-        let after : Inserts kept old.rows.items new.rows.items = rw is at adds.rows in
-        rw (before, after.is)
+      rows : (kept : Option (Row V)) → row_in format line ≡ kept → AreSameRows (rows_in format (lines ++ line ∷ [])) new.rows.items
+      rows None is =
+          let before : rows_in format (lines ++ line ∷ []) ≡ rows_in format lines
+          = filter_map-append (row_in format) lines (line ∷ []) ∙ (ap (λ o. rows_in format lines ++ cons_option o []) is ∙ append-nil (rows_in format lines)) in
+          let after : new.rows.items ≡ old.rows.items = rw is at adds.rows in
+          rw (before, after) keeps.rows
+      rows (Some kept) is =
+          let before : rows_in format (lines ++ line ∷ []) ≡ rows_in format lines ++ kept ∷ []
+          = filter_map-append (row_in format) lines (line ∷ []) ∙ ap (λ o. rows_in format lines ++ cons_option o []) is in
+          let after : Inserts kept old.rows.items new.rows.items = rw is at adds.rows in
+          rw (before, after.is)
           (same_rows_more (rows_in format lines) old.rows.items after.at kept keeps.rows (apart_line format old.rows.items (count_of old) line kept none is))
 
   -- nothing is kept before the first line
@@ -253,8 +254,9 @@ module _ {V : Type 0} where
       → IsLawfulBefore format lines (k + 1)
   lawful_more format lines k before here earlier lt =
       elim (cases_lt earlier k) [
-        inl less ↦ before earlier less
-      | inr not_less ↦ let same : earlier ≡ k = omega arith in rw same here ]
+        | inl less ↦ before earlier less
+        | inr not_less ↦ let same : earlier ≡ k = omega arith in rw same here
+      ]
 
   module _ (format : Format V) (bytes : List ℕ) (k : ℕ) (line : List ℕ) (after : List (List ℕ)) (assigned : Assigned V)
       (next : drop k (lines_of bytes) ≡ line ∷ after)
@@ -287,7 +289,7 @@ module _ {V : Type 0} where
     refused cause short answered =
         let n = next_line (lines_of bytes) k line after next in
         elim answered [
-          inl found ↦ inl (inr (record {
+          | inl found ↦ inl (inr (record {
             short = short;
             index = k;
             within = n.within;
@@ -295,11 +297,15 @@ module _ {V : Type 0} where
             here = cause_here ∙ found;
             before = before;
           }))
-        | inr m ↦ inr (m.0, record {
-            short = short;
-            index = k;
-            within = n.within;
-            counted = refl;
-            gives = rw n.is m.2;
-            before = next_lawful m.1;
-          }) ]
+          | inr m ↦ inr (
+            m.0,
+            record {
+              short = short;
+              index = k;
+              within = n.within;
+              counted = refl;
+              gives = rw n.is m.2;
+              before = next_lawful m.1;
+            },
+          )
+        ]

@@ -1,4 +1,5 @@
 pub mod File
+pub mod Files
 pub mod Line
 pub mod Names
 pub mod Reading

@@ -1,5 +1,5 @@
 -- What reading adds to what is kept, line by line, and how it refuses.
-use Rattle.std.specs.Prelude.{ℕ, ◌≡◌, ◌<◌, Bool, ◌⊎◌, cond, List, [], ◌∷◌, ◌++◌, Option, Some, None, IsSome, MatchOption}
+use Rattle.std.specs.Prelude.{ℕ, ◌≡◌, ◌⊎◌, List, ◌++◌, Option, Some, None, IsSome, MatchOption}
 use Rattle.std.specs.Option.{option_to_list}
 use Rattle.lbk_ucd.specs.declared.rows.Row.{Row}
 use Rattle.lbk_ucd.specs.declared.rows.Assigned.{Assigned}

@@ -5,13 +5,12 @@ ghost use Rattle.lbk_ucd.specs.Reading.{Adds, IsAnswered, IsRefusal};
 ghost use Rattle.lbk_ucd.specs.Shown.{shown_entry, shown_format, lines_left};
 ghost use Rattle.lbk_ucd.specs.Tables.{count_of, value_of};
 
-use std::alloc::Global;
-
 use crate::fault::{UcdCause, UcdFault};
 use crate::format::{Format, value_named};
 use crate::line::{Entry, Meaning, meaning_of, place_of};
 use crate::rows::{Assigned, Row, any_shares};
 use crate::values::Which;
+use std::alloc::Global;
 
 /// How many bytes a file has at most.
 const LONGEST_FILE: usize = 8_388_608;
@@ -61,7 +60,11 @@ pub(crate) fn read_file<V: Copy>(
 
 /// Keeps what a line gives, or answers its first cause.
 #[tactic(auto, unfolding(crate::specs::File::cause_beside))]
-fn take_line<V: Copy>(assigned: &mut Assigned<V>, format: &Format<V>, line: &[u8]) -> Result<(), UcdCause>
+fn take_line<V: Copy>(
+    assigned: &mut Assigned<V>,
+    format: &Format<V>,
+    line: &[u8],
+) -> Result<(), UcdCause>
     ensures none { OnOk result (cause_beside (shown_format format.now) assigned.old.rows.items (count_of assigned.old) line.now ≡ None) }
     ensures adds { OnOk result (Adds (row_in (shown_format format.now) line.now) (default_in (shown_format format.now) line.now) assigned.old assigned.new) }
     ensures answered { IfErr result (IsAnswered (cause_beside (shown_format format.now) assigned.old.rows.items (count_of assigned.old) line.now)

@@ -4,11 +4,17 @@
 mod fault;
 mod file;
 mod format;
+mod four;
 mod line;
 mod rows;
+mod samples;
 mod tables;
 mod values;
 
 pub use fault::{UcdCause, UcdFault};
-pub use tables::Tables;
+pub use samples::{SAMPLE_CATEGORY, SAMPLE_EAST_ASIAN, SAMPLE_EMOJI, SAMPLE_LINE_BREAK};
+pub use tables::{Files, Tables};
 pub use values::{Category, EastAsian, LineBreak, Which};
+
+#[cfg(test)]
+mod tests;

@@ -1,4 +1,4 @@
-use Rattle.std.proofs.Common.{◌==◌, length, ◌+◌, arith}
+use Rattle.std.proofs.Common.{◌==◌, ◌+◌, arith}
 use Rattle.std.proofs.lemmas.List.{take_rest}
 use Rattle.std.proofs.lemmas.List.Sums.{fails_before_first}
 use Rattle.std.proofs.lemmas.List.Splits.{slice_split_first, slice_split_none}

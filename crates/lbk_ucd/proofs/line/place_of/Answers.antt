@@ -1,4 +1,4 @@
-use Rattle.std.proofs.Common.{◌≡◌, ◌==◌, length, ◌∙◌, true, eq-eqb, arith, sym, rules}
+use Rattle.std.proofs.Common.{◌≡◌, ◌==◌, length, ◌∙◌, arith, sym}
 use Rattle.std.proofs.lemmas.List.Sums.{position_or_len_is}
 use Rattle.std.proofs.lemmas.Bool.Decides.{nat_tests}
 use Rattle.lbk_ucd.proofs.line.place_of.Goals as goal

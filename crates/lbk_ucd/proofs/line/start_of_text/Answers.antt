@@ -1,4 +1,4 @@
-use Rattle.std.proofs.Common.{◌≡◌, ◌==◌, length, ◌∙◌, true, arith, sym, rules}
+use Rattle.std.proofs.Common.{◌≡◌, length, ◌∙◌, arith, sym}
 use Rattle.std.proofs.lemmas.List.Sums.{prefix_len_is}
 use Rattle.lbk_ucd.specs.Line.{is_space}
 use Rattle.lbk_ucd.proofs.line.start_of_text.Goals as goal

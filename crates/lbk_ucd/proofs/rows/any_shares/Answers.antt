@@ -1,4 +1,4 @@
-use Rattle.std.proofs.Common.{◌<◌, ◌≤◌, get_or, arith, inl, inr}
+use Rattle.std.proofs.Common.{get_or, arith, inl, inr}
 use Rattle.std.proofs.lemmas.List.{get_or_default}
 use Rattle.std.proofs.lemmas.List.Folds.{list_any_none, list_any_at}
 use Rattle.std.proofs.lemmas.Bool.{cases_lt}

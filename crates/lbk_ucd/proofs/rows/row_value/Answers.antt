@@ -1,6 +1,6 @@
 use Rattle.std.specs.Option.{option_map}
 use Rattle.lbk_ucd.specs.Rows.{holds}
-use Rattle.std.proofs.Common.{◌<◌, ◌≤◌, get_or, arith, sym, ap}
+use Rattle.std.proofs.Common.{◌≤◌, get_or, arith, sym, ap}
 use Rattle.std.proofs.lemmas.List.{get_or_default}
 use Rattle.lbk_ucd.proofs.RowLemmas.{first_value_here, meets_within, none_shares, find_none}
 use Rattle.lbk_ucd.proofs.rows.row_value.Goals as goal

@@ -1,5 +1,4 @@
-use Rattle.std.proofs.Common.{◌≡◌, Bool, true, false, cond, List, sym, rules}
-use Rattle.std.specs.List.{insert}
+use Rattle.std.proofs.Common.{◌≡◌, Bool, true, false, cond, List}
 use Rattle.lbk_ucd.specs.declared.rows.Row.{Row}
 use Rattle.lbk_ucd.specs.Rows.{IsInOrder}
 use Rattle.lbk_ucd.proofs.RowLemmas.{inserted_in_order}
