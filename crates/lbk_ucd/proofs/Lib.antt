@@ -1,2 +1,4 @@
 pub mod FileLemmas
+pub mod GrammarLemmas
+pub mod LawLemmas
 pub mod RowLemmas

@@ -1,5 +1,6 @@
 pub mod File
 pub mod Files
+pub mod Grammar
 pub mod Line
 pub mod Names
 pub mod Reading

@@ -34,6 +34,10 @@ is_semicolon byte = byte == 59
 abbrev pub is_hash : ℕ → Bool
 is_hash byte = byte == 35
 
+-- a hex digit of either case
+abbrev pub is_hex : ℕ → Bool
+is_hex byte = is_digit byte 16
+
 -- ASCII letter, digit or underscore
 abbrev pub is_name_byte : ℕ → Bool
 is_name_byte byte = is_ascii_alphanumeric byte || (byte == 95)
@@ -48,7 +52,7 @@ trimmed bytes = let rest = trimmed_start bytes in take (length rest - suffix_len
 -- the number of four to six hex digits of either case
 unfoldable pub code_of : List ℕ → Option ℕ
 code_of digits =
-    if (nat_le 4 (length digits) && nat_le (length digits) 6) && list_all (λ byte. is_digit byte 16) digits
+    if (nat_le 4 (length digits) && nat_le (length digits) 6) && list_all is_hex digits
     then Some (digits_value 16 digits)
     else None
 

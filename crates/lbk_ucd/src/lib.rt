@@ -5,6 +5,7 @@ mod fault;
 mod file;
 mod format;
 mod four;
+pub mod laws;
 mod line;
 mod rows;
 mod samples;
