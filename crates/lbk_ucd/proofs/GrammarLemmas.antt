@@ -1,14 +1,13 @@
 -- `meaning_of` answers just what the grammar relates to a line.
-use Rattle.std.proofs.Common.{◌≡◌, ◌≢◌, ℕ, suc, ◌==◌, nat_eq, nat_lt, nat_le, ◌+◌, ◌-◌, ◌<◌, ◌≤◌, ◌&&◌, ◌||◌, not, Bool, true, false, cond, List, [], ◌∷◌, ◌++◌, length, get_or, take, drop, reverse, codes, Option, Some, None, option_and_then, sym, ap, refl, ◌∙◌, arith, rules, inl, inr, ◌⊎◌, length-append, length-drop, append-nil, append_assoc, slice_index, subst}
-use Rattle.std.specs.List.{All, AllPass, list_any, list_all, prefix_len, suffix_len, position_or_len, before_first, after_first, starts_with}
-use Rattle.std.specs.Char.{is_digit}
+use Rattle.std.proofs.Common.{◌≡◌, ◌≢◌, ℕ, suc, ◌==◌, nat_eq, nat_lt, nat_le, ◌+◌, ◌-◌, ◌<◌, ◌≤◌, ◌&&◌, ◌||◌, not, Bool, true, false, cond, List, [], ◌∷◌, ◌++◌, length, get_or, take, drop, reverse, codes, Option, Some, None, option_and_then, sym, ap, refl, ◌∙◌, arith, inl, inr, ◌⊎◌, length-append, length-drop, append-nil, append_assoc, slice_index, subst}
+use Rattle.std.specs.List.{AllPass, list_any, list_all, prefix_len, suffix_len, position_or_len, before_first, after_first, starts_with}
 use Rattle.std.specs.Option.{option_map, option_map_or}
 use Rattle.std.specs.Str.Parse.{digits_value}
 use Rattle.std.proofs.lemmas.Bool.{and_parts, and_right, cases_lt, eqb-true, eq-eqb}
 use Rattle.std.proofs.lemmas.Bool.Decides.{nat_tests, Decides-eqb}
 use Rattle.std.proofs.lemmas.List.{take-append-drop, take_more, get_or_at, get_or_past, take_at, drop_at, take_all, drop_all, get_or-drop, get_or-reverse, length-reverse, reverse-append}
 use Rattle.std.proofs.lemmas.List.Folds.{list_any-append, list_all-append}
-use Rattle.std.proofs.lemmas.List.Sums.{list_all-from_AllPass, prefix_len-le-length, prefix_len_passes, split_at_first}
+use Rattle.std.proofs.lemmas.List.Sums.{list_all-from_AllPass, prefix_len-le-length, prefix_len_passes}
 use Rattle.std.proofs.lemmas.List.Sorted.{IsPermutation-reverse, list_any-IsPermutation}
 use Rattle.std.proofs.lemmas.Option.{cond_some, option_and_then_some}
 use Rattle.std.proofs.lemmas.Slice.Eq.{starts_is}
@@ -33,9 +32,9 @@ or_parts false b none = (refl, none)
 differs : (q : ℕ → Bool) (k : ℕ) → q k ≡ false → (byte : ℕ) → q byte ≡ true → (byte == k) ≡ false
 differs q k fails byte passes = go (byte == k) refl
   where
-  go : (same : Bool) → (byte == k) ≡ same → (byte == k) ≡ false
-  go true is = let at : byte ≡ k = eqb-true byte k is in let both : q byte ≡ q k = ap q at in cc
-  go false is = is
+    go : (same : Bool) → (byte == k) ≡ same → (byte == k) ≡ false
+    go true is = let at : byte ≡ k = eqb-true byte k is in let both : q byte ≡ q k = ap q at in cc
+    go false is = is
 
 space_no_hash : (byte : ℕ) → is_space byte ≡ true → is_hash byte ≡ false
 space_no_hash = differs is_space 35 refl
@@ -88,7 +87,7 @@ after_here : (p : ℕ → Bool) (front back : List ℕ) (c : ℕ) → list_any p
 after_here p front back c none passes =
     let regrouped : (front ++ (c ∷ [])) ++ back ≡ front ++ (c ∷ back) = append_assoc front (c ∷ []) back in
     rw (place_here p front back c none passes, ← regrouped)
-      (drop_at (front ++ (c ∷ [])) back (length front + 1) (length-append front (c ∷ [])))
+    (drop_at (front ++ (c ∷ [])) back (length front + 1) (length-append front (c ∷ [])))
 
 before_none : (p : ℕ → Bool) (bytes : List ℕ) → list_any p bytes ≡ false → before_first p bytes ≡ bytes
 before_none p bytes none = rw (place_none p bytes none) (take_all (length bytes) bytes (omega arith))
@@ -105,10 +104,10 @@ cut : (p : ℕ → Bool) (bytes : List ℕ) → Cut p bytes
 cut p [] = whole refl
 cut p (byte ∷ bytes) = go (p byte) refl (cut p bytes)
   where
-  go : (here : Bool) → p byte ≡ here → Cut p bytes → Cut p (byte ∷ bytes)
-  go true is rest = parts [] bytes byte refl refl is
-  go false is (whole none) = whole (rw (is, none) refl)
-  go false is (parts front back c split none passes) = parts (byte ∷ front) back c (ap (λ l. byte ∷ l) split) (rw (is, none) refl) passes
+    go : (here : Bool) → p byte ≡ here → Cut p bytes → Cut p (byte ∷ bytes)
+    go true is rest = parts [] bytes byte refl refl is
+    go false is (whole none) = whole (rw (is, none) refl)
+    go false is (parts front back c split none passes) = parts (byte ∷ front) back c (ap (λ l. byte ∷ l) split) (rw (is, none) refl) passes
 
 -- White space at the front and at the end.
 
@@ -147,14 +146,14 @@ none_all p (byte ∷ bytes) none =
     let here : p byte ≡ true = turned (p byte) parts.0 in
     rw (here, rest) refl
   where
-  turned : (b : Bool) → not b ≡ false → b ≡ true
-  turned true is = refl
-  turned false is = cc
+    turned : (b : Bool) → not b ≡ false → b ≡ true
+    turned true is = refl
+    turned false is = cc
 
 blank_reverse : (bytes : List ℕ) → IsBlank bytes → IsBlank (reverse bytes)
 blank_reverse bytes white =
     none_all is_space (reverse bytes)
-      (sym (list_any-IsPermutation (λ byte. not (is_space byte)) bytes (reverse bytes) (IsPermutation-reverse bytes)) ∙ all_none is_space bytes white)
+    (sym (list_any-IsPermutation (λ byte. not (is_space byte)) bytes (reverse bytes) (IsPermutation-reverse bytes)) ∙ all_none is_space bytes white)
 
 none_reverse : (bytes : List ℕ) → list_any is_space bytes ≡ false → list_any is_space (reverse bytes) ≡ false
 none_reverse bytes none = sym (list_any-IsPermutation is_space bytes (reverse bytes) (IsPermutation-reverse bytes)) ∙ none
@@ -169,9 +168,9 @@ trimmed_is : (front core back : List ℕ) → IsBlank front → IsBlank back →
 trimmed_is front core back white white' some none =
     let start : trimmed_start (front ++ (core ++ back)) ≡ core ++ back = trimmed_start_is front (core ++ back) white (prefix_core core back some none) in
     let end : suffix_len is_space (core ++ back) ≡ length back
-          = ap (prefix_len is_space) (reverse-append core back)
-            ∙ (prefix_past (reverse back) (reverse core) (blank_reverse back white')
-            ∙ rw (prefix_none (reverse core) (none_reverse core none), length-reverse back) (omega arith)) in
+    = ap (prefix_len is_space) (reverse-append core back)
+    ∙ (prefix_past (reverse back) (reverse core) (blank_reverse back white')
+    ∙ rw (prefix_none (reverse core) (none_reverse core none), length-reverse back) (omega arith)) in
     rw (start, end) (take_at core back (length (core ++ back) - length back) (let lengths = length-append core back in omega arith))
 
 -- what trimming leaves out is white space
@@ -186,12 +185,12 @@ prefix_blank : (bytes : List ℕ) → IsBlank (take (prefix_len is_space bytes) 
 prefix_blank [] = refl
 prefix_blank (byte ∷ bytes) = go (is_space byte) refl (prefix_blank bytes)
   where
-  go : (white : Bool) → is_space byte ≡ white → IsBlank (take (prefix_len is_space bytes) bytes)
-      → IsBlank (take (prefix_len is_space (byte ∷ bytes)) (byte ∷ bytes))
-  go true is rest =
-      let one : 1 + prefix_len is_space bytes ≡ suc (prefix_len is_space bytes) = omega arith in
-      rw (is, one, is, rest) refl
-  go false is rest = rw is refl
+    go : (white : Bool) → is_space byte ≡ white → IsBlank (take (prefix_len is_space bytes) bytes)
+        → IsBlank (take (prefix_len is_space (byte ∷ bytes)) (byte ∷ bytes))
+    go true is rest =
+        let one : 1 + prefix_len is_space bytes ≡ suc (prefix_len is_space bytes) = omega arith in
+        rw (is, one, is, rest) refl
+    go false is rest = rw is refl
 
 -- where the white space at the end begins
 abbrev end_of : List ℕ → ℕ
@@ -207,7 +206,7 @@ suffix_each bytes k d lt =
     let back : length bytes - 1 - j ≡ end_of bytes + k = omega arith in
     let passes = prefix_len_passes is_space (reverse bytes) j d near in
     let there : get_or (reverse bytes) j d ≡ get_or (drop (end_of bytes) bytes) k d
-          = get_or-reverse bytes j d inside ∙ (ap (λ i. get_or bytes i d) back ∙ sym (get_or-drop (end_of bytes) bytes k d)) in
+    = get_or-reverse bytes j d inside ∙ (ap (λ i. get_or bytes i d) back ∙ sym (get_or-drop (end_of bytes) bytes k d)) in
     rw there at passes
 
 suffix_blank : (bytes : List ℕ) → IsBlank (drop (end_of bytes) bytes)
@@ -292,39 +291,40 @@ pair_is : (single : Bool) (field : List ℕ) (first last : ℕ) → pair_of fiel
 unfolding pair_of
 pair_is single field first last found = go (starts_with nat_eq (from_dot field) (codes "..")) refl found
   where
-  go : (dots : Bool) → starts_with nat_eq (from_dot field) (codes "..") ≡ dots
-      → cond dots (option_and_then (λ a. option_and_then (paired a) (code_of (drop 2 (from_dot field)))) (code_of (before_first is_dot field))) None ≡ Some (first, last)
-      → IsRange single field first last
-  go false is h = cc
-  go true is h =
-      let split : from_dot field ≡ 46 ∷ 46 ∷ drop 2 (from_dot field)
-            = (starts_is Decides-eqb (from_dot field) (codes "..") (starts_with nat_eq (from_dot field) (codes "..")) refl).0 is in
-      let whole : before_first is_dot field ++ (46 ∷ 46 ∷ drop 2 (from_dot field)) ≡ field
-            = ap (λ r. before_first is_dot field ++ r) (sym split) ∙ take-append-drop (position_or_len is_dot field) field in
-      option_and_then_some (λ a. option_and_then (paired a) (code_of (drop 2 (from_dot field)))) (code_of (before_first is_dot field)) (first, last) h (λ a is_a h'.
+    go : (dots : Bool) → starts_with nat_eq (from_dot field) (codes "..") ≡ dots
+        → cond dots (option_and_then (λ a. option_and_then (paired a) (code_of (drop 2 (from_dot field)))) (code_of (before_first is_dot field))) None ≡ Some (first, last)
+        → IsRange single field first last
+    go false is h = cc
+    go true is h =
+        let split : from_dot field ≡ 46 ∷ 46 ∷ drop 2 (from_dot field)
+        = (starts_is Decides-eqb (from_dot field) (codes "..") (starts_with nat_eq (from_dot field) (codes "..")) refl).0 is in
+        let whole : before_first is_dot field ++ (46 ∷ 46 ∷ drop 2 (from_dot field)) ≡ field
+        = ap (λ r. before_first is_dot field ++ r) (sym split) ∙ take-append-drop (position_or_len is_dot field) field in
+        option_and_then_some (λ a. option_and_then (paired a) (code_of (drop 2 (from_dot field)))) (code_of (before_first is_dot field)) (first, last) h (λ a is_a h'.
         option_and_then_some (paired a) (code_of (drop 2 (from_dot field))) (first, last) h' (λ b is_b h''.
-          let same : (a, b) ≡ (first, last) = some_same h'' in
-          let P : List ℕ → Type 0 = λ f. IsRange single f first last in
-          subst P whole (two single (before_first is_dot field) (drop 2 (from_dot field)) first last
-            (code_is (before_first is_dot field) first (is_a ∙ ap Some (ap (λ (p : ℕ × ℕ). p.0) same)))
-            (code_is (drop 2 (from_dot field)) last (is_b ∙ ap Some (ap (λ (p : ℕ × ℕ). p.1) same))))))
+        let same : (a, b) ≡ (first, last) = some_same h'' in
+        let P : List ℕ → Type 0 = λ f. IsRange single f first last in
+        subst P whole (two single (before_first is_dot field) (drop 2 (from_dot field)) first last
+        (code_is (before_first is_dot field) first (is_a ∙ ap Some (ap (λ (p : ℕ × ℕ). p.0) same)))
+        (code_is (drop 2 (from_dot field)) last (is_b ∙ ap Some (ap (λ (p : ℕ × ℕ). p.1) same))))))
 
 range_is : (single : Bool) (field : List ℕ) (first last : ℕ) → range_of single field ≡ Some (first, last) → IsRange single field first last
 unfolding range_of
 range_is false field first last found = pair_is false field first last found
 range_is true field first last found = go (list_any is_dot field) found
   where
-  alone : (code : Option ℕ) → code_of field ≡ code → option_map twice code ≡ Some (first, last) → IsRange true field first last
-  alone None is h = cc
-  alone (Some code) is h =
-      let same : (code, code) ≡ (first, last) = some_same h in
-      let a : code ≡ first = ap (λ (p : ℕ × ℕ). p.0) same in
-      let b : code ≡ last = ap (λ (p : ℕ × ℕ). p.1) same in
-      let P : ℕ → Type 0 = λ l. IsRange true field first l in
-      subst P (sym a ∙ b) (one field first (code_is field first (is ∙ ap Some a)))
-  go : (dots : Bool) → cond (not dots) (option_map twice (code_of field)) (pair_of field) ≡ Some (first, last) → IsRange true field first last
-  go true h = pair_is true field first last h
-  go false h = alone (code_of field) refl h
+    alone : (code : Option ℕ) → code_of field ≡ code → option_map twice code ≡ Some (first, last) → IsRange true field first last
+    alone None is h = cc
+    alone (Some code) is h =
+        let same : (code, code) ≡ (first, last) = some_same h in
+        let a : code ≡ first = ap (λ (p : ℕ × ℕ). p.0) same in
+        let b : code ≡ last = ap (λ (p : ℕ × ℕ). p.1) same in
+        let P : ℕ → Type 0 = λ l. IsRange true field first l in
+        subst P (sym a ∙ b) (one field first (code_is field first (is ∙ ap Some a)))
+
+    go : (dots : Bool) → cond (not dots) (option_map twice (code_of field)) (pair_of field) ≡ Some (first, last) → IsRange true field first last
+    go true h = pair_is true field first last h
+    go false h = alone (code_of field) refl h
 
 range_from : (single : Bool) (field : List ℕ) (first last : ℕ) → IsRange single field first last → range_of single field ≡ Some (first, last)
 unfolding range_of
@@ -342,7 +342,7 @@ range_none : (p : ℕ → Bool) → ((byte : ℕ) → is_hex byte ≡ true → p
 range_none p apart dot single field first last (one digits code is) = none_of p is_hex apart digits is.hex
 range_none p apart dot single field first last (two either digits digits' a b is is') =
     list_any-append p digits (46 ∷ 46 ∷ digits')
-      ∙ rw (none_of p is_hex apart digits is.hex, dot, none_of p is_hex apart digits' is'.hex) refl
+    ∙ rw (none_of p is_hex apart digits is.hex, dot, none_of p is_hex apart digits' is'.hex) refl
 
 range_some : (single : Bool) (field : List ℕ) (first last : ℕ) → IsRange single field first last → 0 < length field
 range_some single field first last (one digits code is) = hex_some digits code is
@@ -355,48 +355,48 @@ entry_is : (single : Bool) (bytes : List ℕ) (entry : Entry) → entry_of singl
 unfolding entry_of
 entry_is single bytes entry found =
     option_and_then_some _ (range_of single (trimmed (before_first is_semicolon bytes))) entry found (λ range is_range h.
-      option_and_then_some _ (name_of (trimmed (after_first is_semicolon bytes))) entry h (λ name is_name h'.
-        go range name is_range is_name (some_same h') (cut is_semicolon bytes)))
+    option_and_then_some _ (name_of (trimmed (after_first is_semicolon bytes))) entry h (λ name is_name h'.
+    go range name is_range is_name (some_same h') (cut is_semicolon bytes)))
   where
-  go : (range : ℕ × ℕ) (name : List ℕ)
-      → range_of single (trimmed (before_first is_semicolon bytes)) ≡ Some range
-      → name_of (trimmed (after_first is_semicolon bytes)) ≡ Some name
-      → (let made : Entry = record { first = range.0; last = range.1; name = name } in made) ≡ entry
-      → Cut is_semicolon bytes → IsEntry single bytes entry
-  go range name is_range is_name same (whole none) =
-      let empty : trimmed (after_first is_semicolon bytes) ≡ [] = rw (after_none is_semicolon bytes none) refl in
-      let named = name_is (trimmed (after_first is_semicolon bytes)) name is_name in
-      let some = named.1.some in
-      let lengths : length name ≡ 0 = ap length (sym named.0 ∙ empty) in
-      absurd (omega arith)
-  go range name is_range is_name same (parts front back c split none passes) =
-      let at : c ≡ 59 = eqb-true c 59 passes in
-      let cut_front : before_first is_semicolon bytes ≡ front = ap (before_first is_semicolon) split ∙ before_here is_semicolon front back c none passes in
-      let cut_back : after_first is_semicolon bytes ≡ back = ap (after_first is_semicolon) split ∙ after_here is_semicolon front back c none passes in
-      let f = is_trimmed front in
-      let b = is_trimmed back in
-      let spells : IsRange single (trimmed front) range.0 range.1 = range_is single (trimmed front) range.0 range.1 (rw cut_front at is_range) in
-      let named = name_is (trimmed back) name (rw cut_back at is_name) in
-      let whole' : bytes ≡ (f.front ++ (trimmed front ++ f.back)) ++ (59 ∷ (b.front ++ (name ++ b.back)))
-            = split ∙ (ap (λ l. l ++ (c ∷ back)) f.is
-              ∙ (ap (λ k. (f.front ++ (trimmed front ++ f.back)) ++ (k ∷ back)) at
-              ∙ (ap (λ l. (f.front ++ (trimmed front ++ f.back)) ++ (59 ∷ l)) b.is
-              ∙ ap (λ l. (f.front ++ (trimmed front ++ f.back)) ++ (59 ∷ (b.front ++ (l ++ b.back)))) named.0))) in
-      let P : Entry → Type 0 = IsEntry single bytes in
-      subst P same (record {
-        before = f.front;
-        range = trimmed front;
-        behind = f.back;
-        between = b.front;
-        after = b.back;
-        is = whole';
-        before_blank = f.front_blank;
-        spells = spells;
-        behind_blank = f.back_blank;
-        between_blank = b.front_blank;
-        name = named.1;
-        after_blank = b.back_blank;
-      })
+    go : (range : ℕ × ℕ) (name : List ℕ)
+        → range_of single (trimmed (before_first is_semicolon bytes)) ≡ Some range
+        → name_of (trimmed (after_first is_semicolon bytes)) ≡ Some name
+        → (let made : Entry = record { first = range.0; last = range.1; name = name } in made) ≡ entry
+        → Cut is_semicolon bytes → IsEntry single bytes entry
+    go range name is_range is_name same (whole none) =
+        let empty : trimmed (after_first is_semicolon bytes) ≡ [] = rw (after_none is_semicolon bytes none) refl in
+        let named = name_is (trimmed (after_first is_semicolon bytes)) name is_name in
+        let some = named.1.some in
+        let lengths : length name ≡ 0 = ap length (sym named.0 ∙ empty) in
+        absurd (omega arith)
+    go range name is_range is_name same (parts front back c split none passes) =
+        let at : c ≡ 59 = eqb-true c 59 passes in
+        let cut_front : before_first is_semicolon bytes ≡ front = ap (before_first is_semicolon) split ∙ before_here is_semicolon front back c none passes in
+        let cut_back : after_first is_semicolon bytes ≡ back = ap (after_first is_semicolon) split ∙ after_here is_semicolon front back c none passes in
+        let f = is_trimmed front in
+        let b = is_trimmed back in
+        let spells : IsRange single (trimmed front) range.0 range.1 = range_is single (trimmed front) range.0 range.1 (rw cut_front at is_range) in
+        let named = name_is (trimmed back) name (rw cut_back at is_name) in
+        let whole' : bytes ≡ (f.front ++ (trimmed front ++ f.back)) ++ (59 ∷ (b.front ++ (name ++ b.back)))
+        = split ∙ (ap (λ l. l ++ (c ∷ back)) f.is
+        ∙ (ap (λ k. (f.front ++ (trimmed front ++ f.back)) ++ (k ∷ back)) at
+        ∙ (ap (λ l. (f.front ++ (trimmed front ++ f.back)) ++ (59 ∷ l)) b.is
+        ∙ ap (λ l. (f.front ++ (trimmed front ++ f.back)) ++ (59 ∷ (b.front ++ (l ++ b.back)))) named.0))) in
+        let P : Entry → Type 0 = IsEntry single bytes in
+        subst P same (record {
+          before = f.front;
+          range = trimmed front;
+          behind = f.back;
+          between = b.front;
+          after = b.back;
+          is = whole';
+          before_blank = f.front_blank;
+          spells = spells;
+          behind_blank = f.back_blank;
+          between_blank = b.front_blank;
+          name = named.1;
+          after_blank = b.back_blank;
+        })
 
 entry_from : (single : Bool) (bytes : List ℕ) (entry : Entry) → IsEntry single bytes entry → entry_of single bytes ≡ Some entry
 unfolding entry_of
@@ -405,19 +405,19 @@ entry_from single bytes entry is =
     let front = is.before ++ (is.range ++ is.behind) in
     let back = is.between ++ (entry.name ++ is.after) in
     let none : list_any is_semicolon front ≡ false
-          = list_any-append is_semicolon is.before (is.range ++ is.behind)
-            ∙ rw (none_of is_semicolon is_space space_no_semicolon is.before is.before_blank, list_any-append is_semicolon is.range is.behind, range_free, none_of is_semicolon is_space space_no_semicolon is.behind is.behind_blank) refl in
+    = list_any-append is_semicolon is.before (is.range ++ is.behind)
+    ∙ rw (none_of is_semicolon is_space space_no_semicolon is.before is.before_blank, list_any-append is_semicolon is.range is.behind, range_free, none_of is_semicolon is_space space_no_semicolon is.behind is.behind_blank) refl in
     let cut_front : before_first is_semicolon bytes ≡ front = ap (before_first is_semicolon) is.is ∙ before_here is_semicolon front back 59 none refl in
     let cut_back : after_first is_semicolon bytes ≡ back = ap (after_first is_semicolon) is.is ∙ after_here is_semicolon front back 59 none refl in
     let trim_front : trimmed front ≡ is.range
-          = trimmed_is is.before is.range is.behind is.before_blank is.behind_blank (range_some single is.range entry.first entry.last is.spells)
-            (range_none is_space hex_no_space refl single is.range entry.first entry.last is.spells) in
+    = trimmed_is is.before is.range is.behind is.before_blank is.behind_blank (range_some single is.range entry.first entry.last is.spells)
+    (range_none is_space hex_no_space refl single is.range entry.first entry.last is.spells) in
     let trim_back : trimmed back ≡ entry.name
-          = trimmed_is is.between entry.name is.after is.between_blank is.after_blank is.name.some (none_of is_space is_name_byte name_no_space entry.name is.name.bytes) in
+    = trimmed_is is.between entry.name is.after is.between_blank is.after_blank is.name.some (none_of is_space is_name_byte name_no_space entry.name is.name.bytes) in
     let range' : range_of single (trimmed (before_first is_semicolon bytes)) ≡ Some (entry.first, entry.last)
-          = ap (λ l. range_of single (trimmed l)) cut_front ∙ (ap (range_of single) trim_front ∙ range_from single is.range entry.first entry.last is.spells) in
+    = ap (λ l. range_of single (trimmed l)) cut_front ∙ (ap (range_of single) trim_front ∙ range_from single is.range entry.first entry.last is.spells) in
     let name' : name_of (trimmed (after_first is_semicolon bytes)) ≡ Some entry.name
-          = ap (λ l. name_of (trimmed l)) cut_back ∙ (ap name_of trim_back ∙ name_from entry.name is.name) in
+    = ap (λ l. name_of (trimmed l)) cut_back ∙ (ap name_of trim_back ∙ name_from entry.name is.name) in
     rw (range', name') refl
 
 -- an entry holds no hash, and isn't white space alone
@@ -427,28 +427,29 @@ entry_no_hash single bytes entry is =
     let range_free = range_none is_hash hex_no_hash refl single is.range entry.first entry.last is.spells in
     let name_free = none_of is_hash is_name_byte name_no_hash entry.name is.name.bytes in
     let front : list_any is_hash (is.before ++ (is.range ++ is.behind)) ≡ false
-          = list_any-append is_hash is.before (is.range ++ is.behind)
-            ∙ rw (free is.before is.before_blank, list_any-append is_hash is.range is.behind, range_free, free is.behind is.behind_blank) refl in
+    = list_any-append is_hash is.before (is.range ++ is.behind)
+    ∙ rw (free is.before is.before_blank, list_any-append is_hash is.range is.behind, range_free, free is.behind is.behind_blank) refl in
     let back : list_any is_hash (is.between ++ (entry.name ++ is.after)) ≡ false
-          = list_any-append is_hash is.between (entry.name ++ is.after)
-            ∙ rw (free is.between is.between_blank, list_any-append is_hash entry.name is.after, name_free, free is.after is.after_blank) refl in
+    = list_any-append is_hash is.between (entry.name ++ is.after)
+    ∙ rw (free is.between is.between_blank, list_any-append is_hash entry.name is.after, name_free, free is.after is.after_blank) refl in
     ap (list_any is_hash) is.is
-      ∙ (list_any-append is_hash (is.before ++ (is.range ++ is.behind)) (59 ∷ (is.between ++ (entry.name ++ is.after)))
-      ∙ rw (front, back) refl)
+    ∙ (list_any-append is_hash (is.before ++ (is.range ++ is.behind)) (59 ∷ (is.between ++ (entry.name ++ is.after)))
+    ∙ rw (front, back) refl)
 
 entry_not_blank : (single : Bool) (bytes : List ℕ) (entry : Entry) → IsEntry single bytes entry → list_all is_space bytes ≡ false
 entry_not_blank single bytes entry is =
     ap (list_all is_space) is.is
-      ∙ (list_all-append is_space (is.before ++ (is.range ++ is.behind)) (59 ∷ (is.between ++ (entry.name ++ is.after)))
-      ∙ and_right (list_all is_space (is.before ++ (is.range ++ is.behind))) false refl)
+    ∙ (list_all-append is_space (is.before ++ (is.range ++ is.behind)) (59 ∷ (is.between ++ (entry.name ++ is.after)))
+    ∙ and_right (list_all is_space (is.before ++ (is.range ++ is.behind))) false refl)
 
 -- what stands before the comment of an entry
 before_comment : (single : Bool) (spelled rest : List ℕ) (entry : Entry) → IsEntry single spelled entry → IsComment rest → before_first is_hash (spelled ++ rest) ≡ spelled
 before_comment single spelled rest entry is ends =
     let none = entry_no_hash single spelled entry is in
     elim ends [
-      inl empty ↦ rw (empty, append-nil) (before_none is_hash spelled none)
-    | inr hash ↦ rw hash.1 (before_here is_hash spelled hash.0 35 none refl) ]
+      | inl empty ↦ rw (empty, append-nil) (before_none is_hash spelled none)
+      | inr hash ↦ rw hash.1 (before_here is_hash spelled hash.0 35 none refl)
+    ]
 
 -- the rest of a cut at a hash is a comment
 comment_left : (bytes : List ℕ) → Cut is_hash bytes → (rest : List ℕ) × (bytes ≡ before_first is_hash bytes ++ rest) × IsComment rest
@@ -464,30 +465,30 @@ default_is : (comment' : List ℕ) (entry : Entry) → default_of comment' ≡ S
 unfolding default_of
 default_is comment' entry found = go (starts_with nat_eq (trimmed_start comment') (codes "@missing:")) refl found
   where
-  go : (missing : Bool) → starts_with nat_eq (trimmed_start comment') (codes "@missing:") ≡ missing
-      → cond missing (entry_of false (before_first is_hash (drop 9 (trimmed_start comment')))) None ≡ Some entry → IsDefault comment' entry
-  go false is h = cc
-  go true is h =
-      let body = trimmed_start comment' in
-      let split : body ≡ codes "@missing:" ++ drop 9 body
-            = (starts_is Decides-eqb body (codes "@missing:") (starts_with nat_eq body (codes "@missing:")) refl).0 is in
-      let left = comment_left (drop 9 body) (cut is_hash (drop 9 body)) in
-      record {
-        before = take (prefix_len is_space comment') comment';
-        spelled = before_first is_hash (drop 9 body);
-        rest = left.0;
-        is = sym (take-append-drop (prefix_len is_space comment') comment')
-          ∙ ap (λ l. take (prefix_len is_space comment') comment' ++ l) (split ∙ ap (λ l. codes "@missing:" ++ l) left.1);
-        before_blank = prefix_blank comment';
-        spells = entry_is false (before_first is_hash (drop 9 body)) entry h;
-        ends = left.2;
-      }
+    go : (missing : Bool) → starts_with nat_eq (trimmed_start comment') (codes "@missing:") ≡ missing
+        → cond missing (entry_of false (before_first is_hash (drop 9 (trimmed_start comment')))) None ≡ Some entry → IsDefault comment' entry
+    go false is h = cc
+    go true is h =
+        let body = trimmed_start comment' in
+        let split : body ≡ codes "@missing:" ++ drop 9 body
+        = (starts_is Decides-eqb body (codes "@missing:") (starts_with nat_eq body (codes "@missing:")) refl).0 is in
+        let left = comment_left (drop 9 body) (cut is_hash (drop 9 body)) in
+        record {
+          before = take (prefix_len is_space comment') comment';
+          spelled = before_first is_hash (drop 9 body);
+          rest = left.0;
+          is = sym (take-append-drop (prefix_len is_space comment') comment')
+              ∙ ap (λ l. take (prefix_len is_space comment') comment' ++ l) (split ∙ ap (λ l. codes "@missing:" ++ l) left.1);
+          before_blank = prefix_blank comment';
+          spells = entry_is false (before_first is_hash (drop 9 body)) entry h;
+          ends = left.2;
+        }
 
 default_from : (comment' : List ℕ) (entry : Entry) → IsDefault comment' entry → default_of comment' ≡ Some entry
 unfolding default_of
 default_from comment' entry is =
     let body : trimmed_start comment' ≡ codes "@missing:" ++ (is.spelled ++ is.rest)
-          = ap trimmed_start is.is ∙ trimmed_start_is is.before (codes "@missing:" ++ (is.spelled ++ is.rest)) is.before_blank refl in
+    = ap trimmed_start is.is ∙ trimmed_start_is is.before (codes "@missing:" ++ (is.spelled ++ is.rest)) is.before_blank refl in
     rw (body, before_comment false is.spelled is.rest entry is.spells is.ends) (entry_from false is.spelled entry is.spells)
 
 -- Lines.
@@ -504,9 +505,9 @@ comment_from : (defaults : Bool) (any : List ℕ) → (defaults ≡ true → (en
 comment_from false any none = refl
 comment_from true any none = go (default_of any) refl
   where
-  go : (found : Option Entry) → default_of any ≡ found → option_map_or default found nothing ≡ nothing
-  go None is = refl
-  go (Some entry) is = absurd (none refl entry (default_is any entry is))
+    go : (found : Option Entry) → default_of any ≡ found → option_map_or default found nothing ≡ nothing
+    go None is = refl
+    go (Some entry) is = absurd (none refl entry (default_is any entry is))
 
 -- what a comment may say
 comment_cases : (defaults : Bool) (text before any : List ℕ) → text ≡ before ++ (35 ∷ any) → IsBlank before
@@ -516,22 +517,22 @@ comment_cases false text before any split white (row entry) says = cc
 comment_cases false text before any split white (default entry) says = cc
 comment_cases true text before any split white (row entry) says = absurd (go (default_of any) says)
   where
-  go : (found : Option Entry) → option_map_or default found nothing ≡ row entry → ⊥
-  go None h = cc
-  go (Some other) h = cc
+    go : (found : Option Entry) → option_map_or default found nothing ≡ row entry → ⊥
+    go None h = cc
+    go (Some other) h = cc
 comment_cases true text before any split white (default entry) says = go (default_of any) refl says
   where
-  go : (found : Option Entry) → default_of any ≡ found → option_map_or default found nothing ≡ default entry → Says true text (default entry)
-  go None is h = cc
-  go (Some other) is h =
-      let same : other ≡ entry = cc in
-      default_line before any entry refl split white (default_is any entry (is ∙ ap Some same))
+    go : (found : Option Entry) → default_of any ≡ found → option_map_or default found nothing ≡ default entry → Says true text (default entry)
+    go None is h = cc
+    go (Some other) is h =
+        let same : other ≡ entry = cc in
+        default_line before any entry refl split white (default_is any entry (is ∙ ap Some same))
 
 abbrev read_text : Bool → List ℕ → Option Meaning
 read_text defaults text =
     cond (list_all is_space (before_first is_hash text))
-      (Some (comment_meaning defaults (after_first is_hash text)))
-      (option_map row (entry_of true (before_first is_hash text)))
+    (Some (comment_meaning defaults (after_first is_hash text)))
+    (option_map row (entry_of true (before_first is_hash text)))
 
 -- nothing stands behind a missing hash
 no_comment : (defaults : Bool) → comment_meaning defaults [] ≡ nothing
@@ -543,29 +544,31 @@ no_comment false = refl
 text_is : (defaults : Bool) (text : List ℕ) (meaning : Meaning) → read_text defaults text ≡ Some meaning → Says defaults text meaning
 text_is defaults text meaning found = go (list_all is_space (before_first is_hash text)) refl found
   where
-  rows : (entry : Option Entry) → entry_of true (before_first is_hash text) ≡ entry → option_map row entry ≡ Some meaning → Says defaults text meaning
-  rows None is h = cc
-  rows (Some entry) is h =
-      let same : row entry ≡ meaning = some_same h in
-      let left = comment_left text (cut is_hash text) in
-      let P : Meaning → Type 0 = Says defaults text in
-      subst P same (row_line (before_first is_hash text) left.0 entry left.1 (entry_is true (before_first is_hash text) entry is) left.2)
-  blanks : Cut is_hash text → list_all is_space (before_first is_hash text) ≡ true → comment_meaning defaults (after_first is_hash text) ≡ meaning → Says defaults text meaning
-  blanks (whole none) white says =
-      let empty : comment_meaning defaults [] ≡ nothing = no_comment defaults in
-      let same : nothing ≡ meaning = sym empty ∙ (ap (comment_meaning defaults) (sym (after_none is_hash text none)) ∙ says) in
-      let P : Meaning → Type 0 = Says defaults text in
-      subst P same (blank (rw (before_none is_hash text none) at white))
-  blanks (parts front back c split none passes) white says =
-      let at : c ≡ 35 = eqb-true c 35 passes in
-      let cut_front : before_first is_hash text ≡ front = ap (before_first is_hash) split ∙ before_here is_hash front back c none passes in
-      let cut_back : after_first is_hash text ≡ back = ap (after_first is_hash) split ∙ after_here is_hash front back c none passes in
-      comment_cases defaults text front back (split ∙ ap (λ k. front ++ (k ∷ back)) at) (rw cut_front at white) meaning (ap (comment_meaning defaults) (sym cut_back) ∙ says)
-  go : (white : Bool) → list_all is_space (before_first is_hash text) ≡ white
-      → cond white (Some (comment_meaning defaults (after_first is_hash text))) (option_map row (entry_of true (before_first is_hash text))) ≡ Some meaning
-      → Says defaults text meaning
-  go true is h = blanks (cut is_hash text) is (some_same h)
-  go false is h = rows (entry_of true (before_first is_hash text)) refl h
+    rows : (entry : Option Entry) → entry_of true (before_first is_hash text) ≡ entry → option_map row entry ≡ Some meaning → Says defaults text meaning
+    rows None is h = cc
+    rows (Some entry) is h =
+        let same : row entry ≡ meaning = some_same h in
+        let left = comment_left text (cut is_hash text) in
+        let P : Meaning → Type 0 = Says defaults text in
+        subst P same (row_line (before_first is_hash text) left.0 entry left.1 (entry_is true (before_first is_hash text) entry is) left.2)
+
+    blanks : Cut is_hash text → list_all is_space (before_first is_hash text) ≡ true → comment_meaning defaults (after_first is_hash text) ≡ meaning → Says defaults text meaning
+    blanks (whole none) white says =
+        let empty : comment_meaning defaults [] ≡ nothing = no_comment defaults in
+        let same : nothing ≡ meaning = sym empty ∙ (ap (comment_meaning defaults) (sym (after_none is_hash text none)) ∙ says) in
+        let P : Meaning → Type 0 = Says defaults text in
+        subst P same (blank (rw (before_none is_hash text none) at white))
+    blanks (parts front back c split none passes) white says =
+        let at : c ≡ 35 = eqb-true c 35 passes in
+        let cut_front : before_first is_hash text ≡ front = ap (before_first is_hash) split ∙ before_here is_hash front back c none passes in
+        let cut_back : after_first is_hash text ≡ back = ap (after_first is_hash) split ∙ after_here is_hash front back c none passes in
+        comment_cases defaults text front back (split ∙ ap (λ k. front ++ (k ∷ back)) at) (rw cut_front at white) meaning (ap (comment_meaning defaults) (sym cut_back) ∙ says)
+
+    go : (white : Bool) → list_all is_space (before_first is_hash text) ≡ white
+        → cond white (Some (comment_meaning defaults (after_first is_hash text))) (option_map row (entry_of true (before_first is_hash text))) ≡ Some meaning
+        → Says defaults text meaning
+    go true is h = blanks (cut is_hash text) is (some_same h)
+    go false is h = rows (entry_of true (before_first is_hash text)) refl h
 
 text_from : (defaults : Bool) (text : List ℕ) (meaning : Meaning) → Says defaults text meaning → read_text defaults text ≡ Some meaning
 text_from defaults text meaning (blank white) =
@@ -584,7 +587,7 @@ text_from defaults text meaning (default_line before any entry has split white i
     let cut_front : before_first is_hash text ≡ before = ap (before_first is_hash) split ∙ before_here is_hash before any 35 none refl in
     let cut_back : after_first is_hash text ≡ any = ap (after_first is_hash) split ∙ after_here is_hash before any 35 none refl in
     let says : comment_meaning defaults any ≡ default entry
-          = ap (λ d. comment_meaning d any) has ∙ ap (λ o. option_map_or default o nothing) (default_from any entry is) in
+    = ap (λ d. comment_meaning d any) has ∙ ap (λ o. option_map_or default o nothing) (default_from any entry is) in
     rw (cut_front, cut_back, white) (ap Some says)
 
 -- The carriage return.
@@ -604,10 +607,11 @@ return_split : (line : List ℕ) → (slice_index line (length line - 1) == 13) 
 return_split line is =
     let at : slice_index line (length line - 1) ≡ 13 = eqb-true (slice_index line (length line - 1)) 13 is in
     elim (cases_lt 0 (length line)) [
-      inl some ↦ last_split line some ∙ ap (λ k. take (length line - 1) line ++ (k ∷ [])) at
-    | inr empty ↦
-        let past : slice_index line (length line - 1) ≡ 0 = get_or_past line (length line - 1) 0 (omega arith) in
-        absurd (omega arith) ]
+      | inl some ↦ last_split line some ∙ ap (λ k. take (length line - 1) line ++ (k ∷ [])) at
+      | inr empty ↦
+          let past : slice_index line (length line - 1) ≡ 0 = get_or_past line (length line - 1) 0 (omega arith) in
+          absurd (omega arith)
+    ]
 
 return_last : (front : List ℕ) → slice_index (front ++ (13 ∷ [])) (length (front ++ (13 ∷ [])) - 1) ≡ 13
 return_last front =
@@ -617,12 +621,15 @@ return_last front =
 returned : (line : List ℕ) → IsReturned line (without_return line)
 returned line = go (slice_index line (length line - 1) == 13) refl
   where
-  go : (last : Bool) → (slice_index line (length line - 1) == 13) ≡ last → IsReturned line (cond last (take (length line - 1) line) line)
-  go true is = inl (return_split line is)
-  go false is = inr (refl, λ front split.
-      let at : slice_index line (length line - 1) ≡ 13 = ap (λ l. slice_index l (length l - 1)) split ∙ return_last front in
-      let yes = eq-eqb (slice_index line (length line - 1)) 13 at in
-      cc)
+    go : (last : Bool) → (slice_index line (length line - 1) == 13) ≡ last → IsReturned line (cond last (take (length line - 1) line) line)
+    go true is = inl (return_split line is)
+    go false is = inr (
+      refl,
+      λ front split.
+          let at : slice_index line (length line - 1) ≡ 13 = ap (λ l. slice_index l (length l - 1)) split ∙ return_last front in
+          let yes = eq-eqb (slice_index line (length line - 1)) 13 at in
+          cc,
+    )
 
 unreturned : (line text : List ℕ) → IsReturned line text → without_return line ≡ text
 unreturned line text (inl split) =
@@ -633,9 +640,9 @@ unreturned line text (inl split) =
     rw yes (ap (take (length line - 1)) split ∙ take_at text (13 ∷ []) (length line - 1) shorter)
 unreturned line text (inr p) = go (slice_index line (length line - 1) == 13) refl
   where
-  go : (last : Bool) → (slice_index line (length line - 1) == 13) ≡ last → cond last (take (length line - 1) line) line ≡ text
-  go true is = absurd (p.1 (take (length line - 1) line) (return_split line is))
-  go false is = p.0
+    go : (last : Bool) → (slice_index line (length line - 1) == 13) ≡ last → cond last (take (length line - 1) line) line ≡ text
+    go true is = absurd (p.1 (take (length line - 1) line) (return_split line is))
+    go false is = p.0
 
 pub said_is : (defaults : Bool) (line : List ℕ) (meaning : Meaning) → meaning_of defaults line ≡ Some meaning → IsSaid defaults line meaning
 unfolding meaning_of

@@ -1,6 +1,6 @@
 -- Laws of the definitions: of lines, of shared codes and of faults.
-use Rattle.std.proofs.Common.{◌≡◌, ℕ, zero, suc, ◌==◌, nat_le, ◌+◌, ◌<◌, ◌≤◌, ◌&&◌, ◌||◌, not, Bool, true, false, cond, List, [], ◌∷◌, length, take, Option, Some, None, sym, ap, refl, ◌∙◌, arith, rules, inl, inr, ◌⊎◌}
-use Rattle.std.specs.List.{list_any, list_all, slice_split, onto_first, slice_index_or}
+use Rattle.std.proofs.Common.{◌≡◌, ℕ, zero, suc, ◌+◌, ◌<◌, ◌≤◌, not, Bool, true, false, List, [], ◌∷◌, length, Option, Some, None, sym, ap, refl, ◌∙◌, arith, inl, inr, ◌⊎◌}
+use Rattle.std.specs.List.{list_any, list_all, slice_split, onto_first}
 use Rattle.std.proofs.lemmas.Bool.{cases_lt, and_parts}
 use Rattle.std.proofs.lemmas.Bool.Decides.{nat_tests}
 use Rattle.lbk_ucd.specs.declared.rows.Row.{Row}
@@ -25,9 +25,9 @@ pub split_lacks : (p : ℕ → Bool) (xs : List ℕ) → list_all (lacks p) (sli
 split_lacks p [] = refl
 split_lacks p (x ∷ xs) = go (p x) refl (split_lacks p xs)
   where
-  go : (here : Bool) → p x ≡ here → list_all (lacks p) (slice_split p xs) ≡ true → list_all (lacks p) (slice_split p (x ∷ xs)) ≡ true
-  go true is rest = rw is rest
-  go false is rest = rw is (onto_lacks p x (slice_split p xs) is rest)
+    go : (here : Bool) → p x ≡ here → list_all (lacks p) (slice_split p xs) ≡ true → list_all (lacks p) (slice_split p (x ∷ xs)) ≡ true
+    go true is rest = rw is rest
+    go false is rest = rw is (onto_lacks p x (slice_split p xs) is rest)
 
 module _ {V : Type 0} where
   -- the greater of the two first codes is shared, where some code is
@@ -35,8 +35,9 @@ module _ {V : Type 0} where
       → (code : ℕ) × (first ≤ code) × (code ≤ last) × (holds code row ≡ true)
   shared_code first last row rises rises' meets =
       elim (cases_lt first row.first) [
-        inl less ↦ (row.first, omega arith, grind (arith, nat_tests), grind (arith, nat_tests))
-      | inr not_less ↦ (first, omega arith, omega arith, grind (arith, nat_tests)) ]
+        | inl less ↦ (row.first, omega arith, grind (arith, nat_tests), grind (arith, nat_tests))
+        | inr not_less ↦ (first, omega arith, omega arith, grind (arith, nat_tests))
+      ]
 
   pub shares_code : (first last : ℕ) (row : Row V) (code : ℕ) → first ≤ code → code ≤ last → holds code row ≡ true → shares first last row ≡ true
   shares_code first last row code low high here = grind (arith, nat_tests)
@@ -48,31 +49,38 @@ module _ {V : Type 0} where
   first_cause format lines zero = inl (λ earlier lt. absurd (omega arith))
   first_cause format lines (suc n) = go (first_cause format lines n) (cause_at format lines n) refl
     where
-    more : n + 1 ≡ suc n
-    more = omega arith
-    go : (IsLawfulBefore format lines n ⊎ ((k : ℕ) × (cause : UcdCause) × (k < n) × (cause_at format lines k ≡ Some cause) × IsLawfulBefore format lines k))
-        → (here : Option UcdCause) → cause_at format lines n ≡ here
-        → IsLawfulBefore format lines (suc n)
-        ⊎ ((k : ℕ) × (cause : UcdCause) × (k < suc n) × (cause_at format lines k ≡ Some cause) × IsLawfulBefore format lines k)
-    go (inr found) here is = inr (found.0, found.1, omega (arith, found.2), found.3, found.4)
-    go (inl before) None is = inl (rw more at (lawful_more format lines n before is))
-    go (inl before) (Some cause) is = inr (n, cause, omega arith, is, before)
+      more : n + 1 ≡ suc n
+      more = omega arith
+
+      go : (IsLawfulBefore format lines n ⊎ ((k : ℕ) × (cause : UcdCause) × (k < n) × (cause_at format lines k ≡ Some cause) × IsLawfulBefore format lines k))
+          → (here : Option UcdCause) → cause_at format lines n ≡ here
+          → IsLawfulBefore format lines (suc n)
+          ⊎ ((k : ℕ) × (cause : UcdCause) × (k < suc n) × (cause_at format lines k ≡ Some cause) × IsLawfulBefore format lines k)
+      go (inr found) here is = inr (found.0, found.1, omega (arith, found.2), found.3, found.4)
+      go (inl before) None is = inl (rw more at (lawful_more format lines n before is))
+      go (inl before) (Some cause) is = inr (n, cause, omega arith, is, before)
 
   -- a file is lawful or has a fault
   pub lawful_or_fault : (format : Format V) (bytes : List ℕ) → IsLawful format bytes ⊎ ((number : ℕ) × (cause : UcdCause) × IsFault format bytes number cause)
   lawful_or_fault format bytes =
       elim (cases_lt 8388608 (length bytes)) [
-        inl long ↦ inr (0, FileTooLong, inl (long, refl, refl))
-      | inr short ↦ elim (first_cause format (lines_of bytes) (length (lines_of bytes))) [
-          inl all ↦ inl (record { short = short; lines = all })
-        | inr found ↦ inr (found.0 + 1, found.1, inr (record {
-            short = short;
-            index = found.0;
-            within = found.2;
-            counted = refl;
-            here = found.3;
-            before = found.4;
-          })) ] ]
+        | inl long ↦ inr (0, FileTooLong, inl (long, refl, refl))
+        | inr short ↦ elim (first_cause format (lines_of bytes) (length (lines_of bytes))) [
+          | inl all ↦ inl (record { short = short; lines = all })
+          | inr found ↦ inr (
+            found.0 + 1,
+            found.1,
+            inr (record {
+              short = short;
+              index = found.0;
+              within = found.2;
+              counted = refl;
+              here = found.3;
+              before = found.4;
+            }),
+          )
+        ]
+      ]
 
   pub lawful_no_fault : (format : Format V) (bytes : List ℕ) (number : ℕ) (cause : UcdCause) → IsLawful format bytes → IsFault format bytes number cause → ⊥
   lawful_no_fault format bytes number cause lawful (inl long) = absurd (omega (arith, lawful.short, long.0))
@@ -84,15 +92,17 @@ module _ {V : Type 0} where
   same_line : (format : Format V) (bytes : List ℕ) (m n : ℕ) (c d : UcdCause) → IsLineFault format bytes m c → IsLineFault format bytes n d → (m ≡ n) × (c ≡ d)
   same_line format bytes m n c d a b =
       elim (cases_lt a.index b.index) [
-        inl less ↦ let none = b.before a.index less in let some = a.here in cc
-      | inr not_less ↦ elim (cases_lt b.index a.index) [
-          inl more ↦ let none = a.before b.index more in let some = b.here in cc
-        | inr not_more ↦
-            let same : a.index ≡ b.index = omega arith in
-            let counted = a.counted in
-            let counted' = b.counted in
-            let causes : Some c ≡ Some d = sym a.here ∙ (ap (cause_at format (lines_of bytes)) same ∙ b.here) in
-            (omega arith, cc) ] ]
+        | inl less ↦ let none = b.before a.index less in let some = a.here in cc
+        | inr not_less ↦ elim (cases_lt b.index a.index) [
+          | inl more ↦ let none = a.before b.index more in let some = b.here in cc
+          | inr not_more ↦
+              let same : a.index ≡ b.index = omega arith in
+              let counted = a.counted in
+              let counted' = b.counted in
+              let causes : Some c ≡ Some d = sym a.here ∙ (ap (cause_at format (lines_of bytes)) same ∙ b.here) in
+              (omega arith, cc)
+        ]
+      ]
 
   pub one_fault : (format : Format V) (bytes : List ℕ) (m n : ℕ) (c d : UcdCause) → IsFault format bytes m c → IsFault format bytes n d → (m ≡ n) × (c ≡ d)
   one_fault format bytes m n c d (inl a) (inl b) = (a.1 ∙ sym b.1, a.2 ∙ sym b.2)

@@ -2,3 +2,4 @@ pub mod FileLemmas
 pub mod GrammarLemmas
 pub mod LawLemmas
 pub mod RowLemmas
+pub mod Worked

@@ -76,6 +76,7 @@ module _ {V : Type 0} where
   cause_of_value format rows count entry None = if format.others then None else Some UnknownValue
   cause_of_value format rows count entry (Some value) = cause_of_kept rows count entry.first entry.last
 
+  -- that of a row or a default line; the last code is above 10FFFF where the first is, unless the first is above the last
   unfoldable pub cause_of_entry : Format V → List (Row V) → ℕ → Entry → Option UcdCause
   cause_of_entry format rows count entry =
       if nat_lt entry.last entry.first || nat_lt 0x10FFFF entry.last then Some Range

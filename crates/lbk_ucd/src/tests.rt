@@ -250,3 +250,12 @@ fn defaults_and_other_files(rt: HostRuntime) -> Result<(), Fail> {
     }
     Ok(())
 }
+
+/// The generic laws stand at a concrete type.
+#[test]
+fn laws_stand() {
+    crate::laws::lines_say_what_the_grammar_has();
+    crate::laws::lines_make_up_the_file();
+    crate::laws::shared_codes_are_held::<LineBreak>();
+    crate::laws::files_have_one_fault_or_none::<LineBreak>();
+}
