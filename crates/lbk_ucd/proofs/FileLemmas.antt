@@ -69,7 +69,7 @@ module _ {V : Type 0} where
     pub count : length xs ≡ length ys
 
   -- a code of a row is in none that shares none with it
-  elsewhere : (code : ℕ) (new other : Row V) → holds code new ≡ true → shares new.first new.last other ≡ false → holds code other ≡ false
+  pub elsewhere : (code : ℕ) (new other : Row V) → holds code new ≡ true → shares new.first new.last other ≡ false → holds code other ≡ false
   elsewhere code new other here apart = grind (arith, nat_tests)
 
   none_holds : (code : ℕ) (new : Row V) (rows : List (Row V)) → holds code new ≡ true → list_any (shares new.first new.last) rows ≡ false

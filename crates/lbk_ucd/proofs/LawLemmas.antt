@@ -1,14 +1,18 @@
 -- Laws of the definitions: of lines, of shared codes and of faults.
-use Rattle.std.proofs.Common.{◌≡◌, ℕ, zero, suc, ◌+◌, ◌<◌, ◌≤◌, not, Bool, true, false, List, [], ◌∷◌, length, Option, Some, None, sym, ap, refl, ◌∙◌, arith, inl, inr, ◌⊎◌}
-use Rattle.std.specs.List.{list_any, list_all, slice_split, onto_first}
+use Rattle.std.proofs.Common.{◌≡◌, ℕ, zero, suc, ◌+◌, ◌<◌, ◌≤◌, not, Bool, true, false, List, [], ◌∷◌, ◌++◌, length, get_or, take, append-nil, Option, Some, None, sym, ap, refl, ◌∙◌, arith, inl, inr, ◌⊎◌}
+use Rattle.std.specs.List.{AllPairs, cons_option, list_any, list_all, slice_split, onto_first}
+use Rattle.std.proofs.lemmas.List.{take_more, take_all}
+use Rattle.std.proofs.lemmas.List.Elements.{filter_map-append}
+use Rattle.std.proofs.lemmas.List.Quantifiers.{all_pairs_push}
 use Rattle.std.proofs.lemmas.Bool.{cases_lt, and_parts}
 use Rattle.std.proofs.lemmas.Bool.Decides.{nat_tests}
 use Rattle.lbk_ucd.specs.declared.rows.Row.{Row}
 use Rattle.lbk_ucd.specs.declared.fault.UcdCause.{UcdCause}
 use Rattle.lbk_ucd.specs.declared.fault.UcdCause.TheVariants.{FileTooLong}
-use Rattle.lbk_ucd.specs.Rows.{holds, shares}
-use Rattle.lbk_ucd.specs.File.{Format, lines_of, cause_at, IsLawfulBefore, IsLawful, IsLineFault, IsFault}
-use Rattle.lbk_ucd.proofs.FileLemmas.{lawful_more}
+use Rattle.lbk_ucd.specs.Rows.{holds, shares, AreApart}
+use Rattle.lbk_ucd.specs.File.{Format, row_in, rows_in, defaults_in, lines_of, cause_at, IsLawfulBefore, IsLawful, IsLineFault, IsFault}
+use Rattle.lbk_ucd.proofs.FileLemmas.{lawful_more, elsewhere, apart_line}
+use Rattle.lbk_ucd.proofs.RowLemmas.{fails_each}
 
 -- whether a list lacks what passes a test
 abbrev lacks : (ℕ → Bool) → List ℕ → Bool
@@ -109,3 +113,38 @@ module _ {V : Type 0} where
   one_fault format bytes m n c d (inl a) (inr b) = absurd (omega (arith, a.0, b.short))
   one_fault format bytes m n c d (inr a) (inl b) = absurd (omega (arith, b.0, a.short))
   one_fault format bytes m n c d (inr a) (inr b) = same_line format bytes m n c d a b
+
+  -- the kept rows of the first lines, of which none has a cause
+  rows_apart : (format : Format V) (lines : List (List ℕ)) (k : ℕ) → k ≤ length lines → IsLawfulBefore format lines k
+      → AllPairs AreApart (rows_in format (take k lines))
+  rows_apart format lines zero fits before = λ i j d less lt. absurd (omega arith)
+  rows_apart format lines (suc k) fits before =
+      let one : k + 1 ≡ suc k = omega arith in
+      let within : k < length lines = omega arith in
+      let taken : take (suc k) lines ≡ take k lines ++ get_or lines k [] ∷ [] = rw one at (take_more lines k [] within) in
+      let earlier : AllPairs AreApart (rows_in format (take k lines)) = rows_apart format lines k (omega arith) (λ e lt. before e (omega arith)) in
+      rw taken (go earlier (before k (omega arith)) (row_in format (get_or lines k [])) refl)
+    where
+      go : AllPairs AreApart (rows_in format (take k lines)) → cause_at format lines k ≡ None
+          → (kept : Option (Row V)) → row_in format (get_or lines k []) ≡ kept
+          → AllPairs AreApart (rows_in format (take k lines ++ get_or lines k [] ∷ []))
+      go earlier none None is =
+          let same : rows_in format (take k lines ++ get_or lines k [] ∷ []) ≡ rows_in format (take k lines)
+          = filter_map-append (row_in format) (take k lines) (get_or lines k [] ∷ [])
+          ∙ (ap (λ o. rows_in format (take k lines) ++ cons_option o []) is ∙ append-nil (rows_in format (take k lines))) in
+          rw same earlier
+      go earlier none (Some kept) is =
+          let rows = rows_in format (take k lines) in
+          let more : rows_in format (take k lines ++ get_or lines k [] ∷ []) ≡ rows ++ kept ∷ []
+          = filter_map-append (row_in format) (take k lines) (get_or lines k [] ∷ [])
+          ∙ ap (λ o. rows ++ cons_option o []) is in
+          let apart = apart_line format rows (length rows + length (defaults_in format (take k lines))) (get_or lines k []) kept none is in
+          rw more (all_pairs_push AreApart rows kept earlier (λ i d lt code here there.
+          let none' : holds code (get_or rows i d) ≡ false
+          = elsewhere code kept (get_or rows i d) there (fails_each (shares kept.first kept.last) rows apart i d lt) in
+          cc))
+
+  pub kept_apart : (format : Format V) (bytes : List ℕ) → IsLawful format bytes → AllPairs AreApart (rows_in format (lines_of bytes))
+  kept_apart format bytes lawful =
+      let whole : take (length (lines_of bytes)) (lines_of bytes) ≡ lines_of bytes = take_all (length (lines_of bytes)) (lines_of bytes) (omega arith) in
+      rw whole at (rows_apart format (lines_of bytes) (length (lines_of bytes)) (omega arith) lawful.lines)

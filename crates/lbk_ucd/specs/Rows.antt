@@ -1,5 +1,5 @@
 -- Ranges of codes with a value, and the value that lists of them give a code.
-use Rattle.std.specs.Prelude.{ℕ, ◌<◌, ◌≤◌, Bool, ◌&&◌, nat_le, List, length, reverse, Option, unwrap_or, ◌≡◌}
+use Rattle.std.specs.Prelude.{ℕ, true, ◌<◌, ◌≤◌, Bool, ◌&&◌, nat_le, List, length, reverse, Option, unwrap_or, ◌≡◌}
 use Rattle.std.specs.Option.{option_map}
 use Rattle.std.specs.List.{All, AllPairs, find, insert}
 use Rattle.lbk_ucd.specs.declared.rows.Row.{Row}
@@ -11,6 +11,10 @@ holds code row = nat_le row.first code && nat_le code row.last
 -- whether a row shares a code with the codes from first to last
 abbrev pub shares : {V : Type 0} → ℕ → ℕ → Row V → Bool
 shares first last row = nat_le row.first last && nat_le first row.last
+
+-- no code is in both of two rows
+abbrev pub AreApart : {V : Type 0} → Row V → Row V → Type 0
+AreApart row other = (code : ℕ) → holds code row ≡ true → holds code other ≡ true → ⊥
 
 -- the value of the first row that holds a code
 abbrev pub first_value : {V : Type 0} → ℕ → List (Row V) → Option V

@@ -1,12 +1,12 @@
 //! Laws of the definitions that the contracts cite. Each stands as the contract of a function that does nothing.
 ghost use Rattle.std.specs.Prelude.{◌≡◌, ◌==◌, ◌≤◌, ◌↔◌, ◌⊎◌, ℕ, Bool, true, false, not, List, Some};
-ghost use Rattle.std.specs.List.{list_any, list_all, join_with_byte};
+ghost use Rattle.std.specs.List.{AllPairs, list_any, list_all, join_with_byte};
 ghost use Rattle.lbk_ucd.specs.declared.rows.Row.{Row};
 ghost use Rattle.lbk_ucd.specs.declared.fault.UcdCause.{UcdCause};
-ghost use Rattle.lbk_ucd.specs.File.{Format, lines_of, without_mark, IsLawful, IsFault};
+ghost use Rattle.lbk_ucd.specs.File.{Format, lines_of, rows_in, without_mark, IsLawful, IsFault};
 ghost use Rattle.lbk_ucd.specs.Grammar.{IsSaid};
 ghost use Rattle.lbk_ucd.specs.Line.{Meaning, meaning_of};
-ghost use Rattle.lbk_ucd.specs.Rows.{holds, shares};
+ghost use Rattle.lbk_ucd.specs.Rows.{holds, shares, AreApart};
 
 /// What a line of a property file says is what the grammar relates to its bytes, and nothing else (UAX #44, section 4.2).
 pub fn lines_say_what_the_grammar_has()
@@ -31,4 +31,9 @@ pub fn files_have_one_fault_or_none<V: Copy>()
     ensures not_both { (format : Format V) (bytes : List ℕ) (line : ℕ) (cause : UcdCause) → IsLawful format bytes → IsFault format bytes line cause → ⊥ }
     ensures one { (format : Format V) (bytes : List ℕ) (line other : ℕ) (cause why : UcdCause)
         → IsFault format bytes line cause → IsFault format bytes other why → (line ≡ other) × (cause ≡ why) }
+{}
+
+/// No code is in two kept rows of a lawful file, so the row that holds a code is one.
+pub fn kept_rows_are_apart<V: Copy>()
+    ensures { (format : Format V) (bytes : List ℕ) → IsLawful format bytes → AllPairs AreApart (rows_in format (lines_of bytes)) }
 {}

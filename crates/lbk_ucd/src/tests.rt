@@ -258,4 +258,5 @@ fn laws_stand() {
     crate::laws::lines_make_up_the_file();
     crate::laws::shared_codes_are_held::<LineBreak>();
     crate::laws::files_have_one_fault_or_none::<LineBreak>();
+    crate::laws::kept_rows_are_apart::<LineBreak>();
 }
