@@ -1,0 +1,5 @@
+pub mod FileLemmas
+pub mod GrammarLemmas
+pub mod LawLemmas
+pub mod RowLemmas
+pub mod Worked

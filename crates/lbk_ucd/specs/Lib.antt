@@ -1,0 +1,9 @@
+pub mod File
+pub mod Files
+pub mod Grammar
+pub mod Line
+pub mod Names
+pub mod Reading
+pub mod Rows
+pub mod Shown
+pub mod Tables

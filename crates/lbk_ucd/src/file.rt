@@ -1,0 +1,175 @@
+ghost use Rattle.std.specs.Prelude.{◌≡◌, ◌≤◌, ◌==◌, ℕ, [], ◌∷◌, None, Some, IfOk, IfErr, OnOk, cond};
+ghost use Rattle.lbk_ucd.specs.File.{cause_of_room, cause_of_kept, cause_of_entry, cause_beside, valued, row_in, default_in, IsLawful, property_of, without_mark};
+ghost use Rattle.std.specs.List.{slice_split};
+ghost use Rattle.lbk_ucd.specs.Reading.{Adds, IsAnswered, IsRefusal};
+ghost use Rattle.lbk_ucd.specs.Shown.{shown_entry, shown_format, lines_left};
+ghost use Rattle.lbk_ucd.specs.Tables.{count_of, value_of};
+
+use crate::fault::{UcdCause, UcdFault};
+use crate::format::{Format, value_named};
+use crate::line::{Entry, Meaning, meaning_of, place_of};
+use crate::rows::{Assigned, Row, any_shares};
+use crate::values::Which;
+use std::alloc::Global;
+
+/// How many bytes a file has at most.
+const LONGEST_FILE: usize = 8_388_608;
+
+/// How many bytes a line has at most, without its LF.
+const LONGEST_LINE: usize = 1_024;
+
+/// The greatest code.
+const LAST_CODE: u32 = 0x10_FFFF;
+
+/// What a file assigns to codes, or the first fault of the file.
+pub(crate) fn read_file<V: Copy>(
+    alloc: Global,
+    which: Which,
+    format: &Format<V>,
+    bytes: &[u8],
+) -> Result<Assigned<V>, UcdFault>
+    ensures lawful { OnOk result (IsLawful (shown_format format.now) bytes.now) }
+    ensures properties { IfOk result (λ assigned. (code : ℕ) → value_of assigned code ≡ property_of (shown_format format.now) bytes.now code) }
+    ensures file { IfErr result (λ fault. fault.file ≡ which) }
+    ensures refused { IfErr result (λ fault. IsRefusal (shown_format format.now) bytes.now fault.line fault.cause) }
+{
+    if bytes.len() > LONGEST_FILE {
+        return Err(UcdFault {
+            file: which,
+            line: 0,
+            cause: UcdCause::FileTooLong,
+        });
+    }
+    let mut assigned = Assigned::new(alloc, format.unlisted);
+    let mut line = 0;
+    let mut rest = Some(without_mark(bytes));
+    while let Some(text) = rest {
+        let (first, after) = first_line(text);
+        line += 1;
+        if let Err(cause) = take_line(&mut assigned, format, first) {
+            return Err(UcdFault {
+                file: which,
+                line,
+                cause,
+            });
+        }
+        rest = after;
+    }
+    Ok(assigned)
+}
+
+/// Keeps what a line gives, or answers its first cause.
+#[tactic(auto, unfolding(crate::specs::File::cause_beside))]
+fn take_line<V: Copy>(
+    assigned: &mut Assigned<V>,
+    format: &Format<V>,
+    line: &[u8],
+) -> Result<(), UcdCause>
+    ensures none { OnOk result (cause_beside (shown_format format.now) assigned.old.rows.items (count_of assigned.old) line.now ≡ None) }
+    ensures adds { OnOk result (Adds (row_in (shown_format format.now) line.now) (default_in (shown_format format.now) line.now) assigned.old assigned.new) }
+    ensures answered { IfErr result (IsAnswered (cause_beside (shown_format format.now) assigned.old.rows.items (count_of assigned.old) line.now)
+        (row_in (shown_format format.now) line.now) (default_in (shown_format format.now) line.now)) }
+{
+    if line.len() > LONGEST_LINE {
+        return Err(UcdCause::LineTooLong);
+    }
+    match meaning_of(line, format.defaults) {
+        None => Err(UcdCause::RowSyntax),
+        Some(Meaning::Nothing) => Ok(()),
+        Some(Meaning::Row(entry)) => take_entry(assigned, format, entry, false),
+        Some(Meaning::Default(entry)) => take_entry(assigned, format, entry, true),
+    }
+}
+
+/// Keeps an entry as a row or as a default, or answers its first cause.
+#[tactic(auto, unfolding(crate::specs::File::cause_of_entry))]
+fn take_entry<V: Copy>(
+    assigned: &mut Assigned<V>,
+    format: &Format<V>,
+    entry: Entry<'_>,
+    is_default: bool,
+) -> Result<(), UcdCause>
+    ensures none { OnOk result (cause_of_entry (shown_format format.now) (cond is_default [] assigned.old.rows.items) (count_of assigned.old) (shown_entry entry.entry) ≡ None) }
+    ensures adds { OnOk result (Adds (cond is_default None (valued (shown_format format.now) (shown_entry entry.entry)))
+        (cond is_default (valued (shown_format format.now) (shown_entry entry.entry)) None) assigned.old assigned.new) }
+    ensures answered { IfErr result (IsAnswered (cause_of_entry (shown_format format.now) (cond is_default [] assigned.old.rows.items) (count_of assigned.old) (shown_entry entry.entry))
+        (cond is_default None (valued (shown_format format.now) (shown_entry entry.entry)))
+        (cond is_default (valued (shown_format format.now) (shown_entry entry.entry)) None)) }
+{
+    if entry.last < entry.first || LAST_CODE < entry.last {
+        return Err(UcdCause::Range);
+    }
+    let Some(value) = value_named(format.names, entry.name) else {
+        return if format.others {
+            Ok(())
+        } else {
+            Err(UcdCause::UnknownValue)
+        };
+    };
+    let row = Row {
+        first: entry.first,
+        last: entry.last,
+        value,
+    };
+    if is_default {
+        keep_default(assigned, row)
+    } else {
+        keep_row(assigned, row)
+    }
+}
+
+/// Keeps a row, unless it shares a code with one that is kept, or there is no room.
+fn keep_row<V: Copy>(assigned: &mut Assigned<V>, row: Row<V>) -> Result<(), UcdCause>
+    requires { row.first ≤ row.last }
+    ensures none { OnOk result (cause_of_kept assigned.old.rows.items (count_of assigned.old) row.first row.last ≡ None) }
+    ensures adds { OnOk result (Adds (Some row) None assigned.old assigned.new) }
+    ensures answered { IfErr result (IsAnswered (cause_of_kept assigned.old.rows.items (count_of assigned.old) row.first row.last) (Some row) None) }
+{
+    if any_shares(&assigned.rows, row.first, row.last) {
+        return Err(UcdCause::Overlap);
+    }
+    if assigned.is_full() {
+        return Err(UcdCause::TooManyRows);
+    }
+    match assigned.add_row(row) {
+        Ok(()) => Ok(()),
+        Err(_) => Err(UcdCause::Memory),
+    }
+}
+
+/// Keeps a default, unless there is no room.
+fn keep_default<V: Copy>(assigned: &mut Assigned<V>, row: Row<V>) -> Result<(), UcdCause>
+    ensures none { OnOk result (cause_of_room (count_of assigned.old) ≡ None) }
+    ensures adds { OnOk result (Adds None (Some row) assigned.old assigned.new) }
+    ensures answered { IfErr result (IsAnswered (cause_of_room (count_of assigned.old)) None (Some row)) }
+{
+    if assigned.is_full() {
+        return Err(UcdCause::TooManyRows);
+    }
+    match assigned.add_default(row) {
+        Ok(()) => Ok(()),
+        Err(_) => Err(UcdCause::Memory),
+    }
+}
+
+/// Without a byte order mark at the front.
+fn without_mark(bytes: &[u8]) -> &[u8]
+    ensures { result.now ≡ without_mark bytes.now }
+{
+    match bytes.strip_prefix(b"\xEF\xBB\xBF") {
+        Some(rest) => rest,
+        None => bytes,
+    }
+}
+
+/// The first line, without its LF, and what follows the LF, if there is one.
+fn first_line(text: &[u8]) -> (&[u8], Option<&[u8]>)
+    ensures { slice_split (λ byte. byte == 10) text.now ≡ result.0.now ∷ lines_left result.1 }
+{
+    let end = place_of(text, b'\n');
+    if end < text.len() {
+        (&text[..end], Some(&text[end + 1..]))
+    } else {
+        (text, None)
+    }
+}

@@ -1,0 +1,189 @@
+ghost use Rattle.std.specs.Prelude.{◌≡◌};
+ghost use Rattle.lbk_ucd.specs.File.{named};
+ghost use Rattle.lbk_ucd.specs.Shown.{shown_names};
+
+use crate::values::{Category, EastAsian, LineBreak};
+
+/// What tells one property file from another.
+pub(crate) struct Format<V: 'static> {
+    /// The names that are taken, each with its value.
+    pub(crate) names: &'static [(&'static [u8], V)],
+    /// Whether rows of other names are passed over, and not refused.
+    pub(crate) others: bool,
+    /// Whether the file has default lines.
+    pub(crate) defaults: bool,
+    /// The value of codes that neither a row nor a default holds.
+    pub(crate) unlisted: V,
+}
+
+/// The value of a name, exact in case.
+pub(crate) fn value_named<V: Copy>(names: &[(&'static [u8], V)], name: &[u8]) -> Option<V>
+    ensures { result ≡ named (shown_names names.now) name.now }
+{
+    for named in names {
+        if named.0 == name {
+            return Some(named.1);
+        }
+    }
+    None
+}
+
+/// LineBreak.txt: the short and the long name of each value of Line_Break (PropertyValueAliases.txt).
+pub(crate) static LINE_BREAK: Format<LineBreak> = Format {
+    names: &[
+        (b"AI", LineBreak::Ambiguous),
+        (b"Ambiguous", LineBreak::Ambiguous),
+        (b"AL", LineBreak::Alphabetic),
+        (b"Alphabetic", LineBreak::Alphabetic),
+        (b"B2", LineBreak::BreakBoth),
+        (b"Break_Both", LineBreak::BreakBoth),
+        (b"BA", LineBreak::BreakAfter),
+        (b"Break_After", LineBreak::BreakAfter),
+        (b"BB", LineBreak::BreakBefore),
+        (b"Break_Before", LineBreak::BreakBefore),
+        (b"BK", LineBreak::MandatoryBreak),
+        (b"Mandatory_Break", LineBreak::MandatoryBreak),
+        (b"CB", LineBreak::ContingentBreak),
+        (b"Contingent_Break", LineBreak::ContingentBreak),
+        (b"CJ", LineBreak::ConditionalJapaneseStarter),
+        (
+            b"Conditional_Japanese_Starter",
+            LineBreak::ConditionalJapaneseStarter,
+        ),
+        (b"CL", LineBreak::ClosePunctuation),
+        (b"Close_Punctuation", LineBreak::ClosePunctuation),
+        (b"CM", LineBreak::CombiningMark),
+        (b"Combining_Mark", LineBreak::CombiningMark),
+        (b"CP", LineBreak::CloseParenthesis),
+        (b"Close_Parenthesis", LineBreak::CloseParenthesis),
+        (b"CR", LineBreak::CarriageReturn),
+        (b"Carriage_Return", LineBreak::CarriageReturn),
+        (b"EB", LineBreak::EBase),
+        (b"E_Base", LineBreak::EBase),
+        (b"EM", LineBreak::EModifier),
+        (b"E_Modifier", LineBreak::EModifier),
+        (b"EX", LineBreak::Exclamation),
+        (b"Exclamation", LineBreak::Exclamation),
+        (b"GL", LineBreak::Glue),
+        (b"Glue", LineBreak::Glue),
+        (b"H2", LineBreak::H2),
+        (b"H3", LineBreak::H3),
+        (b"HL", LineBreak::HebrewLetter),
+        (b"Hebrew_Letter", LineBreak::HebrewLetter),
+        (b"HY", LineBreak::Hyphen),
+        (b"Hyphen", LineBreak::Hyphen),
+        (b"ID", LineBreak::Ideographic),
+        (b"Ideographic", LineBreak::Ideographic),
+        (b"IN", LineBreak::Inseparable),
+        (b"Inseparable", LineBreak::Inseparable),
+        (b"IS", LineBreak::InfixNumeric),
+        (b"Infix_Numeric", LineBreak::InfixNumeric),
+        (b"JL", LineBreak::JL),
+        (b"JT", LineBreak::JT),
+        (b"JV", LineBreak::JV),
+        (b"LF", LineBreak::LineFeed),
+        (b"Line_Feed", LineBreak::LineFeed),
+        (b"NL", LineBreak::NextLine),
+        (b"Next_Line", LineBreak::NextLine),
+        (b"NS", LineBreak::Nonstarter),
+        (b"Nonstarter", LineBreak::Nonstarter),
+        (b"NU", LineBreak::Numeric),
+        (b"Numeric", LineBreak::Numeric),
+        (b"OP", LineBreak::OpenPunctuation),
+        (b"Open_Punctuation", LineBreak::OpenPunctuation),
+        (b"PO", LineBreak::PostfixNumeric),
+        (b"Postfix_Numeric", LineBreak::PostfixNumeric),
+        (b"PR", LineBreak::PrefixNumeric),
+        (b"Prefix_Numeric", LineBreak::PrefixNumeric),
+        (b"QU", LineBreak::Quotation),
+        (b"Quotation", LineBreak::Quotation),
+        (b"RI", LineBreak::RegionalIndicator),
+        (b"Regional_Indicator", LineBreak::RegionalIndicator),
+        (b"SA", LineBreak::ComplexContext),
+        (b"Complex_Context", LineBreak::ComplexContext),
+        (b"SG", LineBreak::Surrogate),
+        (b"Surrogate", LineBreak::Surrogate),
+        (b"SP", LineBreak::Space),
+        (b"Space", LineBreak::Space),
+        (b"SY", LineBreak::BreakSymbols),
+        (b"Break_Symbols", LineBreak::BreakSymbols),
+        (b"WJ", LineBreak::WordJoiner),
+        (b"Word_Joiner", LineBreak::WordJoiner),
+        (b"XX", LineBreak::Unknown),
+        (b"Unknown", LineBreak::Unknown),
+        (b"ZW", LineBreak::ZWSpace),
+        (b"ZWSpace", LineBreak::ZWSpace),
+        (b"ZWJ", LineBreak::ZWJ),
+    ],
+    others: false,
+    defaults: true,
+    unlisted: LineBreak::Unknown,
+};
+
+/// EastAsianWidth.txt: the short and the long name of each value of East_Asian_Width.
+pub(crate) static EAST_ASIAN: Format<EastAsian> = Format {
+    names: &[
+        (b"A", EastAsian::Ambiguous),
+        (b"Ambiguous", EastAsian::Ambiguous),
+        (b"F", EastAsian::Fullwidth),
+        (b"Fullwidth", EastAsian::Fullwidth),
+        (b"H", EastAsian::Halfwidth),
+        (b"Halfwidth", EastAsian::Halfwidth),
+        (b"N", EastAsian::Neutral),
+        (b"Neutral", EastAsian::Neutral),
+        (b"Na", EastAsian::Narrow),
+        (b"Narrow", EastAsian::Narrow),
+        (b"W", EastAsian::Wide),
+        (b"Wide", EastAsian::Wide),
+    ],
+    others: false,
+    defaults: true,
+    unlisted: EastAsian::Neutral,
+};
+
+/// DerivedGeneralCategory.txt: the short names of General_Category.
+pub(crate) static CATEGORY: Format<Category> = Format {
+    names: &[
+        (b"Lu", Category::Lu),
+        (b"Ll", Category::Ll),
+        (b"Lt", Category::Lt),
+        (b"Lm", Category::Lm),
+        (b"Lo", Category::Lo),
+        (b"Mn", Category::Mn),
+        (b"Mc", Category::Mc),
+        (b"Me", Category::Me),
+        (b"Nd", Category::Nd),
+        (b"Nl", Category::Nl),
+        (b"No", Category::No),
+        (b"Pc", Category::Pc),
+        (b"Pd", Category::Pd),
+        (b"Ps", Category::Ps),
+        (b"Pe", Category::Pe),
+        (b"Pi", Category::Pi),
+        (b"Pf", Category::Pf),
+        (b"Po", Category::Po),
+        (b"Sm", Category::Sm),
+        (b"Sc", Category::Sc),
+        (b"Sk", Category::Sk),
+        (b"So", Category::So),
+        (b"Zs", Category::Zs),
+        (b"Zl", Category::Zl),
+        (b"Zp", Category::Zp),
+        (b"Cc", Category::Cc),
+        (b"Cf", Category::Cf),
+        (b"Cs", Category::Cs),
+        (b"Co", Category::Co),
+        (b"Cn", Category::Cn),
+    ],
+    others: false,
+    defaults: false,
+    unlisted: Category::Cn,
+};
+
+/// emoji-data.txt, of which one property is kept.
+pub(crate) static EMOJI: Format<bool> = Format {
+    names: &[(b"Extended_Pictographic", true)],
+    others: true,
+    defaults: false,
+    unlisted: false,
+};

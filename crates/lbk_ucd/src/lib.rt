@@ -1,0 +1,21 @@
+//! The property files of the Unicode Character Database that line breaking reads, and the tables made of them.
+#![tactic(auto)]
+
+mod fault;
+mod file;
+mod format;
+mod four;
+pub mod laws;
+mod line;
+mod rows;
+mod samples;
+mod tables;
+mod values;
+
+pub use fault::{UcdCause, UcdFault};
+pub use samples::{SAMPLE_CATEGORY, SAMPLE_EAST_ASIAN, SAMPLE_EMOJI, SAMPLE_LINE_BREAK};
+pub use tables::{Files, Tables};
+pub use values::{Category, EastAsian, LineBreak, Which};
+
+#[cfg(test)]
+mod tests;

@@ -1,0 +1,217 @@
+ghost use Rattle.std.specs.Prelude.{◌≡◌, ◌==◌, ◌-◌, ◌≤◌, length};
+ghost use Rattle.std.specs.List.{prefix_len, suffix_len, position_or_len, before_first, after_first, list_all};
+ghost use Rattle.std.specs.Option.{option_map};
+ghost use Rattle.lbk_ucd.specs.Line.{is_space, is_name_byte, code_of, pair_of, range_of, name_of, entry_of, default_of, meaning_of, trimmed, trimmed_start, without_return};
+ghost use Rattle.lbk_ucd.specs.Shown.{shown_entry, shown_meaning, shown_name};
+
+/// The codes from `first` to `last`, and the name of a value.
+#[derive(Clone, Copy)]
+pub(crate) struct Entry<'a> {
+    pub(crate) first: u32,
+    pub(crate) last: u32,
+    pub(crate) name: &'a [u8],
+}
+
+/// What a line says: nothing, that codes have a value, or which value they have where no row holds them.
+#[derive(Clone, Copy)]
+pub(crate) enum Meaning<'a> {
+    Nothing,
+    Row(Entry<'a>),
+    Default(Entry<'a>),
+}
+
+/// What a line without its LF says (UAX #44, section 4.2), or None for one that is none of the grammar.
+/// `@missing` lines are read where the file has defaults, and are comments elsewhere.
+#[tactic(auto, unfolding(crate::specs::Line::meaning_of))]
+pub(crate) fn meaning_of(line: &[u8], defaults: bool) -> Option<Meaning<'_>>
+    ensures { option_map shown_meaning result ≡ meaning_of defaults line.now }
+{
+    let text = without_return(line);
+    let content = before(text, b'#');
+    if !is_blank(content) {
+        return Some(Meaning::Row(entry_of(content, true)?));
+    }
+    if !defaults {
+        return Some(Meaning::Nothing);
+    }
+    match default_of(after(text, b'#')) {
+        Some(entry) => Some(Meaning::Default(entry)),
+        None => Some(Meaning::Nothing),
+    }
+}
+
+/// The entry of a default line, of what stands after the first `#`.
+#[tactic(auto, unfolding(crate::specs::Line::default_of))]
+fn default_of(comment: &[u8]) -> Option<Entry<'_>>
+    ensures { option_map shown_entry result ≡ default_of comment.now }
+{
+    let body = trimmed_start(comment).strip_prefix(b"@missing:")?;
+    entry_of(before(body, b'#'), false)
+}
+
+/// A range, a semicolon and a name.
+#[tactic(auto, unfolding(crate::specs::Line::entry_of))]
+fn entry_of(bytes: &[u8], single: bool) -> Option<Entry<'_>>
+    ensures { option_map shown_entry result ≡ entry_of single bytes.now }
+{
+    let (first, last) = range_of(trimmed(before(bytes, b';')), single)?;
+    let name = name_of(trimmed(after(bytes, b';')))?;
+    Some(Entry { first, last, name })
+}
+
+/// The ends of `code..code`, or where `single` also of one code.
+#[tactic(auto, unfolding(crate::specs::Line::range_of))]
+fn range_of(field: &[u8], single: bool) -> Option<(u32, u32)>
+    ensures { result ≡ range_of single field.now }
+{
+    if single && !field.contains(&b'.') {
+        let code = code_of(field)?;
+        return Some((code, code));
+    }
+    pair_of(field)
+}
+
+/// The ends of `code..code`.
+#[tactic(auto, unfolding(crate::specs::Line::pair_of))]
+fn pair_of(field: &[u8]) -> Option<(u32, u32)>
+    ensures { result ≡ pair_of field.now }
+{
+    let dots = place_of(field, b'.');
+    let end = field[dots..].strip_prefix(b"..")?;
+    let first = code_of(&field[..dots])?;
+    let last = code_of(end)?;
+    Some((first, last))
+}
+
+/// The number of four to six hex digits.
+#[tactic(auto, unfolding(crate::specs::Line::code_of))]
+fn code_of(digits: &[u8]) -> Option<u32>
+    ensures { result ≡ code_of digits.now }
+{
+    if digits.len() < 4 || 6 < digits.len() {
+        return None;
+    }
+    let mut code = 0;
+    for digit in digits {
+        code = 16 * code + char::from(*digit).to_digit(16)?;
+    }
+    Some(code)
+}
+
+/// A name, of one or more letters, digits and underscores.
+#[tactic(auto, unfolding(crate::specs::Line::name_of))]
+fn name_of(field: &[u8]) -> Option<&[u8]>
+    ensures { option_map shown_name result ≡ name_of field.now }
+{
+    if field.is_empty() || !all_name_bytes(field) {
+        return None;
+    }
+    Some(field)
+}
+
+/// Whether white space is all that there is.
+fn is_blank(bytes: &[u8]) -> bool
+    ensures { result ≡ list_all is_space bytes.now }
+{
+    bytes.iter().all(|byte| is_space(*byte))
+}
+
+fn all_name_bytes(bytes: &[u8]) -> bool
+    ensures { result ≡ list_all is_name_byte bytes.now }
+{
+    bytes.iter().all(|byte| is_name_byte(*byte))
+}
+
+fn is_space(byte: u8) -> bool
+    ensures { result ≡ is_space byte }
+{
+    byte == b' ' || byte == b'\t'
+}
+
+fn is_name_byte(byte: u8) -> bool
+    ensures { result ≡ is_name_byte byte }
+{
+    byte.is_ascii_alphanumeric() || byte == b'_'
+}
+
+/// Without the white space at both ends.
+fn trimmed(bytes: &[u8]) -> &[u8]
+    ensures { result.now ≡ trimmed bytes.now }
+{
+    let rest = trimmed_start(bytes);
+    &rest[..end_of_text(rest)]
+}
+
+/// Without the white space at the front.
+fn trimmed_start(bytes: &[u8]) -> &[u8]
+    ensures { result.now ≡ trimmed_start bytes.now }
+{
+    &bytes[start_of_text(bytes)..]
+}
+
+/// The number of white spaces at the front.
+fn start_of_text(bytes: &[u8]) -> usize
+    ensures within { result ≤ length bytes.now }
+    ensures start { result ≡ prefix_len is_space bytes.now }
+{
+    for (place, byte) in bytes.iter().enumerate() {
+        if !is_space(*byte) {
+            return place;
+        }
+    }
+    bytes.len()
+}
+
+/// The place where the white space at the end begins.
+fn end_of_text(bytes: &[u8]) -> usize
+    ensures within { result ≤ length bytes.now }
+    ensures end { result ≡ length bytes.now - suffix_len is_space bytes.now }
+{
+    let mut end = bytes.len();
+    while 0 < end && is_space(bytes[end - 1]) {
+        end -= 1;
+    }
+    end
+}
+
+/// Without a carriage return at the end.
+fn without_return(line: &[u8]) -> &[u8]
+    ensures { result.now ≡ without_return line.now }
+{
+    match line {
+        [text @ .., b'\r'] => text,
+        _ => line,
+    }
+}
+
+/// What stands before the first such byte, or all where there is none.
+fn before(bytes: &[u8], byte: u8) -> &[u8]
+    ensures { result.now ≡ before_first (λ b. b == byte) bytes.now }
+{
+    &bytes[..place_of(bytes, byte)]
+}
+
+/// What stands after the first such byte, or nothing where there is none.
+fn after(bytes: &[u8], byte: u8) -> &[u8]
+    ensures { result.now ≡ after_first (λ b. b == byte) bytes.now }
+{
+    let place = place_of(bytes, byte);
+    if place < bytes.len() {
+        &bytes[place + 1..]
+    } else {
+        &[]
+    }
+}
+
+/// The place of the first such byte, or the length where there is none.
+pub(crate) fn place_of(bytes: &[u8], byte: u8) -> usize
+    ensures within { result ≤ length bytes.now }
+    ensures place { result ≡ position_or_len (λ b. b == byte) bytes.now }
+{
+    for (place, b) in bytes.iter().enumerate() {
+        if *b == byte {
+            return place;
+        }
+    }
+    bytes.len()
+}

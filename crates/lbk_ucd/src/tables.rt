@@ -1,0 +1,95 @@
+ghost use Rattle.std.specs.Prelude.{◌≡◌, ◌≤◌, ℕ, IfOk, IfErr, OnOk};
+
+use crate::fault::UcdFault;
+use crate::four::{read_category, read_east_asian, read_emoji, read_line_break};
+use crate::rows::Assigned;
+use crate::values::{Category, EastAsian, LineBreak};
+use std::alloc::Global;
+
+/// The bytes of the four property files (UAX #44, section 4.2).
+#[derive(Clone, Copy)]
+pub struct Files<'a> {
+    /// LineBreak.txt.
+    pub line_break: &'a [u8],
+    /// EastAsianWidth.txt.
+    pub east_asian: &'a [u8],
+    /// DerivedGeneralCategory.txt.
+    pub category: &'a [u8],
+    /// emoji-data.txt.
+    pub emoji: &'a [u8],
+}
+
+/// The four properties of every code, as the files give them.
+#[derive(Drop)]
+pub struct Tables {
+    line_break: Assigned<LineBreak>,
+    east_asian: Assigned<EastAsian>,
+    category: Assigned<Category>,
+    pictographic: Assigned<bool>,
+}
+
+impl Tables {
+    ghost use Rattle.lbk_ucd.specs.Tables.{line_break_of, east_asian_of, category_of, is_pictographic_of};
+    ghost use Rattle.lbk_ucd.specs.File.{property_of};
+    ghost use Rattle.lbk_ucd.specs.Files.{AreLawful, IsRefused};
+    ghost use Rattle.lbk_ucd.specs.Names.{line_break_format, east_asian_format, category_format, emoji_format};
+
+    /// The tables of four files without a fault; else the first fault of the first file that has one, or `Memory` at
+    /// a line where the tables couldn't grow. Lines count from 1; a file that is too long is refused at line 0.
+    #[tactic(auto, unfolding(crate::specs::Tables::line_break_of, crate::specs::Tables::east_asian_of, crate::specs::Tables::category_of, crate::specs::Tables::is_pictographic_of))]
+    pub fn read(alloc: Global, files: Files<'_>) -> Result<Tables, UcdFault>
+        ensures lawful { OnOk result (AreLawful files.entry) }
+        ensures line_break { IfOk result (λ tables. (code : ℕ) → line_break_of tables code ≡ property_of line_break_format files.entry.line_break.now code) }
+        ensures east_asian { IfOk result (λ tables. (code : ℕ) → east_asian_of tables code ≡ property_of east_asian_format files.entry.east_asian.now code) }
+        ensures category { IfOk result (λ tables. (code : ℕ) → category_of tables code ≡ property_of category_format files.entry.category.now code) }
+        ensures pictographic { IfOk result (λ tables. (code : ℕ) → is_pictographic_of tables code ≡ property_of emoji_format files.entry.emoji.now code) }
+        ensures refused { IfErr result (IsRefused files.entry) }
+    {
+        let line_break = read_line_break(alloc, files.line_break)?;
+        let east_asian = read_east_asian(alloc, files.east_asian)?;
+        let category = read_category(alloc, files.category)?;
+        let pictographic = read_emoji(alloc, files.emoji)?;
+        Ok(Tables {
+            line_break,
+            east_asian,
+            category,
+            pictographic,
+        })
+    }
+
+    /// Line_Break of a code (UAX #14, section 5).
+    #[tactic(auto, unfolding(crate::specs::Tables::line_break_of))]
+    pub fn line_break(&self, code: u32) -> LineBreak
+        requires { code ≤ 0x10FFFF }
+        ensures { result ≡ line_break_of self.now code }
+    {
+        self.line_break.value(code)
+    }
+
+    /// East_Asian_Width of a code (UAX #11).
+    #[tactic(auto, unfolding(crate::specs::Tables::east_asian_of))]
+    pub fn east_asian(&self, code: u32) -> EastAsian
+        requires { code ≤ 0x10FFFF }
+        ensures { result ≡ east_asian_of self.now code }
+    {
+        self.east_asian.value(code)
+    }
+
+    /// General_Category of a code (Unicode Standard, section 4.5).
+    #[tactic(auto, unfolding(crate::specs::Tables::category_of))]
+    pub fn category(&self, code: u32) -> Category
+        requires { code ≤ 0x10FFFF }
+        ensures { result ≡ category_of self.now code }
+    {
+        self.category.value(code)
+    }
+
+    /// Extended_Pictographic of a code (UTS #51, Annex A).
+    #[tactic(auto, unfolding(crate::specs::Tables::is_pictographic_of))]
+    pub fn is_pictographic(&self, code: u32) -> bool
+        requires { code ≤ 0x10FFFF }
+        ensures { result ≡ is_pictographic_of self.now code }
+    {
+        self.pictographic.value(code)
+    }
+}
