@@ -2,6 +2,8 @@
 #![tactic(auto)]
 
 mod adapter;
+mod block;
+mod faults;
 #[cfg(test)]
 mod device_tests;
 pub mod devices;
@@ -9,4 +11,5 @@ mod tally;
 mod traits;
 
 pub use adapter::Device;
+pub use faults::{FeedFault, TEXT_MAX};
 pub use traits::{Failed, Sink, Source};
