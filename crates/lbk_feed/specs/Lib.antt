@@ -7,3 +7,6 @@ pub mod MemorySource
 pub mod RepeatedSource
 pub mod Tally
 pub mod Text
+pub mod Judge
+pub mod View
+pub mod Intake

@@ -4,6 +4,8 @@
 mod adapter;
 mod block;
 mod faults;
+mod intake;
+mod judge;
 #[cfg(test)]
 mod device_tests;
 pub mod devices;
