@@ -9,9 +9,11 @@ mod judge;
 #[cfg(test)]
 mod device_tests;
 pub mod devices;
+mod pieces;
 mod tally;
 mod traits;
 
 pub use adapter::Device;
 pub use faults::{FeedFault, TEXT_MAX};
+pub use pieces::Feed;
 pub use traits::{Failed, Sink, Source};
