@@ -93,6 +93,12 @@ module _ (held : List ℕ) (given len : ℕ) (stop : Stop) (spent : Bool) (judge
         spent = λ is. omega (arith, judged.spent is);
       }
 
+  -- where nothing is held, nothing stands there
+  pub stop-nil : held ≡ [] → stop ≡ Whole
+  stop-nil none =
+      let reach : in_reach given held ≡ [] = ap (λ l. in_reach given l) none ∙ take_all (TEXT_MAX - given) [] (omega arith) in
+      judged.stop_is ∙ ap (λ l. stop_of (after_prefix l)) reach ∙ ap stop_of (drop_all (utf8_valid_len []) [] (omega arith))
+
   -- the same after a fault
   pub judged-spent : length (take len held) ≡ 0 → IsJudged held given len stop true
   judged-spent none = record {

@@ -77,7 +77,7 @@ Steps-still v unread fault fresh front lends finds = record {
   found = finds.found;
   lies = lies-spent fault v (is_some fault) finds.lies;
   spent = spent_is v.is_spent fault fresh;
-  same = λ idle. (refl, refl);
+  same = λ idle. (refl, refl, refl);
 }
 
 -- a fault was answered before
@@ -93,7 +93,7 @@ Steps-spent v unread spent none front lends = record {
   found = tt;
   lies = (none, tt);
   spent = spent ∙ ap (λ b. b || true) (sym spent);
-  same = λ idle. (refl, refl);
+  same = λ idle. (refl, refl, refl);
 }
 
 -- the bytes ahead after reads

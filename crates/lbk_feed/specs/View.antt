@@ -1,5 +1,6 @@
 -- A feed as its callers see it, and what its calls say of it.
-use Rattle.std.specs.Prelude.{◌≡◌, ◌⊎◌, ℕ, ◌+◌, ◌-◌, ◌<◌, ◌≤◌, Bool, true, false, ◌||◌, List, [], ◌++◌, length, take, Option, None, Some, IfSome, IfNone, is_some, Result, Ok, Err, ⊤, IsUtf8}
+use Rattle.std.specs.Prelude.{◌≡◌, ◌⊎◌, ℕ, ◌+◌, ◌-◌, ◌<◌, ◌≤◌, Bool, true, false, ◌||◌, List, [], ◌++◌, length, take, Option, None, Some, IfSome, IfNone, is_some, Result, Ok, Err, IfOk, MatchOption, ⊤, IsUtf8}
+use Rattle.std.specs.Borrow.{Bor}
 use Rattle.std.specs.Io.KnownBytes.{prepend_known, Consumes, Keeps, IsAtEnd}
 use Rattle.lbk_feed.specs.declared.faults.TheConstants.{TEXT_MAX}
 use Rattle.lbk_feed.specs.declared.faults.FeedFault.{FeedFault}
@@ -92,7 +93,7 @@ pub record Steps (old new : View) (before after : Option (List ℕ)) (fault : Op
   pub found : IfNone fault ((0 < length new.ready) ⊎ ((new.held ≡ []) × (new.is_ended ≡ true)))
   pub lies : IfSome fault (λ e. (new.ready ≡ []) × LiesIn e new)
   pub spent : new.is_spent ≡ (old.is_spent || is_some fault)
-  pub same : IsIdle old → (new.held ≡ old.held) × (new.is_ended ≡ old.is_ended)
+  pub same : IsIdle old → (new.held ≡ old.held) × (new.ready ≡ old.ready) × (new.is_ended ≡ old.is_ended)
 
 -- what the reads of a call cost, from the count before it to the count after: each but the last gives a byte,
 -- and so does the last where a piece comes; and none is made once more bytes were read than a text may have
@@ -100,3 +101,13 @@ pub record Pays (old new : View) (from to : ℕ) : Type 0 where
   pub all : 0 < length new.ready → to + length old.held ≤ from + length new.held
   pub but_one : to + length old.held ≤ from + length new.held + 1
   pub within : from < to → to + (old.given + length old.held) ≤ from + (TEXT_MAX + 1)
+
+-- what the feed is once the piece that a call lent is given back; `unread`, `ended` and `reads` are the reader's
+-- before the call, and those with a prime after it
+pub record AfterPiece (old new : View) (unread unread' : Option (List ℕ)) (ended ended' : Bool) (reads reads' : ℕ)
+    (r : Result (Option (Bor (List ℕ))) FeedFault) : Type 0 where
+  pub steps : Steps old new unread unread' (fault_of r)
+  pub pays : Pays old new reads reads'
+  pub lent : IfOk r (λ o. MatchOption o ((new.held ≡ []) × (new.is_ended ≡ true)) (λ piece. piece.now ≡ new.ready))
+  pub agrees : Agrees old ended unread → Agrees new ended' unread'
+  pub notices : new.is_ended ≡ false → ended' ≡ ended

@@ -27,7 +27,7 @@ pub struct Intake {
 }
 
 impl Intake {
-    ghost use Rattle.std.specs.Prelude.{◌+◌, ◌≤◌, ◌<◌, ◌⊎◌, ◌||◌, true, false, length, drop, IfOk, IfErr, OnOk, OnErr, IfSome, IfNone, IsUtf8, is_err, []};
+    ghost use Rattle.std.specs.Prelude.{◌+◌, ◌≤◌, ◌<◌, ◌⊎◌, ◌||◌, true, false, length, drop, IfOk, IfErr, OnOk, OnErr, IfSome, IfNone, IsUtf8, IsOk, is_err, None, []};
     ghost use Rattle.std.specs.Str.{IsCharBoundary};
     ghost use Rattle.lbk_feed.specs.Devices.{count_up, failures_after};
     ghost use Rattle.lbk_feed.specs.View.{new_view, IsFront, LendsFront, LiesIn, Steps, Pays, Agrees, IsOfText, IsIdle, fault_of, failures_with};
@@ -98,6 +98,7 @@ impl Intake {
         requires { IsSettled self.now }
         ensures lies { IfSome result (λ e. ((view_of self.now).ready ≡ []) × LiesIn e (view_of self.now)) }
         ensures text { IfSome result IsOfText }
+        ensures nothing { (view_of self.now).held ≡ [] → result ≡ None }
         ensures none { IfNone result ((0 < length (view_of self.now).ready)
             ⊎ (((view_of self.now).held ≡ []) × (self.now.is_ended ≡ true))) }
     {
@@ -169,6 +170,7 @@ impl Intake {
         ensures lies { IfErr result (λ e. ((view_of self.old).ready ≡ []) × LiesIn e (view_of self.old)) }
         ensures found { OnOk result ((0 < length (view_of self.old).ready)
             ⊎ (((view_of self.old).held ≡ []) × (self.old.is_ended ≡ true))) }
+        ensures nothing { (view_of self.old).held ≡ [] → IsOk result }
     {
         match self.fault() {
             None => Ok(()),
@@ -187,6 +189,8 @@ impl Intake {
         ensures agrees { Agrees (view_of self.old) (R.has_ended reader.old) (R.unread reader.old)
             → Agrees (view_of self.new) (R.has_ended reader.new) (R.unread reader.new) }
         ensures notices { self.new.is_ended ≡ false → R.has_ended reader.new ≡ R.has_ended reader.old }
+        ensures again { self.old.is_ended ≡ true → (view_of self.old).held ≡ [] → self.old.is_spent ≡ false
+            → IsOk result }
         ensures spent { self.old.is_spent ≡ true → result ≡ Err FeedFault.Spent }
         ensures spent_only { result ≡ Err FeedFault.Spent → self.old.is_spent ≡ true }
         ensures idle { IsIdle (view_of self.old) → reader.new ≡ reader.old }

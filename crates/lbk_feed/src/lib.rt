@@ -4,6 +4,8 @@
 mod adapter;
 mod block;
 mod faults;
+#[cfg(test)]
+mod feed_tests;
 mod intake;
 mod judge;
 #[cfg(test)]

@@ -1,10 +1,10 @@
 //! Well-formed pieces of what a reader gives.
 
-ghost use Rattle.std.specs.Prelude.{◌≡◌, ◌+◌, ◌≤◌, ◌<◌, drop, length, true, false, Ok, Err, Some, None, IfOk, IfSome, IsUtf8, MatchOption};
+ghost use Rattle.std.specs.Prelude.{◌≡◌, ◌+◌, ◌≤◌, ◌<◌, drop, length, true, false, Ok, Err, Some, None, IfOk, IfSome, IsOkAnd, IsSomeAnd, IsUtf8, []};
 ghost use Rattle.std.specs.Borrow.{sem};
 ghost use Rattle.std.specs.Io.BufRead.{Rests};
 ghost use Rattle.std.specs.Str.{IsCharBoundary};
-ghost use Rattle.lbk_feed.specs.View.{View, new_view, IsFront, LendsFront, IsIdle, Steps, Pays, Agrees, fault_of, failures_with};
+ghost use Rattle.lbk_feed.specs.View.{new_view, IsFront, LendsFront, IsIdle, AfterPiece, fault_of, failures_with};
 ghost use Rattle.lbk_feed.specs.contracts.pieces.Feed.{the_row};
 
 use crate::faults::{FeedFault, TEXT_MAX};
@@ -70,7 +70,23 @@ impl Feed {
     /// The next piece, which is all that is ready and never empty, or `None` at the end of the text.
     pub fn piece<R: Source>(&mut self, reader: &mut R) -> Result<Option<&str>, FeedFault>
         ensures* after_borrow { sem 𝓛 (Rests the_row self.entry (λ new.
-            Steps self.old new (R.unread reader.old) (R.unread reader.new) (fault_of result))) }
+            AfterPiece self.old new (R.unread reader.old) (R.unread reader.new)
+                (R.has_ended reader.old) (R.has_ended reader.new)
+                (R.read_count reader.old) (R.read_count reader.new) result)) }
+
+        ensures some { IfOk result (λ o. IfSome o (λ piece. 0 < length piece.now)) }
+        ensures text { IfOk result (λ o. IfSome o (λ piece. IsUtf8 piece.now)) }
+        ensures as_ready { 0 < length self.old.ready
+            → IsOkAnd result (λ o. IsSomeAnd o (λ piece. piece.now ≡ self.old.ready)) }
+        ensures again { self.old.is_ended ≡ true → self.old.held ≡ [] → self.old.is_spent ≡ false → result ≡ Ok None }
+        ensures spent { self.old.is_spent ≡ true → result ≡ Err FeedFault.Spent }
+        ensures spent_only { result ≡ Err FeedFault.Spent → self.old.is_spent ≡ true }
+
+        // Where a piece is ready, the end was met or a fault was answered, no read is made.
+        ensures idle { IsIdle self.old → reader.new ≡ reader.old }
+        ensures reads { R.read_count reader.new ≤ R.read_count reader.old + 4 }
+        // `Read` is the answer exactly where a read failed.
+        ensures failures { R.failure_count reader.new ≡ failures_with (R.failure_count reader.old) (fault_of result) }
     {
         self.intake.settle(reader)?;
         let ready = self.intake.ready();

@@ -2,7 +2,7 @@ use Rattle.std.proofs.Common.{◌≡◌, ◌≢◌, ◌⊎◌, ◌+◌, ◌<◌,
 use Rattle.lbk_feed.specs.declared.faults.TheConstants.{TEXT_MAX}
 use Rattle.lbk_feed.specs.declared.judge.Stop.TheVariants.{Faulty}
 use Rattle.lbk_feed.specs.Block.{items}
-use Rattle.lbk_feed.proofs.Judged.{ready_held}
+use Rattle.lbk_feed.proofs.Judged.{ready_held, stop-nil}
 use Rattle.lbk_feed.proofs.Standing.{not_utf8_faulty, not_utf8_cut, too_long}
 use Rattle.lbk_feed.proofs.intake.Intake.fault.Goals as goal
 
@@ -44,3 +44,14 @@ returns-then-len-gt0-clause-lies c =
     other)
     c.requires in
     (none_ready _ _ none, not_utf8_cut _ _ _ _ _ i.judged none fine within some i.is_ended ended)
+
+pub returns-then-is_faulty-clause-nothing : goal.returns-then-is_faulty-clause-nothing
+returns-then-is_faulty-clause-nothing c none =
+    let i = c.args.self.now in
+    absurd (let other = sym (stop-nil _ _ _ _ _ i.judged none) ∙ c.is_faulty.ensures.yes c.if-is_faulty.true in cc)
+
+pub returns-then-len-self-clause-nothing : goal.returns-then-len-self-clause-nothing
+returns-then-len-self-clause-nothing c none = absurd (omega (arith, ap length none))
+
+pub returns-then-len-gt0-clause-nothing : goal.returns-then-len-gt0-clause-nothing
+returns-then-len-gt0-clause-nothing c none = absurd (omega (arith, ap length none))
