@@ -5,6 +5,7 @@ use crate::{Feed, FeedFault, Source};
 use std::process::Abort;
 
 /// What a call of `piece` must answer, how many bytes of it are used up then, and how many reads it makes.
+#[derive(Drop)]
 struct Row<'a>(Result<Option<&'a [u8]>, FeedFault>, u64);
 
 // Calls `piece` for each row, and uses all of the piece up.
