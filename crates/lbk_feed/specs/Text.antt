@@ -1,5 +1,5 @@
 -- Where bytes are well-formed UTF-8 (Unicode Standard, Table 3-7), where they stop being it, and what is wrong there.
-use Rattle.std.specs.Prelude.{◌≡◌, ◌⊎◌, ℕ, ◌+◌, ◌-◌, ◌<◌, Bool, true, List, ◌++◌, length, take, drop, encode_utf8}
+use Rattle.std.specs.Prelude.{◌≡◌, ◌⊎◌, ℕ, ◌+◌, ◌-◌, ◌<◌, ◌≤◌, Bool, true, List, ◌++◌, length, take, drop, IsUtf8, encode_utf8}
 use Rattle.std.specs.Char.{IsScalar}
 use Rattle.std.specs.Str.Lossy.{utf8_valid_len}
 use Rattle.lbk_feed.specs.declared.faults.TheConstants.{TEXT_MAX}
@@ -7,6 +7,13 @@ use Rattle.lbk_feed.specs.declared.faults.TheConstants.{TEXT_MAX}
 -- the longest prefix that is a text
 abbrev pub well_formed_prefix : List ℕ → List ℕ
 well_formed_prefix bs = take (utf8_valid_len bs) bs
+
+-- front begins bs and is a text, and no longer prefix of bs is one
+pub record IsLongestText (bs front : List ℕ) : Type 0 where
+  pub rest : List ℕ
+  pub begins : bs ≡ front ++ rest
+  pub text : IsUtf8 front
+  pub longest : (other more : List ℕ) → bs ≡ other ++ more → IsUtf8 other → length other ≤ length front
 
 -- what follows it
 abbrev pub after_prefix : List ℕ → List ℕ

@@ -8,6 +8,7 @@ mod faults;
 mod feed_tests;
 mod intake;
 mod judge;
+pub mod laws;
 #[cfg(test)]
 mod device_tests;
 pub mod devices;
