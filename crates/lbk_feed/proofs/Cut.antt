@@ -1,9 +1,9 @@
 -- An input ends inside a scalar exactly where std's test for ill-formed bytes finds none at fault.
-use Rattle.std.proofs.Common.{◌≡◌, ◌⊎◌, ℕ, suc, ◌+◌, ◌-◌, ◌*◌, ◌/◌, ◌%◌, ◌<◌, ◌≤◌, Bool, true, false, List, [], ◌∷◌, ◌++◌, length, take, Option, None, Some, IsUtf8, refl, sym, ap, ◌∙◌, arith, inl, inr, subst, ⊎_elim, cond, ◌≢◌, length-append, take_at}
-use Rattle.std.specs.Char.{IsScalar, encode_utf8}
+use Rattle.std.proofs.Common.{◌≡◌, ◌⊎◌, ℕ, ◌+◌, ◌<◌, ◌≤◌, Bool, true, false, List, [], ◌∷◌, ◌++◌, length, take, Option, None, Some, IsUtf8, refl, sym, ap, ◌∙◌, arith, inl, inr, subst, ⊎_elim, cond, ◌≢◌, length-append, take_at}
+use Rattle.std.specs.Char.{encode_utf8}
 use Rattle.std.specs.Int.{is_in_range}
 use Rattle.std.specs.Str.Lossy.{second_byte_min, second_byte_max, utf8_error_len, utf8_valid_len}
-use Rattle.std.proofs.lemmas.Bool.{cases_Bool, cases_lt, cond-true, cond-false}
+use Rattle.std.proofs.lemmas.Bool.{cases_lt, cond-true}
 use Rattle.std.proofs.lemmas.Bool.Decides.{nat_tests}
 use Rattle.std.proofs.lemmas.Str.{IsUtf8-encode}
 use Rattle.lbk_feed.specs.Text.{IsCutScalar}
@@ -181,6 +181,7 @@ length-cut bs cut = by (spelling cut.scalar cut.is_scalar)
   where
     long : length bs + length cut.more ≡ length (encode_utf8 cut.scalar)
     long = sym (length-append bs cut.more) ∙ ap length cut.spells
+
     by : Spelling cut.scalar → length bs < 4
     by (spells_one spells) = omega (arith, long, cut.lacks, ap length spells)
     by (spells_two x y low high from to spells) = omega (arith, long, cut.lacks, ap length spells)

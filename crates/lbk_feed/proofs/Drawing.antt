@@ -1,9 +1,9 @@
 -- What one read brings, and several in turn.
-use Rattle.std.proofs.Common.{◌≡◌, ◌⊎◌, ℕ, ◌+◌, ◌-◌, ◌^◌, ◌<◌, ◌≤◌, min, Bool, true, false, List, [], ◌∷◌, ◌++◌, length, take, Option, None, Some, IfSome, refl, sym, ap, subst, ◌∙◌, arith, inl, inr, ⊎_elim, length-append, append_assoc, append-nil, eqb, nat_eq}
-use Rattle.std.specs.Io.KnownBytes.{Consumes, Keeps, IsAtEnd, prepend_known}
+use Rattle.std.proofs.Common.{◌≡◌, ◌⊎◌, ℕ, ◌+◌, ◌<◌, ◌≤◌, Bool, true, false, List, [], ◌∷◌, ◌++◌, length, Option, None, Some, refl, sym, ap, ◌∙◌, arith, inl, inr, ⊎_elim, length-append, append_assoc, append-nil, eqb}
+use Rattle.std.specs.Io.KnownBytes.{Consumes}
 use Rattle.std.proofs.lemmas.Bool.{cases_lt, eqb-true, eqb-false}
 use Rattle.lbk_feed.specs.declared.faults.TheConstants.{TEXT_MAX}
-use Rattle.lbk_feed.specs.Devices.{count_up, KeepsIfTold}
+use Rattle.lbk_feed.specs.Devices.{count_up}
 use Rattle.lbk_feed.specs.Block.{Gives}
 use Rattle.lbk_feed.specs.View.{View, BeginsWith}
 use Rattle.lbk_feed.specs.Intake.{Draws, DrawsAndFails, KeepsAfter}

@@ -1,15 +1,15 @@
 -- What the numbers kept beside the bytes held say of all that was read.
-use Rattle.std.proofs.Common.{◌≡◌, ◌⊎◌, ℕ, ◌+◌, ◌-◌, ◌<◌, ◌≤◌, Bool, true, false, List, [], ◌∷◌, ◌++◌, length, take, drop, IsUtf8, refl, sym, ap, subst, ◌∙◌, arith, inl, inr, ⊎_elim, length-drop, length-take, length-append, length-take-le, min}
-use Rattle.std.specs.Str.Lossy.{utf8_valid_len, utf8_error_len}
+use Rattle.std.proofs.Common.{◌≡◌, ℕ, ◌+◌, ◌-◌, ◌≤◌, Bool, true, false, List, [], ◌++◌, length, take, drop, IsUtf8, refl, sym, ap, subst, ◌∙◌, arith, length-take, length-take-le}
+use Rattle.std.specs.Str.Lossy.{utf8_valid_len}
 use Rattle.std.proofs.lemmas.List.{take-take, take_at, drop_at, drop-drop, take-append-drop, drop-take, take_all, drop_all}
 use Rattle.std.proofs.lemmas.Str.{utf8_valid_len_le, utf8_valid_len-IsUtf8, IsUtf8-nil}
 use lib.Seq.{take-add}
 use Rattle.lbk_feed.specs.declared.faults.TheConstants.{TEXT_MAX}
 use Rattle.lbk_feed.specs.declared.judge.Stop.{Stop}
-use Rattle.lbk_feed.specs.declared.judge.Stop.TheVariants.{Whole, Cut, Faulty}
+use Rattle.lbk_feed.specs.declared.judge.Stop.TheVariants.{Whole}
 use Rattle.lbk_feed.specs.Text.{well_formed_prefix, after_prefix, counted}
 use Rattle.lbk_feed.specs.Judge.{in_reach, stop_of, IsJudged}
-use Rattle.lbk_feed.specs.View.{View, AfterEach, IsFront, LendsFront}
+use Rattle.lbk_feed.specs.View.{AfterEach, LendsFront}
 use Rattle.lbk_feed.proofs.Front.{well_formed_prefix-IsUtf8, utf8_valid_len-after}
 
 -- after a text that was used up, the bytes counted are that text and those in reach

@@ -1,14 +1,14 @@
 -- What stands behind the well-formed bytes, and which fault that is.
-use Rattle.std.proofs.Common.{◌≡◌, ◌≢◌, ◌⊎◌, ℕ, ◌+◌, ◌-◌, ◌<◌, ◌≤◌, Bool, true, false, List, [], ◌∷◌, ◌++◌, length, take, drop, Option, None, Some, IsUtf8, refl, sym, ap, subst, ◌∙◌, arith, inl, inr, ⊎_elim, length-drop, length-take, length-append, length-take-le, is_some, cond}
+use Rattle.std.proofs.Common.{◌≡◌, ◌≢◌, ℕ, ◌+◌, ◌-◌, ◌<◌, ◌≤◌, Bool, true, List, [], ◌∷◌, ◌++◌, length, take, drop, Option, None, Some, refl, sym, ap, subst, ◌∙◌, arith, inl, inr, length-drop, length-take, length-append, length-take-le, is_some, cond}
 use Rattle.std.specs.Str.Lossy.{utf8_valid_len, utf8_error_len}
 use Rattle.std.proofs.lemmas.List.{take-append-drop, take_all, append-nil}
 use Rattle.std.proofs.lemmas.Str.{utf8_valid_len_le}
 use Rattle.lbk_feed.specs.declared.faults.TheConstants.{TEXT_MAX}
 use Rattle.lbk_feed.specs.declared.judge.Stop.{Stop}
 use Rattle.lbk_feed.specs.declared.judge.Stop.TheVariants.{Whole, Cut, Faulty}
-use Rattle.lbk_feed.specs.Text.{well_formed_prefix, after_prefix, counted, IsCutScalar, IsOpen, IsNotUtf8At, IsTooLong}
+use Rattle.lbk_feed.specs.Text.{well_formed_prefix, after_prefix, counted, IsCutScalar, IsNotUtf8At, IsTooLong}
 use Rattle.lbk_feed.specs.Judge.{in_reach, stop_of, IsJudged}
-use Rattle.lbk_feed.specs.View.{View, AfterEach}
+use Rattle.lbk_feed.specs.View.{AfterEach}
 use Rattle.lbk_feed.proofs.Front.{well_formed_prefix-IsUtf8, utf8_valid_len-after}
 use Rattle.lbk_feed.proofs.Cut.{none-cut, cut-none, length-cut}
 use Rattle.lbk_feed.proofs.Judged.{counted-after, front, rest}
@@ -48,6 +48,7 @@ module _ (held : List ℕ) (given len : ℕ) (stop : Stop) (spent : Bool) (judge
     where
       same : after_prefix (in_reach given held) ≡ held
       same = all_left none ∙ all_reached within
+
       by : Standing (after_prefix (in_reach given held)) → length held < 4
       by (stands_whole is all) = omega (arith, ap length (sym same ∙ all))
       by (stands_cut is cut) = length-cut held (subst IsCutScalar same cut)
@@ -79,6 +80,7 @@ module _ (held : List ℕ) (given len : ℕ) (stop : Stop) (spent : Bool) (judge
     where
       same : after_prefix (in_reach given held) ≡ held
       same = all_left none ∙ all_reached within
+
       by : Standing (after_prefix (in_reach given held)) → IsNotUtf8At (used ++ held) ended given
       by (stands_whole is all) = absurd (omega (arith, ap length (sym same ∙ all)))
       by (stands_faulty is some not_cut) = absurd (fine (judged.stop_is ∙ is))
@@ -97,8 +99,10 @@ module _ (held : List ℕ) (given len : ℕ) (stop : Stop) (spent : Bool) (judge
     where
       after_is : after_prefix (counted (used ++ held)) ≡ after_prefix (in_reach given held)
       after_is = rest held given len stop spent judged used text long
+
       more : TEXT_MAX < length (used ++ held)
       more = omega (arith, length-append used held)
+
       by : Standing (after_prefix (in_reach given held)) → IsTooLong (used ++ held)
       by (stands_faulty is some not_cut) = absurd (fine (judged.stop_is ∙ is))
       by (stands_cut is cut) = record { over = more; text = inr (subst IsCutScalar (sym after_is) cut) }

@@ -1,7 +1,6 @@
 -- What a call leaves, from what its reads brought and what was wrong with the bytes.
-use Rattle.std.proofs.Common.{◌≡◌, ◌⊎◌, ℕ, ◌+◌, ◌<◌, ◌≤◌, Bool, true, false, ◌||◌, List, [], ◌++◌, length, take, Option, None, Some, IfSome, IfNone, is_some, Result, Ok, Err, OnOk, OnErr, IfErr, is_err, refl, sym, ap, subst, ◌∙◌, arith, inl, inr, ⊎_elim, length-append, append_assoc, append-nil}
-use Rattle.std.specs.Io.KnownBytes.{Consumes, Keeps, IsAtEnd, prepend_known}
-use Rattle.lbk_feed.specs.declared.faults.TheConstants.{TEXT_MAX}
+use Rattle.std.proofs.Common.{◌≡◌, ◌⊎◌, ℕ, ◌+◌, ◌<◌, ◌≤◌, Bool, true, false, ◌||◌, List, [], ◌++◌, length, Option, None, Some, IfSome, IfNone, is_some, Result, Ok, Err, OnOk, IfErr, is_err, refl, sym, ap, ◌∙◌, arith, length-append, append_assoc, append-nil}
+use Rattle.std.specs.Io.KnownBytes.{Consumes, Keeps, prepend_known}
 use Rattle.lbk_feed.specs.declared.faults.FeedFault.{FeedFault}
 use Rattle.lbk_feed.specs.declared.faults.FeedFault.TheVariants.{Read, NotUtf8, TextTooLong, Spent}
 use Rattle.lbk_feed.specs.Devices.{KeepsIfTold}

@@ -1,9 +1,8 @@
 -- What `judge` finds, from what `from_utf8` answers.
-use Rattle.std.proofs.Common.{◌≡◌, ℕ, ◌+◌, ◌-◌, ◌<◌, ◌≤◌, min, Bool, true, false, not, List, [], ◌∷◌, length, take, drop, Option, None, Some, IsUtf8, refl, sym, ap, subst, ◌∙◌, arith, length-drop, length-take, is_some, cond}
+use Rattle.std.proofs.Common.{◌≡◌, ℕ, ◌<◌, min, Bool, List, [], ◌∷◌, length, take, drop, Option, IsUtf8, refl, sym, ap, subst, ◌∙◌, arith, length-drop, length-take, is_some, cond}
 use Rattle.std.specs.Str.Lossy.{utf8_valid_len, utf8_error_len}
 use Rattle.std.proofs.lemmas.List.{take_min, drop_all}
 use Rattle.std.proofs.lemmas.Str.{utf8_valid_len-IsUtf8}
-use Rattle.lbk_feed.specs.declared.judge.Stop.{Stop}
 use Rattle.lbk_feed.specs.declared.judge.Stop.TheVariants.{Whole, Cut, Faulty}
 use Rattle.lbk_feed.specs.Text.{after_prefix}
 use Rattle.lbk_feed.specs.Judge.{stop_of}

@@ -1,5 +1,5 @@
 -- Where bytes are well-formed UTF-8 (Unicode Standard, Table 3-7), where they stop being it, and what is wrong there.
-use Rattle.std.specs.Prelude.{◌≡◌, ◌⊎◌, ℕ, ◌+◌, ◌-◌, ◌<◌, ◌≤◌, Bool, true, List, ◌++◌, length, take, drop, IsUtf8, encode_utf8}
+use Rattle.std.specs.Prelude.{◌≡◌, ◌⊎◌, ℕ, ◌<◌, ◌≤◌, Bool, true, List, ◌++◌, length, take, drop, IsUtf8, encode_utf8}
 use Rattle.std.specs.Char.{IsScalar}
 use Rattle.std.specs.Str.Lossy.{utf8_valid_len}
 use Rattle.lbk_feed.specs.declared.faults.TheConstants.{TEXT_MAX}

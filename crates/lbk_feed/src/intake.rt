@@ -6,7 +6,7 @@ ghost use Rattle.lbk_feed.specs.Judge.{IsJudged};
 
 use crate::block::Block;
 use crate::faults::{FeedFault, TEXT_MAX};
-use crate::judge::{judge, Stop};
+use crate::judge::{Stop, judge};
 use crate::traits::{Failed, Source};
 use std::str;
 
@@ -27,9 +27,9 @@ pub struct Intake {
 }
 
 impl Intake {
-    ghost use Rattle.std.specs.Prelude.{◌+◌, ◌≤◌, ◌<◌, ◌⊎◌, ◌||◌, true, false, length, drop, IfOk, IfErr, OnOk, OnErr, IfSome, IfNone, IsUtf8, IsOk, is_err, None, []};
+    ghost use Rattle.std.specs.Prelude.{◌+◌, ◌≤◌, ◌<◌, ◌⊎◌, ◌||◌, true, false, length, drop, IfErr, OnOk, OnErr, IfSome, IfNone, IsOk, is_err, []};
     ghost use Rattle.std.specs.Str.{IsCharBoundary};
-    ghost use Rattle.lbk_feed.specs.Devices.{count_up, failures_after};
+    ghost use Rattle.lbk_feed.specs.Devices.{failures_after};
     ghost use Rattle.lbk_feed.specs.View.{new_view, IsFront, LendsFront, LiesIn, Steps, Pays, Agrees, IsOfText, IsIdle, fault_of, failures_with};
     ghost use Rattle.lbk_feed.specs.Intake.{view_of, WantsMore, IsSettled, Draws, DrawsAndFails};
 

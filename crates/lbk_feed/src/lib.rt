@@ -3,15 +3,15 @@
 
 mod adapter;
 mod block;
+#[cfg(test)]
+mod device_tests;
+pub mod devices;
 mod faults;
 #[cfg(test)]
 mod feed_tests;
 mod intake;
 mod judge;
 pub mod laws;
-#[cfg(test)]
-mod device_tests;
-pub mod devices;
 mod pieces;
 mod tally;
 mod traits;

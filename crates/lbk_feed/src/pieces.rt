@@ -1,6 +1,6 @@
 //! Well-formed pieces of what a reader gives.
 
-ghost use Rattle.std.specs.Prelude.{◌≡◌, ◌+◌, ◌≤◌, ◌<◌, drop, length, true, false, Ok, Err, Some, None, IfOk, IfSome, IsOkAnd, IsSomeAnd, IsUtf8, []};
+ghost use Rattle.std.specs.Prelude.{◌≡◌, ◌+◌, ◌≤◌, ◌<◌, drop, length, true, false, IfOk, IfSome, IsOkAnd, IsSomeAnd, IsUtf8, []};
 ghost use Rattle.std.specs.Borrow.{sem};
 ghost use Rattle.std.specs.Io.BufRead.{Rests};
 ghost use Rattle.std.specs.Str.{IsCharBoundary};
@@ -71,8 +71,8 @@ impl Feed {
     pub fn piece<R: Source>(&mut self, reader: &mut R) -> Result<Option<&str>, FeedFault>
         ensures* after_borrow { sem 𝓛 (Rests the_row self.entry (λ new.
             AfterPiece self.old new (R.unread reader.old) (R.unread reader.new)
-                (R.has_ended reader.old) (R.has_ended reader.new)
-                (R.read_count reader.old) (R.read_count reader.new) result)) }
+            (R.has_ended reader.old) (R.has_ended reader.new)
+            (R.read_count reader.old) (R.read_count reader.new) result)) }
 
         ensures some { IfOk result (λ o. IfSome o (λ piece. 0 < length piece.now)) }
         ensures text { IfOk result (λ o. IfSome o (λ piece. IsUtf8 piece.now)) }

@@ -1,6 +1,5 @@
-use Rattle.std.proofs.Common.{◌≡◌, ℕ, ◌-◌, ◌<◌, length, take, drop, Bool, Option, true, false, not, sym, subst, ap, ◌∙◌, is_some, cond}
+use Rattle.std.proofs.Common.{◌≡◌, ◌-◌, ◌<◌, length, drop, Bool, true, false, not, sym, subst, ap, ◌∙◌, is_some, cond}
 use Rattle.std.specs.Str.Lossy.{utf8_valid_len, utf8_error_len}
-use Rattle.std.specs.Str.{IsValidUpTo}
 use Rattle.lbk_feed.specs.declared.judge.Stop.TheVariants.{Cut, Faulty}
 use Rattle.lbk_feed.specs.declared.faults.TheConstants.{TEXT_MAX}
 use Rattle.lbk_feed.specs.Text.{after_prefix}

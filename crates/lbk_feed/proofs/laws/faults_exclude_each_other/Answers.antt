@@ -1,4 +1,4 @@
-use Rattle.std.proofs.Common.{◌≡◌, ◌⊎◌, ◌<◌, ℕ, Bool, true, List, length, ap, ⊎_elim, arith, length-take}
+use Rattle.std.proofs.Common.{◌≡◌, true, length, ap, ⊎_elim, arith, length-take}
 use Rattle.lbk_feed.specs.declared.faults.TheConstants.{TEXT_MAX}
 use Rattle.lbk_feed.specs.Text.{well_formed_prefix, counted, IsOpen}
 use Rattle.lbk_feed.proofs.laws.faults_exclude_each_other.Goals as goal

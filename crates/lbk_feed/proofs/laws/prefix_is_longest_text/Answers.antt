@@ -1,4 +1,4 @@
-use Rattle.std.proofs.Common.{◌≡◌, ◌≤◌, ℕ, List, ◌++◌, length, take, drop, IsUtf8, sym, ap, subst, ◌∙◌, refl, arith, length-append, length-take-le}
+use Rattle.std.proofs.Common.{◌≤◌, length, take, IsUtf8, sym, ap, subst, ◌∙◌, refl, arith, length-append, length-take-le}
 use Rattle.std.specs.Str.Lossy.{utf8_valid_len}
 use Rattle.std.proofs.lemmas.List.{take-append-drop, take_at}
 use Rattle.std.proofs.lemmas.Str.{utf8_valid_len_le}

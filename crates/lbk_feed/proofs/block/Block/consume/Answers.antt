@@ -1,4 +1,4 @@
-use Rattle.std.proofs.Common.{◌≤◌, ◌-◌, length, sym, arith, length-take, drop}
+use Rattle.std.proofs.Common.{◌≤◌, ◌-◌, sym, arith, length-take, drop}
 use Rattle.lbk_feed.proofs.Ranges.{drop-slice_range}
 use Rattle.lbk_feed.proofs.block.Block.consume.Goals as goal
 

@@ -1,6 +1,5 @@
-use Rattle.std.proofs.Common.{rules, ◌≡◌, ◌≤◌, ◌<◌, ℕ, ◌+◌, ◌-◌, List, ◌++◌, length, take, arith, length-take-le, length-drop, length-take, ap, sym, ◌∙◌, slice_range, drop}
+use Rattle.std.proofs.Common.{rules, ◌≡◌, ◌≤◌, ◌<◌, ◌+◌, ◌-◌, ◌++◌, length, take, arith, length-take-le, ap, sym, ◌∙◌, slice_range}
 use Rattle.std.proofs.lemmas.Slice.{between_from_start}
-use Rattle.lbk_feed.specs.Block.{items, Gives}
 use Rattle.lbk_feed.proofs.Ranges.{slice_range-put_mid}
 use Rattle.lbk_feed.proofs.block.Block.read_from.Goals as goal
 use borrow.Rule.Slice.PartMut.{put_mid}

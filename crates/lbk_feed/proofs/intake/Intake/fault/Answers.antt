@@ -1,4 +1,4 @@
-use Rattle.std.proofs.Common.{◌≡◌, ◌≢◌, ◌⊎◌, ◌+◌, ◌<◌, ◌≤◌, ℕ, List, [], length, take, true, false, sym, ap, subst, ◌∙◌, ⊎_elim, arith, inl, inr, length-take-le}
+use Rattle.std.proofs.Common.{◌≡◌, ◌⊎◌, ◌+◌, ◌<◌, ◌≤◌, ℕ, List, [], length, take, true, sym, ap, ◌∙◌, ⊎_elim, arith, inl, length-take-le}
 use Rattle.lbk_feed.specs.declared.faults.TheConstants.{TEXT_MAX}
 use Rattle.lbk_feed.specs.declared.judge.Stop.TheVariants.{Faulty}
 use Rattle.lbk_feed.specs.Block.{items}

@@ -1,6 +1,5 @@
-use Rattle.std.proofs.Common.{◌≡◌, ◌≤◌, length, take, ap, arith, length-take-le}
-use Rattle.lbk_feed.specs.Block.{items}
-use Rattle.lbk_feed.proofs.Judged.{ready_held, judged-spent}
+use Rattle.std.proofs.Common.{length, ap}
+use Rattle.lbk_feed.proofs.Judged.{judged-spent}
 use Rattle.lbk_feed.proofs.intake.Intake.finish.Goals as goal
 
 pub invariant_of-self : goal.invariant_of-self

@@ -1,8 +1,8 @@
-use Rattle.std.proofs.Common.{◌≡◌, ℕ, length, take, sym, ap, ◌∙◌, refl}
+use Rattle.std.proofs.Common.{◌≡◌, length, take, sym, ap, ◌∙◌, refl}
 use Rattle.std.specs.Str.Lossy.{utf8_valid_len}
 use Rattle.lbk_feed.specs.Block.{items}
 use Rattle.lbk_feed.specs.Judge.{in_reach}
-use Rattle.lbk_feed.specs.Intake.{view_of, Draws}
+use Rattle.lbk_feed.specs.Intake.{view_of}
 use Rattle.lbk_feed.proofs.Drawing.{Draws-one, Gives-none}
 use Rattle.lbk_feed.proofs.intake.Intake.read_more.Goals as goal
 

@@ -1,5 +1,4 @@
-use Rattle.std.proofs.Common.{◌≡◌, ◌≤◌, ℕ, length, take, sym, ap, subst, ◌∙◌, IsUtf8, length-take-le}
-use Rattle.lbk_feed.specs.Block.{items}
+use Rattle.std.proofs.Common.{◌≤◌, length, take, sym, subst, IsUtf8, length-take-le}
 use Rattle.lbk_feed.proofs.Judged.{ready_held, ready-IsUtf8, front, lends}
 use Rattle.lbk_feed.proofs.intake.Intake.ready.Goals as goal
 

@@ -1,4 +1,4 @@
-use Rattle.std.proofs.Common.{◌≡◌, ◌⊎◌, ◌+◌, ◌<◌, ◌≤◌, ◌||◌, Bool, true, false, length, sym, ◌∙◌, ⊎_elim, arith}
+use Rattle.std.proofs.Common.{◌≡◌, ◌<◌, ◌||◌, Bool, true, false, length, sym, ◌∙◌, ⊎_elim, arith}
 use Rattle.lbk_feed.specs.Block.{items}
 use Rattle.lbk_feed.specs.Intake.{view_of}
 use Rattle.lbk_feed.proofs.Drawing.{Draws-more, Draws-fails}

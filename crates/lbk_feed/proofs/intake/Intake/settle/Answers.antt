@@ -1,9 +1,9 @@
-use Rattle.std.proofs.Common.{◌≡◌, ◌⊎◌, ◌<◌, ◌≤◌, ℕ, List, [], length, take, Bool, true, false, Some, sym, ap, subst, ◌∙◌, ⊎_elim, arith, is_err}
+use Rattle.std.proofs.Common.{◌≡◌, ◌⊎◌, ◌<◌, [], length, take, Bool, true, false, sym, ap, subst, ◌∙◌, ⊎_elim, arith}
 use Rattle.std.proofs.lemmas.List.{length-take}
 use Rattle.lbk_feed.specs.declared.intake.Intake.{Intake}
 use Rattle.lbk_feed.specs.Block.{items}
 use Rattle.lbk_feed.specs.View.{View, IsFront, LendsFront, IsIdle, fault_of, Steps, Pays}
-use Rattle.lbk_feed.specs.Intake.{view_of, WantsMore, Draws, DrawsAndFails}
+use Rattle.lbk_feed.specs.Intake.{view_of, WantsMore}
 use Rattle.lbk_feed.proofs.Judged.{front, lends, judged-spent}
 use Rattle.lbk_feed.proofs.Drawing.{no_bytes}
 use Rattle.lbk_feed.proofs.Outcomes.{OnErr-at, OnOk-at}

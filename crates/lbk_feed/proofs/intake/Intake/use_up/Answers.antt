@@ -1,4 +1,4 @@
-use Rattle.std.proofs.Common.{◌≡◌, ◌≤◌, ◌+◌, ◌-◌, ℕ, length, take, drop, sym, ap, subst, ◌∙◌, IsUtf8, length-take-le, arith}
+use Rattle.std.proofs.Common.{◌≤◌, ◌+◌, ◌-◌, take, sym, ap, subst, ◌∙◌, length-take-le, arith}
 use Rattle.std.proofs.lemmas.Str.{IsUtf8-take}
 use Rattle.lbk_feed.specs.Block.{items}
 use Rattle.lbk_feed.specs.Judge.{IsJudged}

@@ -1,4 +1,4 @@
-use Rattle.std.proofs.Common.{◌≡◌, ◌≢◌, ◌+◌, ◌≤◌, ℕ, length, true, false, Bool, not, arith}
+use Rattle.std.proofs.Common.{◌≡◌, ◌+◌, ◌≤◌, length, true, false, Bool, not, arith}
 use Rattle.lbk_feed.specs.declared.faults.TheConstants.{TEXT_MAX}
 use Rattle.lbk_feed.specs.Block.{items}
 use Rattle.lbk_feed.proofs.Standing.{few_held}
