@@ -7,7 +7,7 @@ abbrev pub count_up : ℕ → ℕ
 count_up n = min (n + 1) (2 ^ 64 - 1)
 
 -- the count of failures after a call that answered r
-abbrev pub failures_after : {E : Type 0} → ℕ → Result ℕ E → ℕ
+abbrev pub failures_after : {T E : Type 0} → ℕ → Result T E → ℕ
 failures_after n (Ok _) = n
 failures_after n (Err _) = count_up n
 

@@ -2,11 +2,21 @@
 #![tactic(auto)]
 
 mod adapter;
+mod block;
 #[cfg(test)]
 mod device_tests;
 pub mod devices;
+mod faults;
+#[cfg(test)]
+mod feed_tests;
+mod intake;
+mod judge;
+pub mod laws;
+mod pieces;
 mod tally;
 mod traits;
 
 pub use adapter::Device;
+pub use faults::{FeedFault, TEXT_MAX};
+pub use pieces::Feed;
 pub use traits::{Failed, Sink, Source};

@@ -1,0 +1,14 @@
+-- A clause on a result, where its variant is known or does not matter.
+use Rattle.std.proofs.Common.{◌≡◌, true, false, Result, Ok, Err, OnOk, OnErr, is_err}
+
+pub OnErr-always : {T E P : Type 0} (r : Result T E) → P → OnErr r P
+OnErr-always (Ok x) p = tt
+OnErr-always (Err e) p = p
+
+pub OnErr-at : {T E P : Type 0} (r : Result T E) → is_err r ≡ true → OnErr r P → P
+OnErr-at (Ok x) is p = cc
+OnErr-at (Err e) is p = p
+
+pub OnOk-at : {T E P : Type 0} (r : Result T E) → is_err r ≡ false → OnOk r P → P
+OnOk-at (Ok x) is p = p
+OnOk-at (Err e) is p = cc

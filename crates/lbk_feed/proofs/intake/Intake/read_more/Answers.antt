@@ -1,0 +1,18 @@
+use Rattle.std.proofs.Common.{◌≡◌, length, take, sym, ap, ◌∙◌, refl}
+use Rattle.std.specs.Str.Lossy.{utf8_valid_len}
+use Rattle.lbk_feed.specs.Block.{items}
+use Rattle.lbk_feed.specs.Judge.{in_reach}
+use Rattle.lbk_feed.specs.Intake.{view_of}
+use Rattle.lbk_feed.proofs.Drawing.{Draws-one, Gives-none}
+use Rattle.lbk_feed.proofs.intake.Intake.read_more.Goals as goal
+
+pub returns-clause-ok : goal.returns-clause-ok
+returns-clause-ok g c =
+    let i = c.args.self.now in
+    let gives = c.in_ok-n.ensures.fills in
+    let still : c.in_ok-n.n ≡ 0 → c.judge-judgement.result.ready_len ≡ 0 =
+    λ none. c.judge-judgement.ensures.ready_len ∙ ap (λ l. utf8_valid_len (in_reach i.given l)) (c.as_slice.ensures ∙ Gives-none _ _ _ _ _ gives none)
+    ∙ sym i.judged.ready ∙ c.requires.due.none_ready in
+    Draws-one (view_of i) _ _ _ _ _ c.in_ok-n.n gives refl refl refl
+    (λ none. ap (λ n. length (take n (items c.read_from.new.self))) (still none))
+    c.read_from.ensures.reads c.requires.due.within

@@ -1,0 +1,48 @@
+-- Where bytes are well-formed UTF-8 (Unicode Standard, Table 3-7), where they stop being it, and what is wrong there.
+use Rattle.std.specs.Prelude.{◌≡◌, ◌⊎◌, ℕ, ◌<◌, ◌≤◌, Bool, true, List, ◌++◌, length, take, drop, IsUtf8, encode_utf8}
+use Rattle.std.specs.Char.{IsScalar}
+use Rattle.std.specs.Str.Lossy.{utf8_valid_len}
+use Rattle.lbk_feed.specs.declared.faults.TheConstants.{TEXT_MAX}
+
+-- the longest prefix that is a text
+abbrev pub well_formed_prefix : List ℕ → List ℕ
+well_formed_prefix bs = take (utf8_valid_len bs) bs
+
+-- front begins bs and is a text, and no longer prefix of bs is one
+pub record IsLongestText (bs front : List ℕ) : Type 0 where
+  pub rest : List ℕ
+  pub begins : bs ≡ front ++ rest
+  pub text : IsUtf8 front
+  pub longest : (other more : List ℕ) → bs ≡ other ++ more → IsUtf8 other → length other ≤ length front
+
+-- what follows it
+abbrev pub after_prefix : List ℕ → List ℕ
+after_prefix bs = drop (utf8_valid_len bs) bs
+
+-- some bytes of one scalar, from its first, but not all of them
+pub record IsCutScalar (bs : List ℕ) : Type 0 where
+  pub scalar : ℕ
+  pub more : List ℕ
+  pub is_scalar : IsScalar scalar
+  pub spells : bs ++ more ≡ encode_utf8 scalar
+  pub begins : 0 < length bs
+  pub lacks : 0 < length more
+
+-- the bytes end inside a scalar that could go on
+abbrev pub IsOpen : List ℕ → Type 0
+IsOpen bs = IsCutScalar (after_prefix bs)
+
+-- the bytes that a text may have: the first TEXT_MAX
+abbrev pub counted : List ℕ → List ℕ
+counted bs = take TEXT_MAX bs
+
+-- of the bytes bs that were read, to their end or not, those from `at` on are ill-formed, or they end inside a scalar
+pub record IsNotUtf8At (bs : List ℕ) (ended : Bool) (at : ℕ) : Type 0 where
+  pub place : at ≡ length (well_formed_prefix (counted bs))
+  pub follows : at < length (counted bs)
+  pub why : (¬ (IsOpen (counted bs))) ⊎ (IsOpen (counted bs) × (counted bs ≡ bs) × (ended ≡ true))
+
+-- more bytes were read than a text may have, and those that it may have are well-formed, or end inside a scalar
+pub record IsTooLong (bs : List ℕ) : Type 0 where
+  pub over : TEXT_MAX < length bs
+  pub text : (well_formed_prefix (counted bs) ≡ counted bs) ⊎ IsOpen (counted bs)

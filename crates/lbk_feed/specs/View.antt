@@ -1,0 +1,113 @@
+-- A feed as its callers see it, and what its calls say of it.
+use Rattle.std.specs.Prelude.{◌≡◌, ◌⊎◌, ℕ, ◌+◌, ◌<◌, ◌≤◌, Bool, true, false, ◌||◌, List, [], ◌++◌, length, Option, None, Some, IfSome, IfNone, is_some, Result, Ok, Err, IfOk, MatchOption, ⊤, IsUtf8}
+use Rattle.std.specs.Borrow.{Bor}
+use Rattle.std.specs.Io.KnownBytes.{prepend_known, Keeps, IsAtEnd}
+use Rattle.lbk_feed.specs.declared.faults.TheConstants.{TEXT_MAX}
+use Rattle.lbk_feed.specs.declared.faults.FeedFault.{FeedFault}
+use Rattle.lbk_feed.specs.declared.faults.FeedFault.TheVariants.{Read, NotUtf8, TextTooLong, Spent}
+use Rattle.lbk_feed.specs.Devices.{KeepsIfTold, count_up}
+use Rattle.lbk_feed.specs.Text.{well_formed_prefix, counted, IsNotUtf8At, IsTooLong}
+
+-- the bytes that were read and not yet used up, those of them that are lent, how many were used up,
+-- whether a read gave no byte, and whether a fault was answered
+pub record View : Type 0 where
+  pub held : List ℕ
+  pub ready : List ℕ
+  pub given : ℕ
+  pub is_ended : Bool
+  pub is_spent : Bool
+
+-- before any call
+abbrev pub new_view : View
+new_view = record { held = []; ready = []; given = 0; is_ended = false; is_spent = false }
+
+-- P holds of every text of `given` bytes, as that which was used up before
+abbrev pub AfterEach : ℕ → (List ℕ → Type 0) → Type 0
+AfterEach given P = (used : List ℕ) → IsUtf8 used → length used ≡ given → P used
+
+-- the bytes used up and those ready are the well-formed prefix of the bytes read, of as many as a text may have
+abbrev pub IsFront : View → Type 0
+IsFront f = AfterEach f.given (λ used. used ++ f.ready ≡ well_formed_prefix (counted (used ++ f.held)))
+
+-- the bytes ready are a text, and the first of those held
+pub record LendsFront (f : View) : Type 0 where
+  pub text : IsUtf8 f.ready
+  pub rest : List ℕ
+  pub first : f.held ≡ f.ready ++ rest
+  pub few : f.given + length f.ready ≤ TEXT_MAX
+
+-- where a fault lies in the bytes read
+abbrev pub LiesIn : FeedFault → View → Type 0
+LiesIn Read f = ⊤
+LiesIn (NotUtf8 at) f = AfterEach f.given (λ used. IsNotUtf8At (used ++ f.held) f.is_ended at)
+LiesIn TextTooLong f = AfterEach f.given (λ used. IsTooLong (used ++ f.held))
+LiesIn Spent f = ⊤
+
+-- a fault of the text, and not of the reader or of the call
+abbrev pub IsOfText : FeedFault → Type 0
+IsOfText Read = ⊥
+IsOfText (NotUtf8 at) = ⊤
+IsOfText TextTooLong = ⊤
+IsOfText Spent = ⊥
+
+-- the fault of an answer
+abbrev pub fault_of : {X : Type 0} → Result X FeedFault → Option FeedFault
+fault_of (Ok x) = None
+fault_of (Err fault) = Some fault
+
+-- the bytes held and then those unread, where the reader tells them
+abbrev pub ahead : View → Option (List ℕ) → Option (List ℕ)
+ahead f unread = prepend_known f.held unread
+
+-- the bytes ahead stay as they were; a failed read may keep the reader from telling them
+abbrev pub KeepsAhead : Option FeedFault → Option (List ℕ) → Option (List ℕ) → Type 0
+KeepsAhead (Some Read) old new = KeepsIfTold old new
+KeepsAhead _ old new = Keeps old new
+
+-- known bytes begin with bs
+abbrev pub BeginsWith : List ℕ → Option (List ℕ) → Type 0
+BeginsWith bs known = IfSome known (λ xs. (rest : List ℕ) × (xs ≡ bs ++ rest))
+
+-- the feed has met the end only where its reader has: one reader serves all its calls
+abbrev pub Agrees : View → Bool → Option (List ℕ) → Type 0
+Agrees f ended unread = f.is_ended ≡ true → (ended ≡ true) × IsAtEnd unread
+
+-- a piece is ready, the end was met, or a fault was answered: no read is made
+abbrev pub IsIdle : View → Type 0
+IsIdle f = (0 < length f.ready) ⊎ ((f.is_ended ≡ true) ⊎ (f.is_spent ≡ true))
+
+-- the count of a reader's failures after a call: one more exactly where the call answered so
+abbrev pub failures_with : ℕ → Option FeedFault → ℕ
+failures_with n (Some Read) = count_up n
+failures_with n _ = n
+
+-- what a call that may read leaves of the bytes, and what its fault says; `before` and `after` are the bytes unread
+pub record Steps (old new : View) (before after : Option (List ℕ)) (fault : Option FeedFault) : Type 0 where
+  pub given : new.given ≡ old.given
+  pub ahead_kept : KeepsAhead fault (ahead old before) (ahead new after)
+  pub begins : BeginsWith new.held (ahead old before)
+  pub got : List ℕ
+  pub grown : new.held ≡ old.held ++ got
+  pub front : IsFront new
+  pub lends : LendsFront new
+  pub found : IfNone fault ((0 < length new.ready) ⊎ ((new.held ≡ []) × (new.is_ended ≡ true)))
+  pub lies : IfSome fault (λ e. (new.ready ≡ []) × LiesIn e new)
+  pub spent : new.is_spent ≡ (old.is_spent || is_some fault)
+  pub same : IsIdle old → (new.held ≡ old.held) × (new.ready ≡ old.ready) × (new.is_ended ≡ old.is_ended)
+
+-- what the reads of a call cost, from the count before it to the count after: each but the last gives a byte,
+-- and so does the last where a piece comes; and none is made once more bytes were read than a text may have
+pub record Pays (old new : View) (from to : ℕ) : Type 0 where
+  pub all : 0 < length new.ready → to + length old.held ≤ from + length new.held
+  pub but_one : to + length old.held ≤ from + length new.held + 1
+  pub within : from < to → to + (old.given + length old.held) ≤ from + (TEXT_MAX + 1)
+
+-- what the feed is once the piece that a call lent is given back; `unread`, `ended` and `reads` are the reader's
+-- before the call, and those with a prime after it
+pub record AfterPiece (old new : View) (unread unread' : Option (List ℕ)) (ended ended' : Bool) (reads reads' : ℕ)
+    (r : Result (Option (Bor (List ℕ))) FeedFault) : Type 0 where
+  pub steps : Steps old new unread unread' (fault_of r)
+  pub pays : Pays old new reads reads'
+  pub lent : IfOk r (λ o. MatchOption o ((new.held ≡ []) × (new.is_ended ≡ true)) (λ piece. piece.now ≡ new.ready))
+  pub agrees : Agrees old ended unread → Agrees new ended' unread'
+  pub notices : new.is_ended ≡ false → ended' ≡ ended

@@ -1,0 +1,78 @@
+//! The bytes that were read and not yet used up.
+
+ghost use Rattle.std.specs.Prelude.{◌≤◌};
+
+use crate::traits::{Failed, Source};
+
+/// How many bytes a block holds.
+const BLOCK: usize = 4096;
+
+/// Up to 4,096 bytes in a row: used up at the front, read to the end.
+#[derive(Drop)]
+pub struct Block {
+    bytes: [u8; BLOCK],
+    start: usize,
+    end: usize,
+    ghost ordered: { start ≤ end },
+    ghost within: { end ≤ 4096 },
+}
+
+impl Block {
+    ghost use Rattle.std.specs.Prelude.{◌≡◌, ◌<◌, [], length, drop};
+    ghost use Rattle.lbk_feed.specs.Devices.{count_up, failures_after, ended_after};
+    ghost use Rattle.lbk_feed.specs.Block.{items, Fills};
+
+    pub fn new() -> Block
+        ensures { items result ≡ [] }
+    {
+        Block {
+            bytes: [0; BLOCK],
+            start: 0,
+            end: 0,
+        }
+    }
+
+    pub fn as_slice(&self) -> &[u8]
+        ensures { result.now ≡ items self.now }
+    {
+        &self.bytes[self.start..self.end]
+    }
+
+    pub fn len(&self) -> usize
+        ensures { result ≡ length (items self.now) }
+    {
+        self.end - self.start
+    }
+
+    /// Lets the first n bytes go.
+    pub fn consume(&mut self, n: usize)
+        requires { n ≤ length (items self.old) }
+        ensures { items self.new ≡ drop n (items self.old) }
+    {
+        self.start += n;
+    }
+
+    /// Moves what is held to the front, so that all the room there is lies behind it.
+    fn move_to_front(&mut self)
+        ensures items { items self.new ≡ items self.old }
+        ensures start { self.new.start ≡ 0 }
+    {
+        self.bytes.copy_within(self.start..self.end, 0);
+        self.end -= self.start;
+        self.start = 0;
+    }
+
+    /// Makes one read, behind what is held, and answers how many bytes it gave.
+    pub fn read_from<R: Source>(&mut self, reader: &mut R) -> Result<usize, Failed>
+        requires { length (items self.old) < 4096 }
+        ensures fills { Fills (items self.old) (items self.new) (R.unread reader.old) (R.unread reader.new) result }
+        ensures reads { R.read_count reader.new ≡ count_up (R.read_count reader.old) }
+        ensures failures { R.failure_count reader.new ≡ failures_after (R.failure_count reader.old) result }
+        ensures ended { R.has_ended reader.new ≡ ended_after (R.has_ended reader.old) result 1 }
+    {
+        self.move_to_front();
+        let n = reader.read(&mut self.bytes[self.end..])?;
+        self.end += n;
+        Ok(n)
+    }
+}

@@ -1,0 +1,20 @@
+//! Why a feed stops.
+
+/// The most bytes of a text: 2 to the power of 30.
+pub const TEXT_MAX: u64 = 1_073_741_824;
+
+/// Why a feed stops before the end of its text.
+#[derive(Clone, Copy, Debug, PartialEq, Eq)]
+pub enum FeedFault {
+    /// The reader failed in this call.
+    Read,
+    /// The bytes from `at` on, counted from 0, are ill-formed, or the input ended inside a scalar there.
+    ///
+    /// `at` is the length of the longest well-formed prefix of what was read, of its first 1,073,741,824 bytes
+    /// (Unicode Standard, Table 3-7).
+    NotUtf8 { at: u64 },
+    /// More than 1,073,741,824 bytes were read, and the first of them are well-formed, or end inside a scalar.
+    TextTooLong,
+    /// An earlier call has answered one of the others.
+    Spent,
+}

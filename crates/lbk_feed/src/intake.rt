@@ -1,0 +1,212 @@
+//! What was read and is not yet used up, and how far it is well-formed.
+
+ghost use Rattle.std.specs.Prelude.{◌≡◌};
+ghost use Rattle.lbk_feed.specs.Block.{items};
+ghost use Rattle.lbk_feed.specs.Judge.{IsJudged};
+
+use crate::block::Block;
+use crate::faults::{FeedFault, TEXT_MAX};
+use crate::judge::{Stop, judge};
+use crate::traits::{Failed, Source};
+use std::str;
+
+/// The most reads that one call can want: at most three bytes are held when a read is wanted, each read gives
+/// at least one, and four bytes are a scalar or at fault.
+const READS: usize = 4;
+
+/// The bytes held, how many at their front are ready to be lent, and what stands behind those.
+#[derive(Drop)]
+pub struct Intake {
+    block: Block,
+    ready_len: usize,
+    stop: Stop,
+    given: u64,
+    is_ended: bool,
+    is_spent: bool,
+    ghost judged: { IsJudged (items block) given ready_len stop is_spent },
+}
+
+impl Intake {
+    ghost use Rattle.std.specs.Prelude.{◌+◌, ◌≤◌, ◌<◌, ◌⊎◌, ◌||◌, true, false, length, drop, IfErr, OnOk, OnErr, IfSome, IfNone, IsOk, is_err, []};
+    ghost use Rattle.std.specs.Str.{IsCharBoundary};
+    ghost use Rattle.lbk_feed.specs.Devices.{failures_after};
+    ghost use Rattle.lbk_feed.specs.View.{new_view, IsFront, LendsFront, LiesIn, Steps, Pays, Agrees, IsOfText, IsIdle, fault_of, failures_with};
+    ghost use Rattle.lbk_feed.specs.Intake.{view_of, WantsMore, IsSettled, Draws, DrawsAndFails};
+
+    pub fn new() -> Intake
+        ensures { view_of result ≡ new_view }
+    {
+        Intake {
+            block: Block::new(),
+            ready_len: 0,
+            stop: Stop::Whole,
+            given: 0,
+            is_ended: false,
+            is_spent: false,
+        }
+    }
+
+    pub fn given(&self) -> u64
+        ensures given { result ≡ (view_of self.now).given }
+        ensures within { result ≤ TEXT_MAX }
+    {
+        self.given
+    }
+
+    pub fn ready(&self) -> &str
+        ensures ready { result.now ≡ (view_of self.now).ready }
+        ensures front { IsFront (view_of self.now) }
+        ensures lends { LendsFront (view_of self.now) }
+    {
+        let bytes = &self.block.as_slice()[..self.ready_len];
+        // SAFETY: `judge` has found these bytes well-formed.
+        unsafe { str::from_utf8_unchecked(bytes) }
+    }
+
+    /// Uses up the first n bytes that are ready.
+    pub fn use_up(&mut self, n: usize)
+        requires { IsCharBoundary (view_of self.old).ready n }
+        ensures held { (view_of self.new).held ≡ drop n (view_of self.old).held }
+        ensures ready { (view_of self.new).ready ≡ drop n (view_of self.old).ready }
+        ensures given { self.new.given ≡ self.old.given + n }
+        ensures ended { self.new.is_ended ≡ self.old.is_ended }
+        ensures spent { self.new.is_spent ≡ self.old.is_spent }
+        ensures front { IsFront (view_of self.new) }
+        ensures lends { LendsFront (view_of self.new) }
+    {
+        self.block.consume(n);
+        self.ready_len -= n;
+        self.given += n as u64;
+    }
+
+    /// Whether nothing is ready, and only a read can say what comes.
+    fn wants_more(&self) -> bool
+        ensures yes { result ≡ true → WantsMore self.now }
+        ensures no { result ≡ false → IsSettled self.now }
+    {
+        if self.ready_len > 0 || self.stop.is_faulty() {
+            return false;
+        }
+        if self.block.len() as u64 > TEXT_MAX - self.given {
+            return false;
+        }
+        !self.is_ended
+    }
+
+    /// What is wrong with the bytes held, where nothing is ready and no read is due.
+    fn fault(&self) -> Option<FeedFault>
+        requires { IsSettled self.now }
+        ensures lies { IfSome result (λ e. ((view_of self.now).ready ≡ []) × LiesIn e (view_of self.now)) }
+        ensures text { IfSome result IsOfText }
+        ensures nothing { (view_of self.now).held ≡ [] → result ≡ None }
+        ensures none { IfNone result ((0 < length (view_of self.now).ready)
+            ⊎ (((view_of self.now).held ≡ []) × (self.now.is_ended ≡ true))) }
+    {
+        if self.ready_len > 0 {
+            return None;
+        }
+        if self.stop.is_faulty() {
+            return Some(FeedFault::NotUtf8 { at: self.given });
+        }
+        if self.block.len() as u64 > TEXT_MAX - self.given {
+            return Some(FeedFault::TextTooLong);
+        }
+        if self.block.len() > 0 {
+            return Some(FeedFault::NotUtf8 { at: self.given });
+        }
+        None
+    }
+
+    /// Makes one read where one is due.
+    fn read_more<R: Source>(&mut self, reader: &mut R) -> Result<(), Failed>
+        requires due { WantsMore self.old }
+        requires unspent { self.old.is_spent ≡ false }
+        ensures ok { OnOk result (Draws (view_of self.old) (view_of self.new)
+            (R.unread reader.old) (R.unread reader.new) (R.read_count reader.old) (R.read_count reader.new)) }
+        ensures err { OnErr result (DrawsAndFails (view_of self.old) (view_of self.new)
+            (R.unread reader.old) (R.unread reader.new) (R.read_count reader.old) (R.read_count reader.new)) }
+        ensures grows { OnOk result ((self.new.is_ended ≡ true)
+            ⊎ (length (items self.old.block) < length (items self.new.block))) }
+        ensures ended { R.has_ended reader.new ≡ (R.has_ended reader.old || self.new.is_ended) }
+        ensures failures { R.failure_count reader.new ≡ failures_after (R.failure_count reader.old) result }
+        ensures reads { R.read_count reader.new ≤ R.read_count reader.old + 1 }
+    {
+        let n = self.block.read_from(reader)?;
+        let judgement = judge(self.block.as_slice(), self.given);
+        self.ready_len = judgement.ready_len;
+        self.stop = judgement.stop;
+        self.is_ended = n == 0;
+        Ok(())
+    }
+
+    /// Reads where a read is due, until a piece is ready, a fault is certain or the end is met.
+    fn refill<R: Source>(&mut self, reader: &mut R) -> Result<(), Failed>
+        requires due { WantsMore self.old }
+        requires unspent { self.old.is_spent ≡ false }
+        ensures ok { OnOk result (Draws (view_of self.old) (view_of self.new)
+            (R.unread reader.old) (R.unread reader.new) (R.read_count reader.old) (R.read_count reader.new)) }
+        ensures settled { OnOk result (IsSettled self.new) }
+        ensures err { OnErr result (DrawsAndFails (view_of self.old) (view_of self.new)
+            (R.unread reader.old) (R.unread reader.new) (R.read_count reader.old) (R.read_count reader.new)) }
+        ensures ended { R.has_ended reader.new ≡ (R.has_ended reader.old || self.new.is_ended) }
+        ensures failures { R.failure_count reader.new ≡ failures_after (R.failure_count reader.old) result }
+        ensures reads { R.read_count reader.new ≤ R.read_count reader.old + 4 }
+    {
+        for _ in 0..READS {
+            self.read_more(reader)?;
+            if !self.wants_more() {
+                return Ok(());
+            }
+        }
+        unreachable!()
+    }
+
+    /// Answers what is wrong with the bytes held, once and for all.
+    fn finish(&mut self) -> Result<(), FeedFault>
+        requires settled { IsSettled self.old }
+        requires unspent { self.old.is_spent ≡ false }
+        ensures view { view_of self.new ≡ record (view_of self.old) { is_spent = is_err result } }
+        ensures text { IfErr result IsOfText }
+        ensures lies { IfErr result (λ e. ((view_of self.old).ready ≡ []) × LiesIn e (view_of self.old)) }
+        ensures found { OnOk result ((0 < length (view_of self.old).ready)
+            ⊎ (((view_of self.old).held ≡ []) × (self.old.is_ended ≡ true))) }
+        ensures nothing { (view_of self.old).held ≡ [] → IsOk result }
+    {
+        match self.fault() {
+            None => Ok(()),
+            Some(fault) => {
+                self.is_spent = true;
+                Err(fault)
+            }
+        }
+    }
+
+    /// Makes sure that a piece is ready or the end was met, by reads where they are due.
+    pub fn settle<R: Source>(&mut self, reader: &mut R) -> Result<(), FeedFault>
+        ensures steps { Steps (view_of self.old) (view_of self.new) (R.unread reader.old) (R.unread reader.new)
+            (fault_of result) }
+        ensures pays { Pays (view_of self.old) (view_of self.new) (R.read_count reader.old) (R.read_count reader.new) }
+        ensures agrees { Agrees (view_of self.old) (R.has_ended reader.old) (R.unread reader.old)
+            → Agrees (view_of self.new) (R.has_ended reader.new) (R.unread reader.new) }
+        ensures notices { self.new.is_ended ≡ false → R.has_ended reader.new ≡ R.has_ended reader.old }
+        ensures again { self.old.is_ended ≡ true → (view_of self.old).held ≡ [] → self.old.is_spent ≡ false
+            → IsOk result }
+        ensures spent { self.old.is_spent ≡ true → result ≡ Err FeedFault.Spent }
+        ensures spent_only { result ≡ Err FeedFault.Spent → self.old.is_spent ≡ true }
+        ensures idle { IsIdle (view_of self.old) → reader.new ≡ reader.old }
+        ensures failures { R.failure_count reader.new ≡ failures_with (R.failure_count reader.old) (fault_of result) }
+        ensures reads { R.read_count reader.new ≤ R.read_count reader.old + 4 }
+    {
+        if self.is_spent {
+            return Err(FeedFault::Spent);
+        }
+        if !self.wants_more() {
+            return self.finish();
+        }
+        if self.refill(reader).is_err() {
+            self.is_spent = true;
+            return Err(FeedFault::Read);
+        }
+        self.finish()
+    }
+}

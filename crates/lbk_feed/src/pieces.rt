@@ -1,0 +1,98 @@
+//! Well-formed pieces of what a reader gives.
+
+ghost use Rattle.std.specs.Prelude.{◌≡◌, ◌+◌, ◌≤◌, ◌<◌, drop, length, true, false, IfOk, IfSome, IsOkAnd, IsSomeAnd, IsUtf8, []};
+ghost use Rattle.std.specs.Borrow.{sem};
+ghost use Rattle.std.specs.Io.BufRead.{Rests};
+ghost use Rattle.std.specs.Str.{IsCharBoundary};
+ghost use Rattle.lbk_feed.specs.View.{new_view, IsFront, LendsFront, IsIdle, AfterPiece, fault_of, failures_with};
+ghost use Rattle.lbk_feed.specs.contracts.pieces.Feed.{the_row};
+
+use crate::faults::{FeedFault, TEXT_MAX};
+use crate::intake::Intake;
+use crate::traits::Source;
+use std::marker::Model;
+
+/// Makes well-formed pieces of UTF-8 of the bytes that a reader gives, however its reads are cut.
+///
+/// One reader serves all calls of a feed. No call takes memory.
+#[derive(Drop)]
+pub struct Feed {
+    intake: Intake,
+}
+
+impl Model for Feed {
+    ghost use Rattle.lbk_feed.specs.View.{View};
+
+    ghost Value = { View };
+
+    ghost use Rattle.lbk_feed.specs.Intake.{view_of};
+
+    ghost view = { λ f. view_of f.intake };
+}
+
+impl Feed {
+    /// A feed that has read nothing.
+    pub fn new() -> Feed
+        ensures { result ≡ new_view }
+    {
+        Feed {
+            intake: Intake::new(),
+        }
+    }
+
+    /// How many bytes were used up so far; never more than 1,073,741,824.
+    pub fn given(&self) -> u64
+        ensures given { result ≡ self.now.given }
+        ensures within { result ≤ TEXT_MAX }
+    {
+        self.intake.given()
+    }
+
+    /// The well-formed bytes that were read and not yet used up.
+    pub fn ready(&self) -> &str
+        ensures ready { result.now ≡ self.now.ready }
+        ensures front { IsFront self.now }
+        ensures lends { LendsFront self.now }
+    {
+        self.intake.ready()
+    }
+
+    /// Uses up the first n bytes of `ready`.
+    pub fn advance(&mut self, n: usize)
+        requires { IsCharBoundary self.old.ready n }
+        ensures used { self.new ≡ record self.old { held = drop n self.old.held; ready = drop n self.old.ready; given = self.old.given + n } }
+        ensures front { IsFront self.new }
+        ensures lends { LendsFront self.new }
+    {
+        self.intake.use_up(n);
+    }
+
+    /// The next piece, which is all that is ready and never empty, or `None` at the end of the text.
+    pub fn piece<R: Source>(&mut self, reader: &mut R) -> Result<Option<&str>, FeedFault>
+        ensures* after_borrow { sem 𝓛 (Rests the_row self.entry (λ new.
+            AfterPiece self.old new (R.unread reader.old) (R.unread reader.new)
+            (R.has_ended reader.old) (R.has_ended reader.new)
+            (R.read_count reader.old) (R.read_count reader.new) result)) }
+
+        ensures some { IfOk result (λ o. IfSome o (λ piece. 0 < length piece.now)) }
+        ensures text { IfOk result (λ o. IfSome o (λ piece. IsUtf8 piece.now)) }
+        ensures as_ready { 0 < length self.old.ready
+            → IsOkAnd result (λ o. IsSomeAnd o (λ piece. piece.now ≡ self.old.ready)) }
+        ensures again { self.old.is_ended ≡ true → self.old.held ≡ [] → self.old.is_spent ≡ false → result ≡ Ok None }
+        ensures spent { self.old.is_spent ≡ true → result ≡ Err FeedFault.Spent }
+        ensures spent_only { result ≡ Err FeedFault.Spent → self.old.is_spent ≡ true }
+
+        // Where a piece is ready, the end was met or a fault was answered, no read is made.
+        ensures idle { IsIdle self.old → reader.new ≡ reader.old }
+        ensures reads { R.read_count reader.new ≤ R.read_count reader.old + 4 }
+        // `Read` is the answer exactly where a read failed.
+        ensures failures { R.failure_count reader.new ≡ failures_with (R.failure_count reader.old) (fault_of result) }
+    {
+        self.intake.settle(reader)?;
+        let ready = self.intake.ready();
+        if ready.is_empty() {
+            return Ok(None);
+        }
+        Ok(Some(ready))
+    }
+}
