@@ -13,8 +13,8 @@ mod verdicts;
 
 pub use cells::{Cell, CellSource};
 pub use classes::{Class, Quote};
-pub use evaluator::decide;
-pub use verdicts::{Kind, Rule, Verdict};
+pub use evaluator::{decide, decide_in};
+pub use verdicts::{Kind, Profile, Rule, Verdict};
 
 #[cfg(test)]
 mod tests;
