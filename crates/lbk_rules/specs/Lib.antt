@@ -1,7 +1,9 @@
+pub mod CellPages
 pub mod Chain
 pub mod Classes
 pub mod Facts
 pub mod Labels
+pub mod Pages
 pub mod Rules
 pub mod Sides
 pub mod Units

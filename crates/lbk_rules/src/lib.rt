@@ -8,12 +8,14 @@ mod cells;
 mod classes;
 mod evaluator;
 mod facts;
+mod pages;
 mod table;
 mod verdicts;
 
 pub use cells::{Cell, CellSource};
 pub use classes::{Class, Quote};
 pub use evaluator::{decide, decide_in};
+pub use pages::CellPages;
 pub use verdicts::{Kind, Profile, Rule, Verdict};
 
 #[cfg(test)]
