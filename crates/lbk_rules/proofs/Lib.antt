@@ -1,2 +1,4 @@
 pub mod ChainLemmas
 pub mod FactsLemmas
+pub mod LookAheadLemmas
+pub mod ParagraphLemmas

@@ -8,6 +8,7 @@ mod cells;
 mod classes;
 mod evaluator;
 mod facts;
+pub mod laws;
 mod table;
 mod verdicts;
 
