@@ -1,5 +1,5 @@
 -- How far to the right the rules look.
-use Rattle.std.proofs.Common.{◌≡◌, ℕ, ◌+◌, ◌-◌, ◌<◌, ◌≤◌, Bool, true, false, cond, ◌||◌, Option, Some, None, List, [], ◌∷◌, ◌++◌, length, take, drop, get_or, reverse, refl, sym, ap, ◌∙◌, subst, IsSome, ◌⊎◌, inl, inr, arith}
+use Rattle.std.proofs.Common.{◌≡◌, ℕ, ◌+◌, ◌<◌, ◌≤◌, Bool, true, false, cond, ◌||◌, Option, Some, None, List, [], ◌∷◌, ◌++◌, length, take, drop, reverse, refl, sym, ap, ◌∙◌, subst, IsSome, ◌⊎◌, inl, inr, arith}
 use Rattle.std.proofs.lemmas.Bool.{false≢true, cases_lt}
 use Rattle.std.proofs.lemmas.List.{take-take, take-append-drop, drop-take, drop_all, drop-append-le, take_all}
 use Rattle.lbk_rules.specs.declared.cells.Cell.{Cell}
@@ -164,8 +164,8 @@ next_unit-take a k n some =
           ∙ ap next_unit (drop-append-le k (take n a) (drop n a) within)
           ∙ next_unit-append (drop k (take n a)) (drop n a) some
       | inl past ↦
-          absurd (let P : List Cell → Type 0 = λ l. IsSome (next_unit l) in
-          subst P (drop_all k (take n a) (omega arith)) some)
+          absurd (false≢true (let P : List Cell → Type 0 = λ l. IsSome (next_unit l) in
+          subst P (drop_all k (take n a) (omega arith)) some))
     ]
 
 -- two lists that agree as far as the head of the unit after the cell at k, or wholly

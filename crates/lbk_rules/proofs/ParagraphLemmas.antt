@@ -1,5 +1,5 @@
 -- What lies behind the end of a line decides nothing any more.
-use Rattle.std.proofs.Common.{◌≡◌, ℕ, ◌+◌, ◌-◌, ◌<◌, ◌≤◌, length, take, drop, get_or, suc, Bool, true, false, cond, ◌||◌, ◌&&◌, not, List, [], ◌∷◌, ◌++◌, reverse, refl, sym, ap, ◌∙◌, subst, arith}
+use Rattle.std.proofs.Common.{◌≡◌, ℕ, ◌+◌, ◌-◌, ◌<◌, length, take, drop, get_or, suc, Bool, true, false, cond, ◌||◌, ◌&&◌, not, List, [], ◌∷◌, ◌++◌, reverse, refl, sym, ap, ◌∙◌, arith}
 use Rattle.std.proofs.lemmas.Bool.{false≢true}
 use Rattle.std.proofs.lemmas.List.{reverse-append, take-append-drop, take-take, drop-take, drop-drop, drop_more}
 use Rattle.lbk_rules.specs.declared.classes.Class.{Class}
@@ -12,8 +12,8 @@ use Rattle.lbk_rules.specs.declared.verdicts.Profile.{Profile}
 use Rattle.lbk_rules.specs.declared.verdicts.Profile.TheVariants.{First, Second}
 use Rattle.lbk_rules.specs.declared.verdicts.Verdict.{Verdict}
 use Rattle.lbk_rules.specs.Classes.{Set, ◌or◌, none_of, is, hard, mark, opens_after, BK, CR, LF, NL, SP, ZW, OP, QU, CL, CP, B2, HL, RI}
-use Rattle.lbk_rules.specs.Sides.{Side, at, behind, before_spaces, past_spaces, at_odd_run, opens_quotation, opening, leaves_open}
-use Rattle.lbk_rules.specs.Units.{unit, units, units_after}
+use Rattle.lbk_rules.specs.Sides.{Side, at, before_spaces, past_spaces, at_odd_run, opens_quotation, opening, leaves_open}
+use Rattle.lbk_rules.specs.Units.{unit, units}
 use Rattle.lbk_rules.specs.Facts.{nearest, space, units_before}
 use Rattle.lbk_rules.specs.Rules.{Line, unit_rules, cell_rules, joining_rules, opening_rules, quotation_rules, space_rules, hyphen_rules, affix_rules, number_rules, syllable_rules, letter_rules, last_rule}
 use Rattle.lbk_rules.specs.Chain.{choose, from_11, from_14, from_15, from_16, from_19, from_23, from_25, from_26, from_28, from_cells}
