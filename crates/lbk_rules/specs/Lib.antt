@@ -2,6 +2,7 @@ pub mod Chain
 pub mod Classes
 pub mod Facts
 pub mod Labels
+pub mod Resolve
 pub mod Rules
 pub mod Sides
 pub mod Units

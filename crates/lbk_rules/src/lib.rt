@@ -9,12 +9,14 @@ mod classes;
 mod evaluator;
 mod facts;
 pub mod laws;
+mod resolution;
 mod table;
 mod verdicts;
 
 pub use cells::{Cell, CellSource};
 pub use classes::{Class, Quote};
 pub use evaluator::{decide, decide_in};
+pub use resolution::resolve;
 pub use verdicts::{Kind, Profile, Rule, Verdict};
 
 #[cfg(test)]
