@@ -2,3 +2,4 @@ pub mod ChainLemmas
 pub mod FactsLemmas
 pub mod LookAheadLemmas
 pub mod ParagraphLemmas
+pub mod MachineLemmas

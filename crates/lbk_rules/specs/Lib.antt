@@ -1,6 +1,7 @@
 pub mod Chain
 pub mod Classes
 pub mod Facts
+pub mod Fits
 pub mod Labels
 pub mod Resolve
 pub mod Rules

@@ -8,6 +8,7 @@ mod cells;
 mod classes;
 mod evaluator;
 mod facts;
+mod forward;
 pub mod laws;
 mod resolution;
 mod table;
@@ -16,6 +17,7 @@ mod verdicts;
 pub use cells::{Cell, CellSource};
 pub use classes::{Class, Quote};
 pub use evaluator::{decide, decide_in};
+pub use forward::{decide_all, Machine};
 pub use resolution::resolve;
 pub use verdicts::{Kind, Profile, Rule, Verdict};
 
