@@ -3,3 +3,4 @@ pub mod FactsLemmas
 pub mod LookAheadLemmas
 pub mod ParagraphLemmas
 pub mod MachineLemmas
+pub mod WritingLemmas

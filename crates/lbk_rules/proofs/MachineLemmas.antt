@@ -1,6 +1,6 @@
 -- A position told by what stands before it.
-use Rattle.std.proofs.Common.{◌≡◌, ℕ, List, [], ◌∷◌, ◌++◌, length, take, drop, reverse, refl, sym, ap, ◌∙◌}
-use Rattle.std.proofs.lemmas.List.{reverse-append, take_at, drop_at, take_all, drop_all}
+use Rattle.std.proofs.Common.{◌≡◌, ℕ, ◌+◌, ◌<◌, get_or, List, [], ◌∷◌, ◌++◌, length, take, drop, reverse, sym, ap, ◌∙◌}
+use Rattle.std.proofs.lemmas.List.{reverse-append, drop_more, take-append-drop}
 use Rattle.std.proofs.Math.Seq.{take-length, drop-length, take-append_seam, drop-append_seam}
 use Rattle.lbk_rules.specs.declared.cells.Cell.{Cell}
 use Rattle.lbk_rules.specs.declared.verdicts.Profile.{Profile}
@@ -28,3 +28,9 @@ verdict_in-end profile cells =
     ap (λ l. verdict_between_in profile l (drop (length cells) cells)) (take-length cells)
     ∙ ap (λ r. verdict_between_in profile cells r) (drop-length cells)
     ∙ verdict_between-chain profile cells []
+
+-- a list at one of its places
+pub split-at : (cells : List Cell) (k : ℕ) (d : Cell) → k < length cells
+    → take k cells ++ get_or cells k d ∷ drop (k + 1) cells ≡ cells
+split-at cells k d within =
+    ap (λ r. take k cells ++ r) (sym (drop_more cells k d within)) ∙ take-append-drop k cells

@@ -20,7 +20,9 @@ impl Machine {
     pub fn start() -> Machine
         ensures { Fits result [] }
     {
-        Machine { left: Left::start() }
+        Machine {
+            left: Left::start(),
+        }
     }
 
     /// Takes the next cell: the verdict of the position before it, whatever follows.

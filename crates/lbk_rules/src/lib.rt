@@ -17,7 +17,7 @@ mod verdicts;
 pub use cells::{Cell, CellSource};
 pub use classes::{Class, Quote};
 pub use evaluator::{decide, decide_in};
-pub use forward::{decide_all, Machine};
+pub use forward::{Machine, decide_all};
 pub use resolution::resolve;
 pub use verdicts::{Kind, Profile, Rule, Verdict};
 
