@@ -33,7 +33,7 @@ first_match-over_units (line ∷ lines) left right =
     ap (λ v. cond (line.holds (reverse (units left)) (units right)) line.answer v) (first_match-over_units lines left right)
 
 -- the unit rules, group by group
-from_11-list : (profile : Profile) (left right : Side)
+pub from_11-list : (profile : Profile) (left right : Side)
     → choose (unit_rules profile) left right (record { kind = May; rule = Lb31 }) ≡ from_11 profile left right
 unfolding unit_rules last_rule from_11 from_14 from_15 from_16 from_19 from_23 from_25 from_26 from_28
 from_11-list profile left right = simp choose-append

@@ -1,3 +1,7 @@
 pub mod ChainLemmas
 pub mod FactsLemmas
+pub mod LookAheadLemmas
+pub mod MachineLemmas
 pub mod PagesLemmas
+pub mod ParagraphLemmas
+pub mod WritingLemmas

@@ -8,6 +8,7 @@ mod kept;
 
 use crate::cells::{Cell, CellSource};
 use kept::Kept;
+use lbk_ucd::Tables;
 use std::alloc::{AllocError, Global};
 
 /// How many codes have their cells in one page.
@@ -32,12 +33,19 @@ pub struct CellPages {
 
 impl CellPages {
     ghost use Rattle.lbk_rules.specs.CellPages.{page_cell};
+    ghost use Rattle.lbk_rules.specs.Resolve.{cell_of_tables};
 
-    /// Pages that have the cells of this source. An error is want of memory.
-    pub(crate) fn build_over<C: CellSource>(
-        alloc: Global,
-        source: &C,
-    ) -> Result<CellPages, AllocError>
+    /// The pages of these tables, which give each scalar value the cell that the tables give it. An
+    /// error comes only where memory was refused.
+    pub fn build(alloc: Global, tables: &Tables) -> Result<CellPages, AllocError>
+        ensures { IfOk result (λ pages. (code : ℕ) → IsScalar code
+            → page_cell pages code ≡ cell_of_tables tables.now code) }
+    {
+        CellPages::build_over(alloc, tables)
+    }
+
+    /// The pages of any source.
+    fn build_over<C: CellSource>(alloc: Global, source: &C) -> Result<CellPages, AllocError>
         ensures { IfOk result (λ pages. (code : ℕ) → IsScalar code
             → page_cell pages code ≡ C.cell_of source.now code) }
     {

@@ -1,0 +1,28 @@
+-- What the tables answer at each code.
+use Rattle.std.specs.Prelude.{ℕ, Bool}
+use Rattle.lbk_ucd.specs.declared.tables.Tables.{Tables}
+use Rattle.lbk_ucd.specs.declared.rows.Assigned.{Assigned}
+use Rattle.lbk_ucd.specs.declared.values.LineBreak.{LineBreak}
+use Rattle.lbk_ucd.specs.declared.values.EastAsian.{EastAsian}
+use Rattle.lbk_ucd.specs.declared.values.Category.{Category}
+use Rattle.lbk_ucd.specs.Rows.{value_at}
+
+-- the value that the kept rows and defaults of one file give a code
+abbrev pub value_of : {V : Type 0} → Assigned V → ℕ → V
+value_of assigned code = value_at assigned.rows.items assigned.defaults.items assigned.unlisted code
+
+-- Line_Break
+unfoldable pub line_break_of : Tables → ℕ → LineBreak
+line_break_of tables code = value_of tables.line_break code
+
+-- East_Asian_Width
+unfoldable pub east_asian_of : Tables → ℕ → EastAsian
+east_asian_of tables code = value_of tables.east_asian code
+
+-- General_Category
+unfoldable pub category_of : Tables → ℕ → Category
+category_of tables code = value_of tables.category code
+
+-- Extended_Pictographic
+unfoldable pub is_pictographic_of : Tables → ℕ → Bool
+is_pictographic_of tables code = value_of tables.pictographic code
