@@ -3,5 +3,6 @@ pub mod FactsLemmas
 pub mod LookAheadLemmas
 pub mod MachineLemmas
 pub mod PagesLemmas
+pub mod PagesOfText
 pub mod ParagraphLemmas
 pub mod WritingLemmas
