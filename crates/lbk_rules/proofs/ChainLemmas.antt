@@ -1,14 +1,15 @@
 -- The rule list, read group by group.
 use Rattle.std.proofs.Common.{◌≡◌, cond, List, [], ◌∷◌, ◌++◌, map, reverse, refl, sym, ◌∙◌, ap}
 use Rattle.lbk_rules.specs.declared.cells.Cell.{Cell}
+use Rattle.lbk_rules.specs.declared.verdicts.Profile.{Profile}
 use Rattle.lbk_rules.specs.declared.verdicts.Verdict.{Verdict}
 use Rattle.lbk_rules.specs.declared.verdicts.Kind.TheVariants.{May}
 use Rattle.lbk_rules.specs.declared.verdicts.Rule.TheVariants.{Lb31}
 use Rattle.lbk_rules.specs.Sides.{Side}
 use Rattle.lbk_rules.specs.Units.{units}
-use Rattle.lbk_rules.specs.Rules.{Line, Entry, over_cells, over_units, first_match, rule_list, cell_rules, space_rules, letter_rules, last_rule}
-use Rattle.lbk_rules.specs.Chain.{choose, from_28, from_18, from_cells}
-use Rattle.lbk_rules.specs.Verdict.{verdict_between}
+use Rattle.lbk_rules.specs.Rules.{Line, Entry, over_cells, over_units, first_match, rule_list, unit_rules, cell_rules, last_rule}
+use Rattle.lbk_rules.specs.Chain.{choose, from_11, from_14, from_15, from_16, from_19, from_23, from_25, from_26, from_28, from_cells}
+use Rattle.lbk_rules.specs.Verdict.{verdict_between_in}
 use Rattle.lbk_rules.proofs.FactsLemmas.{units_before-reverse}
 
 choose-append : (a b : List Line) (left right : Side) (otherwise : Verdict)
@@ -32,18 +33,17 @@ first_match-over_units (line ∷ lines) left right =
     ap (λ v. cond (line.holds (reverse (units left)) (units right)) line.answer v) (first_match-over_units lines left right)
 
 -- the unit rules, group by group
-from_18-list : (left right : Side)
-    → choose (space_rules ++ letter_rules ++ last_rule) left right (record { kind = May; rule = Lb31 }) ≡ from_18 left right
-unfolding from_18 from_28 last_rule
-from_18-list left right =
-    choose-append (space_rules ++ letter_rules) last_rule left right _
-    ∙ choose-append space_rules letter_rules left right _
+pub from_11-list : (profile : Profile) (left right : Side)
+    → choose (unit_rules profile) left right (record { kind = May; rule = Lb31 }) ≡ from_11 profile left right
+unfolding unit_rules last_rule from_11 from_14 from_15 from_16 from_19 from_23 from_25 from_26 from_28
+from_11-list profile left right = simp choose-append
 
-pub verdict_between-chain : (left right : List Cell) → verdict_between left right ≡ from_cells (reverse left) right
-unfolding verdict_between from_cells rule_list
-verdict_between-chain left right =
-    first_match-over_cells cell_rules (map over_units (space_rules ++ letter_rules ++ last_rule)) left right
+pub verdict_between-chain : (profile : Profile) (left right : List Cell)
+    → verdict_between_in profile left right ≡ from_cells profile (reverse left) right
+unfolding verdict_between_in from_cells rule_list
+verdict_between-chain profile left right =
+    first_match-over_cells cell_rules (map over_units (unit_rules profile)) left right
     ∙ ap (λ v. choose cell_rules (reverse left) right v)
-    (first_match-over_units (space_rules ++ letter_rules ++ last_rule) left right
-    ∙ from_18-list (reverse (units left)) (units right)
-    ∙ ap (λ u. from_18 u (units right)) (sym (units_before-reverse left)))
+    (first_match-over_units (unit_rules profile) left right
+    ∙ from_11-list profile (reverse (units left)) (units right)
+    ∙ ap (λ u. from_11 profile u (units right)) (sym (units_before-reverse left)))

@@ -36,6 +36,7 @@ Sees-facts cell side left e =
         spaces = ap (λ u. (facts_of_units u).before_spaces) same;
         hebrew = ap (λ u. (facts_of_units u).hebrew_behind) same;
         indicators = ap (λ u. (facts_of_units u).odd_indicators) same;
+        quotation = ap (λ u. (facts_of_units u).opens_quotation) same;
       },
     )
 

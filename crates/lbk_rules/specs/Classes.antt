@@ -182,3 +182,11 @@ hard = BK or CR or LF or NL or SP or ZW
 -- what joins the character before it
 abbrev pub mark : Set
 mark = CM or isZWJ
+
+-- a closing quotation mark holds its place before these classes, an opening one after these
+-- (rules LB15b and LB15a)
+abbrev pub closes_before : Set
+closes_before = SP or GL or WJ or CL or QU or CP or EX or IS or SY or BK or CR or LF or NL or ZW
+
+abbrev pub opens_after : Set
+opens_after = BK or CR or LF or NL or OP or QU or GL or SP or ZW

@@ -1,12 +1,14 @@
 -- The few facts of the left side that the rules ask for.
-use Rattle.std.specs.Prelude.{◌≡◌, false, ◌||◌, if◌then◌else◌, [], ◌∷◌}
+use Rattle.std.specs.Prelude.{◌≡◌, Bool, false, ◌||◌, if◌then◌else◌, [], ◌∷◌}
 use Rattle.lbk_rules.specs.declared.classes.Class.TheVariants.{Space}
 use Rattle.lbk_rules.specs.declared.classes.Quote.TheVariants.{Neither}
+use Rattle.lbk_rules.specs.declared.verdicts.Profile.{Profile}
+use Rattle.lbk_rules.specs.declared.verdicts.Profile.TheVariants.{First, Second}
 use Rattle.lbk_rules.specs.declared.cells.Cell.{Cell}
 use Rattle.lbk_rules.specs.declared.facts.Left.{Left}
 use Rattle.lbk_rules.specs.declared.facts.Before.{Before}
 use Rattle.lbk_rules.specs.Classes.{hard, mark, none_of, ZW, HL}
-use Rattle.lbk_rules.specs.Sides.{Side, is_nothing, before_spaces, behind, past_spaces, at_odd_run}
+use Rattle.lbk_rules.specs.Sides.{Side, is_nothing, before_spaces, behind, past_spaces, at_odd_run, opens_quotation, leaves_closed}
 use Rattle.lbk_rules.specs.Units.{unit}
 
 -- a space, which stands for what is nearest where nothing is left
@@ -33,6 +35,7 @@ facts_of_units side = record {
   before_spaces = before_spaces side;
   hebrew_behind = behind HL side;
   odd_indicators = at_odd_run side;
+  opens_quotation = opens_quotation side;
 }
 
 -- what is known of the cells on the left, read outwards
@@ -49,3 +52,9 @@ pub record Sees (before : Before) (side : Side) : Type 0 where
   pub spaces : before_spaces (before.last ∷ side) ≡ before.before_spaces
   pub hebrew : behind HL (before.last ∷ side) ≡ before.hebrew_behind
   pub indicators : at_odd_run (before.last ∷ side) ≡ before.odd_indicators
+  pub quotation : opens_quotation (before.last ∷ side) ≡ before.opens_quotation
+
+-- what stands after a closing quotation mark, where the profile asks
+abbrev pub closes_in : Profile → Side → Bool
+closes_in First side = false
+closes_in Second side = leaves_closed side

@@ -1,7 +1,7 @@
 -- The number of a rule as it is written, without LB (UAX #14, section 6).
 use Rattle.std.specs.Prelude.{ℕ, List, codes}
 use Rattle.lbk_rules.specs.declared.verdicts.Rule.{Rule}
-use Rattle.lbk_rules.specs.declared.verdicts.Rule.TheVariants.{Lb2, Lb3, Lb4, Lb5, Lb6, Lb7, Lb8, Lb8a, Lb9, Lb11, Lb12, Lb12a, Lb13, Lb14, Lb15, Lb16, Lb17, Lb18, Lb19, Lb20, Lb21, Lb21a, Lb21b, Lb22, Lb23, Lb23a, Lb24, Lb25, Lb26, Lb27, Lb28, Lb29, Lb30, Lb30a, Lb30b, Lb31}
+use Rattle.lbk_rules.specs.declared.verdicts.Rule.TheVariants.{Lb2, Lb3, Lb4, Lb5, Lb6, Lb7, Lb8, Lb8a, Lb9, Lb11, Lb12, Lb12a, Lb13, Lb14, Lb15, Lb15a, Lb15b, Lb16, Lb17, Lb18, Lb19, Lb20, Lb21, Lb21a, Lb21b, Lb22, Lb23, Lb23a, Lb24, Lb25, Lb26, Lb27, Lb28, Lb29, Lb30, Lb30a, Lb30b, Lb31}
 
 abbrev pub label_of : Rule → List ℕ
 label_of Lb2 = codes "2"
@@ -19,6 +19,8 @@ label_of Lb12a = codes "12a"
 label_of Lb13 = codes "13"
 label_of Lb14 = codes "14"
 label_of Lb15 = codes "15"
+label_of Lb15a = codes "15a"
+label_of Lb15b = codes "15b"
 label_of Lb16 = codes "16"
 label_of Lb17 = codes "17"
 label_of Lb18 = codes "18"

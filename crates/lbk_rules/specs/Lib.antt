@@ -1,7 +1,11 @@
+pub mod CellPages
 pub mod Chain
 pub mod Classes
 pub mod Facts
+pub mod Fits
 pub mod Labels
+pub mod Pages
+pub mod Resolve
 pub mod Rules
 pub mod Sides
 pub mod Units

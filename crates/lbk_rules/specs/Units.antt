@@ -1,5 +1,5 @@
 -- Units, the runs of cells that rules LB9 and LB10 make into one (UAX #14, section 6.1).
-use Rattle.std.specs.Prelude.{Bool, true, false, ◌||◌, if◌then◌else◌, List, [], ◌∷◌}
+use Rattle.std.specs.Prelude.{Bool, true, false, ◌||◌, if◌then◌else◌, List, [], ◌∷◌, Option, Some, None}
 use Rattle.lbk_rules.specs.declared.classes.Class.TheVariants.{Alphabetic}
 use Rattle.lbk_rules.specs.declared.classes.Quote.TheVariants.{Neither}
 use Rattle.lbk_rules.specs.declared.cells.Cell.{Cell}
@@ -25,3 +25,13 @@ units_after fresh (cell ∷ cells) =
 -- the units of a list of cells
 abbrev pub units : List Cell → List Cell
 units cells = units_after true cells
+
+-- the first of a list
+abbrev pub first : List Cell → Option Cell
+first [] = None
+first (cell ∷ _) = Some cell
+
+-- the unit after the one that the first cell heads, if there is one
+abbrev pub next_unit : List Cell → Option Cell
+next_unit [] = None
+next_unit (cell ∷ cells) = first (units_after (hard cell.class) cells)

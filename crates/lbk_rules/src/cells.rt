@@ -1,4 +1,6 @@
-ghost use Rattle.std.specs.Prelude.{◌≡◌, ℕ};
+ghost use Rattle.std.specs.Prelude.{◌≡◌, ℕ, ◌&&◌, not};
+ghost use Rattle.lbk_rules.specs.Classes.{is};
+ghost use Rattle.lbk_rules.specs.Sides.{opening, closing};
 ghost use Rattle.lbk_rules.specs.Units.{unit};
 
 use crate::classes::{Class, Quote};
@@ -24,6 +26,27 @@ impl Cell {
         ensures { result ≡ unit self }
     {
         if self.class.is_mark() { LETTER } else { self }
+    }
+
+    /// Whether it is a quotation mark that opens.
+    pub(crate) fn is_opening_mark(self) -> bool
+        ensures { result ≡ opening self }
+    {
+        self.class.is(Class::Quotation) && matches!(self.quote, Quote::Initial)
+    }
+
+    /// Whether it is a quotation mark that closes.
+    pub(crate) fn is_closing_mark(self) -> bool
+        ensures { result ≡ closing self }
+    {
+        self.class.is(Class::Quotation) && matches!(self.quote, Quote::Final)
+    }
+
+    /// Whether it is of this class, and not wide (rule LB30).
+    pub(crate) fn is_narrow(self, class: Class) -> bool
+        ensures { result ≡ (is class self.class && not self.wide) }
+    {
+        self.class.is(class) && !self.wide
     }
 }
 

@@ -16,6 +16,9 @@ pub(crate) struct Before {
     pub(crate) hebrew_behind: bool,
     /// Whether the run of regional indicators at the end has odd length.
     pub(crate) odd_indicators: bool,
+    /// Whether an opening quotation mark that stays open stands at the end, or before the spaces
+    /// there.
+    pub(crate) opens_quotation: bool,
 }
 
 /// What the rules ask of the cells before a position.
@@ -41,11 +44,12 @@ const SPACE: Cell = Cell {
 
 impl Before {
     /// What is known once a unit follows.
-    #[tactic(auto, unfolding(crate::specs::Classes::is, crate::specs::Sides::before_spaces, crate::specs::Sides::at_odd_run))]
+    #[tactic(auto, unfolding(crate::specs::Classes::is, crate::specs::Sides::before_spaces, crate::specs::Sides::at_odd_run, crate::specs::Sides::opens_quotation))]
     fn then(self, unit: Cell) -> Before
         ensures { (side : Side) → facts_of_units side ≡ self → result ≡ facts_of_units (unit ∷ side) }
     {
         let space = unit.class.is(Class::Space);
+        let opens = unit.is_opening_mark() && self.last.class.opens_after();
         let indicator = unit.class.is(Class::RegionalIndicator);
         Before {
             last: unit,
@@ -56,13 +60,14 @@ impl Before {
             },
             hebrew_behind: self.last.class.is(Class::HebrewLetter),
             odd_indicators: indicator && !self.odd_indicators,
+            opens_quotation: if space { self.opens_quotation } else { opens },
         }
     }
 }
 
 impl Left {
     /// What is known at the start of a text.
-    #[tactic(auto, unfolding(crate::specs::Classes::is, crate::specs::Facts::facts, crate::specs::Sides::before_spaces, crate::specs::Sides::at_odd_run))]
+    #[tactic(auto, unfolding(crate::specs::Classes::is, crate::specs::Facts::facts, crate::specs::Sides::before_spaces, crate::specs::Sides::at_odd_run, crate::specs::Sides::opens_quotation))]
     pub(crate) fn start() -> Left
         ensures { result ≡ facts [] }
     {
@@ -71,6 +76,7 @@ impl Left {
             before_spaces: Class::Space,
             hebrew_behind: false,
             odd_indicators: false,
+            opens_quotation: false,
         };
         Left {
             empty: true,

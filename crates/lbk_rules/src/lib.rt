@@ -8,13 +8,20 @@ mod cells;
 mod classes;
 mod evaluator;
 mod facts;
+mod forward;
+pub mod laws;
+mod pages;
+mod resolution;
 mod table;
 mod verdicts;
 
 pub use cells::{Cell, CellSource};
 pub use classes::{Class, Quote};
-pub use evaluator::decide;
-pub use verdicts::{Kind, Rule, Verdict};
+pub use evaluator::{decide, decide_in};
+pub use forward::{Machine, decide_all};
+pub use pages::CellPages;
+pub use resolution::resolve;
+pub use verdicts::{Kind, Profile, Rule, Verdict};
 
 #[cfg(test)]
 mod tests;

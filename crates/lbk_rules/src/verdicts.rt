@@ -10,7 +10,8 @@ pub enum Kind {
     Must,
 }
 
-/// A rule of UAX #14, section 6, by its number.
+/// A rule of UAX #14, section 6, by its number. `Lb15a` and `Lb15b` stand in place of `Lb15` in the
+/// second profile.
 #[derive(Clone, Copy, PartialEq, Eq, Debug)]
 pub enum Rule {
     Lb2,
@@ -28,6 +29,8 @@ pub enum Rule {
     Lb13,
     Lb14,
     Lb15,
+    Lb15a,
+    Lb15b,
     Lb16,
     Lb17,
     Lb18,
@@ -72,6 +75,8 @@ impl Rule {
             Rule::Lb13 => "13",
             Rule::Lb14 => "14",
             Rule::Lb15 => "15",
+            Rule::Lb15a => "15a",
+            Rule::Lb15b => "15b",
             Rule::Lb16 => "16",
             Rule::Lb17 => "17",
             Rule::Lb18 => "18",
@@ -95,6 +100,14 @@ impl Rule {
             Rule::Lb31 => "31",
         }
     }
+}
+
+/// Which rules stand for quotation marks: `First` has rule LB15 of Unicode 15.0, `Second` the rules
+/// 15a and 15b in its place, which look at both sides of the mark.
+#[derive(Clone, Copy, PartialEq, Eq, Debug)]
+pub enum Profile {
+    First,
+    Second,
 }
 
 /// What is decided at a position, and the rule that decides it.

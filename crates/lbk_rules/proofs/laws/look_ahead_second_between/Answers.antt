@@ -1,0 +1,6 @@
+use Rattle.lbk_rules.specs.declared.verdicts.Profile.TheVariants.{Second}
+use Rattle.lbk_rules.proofs.LookAheadLemmas.{look_ahead_between_in}
+use Rattle.lbk_rules.proofs.laws.look_ahead_second_between.Goals as goal
+
+pub returns : goal.returns
+returns c = look_ahead_between_in Second

@@ -1,0 +1,49 @@
+-- Pages of cells: each holds the cells of 256 codes that follow one another.
+use Rattle.std.specs.Prelude.{◌≡◌, ◌≢◌, ℕ, ◌+◌, ◌*◌, ◌/◌, ◌%◌, ◌^◌, ◌<◌, List, [], fold, AllPairs, slice_index, slice_index_or}
+use Rattle.std.specs.Char.{IsScalar}
+use Rattle.std.specs.Int.{from_bool}
+use Rattle.lbk_rules.specs.declared.cells.Cell.{Cell}
+use Rattle.lbk_rules.specs.declared.classes.Quote.{Quote}
+use Rattle.lbk_rules.specs.declared.classes.Quote.TheVariants.{Neither, Initial, Final}
+use Rattle.lbk_rules.specs.Classes.{place}
+use Rattle.lbk_rules.specs.Units.{letter}
+
+-- the page holds the cells of the 256 codes from `first` on; of a surrogate nothing is said
+abbrev pub IsPageOf : (ℕ → Cell) → ℕ → List Cell → Type 0
+IsPageOf cell_of first page =
+    (k : ℕ) → k < 256 → IsScalar (first + k) → slice_index_or page k letter ≡ cell_of (first + k)
+
+-- the page that the numbers give the k-th 256 codes
+abbrev pub page_at : List ℕ → List (List Cell) → ℕ → List Cell
+page_at numbers pages k = slice_index_or pages (slice_index numbers k) []
+
+-- the cell of a code: at its place in the page of its 256 codes
+abbrev pub cell_in : List ℕ → List (List Cell) → ℕ → Cell
+cell_in numbers pages code = slice_index_or (page_at numbers pages (code / 256)) (code % 256) letter
+
+-- no two pages are equal
+abbrev pub AreDistinct : List (List Cell) → Type 0
+AreDistinct pages = AllPairs (λ one other. one ≢ other) pages
+
+-- the place of a value among the three
+abbrev pub quote_place : Quote → ℕ
+quote_place Neither = 0
+quote_place Initial = 1
+quote_place Final = 2
+
+-- a number of its own for each cell
+abbrev pub cell_number : Cell → ℕ
+cell_number cell =
+    from_bool cell.wide
+    + 2 * from_bool cell.pict_cn
+    + 4 * from_bool cell.letter
+    + 8 * quote_place cell.quote
+    + 32 * place cell.class
+
+-- a digest after one more cell
+abbrev pub digest_with : ℕ → Cell → ℕ
+digest_with digest cell = ((digest * 0x100_0000_01b3) % 2 ^ 64 + cell_number cell) % 2 ^ 64
+
+-- the digest of a page: pages that are equal have the same
+unfoldable pub digest_of : List Cell → ℕ
+digest_of page = fold digest_with 0 page
