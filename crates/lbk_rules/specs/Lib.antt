@@ -6,3 +6,4 @@ pub mod Rules
 pub mod Sides
 pub mod Units
 pub mod Verdict
+pub mod Words

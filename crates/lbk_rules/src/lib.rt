@@ -10,6 +10,7 @@ mod evaluator;
 mod facts;
 mod table;
 mod verdicts;
+pub mod words;
 
 pub use cells::{Cell, CellSource};
 pub use classes::{Class, Quote};
