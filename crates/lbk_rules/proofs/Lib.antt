@@ -5,4 +5,5 @@ pub mod MachineLemmas
 pub mod PagesLemmas
 pub mod PagesOfText
 pub mod ParagraphLemmas
+pub mod WordLemmas
 pub mod WritingLemmas

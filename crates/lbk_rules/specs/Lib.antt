@@ -10,3 +10,4 @@ pub mod Rules
 pub mod Sides
 pub mod Units
 pub mod Verdict
+pub mod Words

@@ -14,6 +14,7 @@ mod pages;
 mod resolution;
 mod table;
 mod verdicts;
+pub mod words;
 
 pub use cells::{Cell, CellSource};
 pub use classes::{Class, Quote};

@@ -1,0 +1,36 @@
+-- The annex's own words for what the definitions compute (UAX #14, section 6), over whole lists from first to last.
+use Rattle.std.specs.Prelude.{ℕ, zero, suc, ◌≡◌, Bool, true, false, ◌||◌, not, List, [], ◌∷◌, ◌++◌, reverse}
+use Rattle.std.specs.List.{AllByRecursion}
+use Rattle.lbk_rules.specs.declared.classes.Class.{Class}
+use Rattle.lbk_rules.specs.declared.cells.Cell.{Cell}
+use Rattle.lbk_rules.specs.Classes.{Set, SP, RI, hard, mark, none_of}
+use Rattle.lbk_rules.specs.Sides.{is_nothing, at}
+
+-- a set that has no space
+abbrev pub HasNoSpace : Set → Type 0
+HasNoSpace x = (class : Class) → SP class ≡ true → x class ≡ false
+
+-- 'X SP*' ends a list: some place holds a class of X, and all later places hold SP
+pub record EndsInSpacesAfter (x : Set) (cells : List Cell) : Type 0 where
+  pub before : List Cell
+  pub cell : Cell
+  pub spaces : List Cell
+  pub joined : cells ≡ before ++ cell ∷ spaces
+  pub of_set : x cell.class ≡ true
+  pub all_spaces : AllByRecursion (λ (c : Cell). SP c.class ≡ true) spaces
+
+-- the longest run of indicators that ends a list: all of it are indicators, and what comes before it does not end in one
+pub record EndsInRun (cells run : List Cell) : Type 0 where
+  pub before : List Cell
+  pub joined : cells ≡ before ++ run
+  pub all_indicators : AllByRecursion (λ (c : Cell). RI c.class ≡ true) run
+  pub longest : (rest : List Cell) (cell : Cell) → before ≡ rest ++ cell ∷ [] → RI cell.class ≡ true → ⊥
+
+-- how many are left over by pairs
+abbrev pub is_odd : ℕ → Bool
+is_odd zero = false
+is_odd (suc n) = not (is_odd n)
+
+-- a cell heads a unit if none stands before it, if it is no mark, or if the one before it is of a hard class
+abbrev pub is_head : List Cell → Cell → Bool
+is_head before cell = is_nothing (reverse before) || none_of mark cell.class || at hard (reverse before)

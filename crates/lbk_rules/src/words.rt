@@ -1,0 +1,28 @@
+//! Laws that the definitions of the rule list say what the annex's words say (UAX #14, section 6).
+
+ghost use Rattle.std.specs.Prelude.{◌≡◌, true, if◌then◌else◌, List, [], ◌∷◌, ◌++◌, length, reverse};
+ghost use Rattle.lbk_rules.specs.declared.cells.Cell.{Cell};
+ghost use Rattle.lbk_rules.specs.Classes.{Set};
+ghost use Rattle.lbk_rules.specs.Sides.{past_spaces, at_odd_run};
+ghost use Rattle.lbk_rules.specs.Units.{unit, units};
+ghost use Rattle.lbk_rules.specs.Words.{HasNoSpace, EndsInSpacesAfter, EndsInRun, is_odd, is_head};
+
+/// 'X SP*': some place of the left holds a class of X, which has no space, and all later places hold SP.
+pub fn spaces()
+    ensures only { (x : Set) (cells : List Cell) → HasNoSpace x
+        → past_spaces x (reverse cells) ≡ true → EndsInSpacesAfter x cells }
+    ensures all { (x : Set) (cells : List Cell) → HasNoSpace x
+        → EndsInSpacesAfter x cells → past_spaces x (reverse cells) ≡ true }
+{}
+
+/// Rule LB30a counts the longest run of indicators that ends the left.
+pub fn indicators()
+    ensures { (cells run : List Cell) → EndsInRun cells run → at_odd_run (reverse cells) ≡ is_odd (length run) }
+{}
+
+/// The units of a list are its heads in their order (rules LB9 and LB10).
+pub fn heads()
+    ensures none { units [] ≡ [] }
+    ensures one_more { (cells : List Cell) (cell : Cell) → units (cells ++ cell ∷ [])
+        ≡ (if is_head cells cell then units cells ++ unit cell ∷ [] else units cells) }
+{}
