@@ -1,7 +1,7 @@
 //! `lbk`: the line breaks of a text on standard input, and the rules that decide them.
 #![tactic(auto)]
 
-use lbk_cmd::{PlainCells, show};
+use lbk_cmd::{SAMPLE_FILES, read_cells, show};
 use lbk_feed::Device;
 use std::env;
 use std::fmt::Display;
@@ -24,9 +24,13 @@ fn main(rt: HostRuntime) -> ExitCode {
 }
 
 fn run(rt: &HostRuntime) -> ExitCode {
+    let cells = match read_cells(rt.alloc(), SAMPLE_FILES) {
+        Ok(cells) => cells,
+        Err(fault) => return ended(rt, fault, REFUSED),
+    };
     let mut reader = Device::new(rt.stdin());
     let mut writer = Device::new(rt.stdout());
-    match show(rt.alloc(), &mut reader, &mut writer, &PlainCells, LIMIT) {
+    match show(rt.alloc(), &mut reader, &mut writer, &cells, LIMIT) {
         Ok(()) => ExitCode::SUCCESS,
         Err(fault) => ended(rt, fault, REFUSED),
     }

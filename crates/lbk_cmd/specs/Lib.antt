@@ -1,5 +1,6 @@
+pub mod Cells
+pub mod CellsRefusal
 pub mod Limits
 pub mod Line
-pub mod PlainCells
 pub mod Refusal
 pub mod Show

@@ -1,11 +1,11 @@
 //! The engines of the program: what each writes is a stated function of what it reads.
 #![tactic(auto)]
 
+mod cells;
 mod engine;
 mod faults;
 mod line;
-mod plain_cells;
 
+pub use cells::{SAMPLE_FILES, read_cells};
 pub use engine::show;
-pub use faults::{CmdFault, PassageFault};
-pub use plain_cells::PlainCells;
+pub use faults::{CellsFault, CmdFault, PassageFault};

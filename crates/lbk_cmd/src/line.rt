@@ -4,7 +4,7 @@ ghost use Rattle.std.specs.Prelude.{◌≡◌, ◌+◌, ◌++◌, map, length, I
 ghost use Rattle.lbk_rules.specs.declared.verdicts.Verdict.{Verdict};
 ghost use Rattle.lbk_cmd.specs.Line.{mark_bytes, token, written_line, written_labels, verdicts_of, shown_line};
 
-use lbk_rules::{Cell, Kind, Verdict, decide};
+use lbk_rules::{Cell, Kind, Machine, Verdict};
 use std::alloc::{AllocError, Global};
 use std::fmt::Write;
 
@@ -14,9 +14,11 @@ pub fn verdicts(alloc: Global, cells: &[Cell]) -> Result<Vec<Verdict>, AllocErro
     ensures len { IfOk result (λ v. length v.items ≡ length cells.now + 1) }
 {
     let mut all = Vec::with_capacity(alloc, cells.len() + 1)?;
-    for k in 0..cells.len() + 1 {
-        all.push(decide(cells, k))?;
+    let mut machine = Machine::start();
+    for cell in cells {
+        all.push(machine.step(*cell))?;
     }
+    all.push(machine.finish())?;
     Ok(all)
 }
 

@@ -1,48 +1,137 @@
-//! What `decide` answers at each position of small lists of cells.
+//! What the rules say of the positions of texts over the sample files: the evaluator in both profiles, and the machines.
 
-use lbk_rules::{Cell, Class, Quote, decide};
+use crate::cells::cells_of;
+use crate::rows::{FIRST, SECOND};
+use lbk_cmd::SAMPLE_FILES;
+use lbk_rules::{Cell, CellPages, CellSource, Class, Machine, Profile, Verdict, decide_in};
+use lbk_ucd::{Files, Tables};
+use std::alloc::{AllocError, Global};
 use std::process::Abort;
+use std::test::Fail;
 
-fn plain(class: Class) -> Cell {
-    Cell {
-        class,
-        wide: false,
-        pict_cn: false,
-        quote: Quote::Neither,
-        letter: false,
+/// The labels of verdicts, one space between.
+fn labels_of(alloc: Global, verdicts: &[Verdict]) -> Result<String, AllocError> {
+    let mut labels = String::new(alloc);
+    for verdict in verdicts {
+        if !labels.is_empty() {
+            labels.push(' ')?;
+        }
+        labels.push_str(verdict.rule.label())?;
     }
+    Ok(labels)
 }
 
-fn check(rt: &impl Abort, cells: &[Cell], labels: &[&str]) {
-    assert_eq!(rt; labels.len(), cells.len() + 1);
+fn by_evaluator(
+    alloc: Global,
+    profile: Profile,
+    cells: &[Cell],
+) -> Result<Vec<Verdict>, AllocError> {
+    let mut verdicts = Vec::new(alloc);
     for k in 0..cells.len() + 1 {
-        let label = labels[k];
-        assert_eq!(rt; decide(cells, k).rule.label(), label, "position {k}");
+        verdicts.push(decide_in(profile, cells, k))?;
+    }
+    Ok(verdicts)
+}
+
+fn by_machine(alloc: Global, cells: &[Cell]) -> Result<Vec<Verdict>, AllocError> {
+    let mut verdicts = Vec::new(alloc);
+    let mut machine = Machine::start();
+    for cell in cells {
+        verdicts.push(machine.step(*cell))?;
+    }
+    verdicts.push(machine.finish())?;
+    Ok(verdicts)
+}
+
+/// Compares the labels of each text's positions with those of its row.
+fn check<C: CellSource>(
+    rt: &impl Abort,
+    alloc: Global,
+    source: &C,
+    profile: Profile,
+    rows: &[(&str, &str)],
+) -> Result<(), AllocError> {
+    for (text, labels) in rows {
+        let cells = cells_of(alloc, source, text)?;
+        let found = labels_of(alloc, &by_evaluator(alloc, profile, &cells)?)?;
+        assert_eq!(rt; found.as_str(), *labels, "{profile:?}: {text:?}");
+    }
+    Ok(())
+}
+
+/// The same for the machine.
+fn check_machine<C: CellSource>(
+    rt: &impl Abort,
+    alloc: Global,
+    source: &C,
+    rows: &[(&str, &str)],
+) -> Result<(), AllocError> {
+    for (text, labels) in rows {
+        let cells = cells_of(alloc, source, text)?;
+        let found = labels_of(alloc, &by_machine(alloc, &cells)?)?;
+        assert_eq!(rt; found.as_str(), *labels, "the machine: {text:?}");
+    }
+    Ok(())
+}
+
+#[test]
+fn sample_rows(rt: HostRuntime) -> Result<(), Fail> {
+    let tables = Tables::read(rt.alloc(), SAMPLE_FILES)?;
+    check(&rt, rt.alloc(), &tables, Profile::First, &FIRST)?;
+    check(&rt, rt.alloc(), &tables, Profile::Second, &SECOND)?;
+    check_machine(&rt, rt.alloc(), &tables, &FIRST)?;
+
+    let pages = CellPages::build(rt.alloc(), &tables)?;
+    check(&rt, rt.alloc(), &pages, Profile::First, &FIRST)?;
+    check(&rt, rt.alloc(), &pages, Profile::Second, &SECOND)?;
+    check_machine(&rt, rt.alloc(), &pages, &FIRST)?;
+    Ok(())
+}
+
+/// Property files of which only the first says something.
+fn line_break_alone(line_break: &[u8]) -> Files<'_> {
+    Files {
+        line_break,
+        east_asian: b"",
+        category: b"",
+        emoji: b"",
     }
 }
 
 #[test]
-fn plain_classes(rt: HostRuntime) {
-    let letter = plain(Class::Alphabetic);
-    let joiner = plain(Class::ZWJ);
-    let base = plain(Class::EBase);
-    check(&rt, &[], &["2"]);
+fn other_files(rt: HostRuntime) -> Result<(), Fail> {
+    let tables = Tables::read(rt.alloc(), line_break_alone(b""))?;
     check(
         &rt,
-        &[letter, plain(Class::ZWSpace), letter],
-        &["2", "7", "8", "3"],
-    );
-    check(&rt, &[base, joiner, base], &["2", "9", "8a", "3"]);
-    check(&rt, &[joiner, letter], &["2", "8a", "3"]);
-    check(
-        &rt,
-        &[plain(Class::MandatoryBreak), letter],
-        &["2", "4", "3"],
-    );
-    check(&rt, &[plain(Class::NextLine), letter], &["2", "5", "3"]);
-    check(
-        &rt,
-        &[letter, plain(Class::CarriageReturn)],
-        &["2", "6", "3"],
-    );
+        rt.alloc(),
+        &tables,
+        Profile::First,
+        &[("a ", "2 28 3")],
+    )?;
+
+    let tables = Tables::read(
+        rt.alloc(),
+        line_break_alone(b"00FF;ID\n0100;CL\n10FFFF;ID\n"),
+    )?;
+    let pages = CellPages::build(rt.alloc(), &tables)?;
+    for (c, class) in [
+        ('\u{FE}', Class::Alphabetic),
+        ('\u{FF}', Class::Ideographic),
+        ('\u{100}', Class::ClosePunctuation),
+        ('\u{101}', Class::Alphabetic),
+        ('\u{10FFFE}', Class::Alphabetic),
+        ('\u{10FFFF}', Class::Ideographic),
+    ] {
+        assert_eq!(rt; pages.cell(c).class, class, "{c:?}");
+    }
+
+    let tables = Tables::read(
+        rt.alloc(),
+        line_break_alone(b"# @missing: 0000..10FFFF; CB"),
+    )?;
+    let pages = CellPages::build(rt.alloc(), &tables)?;
+    for c in '\0'..=char::MAX {
+        assert_eq!(rt; pages.cell(c).class, Class::ContingentBreak, "{c:?}");
+    }
+    Ok(())
 }

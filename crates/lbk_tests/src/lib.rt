@@ -2,6 +2,12 @@
 #![tactic(auto)]
 
 #[cfg(test)]
+mod agreement;
+#[cfg(test)]
+mod cells;
+#[cfg(test)]
 mod decided;
+#[cfg(test)]
+mod rows;
 #[cfg(test)]
 mod shown;
