@@ -8,16 +8,16 @@ use Rattle.lbk_feed.specs.declared.faults.TheConstants.{TEXT_MAX}
 abbrev pub well_formed_prefix : List ℕ → List ℕ
 well_formed_prefix bs = take (utf8_valid_len bs) bs
 
+-- what follows it
+abbrev pub after_prefix : List ℕ → List ℕ
+after_prefix bs = drop (utf8_valid_len bs) bs
+
 -- front begins bs and is a text, and no longer prefix of bs is one
 pub record IsLongestText (bs front : List ℕ) : Type 0 where
   pub rest : List ℕ
   pub begins : bs ≡ front ++ rest
   pub text : IsUtf8 front
   pub longest : (other more : List ℕ) → bs ≡ other ++ more → IsUtf8 other → length other ≤ length front
-
--- what follows it
-abbrev pub after_prefix : List ℕ → List ℕ
-after_prefix bs = drop (utf8_valid_len bs) bs
 
 -- some bytes of one scalar, from its first, but not all of them
 pub record IsCutScalar (bs : List ℕ) : Type 0 where
