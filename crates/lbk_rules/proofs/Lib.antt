@@ -4,3 +4,5 @@ pub mod LookAheadLemmas
 pub mod ParagraphLemmas
 pub mod MachineLemmas
 pub mod WritingLemmas
+pub mod HeldLemmas
+pub mod WaitingLemmas

@@ -2,7 +2,9 @@ pub mod Chain
 pub mod Classes
 pub mod Facts
 pub mod Fits
+pub mod Held
 pub mod Labels
+pub mod LateFits
 pub mod Resolve
 pub mod Rules
 pub mod Sides

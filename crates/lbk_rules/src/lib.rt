@@ -9,6 +9,7 @@ mod classes;
 mod evaluator;
 mod facts;
 mod forward;
+mod late;
 pub mod laws;
 mod resolution;
 mod table;
@@ -18,6 +19,7 @@ pub use cells::{Cell, CellSource};
 pub use classes::{Class, Quote};
 pub use evaluator::{decide, decide_in};
 pub use forward::{Machine, decide_all};
+pub use late::{End, LateMachine, Out};
 pub use resolution::resolve;
 pub use verdicts::{Kind, Profile, Rule, Verdict};
 
