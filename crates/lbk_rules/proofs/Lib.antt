@@ -6,3 +6,4 @@ pub mod MachineLemmas
 pub mod WritingLemmas
 pub mod HeldLemmas
 pub mod WaitingLemmas
+pub mod CoverLemmas

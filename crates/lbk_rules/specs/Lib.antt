@@ -1,3 +1,4 @@
+pub mod Answers
 pub mod Chain
 pub mod Classes
 pub mod Facts

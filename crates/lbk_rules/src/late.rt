@@ -1,4 +1,6 @@
-ghost use Rattle.std.specs.Prelude.{◌≡◌, ◌+◌, ◌<◌, ℕ, List, [], ◌∷◌, ◌++◌, length, reverse, Some, None, if◌then◌else◌};
+ghost use Rattle.std.specs.Prelude.{◌≡◌, ◌+◌, ◌<◌, ◌≤◌, ℕ, List, [], ◌∷◌, ◌++◌, length, reverse, Some, None, if◌then◌else◌, slice_get, option_map};
+ghost use Rattle.std.specs.Option.{ForSome};
+ghost use Rattle.lbk_rules.specs.Answers.{count_of, written};
 ghost use Rattle.lbk_rules.specs.Verdict.{verdict_in};
 ghost use Rattle.lbk_rules.specs.Held.{answer_at, is_15b, late_at, now_at};
 
@@ -172,5 +174,59 @@ fn unless_held(verdict: Verdict) -> Option<Verdict>
         None
     } else {
         Some(verdict)
+    }
+}
+
+/// Writes the verdict of every position of a text, all its paragraphs, by one late machine, and tells how
+/// many answers came: as many as positions, so that each position's came once.
+pub fn decide_all_in(profile: Profile, cells: &[Cell], verdicts: &mut [Verdict]) -> usize
+    requires { length verdicts.old ≡ length cells.now + 1 }
+    ensures each { (k : ℕ) → k ≤ length cells.now
+        → slice_get verdicts.new k ≡ Some (verdict_in profile cells.now k) }
+    ensures once { result ≡ length cells.now + 1 }
+{
+    let mut machine = LateMachine::start(profile);
+    let mut answers = 0;
+    let last = verdicts.len() - 1;
+    for (k, cell) in cells.iter().enumerate() {
+        let out = machine.step(*cell);
+        answers += write_late(verdicts, out.late);
+        answers += write_now(verdicts, k, out.now);
+    }
+    let end = machine.finish();
+    answers += write_late(verdicts, end.late);
+    verdicts[last] = end.end;
+    answers + 1
+}
+
+/// Writes an answer at its position, if there is one, and tells how many there were.
+fn write_late(verdicts: &mut [Verdict], late: Option<(u64, Verdict)>) -> usize
+    requires { ForSome late (λ answer. answer.0 < length verdicts.old) }
+    ensures list { verdicts.new ≡ written late verdicts.old }
+    ensures count { result ≡ count_of late }
+    ensures few { result ≤ 1 }
+{
+    match late {
+        None => 0,
+        Some((position, verdict)) => {
+            verdicts[position as usize] = verdict;
+            1
+        }
+    }
+}
+
+/// Writes the verdict of position `k`, if there is one, and tells how many there were.
+fn write_now(verdicts: &mut [Verdict], k: usize, now: Option<Verdict>) -> usize
+    requires { k < length verdicts.old }
+    ensures list { verdicts.new ≡ written (option_map (λ verdict. (k, verdict)) now) verdicts.old }
+    ensures count { result ≡ count_of now }
+    ensures few { result ≤ 1 }
+{
+    match now {
+        None => 0,
+        Some(verdict) => {
+            verdicts[k] = verdict;
+            1
+        }
     }
 }

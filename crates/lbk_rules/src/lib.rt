@@ -19,7 +19,7 @@ pub use cells::{Cell, CellSource};
 pub use classes::{Class, Quote};
 pub use evaluator::{decide, decide_in};
 pub use forward::{Machine, decide_all};
-pub use late::{End, LateMachine, Out};
+pub use late::{End, LateMachine, Out, decide_all_in};
 pub use resolution::resolve;
 pub use verdicts::{Kind, Profile, Rule, Verdict};
 
