@@ -117,7 +117,7 @@ or-true true = refl
 or-true false = refl
 
 -- the cell after a held position heads a unit
-held-heads : (profile : Profile) (left : List Cell) (cell : Cell) (more : List Cell)
+pub held-heads : (profile : Profile) (left : List Cell) (cell : Cell) (more : List Cell)
     → is_held profile left (cell ∷ more) ≡ true → heads (reverse left) cell ≡ true
 unfolding is_held
 held-heads First left cell more held = absurd (false≢true held)

@@ -7,3 +7,4 @@ pub mod WritingLemmas
 pub mod HeldLemmas
 pub mod WaitingLemmas
 pub mod CoverLemmas
+pub mod UnansweredLemmas

@@ -48,7 +48,7 @@ held-here profile side cell =
     is_held-chain profile (reverse side) cell []
     ∙ ap (λ l. is_15b (from_cells profile l (cell ∷ [])).rule) (reverse-reverse side)
 
-abbrev position_of : Option Held → Option ℕ
+abbrev pub position_of : Option Held → Option ℕ
 position_of held = option_map (λ h. h.position) held
 
 pub unanswered-waiting : (profile : Profile) (side : Side) → unanswered_before profile side ≡ position_of (waiting profile side)
@@ -68,27 +68,31 @@ unanswered-waiting profile (cell ∷ side) =
     ])
 
 -- where a position waits, only marks came after its quotation mark
-pub record Waits (side : Side) (held : Held) : Type 0 where
+pub record Waits (profile : Profile) (side : Side) (held : Held) : Type 0 where
   pub far : Side
   pub marks : List Cell
   pub cells_same : reverse side ≡ reverse far ++ held.quotation ∷ marks
   pub position_same : held.position ≡ length far
   pub left_same : facts far ≡ held.left
+  pub held_there : is_15b (from_cells profile far (held.quotation ∷ [])).rule ≡ true
   pub still_open : (rest : List Cell)
       → units_after (hard held.quotation.class) (marks ++ rest) ≡ units_after (hard (nearest side).class) rest
 
-Waits-here : (cell : Cell) (side : Side) → Waits (cell ∷ side) (record { position = length side; left = facts side; quotation = cell })
-Waits-here cell side = record {
+Waits-here : (profile : Profile) (cell : Cell) (side : Side) → is_15b (from_cells profile side (cell ∷ [])).rule ≡ true
+    → Waits profile (cell ∷ side) (record { position = length side; left = facts side; quotation = cell })
+Waits-here profile cell side here = record {
   far = side;
   marks = [];
   cells_same = reverse-cons cell side;
   position_same = refl;
   left_same = refl;
+  held_there = here;
   still_open = λ rest. refl;
 }
 
-Waits-more : (cell : Cell) (side : Side) (held : Held) → heads side cell ≡ false → Waits side held → Waits (cell ∷ side) held
-Waits-more cell side held joins w = record {
+Waits-more : (profile : Profile) (cell : Cell) (side : Side) (held : Held) → heads side cell ≡ false → Waits profile side held
+    → Waits profile (cell ∷ side) held
+Waits-more profile cell side held joins w = record {
   far = w.far;
   marks = w.marks ++ cell ∷ [];
   cells_same =
@@ -96,31 +100,33 @@ Waits-more cell side held joins w = record {
       ∙ append_assoc (reverse w.far) (held.quotation ∷ w.marks) (cell ∷ []);
   position_same = w.position_same;
   left_same = w.left_same;
+  held_there = w.held_there;
   still_open = λ rest.
       ap (λ l. units_after (hard held.quotation.class) l) (append_assoc w.marks (cell ∷ []) rest)
       ∙ w.still_open (cell ∷ rest)
       ∙ ap (λ v. cond v (unit cell ∷ units_after (hard cell.class) rest) (units_after (hard cell.class) rest)) joins;
 }
 
-Waits-waiting : (profile : Profile) (side : Side) (held : Held) → waiting profile side ≡ Some held → Waits side held
+pub Waits-waiting : (profile : Profile) (side : Side) (held : Held) → waiting profile side ≡ Some held → Waits profile side held
 unfolding waiting
 Waits-waiting profile [] held = λ e. (let no : ⊥ = cc in absurd no)
 Waits-waiting profile (cell ∷ side) held =
-    elim (is_15b (from_cells profile side (cell ∷ [])).rule)
-    as (λ v. cond v (Some (record { position = length side; left = facts side; quotation = cell })) (cond (heads side cell) None (waiting profile side)) ≡ Some held
-    → Waits (cell ∷ side) held) [
-      | true ↦ λ e.
+    (elim (is_15b (from_cells profile side (cell ∷ [])).rule)
+    as (λ v. is_15b (from_cells profile side (cell ∷ [])).rule ≡ v
+    → cond v (Some (record { position = length side; left = facts side; quotation = cell })) (cond (heads side cell) None (waiting profile side)) ≡ Some held
+    → Waits profile (cell ∷ side) held) [
+      | true ↦ λ there e.
           let here : Held = record { position = length side; left = facts side; quotation = cell } in
           let same : here ≡ held = cc in
-          let P : Held → Type 0 = λ h. Waits (cell ∷ side) h in
-          subst P same (Waits-here cell side)
-      | false ↦
+          let P : Held → Type 0 = λ h. Waits profile (cell ∷ side) h in
+          subst P same (Waits-here profile cell side there)
+      | false ↦ λ _.
           (elim (heads side cell)
-          as (λ w. heads side cell ≡ w → cond w None (waiting profile side) ≡ Some held → Waits (cell ∷ side) held) [
+          as (λ w. heads side cell ≡ w → cond w None (waiting profile side) ≡ Some held → Waits profile (cell ∷ side) held) [
             | true ↦ λ _ e. (let no : ⊥ = cc in absurd no)
-            | false ↦ λ joins e. Waits-more cell side held joins (Waits-waiting profile side held e)
+            | false ↦ λ joins e. Waits-more profile cell side held joins (Waits-waiting profile side held e)
           ]) refl
-    ]
+    ]) refl
 
 -- the answer that the machine gives is the verdict of the position that waits
 pub answer-waiting : (profile : Profile) (cells more : List Cell) (held : Held) (closes : Bool) (verdict : Verdict)
