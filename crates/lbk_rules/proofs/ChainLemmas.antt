@@ -12,7 +12,7 @@ use Rattle.lbk_rules.specs.Chain.{choose, from_11, from_14, from_15, from_16, fr
 use Rattle.lbk_rules.specs.Verdict.{verdict_between_in}
 use Rattle.lbk_rules.proofs.FactsLemmas.{units_before-reverse}
 
-choose-append : (a b : List Line) (left right : Side) (otherwise : Verdict)
+pub choose-append : (a b : List Line) (left right : Side) (otherwise : Verdict)
     → choose (a ++ b) left right otherwise ≡ choose a left right (choose b left right otherwise)
 choose-append [] b left right otherwise = refl
 choose-append (line ∷ a) b left right otherwise =

@@ -41,7 +41,7 @@ Sees-facts cell side left e =
     )
 
 -- cells put before a side one by one
-abbrev onto : List Cell → Side → Side
+abbrev pub onto : List Cell → Side → Side
 onto [] side = side
 onto (cell ∷ cells) side = onto cells (cell ∷ side)
 
@@ -52,7 +52,7 @@ onto-reverse (cell ∷ cells) side =
     ∙ sym (append_assoc (reverse cells) (cell ∷ []) side)
     ∙ sym (ap (λ s. s ++ side) (reverse-append (cell ∷ []) cells))
 
-onto-nil : (cells : List Cell) → onto cells [] ≡ reverse cells
+pub onto-nil : (cells : List Cell) → onto cells [] ≡ reverse cells
 onto-nil cells = onto-reverse cells [] ∙ append-nil (reverse cells)
 
 -- the units of a list, read outwards, are those of the list read outwards

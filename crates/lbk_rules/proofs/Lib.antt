@@ -7,3 +7,7 @@ pub mod PagesOfText
 pub mod ParagraphLemmas
 pub mod WordLemmas
 pub mod WritingLemmas
+pub mod HeldLemmas
+pub mod WaitingLemmas
+pub mod CoverLemmas
+pub mod UnansweredLemmas

@@ -39,7 +39,7 @@ unfolding from_19 hyphen_rules
 from_19-right left right a b =
     ap (λ v. choose hyphen_rules left (right ∷ a) v) (from_23-right left right a b)
 
-from_16-right : (left : Side) (right : Cell) (a b : Side) → from_16 left (right ∷ a) ≡ from_16 left (right ∷ b)
+pub from_16-right : (left : Side) (right : Cell) (a b : Side) → from_16 left (right ∷ a) ≡ from_16 left (right ∷ b)
 unfolding from_16 space_rules
 from_16-right left right a b =
     ap (λ v. choose space_rules left (right ∷ a) v) (from_19-right left right a b)

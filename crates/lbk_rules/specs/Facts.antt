@@ -20,11 +20,15 @@ abbrev pub nearest : Side → Cell
 nearest [] = space
 nearest (cell ∷ _) = cell
 
+-- a cell after these heads a unit
+abbrev pub heads : Side → Cell → Bool
+heads side cell = hard (nearest side).class || none_of mark cell.class
+
 -- the units of the cells on the left, read outwards
 abbrev pub units_before : Side → Side
 units_before [] = []
 units_before (cell ∷ side) =
-    if hard (nearest side).class || none_of mark cell.class
+    if heads side cell
     then unit cell ∷ units_before side
     else units_before side
 

@@ -1,9 +1,12 @@
+pub mod Answers
 pub mod CellPages
 pub mod Chain
 pub mod Classes
 pub mod Facts
 pub mod Fits
+pub mod Held
 pub mod Labels
+pub mod LateFits
 pub mod Pages
 pub mod Resolve
 pub mod Rules

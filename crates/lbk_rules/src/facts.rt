@@ -1,5 +1,5 @@
 ghost use Rattle.std.specs.Prelude.{◌≡◌, [], ◌∷◌, reverse};
-ghost use Rattle.lbk_rules.specs.Facts.{facts, facts_of_units};
+ghost use Rattle.lbk_rules.specs.Facts.{facts, facts_of_units, heads};
 ghost use Rattle.lbk_rules.specs.Sides.{Side};
 
 use crate::cells::Cell;
@@ -86,6 +86,14 @@ impl Left {
         }
     }
 
+    /// Whether a cell that follows heads a unit (rules LB9 and LB10).
+    #[tactic(auto, unfolding(crate::specs::Facts::facts))]
+    pub(crate) fn heads(self, cell: Cell) -> bool
+        ensures { (side : Side) → facts side ≡ self → result ≡ heads side cell }
+    {
+        self.last.is_hard() || !cell.class.is_mark()
+    }
+
     /// What is known once a cell follows.
     #[tactic(auto, unfolding(crate::specs::Facts::facts, crate::specs::Sides::before_spaces))]
     pub(crate) fn then(self, cell: Cell) -> Left
@@ -97,7 +105,7 @@ impl Left {
         } else {
             cell.class.is(Class::ZWSpace)
         };
-        let heads = self.last.is_hard() || !cell.class.is_mark();
+        let heads = self.heads(cell);
         let units = if heads {
             self.units.then(cell.unit())
         } else {

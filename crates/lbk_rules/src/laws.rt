@@ -1,10 +1,11 @@
 //! What the verdicts of a text have in common, over the definitions alone. Each law is the contract of a
 //! function that does nothing.
-ghost use Rattle.std.specs.Prelude.{◌≡◌, ℕ, ◌+◌, ◌-◌, ◌<◌, ◌≤◌, ◌⊎◌, List, ◌∷◌, ◌++◌, length, take, drop, IsSome};
+ghost use Rattle.std.specs.Prelude.{◌≡◌, ℕ, ◌+◌, ◌-◌, ◌<◌, ◌≤◌, ◌⊎◌, List, ◌∷◌, ◌++◌, length, take, drop, IsSome, IsTrue, Some, None};
 ghost use Rattle.lbk_rules.specs.declared.cells.Cell.{Cell};
 ghost use Rattle.lbk_rules.specs.declared.verdicts.Kind.TheVariants.{Must};
 ghost use Rattle.lbk_rules.specs.declared.verdicts.Profile.{Profile};
 ghost use Rattle.lbk_rules.specs.declared.verdicts.Profile.TheVariants.{First, Second};
+ghost use Rattle.lbk_rules.specs.Held.{is_held, unanswered};
 ghost use Rattle.lbk_rules.specs.Units.{next_unit};
 ghost use Rattle.lbk_rules.specs.Verdict.{verdict, verdict_in, verdict_between, verdict_between_in};
 
@@ -48,4 +49,20 @@ pub fn look_ahead_second()
 pub fn look_ahead_second_between()
     ensures { (left a b : List Cell) → take 1 a ≡ take 1 b → next_unit a ≡ next_unit b
         → verdict_between_in Second left a ≡ verdict_between_in Second left b }
+{}
+
+/// What waits in the second profile: a position is unanswered after some cells where it is held and no
+/// unit has come after its closing quotation mark.
+pub fn unanswered_position()
+    ensures { (profile : Profile) (cells : List Cell) (p : ℕ) → unanswered profile cells ≡ Some p
+        → (p < length cells) × IsTrue (is_held profile (take p cells) (drop p cells))
+        × (next_unit (drop p cells) ≡ None) }
+{}
+
+/// At most one position is unanswered, the one that a machine names: each position that is held and after
+/// whose quotation mark no unit has come.
+pub fn unanswered_alone()
+    ensures { (profile : Profile) (cells : List Cell) (p : ℕ) → p < length cells
+        → IsTrue (is_held profile (take p cells) (drop p cells)) → next_unit (drop p cells) ≡ None
+        → unanswered profile cells ≡ Some p }
 {}

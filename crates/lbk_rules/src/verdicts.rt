@@ -1,4 +1,6 @@
-ghost use Rattle.std.specs.Prelude.{◌≡◌};
+ghost use Rattle.std.specs.Prelude.{◌≡◌, []};
+ghost use Rattle.lbk_rules.specs.Facts.{closes_in};
+ghost use Rattle.lbk_rules.specs.Held.{is_15b};
 ghost use Rattle.lbk_rules.specs.Labels.{label_of};
 
 /// Whether a line breaks at a position (UAX #14, section 3): `No` is `×`, `May` is `÷`, `Must`
@@ -102,12 +104,30 @@ impl Rule {
     }
 }
 
+impl Rule {
+    /// Whether it is rule 15b, which looks past the unit on the right.
+    pub(crate) fn is_15b(self) -> bool
+        ensures { result ≡ is_15b self }
+    {
+        matches!(self, Rule::Lb15b)
+    }
+}
+
 /// Which rules stand for quotation marks: `First` has rule LB15 of Unicode 15.0, `Second` the rules
 /// 15a and 15b in its place, which look at both sides of the mark.
 #[derive(Clone, Copy, PartialEq, Eq, Debug)]
 pub enum Profile {
     First,
     Second,
+}
+
+impl Profile {
+    /// Whether it is the second, in which the end of the text leaves a quotation mark closed.
+    pub(crate) fn is_second(self) -> bool
+        ensures { result ≡ closes_in self [] }
+    {
+        matches!(self, Profile::Second)
+    }
 }
 
 /// What is decided at a position, and the rule that decides it.

@@ -1,0 +1,29 @@
+-- What a late machine knows of the cells that it has taken.
+use Rattle.std.specs.Prelude.{◌≡◌, ℕ, if◌then◌else◌, List, [], ◌∷◌, length, reverse, Option, Some, None}
+use Rattle.lbk_rules.specs.declared.cells.Cell.{Cell}
+use Rattle.lbk_rules.specs.declared.late.Held.{Held}
+use Rattle.lbk_rules.specs.declared.late.LateMachine.{LateMachine}
+use Rattle.lbk_rules.specs.declared.verdicts.Profile.{Profile}
+use Rattle.lbk_rules.specs.Sides.{Side}
+use Rattle.lbk_rules.specs.Chain.{from_cells}
+use Rattle.lbk_rules.specs.Facts.{facts, heads}
+use Rattle.lbk_rules.specs.Held.{is_15b}
+
+-- the held position that waits, with what stands on its left and the quotation mark after it
+unfoldable pub waiting : Profile → Side → Option Held
+waiting profile [] = None
+waiting profile (cell ∷ side) =
+    if is_15b (from_cells profile side (cell ∷ [])).rule
+    then Some (record { position = length side; left = facts side; quotation = cell })
+    else (if heads side cell then None else waiting profile side)
+
+-- how many steps a machine has made
+unfoldable pub steps_of : LateMachine → ℕ
+steps_of machine = machine.steps
+
+-- each fact of the machine is that of the whole list, and it holds the position that waits
+pub record LateFits (machine : LateMachine) (profile : Profile) (cells : List Cell) : Type 0 where
+  pub profile_same : machine.profile ≡ profile
+  pub left_same : facts (reverse cells) ≡ machine.left
+  pub steps_same : steps_of machine ≡ length cells
+  pub held_same : machine.held ≡ waiting profile (reverse cells)
