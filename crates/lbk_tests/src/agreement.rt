@@ -1,6 +1,6 @@
 //! The machines say of every short list of cells what the evaluator says.
 
-use lbk_rules::{Cell, Class, Machine, Profile, Quote, decide, decide_in};
+use lbk_rules::{Cell, Class, LateMachine, Machine, Profile, Quote, Verdict, decide, decide_in};
 use std::alloc::{AllocError, Global};
 use std::process::Abort;
 use std::test::Fail;
@@ -98,6 +98,63 @@ fn machine(rt: HostRuntime) -> Result<(), Fail> {
         for second in &cells {
             for third in &cells {
                 check_machine(&rt, &[*first, *second, *third]);
+            }
+        }
+    }
+    Ok(())
+}
+
+/// The verdicts that have come, by their positions.
+#[derive(Clone, Copy)]
+struct Answers([Option<Verdict>; 4]);
+
+impl Answers {
+    fn add(&mut self, rt: &impl Abort, position: u64, verdict: Verdict) {
+        assert!(rt; position < 4, "position {position}");
+        let slot = &mut self.0[position as usize];
+        assert!(rt; slot.is_none(), "twice at position {position}");
+        *slot = Some(verdict);
+    }
+}
+
+fn check_late_machine(rt: &impl Abort, profile: Profile, cells: &[Cell; 3]) {
+    let mut machine = LateMachine::start(profile);
+    let mut answers = Answers([None; 4]);
+    for (k, cell) in (0u64..).zip(cells) {
+        assert_eq!(rt; machine.steps(), k);
+        let out = machine.step(*cell);
+        if let Some((position, verdict)) = out.late {
+            answers.add(rt, position, verdict);
+        }
+        if let Some(verdict) = out.now {
+            answers.add(rt, k, verdict);
+        }
+    }
+    let end = machine.finish();
+    if let Some((position, verdict)) = end.late {
+        answers.add(rt, position, verdict);
+    }
+    answers.add(rt, 3, end.end);
+    for (k, answer) in answers.0.iter().enumerate() {
+        assert_eq!(rt;
+            *answer,
+            Some(decide_in(profile, cells, k)),
+            "{k} of {cells:?}"
+        );
+    }
+}
+
+#[test]
+fn late_machine(rt: HostRuntime) -> Result<(), Fail> {
+    let mut cells = all_cells(rt.alloc())?;
+    cells.push(mark(Quote::Initial))?;
+    cells.push(mark(Quote::Final))?;
+    assert_eq!(rt; cells.len(), 43);
+    for first in &cells {
+        for second in &cells {
+            for third in &cells {
+                check_late_machine(&rt, Profile::First, &[*first, *second, *third]);
+                check_late_machine(&rt, Profile::Second, &[*first, *second, *third]);
             }
         }
     }

@@ -1,11 +1,15 @@
 //! What the rules say of the positions of texts over the sample files: the evaluator in both profiles, and the machines.
 
 use crate::cells::cells_of;
-use crate::rows::{FIRST, SECOND};
+use crate::rows::{FIRST, SECOND, STEPS};
 use lbk_cmd::SAMPLE_FILES;
-use lbk_rules::{Cell, CellPages, CellSource, Class, Machine, Profile, Verdict, decide_in};
+use lbk_rules::{
+    Cell, CellPages, CellSource, Class, Kind, LateMachine, Profile, Rule, Verdict, decide_all,
+    decide_all_in, decide_in,
+};
 use lbk_ucd::{Files, Tables};
 use std::alloc::{AllocError, Global};
+use std::fmt::Write;
 use std::process::Abort;
 use std::test::Fail;
 
@@ -33,13 +37,28 @@ fn by_evaluator(
     Ok(verdicts)
 }
 
+const BLANK: Verdict = Verdict {
+    kind: Kind::Must,
+    rule: Rule::Lb31,
+};
+
 fn by_machine(alloc: Global, cells: &[Cell]) -> Result<Vec<Verdict>, AllocError> {
-    let mut verdicts = Vec::new(alloc);
-    let mut machine = Machine::start();
-    for cell in cells {
-        verdicts.push(machine.step(*cell))?;
-    }
-    verdicts.push(machine.finish())?;
+    let mut verdicts = vec![in alloc; BLANK; cells.len() + 1]?;
+    decide_all(cells, &mut verdicts);
+    Ok(verdicts)
+}
+
+fn by_late_machine(
+    rt: &impl Abort,
+    alloc: Global,
+    profile: Profile,
+    cells: &[Cell],
+) -> Result<Vec<Verdict>, AllocError> {
+    let mut verdicts = vec![in alloc; BLANK; cells.len() + 1]?;
+    assert_eq!(rt;
+        decide_all_in(profile, cells, &mut verdicts),
+        cells.len() + 1
+    );
     Ok(verdicts)
 }
 
@@ -55,6 +74,12 @@ fn check<C: CellSource>(
         let cells = cells_of(alloc, source, text)?;
         let found = labels_of(alloc, &by_evaluator(alloc, profile, &cells)?)?;
         assert_eq!(rt; found.as_str(), *labels, "{profile:?}: {text:?}");
+        let found = labels_of(alloc, &by_late_machine(rt, alloc, profile, &cells)?)?;
+        assert_eq!(rt;
+            found.as_str(),
+            *labels,
+            "the late machine, {profile:?}: {text:?}"
+        );
     }
     Ok(())
 }
@@ -74,12 +99,54 @@ fn check_machine<C: CellSource>(
     Ok(())
 }
 
+/// What each step of the late machine answers, in the notation of `STEPS`.
+fn steps_of(alloc: Global, profile: Profile, cells: &[Cell]) -> Result<String, AllocError> {
+    let mut steps = String::new(alloc);
+    let mut machine = LateMachine::start(profile);
+    for cell in cells {
+        let out = machine.step(*cell);
+        steps.push_str(out.now.map_or("-", |verdict| verdict.rule.label()))?;
+        push_late(&mut steps, out.late)?;
+        steps.push(' ')?;
+    }
+    let end = machine.finish();
+    steps.push_str(end.end.rule.label())?;
+    push_late(&mut steps, end.late)?;
+    Ok(steps)
+}
+
+fn push_late(steps: &mut String, late: Option<(u64, Verdict)>) -> Result<(), AllocError> {
+    if let Some((position, verdict)) = late {
+        let label = verdict.rule.label();
+        write!(steps, ",{position}:{label}")?;
+    }
+    Ok(())
+}
+
+/// Compares the steps of the late machine over each text with those of its row.
+fn check_steps<C: CellSource>(
+    rt: &impl Abort,
+    alloc: Global,
+    source: &C,
+    profile: Profile,
+    rows: &[(&str, &str)],
+) -> Result<(), AllocError> {
+    for (text, steps) in rows {
+        let cells = cells_of(alloc, source, text)?;
+        let found = steps_of(alloc, profile, &cells)?;
+        assert_eq!(rt; found.as_str(), *steps, "{profile:?}: {text:?}");
+    }
+    Ok(())
+}
+
 #[test]
 fn sample_rows(rt: HostRuntime) -> Result<(), Fail> {
     let tables = Tables::read(rt.alloc(), SAMPLE_FILES)?;
     check(&rt, rt.alloc(), &tables, Profile::First, &FIRST)?;
     check(&rt, rt.alloc(), &tables, Profile::Second, &SECOND)?;
     check_machine(&rt, rt.alloc(), &tables, &FIRST)?;
+    check_steps(&rt, rt.alloc(), &tables, Profile::First, &FIRST)?;
+    check_steps(&rt, rt.alloc(), &tables, Profile::Second, &STEPS)?;
 
     let pages = CellPages::build(rt.alloc(), &tables)?;
     check(&rt, rt.alloc(), &pages, Profile::First, &FIRST)?;

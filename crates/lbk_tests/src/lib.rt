@@ -8,6 +8,8 @@ mod cells;
 #[cfg(test)]
 mod decided;
 #[cfg(test)]
+mod laws;
+#[cfg(test)]
 mod rows;
 #[cfg(test)]
 mod shown;

@@ -26,6 +26,80 @@ fn line_break_fault(alloc: Global, bytes: &[u8]) -> Option<(u32, UcdCause)> {
     }
 }
 
+/// Codes, and what the samples say of them.
+const SAMPLE_ROWS: [(u32, LineBreak, EastAsian, Category, bool); 10] = [
+    (
+        0x23,
+        LineBreak::Alphabetic,
+        EastAsian::Narrow,
+        Category::Po,
+        false,
+    ),
+    (
+        0x61,
+        LineBreak::Alphabetic,
+        EastAsian::Narrow,
+        Category::Ll,
+        false,
+    ),
+    (
+        0xE31,
+        LineBreak::ComplexContext,
+        EastAsian::Neutral,
+        Category::Mn,
+        false,
+    ),
+    (
+        0x20A9,
+        LineBreak::Unknown,
+        EastAsian::Halfwidth,
+        Category::Sc,
+        false,
+    ),
+    (
+        0x3042,
+        LineBreak::Unknown,
+        EastAsian::Neutral,
+        Category::Cn,
+        false,
+    ),
+    (
+        0xD800,
+        LineBreak::Surrogate,
+        EastAsian::Neutral,
+        Category::Cs,
+        false,
+    ),
+    (
+        0x1F3FB,
+        LineBreak::EModifier,
+        EastAsian::Wide,
+        Category::Sk,
+        false,
+    ),
+    (
+        0x1F466,
+        LineBreak::EBase,
+        EastAsian::Wide,
+        Category::So,
+        true,
+    ),
+    (
+        0x1FAFF,
+        LineBreak::Ideographic,
+        EastAsian::Neutral,
+        Category::Cn,
+        true,
+    ),
+    (
+        0x10FFFF,
+        LineBreak::Unknown,
+        EastAsian::Neutral,
+        Category::Cn,
+        false,
+    ),
+];
+
 #[test]
 fn samples_answer(rt: HostRuntime) -> Result<(), Fail> {
     let tables = Tables::read(
@@ -37,78 +111,7 @@ fn samples_answer(rt: HostRuntime) -> Result<(), Fail> {
             emoji: SAMPLE_EMOJI,
         },
     )?;
-    for (code, line_break, east_asian, category, is_pictographic) in [
-        (
-            0x23,
-            LineBreak::Alphabetic,
-            EastAsian::Narrow,
-            Category::Po,
-            false,
-        ),
-        (
-            0x61,
-            LineBreak::Alphabetic,
-            EastAsian::Narrow,
-            Category::Ll,
-            false,
-        ),
-        (
-            0xE31,
-            LineBreak::ComplexContext,
-            EastAsian::Neutral,
-            Category::Mn,
-            false,
-        ),
-        (
-            0x20A9,
-            LineBreak::Unknown,
-            EastAsian::Halfwidth,
-            Category::Sc,
-            false,
-        ),
-        (
-            0x3042,
-            LineBreak::Unknown,
-            EastAsian::Neutral,
-            Category::Cn,
-            false,
-        ),
-        (
-            0xD800,
-            LineBreak::Surrogate,
-            EastAsian::Neutral,
-            Category::Cs,
-            false,
-        ),
-        (
-            0x1F3FB,
-            LineBreak::EModifier,
-            EastAsian::Wide,
-            Category::Sk,
-            false,
-        ),
-        (
-            0x1F466,
-            LineBreak::EBase,
-            EastAsian::Wide,
-            Category::So,
-            true,
-        ),
-        (
-            0x1FAFF,
-            LineBreak::Ideographic,
-            EastAsian::Neutral,
-            Category::Cn,
-            true,
-        ),
-        (
-            0x10FFFF,
-            LineBreak::Unknown,
-            EastAsian::Neutral,
-            Category::Cn,
-            false,
-        ),
-    ] {
+    for (code, line_break, east_asian, category, is_pictographic) in SAMPLE_ROWS {
         assert!(rt; code <= 0x10FFFF);
         assert_eq!(rt; tables.line_break(code), line_break, "at {code:x}");
         assert_eq!(rt; tables.east_asian(code), east_asian, "at {code:x}");

@@ -1,0 +1,26 @@
+//! The laws over definitions can be called.
+
+use lbk_rules::words;
+use lbk_ucd::LineBreak;
+
+#[test]
+fn laws() {
+    lbk_feed::laws::prefix_is_longest_text();
+    lbk_feed::laws::faults_exclude_each_other();
+    lbk_ucd::laws::lines_say_what_the_grammar_has();
+    lbk_ucd::laws::lines_make_up_the_file();
+    lbk_ucd::laws::shared_codes_are_held::<LineBreak>();
+    lbk_ucd::laws::files_have_one_fault_or_none::<LineBreak>();
+    lbk_ucd::laws::kept_rows_are_apart::<LineBreak>();
+    lbk_rules::laws::paragraph();
+    lbk_rules::laws::paragraph_between();
+    lbk_rules::laws::look_ahead();
+    lbk_rules::laws::look_ahead_between();
+    lbk_rules::laws::look_ahead_second();
+    lbk_rules::laws::look_ahead_second_between();
+    lbk_rules::laws::unanswered_position();
+    lbk_rules::laws::unanswered_alone();
+    words::spaces();
+    words::indicators();
+    words::heads();
+}
