@@ -4,6 +4,7 @@
 mod cells;
 mod engine;
 mod faults;
+pub mod laws;
 mod line;
 
 pub use cells::{SAMPLE_FILES, read_cells};

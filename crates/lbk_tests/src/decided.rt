@@ -4,8 +4,8 @@ use crate::cells::cells_of;
 use crate::rows::{FIRST, SECOND, STEPS};
 use lbk_cmd::SAMPLE_FILES;
 use lbk_rules::{
-    Cell, CellPages, CellSource, Class, Kind, LateMachine, Profile, Rule, Verdict, decide_all,
-    decide_all_in, decide_in,
+    Cell, CellPages, CellSource, Class, Kind, LateMachine, Profile, Rule, Verdict, decide,
+    decide_all, decide_all_in, decide_in,
 };
 use lbk_ucd::{Files, Tables};
 use std::alloc::{AllocError, Global};
@@ -41,6 +41,14 @@ const BLANK: Verdict = Verdict {
     kind: Kind::Must,
     rule: Rule::Lb31,
 };
+
+fn by_plain_evaluator(alloc: Global, cells: &[Cell]) -> Result<Vec<Verdict>, AllocError> {
+    let mut verdicts = Vec::new(alloc);
+    for k in 0..cells.len() + 1 {
+        verdicts.push(decide(cells, k))?;
+    }
+    Ok(verdicts)
+}
 
 fn by_machine(alloc: Global, cells: &[Cell]) -> Result<Vec<Verdict>, AllocError> {
     let mut verdicts = vec![in alloc; BLANK; cells.len() + 1]?;
@@ -84,8 +92,8 @@ fn check<C: CellSource>(
     Ok(())
 }
 
-/// The same for the machine.
-fn check_machine<C: CellSource>(
+/// The same for the plain evaluator and its machine, which know the first profile alone.
+fn check_first<C: CellSource>(
     rt: &impl Abort,
     alloc: Global,
     source: &C,
@@ -93,6 +101,8 @@ fn check_machine<C: CellSource>(
 ) -> Result<(), AllocError> {
     for (text, labels) in rows {
         let cells = cells_of(alloc, source, text)?;
+        let found = labels_of(alloc, &by_plain_evaluator(alloc, &cells)?)?;
+        assert_eq!(rt; found.as_str(), *labels, "{text:?}");
         let found = labels_of(alloc, &by_machine(alloc, &cells)?)?;
         assert_eq!(rt; found.as_str(), *labels, "the machine: {text:?}");
     }
@@ -144,14 +154,14 @@ fn sample_rows(rt: HostRuntime) -> Result<(), Fail> {
     let tables = Tables::read(rt.alloc(), SAMPLE_FILES)?;
     check(&rt, rt.alloc(), &tables, Profile::First, &FIRST)?;
     check(&rt, rt.alloc(), &tables, Profile::Second, &SECOND)?;
-    check_machine(&rt, rt.alloc(), &tables, &FIRST)?;
+    check_first(&rt, rt.alloc(), &tables, &FIRST)?;
     check_steps(&rt, rt.alloc(), &tables, Profile::First, &FIRST)?;
     check_steps(&rt, rt.alloc(), &tables, Profile::Second, &STEPS)?;
 
     let pages = CellPages::build(rt.alloc(), &tables)?;
     check(&rt, rt.alloc(), &pages, Profile::First, &FIRST)?;
     check(&rt, rt.alloc(), &pages, Profile::Second, &SECOND)?;
-    check_machine(&rt, rt.alloc(), &pages, &FIRST)?;
+    check_first(&rt, rt.alloc(), &pages, &FIRST)?;
     Ok(())
 }
 
