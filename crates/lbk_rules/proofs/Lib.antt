@@ -5,7 +5,7 @@ pub mod MachineLemmas
 pub mod PagesLemmas
 pub mod PagesOfText
 pub mod ParagraphLemmas
-pub mod WordLemmas
+pub mod AnnexLemmas
 pub mod WritingLemmas
 pub mod HeldLemmas
 pub mod WaitingLemmas
