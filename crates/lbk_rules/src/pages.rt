@@ -21,11 +21,12 @@ const PAGE_COUNT: u32 = 4352;
 /// The cells of 256 codes that follow one another.
 type Page = [Cell; PAGE_LENGTH];
 
-/// A cell that all codes up to `last` have.
+/// The cell that all codes from `first` to `last` have.
 #[derive(Clone, Copy)]
 struct CellRun {
-    cell: Cell,
+    first: u32,
     last: u32,
+    cell: Cell,
 }
 
 /// Something that knows the cells of ranges of codes.
@@ -38,8 +39,8 @@ trait CellRuns {
     /// The cell of a code, and a last code up to which all codes have it.
     fn cell_run(&self, code: u32) -> CellRun
         requires { code ≤ 0x10FFFF }
-        ensures last { (code ≤ result.last) × (result.last ≤ 0x10FFFF) }
-        ensures same { AreSame (cell_at self.now) code result.last result.cell };
+        ensures ends { (result.first ≡ code) × (code ≤ result.last) × (result.last ≤ 0x10FFFF) }
+        ensures same { AreSame (cell_at self.now) result.first result.last result.cell };
 }
 
 impl CellRuns for Tables {
@@ -51,13 +52,14 @@ impl CellRuns for Tables {
     fn cell_run(&self, code: u32) -> CellRun {
         let run = self.run(code);
         CellRun {
+            first: code,
+            last: run.last,
             cell: resolve(
                 run.line_break,
                 run.east_asian,
                 run.category,
                 run.is_pictographic,
             ),
-            last: run.last,
         }
     }
 }
@@ -96,8 +98,14 @@ impl CellPages {
         let mut run = source.cell_run(0);
         let mut page = [run.cell; PAGE_LENGTH];
         for k in 0..PAGE_COUNT {
-            run = fill(&mut page, source, run, PAGE_LENGTH as u32 * k);
-            numbers.push(kept.number_of(&page)?)?;
+            let first = 256 * k;
+            if run.first + 256 <= first && first + 255 <= run.last {
+                let number = numbers[k as usize - 1];
+                numbers.push(number)?;
+            } else {
+                run = fill(&mut page, source, run, first);
+                numbers.push(kept.number_of(&page)?)?;
+            }
         }
         Ok(CellPages {
             numbers,
@@ -119,13 +127,15 @@ impl CellSource for CellPages {
     }
 }
 
-/// Puts the cells of the codes from `first` on into the page, where `run` has the cell of those up to its last. The
-/// result has that of the codes behind the page up to its last.
+/// Puts the cells of the codes from `first` on into the page. `run` is a range that begins there or before, and the
+/// result the one of the last code.
 fn fill<C: CellRuns>(page: &mut Page, source: &C, run: CellRun, first: u32) -> CellRun
     requires first { first + 256 ≤ 0x11_0000 }
-    requires run { AreSame (C.cell_at source.now) first run.last run.cell }
+    requires begins { run.first ≤ first }
+    requires run { (run.last ≤ 0x10FFFF) × AreSame (C.cell_at source.now) run.first run.last run.cell }
     ensures page { IsPageOf (C.cell_at source.now) first page.new }
-    ensures run { AreSame (C.cell_at source.now) (first + 256) result.last result.cell }
+    ensures begins { result.first < first + 256 }
+    ensures run { (result.last ≤ 0x10FFFF) × AreSame (C.cell_at source.now) result.first result.last result.cell }
 {
     let mut run = run;
     for (k, cell) in page.iter_mut().enumerate() {

@@ -19,18 +19,21 @@ impl CellRuns for Spot {
         let spot = u32::from(self.code);
         if code < spot {
             CellRun {
-                cell: self.elsewhere,
+                first: code,
                 last: spot - 1,
+                cell: self.elsewhere,
             }
         } else if code == spot {
             CellRun {
-                cell: self.there,
+                first: code,
                 last: spot,
+                cell: self.there,
             }
         } else {
             CellRun {
-                cell: self.elsewhere,
+                first: code,
                 last: 0x10_FFFF,
+                cell: self.elsewhere,
             }
         }
     }
@@ -54,7 +57,11 @@ impl CellRuns for Stripes {
         } else {
             self.elsewhere
         };
-        CellRun { cell, last: code }
+        CellRun {
+            first: code,
+            last: code,
+            cell,
+        }
     }
 }
 
