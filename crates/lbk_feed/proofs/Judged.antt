@@ -22,7 +22,7 @@ counted-after used held given long within =
     ∙ ap (λ l. used ++ take room l) (drop_at used held given long)
 
 -- the longest prefix of a text and more
-prefix-after : (used bs : List ℕ) → IsUtf8 used → well_formed_prefix (used ++ bs) ≡ used ++ well_formed_prefix bs
+pub prefix-after : (used bs : List ℕ) → IsUtf8 used → well_formed_prefix (used ++ bs) ≡ used ++ well_formed_prefix bs
 prefix-after used bs text =
     let v = utf8_valid_len bs in
     ap (λ n. take n (used ++ bs)) (utf8_valid_len-after used bs text) ∙ take-add (length used) v (used ++ bs)

@@ -9,4 +9,5 @@ pub mod Tally
 pub mod Text
 pub mod Judge
 pub mod View
+pub mod Runs
 pub mod Intake
