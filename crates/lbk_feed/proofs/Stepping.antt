@@ -1,7 +1,7 @@
 -- What a call leaves, from what its reads brought and what was wrong with the bytes.
 use Rattle.std.proofs.Common.{◌≡◌, ◌⊎◌, ℕ, ◌+◌, ◌<◌, ◌≤◌, Bool, true, false, ◌||◌, List, [], ◌++◌, length, Option, None, Some, IfSome, IfNone, is_some, Result, Ok, Err, OnOk, IfErr, is_err, refl, sym, ap, ◌∙◌, arith, length-append, append_assoc, append-nil}
 use Rattle.std.specs.Io.KnownBytes.{Consumes, Keeps, prepend_known}
-use Rattle.lbk_feed.specs.declared.faults.TheConstants.{TEXT_MAX}
+use Rattle.lbk_feed.specs.Text.{longest_text}
 use Rattle.lbk_feed.specs.declared.faults.FeedFault.{FeedFault}
 use Rattle.lbk_feed.specs.declared.faults.FeedFault.TheVariants.{Read, NotUtf8, TextTooLong, Spent}
 use Rattle.lbk_feed.specs.Devices.{KeepsIfTold}
@@ -123,7 +123,7 @@ told old new got (Some xs) (Some ys) grown kept = ap (λ l. l ++ ys) grown ∙ a
 due-few : (given : ℕ) (held held' : List ℕ) (from to : ℕ) → AreDue given held held' from to → to + length held ≤ from + 4
 due-few given held held' from to due = omega (arith, due.each_gave, few_held given (held ++ due.seen) due.went_on, length-append held due.seen)
 
-due-within : (given : ℕ) (held held' : List ℕ) (from to : ℕ) → AreDue given held held' from to → to + (given + length held) ≤ from + (TEXT_MAX + 1)
+due-within : (given : ℕ) (held held' : List ℕ) (from to : ℕ) → AreDue given held held' from to → to + (given + length held) ≤ from + (longest_text + 1)
 due-within given held held' from to due = omega (arith, due.each_gave, due.went_on.within, length-append held due.seen)
 
 module _ (old mid : View) (before after : Option (List ℕ)) (from to : ℕ) where

@@ -1,7 +1,7 @@
 -- What an intake shows, when it wants to read on, and what its reads do.
 use Rattle.std.specs.Prelude.{◌≡◌, ◌⊎◌, ℕ, ◌+◌, ◌<◌, ◌≤◌, true, false, List, ◌++◌, length, take, Option}
 use Rattle.std.specs.Io.KnownBytes.{Consumes, IsAtEnd, prepend_known}
-use Rattle.lbk_feed.specs.declared.faults.TheConstants.{TEXT_MAX}
+use Rattle.lbk_feed.specs.Text.{longest_text}
 use Rattle.lbk_feed.specs.declared.judge.Stop.TheVariants.{Faulty}
 use Rattle.lbk_feed.specs.declared.intake.Intake.{Intake}
 use Rattle.lbk_feed.specs.Devices.{KeepsIfTold}
@@ -21,7 +21,7 @@ pub record WantsMore (i : Intake) : Type 0 where
 
 -- a piece is ready, the bytes are at fault, more were read than a text may have, or the end was met
 abbrev pub IsSettled : Intake → Type 0
-IsSettled i = (0 < i.ready_len) ⊎ ((i.stop ≡ Faulty) ⊎ ((TEXT_MAX < i.given + length (items i.block)) ⊎ (i.is_ended ≡ true)))
+IsSettled i = (0 < i.ready_len) ⊎ ((i.stop ≡ Faulty) ⊎ ((longest_text < i.given + length (items i.block)) ⊎ (i.is_ended ≡ true)))
 
 -- what reads that did not fail bring: `before` and `after` are the bytes unread, `from` and `to` the counts of reads
 pub record Draws (old new : View) (before after : Option (List ℕ)) (from to : ℕ) : Type 0 where

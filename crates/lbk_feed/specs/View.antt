@@ -2,11 +2,10 @@
 use Rattle.std.specs.Prelude.{◌≡◌, ◌⊎◌, ℕ, ◌+◌, ◌<◌, ◌≤◌, Bool, true, false, ◌||◌, List, [], ◌++◌, length, Option, None, Some, IfSome, IfNone, is_some, Result, Ok, Err, IfOk, MatchOption, ⊤, IsUtf8}
 use Rattle.std.specs.Borrow.{Bor}
 use Rattle.std.specs.Io.KnownBytes.{prepend_known, Keeps, IsAtEnd}
-use Rattle.lbk_feed.specs.declared.faults.TheConstants.{TEXT_MAX}
 use Rattle.lbk_feed.specs.declared.faults.FeedFault.{FeedFault}
 use Rattle.lbk_feed.specs.declared.faults.FeedFault.TheVariants.{Read, NotUtf8, TextTooLong, Spent}
 use Rattle.lbk_feed.specs.Devices.{KeepsIfTold, count_up}
-use Rattle.lbk_feed.specs.Text.{well_formed_prefix, counted, IsCutScalar, IsNotUtf8At, IsTooLong}
+use Rattle.lbk_feed.specs.Text.{longest_text, well_formed_prefix, counted, IsCutScalar, IsNotUtf8At, IsTooLong}
 
 -- the bytes that were read and not yet used up, those of them that are lent, how many were used up,
 -- whether a read gave no byte, and whether a fault was answered
@@ -34,12 +33,12 @@ pub record LendsFront (f : View) : Type 0 where
   pub text : IsUtf8 f.ready
   pub rest : List ℕ
   pub first : f.held ≡ f.ready ++ rest
-  pub few : f.given + length f.ready ≤ TEXT_MAX
+  pub few : f.given + length f.ready ≤ longest_text
 
 -- what is held after `given` bytes that were used up, none of it ready, may still go on to a piece: a text may have it,
 -- and it is nothing, or the first bytes of a scalar
 pub record CanGoOn (given : ℕ) (held : List ℕ) : Type 0 where
-  pub within : given + length held ≤ TEXT_MAX
+  pub within : given + length held ≤ longest_text
   pub cut : (held ≡ []) ⊎ IsCutScalar held
 
 -- where a fault lies in the bytes read; where it is a failed read, no fault of the text was certain before that
@@ -118,7 +117,7 @@ pub record Pays (old new : View) (from to : ℕ) : Type 0 where
   pub but_one : to + length old.held ≤ from + length new.held + 1
   pub due : from < to → AreDue old.given old.held new.held from to
   pub few : from < to → to + length old.held ≤ from + 4
-  pub within : from < to → to + (old.given + length old.held) ≤ from + (TEXT_MAX + 1)
+  pub within : from < to → to + (old.given + length old.held) ≤ from + (longest_text + 1)
 
 -- what the feed is once the piece that a call lent is given back; `unread`, `ended` and `reads` are the reader's
 -- before the call, and those with a prime after it

@@ -5,10 +5,11 @@ ghost use Rattle.std.specs.Borrow.{sem};
 ghost use Rattle.std.specs.Io.BufRead.{Rests};
 ghost use Rattle.std.specs.Str.{IsCharBoundary};
 ghost use Rattle.std.specs.Bool.{OnTrue, OnFalse};
+ghost use Rattle.lbk_feed.specs.Text.{longest_text};
 ghost use Rattle.lbk_feed.specs.View.{new_view, IsFront, LendsFront, IsIdle, Steps, Pays, Agrees, AfterPiece, fault_of, failures_with};
 ghost use Rattle.lbk_feed.specs.contracts.pieces.Feed.{the_row};
 
-use crate::faults::{FeedFault, TEXT_MAX};
+use crate::faults::FeedFault;
 use crate::intake::Intake;
 use crate::traits::Source;
 use std::marker::Model;
@@ -44,7 +45,7 @@ impl Feed {
     /// How many bytes were used up so far; never more than 1,073,741,824.
     pub fn given(&self) -> u64
         ensures given { result ≡ self.now.given }
-        ensures within { result ≤ TEXT_MAX }
+        ensures within { result ≤ longest_text }
     {
         self.intake.given()
     }
