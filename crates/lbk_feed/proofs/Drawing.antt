@@ -1,10 +1,9 @@
 -- What one read brings, and several in turn.
-use Rattle.std.proofs.Common.{◌≡◌, ◌⊎◌, ℕ, ◌+◌, ◌<◌, ◌≤◌, Bool, true, false, List, [], ◌∷◌, ◌++◌, length, Option, None, Some, refl, sym, ap, subst, ◌∙◌, arith, inl, inr, ⊎_elim, length-append, append_assoc, append-nil, eqb}
-use Rattle.std.specs.Io.KnownBytes.{Consumes}
+use Rattle.std.proofs.Common.{◌≡◌, ◌⊎◌, ℕ, ◌+◌, ◌<◌, ◌≤◌, Bool, true, false, List, [], ◌∷◌, ◌++◌, length, Option, refl, sym, ap, subst, ◌∙◌, arith, inl, inr, ⊎_elim, length-append, append_assoc, append-nil, eqb}
 use Rattle.std.proofs.lemmas.Bool.{cases_lt, eqb-true, eqb-false}
 use Rattle.lbk_feed.specs.Devices.{count_up, KeepsIfTold}
 use Rattle.lbk_feed.specs.Block.{Gives}
-use Rattle.lbk_feed.specs.View.{View, BeginsWith, CanGoOn, AreDue}
+use Rattle.lbk_feed.specs.View.{View, CanGoOn, AreDue}
 use Rattle.lbk_feed.specs.Intake.{Draws, DrawsAndFails}
 use Rattle.lbk_feed.proofs.Taking.{Consumes-nil, Consumes-trans, BeginsWith-none, BeginsWith-after, KeepsAfter-none, KeepsAfter-after}
 

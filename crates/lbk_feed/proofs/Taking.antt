@@ -1,5 +1,5 @@
 -- Bytes taken from the front of what is unread, read by read.
-use Rattle.std.proofs.Common.{◌≡◌, ℕ, Bool, true, false, List, [], ◌++◌, Option, None, Some, refl, sym, ap, ◌∙◌, append_assoc}
+use Rattle.std.proofs.Common.{ℕ, Bool, true, false, List, [], ◌++◌, Option, None, Some, refl, sym, ap, ◌∙◌, append_assoc}
 use Rattle.std.specs.Io.KnownBytes.{Consumes}
 use Rattle.lbk_feed.specs.Devices.{KeepsIfTold}
 use Rattle.lbk_feed.specs.View.{BeginsWith}
