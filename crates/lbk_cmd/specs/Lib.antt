@@ -1,3 +1,4 @@
+-- What a reader has to believe.
 pub mod Cells
 pub mod CellsRefusal
 pub mod Limits
