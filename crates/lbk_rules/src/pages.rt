@@ -99,6 +99,7 @@ impl CellPages {
         let mut page = [run.cell; PAGE_LENGTH];
         for k in 0..PAGE_COUNT {
             let first = 256 * k;
+            // This page and the one before lie in one range of equal cells.
             if run.first + 256 <= first && first + 255 <= run.last {
                 let number = numbers[k as usize - 1];
                 numbers.push(number)?;

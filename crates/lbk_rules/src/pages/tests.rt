@@ -1,4 +1,4 @@
-ghost use Rattle.std.specs.Prelude.{◌==◌, ◌/◌, ◌%◌, if◌then◌else◌, slice_index_or};
+ghost use Rattle.std.specs.Prelude.{◌==◌, ◌/◌, ◌%◌, if◌then◌else◌};
 
 use super::*;
 use crate::classes::{Class, Quote};
@@ -39,21 +39,23 @@ impl CellRuns for Spot {
     }
 }
 
-/// In each page one mark, at the place of the page among 256 that follow one another; eight times 256 pages differ.
+/// In each page one cell at two places: that of the page among 256, and that of its 256 pages.
 #[derive(Clone, Copy)]
 struct Stripes {
-    marks: [Cell; 8],
+    there: Cell,
     elsewhere: Cell,
 }
 
 impl CellRuns for Stripes {
     ghost cell_at = { λ s code. if code % 256 == code / 256 % 256
-        then slice_index_or s.marks (code / 65536 % 8) s.elsewhere
-        else s.elsewhere };
+        then s.there
+        else (if code % 256 == code / 65536 then s.there else s.elsewhere) };
 
     fn cell_run(&self, code: u32) -> CellRun {
         let cell = if code % 256 == code / 256 % 256 {
-            self.marks[(code / 65_536 % 8) as usize]
+            self.there
+        } else if code % 256 == code / 65_536 {
+            self.there
         } else {
             self.elsewhere
         };
@@ -117,30 +119,25 @@ fn keeps_equal_pages_once(rt: HostRuntime) -> Result<(), Fail> {
 
 #[test]
 fn keeps_many_pages(rt: HostRuntime) -> Result<(), Fail> {
+    let there = plain(Class::OpenPunctuation);
     let elsewhere = plain(Class::Alphabetic);
-    let marks = [
-        plain(Class::OpenPunctuation),
-        plain(Class::ClosePunctuation),
-        plain(Class::Quotation),
-        plain(Class::Exclamation),
-        plain(Class::InfixNumeric),
-        plain(Class::Hyphen),
-        plain(Class::Inseparable),
-        plain(Class::Glue),
-    ];
-    let pages = CellPages::build_over(rt.alloc(), &Stripes { marks, elsewhere })?;
-    assert_eq!(rt; pages.pages.len(), 2_048);
+    let pages = CellPages::build_over(rt.alloc(), &Stripes { there, elsewhere })?;
+    assert_eq!(rt; pages.pages.len(), 4_216);
     for (code, cell) in [
-        ('\0', marks[0]),
+        ('\0', there),
         ('\u{1}', elsewhere),
-        ('\u{101}', marks[0]),
-        ('\u{ffff}', marks[0]),
-        ('\u{10000}', marks[1]),
-        ('\u{3abab}', marks[3]),
-        ('\u{7ffff}', marks[7]),
-        ('\u{80000}', marks[0]),
+        ('\u{100}', there),
+        ('\u{101}', there),
+        ('\u{ffff}', there),
+        ('\u{10000}', there),
+        ('\u{1ff01}', there),
+        ('\u{1ff02}', elsewhere),
+        ('\u{3abab}', there),
+        ('\u{3ab03}', there),
+        ('\u{3ab04}', elsewhere),
         ('\u{10fffe}', elsewhere),
-        ('\u{10ffff}', marks[0]),
+        ('\u{10ff10}', there),
+        ('\u{10ffff}', there),
     ] {
         assert_eq!(rt; pages.cell(code), cell, "at {code:?}");
     }
