@@ -1,6 +1,6 @@
 -- Rows laid over others, step by step, and the marks of the codes that rows hold.
 use Rattle.std.proofs.Common.{◌≡◌, ℕ, suc, ◌+◌, ◌-◌, ◌<◌, ◌≤◌, ◌⊎◌, Bool, ◌||◌, true, false, List, [], ◌∷◌, ◌++◌, length, get_or, reverse, Option, Some, None, Result, Ok, Err, IfOk, unwrap_or, sym, ap, refl, ◌∙◌, arith, inl, inr}
-use Rattle.std.specs.List.{All, AllPairs, AllWithin, find, list_any}
+use Rattle.std.specs.List.{All, AllPairs, find, list_any}
 use Rattle.std.specs.Option.{option_map, option_or}
 use Rattle.std.proofs.lemmas.Bool.{cases_lt, false≢true}
 use Rattle.std.proofs.lemmas.Bool.Decides.{nat_tests}

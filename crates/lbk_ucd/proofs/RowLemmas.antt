@@ -1,16 +1,15 @@
 -- Rows in the order of their codes: where one that holds a code can stand, and what a search by halves finds.
-use Rattle.std.proofs.Common.{◌≡◌, ℕ, suc, ◌+◌, ◌-◌, ◌<◌, ◌≤◌, Bool, true, false, List, [], ◌∷◌, length, get_or, Some, None, sym, ap, refl, ◌∙◌, arith, inl, inr, ◌⊎◌}
-use Rattle.std.specs.List.{All, AllWithin, find, insert, list_any, position_or_len, slice_get}
+use Rattle.std.proofs.Common.{◌≡◌, ℕ, suc, ◌<◌, ◌≤◌, Bool, true, false, List, [], ◌∷◌, length, get_or, Some, None, sym, ap, refl, ◌∙◌, arith, inl, inr}
+use Rattle.std.specs.List.{All, AllWithin, find, list_any, position_or_len, slice_get}
 use Rattle.std.specs.List.Sorted.{IsNonDecreasingBy}
 use Rattle.std.specs.Option.{option_map}
 use Rattle.std.proofs.lemmas.Bool.{cases_lt, false≢true}
 use Rattle.std.proofs.lemmas.List.Sums.{position_or_len_is}
 use Rattle.std.proofs.lemmas.List.Folds.{find_at, list_any_at}
-use Rattle.std.proofs.lemmas.List.Edits.{length-insert, get_or-insert_below, get_or-insert_at, get_or-insert_above}
 use Rattle.std.proofs.lemmas.Option.{slice_get-get_or}
 use Rattle.std.proofs.lemmas.Bool.Decides.{nat_tests}
 use Rattle.lbk_ucd.specs.declared.rows.Row.{Row}
-use Rattle.lbk_ucd.specs.Ranges.{IsRange, IsInOrder}
+use Rattle.lbk_ucd.specs.Ranges.{IsInOrder}
 use Rattle.lbk_ucd.specs.Rows.{holds, shares, first_value}
 
 module _ {V : Type 0} where

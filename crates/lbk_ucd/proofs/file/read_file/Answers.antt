@@ -1,5 +1,4 @@
-use Rattle.std.proofs.Common.{◌≡◌, ◌+◌, ◌<◌, ◌≤◌, ◌∷◌, List, [], length, refl, ap, sym, ◌∙◌, arith, inl, inr}
-use Rattle.lbk_ucd.specs.File.{lines_of}
+use Rattle.std.proofs.Common.{◌+◌, refl, ap, ◌∙◌, arith, inl, inr}
 use Rattle.lbk_ucd.specs.Shown.{shown_format, lines_left}
 use Rattle.lbk_ucd.proofs.FileLemmas.{few_lines, next_within, next_growth, grown_before, refused, read_more, read_all, read_value}
 use Rattle.lbk_ucd.proofs.file.read_file.Goals as goal

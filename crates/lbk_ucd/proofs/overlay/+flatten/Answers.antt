@@ -1,6 +1,4 @@
-use Rattle.std.proofs.Common.{◌≡◌, ◌++◌, ◌/◌, length, reverse, take, drop, ap, sym, ◌∙◌, rules}
-use Rattle.std.specs.Option.{option_or}
-use Rattle.std.proofs.lemmas.List.{take-append-drop}
+use Rattle.std.proofs.Common.{◌≡◌, ◌++◌, ◌/◌, length, reverse, ap, sym, ◌∙◌, rules}
 use Rattle.std.proofs.lemmas.List.Elements.{All-drop}
 use Rattle.lbk_ucd.specs.Ranges.{IsRange}
 use Rattle.lbk_ucd.specs.Rows.{first_value}

@@ -1,5 +1,4 @@
-use Rattle.std.proofs.Common.{◌<◌, ◌≤◌, ◌≡◌, ◌-◌, ◌+◌, get_or, arith, inl, inr}
-use Rattle.std.proofs.lemmas.Bool.{cases_lt}
+use Rattle.std.proofs.Common.{◌-◌, arith}
 use Rattle.std.proofs.lemmas.List.{get_or_default}
 use Rattle.lbk_ucd.proofs.OverlayLemmas.{ordered_more}
 use Rattle.lbk_ucd.proofs.overlay.are_in_order.Goals as goal

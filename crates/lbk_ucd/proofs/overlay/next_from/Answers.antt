@@ -1,4 +1,4 @@
-use Rattle.std.proofs.Common.{◌≤◌, get_or, arith}
+use Rattle.std.proofs.Common.{arith}
 use Rattle.std.proofs.lemmas.List.{get_or_default}
 use Rattle.lbk_ucd.proofs.RowLemmas.{ends_rise}
 use Rattle.lbk_ucd.proofs.overlay.next_from.Goals as goal

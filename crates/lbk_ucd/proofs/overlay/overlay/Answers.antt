@@ -1,4 +1,4 @@
-use Rattle.std.proofs.Common.{◌≡◌, ◌<◌, ◌≤◌, ℕ, refl, ◌∙◌, sym, arith}
+use Rattle.std.proofs.Common.{◌≡◌, ◌≤◌, ℕ, refl, ◌∙◌, sym, arith}
 use Rattle.std.specs.Option.{option_or}
 use Rattle.lbk_ucd.specs.Rows.{first_value}
 use Rattle.lbk_ucd.proofs.OverlayLemmas.{all_done, done_none, done_some}

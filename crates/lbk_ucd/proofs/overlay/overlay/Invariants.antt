@@ -1,4 +1,4 @@
-use Rattle.std.proofs.Common.{ℕ, ◌-◌, ◌<◌, ◌≤◌, length}
+use Rattle.std.proofs.Common.{◌-◌, ◌<◌, ◌≤◌, length}
 use Rattle.std.specs.List.{AllWithin}
 use Rattle.lbk_ucd.proofs.OverlayLemmas.{IsDone}
 use Rattle.lbk_ucd.proofs.overlay.overlay.Given as goal

@@ -1,4 +1,4 @@
-use Rattle.std.proofs.Common.{◌≡◌, ◌∷◌, ◌++◌, [], sym, ◌∙◌}
+use Rattle.std.proofs.Common.{◌∙◌}
 use Rattle.std.proofs.lemmas.List.Elements.{All-push}
 use Rattle.lbk_ucd.specs.Ranges.{IsRange}
 use Rattle.lbk_ucd.proofs.OverlayLemmas.{marked_more, apart_more}
