@@ -1,0 +1,8 @@
+-- What a reader has to believe.
+pub mod Line
+pub mod Grammar
+pub mod Place
+pub mod Written
+pub mod Fault
+-- What only carries proofs.
+pub mod Run
