@@ -1,0 +1,5 @@
+pub mod Sorts
+pub mod Digits
+pub mod Runs
+pub mod Completes
+pub mod Sound
