@@ -3,3 +3,5 @@ pub mod Digits
 pub mod Runs
 pub mod Completes
 pub mod Sound
+pub mod Places
+pub mod Answered
