@@ -31,3 +31,7 @@ answered_fault form bytes (Ok value) short e = tt
 answered_fault form bytes (Err LineTooLong) short e = elim e [ ]
 answered_fault form bytes (Err (Bad at)) short e = (short, outside form bytes at e, placed form bytes at e)
 answered_fault form bytes (Err Memory) short e = short
+
+-- so a line that says something says nothing else
+pub only_of : (form : Form) (bytes : List ℕ) (value other : Option Line) → IsLine form bytes value → IsLine form bytes other → other ≡ value
+only_of form bytes value other is is' = only form bytes value other (complete form bytes value is) is'

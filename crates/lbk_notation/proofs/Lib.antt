@@ -5,3 +5,5 @@ pub mod Completes
 pub mod Sound
 pub mod Places
 pub mod Answered
+pub mod Tokens
+pub mod Writes
