@@ -7,3 +7,5 @@ pub mod Places
 pub mod Answered
 pub mod Tokens
 pub mod Writes
+pub mod Markings
+pub mod Lengths
