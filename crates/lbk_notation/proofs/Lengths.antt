@@ -1,10 +1,10 @@
 -- How long a written line is, and what it says with a comment behind it.
-use Rattle.std.proofs.Common.{◌≡◌, ◌≢◌, ℕ, suc, ◌+◌, ◌*◌, ◌<◌, ◌≤◌, ltb, List, [], ◌∷◌, ◌++◌, length, map, Option, Some, None, Result, Ok, Err, IfOk, IfErr, refl, ap, sym, subst, ◌∙◌, arith, lit≤, ◌⊎◌, inl, inr, length-append}
+use Rattle.std.proofs.Common.{◌≡◌, ◌≢◌, ℕ, suc, ◌+◌, ◌*◌, ◌<◌, ◌≤◌, true, ltb, List, [], ◌∷◌, ◌++◌, length, map, Option, Some, None, Result, Ok, Err, IfOk, IfErr, refl, ap, sym, subst, ◌∙◌, arith, lit≤, ◌⊎◌, inl, inr, length-append}
 use Rattle.std.specs.Char.{IsScalar, len_utf8}
-use Rattle.std.specs.List.{AllByRecursion, flat_map}
+use Rattle.std.specs.List.{AllByRecursion, flat_map, list_all}
 use Rattle.std.specs.Str.{encode_utf8_all}
 use Rattle.std.specs.Char.{encode_utf8}
-use Rattle.std.proofs.lemmas.Bool.{cond_both, cases_lt, ltb-true, ltb-false}
+use Rattle.std.proofs.lemmas.Bool.{and_parts, cond_both, cases_lt, ltb-true, ltb-false}
 use Rattle.std.proofs.lemmas.Bool.Decides.{nat_tests}
 use Rattle.std.proofs.lemmas.List.{length-map}
 use Rattle.std.proofs.lemmas.Str.{length-encode, len_utf8_bounds}
@@ -132,8 +132,19 @@ same_marks : (marks : List Mark) → map (shown Kinds) marks ≡ marks
 same_marks [] = refl
 same_marks (mark ∷ marks) = ap (λ m. m ∷ map (shown Kinds) marks) (same_mark mark) ∙ ap (λ ms. mark ∷ ms) (same_marks marks)
 
+no_feed : (bytes : List ℕ) → list_all (λ byte. ltb 10 byte) bytes ≡ true → AllByRecursion (λ byte. byte ≢ 10) bytes
+no_feed [] all = tt
+no_feed (byte ∷ bytes) all =
+    let parts = and_parts (ltb 10 byte) (list_all (λ b. ltb 10 b) bytes) all in
+    let high : 10 < byte = ltb-true 10 byte parts.0 in
+    ((λ e. omega arith), no_feed bytes parts.1)
+
+label_test : (rule : Rule) → list_all (λ byte. ltb 10 byte) (label_of rule) ≡ true
+label_test Lb2 = refl
+label_test _ = refl
+
 label_no_feed : (rule : Rule) → AllByRecursion (λ byte. byte ≢ 10) (label_of rule)
-label_no_feed rule = ?
+label_no_feed rule = no_feed (label_of rule) (label_test rule)
 
 joined_no_feed : (xs ys : List ℕ) → AllByRecursion (λ byte. byte ≢ 10) xs → AllByRecursion (λ byte. byte ≢ 10) ys → AllByRecursion (λ byte. byte ≢ 10) (xs ++ ys)
 joined_no_feed [] ys none none' = none'
@@ -151,3 +162,16 @@ says scalars verdicts many all =
     let is = commented Kinds (passage_marks scalars verdicts) (written_labels verdicts)
     (length-map verdicts (λ (v : Verdict). mark_of v.kind) ∙ many) all (labels_no_feed verdicts) in
     subst (λ ms. IsLine Kinds (passage_line scalars verdicts) (Some (record { scalars = scalars; marks = ms }))) (same_marks marks) is
+
+-- what is answered of bytes that are known to say something
+pub answered_same : (form : Form) (bytes : List ℕ) (value : Option Line) (r : Result (Option Line) LineFault) → IsLine form bytes value
+    → IfOk r (λ read. (other : Option Line) → IsLine form bytes other → other ≡ read) → IfOk r (λ read. read ≡ value)
+answered_same form bytes value (Ok read) is same = sym (same value is)
+answered_same form bytes value (Err fault) is same = tt
+
+pub answered_memory : (form : Form) (bytes : List ℕ) (value : Option Line) (r : Result (Option Line) LineFault) → IsLine form bytes value
+    → length bytes ≤ longest → IfErr r (λ fault. IsFault form bytes fault) → IfErr r (λ fault. fault ≡ Memory)
+answered_memory form bytes value (Ok read) is within fault = tt
+answered_memory form bytes value (Err LineTooLong) is within fault = absurd (omega (arith, fault))
+answered_memory form bytes value (Err (Bad at)) is within fault = absurd (fault.1 value is)
+answered_memory form bytes value (Err Memory) is within fault = refl
