@@ -1,5 +1,5 @@
-//! The notation of the published break tests: a mark at each position of a text, the scalars between
-//! them in hex.
+//! The notation of the published break tests (LineBreakTest.txt of the Unicode Character Database): a mark
+//! at each position of a text, and the scalars between them in hex.
 #![tactic(auto)]
 
 mod fault;
