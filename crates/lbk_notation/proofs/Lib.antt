@@ -9,3 +9,4 @@ pub mod Tokens
 pub mod Writes
 pub mod Markings
 pub mod Lengths
+pub mod Worked
