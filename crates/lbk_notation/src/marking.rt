@@ -72,7 +72,7 @@ fn mark_now(now: Option<Verdict>) -> Mark
     }
 }
 
-fn mark_of(kind: Kind) -> Mark
+pub(crate) fn mark_of(kind: Kind) -> Mark
     ensures { result ≡ mark_of kind }
 {
     match kind {
