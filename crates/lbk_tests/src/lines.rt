@@ -195,7 +195,7 @@ fn lines_of_passages(rt: HostRuntime) -> Result<(), Fail> {
     assert_eq!(rt; verdicts.len(), scalars.len() + 1);
     let mut shown = Vec::new(rt.alloc());
     push_passage_line(&mut shown, &scalars, &verdicts)?;
-    let want = "× 0061 × 000D × 000A !\t# 2 6 5 5";
+    let want = "× 0061 × 000D × 000A !\t# 2 6 5 3";
     assert_eq!(rt; shown.as_slice(), want.as_bytes());
     let line = read_passage_line(rt.alloc(), &shown)?.ok_or("no line")?;
     assert_eq!(rt; line.scalars(), scalars.as_slice());
