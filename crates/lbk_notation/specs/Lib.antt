@@ -1,0 +1,3 @@
+pub mod ReplayText
+pub mod Stub
+pub mod Stream
