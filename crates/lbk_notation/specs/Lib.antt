@@ -1,3 +1,12 @@
+pub mod Counted
+pub mod Findings
+pub mod Line
+pub mod Marks
+pub mod Outcome
+pub mod Progress
+pub mod Replay
 pub mod ReplayText
+pub mod Runs
 pub mod Stub
+pub mod StubGrammar
 pub mod Stream

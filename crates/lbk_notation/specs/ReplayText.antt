@@ -1,23 +1,14 @@
 -- What a replay writes of the lines of a test file, and what it answers.
 use Rattle.std.specs.Prelude.{ℕ, ◌+◌, Bool, true, false, List, [], ◌∷◌, ◌++◌, count_by, codes, decimal}
 use Rattle.std.specs.List.{join_with_byte}
-use Rattle.lbk_rules.specs.declared.verdicts.Kind.{Kind}
-use Rattle.lbk_rules.specs.declared.verdicts.Kind.TheVariants as Kinds
 use Rattle.lbk_rules.specs.Labels.{label_of}
 use Rattle.lbk_notation.specs.declared.findings.Finding.{Finding}
 use Rattle.lbk_notation.specs.declared.findings.Finding.TheVariants.{NoLine, Replayed, Bad, Long}
 use Rattle.lbk_notation.specs.declared.findings.Outcome.TheVariants.{Agree, Differ}
 use Rattle.lbk_notation.specs.declared.findings.Report.{Report}
 use Rattle.lbk_notation.specs.declared.stub.Form.{Form}
-use Rattle.lbk_notation.specs.declared.stub.Mark.{Mark}
-use Rattle.lbk_notation.specs.declared.stub.Mark.TheVariants.{No, May, Must}
+use Rattle.lbk_notation.specs.Marks.{mark_of}
 use Rattle.lbk_notation.specs.Stub.{mark_bytes, shown}
-
--- the mark of a kind
-abbrev pub mark_of : Kind → Mark
-mark_of Kinds.No = No
-mark_of Kinds.May = May
-mark_of Kinds.Must = Must
 
 -- words with one space between each two, and LF
 abbrev pub row_text : List (List ℕ) → List ℕ

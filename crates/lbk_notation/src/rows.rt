@@ -2,7 +2,8 @@
 
 ghost use Rattle.std.specs.Prelude.{◌≡◌, ◌∷◌, ◌++◌, [], OnOk, decimal};
 ghost use Rattle.lbk_rules.specs.Labels.{label_of};
-ghost use Rattle.lbk_notation.specs.ReplayText.{finding_text, total_text, mark_of};
+ghost use Rattle.lbk_notation.specs.Marks.{mark_of};
+ghost use Rattle.lbk_notation.specs.ReplayText.{finding_text, total_text};
 ghost use Rattle.lbk_notation.specs.Stub.{mark_bytes, shown};
 
 use super::findings::{Finding, Outcome, Report};
