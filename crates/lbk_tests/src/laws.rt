@@ -1,6 +1,6 @@
 //! The laws over definitions can be called.
 
-use lbk_rules::words;
+use lbk_rules::annex;
 use lbk_ucd::LineBreak;
 
 #[test]
@@ -21,7 +21,7 @@ fn laws() {
     lbk_rules::laws::look_ahead_second_between();
     lbk_rules::laws::unanswered_position();
     lbk_rules::laws::unanswered_alone();
-    words::spaces();
-    words::indicators();
-    words::heads();
+    annex::spaces();
+    annex::indicators();
+    annex::heads();
 }

@@ -1,5 +1,5 @@
-use Rattle.lbk_rules.proofs.WordLemmas.{ends_in_spaces, past_spaces-ends}
-use Rattle.lbk_rules.proofs.words.spaces.Goals as goal
+use Rattle.lbk_rules.proofs.AnnexLemmas.{ends_in_spaces, past_spaces-ends}
+use Rattle.lbk_rules.proofs.annex.spaces.Goals as goal
 
 pub returns-clause-only : goal.returns-clause-only
 returns-clause-only c = ends_in_spaces

@@ -9,7 +9,7 @@ use Rattle.lbk_rules.specs.Classes.{Set, SP, RI, is, hard, mark, none_of}
 use Rattle.lbk_rules.specs.Sides.{Side, is_nothing, at, before_spaces, past_spaces, at_odd_run}
 use Rattle.lbk_rules.specs.Units.{unit, units}
 use Rattle.lbk_rules.specs.Facts.{nearest, units_before}
-use Rattle.lbk_rules.specs.Words.{HasNoSpace, EndsInSpacesAfter, EndsInRun, is_odd, is_head}
+use Rattle.lbk_rules.specs.Annex.{HasNoSpace, EndsInSpacesAfter, EndsInRun, is_odd, is_head}
 use Rattle.lbk_rules.proofs.FactsLemmas.{units_before-reverse}
 
 -- a list read outwards, its first element last

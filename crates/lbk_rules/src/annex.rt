@@ -5,7 +5,7 @@ ghost use Rattle.lbk_rules.specs.declared.cells.Cell.{Cell};
 ghost use Rattle.lbk_rules.specs.Classes.{Set};
 ghost use Rattle.lbk_rules.specs.Sides.{past_spaces, at_odd_run};
 ghost use Rattle.lbk_rules.specs.Units.{unit, units};
-ghost use Rattle.lbk_rules.specs.Words.{HasNoSpace, EndsInSpacesAfter, EndsInRun, is_odd, is_head};
+ghost use Rattle.lbk_rules.specs.Annex.{HasNoSpace, EndsInSpacesAfter, EndsInRun, is_odd, is_head};
 
 /// 'X SP*': some place of the left holds a class of X, which has no space, and all later places hold SP.
 pub fn spaces()
