@@ -1,12 +1,16 @@
-pub mod Counted
-pub mod Findings
+-- What a reader has to believe.
 pub mod Line
+pub mod Grammar
+pub mod Place
+pub mod Written
+pub mod Fault
 pub mod Marks
 pub mod Outcome
-pub mod Progress
-pub mod Replay
-pub mod ReplayText
-pub mod Runs
-pub mod Stub
-pub mod StubGrammar
 pub mod Stream
+pub mod Findings
+pub mod ReplayText
+pub mod Replay
+-- What only carries proofs.
+pub mod Run
+pub mod Counted
+pub mod Progress

@@ -8,10 +8,10 @@ use Rattle.lbk_rules.specs.declared.verdicts.Verdict.{Verdict}
 use Rattle.lbk_rules.specs.Verdict.{verdict_in}
 use Rattle.lbk_notation.specs.declared.findings.Outcome.{Outcome}
 use Rattle.lbk_notation.specs.declared.findings.Outcome.TheVariants.{Agree, Differ}
-use Rattle.lbk_notation.specs.declared.stub.Form.{Form}
-use Rattle.lbk_notation.specs.declared.stub.Form.TheVariants.{Plain, Kinds}
-use Rattle.lbk_notation.specs.declared.stub.Mark.{Mark}
-use Rattle.lbk_notation.specs.declared.stub.Mark.TheVariants.{No, May, Must}
+use Rattle.lbk_notation.specs.declared.marks.Form.{Form}
+use Rattle.lbk_notation.specs.declared.marks.Form.TheVariants.{Plain, Kinds}
+use Rattle.lbk_notation.specs.declared.marks.Mark.{Mark}
+use Rattle.lbk_notation.specs.declared.marks.Mark.TheVariants.{No, May, Must}
 use Rattle.lbk_notation.specs.Marks.{mark_of}
 use Rattle.lbk_notation.specs.Line.{Line}
 

@@ -8,8 +8,8 @@ use Rattle.lbk_notation.specs.declared.findings.Report.{Report}
 use Rattle.lbk_notation.specs.declared.findings.ReplayFault.{ReplayFault}
 use Rattle.lbk_notation.specs.declared.findings.ReplayFault.TheVariants.{Read}
 use Rattle.lbk_notation.specs.declared.progress.Progress.{Progress}
-use Rattle.lbk_notation.specs.declared.stub.Form.{Form}
-use Rattle.lbk_notation.specs.declared.stub.TheConstants.{LINE_MAX}
+use Rattle.lbk_notation.specs.declared.marks.Form.{Form}
+use Rattle.lbk_notation.specs.Fault.{longest}
 use Rattle.lbk_notation.specs.Counted.{counted}
 use Rattle.lbk_notation.specs.Findings.{IsFinding, AreFindings}
 use Rattle.lbk_notation.specs.Replay.{IsReplay, IsReplayText, IsStoppedReplay}
@@ -18,8 +18,8 @@ use Rattle.lbk_notation.specs.Stream.{cut_of, ended_lines, lines_of}
 
 -- what is held of the bytes behind the last LF: all of them, or that they are more than a line may have
 abbrev pub Holds : List ℕ → List ℕ → Bool → Type 0
-Holds rest line false = (line ≡ rest) × (length rest ≤ LINE_MAX)
-Holds rest line true = LINE_MAX < length rest
+Holds rest line false = (line ≡ rest) × (length rest ≤ longest)
+Holds rest line true = longest < length rest
 
 -- the bytes used so far, and what was written of the lines that they end
 pub record Stands (cell : ℕ → Cell) (form : Form) (profile : Profile) (progress : Progress) (used out : List ℕ) : Type 0 where

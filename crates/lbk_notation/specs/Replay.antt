@@ -8,10 +8,10 @@ use Rattle.lbk_notation.specs.declared.findings.Report.{Report}
 use Rattle.lbk_notation.specs.declared.findings.ReplayFault.{ReplayFault}
 use Rattle.lbk_notation.specs.declared.findings.ReplayFault.TheVariants.{Read, Write, Memory, StreamTooLong}
 use Rattle.lbk_notation.specs.declared.findings.TheConstants.{STREAM_MAX}
-use Rattle.lbk_notation.specs.declared.stub.Form.{Form}
+use Rattle.lbk_notation.specs.declared.marks.Form.{Form}
 use Rattle.lbk_notation.specs.Findings.{AreFindings}
 use Rattle.lbk_notation.specs.ReplayText.{text_from, report_of, total_text}
-use Rattle.lbk_notation.specs.Runs.{IsStopped}
+use Rattle.lbk_feed.specs.Runs.{IsStopped}
 use Rattle.lbk_notation.specs.Stream.{ended_lines, lines_of}
 
 -- what is written of the lines that an LF ends

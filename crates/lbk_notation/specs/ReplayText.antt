@@ -6,9 +6,10 @@ use Rattle.lbk_notation.specs.declared.findings.Finding.{Finding}
 use Rattle.lbk_notation.specs.declared.findings.Finding.TheVariants.{NoLine, Replayed, Bad, Long}
 use Rattle.lbk_notation.specs.declared.findings.Outcome.TheVariants.{Agree, Differ}
 use Rattle.lbk_notation.specs.declared.findings.Report.{Report}
-use Rattle.lbk_notation.specs.declared.stub.Form.{Form}
+use Rattle.lbk_notation.specs.declared.marks.Form.{Form}
 use Rattle.lbk_notation.specs.Marks.{mark_of}
-use Rattle.lbk_notation.specs.Stub.{mark_bytes, shown}
+use Rattle.lbk_notation.specs.Grammar.{mark_bytes}
+use Rattle.lbk_notation.specs.Written.{shown}
 
 -- words with one space between each two, and LF
 abbrev pub row_text : List (List ℕ) → List ℕ

@@ -3,7 +3,7 @@
 ghost use Rattle.std.specs.Prelude.{◌≡◌, ◌+◌, ◌<◌};
 ghost use Rattle.lbk_notation.specs.declared.findings.ReplayFault.TheVariants.{Memory};
 
-use super::stub::Mark;
+use super::marks::Mark;
 use lbk_rules::Verdict;
 use std::alloc::{AllocError, AllocFailed};
 

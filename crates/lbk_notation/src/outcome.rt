@@ -3,7 +3,8 @@
 ghost use Rattle.lbk_notation.specs.Outcome.{IsOutcome};
 
 use super::findings::Outcome;
-use super::stub::{Form, TestLine};
+use super::line::TestLine;
+use super::marks::Form;
 use lbk_rules::{CellSource, Profile};
 
 pub fn replay_line<C: CellSource>(

@@ -3,9 +3,9 @@
 ghost use Rattle.std.specs.Prelude.{◌≡◌, ◌≢◌, ℕ, ◌+◌, ◌<◌, ◌≤◌, List, [], ◌∷◌, ◌++◌, length, true, OnOk, IfOk, IfErr};
 
 use super::findings::{Finding, ReplayFault, Report, STREAM_MAX};
+use super::reading::LONGEST;
 use super::replayer::Replayer;
 use super::rows::{push_finding, push_total};
-use super::stub::LINE_MAX;
 use lbk_rules::CellSource;
 use std::alloc::{AllocError, Global};
 
@@ -34,7 +34,7 @@ pub struct Progress {
 impl Progress {
     ghost use Rattle.lbk_rules.specs.declared.cells.Cell.{Cell};
     ghost use Rattle.lbk_rules.specs.declared.verdicts.Profile.{Profile};
-    ghost use Rattle.lbk_notation.specs.declared.stub.Form.{Form};
+    ghost use Rattle.lbk_notation.specs.declared.marks.Form.{Form};
     ghost use Rattle.lbk_notation.specs.Findings.{IsFinding};
     ghost use Rattle.lbk_notation.specs.Progress.{Holds, Settles, Stands, StandsAtEnd};
     ghost use Rattle.lbk_notation.specs.ReplayText.{total_text};
@@ -88,7 +88,7 @@ impl Progress {
         if self.is_long {
             return Ok(());
         }
-        if self.line.len() == LINE_MAX {
+        if self.line.len() == LONGEST {
             self.line.clear();
             self.is_long = true;
             return Ok(());

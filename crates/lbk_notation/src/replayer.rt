@@ -3,9 +3,11 @@
 ghost use Rattle.std.specs.Prelude.{◌≡◌, IfOk, IfErr};
 ghost use Rattle.lbk_notation.specs.Findings.{IsFinding};
 
+use super::fault::LineFault;
 use super::findings::{Finding, ReplayFault};
+use super::marks::Form;
 use super::outcome::replay_line;
-use super::stub::{Form, LineFault, read_line};
+use super::reading::read_line;
 use lbk_rules::{CellSource, Profile};
 use std::alloc::Global;
 

@@ -4,10 +4,11 @@ ghost use Rattle.std.specs.Prelude.{◌≡◌, ◌∷◌, ◌++◌, [], OnOk, de
 ghost use Rattle.lbk_rules.specs.Labels.{label_of};
 ghost use Rattle.lbk_notation.specs.Marks.{mark_of};
 ghost use Rattle.lbk_notation.specs.ReplayText.{finding_text, total_text};
-ghost use Rattle.lbk_notation.specs.Stub.{mark_bytes, shown};
+ghost use Rattle.lbk_notation.specs.Grammar.{mark_bytes};
+ghost use Rattle.lbk_notation.specs.Written.{shown};
 
 use super::findings::{Finding, Outcome, Report};
-use super::stub::{Form, Mark};
+use super::marks::{Form, Mark};
 use itoa::Buffer;
 use lbk_rules::{Kind, Verdict};
 use std::alloc::AllocError;

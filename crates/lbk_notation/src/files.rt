@@ -4,13 +4,13 @@ ghost use Rattle.std.specs.Prelude.{◌≡◌, ◌+◌, ◌<◌, ◌≤◌, ◌�
 ghost use Rattle.std.specs.Io.KnownBytes.{Appends, IsAtEnd};
 ghost use Rattle.lbk_notation.specs.Progress.{Ends, HasRead, Uses, is_read_fault_of};
 ghost use Rattle.lbk_notation.specs.Replay.{IsReplay, IsReplayed, is_read_fault};
-ghost use Rattle.lbk_notation.specs.Runs.{HasFailed, Ran};
+ghost use Rattle.lbk_feed.specs.Runs.{HasFailed, Ran};
 
 use super::findings::{ReplayFault, Report};
+use super::marks::Form;
 use super::progress::Progress;
 use super::replayer::Replayer;
-use super::stub::{Form, write_all};
-use lbk_feed::{Sink, Source};
+use lbk_feed::{Sink, Source, write_all};
 use lbk_rules::{CellSource, Profile};
 use std::alloc::Global;
 
