@@ -1,7 +1,10 @@
 -- The lines of a test file.
 use Rattle.std.specs.Prelude.{ℕ, ◌==◌, ◌&&◌, if◌then◌else◌, List, [], ◌∷◌, ◌++◌}
 
--- a file without the byte order mark at its front, the bytes EF BB BF
+abbrev pub byte_order_mark : List ℕ
+byte_order_mark = 0xEF ∷ 0xBB ∷ 0xBF ∷ []
+
+-- a file without the byte order mark at its front
 abbrev pub without_mark : List ℕ → List ℕ
 without_mark (a ∷ b ∷ c ∷ bytes) = if (a == 0xEF) && (b == 0xBB) && (c == 0xBF) then bytes else a ∷ b ∷ c ∷ bytes
 without_mark bytes = bytes

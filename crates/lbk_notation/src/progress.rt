@@ -1,6 +1,7 @@
 //! How far a replay has come: the line that is not ended yet, what the last one wrote, and the counts.
 
 ghost use Rattle.std.specs.Prelude.{◌≡◌, ◌≢◌, ℕ, ◌+◌, ◌<◌, ◌≤◌, List, [], ◌∷◌, ◌++◌, length, true, OnOk, IfOk, IfErr};
+ghost use Rattle.std.specs.Bool.{OnTrue, OnFalse};
 
 use super::findings::{Finding, ReplayFault, Report, STREAM_MAX};
 use super::reading::LONGEST;
@@ -38,6 +39,7 @@ impl Progress {
     ghost use Rattle.lbk_notation.specs.Findings.{IsFinding};
     ghost use Rattle.lbk_notation.specs.Progress.{Holds, Settles, Stands, StandsAtEnd};
     ghost use Rattle.lbk_notation.specs.ReplayText.{total_text};
+    ghost use Rattle.lbk_notation.specs.Stream.{byte_order_mark};
 
     /// Nothing is taken yet.
     pub fn new(alloc: Global) -> Progress
@@ -94,10 +96,19 @@ impl Progress {
             return Ok(());
         }
         self.line.push(byte)?;
-        if self.taken == 3 && self.line.as_slice() == MARK.as_slice() {
+        if self.holds_mark() {
             self.line.clear();
+            return Ok(());
         }
         Ok(())
+    }
+
+    /// Whether the bytes taken are the byte order mark, and nothing else.
+    fn holds_mark(&self) -> bool
+        ensures yes { OnTrue result ((self.now.taken ≡ 3) × (self.now.line.items ≡ byte_order_mark)) }
+        ensures no { OnFalse result (self.now.taken ≡ 3 → self.now.line.items ≢ byte_order_mark) }
+    {
+        self.taken == 3 && self.line.as_slice() == MARK.as_slice()
     }
 
     /// Takes the LF that ends a line. What the line writes is then `text`.
