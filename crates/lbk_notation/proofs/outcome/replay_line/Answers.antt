@@ -1,0 +1,4 @@
+use Rattle.lbk_notation.proofs.outcome.replay_line.Goals as goal
+
+pub returns : goal.returns
+returns g c = ?
