@@ -1,9 +1,10 @@
 -- The annex's own words for what the definitions compute (UAX #14, section 6), over whole lists from first to last.
-use Rattle.std.specs.Prelude.{ℕ, zero, suc, ◌≡◌, Bool, true, false, ◌||◌, not, List, [], ◌∷◌, ◌++◌, reverse}
+use Rattle.std.specs.Prelude.{ℕ, zero, suc, ◌≡◌, ◌⊎◌, Bool, true, false, ◌||◌, not, List, [], ◌∷◌, ◌++◌, reverse}
 use Rattle.std.specs.List.{AllByRecursion}
 use Rattle.lbk_rules.specs.declared.classes.Class.{Class}
+use Rattle.lbk_rules.specs.declared.classes.Quote.TheVariants.{Initial, Final}
 use Rattle.lbk_rules.specs.declared.cells.Cell.{Cell}
-use Rattle.lbk_rules.specs.Classes.{Set, SP, RI, hard, mark, none_of}
+use Rattle.lbk_rules.specs.Classes.{Set, SP, RI, QU, hard, mark, none_of, opens_after, closes_before}
 use Rattle.lbk_rules.specs.Sides.{is_nothing, at}
 
 -- a set that has no space
@@ -25,6 +26,40 @@ pub record EndsInRun (cells run : List Cell) : Type 0 where
   pub joined : cells ≡ before ++ run
   pub all_indicators : AllByRecursion (λ (c : Cell). RI c.class ≡ true) run
   pub longest : (rest : List Cell) (cell : Cell) → before ≡ rest ++ cell ∷ [] → RI cell.class ≡ true → ⊥
+
+-- the last of a list is of this set
+pub record EndsIn (x : Set) (cells : List Cell) : Type 0 where
+  pub before : List Cell
+  pub cell : Cell
+  pub joined : cells ≡ before ++ cell ∷ []
+  pub of_set : x cell.class ≡ true
+
+-- the first of a list is of this set
+pub record BeginsIn (x : Set) (cells : List Cell) : Type 0 where
+  pub cell : Cell
+  pub after : List Cell
+  pub joined : cells ≡ cell ∷ after
+  pub of_set : x cell.class ≡ true
+
+-- an opening quotation mark and spaces end a list, and before the mark stands nothing, or what leaves it open (rule LB15a)
+pub record EndsInOpenQuotation (cells : List Cell) : Type 0 where
+  pub before : List Cell
+  pub quotation : Cell
+  pub spaces : List Cell
+  pub joined : cells ≡ before ++ quotation ∷ spaces
+  pub of_class : QU quotation.class ≡ true
+  pub opens : quotation.quote ≡ Initial
+  pub left_open : (before ≡ []) ⊎ EndsIn opens_after before
+  pub all_spaces : AllByRecursion (λ (c : Cell). SP c.class ≡ true) spaces
+
+-- a closing quotation mark begins a list, and after the mark stands nothing, or what leaves it closed (rule LB15b)
+pub record BeginsInClosedQuotation (cells : List Cell) : Type 0 where
+  pub quotation : Cell
+  pub after : List Cell
+  pub joined : cells ≡ quotation ∷ after
+  pub of_class : QU quotation.class ≡ true
+  pub closes : quotation.quote ≡ Final
+  pub left_closed : (after ≡ []) ⊎ BeginsIn closes_before after
 
 -- how many are left over by pairs
 abbrev pub is_odd : ℕ → Bool

@@ -1,11 +1,10 @@
 -- The few facts of the left side that the rules ask for.
-use Rattle.std.specs.Prelude.{◌≡◌, Bool, false, ◌||◌, if◌then◌else◌, [], ◌∷◌}
+use Rattle.std.specs.Prelude.{◌≡◌, Bool, false, if◌then◌else◌, [], ◌∷◌}
 use Rattle.lbk_rules.specs.declared.verdicts.Profile.{Profile}
 use Rattle.lbk_rules.specs.declared.verdicts.Profile.TheVariants.{First, Second}
-use Rattle.lbk_rules.specs.declared.cells.Cell.{Cell}
 use Rattle.lbk_rules.specs.declared.facts.Left.{Left}
 use Rattle.lbk_rules.specs.declared.facts.Before.{Before}
-use Rattle.lbk_rules.specs.Classes.{hard, mark, none_of, ZW, HL}
+use Rattle.lbk_rules.specs.Classes.{ZW, HL}
 use Rattle.lbk_rules.specs.Sides.{Side, is_nothing, before_spaces, behind, past_spaces, at_odd_run, opens_quotation, leaves_closed}
 use Rattle.lbk_rules.specs.Units.{unit}
 pub use Rattle.lbk_rules.specs.Units.{space, nearest, heads}

@@ -9,11 +9,10 @@ ghost use Rattle.lbk_rules.specs.declared.verdicts.Profile.TheVariants.{First, S
 ghost use Rattle.lbk_rules.specs.declared.verdicts.Rule.TheVariants.{Lb2};
 ghost use Rattle.lbk_rules.specs.Classes.{mark};
 ghost use Rattle.lbk_rules.specs.Ends.{ends_line, ends_between, end_after, end_of_text, joins, joined_after};
-ghost use Rattle.lbk_rules.specs.Facts.{heads};
 ghost use Rattle.lbk_rules.specs.Held.{is_held, unanswered, answer_at, late_at, now_at};
 ghost use Rattle.lbk_rules.specs.LateFits.{LateFits, held_position};
 ghost use Rattle.lbk_rules.specs.Once.{named, came_late, came_now};
-ghost use Rattle.lbk_rules.specs.Units.{next_unit};
+ghost use Rattle.lbk_rules.specs.Units.{heads, next_unit};
 ghost use Rattle.lbk_rules.specs.Verdict.{verdict, verdict_in, verdict_between, verdict_between_in};
 
 /// The paragraph law: after a position before the end where a line must end, the text before it decides
