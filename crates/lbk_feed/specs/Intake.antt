@@ -9,7 +9,7 @@ use Rattle.lbk_feed.specs.Block.{items}
 use Rattle.lbk_feed.specs.View.{View, BeginsWith, CanGoOn, AreDue}
 
 -- the intake as callers of the feed see it
-abbrev pub view_of : Intake → View
+unfoldable pub view_of : Intake → View
 view_of i = record { held = items i.block; ready = take i.ready_len (items i.block); given = i.given; is_ended = i.is_ended; is_spent = i.is_spent }
 
 -- nothing is ready, and what is held may go on: a read is due

@@ -8,6 +8,7 @@ use Rattle.lbk_feed.proofs.Outcomes.{OnErr-always}
 use Rattle.lbk_feed.proofs.intake.Intake.read_more.Goals as goal
 
 pub returns-clause-ok : goal.returns-clause-ok
+unfolding view_of
 returns-clause-ok g c =
     let i = c.args.self.now in
     let gives = c.in_ok-n.ensures.fills in
@@ -19,6 +20,7 @@ returns-clause-ok g c =
     c.read_from.ensures.reads c.requires.due.goes_on
 
 pub returns-in_err-n-clause-err : goal.returns-in_err-n-clause-err
+unfolding view_of
 returns-in_err-n-clause-err g c =
     let due = c.requires.due in
     OnErr-always c.from_residual.result (Draws-failed (view_of c.args.self.now) _ _ _ _ _ c.in_err-n.ensures.fills.0 c.in_err-n.ensures.fills.1

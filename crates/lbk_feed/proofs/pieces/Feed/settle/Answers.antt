@@ -43,3 +43,9 @@ returns-clause-stands g c = some_ready _ _ c.is_empty.result c.ready.ensures.rea
 
 pub returns-clause-ends : goal.returns-clause-ends
 returns-clause-ends g c = none_ready _ _ _ c.is_empty.result c.ready.ensures.ready c.is_empty.ensures c.in_ok-settle.ensures.steps.found
+
+pub returns-in_err-settle-clause-spent : goal.returns-in_err-settle-clause-spent
+returns-in_err-settle-clause-spent g c = λ spent.
+    let exit = err_from_is_err_and c.from_residual.result c.from_residual.ensures.1 in
+    let told = c.in_err-settle.ensures.spent (ap (λ (v : View). v.is_spent) c.self.view_is ∙ spent) in
+    rw (exit.1, exit.2) (ap (λ (f : FeedFault). Err f) (cc))
