@@ -1,2 +1,7 @@
+pub mod Sorts
+pub mod Digits
+pub mod Runs
+pub mod Completes
+pub mod Sound
 pub mod ProgressLemmas
 pub mod StreamLemmas

@@ -42,13 +42,14 @@ digit_byte digit = if ltb digit 10 then 48 + digit else 55 + digit
 abbrev pub token_bytes : List ℕ → List ℕ
 token_bytes digits = map digit_byte digits
 
--- the number that digits spell behind those of another number
+-- the number that digits spell, behind the digits of a number
 abbrev pub number_behind : ℕ → List ℕ → ℕ
 number_behind number [] = number
 number_behind number (digit ∷ digits) = number_behind (16 * number + digit) digits
 
 abbrev pub number_of : List ℕ → ℕ
-number_of digits = number_behind 0 digits
+number_of [] = 0
+number_of (digit ∷ digits) = number_behind digit digits
 
 -- four digits that aren't D800 to DFFF, or five whose first isn't 0, or six that begin with 1 and 0
 abbrev pub HasShape : List ℕ → Type 0

@@ -16,7 +16,7 @@ use Rattle.lbk_notation.specs.declared.reader.Taken.TheVariants.{Dead, On, OneSc
 use Rattle.lbk_notation.specs.Grammar.{is_space}
 use Rattle.lbk_notation.specs.Line.{Line, made}
 
-abbrev pub sort_of : ℕ → Sort
+unfoldable pub sort_of : ℕ → Sort
 sort_of byte =
     if is_space byte then Space
     else (if leb 48 byte && leb byte 57 then Digit (byte - 48)

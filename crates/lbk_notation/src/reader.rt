@@ -66,6 +66,7 @@ impl State {
     }
 }
 
+#[tactic(auto, unfolding(crate::specs::Run::sort_of))]
 pub(crate) fn sort_of(byte: u8) -> Sort
     ensures { result ≡ sort_of byte }
 {
@@ -87,7 +88,7 @@ pub(crate) fn sort_of(byte: u8) -> Sort
 /// What a byte of this sort does in a state.
 pub(crate) fn step(form: Form, state: State, sort: Sort) -> Taken
     requires { IsGood state }
-    ensures { result ≡ step_of form state sort }
+    ensures taken { result ≡ step_of form state sort }
 {
     match state {
         State::Start => match sort {
