@@ -30,8 +30,10 @@ open-more count number digit o e small = go (digit-cases count number e)
   where
     more : 16 ^ (count + 1) ≡ 16 * 16 ^ count
     more = rw add-one (pow-succ' 16 count)
+
     below : 16 * number + digit < 16 ^ (count + 1)
     below = omega (arith, more, o.below)
+
     go : (count < 4) ⊎ (((count ≡ 4) × (0x1000 ≤ number)) ⊎ ((count ≡ 5) × (number < 0x11000))) → IsOpen (count + 1) (16 * number + digit)
     go (inl few) = record { few = omega arith; below = below; five = λ e. absurd (omega arith); six = λ e. absurd (omega arith) }
     go (inr (inl (four, high))) = record { few = omega arith; below = below; five = λ e. omega arith; six = λ e. absurd (omega arith) }
@@ -50,6 +52,7 @@ open-scalar count number o = go count refl o.few
     small n le e =
         let most : 16 ^ count ≤ 16 ^ 5 = pow-le-pow_right (lit< tt) (let l : count ≤ 5 = omega arith in l) in
         omega (arith, most, o.below, lit≤ {m = 16 ^ 5} {n = 0x110000} tt)
+
     go : (n : ℕ) → count ≡ n → n ≤ 6 → number < 0x110000
     go n e le = split (cases_lt n 6)
       where

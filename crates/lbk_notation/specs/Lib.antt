@@ -12,5 +12,6 @@ pub mod ReplayText
 pub mod Replay
 -- What only carries proofs.
 pub mod Run
+pub mod Met
 pub mod Counted
 pub mod Progress

@@ -1,4 +1,4 @@
-use Rattle.std.proofs.Common.{refl, arith}
+use Rattle.std.proofs.Common.{[], refl, arith}
 use Rattle.lbk_notation.specs.Stream.{cut_of}
 use Rattle.lbk_notation.proofs.progress.Progress.new.Goals as goal
 
