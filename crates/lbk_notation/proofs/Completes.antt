@@ -26,9 +26,9 @@ abbrev GivesTaken : Form → Taken → List ℕ → List Mark → List ℕ → O
 GivesTaken form taken scalars marks bytes value = (place : ℕ) → run_taken form taken place scalars marks bytes ≡ Ok value
 
 -- one byte
-pub take : (form : Form) (state : State) (taken : Taken) (scalars : List ℕ) (marks : List Mark) (byte : ℕ) (bytes : List ℕ) (value : Option Line)
+pub take_byte : (form : Form) (state : State) (taken : Taken) (scalars : List ℕ) (marks : List Mark) (byte : ℕ) (bytes : List ℕ) (value : Option Line)
     → step_of form state (sort_of byte) ≡ taken → GivesTaken form taken scalars marks bytes value → Gives form state scalars marks (byte ∷ bytes) value
-take form state taken scalars marks byte bytes value e gives = λ place. run_step form state place scalars marks byte bytes taken e ∙ gives place
+take_byte form state taken scalars marks byte bytes value e gives = λ place. run_step form state place scalars marks byte bytes taken e ∙ gives place
 
 -- ws*, in a state that it does not change
 pub blanks : (form : Form) (state : State) (scalars : List ℕ) (marks : List Mark) (blank rest : List ℕ) (value : Option Line)
@@ -36,7 +36,7 @@ pub blanks : (form : Form) (state : State) (scalars : List ℕ) (marks : List Ma
     → Gives form state scalars marks (blank ++ rest) value
 blanks form state scalars marks [] rest value loops blank gives = gives
 blanks form state scalars marks (byte ∷ bytes) rest value loops blank gives =
-    take form state (On state) scalars marks byte (bytes ++ rest) value (ap (step_of form state) (sort-space byte blank.0) ∙ loops)
+    take_byte form state (On state) scalars marks byte (bytes ++ rest) value (ap (step_of form state) (sort-space byte blank.0) ∙ loops)
     (λ place. blanks form state scalars marks bytes rest value loops blank.1 gives (place + 1))
 
 comment_on : (byte : ℕ) (sort : Sort) → sort_of byte ≡ sort → byte ≢ 10 → comment_step sort ≡ On Comment
@@ -48,7 +48,7 @@ pub comments : (form : Form) (scalars : List ℕ) (marks : List Mark) (bytes : L
     → Gives form Comment scalars marks bytes (made scalars marks)
 comments form scalars marks [] none = λ place. refl
 comments form scalars marks (byte ∷ bytes) none =
-    take form Comment (On Comment) scalars marks byte bytes (made scalars marks) (comment_on byte (sort_of byte) refl none.0)
+    take_byte form Comment (On Comment) scalars marks byte bytes (made scalars marks) (comment_on byte (sort_of byte) refl none.0)
     (λ place. comments form scalars marks bytes none.1 (place + 1))
 
 -- the end, in a state where a line may end
@@ -58,10 +58,10 @@ pub ends : (form : Form) (state : State) (scalars : List ℕ) (marks : List Mark
 ends form state scalars marks [] can return hash end =
     λ place. cond-true (can_end state) (Ok (made scalars marks)) (Err place) can
 ends form state scalars marks (byte ∷ bytes) can return hash (inl (is, nothing)) =
-    take form state (On Ended) scalars marks byte bytes (made scalars marks) (ap (λ b. step_of form state (sort_of b)) is ∙ ap (step_of form state) sort-return ∙ return)
+    take_byte form state (On Ended) scalars marks byte bytes (made scalars marks) (ap (λ b. step_of form state (sort_of b)) is ∙ ap (step_of form state) sort-return ∙ return)
     (λ place. ap (run form Ended (place + 1) scalars marks) nothing)
 ends form state scalars marks (byte ∷ bytes) can return hash (inr (is, none)) =
-    take form state (On Comment) scalars marks byte bytes (made scalars marks) (ap (λ b. step_of form state (sort_of b)) is ∙ ap (step_of form state) sort-hash ∙ hash)
+    take_byte form state (On Comment) scalars marks byte bytes (made scalars marks) (ap (λ b. step_of form state (sort_of b)) is ∙ ap (step_of form state) sort-hash ∙ hash)
     (λ place. comments form scalars marks bytes none (place + 1))
 
 -- ws+ behind a mark
@@ -69,7 +69,7 @@ pub gaps : (form : Form) (scalars : List ℕ) (marks : List Mark) (gap rest : Li
     → Gives form Spaced scalars marks rest value → Gives form Marked scalars marks (gap ++ rest) value
 gaps form scalars marks [] rest value gap gives = elim gap [ ]
 gaps form scalars marks (byte ∷ bytes) rest value gap gives =
-    take form Marked (On Spaced) scalars marks byte (bytes ++ rest) value (ap (step_of form Marked) (sort-space byte gap.0))
+    take_byte form Marked (On Spaced) scalars marks byte (bytes ++ rest) value (ap (step_of form Marked) (sort-space byte gap.0))
     (λ place. blanks form Spaced scalars marks bytes rest value refl gap.1 gives (place + 1))
 
 -- a mark
@@ -77,31 +77,31 @@ pub marked : (form : Form) (state : State) (scalars : List ℕ) (marks : List Ma
     → step_of form state Lead ≡ On Half → step_of form state Exclamation ≡ marking form Exclamation → Has form mark
     → Gives form Marked scalars (marks ++ mark ∷ []) rest value → Gives form state scalars marks (mark_bytes mark ++ rest) value
 marked form state scalars marks No rest value lead exclamation has gives =
-    take form state (On Half) scalars marks 0xC3 (0x97 ∷ rest) value (ap (step_of form state) sort-lead ∙ lead)
-    (λ place. take form Half (OneMark No) scalars marks 0x97 rest value (ap (step_of form Half) sort-times) (λ p. gives (p + 1)) (place + 1))
+    take_byte form state (On Half) scalars marks 0xC3 (0x97 ∷ rest) value (ap (step_of form state) sort-lead ∙ lead)
+    (λ place. take_byte form Half (OneMark No) scalars marks 0x97 rest value (ap (step_of form Half) sort-times) (λ p. gives (p + 1)) (place + 1))
 marked form state scalars marks May rest value lead exclamation has gives =
-    take form state (On Half) scalars marks 0xC3 (0xB7 ∷ rest) value (ap (step_of form state) sort-lead ∙ lead)
-    (λ place. take form Half (OneMark May) scalars marks 0xB7 rest value (ap (step_of form Half) sort-division) (λ p. gives (p + 1)) (place + 1))
+    take_byte form state (On Half) scalars marks 0xC3 (0xB7 ∷ rest) value (ap (step_of form state) sort-lead ∙ lead)
+    (λ place. take_byte form Half (OneMark May) scalars marks 0xB7 rest value (ap (step_of form Half) sort-division) (λ p. gives (p + 1)) (place + 1))
 marked Kinds state scalars marks Must rest value lead exclamation has gives =
-    take Kinds state (OneMark Must) scalars marks 33 rest value (ap (step_of Kinds state) sort-exclamation ∙ exclamation) (λ place. gives (place + 1))
+    take_byte Kinds state (OneMark Must) scalars marks 33 rest value (ap (step_of Kinds state) sort-exclamation ∙ exclamation) (λ place. gives (place + 1))
 marked Plain state scalars marks Must rest value lead exclamation has gives = elim has [ ]
 
 -- a digit that may follow
-digit_on : (form : Form) (count number digit : ℕ) (scalars : List ℕ) (marks : List Mark) (rest : List ℕ) (value : Option Line) → digit < 16
+pub digit_on : (form : Form) (count number digit : ℕ) (scalars : List ℕ) (marks : List Mark) (rest : List ℕ) (value : Option Line) → digit < 16
     → takes_digit count number ≡ true → Gives form (Digits (count + 1) (16 * number + digit)) scalars marks rest value
     → Gives form (Digits count number) scalars marks (digit_byte digit ∷ rest) value
 digit_on form count number digit scalars marks rest value small takes gives =
-    take form (Digits count number) (On (Digits (count + 1) (16 * number + digit))) scalars marks (digit_byte digit) rest value
+    take_byte form (Digits count number) (On (Digits (count + 1) (16 * number + digit))) scalars marks (digit_byte digit) rest value
     (ap (digits_step count number) (sort-digit digit small) ∙ cond-true (takes_digit count number) (On (Digits (count + 1) (16 * number + digit))) Dead takes)
     (λ place. gives (place + 1))
 
 -- ws+ behind a token
-token_off : (form : Form) (count number : ℕ) (scalars : List ℕ) (marks : List Mark) (gap rest : List ℕ) (value : Option Line)
+pub token_off : (form : Form) (count number : ℕ) (scalars : List ℕ) (marks : List Mark) (gap rest : List ℕ) (value : Option Line)
     → leb 4 count ≡ true → is_scalar number ≡ true → IsGap gap → Gives form Coded (scalars ++ number ∷ []) marks rest value
     → Gives form (Digits count number) scalars marks (gap ++ rest) value
 token_off form count number scalars marks [] rest value four scalar gap gives = elim gap [ ]
 token_off form count number scalars marks (byte ∷ bytes) rest value four scalar gap gives =
-    take form (Digits count number) (OneScalar number) scalars marks byte (bytes ++ rest) value
+    take_byte form (Digits count number) (OneScalar number) scalars marks byte (bytes ++ rest) value
     (ap (digits_step count number) (sort-space byte gap.0)
     ∙ cond-true (leb 4 count && is_scalar number) (OneScalar number) Dead (and_from (leb 4 count) (is_scalar number) four scalar))
     (λ place. blanks form Coded (scalars ++ number ∷ []) marks bytes rest value refl gap.1 gives (place + 1))
@@ -109,7 +109,7 @@ token_off form count number scalars marks (byte ∷ bytes) rest value four scala
 first_digit : (form : Form) (digit : ℕ) (scalars : List ℕ) (marks : List Mark) (rest : List ℕ) (value : Option Line) → digit < 16
     → Gives form (Digits 1 digit) scalars marks rest value → Gives form Spaced scalars marks (digit_byte digit ∷ rest) value
 first_digit form digit scalars marks rest value small gives =
-    take form Spaced (On (Digits 1 digit)) scalars marks (digit_byte digit) rest value (ap (step_of form Spaced) (sort-digit digit small))
+    take_byte form Spaced (On (Digits 1 digit)) scalars marks (digit_byte digit) rest value (ap (step_of form Spaced) (sort-digit digit small))
     (λ place. gives (place + 1))
 
 four_scalar : (number : ℕ) → (number < 0xD800) ⊎ (0xDFFF < number) → is_scalar number ≡ true

@@ -1,5 +1,5 @@
 -- What the verdict of one position more does to the least difference.
-use Rattle.std.proofs.Common.{◌≡◌, ℕ, ◌≤◌, ◌<◌, Bool, true, false, cond, ◌||◌, ◌⊎◌, inl, inr, ⊎_elim, List, [], ◌∷◌, ◌++◌, length, map, take, drop, get_or, Option, Some, None, MatchOption, refl, sym, ap, subst, ◌∙◌, arith, append-nil}
+use Rattle.std.proofs.Common.{◌≡◌, ℕ, ◌≤◌, ◌<◌, Bool, true, false, cond, ◌||◌, ◌⊎◌, inl, inr, ⊎_elim, List, [], ◌∷◌, ◌++◌, length, map, take, drop, get_or, ◌+◌, Option, Some, None, MatchOption, refl, sym, ap, subst, ◌∙◌, arith, append-nil}
 use Rattle.std.specs.List.{slice_get}
 use Rattle.std.specs.Option.{ForSome, option_map}
 use Rattle.std.proofs.lemmas.List.{get_or-map, length-map, length-take-le, take_more}
@@ -269,3 +269,8 @@ cells-around cell scalars k d x within same =
       ap (λ y. take k (map cell scalars) ++ y ∷ []) here ∙ sym (take_more (map cell scalars) k letter under),
       length-take-le k (map cell scalars) (omega arith),
     )
+
+pub Met-at : (form : Form) (line : Line) (n : ℕ) (now : Option Verdict) (old new : Outcome)
+    → MatchOption now (new ≡ old) (λ rules. Meets form line.marks n rules old new) → Met form line (at n now) old new
+Met-at form line n None old new met = met
+Met-at form line n (Some rules) old new met = met

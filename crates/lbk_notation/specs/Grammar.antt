@@ -29,11 +29,14 @@ mark_bytes No = 0xC3 ∷ 0x97 ∷ []
 mark_bytes May = 0xC3 ∷ 0xB7 ∷ []
 mark_bytes Must = 33 ∷ []
 
--- ! stands in form Kinds alone
+abbrev pub IsKinds : Form → Type 0
+IsKinds Kinds = Unit {0}
+IsKinds Plain = ⊥
+
+-- the marks of a form: ! stands in form Kinds alone
 abbrev pub Has : Form → Mark → Type 0
-Has Kinds mark = Unit {0}
-Has Plain Must = ⊥
-Has Plain mark = Unit {0}
+Has form Must = IsKinds form
+Has form mark = Unit {0}
 
 -- the upper-case hex digit of a value: 0 to 9, A to F
 abbrev pub digit_byte : ℕ → ℕ

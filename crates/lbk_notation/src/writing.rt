@@ -1,4 +1,5 @@
-ghost use Rattle.std.specs.Prelude.{◌≡◌, ◌+◌, ◌<◌, ◌++◌, Option, Some, length, IfOk, OnOk};
+ghost use Rattle.std.specs.Prelude.{◌≡◌, ◌+◌, ◌<◌, ◌++◌, ◌∷◌, Option, Some, length, IfOk, OnOk, EachIndex, slice_index};
+ghost use Rattle.std.specs.Char.{IsScalar};
 ghost use Rattle.lbk_notation.specs.Grammar.{IsLine, digit_byte, mark_bytes};
 ghost use Rattle.lbk_notation.specs.Line.{Line};
 ghost use Rattle.lbk_notation.specs.Written.{shown, token, written_marks, written_line, shown_line};
@@ -29,16 +30,30 @@ pub fn push_line(
     form: Form,
 ) -> Result<(), AllocError>
     requires { length marks.now ≡ length scalars.now + 1 }
-    ensures { OnOk result (text.new.items ≡ text.old.items ++ written_marks form scalars.now marks.now) }
+    ensures text { OnOk result (text.new.items ≡ text.old.items ++ written_marks form scalars.now marks.now) }
+    ensures chars { OnOk result (EachIndex scalars.now (λ k. IsScalar (slice_index scalars.now k))) }
 {
     push_mark(text, marks[0], form)?;
     for k in 0..scalars.len() {
-        text.push(b' ')?;
-        push_token(text, scalars[k])?;
-        text.push(b' ')?;
-        push_mark(text, marks[k + 1], form)?;
+        push_scalar(text, scalars[k], marks[k + 1], form)?;
     }
     Ok(())
+}
+
+/// Puts a scalar and the mark behind it behind the text.
+fn push_scalar(
+    text: &mut Vec<u8>,
+    scalar: char,
+    mark: Mark,
+    form: Form,
+) -> Result<(), AllocError>
+    ensures { OnOk result (text.new.items
+        ≡ text.old.items ++ (32 ∷ (token scalar ++ (32 ∷ mark_bytes (shown form mark))))) }
+{
+    text.push(b' ')?;
+    push_token(text, scalar)?;
+    text.push(b' ')?;
+    push_mark(text, mark, form)
 }
 
 fn push_mark(text: &mut Vec<u8>, mark: Mark, form: Form) -> Result<(), AllocError>
