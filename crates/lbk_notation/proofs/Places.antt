@@ -170,6 +170,7 @@ fails_on form byte bytes rec state place scalars scalars' marks marks' k taken n
     before after zero lt = goes_byte form state taken next scalars scalars' marks marks' byte [] e same (goes form next scalars' marks' good)
     before after (suc j) lt =
         goes_byte form state taken next scalars scalars' marks marks' byte (take (suc j) bytes) e same (after.before j (omega arith))
+
     here : Fails form next (place + 1) scalars' marks' bytes k → k < place + length (byte ∷ bytes) → (j : ℕ) → place + j ≡ k → (more : List ℕ)
         → run form state place scalars marks (take (suc j) (byte ∷ bytes) ++ more) ≡ Err k
     here after lt zero is more = absurd (omega (arith, after.from))
@@ -217,6 +218,7 @@ placed form bytes k e =
   where
     viable : {bytes : List ℕ} → Goes form Start [] [] bytes → IsViable form bytes
     viable {bytes} on = (on.more, on.bytes_more, on.value, sound form (bytes ++ on.more) on.value (on.gives 0))
+
     refuse : Fails form Start 0 [] [] bytes k → k < length bytes → IsViable form (take (k + 1) bytes) → ⊥
     refuse failed lt (more, is_bytes, value, is) =
         let ok : run_line form (take (suc k) bytes ++ more) ≡ Ok value = rw add-one at (complete form (take (k + 1) bytes ++ more) value is) in

@@ -1,6 +1,6 @@
 -- What one byte, one line and the end do to how far a replay has come.
-use Rattle.std.proofs.Common.{◌≡◌, ◌≢◌, ℕ, ◌+◌, ◌<◌, ◌≤◌, Bool, true, false, cond, List, [], ◌∷◌, ◌++◌, length, refl, sym, ap, subst, ◌∙◌, inl, inr, arith, count_by, append_assoc, append-nil, add-zero, length-append}
-use Rattle.std.proofs.lemmas.Bool.{cases_Bool}
+use Rattle.std.proofs.Common.{◌≡◌, ◌≢◌, ℕ, ◌+◌, ◌<◌, ◌≤◌, ◌⊎◌, Bool, true, false, cond, List, [], ◌∷◌, ◌++◌, length, refl, sym, ap, subst, ◌∙◌, inl, inr, arith, count_by, append_assoc, append-nil, add-zero, length-append}
+use Rattle.std.proofs.lemmas.Bool.{cases_Bool, false≢true}
 use Rattle.std.proofs.lemmas.List.Sums.{fold-append}
 use Rattle.lbk_rules.specs.declared.cells.Cell.{Cell}
 use Rattle.lbk_rules.specs.declared.verdicts.Profile.{Profile}
@@ -191,3 +191,15 @@ StandsAtEnd-none cell form profile old new used out text none report empty stand
   counts = report ∙ stands.counts;
   text = ap (λ t. out ++ t) empty ∙ append-nil out ∙ stands.text;
 }
+
+Holds-some : (rest line : List ℕ) (is_long : Bool) → Holds rest line is_long → (is_long ≡ true) ⊎ (0 < length line) → 0 < length rest
+Holds-some rest line true held some = omega (arith, held)
+Holds-some rest line false held (inl no) = absurd (false≢true no)
+Holds-some rest line false held (inr some) = rw (← held.0) some
+
+-- the last line of a file, once it is known that there is one
+pub StandsAtEnd-held : (cell : ℕ → Cell) (form : Form) (profile : Profile) (old new : Progress) (used out : List ℕ)
+    → (old.is_long ≡ true) ⊎ (0 < length old.line.items) → Settles cell form profile old new → Stands cell form profile old used out
+    → StandsAtEnd cell form profile new used (out ++ new.text.items)
+StandsAtEnd-held cell form profile old new used out some settles stands =
+    StandsAtEnd-last cell form profile old new used out (Holds-some (cut_of used).rest old.line.items old.is_long stands.held some) settles stands

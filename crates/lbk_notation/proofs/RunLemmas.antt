@@ -1,5 +1,5 @@
 -- How the steps of a replay make up a run.
-use Rattle.std.proofs.Common.{◌≡◌, ℕ, ◌+◌, ◌-◌, ◌<◌, ◌≤◌, ◌⊎◌, inl, inr, Bool, true, false, List, [], ◌∷◌, ◌++◌, length, take, drop, Option, Some, None, IfSome, Result, Ok, Err, IfErr, MatchResult, refl, sym, ap, subst, ◌∙◌, arith, append_assoc, append-nil, length-append, take-append-drop}
+use Rattle.std.proofs.Common.{◌≡◌, ℕ, ◌+◌, ◌-◌, ◌<◌, ◌≤◌, ◌⊎◌, inl, inr, Bool, true, false, List, [], ◌∷◌, ◌++◌, length, take, drop, Option, Some, None, IfSome, Result, Ok, Err, IfErr, OnOk, MatchResult, refl, sym, ap, subst, ◌∙◌, arith, append_assoc, append-nil, length-append, take-append-drop}
 use Rattle.std.specs.Io.KnownBytes.{Appends, Consumes, IsAtEnd}
 use Rattle.std.proofs.KnownBytes.{Appends-nil, Appends-trans, Consumes-nil, Consumes-trans, Consumes-whole}
 use Rattle.std.proofs.lemmas.List.{take_all}
@@ -34,6 +34,13 @@ pub stopped-writing : (cell : ℕ → Cell) (form : Form) (profile : Profile) (e
 stopped-writing cell form profile ended first later read out line n split text =
     midway first later (out ++ line) (length out + n) split text (sym (take-append-add out line n))
 
+-- stopped at the same place of a longer list
+stopped-longer : (cell : ℕ → Cell) (form : Form) (profile : Profile) (ended : Type 0) (read more out : List ℕ)
+    → IsStoppedReplay cell form profile ⊥ read out → IsStoppedReplay cell form profile ended (read ++ more) out
+stopped-longer cell form profile ended read more out (midway first later all n split text put) =
+    midway first (later ++ more) all n (ap (λ r. r ++ more) split ∙ append_assoc first later more) text put
+stopped-longer cell form profile ended read more out (at_end all n never text put) = absurd never
+
 -- Bytes used one after another
 
 pub record UsesSoFar (cell : ℕ → Cell) (form : Form) (profile : Profile) (old new : Progress) (bytes : List ℕ) (written written' : Option (List ℕ)) : Type 0 where
@@ -51,28 +58,19 @@ Uses-start cell form profile old written = record {
       (subst (λ (u : List ℕ). Stands cell form profile old u out) (sym (append-nil used)) stands);
 }
 
--- a byte that wrote `line`
-pub Uses-byte : (cell : ℕ → Cell) (form : Form) (profile : Profile) (old middle new : Progress) (bytes next : List ℕ) (byte : ℕ) (line : List ℕ)
-    (written between written' : Option (List ℕ)) → bytes ++ byte ∷ [] ≡ next → Appends between written' line
-    → ((used out : List ℕ) → Stands cell form profile middle used out → Stands cell form profile new (used ++ byte ∷ []) (out ++ line))
-    → UsesSoFar cell form profile old middle bytes written between → UsesSoFar cell form profile old new next written written'
-Uses-byte cell form profile old middle new bytes next byte line written between written' one_more put step uses = record {
-  text = uses.text ++ line;
-  put = Appends-trans written between written' uses.text line uses.put put;
+-- one more byte
+pub Uses-more : (cell : ℕ → Cell) (form : Form) (profile : Profile) (old middle new : Progress) (bytes next : List ℕ) (byte : ℕ)
+    (written between written' : Option (List ℕ)) (done : Unit {0}) → bytes ++ byte ∷ [] ≡ next
+    → UsesSoFar cell form profile old middle bytes written between → Uses cell form profile middle new (byte ∷ []) between written' (Ok done)
+    → UsesSoFar cell form profile old new next written written'
+Uses-more cell form profile old middle new bytes next byte written between written' done one_more uses last = record {
+  text = uses.text ++ last.text;
+  put = Appends-trans written between written' uses.text last.text uses.put last.put;
   so = λ used out stands.
-      subst (λ (u : List ℕ). Stands cell form profile new u (out ++ (uses.text ++ line))) (append_assoc used bytes (byte ∷ []) ∙ ap (λ b. used ++ b) one_more)
-      (subst (λ (o : List ℕ). Stands cell form profile new ((used ++ bytes) ++ byte ∷ []) o) (append_assoc out uses.text line)
-        (step (used ++ bytes) (out ++ uses.text) (uses.so used out stands)));
+      subst (λ (u : List ℕ). Stands cell form profile new u (out ++ (uses.text ++ last.text))) (append_assoc used bytes (byte ∷ []) ∙ ap (λ b. used ++ b) one_more)
+      (subst (λ (o : List ℕ). Stands cell form profile new ((used ++ bytes) ++ byte ∷ []) o) (append_assoc out uses.text last.text)
+      (last.so (used ++ bytes) (out ++ uses.text) (uses.so used out stands)));
 }
-
--- a byte that wrote nothing
-pub Uses-silent : (cell : ℕ → Cell) (form : Form) (profile : Profile) (old middle new : Progress) (bytes next : List ℕ) (byte : ℕ)
-    (written written' : Option (List ℕ)) → bytes ++ byte ∷ [] ≡ next
-    → ((used out : List ℕ) → Stands cell form profile middle used out → Stands cell form profile new (used ++ byte ∷ []) out)
-    → UsesSoFar cell form profile old middle bytes written written' → UsesSoFar cell form profile old new next written written'
-Uses-silent cell form profile old middle new bytes next byte written written' one_more step uses =
-    Uses-byte cell form profile old middle new bytes next byte [] written written' written' one_more (Appends-nil written')
-    (λ used out stands. subst (λ (o : List ℕ). Stands cell form profile new (used ++ byte ∷ []) o) (sym (append-nil out)) (step used out stands)) uses
 
 pub Uses-all : (cell : ℕ → Cell) (form : Form) (profile : Profile) (old new : Progress) (bytes all : List ℕ) (written written' : Option (List ℕ))
     (done : Unit {0}) → bytes ≡ all → UsesSoFar cell form profile old new bytes written written' → Uses cell form profile old new all written written' (Ok done)
@@ -82,36 +80,59 @@ Uses-all cell form profile old new bytes all written written' done whole uses = 
   so = λ used out stands. subst (λ (b : List ℕ). Stands cell form profile new (used ++ b) (out ++ uses.text)) whole (uses.so used out stands);
 }
 
--- a refused growth, before anything was written of the next byte
-pub Uses-refused : (cell : ℕ → Cell) (form : Form) (profile : Profile) (old middle new : Progress) (bytes later all : List ℕ) (written written' : Option (List ℕ))
-    (fault : ReplayFault) → all ≡ bytes ++ later → UsesSoFar cell form profile old middle bytes written written'
+-- a byte at which it stopped
+pub Uses-stopped : (cell : ℕ → Cell) (form : Form) (profile : Profile) (old middle new : Progress) (bytes later all : List ℕ) (byte : ℕ)
+    (written between written' : Option (List ℕ)) (fault : ReplayFault) → all ≡ (bytes ++ byte ∷ []) ++ later
+    → UsesSoFar cell form profile old middle bytes written between → Uses cell form profile middle new (byte ∷ []) between written' (Err fault)
     → Uses cell form profile old new all written written' (Err fault)
-Uses-refused cell form profile old middle new bytes later all written written' fault split uses = record {
-  text = uses.text;
-  put = uses.put;
+Uses-stopped cell form profile old middle new bytes later all byte written between written' fault split uses last = record {
+  text = uses.text ++ last.text;
+  put = Appends-trans written between written' uses.text last.text uses.put last.put;
   so = λ used out stands.
-      stopped-settled cell form profile ⊥ (used ++ bytes) later (used ++ all) (out ++ uses.text)
-      (ap (λ b. used ++ b) split ∙ sym (append_assoc used bytes later))
-      (Stands-text cell form profile middle (used ++ bytes) (out ++ uses.text) (uses.so used out stands));
+      (let there = stopped-longer cell form profile ⊥ ((used ++ bytes) ++ byte ∷ []) later ((out ++ uses.text) ++ last.text)
+      (last.so (used ++ bytes) (out ++ uses.text) (uses.so used out stands)) in
+      let joined : ((used ++ bytes) ++ byte ∷ []) ++ later ≡ used ++ all =
+      ap (λ u. u ++ later) (append_assoc used bytes (byte ∷ [])) ∙ append_assoc used (bytes ++ byte ∷ []) later ∙ ap (λ b. used ++ b) (sym split) in
+      subst (λ (u : List ℕ). IsStoppedReplay cell form profile ⊥ u (out ++ (uses.text ++ last.text))) joined
+      (subst (λ (o : List ℕ). IsStoppedReplay cell form profile ⊥ (((used ++ bytes) ++ byte ∷ []) ++ later) o) (append_assoc out uses.text last.text) there));
 }
 
--- a failed write of what a byte ended
-pub Uses-failed : (cell : ℕ → Cell) (form : Form) (profile : Profile) (old middle ended new : Progress) (bytes next later all : List ℕ) (byte : ℕ)
-    (line : List ℕ) (n : ℕ) (written between written' : Option (List ℕ)) (fault : ReplayFault)
-    → bytes ++ byte ∷ [] ≡ next → all ≡ next ++ later → Appends between written' (take n line)
-    → ((used out : List ℕ) → Stands cell form profile middle used out → Stands cell form profile ended (used ++ byte ∷ []) (out ++ line))
-    → UsesSoFar cell form profile old middle bytes written between → Uses cell form profile old new all written written' (Err fault)
-Uses-failed cell form profile old middle ended new bytes next later all byte line n written between written' fault one_more split put step uses = record {
-  text = uses.text ++ take n line;
-  put = Appends-trans written between written' uses.text (take n line) uses.put put;
+-- One byte
+
+-- a refused growth: nothing was written
+pub Uses-refused : (cell : ℕ → Cell) (form : Form) (profile : Profile) (old new : Progress) (bytes : List ℕ) (written : Option (List ℕ)) (fault : ReplayFault)
+    → Uses cell form profile old new bytes written written (Err fault)
+Uses-refused cell form profile old new bytes written fault = record {
+  text = [];
+  put = Appends-nil written;
   so = λ used out stands.
-      (let after = step (used ++ bytes) (out ++ uses.text) (uses.so used out stands) in
-      let text = Stands-text cell form profile ended ((used ++ bytes) ++ byte ∷ []) ((out ++ uses.text) ++ line) after in
-      let joined : (used ++ bytes) ++ byte ∷ [] ≡ used ++ next = append_assoc used bytes (byte ∷ []) ∙ ap (λ b. used ++ b) one_more in
-      let there = subst (λ (u : List ℕ). IsEndedText cell form profile u ((out ++ uses.text) ++ line)) joined text in
-      subst (λ (o : List ℕ). IsStoppedReplay cell form profile ⊥ (used ++ all) o) (append_assoc out uses.text (take n line))
-      (stopped-writing cell form profile ⊥ (used ++ next) later (used ++ all) (out ++ uses.text) line n
-        (ap (λ b. used ++ b) split ∙ sym (append_assoc used next later)) there));
+      stopped-settled cell form profile ⊥ used bytes (used ++ bytes) (out ++ []) refl
+      (subst (λ (o : List ℕ). IsEndedText cell form profile used o) (sym (append-nil out)) (Stands-text cell form profile old used out stands));
+}
+
+-- a byte that ends no line
+pub Uses-silent : (cell : ℕ → Cell) (form : Form) (profile : Profile) (old new : Progress) (byte : ℕ) (written : Option (List ℕ)) (done : Unit {0})
+    → ((used out : List ℕ) → Stands cell form profile old used out → Stands cell form profile new (used ++ byte ∷ []) out)
+    → Uses cell form profile old new (byte ∷ []) written written (Ok done)
+Uses-silent cell form profile old new byte written done step = record {
+  text = [];
+  put = Appends-nil written;
+  so = λ used out stands. subst (λ (o : List ℕ). Stands cell form profile new (used ++ byte ∷ []) o) (sym (append-nil out)) (step used out stands);
+}
+
+-- a byte that ended a line, which was written, or the front of which was
+pub Uses-put : (cell : ℕ → Cell) (form : Form) (profile : Profile) (old new : Progress) (byte : ℕ) (line : List ℕ) (written written' : Option (List ℕ))
+    (result : Result (Unit {0}) ReplayFault)
+    → ((used out : List ℕ) → Stands cell form profile old used out → Stands cell form profile new (used ++ byte ∷ []) (out ++ line))
+    → OnOk result (Appends written written' line) → (n : ℕ) × Appends written written' (take n line)
+    → Uses cell form profile old new (byte ∷ []) written written' result
+Uses-put cell form profile old new byte line written written' (Ok done) step put front = record { text = line; put = put; so = step }
+Uses-put cell form profile old new byte line written written' (Err fault) step put front = record {
+  text = take front.0 line;
+  put = front.1;
+  so = λ used out stands.
+      stopped-writing cell form profile ⊥ (used ++ byte ∷ []) [] (used ++ byte ∷ []) out line front.0 (sym (append-nil (used ++ byte ∷ [])))
+      (Stands-text cell form profile new (used ++ byte ∷ []) (out ++ line) (step used out stands));
 }
 
 -- The end of the file
@@ -189,17 +210,10 @@ Ends-all cell form profile old new text report written between written' same fir
   so = λ used out stands.
       subst (λ (r : Report). IsReplayText cell form profile used r (out ++ (text ++ total_text new.report))) (sym same)
       (subst (λ (o : List ℕ). IsReplayText cell form profile used new.report o) (append_assoc out text (total_text new.report))
-        (told cell form profile new used (out ++ text) (step used out stands)));
+      (told cell form profile new used (out ++ text) (step used out stands)));
 }
 
 -- What is read
-
--- stopped at the same place of a longer list
-stopped-longer : (cell : ℕ → Cell) (form : Form) (profile : Profile) (ended : Type 0) (read more out : List ℕ)
-    → IsStoppedReplay cell form profile ⊥ read out → IsStoppedReplay cell form profile ended (read ++ more) out
-stopped-longer cell form profile ended read more out (midway first later all n split text put) =
-    midway first (later ++ more) all n (ap (λ r. r ++ more) split ∙ append_assoc first later more) text put
-stopped-longer cell form profile ended read more out (at_end all n never text put) = absurd never
 
 stopped-ended : (cell : ℕ → Cell) (form : Form) (profile : Profile) (before after : Type 0) (read out : List ℕ) → (before → after)
     → IsStoppedReplay cell form profile before read out → IsStoppedReplay cell form profile after read out
@@ -295,7 +309,7 @@ Ran-long cell form profile middle new bytes counted rest unread between unread' 
       so = (
         omega arith,
         subst (λ (r : List ℕ). IsEndedText cell form profile r (reads.out ++ uses.text)) (sym front)
-        (Stands-text cell form profile new (reads.read ++ counted) (reads.out ++ uses.text) (uses.so reads.read reads.out reads.stands)),
+            (Stands-text cell form profile new (reads.read ++ counted) (reads.out ++ uses.text) (uses.so reads.read reads.out reads.stands)),
       );
     }
 
@@ -327,8 +341,8 @@ Ran-stopped cell form profile middle new bytes counted rest unread between unrea
       put = Appends-trans written between' written' reads.out uses.text reads.put uses.put;
       so = stopped-fault cell form profile ⊥ fault (reads.read ++ bytes) (reads.out ++ uses.text) only
           (subst (λ (r : List ℕ). IsStoppedReplay cell form profile ⊥ r (reads.out ++ uses.text)) (sym front)
-            (stopped-longer cell form profile ⊥ (reads.read ++ counted) (take (1073741824 - length (reads.read ++ counted)) rest) (reads.out ++ uses.text)
-              (uses.so reads.read reads.out reads.stands)));
+          (stopped-longer cell form profile ⊥ (reads.read ++ counted) (take (1073741824 - length (reads.read ++ counted)) rest) (reads.out ++ uses.text)
+          (uses.so reads.read reads.out reads.stands)));
     })
 
 -- The whole run
@@ -360,7 +374,7 @@ end_of cell form profile ended progress (Err fault) read out is few only stopped
     let whole : take 1073741824 read ≡ read = take_all 1073741824 read few in (
       sym (same_fault fault) ∙ no_read fault only,
       stopped-fault cell form profile ended fault read out only
-      (subst (λ (r : List ℕ). IsStoppedReplay cell form profile ended r out) (sym whole) (stopped-ended cell form profile (Unit {0}) ended read out (λ _. is) stopped)),
+          (subst (λ (r : List ℕ). IsStoppedReplay cell form profile ended r out) (sym whole) (stopped-ended cell form profile (Unit {0}) ended read out (λ _. is) stopped)),
     )
 
 -- the file was read to its end

@@ -217,8 +217,8 @@ shaped (a ∷ b ∷ []) count number spells o four scalar = absurd (omega (arith
 shaped (a ∷ b ∷ c ∷ []) count number spells o four scalar = absurd (omega (arith, spells.many))
 shaped (a ∷ b ∷ c ∷ d ∷ []) count number spells o four scalar =
     elim (or_cases (ltb number 0xD800) (ltb 0xDFFF number) scalar) [
-      inl low ↦ inl (omega (arith, ltb-true number 0xD800 low, spells.is))
-    | inr high ↦ inr (omega (arith, ltb-true 0xDFFF number high, spells.is))
+      | inl low ↦ inl (omega (arith, ltb-true number 0xD800 low, spells.is))
+      | inr high ↦ inr (omega (arith, ltb-true 0xDFFF number high, spells.is))
     ]
 shaped (a ∷ b ∷ c ∷ d ∷ e ∷ []) count number spells o four scalar = λ zero.
     let each = spells.each in

@@ -1,6 +1,6 @@
 //! Whole test files against the rules.
 
-ghost use Rattle.std.specs.Prelude.{◌≡◌, ◌+◌, ◌<◌, ◌≤◌, ◌⊎◌, ℕ, List, length, take, IsTrue, IfSome, IfOk, IfErr, OnOk, IsErrOf};
+ghost use Rattle.std.specs.Prelude.{◌≡◌, ◌+◌, ◌<◌, ◌≤◌, ◌⊎◌, ℕ, List, [], ◌∷◌, length, take, IsTrue, IfSome, IfOk, IfErr, OnOk, IsErrOf};
 ghost use Rattle.std.specs.Io.KnownBytes.{Appends, IsAtEnd};
 ghost use Rattle.lbk_notation.specs.Progress.{Ends, HasRead, Uses, is_read_fault_of};
 ghost use Rattle.lbk_notation.specs.Replay.{IsReplay, IsReplayed, is_read_fault};
@@ -101,14 +101,34 @@ fn take_all<W: Sink, C: CellSource>(
     ensures none_failed { OnOk result (W.failure_count writer.new ≡ W.failure_count writer.old) }
 {
     for byte in bytes {
-        if *byte == b'\n' {
-            progress.end_line(alloc, replayer)?;
-            put(writer, progress.text())?;
-        } else {
-            progress.add(*byte)?;
-        }
+        take(alloc, writer, replayer, progress, *byte)?;
     }
     Ok(())
+}
+
+/// Takes a byte, and writes what the line that it ends writes.
+fn take<W: Sink, C: CellSource>(
+    alloc: Global,
+    writer: &mut W,
+    replayer: &Replayer<C>,
+    progress: &mut Progress,
+    byte: u8,
+) -> Result<(), ReplayFault>
+    requires { progress.old.taken < 1073741824 }
+    ensures uses { Uses (C.cell_of replayer.now.cells.now) replayer.now.form replayer.now.profile progress.old progress.new
+        (byte ∷ []) (W.written writer.old) (W.written writer.new) result }
+    ensures taken { progress.new.taken ≡ progress.old.taken + 1 }
+    ensures only { IfErr result (λ fault. (fault ≡ ReplayFault.Memory) ⊎ (fault ≡ ReplayFault.Write)) }
+    ensures write { IsErrOf result ReplayFault.Write → HasFailed (W.failure_count writer.old) (W.failure_count writer.new) }
+    ensures write_failed { W.failure_count writer.old < W.failure_count writer.new → result ≡ Err ReplayFault.Write }
+    ensures none_failed { OnOk result (W.failure_count writer.new ≡ W.failure_count writer.old) }
+{
+    if byte != b'\n' {
+        progress.add(byte)?;
+        return Ok(());
+    }
+    progress.end_line(alloc, replayer)?;
+    put(writer, progress.text())
 }
 
 /// Ends the file: writes what its last line writes, and the counts.

@@ -1,6 +1,6 @@
 //! How far a replay has come: the line that is not ended yet, what the last one wrote, and the counts.
 
-ghost use Rattle.std.specs.Prelude.{◌≡◌, ◌≢◌, ℕ, ◌+◌, ◌<◌, ◌≤◌, List, [], ◌∷◌, ◌++◌, length, true, OnOk, IfOk, IfErr};
+ghost use Rattle.std.specs.Prelude.{◌≡◌, ◌≢◌, ◌⊎◌, ℕ, ◌+◌, ◌<◌, ◌≤◌, List, [], ◌∷◌, ◌++◌, length, true, false, OnOk, IfOk, IfErr};
 ghost use Rattle.std.specs.Bool.{OnTrue, OnFalse};
 
 use super::findings::{Finding, ReplayFault, Report, STREAM_MAX};
@@ -141,11 +141,23 @@ impl Progress {
             self.new used (out ++ self.new.text.items)) }
         ensures only { IfErr result (λ fault. fault ≡ ReplayFault.Memory) }
     {
-        if self.line.is_empty() && !self.is_long {
+        if !self.holds_line() {
             self.text.clear();
             return Ok(());
         }
         self.settle(alloc, replayer)
+    }
+
+    /// Whether bytes stand behind the last LF.
+    fn holds_line(&self) -> bool
+        ensures yes { OnTrue result ((self.now.is_long ≡ true) ⊎ (0 < length self.now.line.items)) }
+        ensures no { OnFalse result ((self.now.is_long ≡ false) × (self.now.line.items ≡ [])) }
+        ensures few { OnTrue result (self.now.number < self.now.taken) }
+    {
+        if self.is_long {
+            return true;
+        }
+        !self.line.is_empty()
     }
 
     /// Makes `text` the line of the counts.

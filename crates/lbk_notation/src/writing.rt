@@ -41,12 +41,7 @@ pub fn push_line(
 }
 
 /// Puts a scalar and the mark behind it behind the text.
-fn push_scalar(
-    text: &mut Vec<u8>,
-    scalar: char,
-    mark: Mark,
-    form: Form,
-) -> Result<(), AllocError>
+fn push_scalar(text: &mut Vec<u8>, scalar: char, mark: Mark, form: Form) -> Result<(), AllocError>
     ensures { OnOk result (text.new.items
         ≡ text.old.items ++ (32 ∷ (token scalar ++ (32 ∷ mark_bytes (shown form mark))))) }
 {

@@ -1,4 +1,4 @@
-use Rattle.std.proofs.Common.{◌≡◌, ◌+◌, ◌<◌, ◌≤◌, arith, ap, sym, subst, ◌∙◌, List, [], length, map, take, drop}
+use Rattle.std.proofs.Common.{◌≡◌, ◌+◌, ◌<◌, ◌≤◌, arith, ap, sym, subst, ◌∙◌, List, [], length, map, take, drop, get_or}
 use Rattle.std.proofs.lemmas.List.{length-map, length-take-le, take_all}
 use Rattle.lbk_rules.specs.declared.cells.Cell.{Cell}
 use Rattle.lbk_rules.specs.LateFits.{LateFits}
@@ -12,7 +12,8 @@ met_late-outcome-requires g c = λ answer e.
     let text = map cell c.args.line.now.scalars in
     let k = c.loop-position.position in
     let within : k < length c.args.line.now.scalars = rw (← c.scalars-scalars.ensures.value) c.loop-position-test.true in
-    let around = cells-around cell c.args.line.now.scalars k 0 c.cell.result within (rw c.scalars-scalars.ensures.value at c.cell.ensures) in
+    let around = cells-around cell c.args.line.now.scalars k c.index-scalars-position.result c.cell.result within
+    (c.cell.ensures ∙ ap cell (c.index-scalars-position.is ∙ ap (λ l. get_or l k c.index-scalars-position.result) c.scalars-scalars.ensures.value)) in
     let late = c.step-out.ensures.late c.args.profile (take k text) (drop (k + 1) text) c.loop-position.invariant.fits in
     let below = late_at-below c.args.profile (take k text) c.cell.result (drop (k + 1) text) answer (sym late ∙ e) in
     omega (arith, below, around.2, ap length c.marks-marks.ensures.value, c.marks-marks.ensures.one_more)
@@ -24,7 +25,8 @@ loop-position-preserved g c =
     let text = map cell line.scalars in
     let k = c.loop-position.position in
     let within : k < length line.scalars = rw (← c.scalars-scalars.ensures.value) c.loop-position-test.true in
-    let around = cells-around cell line.scalars k 0 c.cell.result within (rw c.scalars-scalars.ensures.value at c.cell.ensures) in
+    let around = cells-around cell line.scalars k c.index-scalars-position.result c.cell.result within
+    (c.cell.ensures ∙ ap cell (c.index-scalars-position.is ∙ ap (λ l. get_or l k c.index-scalars-position.result) c.scalars-scalars.ensures.value)) in
     let fits = c.loop-position.invariant.fits in
     record {
       fits = subst (λ (l : List Cell). LateFits c.step-out.new.self c.args.profile l) around.1 (c.step-out.ensures.fits c.args.profile (take k text) fits);
