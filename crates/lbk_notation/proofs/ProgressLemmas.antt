@@ -194,7 +194,7 @@ StandsAtEnd-none cell form profile old new used out text none report empty stand
 
 Holds-some : (rest line : List ℕ) (is_long : Bool) → Holds rest line is_long → (is_long ≡ true) ⊎ (0 < length line) → 0 < length rest
 Holds-some rest line true held some = omega (arith, held)
-Holds-some rest line false held (inl no) = absurd (false≢true no)
+Holds-some rest line false held (inl long) = absurd (false≢true long)
 Holds-some rest line false held (inr some) = rw (← held.0) some
 
 -- the last line of a file, once it is known that there is one
