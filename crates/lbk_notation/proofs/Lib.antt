@@ -7,6 +7,8 @@ pub mod Places
 pub mod Answered
 pub mod Tokens
 pub mod Writes
+pub mod Markings
+pub mod Lengths
 pub mod OutcomeLemmas
 pub mod ProgressLemmas
 pub mod RunLemmas

@@ -12,7 +12,7 @@ use Rattle.lbk_notation.specs.declared.marks.Form.{Form}
 use Rattle.lbk_notation.specs.declared.marks.Form.TheVariants.{Plain, Kinds}
 use Rattle.lbk_notation.specs.declared.marks.Mark.{Mark}
 use Rattle.lbk_notation.specs.declared.marks.Mark.TheVariants.{No, May, Must}
-use Rattle.lbk_notation.specs.Marks.{mark_of}
+use Rattle.lbk_notation.specs.Marked.{mark_of}
 use Rattle.lbk_notation.specs.Line.{Line}
 
 -- in form Kinds a mark agrees where it is the kind, in form Plain where both are No or neither is

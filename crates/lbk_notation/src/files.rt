@@ -64,6 +64,7 @@ fn read_all<R: Source, W: Sink, C: CellSource>(
     ensures read_failed { R.failure_count reader.old < R.failure_count reader.new → result ≡ Err ReplayFault.Read }
     ensures write { IsErrOf result ReplayFault.Write → HasFailed (W.failure_count writer.old) (W.failure_count writer.new) }
     ensures write_failed { W.failure_count writer.old < W.failure_count writer.new → result ≡ Err ReplayFault.Write }
+    ensures none_failed { OnOk result (W.failure_count writer.new ≡ W.failure_count writer.old) }
     ensures reads { R.read_count reader.new ≤ R.read_count reader.old + 1073741825 }
 {
     let mut progress = Progress::new(alloc);
