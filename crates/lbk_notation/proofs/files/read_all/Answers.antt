@@ -23,8 +23,8 @@ returns-in_err-take_all-clause-run g c =
     let size : length (take counted buf) ≡ counted = length-take-le counted buf (omega arith) in
     rw (p.1, p.2)
     (Ran-stopped _ _ _ c.loop-count.progress c.take_all.new.progress (take count buf) (take counted buf) (drop counted (take count buf))
-      _ _ _ _ _ _ c.in_err-take_all.field-0.0 c.loop-count.invariant.reads c.in-Ok.ensures.bytes.0 c.in_err-take_all.ensures.uses
-      (front-split counted count buf below) (omega (arith, c.min-counted.ensures, c.room.ensures)) c.in_err-take_all.ensures.only)
+    _ _ _ _ _ _ c.in_err-take_all.field-0.0 c.loop-count.invariant.reads c.in-Ok.ensures.bytes.0 c.in_err-take_all.ensures.uses
+    (front-split counted count buf below) (omega (arith, c.min-counted.ensures, c.room.ensures)) c.in_err-take_all.ensures.only)
 
 pub returns-then-counted-count-clause-run : goal.returns-then-counted-count-clause-run
 returns-then-counted-count-clause-run g c =
