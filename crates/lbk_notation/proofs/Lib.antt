@@ -9,6 +9,7 @@ pub mod Tokens
 pub mod Writes
 pub mod Markings
 pub mod Lengths
+pub mod FindingLemmas
 pub mod OutcomeLemmas
 pub mod ProgressLemmas
 pub mod RunLemmas

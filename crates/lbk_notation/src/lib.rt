@@ -3,6 +3,7 @@
 #![tactic(auto)]
 
 mod fault;
+pub mod file_laws;
 mod files;
 mod findings;
 pub mod laws;
