@@ -14,3 +14,4 @@ pub mod OutcomeLemmas
 pub mod ProgressLemmas
 pub mod RunLemmas
 pub mod StreamLemmas
+pub mod Worked

@@ -13,10 +13,12 @@ ghost use Rattle.lbk_notation.specs.Shown.{passage_line, passage_marks};
 ghost use Rattle.lbk_notation.specs.Written.{digits_of, token, shown_line, written_line};
 ghost use Rattle.lbk_rules.specs.declared.verdicts.Verdict.{Verdict};
 
-/// What is written of a scalar is a token of four to six digits, and it is read back as the scalar.
+/// What is written of a scalar is a token of four to six digits, it is read back as the scalar, and no
+/// other token is read as that scalar.
 pub fn tokens()
     ensures token { (scalar : ℕ) → IsScalar scalar → IsToken (digits_of scalar) }
     ensures value { (scalar : ℕ) → IsScalar scalar → number_of (digits_of scalar) ≡ scalar }
+    ensures one { (digits : List ℕ) → IsToken digits → digits ≡ digits_of (number_of digits) }
     ensures four { (scalar : ℕ) → 4 ≤ length (token scalar) }
     ensures six { (scalar : ℕ) → length (token scalar) ≤ 6 }
 {}

@@ -1,5 +1,6 @@
-//! The notation of the published break tests, a mark at each position of a text and the scalars between
-//! them in hex, and the replay of files of it against the rules.
+//! The notation of the published break tests (LineBreakTest.txt of the Unicode Character Database), a mark
+//! at each position of a text and the scalars between them in hex, and the replay of files of it against
+//! the rules.
 #![tactic(auto)]
 
 mod fault;
@@ -11,6 +12,7 @@ mod line;
 mod marking;
 mod marks;
 mod outcome;
+mod passages;
 mod progress;
 mod reader;
 mod reading;
@@ -26,6 +28,7 @@ pub use line::TestLine;
 pub use marking::mark_text;
 pub use marks::{Form, Mark};
 pub use outcome::replay_line;
+pub use passages::push_passage_line;
 pub use reading::read_line;
 pub use round_trip::{read_back, read_passage_line};
 pub use writing::{push_line, push_mark, push_scalar, write_line};

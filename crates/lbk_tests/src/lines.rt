@@ -55,14 +55,15 @@ const PLAIN: [(&str, Want); 34] = [
     ("\r ", Want::Bad(1)),
 ];
 
-const KINDS: [(&str, Want); 4] = [
+const KINDS: [(&str, Want); 5] = [
     ("! 0061 !", Want::Line("! 0061 !")),
     (
         "× 0061 × 0062 × 0020 ÷ 0063 × 0064 !\t# 2 28 7 18 28 3",
         Want::Line("× 0061 × 0062 × 0020 ÷ 0063 × 0064 !"),
     ),
     ("!!", Want::Bad(1)),
-    ("× 0061 \r÷", Want::Bad(7)),
+    ("× 0061 \r÷", Want::Bad(8)),
+    ("× \r÷", Want::Bad(4)),
 ];
 
 fn check(
@@ -100,12 +101,13 @@ fn reading(rt: HostRuntime) -> Result<(), Fail> {
 }
 
 #[test]
-fn longest_line(rt: HostRuntime) -> Result<(), Fail> {
-    let mut line = vec![in rt.alloc(); b'x'; 268_435_457]?;
+fn long_lines(rt: HostRuntime) -> Result<(), Fail> {
+    let mut line = vec![in rt.alloc(); b'x'; 16_777_217]?;
     line[0] = b'#';
-    let too_long = read_line(rt.alloc(), &line, Form::Plain).err();
+    assert!(rt; read_line(rt.alloc(), &line, Form::Plain)?.is_none());
+    let longer = vec![in rt.alloc(); b'x'; 268_435_457]?;
+    let too_long = read_line(rt.alloc(), &longer, Form::Plain).err();
     assert_eq!(rt; too_long, Some(LineFault::LineTooLong));
-    assert!(rt; read_line(rt.alloc(), &line[..268_435_456], Form::Plain)?.is_none());
     Ok(())
 }
 

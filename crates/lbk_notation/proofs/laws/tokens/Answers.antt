@@ -1,5 +1,5 @@
 use Rattle.lbk_notation.proofs.Lengths.{token-four, token-six}
-use Rattle.lbk_notation.proofs.Tokens.{digits-IsToken, number-digits}
+use Rattle.lbk_notation.proofs.Tokens.{digits-IsToken, number-digits, one_token}
 use Rattle.lbk_notation.proofs.laws.tokens.Goals as goal
 
 pub returns-clause-token : goal.returns-clause-token
@@ -13,3 +13,6 @@ returns-clause-four c = token-four
 
 pub returns-clause-six : goal.returns-clause-six
 returns-clause-six c = token-six
+
+pub returns-clause-one : goal.returns-clause-one
+returns-clause-one c = one_token
