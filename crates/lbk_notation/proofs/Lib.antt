@@ -9,4 +9,9 @@ pub mod Tokens
 pub mod Writes
 pub mod Markings
 pub mod Lengths
+pub mod FindingLemmas
+pub mod OutcomeLemmas
+pub mod ProgressLemmas
+pub mod RunLemmas
+pub mod StreamLemmas
 pub mod Worked

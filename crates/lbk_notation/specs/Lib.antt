@@ -6,6 +6,14 @@ pub mod Written
 pub mod Marked
 pub mod Shown
 pub mod Fault
+pub mod Outcome
+pub mod Stream
+pub mod Findings
+pub mod ReplayText
+pub mod Replay
 -- What only carries proofs.
 pub mod Run
 pub mod Put
+pub mod Met
+pub mod Counted
+pub mod Progress

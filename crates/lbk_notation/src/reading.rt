@@ -12,7 +12,7 @@ use super::reader::{State, Taken, sort_of, step};
 use std::alloc::Global;
 
 /// The longest line, in bytes.
-const LONGEST: usize = 268_435_456;
+pub(crate) const LONGEST: usize = 268_435_456;
 
 /// Reads a line of the notation, without its line end: its scalars and marks, or None for a blank line or
 /// a comment. A line over 268,435,456 bytes is `LineTooLong`, which is looked at first; one that is none

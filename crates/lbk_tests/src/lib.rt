@@ -12,6 +12,8 @@ mod laws;
 #[cfg(test)]
 mod lines;
 #[cfg(test)]
+mod replayed;
+#[cfg(test)]
 mod rows;
 #[cfg(test)]
 mod shown;
