@@ -1,7 +1,7 @@
 -- How long a written line is, and what it says with a comment behind it.
-use Rattle.std.proofs.Common.{◌≡◌, ◌≢◌, ℕ, suc, ◌+◌, ◌*◌, ◌<◌, ◌≤◌, true, ltb, List, [], ◌∷◌, ◌++◌, length, map, Option, Some, None, Result, Ok, Err, IfOk, IfErr, refl, ap, sym, subst, ◌∙◌, arith, lit≤, ◌⊎◌, inl, inr, length-append}
-use Rattle.std.specs.Char.{IsScalar, len_utf8}
-use Rattle.std.specs.List.{AllByRecursion, flat_map, list_all}
+use Rattle.std.proofs.Common.{◌≡◌, ◌≢◌, ℕ, ◌+◌, ◌*◌, ◌<◌, ◌≤◌, true, ltb, List, [], ◌∷◌, ◌++◌, length, map, Option, Some, Result, Ok, Err, IfOk, IfErr, refl, ap, sym, subst, ◌∙◌, arith, lit≤, ◌⊎◌, inl, inr, length-append}
+use Rattle.std.specs.Char.{len_utf8}
+use Rattle.std.specs.List.{AllByRecursion, list_all}
 use Rattle.std.specs.Str.{encode_utf8_all}
 use Rattle.std.specs.Char.{encode_utf8}
 use Rattle.std.proofs.lemmas.Bool.{and_parts, cond_both, cases_lt, ltb-true, ltb-false}
@@ -11,7 +11,7 @@ use Rattle.std.proofs.lemmas.Str.{length-encode, len_utf8_bounds}
 use Rattle.lbk_notation.specs.declared.fault.LineFault.{LineFault}
 use Rattle.lbk_notation.specs.declared.fault.LineFault.TheVariants.{LineTooLong, Bad, Memory}
 use Rattle.lbk_notation.specs.declared.marks.Form.{Form}
-use Rattle.lbk_notation.specs.declared.marks.Form.TheVariants.{Plain, Kinds}
+use Rattle.lbk_notation.specs.declared.marks.Form.TheVariants.{Kinds}
 use Rattle.lbk_notation.specs.declared.marks.Mark.{Mark}
 use Rattle.lbk_notation.specs.declared.marks.Mark.TheVariants.{No, May, Must}
 use Rattle.lbk_notation.specs.Fault.{IsFault, longest}
@@ -19,8 +19,7 @@ use Rattle.lbk_notation.specs.Grammar.{digit_byte, mark_bytes, token_bytes, IsAf
 use Rattle.lbk_notation.specs.Line.{Line}
 use Rattle.lbk_notation.specs.Marked.{mark_of}
 use Rattle.lbk_notation.specs.Shown.{written_labels, passage_line, passage_marks}
-use Rattle.lbk_notation.specs.Written.{shown, shown_line, digits_of, token, written_after, written_marks, written_line}
-use Rattle.lbk_notation.proofs.Answered.{only_of}
+use Rattle.lbk_notation.specs.Written.{shown, shown_line, digits_of, token, written_after, written_line}
 use Rattle.lbk_notation.proofs.Writes.{AllScalars, written-IsLine}
 use Rattle.lbk_rules.specs.declared.verdicts.Rule.{Rule}
 use Rattle.lbk_rules.specs.declared.verdicts.Rule.TheVariants.{Lb2}

@@ -1,6 +1,5 @@
 -- Marks put at their positions as a machine answers them.
-use Rattle.std.proofs.Common.{◌≡◌, ◌≢◌, ℕ, ◌+◌, ◌<◌, ◌≤◌, List, [], ◌∷◌, ◌++◌, length, map, get_or, set, take, drop, Option, Some, None, refl, ap, sym, subst, ◌∙◌, arith, ◌⊎◌, inl, inr, get_or-set_other, get_or-set_same, append-nil}
-use Rattle.std.specs.List.{range_with_len}
+use Rattle.std.proofs.Common.{◌≡◌, ℕ, ◌+◌, ◌<◌, ◌≤◌, List, [], ◌∷◌, ◌++◌, length, map, get_or, set, take, drop, Option, Some, None, refl, ap, sym, subst, ◌∙◌, arith, inl, inr, get_or-set_other, get_or-set_same, append-nil}
 use Rattle.std.specs.Option.{ForSome}
 use Rattle.std.proofs.Math.ListN.{get_or-append, get_or-map, length-set}
 use Rattle.std.proofs.Math.Seq.{get_or-append_seam}
@@ -8,11 +7,10 @@ use Rattle.std.proofs.lemmas.Bool.{cases_eq}
 use Rattle.std.proofs.lemmas.List.{length_push, take_more, take_all, length-take-le, length-map}
 use Rattle.std.proofs.lemmas.List.FromFn.{fill_by_all, length-map-range_with_len}
 use Rattle.lbk_notation.specs.declared.marks.Mark.{Mark}
-use Rattle.lbk_notation.specs.declared.marks.Mark.TheVariants.{No, May, Must}
+use Rattle.lbk_notation.specs.declared.marks.Mark.TheVariants.{No}
 use Rattle.lbk_notation.specs.Marked.{mark_of, mark_at, marks_in}
 use Rattle.lbk_notation.specs.Put.{put, mark_now}
 use Rattle.lbk_rules.specs.declared.cells.Cell.{Cell}
-use Rattle.lbk_rules.specs.declared.late.LateMachine.{LateMachine}
 use Rattle.lbk_rules.specs.declared.verdicts.Profile.{Profile}
 use Rattle.lbk_rules.specs.declared.verdicts.Verdict.{Verdict}
 use Rattle.lbk_rules.specs.Held.{late_at, now_at, answer_at}

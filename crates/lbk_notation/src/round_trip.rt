@@ -4,7 +4,9 @@ ghost use Rattle.std.specs.Prelude.{◌≡◌, ◌+◌, ◌<◌, ◌≤◌, ◌�
 ghost use Rattle.std.specs.Char.{IsScalar};
 ghost use Rattle.std.specs.List.{AllByRecursion};
 ghost use Rattle.std.specs.Str.{encode_utf8_all};
-ghost use Rattle.lbk_notation.specs.Fault.{longest};
+ghost use Rattle.lbk_notation.specs.Fault.{IsFault, longest};
+ghost use Rattle.lbk_notation.specs.Grammar.{IsLine};
+ghost use Rattle.lbk_notation.specs.declared.marks.Form.TheVariants.{Kinds};
 ghost use Rattle.lbk_notation.specs.Shown.{passage_line, passage_marks};
 ghost use Rattle.lbk_notation.specs.Written.{shown_line, written_line};
 ghost use Rattle.lbk_notation.specs.declared.fault.LineFault.TheVariants.{LineTooLong, Memory};
@@ -33,6 +35,10 @@ pub fn read_back(alloc: Global, line: &TestLine, form: Form) -> Result<Option<Te
 /// Reads a line in form Kinds. The line that is written of a passage of at most 16,777,216 bytes, with the
 /// rules' labels in its comment, is read as the passage's scalars and marks, or answered `Memory`.
 pub fn read_passage_line(alloc: Global, bytes: &[u8]) -> Result<Option<TestLine>, LineFault>
+    // Of any bytes, what `read_line` answers in form Kinds.
+    ensures found { IfOk result (λ line. IsLine Kinds bytes.now line) }
+    ensures bad { IfErr result (λ fault. IsFault Kinds bytes.now fault) }
+    // Of the line of a passage, its scalars and marks, or want of memory.
     ensures same { (scalars : List ℕ) (verdicts : List Verdict) → bytes.now ≡ passage_line scalars verdicts
         → length verdicts ≡ length scalars + 1 → AllByRecursion (λ scalar. IsScalar scalar) scalars
         → IfOk result (λ read. read ≡ Some (passage_marks scalars verdicts)) }

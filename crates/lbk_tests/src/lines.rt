@@ -1,11 +1,12 @@
 //! Lines of the notation: what is read, refused, written and marked.
 
+use crate::cells::cells_of;
 use lbk_cmd::{SAMPLE_FILES, read_cells};
 use lbk_notation::{
-    Form, LineFault, Mark, TestLine, laws, mark_text, push_line, push_mark, push_scalar, read_back,
-    read_line, read_passage_line, write_line,
+    Form, LineFault, Mark, TestLine, laws, mark_text, push_line, push_mark, push_passage_line,
+    push_scalar, read_back, read_line, read_passage_line, write_line,
 };
-use lbk_rules::Profile;
+use lbk_rules::{Kind, Profile, Rule, Verdict, decide_all_in};
 use std::alloc::Global;
 use std::process::Abort;
 use std::test::Fail;
@@ -179,11 +180,25 @@ fn marking(rt: HostRuntime) -> Result<(), Fail> {
     Ok(())
 }
 
+const BLANK: Verdict = Verdict {
+    kind: Kind::No,
+    rule: Rule::Lb2,
+};
+
 #[test]
 fn lines_of_passages(rt: HostRuntime) -> Result<(), Fail> {
-    let shown = "× 0061 × 000D × 000A !\t# 2 6 5 5";
-    let line = read_passage_line(rt.alloc(), shown.as_bytes())?.ok_or("no line")?;
-    assert_eq!(rt; line.scalars(), ['a', '\r', '\n'].as_slice());
+    let source = read_cells(rt.alloc(), SAMPLE_FILES)?;
+    let cells = cells_of(rt.alloc(), &source, "a\r\n")?;
+    let mut verdicts = vec![in rt.alloc(); BLANK; cells.len() + 1]?;
+    decide_all_in(Profile::First, &cells, &mut verdicts);
+    let scalars = ['a', '\r', '\n'];
+    assert_eq!(rt; verdicts.len(), scalars.len() + 1);
+    let mut shown = Vec::new(rt.alloc());
+    push_passage_line(&mut shown, &scalars, &verdicts)?;
+    let want = "× 0061 × 000D × 000A !\t# 2 6 5 3";
+    assert_eq!(rt; shown.as_slice(), want.as_bytes());
+    let line = read_passage_line(rt.alloc(), &shown)?.ok_or("no line")?;
+    assert_eq!(rt; line.scalars(), scalars.as_slice());
     assert_eq!(rt;
         line.marks(),
         [Mark::No, Mark::No, Mark::No, Mark::Must].as_slice()

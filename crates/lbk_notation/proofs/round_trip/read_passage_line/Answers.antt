@@ -1,4 +1,4 @@
-use Rattle.std.proofs.Common.{◌≤◌, ◌≡◌, length, Some, sym, ap, arith}
+use Rattle.std.proofs.Common.{◌≤◌, length, Some, ap, arith}
 use Rattle.lbk_notation.specs.declared.marks.Form.TheVariants.{Kinds}
 use Rattle.lbk_notation.specs.Fault.{longest}
 use Rattle.lbk_notation.specs.Grammar.{IsLine}
