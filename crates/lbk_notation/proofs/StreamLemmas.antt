@@ -1,5 +1,5 @@
 -- What one byte more does to the lines of a file.
-use Rattle.std.proofs.Common.{◌≡◌, ◌≢◌, ℕ, ◌+◌, ◌<◌, Bool, true, false, cond, eqb, ◌&&◌, List, [], ◌∷◌, ◌++◌, length, refl, sym, ap, subst, ◌∙◌, inl, inr, arith, append_assoc, append-nil}
+use Rattle.std.proofs.Common.{◌≡◌, ◌≢◌, ℕ, ◌+◌, Bool, true, false, cond, eqb, ◌&&◌, List, [], ◌∷◌, ◌++◌, length, refl, sym, ap, subst, ◌∙◌, inl, inr, arith, append_assoc, append-nil}
 use Rattle.std.proofs.lemmas.Bool.{cases_Bool, cases_eq, eqb-false, eqb-true, false_from_ne_true, false≢true}
 use Rattle.std.specs.List.{AllByRecursion}
 use Rattle.lbk_notation.specs.Stream.{Cut, HasNoLineEnd, byte_order_mark, cut_of, cut_on, nothing_cut, then_byte, with_line_ends, without_mark}

@@ -7,12 +7,11 @@ use Rattle.lbk_notation.specs.declared.findings.Finding.{Finding}
 use Rattle.lbk_notation.specs.declared.findings.Report.{Report}
 use Rattle.lbk_notation.specs.declared.findings.ReplayFault.{ReplayFault}
 use Rattle.lbk_notation.specs.declared.findings.ReplayFault.TheVariants.{Read, Write, Memory, StreamTooLong}
-use Rattle.lbk_notation.specs.declared.findings.TheConstants.{STREAM_MAX}
 use Rattle.lbk_notation.specs.declared.marks.Form.{Form}
 use Rattle.lbk_notation.specs.Findings.{AreFindings}
 use Rattle.lbk_notation.specs.ReplayText.{text_from, report_of, total_text}
 use Rattle.lbk_feed.specs.Runs.{IsStopped}
-use Rattle.lbk_notation.specs.Stream.{ended_lines, lines_of}
+use Rattle.lbk_notation.specs.Stream.{ended_lines, lines_of, longest_stream}
 
 -- what is written of the lines that an LF ends
 pub record IsEndedText (cell : ℕ → Cell) (form : Form) (profile : Profile) (bytes out : List ℕ) : Type 0 where
@@ -29,7 +28,7 @@ pub record IsReplayText (cell : ℕ → Cell) (form : Form) (profile : Profile) 
 
 -- the file fits, and its replay text was written
 pub record IsReplayed (cell : ℕ → Cell) (form : Form) (profile : Profile) (input : List ℕ) (report : Report) (written written' : Option (List ℕ)) : Type 0 where
-  pub fits : length input ≤ STREAM_MAX
+  pub fits : length input ≤ longest_stream
   pub out : List ℕ
   pub text : IsReplayText cell form profile input report out
   pub put : Appends written written' out
@@ -48,10 +47,10 @@ IsStoppedReplay cell form profile ended read out =
 -- what was written, by what was read and by the answer; `ended`: the end was met
 abbrev pub IsReplay : (ℕ → Cell) → Form → Profile → Type 0 → Result Report ReplayFault → List ℕ → List ℕ → Type 0
 IsReplay cell form profile ended (Ok report) read out =
-    (length read ≤ STREAM_MAX) × IsReplayText cell form profile read report out
+    (length read ≤ longest_stream) × IsReplayText cell form profile read report out
 IsReplay cell form profile ended (Err Read) read out =
-    (length read ≤ STREAM_MAX) × IsEndedText cell form profile read out
+    (length read ≤ longest_stream) × IsEndedText cell form profile read out
 IsReplay cell form profile ended (Err StreamTooLong) read out =
-    (STREAM_MAX < length read) × IsEndedText cell form profile (take STREAM_MAX read) out
-IsReplay cell form profile ended (Err Write) read out = IsStoppedReplay cell form profile ended (take STREAM_MAX read) out
-IsReplay cell form profile ended (Err Memory) read out = IsStoppedReplay cell form profile ended (take STREAM_MAX read) out
+    (longest_stream < length read) × IsEndedText cell form profile (take longest_stream read) out
+IsReplay cell form profile ended (Err Write) read out = IsStoppedReplay cell form profile ended (take longest_stream read) out
+IsReplay cell form profile ended (Err Memory) read out = IsStoppedReplay cell form profile ended (take longest_stream read) out

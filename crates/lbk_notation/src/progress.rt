@@ -39,7 +39,7 @@ impl Progress {
     ghost use Rattle.lbk_notation.specs.Findings.{IsFinding};
     ghost use Rattle.lbk_notation.specs.Progress.{Holds, Settles, Stands, StandsAtEnd};
     ghost use Rattle.lbk_notation.specs.ReplayText.{total_text};
-    ghost use Rattle.lbk_notation.specs.Stream.{byte_order_mark};
+    ghost use Rattle.lbk_notation.specs.Stream.{byte_order_mark, longest_stream};
 
     /// Nothing is taken yet.
     pub fn new(alloc: Global) -> Progress
@@ -58,7 +58,7 @@ impl Progress {
 
     /// How many bytes may still come.
     pub fn room(&self) -> usize
-        ensures { result + self.now.taken ≡ STREAM_MAX }
+        ensures { result + self.now.taken ≡ longest_stream }
     {
         STREAM_MAX - self.taken as usize
     }
@@ -79,7 +79,7 @@ impl Progress {
 
     /// Takes a byte that ends no line.
     pub fn add(&mut self, byte: u8) -> Result<(), AllocError>
-        requires room { self.old.taken < STREAM_MAX }
+        requires room { self.old.taken < longest_stream }
         requires within_line { byte ≢ 10 }
         ensures stands { (cell : ℕ → Cell) (form : Form) (profile : Profile) (used out : List ℕ)
             → Stands cell form profile self.old used out
@@ -117,7 +117,7 @@ impl Progress {
         alloc: Global,
         replayer: &Replayer<C>,
     ) -> Result<(), ReplayFault>
-        requires { self.old.taken < STREAM_MAX }
+        requires { self.old.taken < longest_stream }
         ensures stands { (used out : List ℕ)
             → Stands (C.cell_of replayer.now.cells.now) replayer.now.form replayer.now.profile self.old used out
             → OnOk result (Stands (C.cell_of replayer.now.cells.now) replayer.now.form replayer.now.profile
