@@ -14,7 +14,7 @@ use Rattle.lbk_rules.specs.declared.verdicts.Profile.{Profile}
 use Rattle.lbk_rules.specs.declared.verdicts.Verdict.{Verdict}
 use Rattle.lbk_passage.specs.Faults.{passage_fault}
 use Rattle.lbk_passage.specs.Marks.{Marked, marks, ended}
-use Rattle.lbk_passage.specs.Stays.{ends_at, stays, last_class, IsWhole}
+use Rattle.lbk_passage.specs.Stays.{ends_at, stays, last_class, IsWholeText}
 use Rattle.lbk_passage.specs.State.{State, state_with}
 use Rattle.lbk_passage.specs.Next.{fault_in, ends_run, KeepsAhead, IsDone, ComesFirst, Stops, Costs, Agrees}
 use Rattle.lbk_passage.specs.declared.faults.PassageFault.{PassageFault}
@@ -68,7 +68,9 @@ pub record Takes (cell : ℕ → Cell) (last : Option Class) (old new : Paragrap
 -- a step of the feed; the text stays
 pub record Settles (old new : Paragraph) (unread unread' : Option (List ℕ)) (ended ended' : Bool) (reads reads' : ℕ)
     (r : Result Bool PassageFault) : Type 0 where
-  pub same : new ≡ record old { feed = new.feed; is_spent = new.is_spent }
+  pub text : string_bytes new.text ≡ string_bytes old.text
+  pub limit : new.limit ≡ old.limit
+  pub same_held : new.is_held ≡ old.is_held
   pub fault : Option FeedFault
   pub fault_is : fault_in r ≡ option_map passage_fault fault
   pub spent : new.is_spent ≡ is_some fault
@@ -98,7 +100,7 @@ pub record Gathers (cell : ℕ → Cell) (old new : Paragraph) (unread unread' :
   pub within : reads < reads' → reads' + (old.feed.given + length old.feed.held) ≤ reads + (longest_text + 1)
   pub agrees : feed.Agrees old.feed ended unread → feed.Agrees new.feed ended' unread'
   pub notices : new.feed.is_ended ≡ false → ended' ≡ ended
-  pub whole : IfOk r (λ end. IsWhole cell (record new { end = end }))
+  pub whole : IfOk r (λ end. IsWholeText cell (string_bytes new.text) new.feed end)
   pub stops : IfErr r (λ fault. (profile : Profile) → Stops (state_with cell profile new) fault)
 
 -- a paragraph that is held whole, with the verdict at its end, comes first in the text still to come
@@ -128,3 +130,11 @@ pub record Fills (cell : ℕ → Cell) (profile : Profile) (old new : Paragraph)
   pub costs : Costs (state_with cell profile old) (state_with cell profile new) (state_with cell profile new).held (ends_run (fault_in r)) reads reads'
   pub agrees : feed.Agrees old.feed ended unread → feed.Agrees new.feed ended' unread'
   pub notices : new.feed.is_ended ≡ false → ended' ≡ ended
+
+-- the same paragraph, but for whether it is held, and whether it is spent
+pub record IsSame (old new : Paragraph) (is_held is_spent : Bool) : Type 0 where
+  pub feed : new.feed ≡ old.feed
+  pub text : string_bytes new.text ≡ string_bytes old.text
+  pub limit : new.limit ≡ old.limit
+  pub held : new.is_held ≡ is_held
+  pub spent : new.is_spent ≡ is_spent

@@ -39,12 +39,15 @@ abbrev pub finds_end : (ℕ → Cell) → Option Class → View → List ℕ →
 finds_end cell last feed [] = is_nil feed.held && feed.is_ended
 finds_end cell last feed (c ∷ _) = ends_at last (cell c).class
 
--- a paragraph that is held whole: a line must end nowhere in it, its end was found, and is what it says; what is ready
--- behind it is a text, and the first of what the feed holds
-pub record IsWhole (cell : ℕ → Cell) (p : Paragraph) : Type 0 where
-  pub text : is_utf8 p.feed.ready ≡ true
-  pub first : p.feed.ready ++ drop (length p.feed.ready) p.feed.held ≡ p.feed.held
-  pub few : p.feed.given ≤ longest_text
-  pub none_ends : stays cell None (chars (string_bytes p.text)) ≡ true
-  pub found : finds_end cell (last_class cell None (chars (string_bytes p.text))) p.feed (chars p.feed.ready) ≡ true
-  pub end_is : p.end ≡ end_before (last_class cell None (chars (string_bytes p.text))) (chars p.feed.ready)
+-- a paragraph of this text is whole: a line must end nowhere in it, its end was found, and is what it says; what is
+-- ready behind it is a text, and the first of what the feed holds
+pub record IsWholeText (cell : ℕ → Cell) (text : List ℕ) (feed : View) (end : Option Verdict) : Type 0 where
+  pub utf8 : is_utf8 feed.ready ≡ true
+  pub first : feed.ready ++ drop (length feed.ready) feed.held ≡ feed.held
+  pub few : feed.given ≤ longest_text
+  pub none_ends : stays cell None (chars text) ≡ true
+  pub found : finds_end cell (last_class cell None (chars text)) feed (chars feed.ready) ≡ true
+  pub end_is : end ≡ end_before (last_class cell None (chars text)) (chars feed.ready)
+
+abbrev pub IsWhole : (ℕ → Cell) → Paragraph → Type 0
+IsWhole cell p = IsWholeText cell (string_bytes p.text) p.feed p.end

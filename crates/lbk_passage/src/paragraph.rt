@@ -31,7 +31,7 @@ impl Paragraph {
     ghost use Rattle.std.specs.Prelude.{ℕ, ◌-◌, ◌+◌, ◌<◌, ◌∷◌, true, [], drop, length, OnOk, IfOk, string_bytes};
     ghost use Rattle.lbk_passage.specs.State.{state_with, new_state};
     ghost use Rattle.lbk_passage.specs.Stays.{IsWhole};
-    ghost use Rattle.lbk_passage.specs.Gathering.{Takes, Settles, Gathers, Fills, failed_in, feed_fault};
+    ghost use Rattle.lbk_passage.specs.Gathering.{Takes, Settles, Gathers, Fills, IsSame};
     ghost use Rattle.lbk_passage.specs.Next.{failures_with, fault_in};
     ghost use Rattle.lbk_rules.specs.declared.cells.Cell.{Cell};
     ghost use Rattle.lbk_rules.specs.declared.verdicts.Profile.{Profile};
@@ -69,7 +69,7 @@ impl Paragraph {
 
     /// Lets the paragraph go, which was given.
     pub fn release(&mut self)
-        ensures { self.new ≡ record self.old { is_held = false } }
+        ensures { IsSame self.old self.new false self.old.is_spent }
     {
         self.is_held = false;
     }
@@ -140,12 +140,11 @@ impl Paragraph {
             (R.read_count reader.old) (R.read_count reader.new) result }
         ensures failures { R.failure_count reader.new ≡ failures_with (R.failure_count reader.old) (fault_in result) }
     {
-        match self.feed.settle(reader) {
+        let outcome = self.feed.settle(reader);
+        self.is_spent = outcome.is_err();
+        match outcome {
             Ok(stands) => Ok(stands),
-            Err(fault) => {
-                self.is_spent = true;
-                Err(from_feed(fault))
-            }
+            Err(fault) => Err(from_feed(fault)),
         }
     }
 
@@ -165,7 +164,7 @@ impl Paragraph {
 
     /// The fault of a paragraph that is too long.
     fn refuse(&mut self) -> PassageFault
-        ensures new { self.new ≡ record self.old { is_spent = true } }
+        ensures same { IsSame self.old self.new self.old.is_held true }
         ensures fault { result ≡ PassageFault.ParagraphTooLong (self.old.feed.given - string_len self.old.text) }
     {
         self.is_spent = true;
