@@ -1,6 +1,10 @@
 -- Lemmas that several proofs share.
 pub mod Cutting
 pub mod Marking
+pub mod Reading
 pub mod Settling
+pub mod Stopping
+pub mod Gathered
+pub mod Finding
 pub mod Staying
 pub mod Taking

@@ -1,12 +1,12 @@
 -- How far a paragraph reaches, and what the steps of gathering it leave.
-use Rattle.std.specs.Prelude.{◌≡◌, ◌⊎◌, ℕ, ◌+◌, ◌-◌, ◌<◌, ◌≤◌, Bool, true, false, ◌||◌, List, [], ◌∷◌, ◌++◌, length, Option, None, Some, Result, Ok, Err, IfSome, OnOk, OnErr, IfOk, IfErr, is_ok, is_some, option_map, encode_utf8, encode_utf8_all, string_bytes, string_len}
-use Rattle.std.specs.Char.{IsScalar}
+use Rattle.std.specs.Prelude.{◌≡◌, ◌⊎◌, ℕ, ◌+◌, ◌-◌, ◌<◌, ◌≤◌, Bool, true, false, ◌||◌, List, [], ◌∷◌, ◌++◌, length, Option, None, Some, Result, Ok, Err, IfSome, OnOk, OnErr, IfOk, IfErr, is_ok, is_some, option_map, encode_utf8, encode_utf8_all, string_bytes, string_len, IsUtf8}
 use Rattle.std.specs.Str.{chars}
 use Rattle.std.specs.Bool.{OnTrue, OnFalse}
 use Rattle.std.specs.Io.KnownBytes.{prepend_known}
 use Rattle.lbk_feed.specs.declared.faults.FeedFault.{FeedFault}
 use Rattle.lbk_feed.specs.View.{View, Steps, Pays, BeginsWith, AfterEach, IsFront, LendsFront}
 use Rattle.lbk_feed.specs.Text.{longest_text}
+use Rattle.lbk_feed.specs.declared.faults.FeedFault.TheVariants.{Spent as feed_spent}
 use Rattle.lbk_feed.specs.View as feed
 use Rattle.lbk_rules.specs.declared.classes.Class.{Class}
 use Rattle.lbk_rules.specs.declared.cells.Cell.{Cell}
@@ -51,6 +51,9 @@ pub record Takes (cell : ℕ → Cell) (last : Option Class) (old new : Paragrap
   pub behind : List ℕ
   pub was_ready : chars old.feed.ready ≡ taken ++ rest
   pub is_ready : chars new.feed.ready ≡ rest
+  pub utf8 : IsUtf8 new.feed.ready
+  pub front : new.feed.held ≡ new.feed.ready ++ behind
+  pub few : new.feed.given ≤ longest_text
   pub was_held : old.feed.held ≡ encode_utf8_all taken ++ new.feed.held
   pub is_held : new.feed.held ≡ encode_utf8_all rest ++ behind
   pub text : string_bytes new.text ≡ string_bytes old.text ++ encode_utf8_all taken
@@ -72,6 +75,7 @@ pub record Settles (old new : Paragraph) (unread unread' : Option (List ℕ)) (e
   pub limit : new.limit ≡ old.limit
   pub same_held : new.is_held ≡ old.is_held
   pub fault : Option FeedFault
+  pub unspent : ¬ (fault ≡ Some feed_spent)
   pub fault_is : fault_in r ≡ option_map passage_fault fault
   pub spent : new.is_spent ≡ is_some fault
   pub steps : Steps old.feed new.feed unread unread' fault
@@ -81,6 +85,30 @@ pub record Settles (old new : Paragraph) (unread unread' : Option (List ℕ)) (e
   pub stands : IfOk r (λ stands. OnTrue stands (0 < length new.feed.ready))
   pub ends : IfOk r (λ stands. OnFalse stands ((new.feed.held ≡ []) × (new.feed.is_ended ≡ true)))
 
+-- what was read from when nothing was gathered, where `all` are the bytes gathered and held
+pub record HasRead (old : View) (all : List ℕ) (unread unread' : Option (List ℕ)) (reads reads' : ℕ) (fault : Option PassageFault) : Type 0 where
+  pub got : List ℕ
+  pub grown : all ≡ old.held ++ got
+  pub ahead_kept : KeepsAhead fault (prepend_known old.held unread) (prepend_known all unread')
+  pub begins : BeginsWith all (prepend_known old.held unread)
+  pub but_one : reads' + length old.held ≤ reads + length all + 1
+  pub within : reads < reads' → reads' + (old.given + length old.held) ≤ reads + (longest_text + 1)
+
+-- a paragraph that is being gathered, from when nothing was
+pub record Gathering (cell : ℕ → Cell) (old now : Paragraph) (last : Option Class) (unread unread' : Option (List ℕ))
+    (ended ended' : Bool) (reads reads' : ℕ) : Type 0 where
+  pub limit : now.limit ≡ old.limit
+  pub open_end : now.is_held ≡ false
+  pub unspent : now.is_spent ≡ false
+  pub given : now.feed.given ≡ old.feed.given + length (string_bytes now.text)
+  pub read : HasRead old.feed (string_bytes now.text ++ now.feed.held) unread unread' reads reads' None
+  pub each_gave : reads' + length old.feed.held ≤ reads + length (string_bytes now.text ++ now.feed.held)
+  pub few : reads' ≤ reads + (length (string_bytes now.text) + 4)
+  pub agrees : feed.Agrees old.feed ended unread → feed.Agrees now.feed ended' unread'
+  pub notices : now.feed.is_ended ≡ false → ended' ≡ ended
+  pub none_ends : stays cell None (chars (string_bytes now.text)) ≡ true
+  pub last_is : last ≡ last_class cell None (chars (string_bytes now.text))
+
 -- what gathering leaves, from nothing gathered; `unread`, `ended` and `reads` are the reader's before it, and those
 -- with a prime after it
 pub record Gathers (cell : ℕ → Cell) (old new : Paragraph) (unread unread' : Option (List ℕ)) (ended ended' : Bool)
@@ -89,15 +117,10 @@ pub record Gathers (cell : ℕ → Cell) (old new : Paragraph) (unread unread' :
   pub open_end : new.is_held ≡ false
   pub spent : new.is_spent ≡ ends_run (fault_in r)
   pub given : new.feed.given ≡ old.feed.given + length (string_bytes new.text)
-  pub got : List ℕ
-  pub grown : string_bytes new.text ++ new.feed.held ≡ old.feed.held ++ got
-  pub ahead_kept : KeepsAhead (fault_in r) (prepend_known old.feed.held unread) (prepend_known (string_bytes new.text ++ new.feed.held) unread')
-  pub begins : BeginsWith (string_bytes new.text ++ new.feed.held) (prepend_known old.feed.held unread)
+  pub read : HasRead old.feed (string_bytes new.text ++ new.feed.held) unread unread' reads reads' (fault_in r)
   pub each_gave : (ends_run (fault_in r) || new.feed.is_ended) ≡ false
       → reads' + length old.feed.held ≤ reads + length (string_bytes new.text ++ new.feed.held)
-  pub but_one : reads' + length old.feed.held ≤ reads + length (string_bytes new.text ++ new.feed.held) + 1
   pub few : reads' ≤ reads + (old.limit + 4)
-  pub within : reads < reads' → reads' + (old.feed.given + length old.feed.held) ≤ reads + (longest_text + 1)
   pub agrees : feed.Agrees old.feed ended unread → feed.Agrees new.feed ended' unread'
   pub notices : new.feed.is_ended ≡ false → ended' ≡ ended
   pub whole : IfOk r (λ end. IsWholeText cell (string_bytes new.text) new.feed end)

@@ -1,6 +1,5 @@
 -- What a call of `next` gives, what it leaves, and what its faults say.
 use Rattle.std.specs.Prelude.{◌≡◌, ◌⊎◌, ℕ, ◌+◌, ◌<◌, ◌≤◌, Bool, true, false, ◌||◌, not, List, [], ◌∷◌, ◌++◌, length, Option, None, Some, Result, Ok, Err, IsUtf8, encode_utf8, encode_utf8_all}
-use Rattle.std.specs.Char.{IsScalar}
 use Rattle.std.specs.Io.KnownBytes.{prepend_known, Keeps, IsAtEnd}
 use Rattle.lbk_feed.specs.Devices.{KeepsIfTold, count_up}
 use Rattle.lbk_feed.specs.Text.{longest_text, well_formed_prefix, counted, IsNotUtf8At, IsTooLong}
@@ -60,7 +59,7 @@ pub record GoesOn (s : State) (ms : List Marked) (behind : List ℕ) : Type 0 wh
   pub next : ℕ
   pub rest : List ℕ
   pub bytes : behind ≡ encode_utf8 next ++ rest
-  pub scalar : IsScalar next
+  pub scalar : IsUtf8 (encode_utf8 next)
   pub first : (more : List ℕ) → passages s.profile s.cell (scalars_of ms ++ next ∷ more)
       ≡ ms ∷ passages s.profile s.cell (next ∷ more)
 

@@ -24,11 +24,11 @@ abbrev pub last_class : (ℕ → Cell) → Option Class → List ℕ → Option 
 last_class cell last [] = last
 last_class cell last (c ∷ cs) = last_class cell (Some (cell c).class) cs
 
--- the verdict at the end of a paragraph whose last scalar is of class `last`, before the scalars that follow
-abbrev pub end_before : Option Class → List ℕ → Option Verdict
-end_before None next = None
-end_before (Some last) [] = Some end_of_text
-end_before (Some last) (_ ∷ _) = Some (end_after last)
+-- the verdict at the end of a paragraph whose last scalar is of class `last`, if it has one; `follows`: text follows
+abbrev pub end_before : Option Class → Bool → Option Verdict
+end_before None follows = None
+end_before (Some last) false = Some end_of_text
+end_before (Some last) true = Some (end_after last)
 
 abbrev pub is_nil : List ℕ → Bool
 is_nil [] = true
@@ -47,7 +47,7 @@ pub record IsWholeText (cell : ℕ → Cell) (text : List ℕ) (feed : View) (en
   pub few : feed.given ≤ longest_text
   pub none_ends : stays cell None (chars text) ≡ true
   pub found : finds_end cell (last_class cell None (chars text)) feed (chars feed.ready) ≡ true
-  pub end_is : end ≡ end_before (last_class cell None (chars text)) (chars feed.ready)
+  pub end_is : end ≡ end_before (last_class cell None (chars text)) (not (is_nil (chars feed.ready)))
 
 abbrev pub IsWhole : (ℕ → Cell) → Paragraph → Type 0
 IsWhole cell p = IsWholeText cell (string_bytes p.text) p.feed p.end

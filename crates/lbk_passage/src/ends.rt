@@ -1,16 +1,10 @@
 //! Where a paragraph ends, told by two classes.
 
 ghost use Rattle.std.specs.Prelude.{◌≡◌};
-ghost use Rattle.lbk_rules.specs.Ends.{ends_line, end_after};
-ghost use Rattle.lbk_passage.specs.Stays.{ends_at};
+ghost use Rattle.lbk_rules.specs.Ends.{ends_line};
+ghost use Rattle.lbk_passage.specs.Stays.{ends_at, end_before};
 
 use lbk_rules::{Class, Kind, Rule, Verdict};
-
-/// What the rules say of the position after all of a text (UAX #14, rule LB3).
-pub const END_OF_TEXT: Verdict = Verdict {
-    kind: Kind::Must,
-    rule: Rule::Lb3,
-};
 
 /// Whether a line must end between a scalar of class `last`, if there is one, and one of class `next` (UAX #14, rules
 /// LB4 and LB5).
@@ -36,17 +30,19 @@ fn ends_line(class: Class) -> bool
     )
 }
 
-/// The verdict where a line must end after a scalar of this class, and text follows (UAX #14, rules LB4 and LB5).
+/// The verdict at the end of a paragraph whose last scalar is of class `last`, or `None` where it has none. `follows`:
+/// text follows, before which a line must end (UAX #14, rules LB3 to LB5).
 #[tactic(auto, unfolding(lbk_rules::specs::Classes::is))]
-pub fn end_after(last: Class) -> Verdict
-    ensures { result ≡ end_after last }
+pub fn end_before(last: Option<Class>, follows: bool) -> Option<Verdict>
+    ensures { result ≡ end_before last follows }
 {
-    let rule = match last {
-        Class::MandatoryBreak => Rule::Lb4,
-        _ => Rule::Lb5,
+    let rule = match (last?, follows) {
+        (_, false) => Rule::Lb3,
+        (Class::MandatoryBreak, true) => Rule::Lb4,
+        (_, true) => Rule::Lb5,
     };
-    Verdict {
+    Some(Verdict {
         kind: Kind::Must,
         rule,
-    }
+    })
 }

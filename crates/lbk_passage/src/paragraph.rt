@@ -2,7 +2,7 @@
 
 ghost use Rattle.std.specs.Prelude.{◌≤◌, ◌≡◌, ◌&&◌, not, false, string_len, string_capacity};
 
-use crate::ends::{END_OF_TEXT, end_after};
+use crate::ends::end_before;
 use crate::faults::{PassageFault, from_feed};
 use crate::reach::{Reach, Stop, reach_in};
 use lbk_feed::{Feed, Source};
@@ -31,7 +31,7 @@ impl Paragraph {
     ghost use Rattle.std.specs.Prelude.{ℕ, ◌-◌, ◌+◌, ◌<◌, ◌∷◌, true, [], drop, length, OnOk, IfOk, string_bytes};
     ghost use Rattle.lbk_passage.specs.State.{state_with, new_state};
     ghost use Rattle.lbk_passage.specs.Stays.{IsWhole};
-    ghost use Rattle.lbk_passage.specs.Gathering.{Takes, Settles, Gathers, Fills, IsSame};
+    ghost use Rattle.lbk_passage.specs.Gathering.{Takes, Settles, Gathering, Gathers, Fills, IsSame};
     ghost use Rattle.lbk_passage.specs.Next.{failures_with, fault_in};
     ghost use Rattle.lbk_rules.specs.declared.cells.Cell.{Cell};
     ghost use Rattle.lbk_rules.specs.declared.verdicts.Profile.{Profile};
@@ -125,11 +125,11 @@ impl Paragraph {
             last = reach.last;
             match reach.stop {
                 Stop::PieceEnds => {}
-                Stop::LineEnds => return Ok(last.map(end_after)),
+                Stop::LineEnds => return Ok(end_before(last, true)),
                 Stop::NoRoom => return Err(self.refuse()),
             }
         }
-        Ok(last.map(|_| END_OF_TEXT))
+        Ok(end_before(last, false))
     }
 
     /// Makes sure that a piece is ready, by reads where they are due, and answers whether one is.

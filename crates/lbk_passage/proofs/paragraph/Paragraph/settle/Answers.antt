@@ -1,4 +1,5 @@
-use Rattle.std.proofs.Common.{◌≡◌, None, Some, ◌&&◌, not, is_err, refl, sym, ap, ◌∙◌}
+use Rattle.std.proofs.Common.{◌≡◌, None, Some, Err, ◌&&◌, not, is_err, refl, sym, ap, ◌∙◌}
+use Rattle.lbk_feed.specs.declared.faults.FeedFault.TheVariants.{Spent}
 use Rattle.lbk_feed.specs.View.{fault_of}
 use Rattle.lbk_feed.specs.View as feed
 use Rattle.lbk_passage.specs.Next.{failures_with}
@@ -18,6 +19,7 @@ returns-in-Ok-clause-settles g c = record {
   limit = refl;
   same_held = refl;
   fault = None;
+  unspent = λ e. cc;
   fault_is = refl;
   spent = c.is_err-self.ensures.value ∙ ap is_err c.in-Ok.is;
   steps = rw c.in-Ok.is at c.settle-outcome.ensures.steps;
@@ -34,6 +36,9 @@ returns-in-Err-clause-settles g c = record {
   limit = refl;
   same_held = refl;
   fault = Some c.in-Err.fault;
+  unspent = λ e. let same : c.in-Err.fault ≡ Spent = cc in
+      let spent = c.settle-outcome.ensures.spent_only (c.in-Err.is ∙ ap Err same) in
+      let fresh = feed_unspent c.args.self.now.feed.is_spent c.args.self.now.is_spent c.args.self.now.spent c.requires.unspent in cc;
   fault_is = ap Some c.from_feed.ensures;
   spent = c.is_err-self.ensures.value ∙ ap is_err c.in-Err.is;
   steps = rw c.in-Err.is at c.settle-outcome.ensures.steps;
