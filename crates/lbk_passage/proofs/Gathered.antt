@@ -1,5 +1,5 @@
 -- The turns of the loop that gathers a paragraph.
-use Rattle.std.proofs.Common.{◌≡◌, ◌⊎◌, ℕ, ◌+◌, ◌-◌, ◌<◌, ◌≤◌, Bool, true, false, ◌&&◌, ◌||◌, not, List, [], ◌∷◌, ◌++◌, length, take, drop, Option, None, Some, Result, Ok, Err, IfOk, option_map, is_some, encode_utf8, encode_utf8_all, string_bytes, string_len, IsUtf8, chars, if◌then◌else◌, refl, sym, ap, subst, ◌∙◌, arith, inl, inr, length-append, append_assoc, append-nil}
+use Rattle.std.proofs.Common.{◌≡◌, ◌⊎◌, ℕ, ◌+◌, ◌-◌, ◌<◌, ◌≤◌, Bool, true, false, ◌&&◌, ◌||◌, not, List, [], ◌∷◌, ◌++◌, length, take, drop, Option, None, Some, Result, Ok, Err, IfOk, IfSome, option_map, is_some, encode_utf8, encode_utf8_all, string_bytes, string_len, IsUtf8, chars, if◌then◌else◌, refl, sym, ap, subst, ◌∙◌, arith, inl, inr, length-append, append_assoc, append-nil}
 use Rattle.std.specs.Bool.{OnTrue, OnFalse}
 use Rattle.std.proofs.Math.Utf8.{scalar, scalars}
 use Rattle.std.proofs.Math.Seq.{drop-append_seam}
@@ -327,3 +327,54 @@ ended_all P r b was is h = let r_is : r ≡ Ok false = was ∙ ap Ok is in rw r_
 pub no_fault : (fault : Option FeedFault) → None ≡ option_map passage_fault fault → fault ≡ None
 no_fault None e = refl
 no_fault (Some x) e = cc
+
+module _ (cell : ℕ → Cell) (old : Paragraph) (unread : Option (List ℕ)) (ended : Bool) (reads : ℕ) (now p : Paragraph) (last : Option Class)
+    (u v : Option (List ℕ)) (e e' : Bool) (r1 r2 : ℕ) (r : Result Bool PassageFault)
+    (g : Gathering cell old now last unread u ended e reads r1) (s : Settles now p u v e e' r1 r2 r) where
+  settled : Settled cell old unread ended reads p last v e' r2 (fault_in r)
+  settled = Settled-of cell old unread ended reads now p last u v e e' r1 r2 r g s
+
+  module _ (b : Bool) (was : r ≡ Ok b) where
+    settled_ok : Settled cell old unread ended reads p last v e' r2 None
+    settled_ok = subst (λ x. Settled cell old unread ended reads p last v e' r2 (fault_in x)) was settled
+
+    unspent : p.is_spent ≡ false
+    unspent = s.spent ∙ ap is_some (no_fault s.fault (sym (ap fault_in was) ∙ s.fault_is))
+
+    pub turn-end : (end : Option Verdict) → b ≡ false → end ≡ end_before last false → Gathers cell old p unread v ended e' reads r2 (Ok end)
+    turn-end end is end_is =
+        let all = ended_all ((p.feed.held ≡ []) × (p.feed.is_ended ≡ true)) r b was is s.ends in
+        Gathers-end cell old unread ended reads p last v e' r2 end settled_ok unspent s.steps.lends all.0 all.1 end_is
+
+    module _ (is : b ≡ true) (n : Paragraph) (reach : Reach) (t : Takes cell last p n reach) where
+      some : 0 < length p.feed.ready
+      some = stood (0 < length p.feed.ready) r b was is s.stands
+
+      pub turn-more : Gathering cell old n reach.last unread v ended e' reads r2
+      turn-more = Gathering-more cell old unread ended reads p last v e' r2 n reach t settled_ok some unspent
+
+      pub turn-less : reach.stop ≡ PieceEnds → n.limit - string_len n.text < now.limit - string_len now.text
+      turn-less stop =
+          let less = more_text cell old unread ended reads p last v e' r2 n reach t settled_ok some stop s.steps.lends in
+          omega (arith, less, s.limit, ap length s.text, string_len-is now.text, string_len-is p.text)
+
+      pub turn-line : (end : Option Verdict) → reach.stop ≡ LineEnds → end ≡ end_before reach.last true → Gathers cell old n unread v ended e' reads r2 (Ok end)
+      turn-line end stop end_is = Gathers-line cell old unread ended reads p last v e' r2 n reach t settled_ok some end unspent stop end_is
+
+      pub turn-long : (m : Paragraph) (fault : PassageFault) → IsSame n m n.is_held true → reach.stop ≡ NoRoom
+          → fault ≡ ParagraphTooLong (n.feed.given - string_len n.text) → Gathers cell old m unread v ended e' reads r2 (Err fault)
+      turn-long m fault same stop fault_is = Gathers-long cell old unread ended reads p last v e' r2 n reach t settled_ok some m fault same stop fault_is
+
+  pub turn-fault : (x : PassageFault) → r ≡ Err x → Gathers cell old p unread v ended e' reads r2 (Err x)
+  turn-fault x was = by s.fault refl
+    where
+      by : (fault : Option FeedFault) → s.fault ≡ fault → Gathers cell old p unread v ended e' reads r2 (Err x)
+      by None is = absurd (let other : Some x ≡ None = sym (ap fault_in was) ∙ s.fault_is ∙ ap (option_map passage_fault) is in cc)
+      by (Some f) is =
+          let other : Some x ≡ Some (passage_fault f) = sym (ap fault_in was) ∙ s.fault_is ∙ ap (option_map passage_fault) is in
+          let same : passage_fault f ≡ x = cc in
+          let lies = subst (λ o. IfSome o (λ k. (p.feed.ready ≡ []) × LiesIn k p.feed)) is s.steps.lies in
+          subst (λ k. Gathers cell old p unread v ended e' reads r2 (Err k)) same
+          (Gathers-fault cell old unread ended reads p last v e' r2 f
+          (subst (λ k. Settled cell old unread ended reads p last v e' r2 k) (ap fault_in was ∙ ap Some (sym same)) settled)
+          (s.spent ∙ ap is_some is) (λ k. s.unspent (is ∙ k)) lies.0 s.steps.front lies.1)

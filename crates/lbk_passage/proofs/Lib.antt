@@ -5,6 +5,7 @@ pub mod Reading
 pub mod Settling
 pub mod Stopping
 pub mod Gathered
+pub mod Filling
 pub mod Finding
 pub mod Staying
 pub mod Taking

@@ -144,7 +144,8 @@ pub record Fills (cell : ℕ → Cell) (profile : Profile) (old new : Paragraph)
   pub limit : new.limit ≡ old.limit
   pub answer : FillAnswers (state_with cell profile new) new old.is_spent r
   pub start : (state_with cell profile new).start ≡ (state_with cell profile old).start
-  pub held : new.is_held ≡ is_ok r
+  pub in_hand : (new.is_held || new.is_spent) ≡ true
+  pub unspent : is_ok r ≡ true → old.is_spent ≡ false
   pub spent : new.is_spent ≡ (old.is_spent || ends_run (fault_in r))
   pub got : List ℕ
   pub grown : (state_with cell profile new).held ≡ (state_with cell profile old).held ++ got

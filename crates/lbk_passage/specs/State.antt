@@ -38,6 +38,6 @@ state_with cell profile p = record {
   start = p.feed.given - length (text_held p);
   held = text_held p ++ p.feed.held;
   is_ended = p.feed.is_ended;
-  is_settled = p.is_held;
+  is_settled = p.is_held || p.is_spent;
   is_spent = p.is_spent;
 }

@@ -85,7 +85,7 @@ impl Paragraph {
         ensures fills { (profile : Profile) → Fills (C.cell_of cells.now) profile self.old self.new
             (R.unread reader.old) (R.unread reader.new) (R.has_ended reader.old) (R.has_ended reader.new)
             (R.read_count reader.old) (R.read_count reader.new) result }
-        ensures whole { OnOk result (IsWhole (C.cell_of cells.now) self.new) }
+        ensures whole { self.new.is_held ≡ true → IsWhole (C.cell_of cells.now) self.new }
         ensures end { IfOk result (λ end. end ≡ self.new.end) }
         ensures failures { R.failure_count reader.new ≡ failures_with (R.failure_count reader.old) (fault_in result) }
         ensures reads { R.read_count reader.new ≤ R.read_count reader.old + (self.old.limit + 4) }
