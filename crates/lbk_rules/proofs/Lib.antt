@@ -11,3 +11,5 @@ pub mod HeldLemmas
 pub mod WaitingLemmas
 pub mod CoverLemmas
 pub mod UnansweredLemmas
+pub mod EndLemmas
+pub mod StepLemmas

@@ -2,11 +2,13 @@ pub mod Answers
 pub mod CellPages
 pub mod Chain
 pub mod Classes
+pub mod Ends
 pub mod Facts
 pub mod Fits
 pub mod Held
 pub mod Labels
 pub mod LateFits
+pub mod Once
 pub mod Pages
 pub mod Resolve
 pub mod Rules
