@@ -1,34 +1,37 @@
--- The marks of a text: what is decided after each of its scalars (UAX #14, section 6).
-use Rattle.std.specs.Prelude.{ℕ, Bool, true, false, List, [], ◌∷◌, ◌++◌, map}
+-- The marks of a text: its scalars, each with the verdict of the position after it on the whole text (UAX #14,
+-- section 6).
+use Rattle.std.specs.Prelude.{ℕ, List, [], ◌∷◌, ◌++◌, map, encode_utf8_all}
 use Rattle.lbk_rules.specs.declared.cells.Cell.{Cell}
-use Rattle.lbk_rules.specs.declared.verdicts.Kind.{Kind}
-use Rattle.lbk_rules.specs.declared.verdicts.Kind.TheVariants.{No}
 use Rattle.lbk_rules.specs.declared.verdicts.Profile.{Profile}
 use Rattle.lbk_rules.specs.declared.verdicts.Verdict.{Verdict}
 use Rattle.lbk_rules.specs.Verdict.{verdict_between_in}
 
 -- a scalar, and the verdict of the position after it
-pub record Mark : Type 0 where
+pub record Marked : Type 0 where
   pub scalar : ℕ
   pub after : Verdict
 
--- the marks of the scalars that follow the cells on the left
-abbrev pub marks_after : Profile → (ℕ → Cell) → List Cell → List ℕ → List Mark
-marks_after profile cell left [] = []
-marks_after profile cell left (c ∷ cs) =
-    record { scalar = c; after = verdict_between_in profile (left ++ cell c ∷ []) (map cell cs) }
-    ∷ marks_after profile cell (left ++ cell c ∷ []) cs
+-- the marks of the scalars that stand behind those of `before`: each position lies between all cells of the text
+-- up to it and all cells from it on
+abbrev pub marks_behind : Profile → (ℕ → Cell) → List ℕ → List ℕ → List Marked
+marks_behind profile cell before [] = []
+marks_behind profile cell before (c ∷ cs) =
+    record { scalar = c; after = verdict_between_in profile (map cell (before ++ c ∷ [])) (map cell cs) }
+    ∷ marks_behind profile cell (before ++ c ∷ []) cs
 
 -- the marks of a text
-abbrev pub marks : Profile → (ℕ → Cell) → List ℕ → List Mark
-marks profile cell text = marks_after profile cell [] text
+abbrev pub marks : Profile → (ℕ → Cell) → List ℕ → List Marked
+marks profile cell text = marks_behind profile cell [] text
 
--- the same marks, with another verdict after the last scalar
-abbrev pub ended : Verdict → List Mark → List Mark
+-- the scalars of some marks, and their bytes
+abbrev pub scalars_of : List Marked → List ℕ
+scalars_of ms = map (λ m. m.scalar) ms
+
+abbrev pub text_of : List Marked → List ℕ
+text_of ms = encode_utf8_all (scalars_of ms)
+
+-- the same marks, but for the verdict after the last
+abbrev pub ended : Verdict → List Marked → List Marked
 ended end [] = []
-ended end (mark ∷ []) = record { scalar = mark.scalar; after = end } ∷ []
-ended end (mark ∷ next ∷ marks) = mark ∷ ended end (next ∷ marks)
-
-abbrev pub is_no : Kind → Bool
-is_no No = true
-is_no _ = false
+ended end (m ∷ []) = record { scalar = m.scalar; after = end } ∷ []
+ended end (m ∷ n ∷ ms) = m ∷ ended end (n ∷ ms)

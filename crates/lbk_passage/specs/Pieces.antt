@@ -1,16 +1,16 @@
--- The pieces of a text: what stands between two word boundaries (UAX #29, section 4).
+-- The pieces of a text at its word boundaries (UAX #29, section 4), and which of them are words.
 use Rattle.std.specs.Prelude.{ℕ, ◌+◌, Bool, List, [], ◌∷◌, length}
 use Rattle.std.specs.List.{list_any}
 use Rattle.std.specs.Str.{chars}
 use Rattle.unicode_segmentation.specs.Word.{word_bounds}
 use Rattle.lbk_rules.specs.declared.cells.Cell.{Cell}
-use Rattle.lbk_passage.specs.declared.pieces.Piece.{Piece}
+use Rattle.lbk_passage.specs.declared.passage.Piece.{Piece}
 
--- a piece is a word where it holds a scalar whose cell has `letter`
+-- some scalar of the piece is a letter or a number
 abbrev pub is_word : (ℕ → Cell) → List ℕ → Bool
 is_word cell piece = list_any (λ c. (cell c).letter) (chars piece)
 
--- these pieces, of which the first begins at `at`
+-- pieces given by their bytes, of which the first begins at byte `at`
 abbrev pub pieces_from : (ℕ → Cell) → ℕ → List (List ℕ) → List Piece
 pieces_from cell at [] = []
 pieces_from cell at (piece ∷ pieces) =
@@ -18,5 +18,5 @@ pieces_from cell at (piece ∷ pieces) =
     ∷ pieces_from cell (at + length piece) pieces
 
 -- the pieces of a text
-abbrev pub pieces_of : (ℕ → Cell) → List ℕ → List Piece
+unfoldable pub pieces_of : (ℕ → Cell) → List ℕ → List Piece
 pieces_of cell text = pieces_from cell 0 (word_bounds text)

@@ -1,8 +1,16 @@
-//! Texts cut into paragraphs, segments and words.
+//! Passages of a text: paragraphs, their segments at line breaks (Unicode Standard Annex #14) and their words
+//! (Unicode Standard Annex #29), while only one paragraph is held.
 #![tactic(auto)]
 
+mod ends;
+mod faults;
+mod paragraph;
+mod passage;
 mod pieces;
+mod reach;
+mod segmenter;
 mod segments;
 
-pub use pieces::Piece;
-pub use segments::Segment;
+pub use faults::{LIMIT_MAX, PassageFault};
+pub use passage::{Passage, Piece, Segment};
+pub use segmenter::Segmenter;

@@ -1,46 +1,35 @@
-//! Pieces: a passage cut at its word boundaries (UAX #29, section 4).
-ghost use Rattle.std.specs.Prelude.{◌≡◌, ℕ, ◌<◌, length, OnOk};
+//! The pieces of a passage.
+
+ghost use Rattle.std.specs.Prelude.{◌≡◌, ◌<◌, ◌^◌, length, OnOk};
 ghost use Rattle.lbk_passage.specs.Pieces.{is_word, pieces_of};
 
+use crate::passage::Piece;
 use lbk_rules::CellSource;
 use std::alloc::AllocError;
 use unicode_segmentation::UnicodeSegmentation;
 
-/// What stands between two word boundaries of a passage.
-#[derive(Clone, Copy, PartialEq, Eq, Debug)]
-pub struct Piece {
-    /// Where it begins, in bytes of the passage's text.
-    pub start: u32,
-    /// Where it ends, in bytes of the passage's text.
-    pub end: u32,
-    /// Whether it holds a letter or a number: a scalar whose cell has `letter`.
-    pub word: bool,
-}
-
-/// Writes the pieces of a passage's text in place of those of the one before.
-pub(crate) fn cut_pieces<C: CellSource>(
-    pieces: &mut Vec<Piece>,
+/// Writes the pieces of a text in place of what the list held (UAX #29, section 4). Where memory could not grow the
+/// list holds some of them.
+pub fn cut_words<C: CellSource>(
     cells: &C,
     text: &str,
+    pieces: &mut Vec<Piece>,
 ) -> Result<(), AllocError>
-    requires { length text.now < 4294967296 }
+    requires { length text.now < 2 ^ 32 }
     ensures { OnOk result (pieces.new.items ≡ pieces_of (C.cell_of cells.now) text.now) }
 {
     pieces.clear();
-    let mut at = 0;
+    let mut start = 0;
     for piece in text.split_word_bounds() {
-        let end = at + piece.len() as u32;
-        pieces.push(Piece {
-            start: at,
-            end,
-            word: is_word(cells, piece),
-        })?;
-        at = end;
+        let end = start + piece.len() as u32;
+        let word = is_word(cells, piece);
+        pieces.push(Piece { start, end, word })?;
+        start = end;
     }
     Ok(())
 }
 
-/// Whether a piece is a word.
+/// Whether a piece holds a letter or a number.
 fn is_word<C: CellSource>(cells: &C, piece: &str) -> bool
     ensures { result ≡ is_word (C.cell_of cells.now) piece.now }
 {

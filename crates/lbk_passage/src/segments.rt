@@ -1,133 +1,107 @@
-//! Segments: a passage cut where a line may break (UAX #14, section 6).
-ghost use Rattle.std.specs.Prelude.{◌≡◌, ℕ, ◌<◌, [], length, not, OnOk};
+//! The segments of a passage.
+
+ghost use Rattle.std.specs.Prelude.{◌≡◌, ℕ, ◌<◌, ◌^◌, length, OnOk};
 ghost use Rattle.std.specs.Str.{chars};
-ghost use Rattle.lbk_passage.specs.Marks.{ended, is_no, marks};
-ghost use Rattle.lbk_passage.specs.Segments.{segments};
-ghost use Rattle.lbk_passage.specs.Cuts.{answered, cut_at, cut_of, met};
+ghost use Rattle.lbk_passage.specs.Cuts.{answered, cut_at, cut_with, met};
+ghost use Rattle.lbk_passage.specs.Marks.{marks, ended};
+ghost use Rattle.lbk_passage.specs.Segments.{segments_of};
 
-use lbk_rules::{CellSource, Kind, LateMachine, Profile, Rule, Verdict};
-use std::alloc::{AllocError, Global};
+use crate::passage::Segment;
+use lbk_rules::{CellSource, Kind, LateMachine, Profile, Verdict};
+use std::alloc::AllocError;
 
-/// What stands between two places of a passage where a line breaks.
-#[derive(Clone, Copy, PartialEq, Eq, Debug)]
-pub struct Segment {
-    /// Where it begins, in bytes of the passage's text.
-    pub start: u32,
-    /// Where it ends, in bytes of the passage's text.
-    pub end: u32,
-    /// Whether a line may break at its end, or must.
-    pub kind: Kind,
-    /// The rule that says so.
-    pub rule: Rule,
+/// Writes the segments of a passage in place of what the list held: those of its text alone, the last with the
+/// verdict `end` (UAX #14, section 6). Where memory could not grow the list holds some of them.
+pub fn cut_lines<C: CellSource>(
+    cells: &C,
+    profile: Profile,
+    text: &str,
+    end: Verdict,
+    segments: &mut Vec<Segment>,
+) -> Result<(), AllocError>
+    requires { length text.now < 2 ^ 32 }
+    ensures { OnOk result (segments.new.items
+        ≡ segments_of (ended end (marks profile (C.cell_of cells.now) (chars text.now)))) }
+{
+    segments.clear();
+    if text.is_empty() {
+        return Ok(());
+    }
+    let mut machine = LateMachine::start(profile);
+    let mut pending = Pending { start: 0, held: 0 };
+    for (at, c) in text.char_indices() {
+        let out = machine.step(cells.cell(c));
+        pending.answer(out.late, segments)?;
+        pending.decide(at as u32, out.now, segments)?;
+    }
+    pending.answer(machine.finish().late, segments)?;
+    pending.cut(text.len() as u32, end, segments)
 }
 
-/// The segments of a passage, as its positions are decided one after another.
-#[derive(Drop)]
-pub(crate) struct Cuts {
-    segments: Vec<Segment>,
+/// What is not cut yet, as the positions of a passage are decided one after another.
+#[derive(Clone, Copy)]
+struct Pending {
     /// Where the segment in progress begins.
-    from: u32,
-    /// The last position that was held.
-    waits: u32,
+    start: u32,
+    /// The position that was held last.
+    held: u32,
 }
 
-impl Cuts {
-    /// No segments yet.
-    pub(crate) fn new(alloc: Global) -> Cuts
-        ensures { (cut_of result).segments ≡ [] }
-    {
-        Cuts {
-            segments: Vec::new(alloc),
-            from: 0,
-            waits: 0,
-        }
-    }
-
-    /// The segments of the passage that was cut last.
-    pub(crate) fn segments(&self) -> &[Segment]
-        ensures { result.now ≡ (cut_of self.now).segments }
-    {
-        self.segments.as_slice()
-    }
-
-    /// Cuts a passage's text in place of the one before. `end`: the verdict after its last scalar.
-    pub(crate) fn cut_text<C: CellSource>(
+impl Pending {
+    /// Takes the answer to the position that was held, where it comes.
+    fn answer(
         &mut self,
-        cells: &C,
-        profile: Profile,
-        text: &str,
-        end: Verdict,
+        late: Option<(u64, Verdict)>,
+        segments: &mut Vec<Segment>,
     ) -> Result<(), AllocError>
-        requires { length text.now < 4294967296 }
-        ensures { OnOk result ((cut_of self.new).segments
-            ≡ segments (ended end (marks profile (C.cell_of cells.now) (chars text.now)))) }
-    {
-        self.start();
-        if text.is_empty() {
-            return Ok(());
-        }
-        let mut machine = LateMachine::start(profile);
-        for (at, c) in text.char_indices() {
-            let out = machine.step(cells.cell(c));
-            self.answer(out.late)?;
-            self.meet(at as u32, out.now)?;
-        }
-        self.answer(machine.finish().late)?;
-        self.cut(text.len() as u32, end)
-    }
-
-    /// Begins another passage.
-    fn start(&mut self)
-        ensures { cut_of self.new ≡ record { segments = []; from = 0; waits = 0 } }
-    {
-        self.segments.clear();
-        self.from = 0;
-        self.waits = 0;
-    }
-
-    /// Takes the answer to the position that was held.
-    fn answer(&mut self, late: Option<(u64, Verdict)>) -> Result<(), AllocError>
-        ensures { OnOk result (cut_of self.new ≡ answered late (cut_of self.old)) }
+        ensures { OnOk result (cut_with segments.new.items self.new
+            ≡ answered late (cut_with segments.old.items self.old)) }
     {
         match late {
             None => Ok(()),
-            Some((_, verdict)) => self.cut(self.waits, verdict),
+            Some((_, verdict)) => self.cut(self.held, verdict, segments),
         }
     }
 
-    /// Takes what is said of the position `at` at its own step: nothing, if it is held.
-    fn meet(&mut self, at: u32, now: Option<Verdict>) -> Result<(), AllocError>
-        ensures { OnOk result (cut_of self.new ≡ met at now (cut_of self.old)) }
+    /// Takes the verdict of the position `at`, unless it is held.
+    fn decide(
+        &mut self,
+        at: u32,
+        now: Option<Verdict>,
+        segments: &mut Vec<Segment>,
+    ) -> Result<(), AllocError>
+        ensures { OnOk result (cut_with segments.new.items self.new
+            ≡ met at now (cut_with segments.old.items self.old)) }
     {
         match now {
             None => {
-                self.waits = at;
+                self.held = at;
                 Ok(())
             }
-            Some(verdict) => self.cut(at, verdict),
+            Some(verdict) => self.cut(at, verdict, segments),
         }
     }
 
-    /// Ends a segment at `at`, if a line may break there.
-    fn cut(&mut self, at: u32, verdict: Verdict) -> Result<(), AllocError>
-        ensures { OnOk result (cut_of self.new ≡ cut_at at verdict (cut_of self.old)) }
+    /// Ends the segment in progress at `at`, if a line may break there.
+    fn cut(
+        &mut self,
+        at: u32,
+        verdict: Verdict,
+        segments: &mut Vec<Segment>,
+    ) -> Result<(), AllocError>
+        ensures { OnOk result (cut_with segments.new.items self.new
+            ≡ cut_at at verdict (cut_with segments.old.items self.old)) }
     {
-        if breaks(verdict.kind) {
-            self.segments.push(Segment {
-                start: self.from,
-                end: at,
-                kind: verdict.kind,
-                rule: verdict.rule,
-            })?;
-            self.from = at;
+        if matches!(verdict.kind, Kind::No) {
+            return Ok(());
         }
+        segments.push(Segment {
+            start: self.start,
+            end: at,
+            kind: verdict.kind,
+            rule: verdict.rule,
+        })?;
+        self.start = at;
         Ok(())
     }
-}
-
-/// Whether a line may break there.
-fn breaks(kind: Kind) -> bool
-    ensures { result ≡ not (is_no kind) }
-{
-    !matches!(kind, Kind::No)
 }

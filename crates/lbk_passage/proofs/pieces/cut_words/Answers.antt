@@ -3,10 +3,11 @@ use Rattle.std.specs.List.{concat}
 use Rattle.unicode_segmentation.specs.Iter.{word_bounds_left}
 use Rattle.unicode_segmentation.specs.Word.{is_word_break}
 use Rattle.unicode_segmentation.proofs.SegmentsLemmas.{concat-segments}
-use Rattle.lbk_passage.specs.Pieces.{pieces_from}
-use Rattle.lbk_passage.proofs.pieces.cut_pieces.Goals as goal
+use Rattle.lbk_passage.specs.Pieces.{pieces_from, pieces_of}
+use Rattle.lbk_passage.proofs.pieces.cut_words.Goals as goal
 
 pub loop-piece-init : goal.loop-piece-init
+unfolding pieces_of
 loop-piece-init g c =
     let cell = g.C.CellSource.cell_of c.args.cells.now in
     let items = c.into_iter-piece-iterator.result in

@@ -1,9 +1,9 @@
 use Rattle.std.specs.Str.Iter.{char_indices_offset, char_indices_rest}
-use Rattle.lbk_passage.specs.Cuts.{cut_of}
+use Rattle.lbk_passage.specs.Cuts.{cut_with}
 use Rattle.lbk_passage.proofs.SegmentLemmas.{CutLoop}
-use Rattle.lbk_passage.proofs.segments.Cuts.cut_text.Given as goal
+use Rattle.lbk_passage.proofs.segments.cut_lines.Given as goal
 
 abbrev pub invariant-loop-at : goal.invariant-loop-at
 invariant-loop-at g l =
-    CutLoop l.fn.profile (g.C.CellSource.cell_of l.cells) l.end l.text l.machine (cut_of l.self)
+    CutLoop l.fn.profile (g.C.CellSource.cell_of l.cells) l.end l.text l.machine (cut_with l.segments.items l.pending)
     (char_indices_offset l.at-iterator) (char_indices_rest l.at-iterator)
