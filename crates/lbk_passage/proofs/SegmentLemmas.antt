@@ -7,12 +7,10 @@ use Rattle.std.proofs.lemmas.Bool.{false≢true}
 use Rattle.std.proofs.lemmas.List.{append-nil, length-append, length-map, length_push, map-append, nil_from_length}
 use Rattle.std.proofs.lemmas.Str.{IsUtf8-past_char, chars-nil, chars_past_char, encodes-chars, len_utf8_bounds, length-encode}
 use Rattle.lbk_rules.specs.declared.cells.Cell.{Cell}
-use Rattle.lbk_rules.specs.declared.late.LateMachine.{LateMachine}
 use Rattle.lbk_rules.specs.declared.verdicts.Profile.{Profile}
 use Rattle.lbk_rules.specs.declared.verdicts.Verdict.{Verdict}
 use Rattle.lbk_rules.specs.Facts.{heads}
 use Rattle.lbk_rules.specs.Held.{is_held, unanswered, unanswered_before, answer_at, late_at, now_at}
-use Rattle.lbk_rules.specs.LateFits.{LateFits}
 use Rattle.lbk_rules.specs.Verdict.{verdict_in, verdict_between_in}
 use Rattle.lbk_rules.proofs.CoverLemmas.{held-heads, unanswered-snoc}
 use Rattle.lbk_rules.proofs.EndLemmas.{joins_no_break, start_of_text}
@@ -167,10 +165,11 @@ Cutting-end profile cell end before at cut all late late_same cutting =
     ∙ ap (λ o. cut.segments ++ to_come o cut (λ start. ending start at end (λ _. []))) late_same
     ∙ cutting.joined
 
--- The loop: what was cut, where `rest` is left of the text and begins at the offset `at`
-pub record CutLoop (profile : Profile) (cell : ℕ → Cell) (end : Verdict) (text : List ℕ) (machine : LateMachine) (cut : Cut) (at : ℕ) (rest : List ℕ) : Type 0 where
+-- The loop: what was cut, where `rest` is left of the text and begins at the offset `at`. Fits: what the machine knows
+-- of the cells that it has taken
+pub record CutLoop (Fits : List Cell → Type 0) (profile : Profile) (cell : ℕ → Cell) (end : Verdict) (text : List ℕ) (cut : Cut) (at : ℕ) (rest : List ℕ) : Type 0 where
   pub before : List ℕ
-  pub fits : LateFits machine profile (map cell before)
+  pub fits : Fits (map cell before)
   pub few : length (map cell before) ≤ at
   pub within : at + length rest ≡ length text
   pub utf8 : IsUtf8 rest
@@ -179,10 +178,10 @@ pub record CutLoop (profile : Profile) (cell : ℕ → Cell) (end : Verdict) (te
 some-chars : (text : List ℕ) → IsUtf8 text → (length text ≡ 0 → ⊥) → chars text ≡ [] → ⊥
 some-chars text utf8 some none = some (ap length (sym (encodes-chars text utf8)) ∙ ap (λ cs. length (encode_utf8_all cs)) none)
 
-pub CutLoop-start : (profile : Profile) (cell : ℕ → Cell) (end : Verdict) (text : List ℕ) (machine : LateMachine) (cut : Cut) (at : ℕ) (rest : List ℕ)
-    → IsUtf8 text → (length text ≡ 0 → ⊥) → LateFits machine profile [] → cut ≡ record { segments = []; start = 0; held = 0 }
-    → at ≡ 0 → rest ≡ text → CutLoop profile cell end text machine cut at rest
-CutLoop-start profile cell end text machine cut at rest utf8 some fits fresh first whole =
+pub CutLoop-start : (Fits : List Cell → Type 0) (profile : Profile) (cell : ℕ → Cell) (end : Verdict) (text : List ℕ) (cut : Cut) (at : ℕ) (rest : List ℕ)
+    → IsUtf8 text → (length text ≡ 0 → ⊥) → Fits [] → cut ≡ record { segments = []; start = 0; held = 0 }
+    → at ≡ 0 → rest ≡ text → CutLoop Fits profile cell end text cut at rest
+CutLoop-start Fits profile cell end text cut at rest utf8 some fits fresh first whole =
     let all = segments_of (ended end (marks profile cell (chars text))) in
     let begun = Cutting-start profile cell end (chars text) cut (some-chars text utf8 some) fresh in
     let placed = subst (λ (n : ℕ). Cutting profile cell end [] n (chars text) cut all) (sym first) begun in
@@ -195,15 +194,15 @@ CutLoop-start profile cell end text machine cut at rest utf8 some fits fresh fir
       cutting = subst (λ (r : List ℕ). Cutting profile cell end [] at (chars r) cut all) (sym whole) placed;
     }
 
-pub CutLoop-step : (profile : Profile) (cell : ℕ → Cell) (end : Verdict) (text : List ℕ) (machine next : LateMachine) (cut : Cut) (at place after c : ℕ) (rest more : List ℕ)
+pub CutLoop-step : (Fits Next : List Cell → Type 0) (profile : Profile) (cell : ℕ → Cell) (end : Verdict) (text : List ℕ) (cut : Cut) (at place after c : ℕ) (rest more : List ℕ)
     (this : Cell) (now : Option Verdict) (late : Option (ℕ × Verdict))
-    → ((cells others : List Cell) → LateFits machine profile cells → now ≡ now_at profile cells (this ∷ others))
-    → ((cells others : List Cell) → LateFits machine profile cells → late ≡ late_at profile cells this others)
-    → ((cells : List Cell) → LateFits machine profile cells → LateFits next profile (cells ++ this ∷ []))
+    → ((cells others : List Cell) → Fits cells → now ≡ now_at profile cells (this ∷ others))
+    → ((cells others : List Cell) → Fits cells → late ≡ late_at profile cells this others)
+    → ((cells : List Cell) → Fits cells → Next (cells ++ this ∷ []))
     → this ≡ cell c → place ≡ at → rest ≡ encode_utf8 c ++ more → after ≡ at + length (encode_utf8 c)
-    → CutLoop profile cell end text machine cut at rest
-    → CutLoop profile cell end text next (met place now (answered late cut)) after more
-CutLoop-step profile cell end text machine next cut at place after c rest more this now late nows lates fit same here splits further l =
+    → CutLoop Fits profile cell end text cut at rest
+    → CutLoop Next profile cell end text (met place now (answered late cut)) after more
+CutLoop-step Fits Next profile cell end text cut at place after c rest more this now late nows lates fit same here splits further l =
     let all = segments_of (ended end (marks profile cell (chars text))) in
     let left = map cell l.before in
     let on = l.before ++ c ∷ [] in
@@ -218,18 +217,18 @@ CutLoop-step profile cell end text machine next cut at place after c rest more t
     let taken : left ++ this ∷ [] ≡ map cell on = ap (λ x. left ++ x ∷ []) same ∙ sym (map-append cell l.before (c ∷ [])) in
     record {
       before = on;
-      fits = subst (λ (cells : List Cell). LateFits next profile cells) taken (fit left l.fits);
+      fits = subst Next taken (fit left l.fits);
       few = omega (arith, length-map on cell, length-map l.before cell, length_push l.before c, l.few);
       within = omega (arith, length-append (encode_utf8 c) more, ap length splits, l.within);
       utf8 = IsUtf8-past_char rest more c l.utf8 splits;
       cutting = subst (λ (n : ℕ). Cutting profile cell end on after (chars more) (met n now (answered late cut)) all) (sym here) moved;
     }
 
-pub CutLoop-end : (profile : Profile) (cell : ℕ → Cell) (end : Verdict) (text : List ℕ) (machine : LateMachine) (cut : Cut) (at : ℕ) (rest : List ℕ) (late : Option (ℕ × Verdict))
-    → ((cells : List Cell) → LateFits machine profile cells → late ≡ answer_at profile cells [])
-    → length rest ≡ 0 → CutLoop profile cell end text machine cut at rest
+pub CutLoop-end : (Fits : List Cell → Type 0) (profile : Profile) (cell : ℕ → Cell) (end : Verdict) (text : List ℕ) (cut : Cut) (at : ℕ) (rest : List ℕ) (late : Option (ℕ × Verdict))
+    → ((cells : List Cell) → Fits cells → late ≡ answer_at profile cells [])
+    → length rest ≡ 0 → CutLoop Fits profile cell end text cut at rest
     → (cut_at (length text) end (answered late cut)).segments ≡ segments_of (ended end (marks profile cell (chars text)))
-CutLoop-end profile cell end text machine cut at rest late lates none l =
+CutLoop-end Fits profile cell end text cut at rest late lates none l =
     let all = segments_of (ended end (marks profile cell (chars text))) in
     let no_chars : chars rest ≡ [] = ap chars (nil_from_length rest none) ∙ chars-nil in
     let place : at ≡ length text = omega (arith, l.within) in
