@@ -194,6 +194,7 @@ impl Intake {
         ensures spent { self.old.is_spent ≡ true → result ≡ Err FeedFault.Spent }
         ensures spent_only { result ≡ Err FeedFault.Spent → self.old.is_spent ≡ true }
         ensures idle { IsIdle (view_of self.old) → reader.new ≡ reader.old }
+        ensures read { result ≡ Err FeedFault.Read → ¬ (IsIdle (view_of self.old)) }
         ensures failures { R.failure_count reader.new ≡ failures_with (R.failure_count reader.old) (fault_of result) }
         ensures reads { R.read_count reader.new ≤ R.read_count reader.old + 4 }
     {

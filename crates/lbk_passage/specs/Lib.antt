@@ -4,10 +4,11 @@ pub mod Passages
 pub mod Breaks
 pub mod Segments
 pub mod Pieces
-pub mod Faults
-pub mod Ends
 pub mod State
 pub mod Next
+pub mod Laws
 -- What only carries proofs.
+pub mod Faults
+pub mod Stays
 pub mod Gathering
 pub mod Cuts

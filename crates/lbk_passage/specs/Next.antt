@@ -2,9 +2,8 @@
 use Rattle.std.specs.Prelude.{◌≡◌, ◌⊎◌, ℕ, ◌+◌, ◌<◌, ◌≤◌, Bool, true, false, ◌||◌, not, List, [], ◌∷◌, ◌++◌, length, Option, None, Some, Result, Ok, Err, IsUtf8, encode_utf8, encode_utf8_all}
 use Rattle.std.specs.Char.{IsScalar}
 use Rattle.std.specs.Io.KnownBytes.{prepend_known, Keeps, IsAtEnd}
-use Rattle.lbk_feed.specs.declared.faults.TheConstants.{TEXT_MAX}
 use Rattle.lbk_feed.specs.Devices.{KeepsIfTold, count_up}
-use Rattle.lbk_feed.specs.Text.{well_formed_prefix, counted, IsNotUtf8At, IsTooLong}
+use Rattle.lbk_feed.specs.Text.{longest_text, well_formed_prefix, counted, IsNotUtf8At, IsTooLong}
 use Rattle.lbk_feed.specs.View.{AfterEach, BeginsWith}
 use Rattle.lbk_passage.specs.Marks.{Marked, marks, ended, scalars_of, text_of}
 use Rattle.lbk_passage.specs.Passages.{passages}
@@ -82,7 +81,7 @@ pub record Lends (old new : State) (p : Passage) : Type 0 where
   pub passage : IsPassage old marks p
   pub start : p.start ≡ old.start
   pub comes : ComesFirst new marks new.held
-  pub counted : old.start + length p.text.now ≤ TEXT_MAX
+  pub counted : old.start + length p.text.now ≤ longest_text
 
 -- nothing is left to give
 pub record IsDone (s : State) : Type 0 where
@@ -156,7 +155,7 @@ pub record DecidesAlike (old new : State) : Type 0 where
 pub record Costs (old new : State) (all : List ℕ) (stops : Bool) (from to : ℕ) : Type 0 where
   pub each_gave : (stops || new.is_ended) ≡ false → to + length old.held ≤ from + length all
   pub but_one : to + length old.held ≤ from + length all + 1
-  pub within : from < to → to + (old.start + length old.held) ≤ from + (TEXT_MAX + 1)
+  pub within : from < to → to + (old.start + length old.held) ≤ from + (longest_text + 1)
 
 -- the segmenter has met the end only where its reader has: one reader serves all its calls
 abbrev pub Agrees : State → Bool → Option (List ℕ) → Type 0

@@ -1,5 +1,5 @@
 -- A segmenter as its callers see it.
-use Rattle.std.specs.Prelude.{◌≡◌, ℕ, ◌-◌, ◌≤◌, Bool, true, false, List, [], ◌++◌, length, string_bytes, if◌then◌else◌}
+use Rattle.std.specs.Prelude.{◌≡◌, ℕ, ◌-◌, ◌≤◌, Bool, true, false, ◌||◌, List, [], ◌++◌, length, string_bytes, if◌then◌else◌}
 use Rattle.lbk_rules.specs.declared.cells.Cell.{Cell}
 use Rattle.lbk_rules.specs.declared.verdicts.Profile.{Profile}
 use Rattle.lbk_passage.specs.declared.paragraph.Paragraph.{Paragraph}
@@ -27,7 +27,7 @@ new_state cell profile limit = record { cell = cell; profile = profile; limit = 
 
 -- the text of the paragraph in progress: none, once it was given
 abbrev pub text_held : Paragraph → List ℕ
-text_held p = if p.is_held then string_bytes p.text else []
+text_held p = if p.is_held || p.is_spent then string_bytes p.text else []
 
 -- what a paragraph shows
 abbrev pub state_with : (ℕ → Cell) → Profile → Paragraph → State

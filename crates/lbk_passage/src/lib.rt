@@ -4,6 +4,7 @@
 
 mod ends;
 mod faults;
+pub mod laws;
 mod paragraph;
 mod passage;
 mod pieces;

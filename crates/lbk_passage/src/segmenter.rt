@@ -34,7 +34,7 @@ impl<'a, C: CellSource> Segmenter<'a, C> {
         if limit == 0 || limit > LIMIT_MAX {
             return Err(PassageFault::Limit);
         }
-        let Ok(paragraph) = Paragraph::new(alloc, limit as usize) else {
+        let Ok(paragraph) = Paragraph::new(alloc, limit) else {
             return Err(PassageFault::Memory);
         };
         Ok(Segmenter {

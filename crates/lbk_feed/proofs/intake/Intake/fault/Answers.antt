@@ -1,5 +1,5 @@
 use Rattle.std.proofs.Common.{◌≡◌, ◌⊎◌, ◌+◌, ◌<◌, ◌≤◌, ℕ, List, [], length, take, true, sym, ap, ◌∙◌, ⊎_elim, arith, inl, length-take-le}
-use Rattle.lbk_feed.specs.declared.faults.TheConstants.{TEXT_MAX}
+use Rattle.lbk_feed.specs.Text.{longest_text}
 use Rattle.lbk_feed.specs.declared.judge.Stop.TheVariants.{Faulty}
 use Rattle.lbk_feed.specs.Block.{items}
 use Rattle.lbk_feed.proofs.Judged.{ready_held, stop-nil}
@@ -25,7 +25,7 @@ pub returns-then-len-self-clause-lies : goal.returns-then-len-self-clause-lies
 returns-then-len-self-clause-lies c =
     let i = c.args.self.now in
     let none : i.ready_len ≡ 0 = omega arith in
-    let over : TEXT_MAX < i.given + length (items i.block) = omega (arith, i.judged.within) in
+    let over : longest_text < i.given + length (items i.block) = omega (arith, i.judged.within) in
     (none_ready _ _ none, too_long _ _ _ _ _ i.judged (c.is_faulty.ensures.no c.if-is_faulty.false) over)
 
 pub returns-then-len-gt0-clause-lies : goal.returns-then-len-gt0-clause-lies
@@ -33,14 +33,14 @@ returns-then-len-gt0-clause-lies c =
     let i = c.args.self.now in
     let none : i.ready_len ≡ 0 = omega arith in
     let fine = c.is_faulty.ensures.no c.if-is_faulty.false in
-    let within : i.given + length (items i.block) ≤ TEXT_MAX = omega (arith, i.judged.within) in
+    let within : i.given + length (items i.block) ≤ longest_text = omega (arith, i.judged.within) in
     let some : 0 < length (items i.block) = omega arith in
     let ended : i.is_ended ≡ true =
     ⊎_elim (λ (ready : 0 < i.ready_len). absurd (omega arith))
-    (λ (other : (i.stop ≡ Faulty) ⊎ ((TEXT_MAX < i.given + length (items i.block)) ⊎ (i.is_ended ≡ true))).
+    (λ (other : (i.stop ≡ Faulty) ⊎ ((longest_text < i.given + length (items i.block)) ⊎ (i.is_ended ≡ true))).
     ⊎_elim (λ (faulty : i.stop ≡ Faulty). absurd (fine faulty))
-    (λ (last : (TEXT_MAX < i.given + length (items i.block)) ⊎ (i.is_ended ≡ true)).
-    ⊎_elim (λ (over : TEXT_MAX < i.given + length (items i.block)). absurd (omega arith)) (λ (is : i.is_ended ≡ true). is) last)
+    (λ (last : (longest_text < i.given + length (items i.block)) ⊎ (i.is_ended ≡ true)).
+    ⊎_elim (λ (over : longest_text < i.given + length (items i.block)). absurd (omega arith)) (λ (is : i.is_ended ≡ true). is) last)
     other)
     c.requires in
     (none_ready _ _ none, not_utf8_cut _ _ _ _ _ i.judged none fine within some i.is_ended ended)

@@ -2,7 +2,7 @@ use Rattle.std.proofs.Common.{◌≡◌, ◌⊎◌, ◌<◌, [], length, take, B
 use Rattle.std.proofs.lemmas.List.{length-take}
 use Rattle.lbk_feed.specs.declared.intake.Intake.{Intake}
 use Rattle.lbk_feed.specs.Block.{items}
-use Rattle.lbk_feed.specs.View.{View, IsFront, LendsFront, IsIdle, fault_of, Steps, Pays}
+use Rattle.lbk_feed.specs.View.{View, IsFront, LendsFront, CanGoOn, IsIdle, fault_of, Steps, Pays}
 use Rattle.lbk_feed.specs.Intake.{view_of, WantsMore}
 use Rattle.lbk_feed.proofs.Judged.{front, lends, judged-spent}
 use Rattle.lbk_feed.proofs.Drawing.{no_bytes}
@@ -20,9 +20,12 @@ lends_of i = lends _ _ _ _ _ i.judged i.is_ended
 not_idle : (i : Intake) → WantsMore i → i.is_spent ≡ false → ¬ (IsIdle (view_of i))
 not_idle i due fresh idle = ⊎_elim
     (λ (some : 0 < length (take i.ready_len (items i.block))). absurd (omega (arith, due.none_ready, length-take i.ready_len (items i.block))))
-    (λ (other : (i.is_ended ≡ true) ⊎ (i.is_spent ≡ true)). ⊎_elim
+    (λ (other : (i.is_ended ≡ true) ⊎ ((i.is_spent ≡ true) ⊎ (¬ (CanGoOn i.given (items i.block))))). ⊎_elim
     (λ (ended : i.is_ended ≡ true). absurd (let both = sym ended ∙ due.open_end in cc))
+    (λ (later : (i.is_spent ≡ true) ⊎ (¬ (CanGoOn i.given (items i.block)))). ⊎_elim
     (λ (spent : i.is_spent ≡ true). absurd (let both = sym spent ∙ fresh in cc))
+    (λ (certain : ¬ (CanGoOn i.given (items i.block))). certain due.goes_on)
+    later)
     other)
     idle
 

@@ -1,6 +1,6 @@
 use Rattle.std.proofs.Common.{◌≤◌, ◌-◌, arith, ◌∙◌, length, length-drop, length-take}
-use Rattle.lbk_cmd.proofs.Writes.{appended_more}
-use Rattle.lbk_cmd.proofs.engine.write_all.Goals as goal
+use Rattle.lbk_feed.proofs.Written.{appended_more}
+use Rattle.lbk_feed.proofs.writes.write_all.Goals as goal
 
 pub loop-done-preserved : goal.loop-done-preserved
 loop-done-preserved g c =

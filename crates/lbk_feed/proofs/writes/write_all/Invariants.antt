@@ -1,6 +1,6 @@
 use Rattle.std.proofs.Common.{◌≡◌, ◌≤◌, ◌-◌, take, length}
 use Rattle.std.specs.Io.KnownBytes.{Appends}
-use Rattle.lbk_cmd.proofs.engine.write_all.Given as goal
+use Rattle.lbk_feed.proofs.writes.write_all.Given as goal
 
 -- the bytes so far are written, and no write has failed
 abbrev pub invariant-loop-done : goal.invariant-loop-done
