@@ -1,4 +1,4 @@
-pub mod SegmentLemmas
 -- Lemmas that several proofs share.
 pub mod Cutting
 pub mod Marking
+pub mod SegmentLemmas

@@ -113,26 +113,26 @@ answer-snoc profile left cell more =
     ∙ ap (λ v. cond holds (Some (length left, v)) (cond begins None (option_map (f whole) (unanswered profile left)))) (verdict_in-append profile left (cell ∷ more))
 
 -- Segments so far, and those to come, are all
-pub record Cutting (profile : Profile) (cell : ℕ → Cell) (end : Verdict) (before : List ℕ) (at : ℕ) (rest : List ℕ) (cut : Cut) (all : List Segment) : Type 0 where
+pub record AddsUp (profile : Profile) (cell : ℕ → Cell) (end : Verdict) (before : List ℕ) (at : ℕ) (rest : List ℕ) (cut : Cut) (all : List Segment) : Type 0 where
   pub joined : cut.segments ++ to_come (answer_at profile (map cell before) (map cell rest)) cut (onward profile cell end before at rest) ≡ all
 
-Cutting-start : (profile : Profile) (cell : ℕ → Cell) (end : Verdict) (cs : List ℕ) (cut : Cut)
+AddsUp-start : (profile : Profile) (cell : ℕ → Cell) (end : Verdict) (cs : List ℕ) (cut : Cut)
     → (cs ≡ [] → ⊥) → cut ≡ record { segments = []; start = 0; held = 0 }
-    → Cutting profile cell end [] 0 cs cut (segments_of (ended end (marks profile cell cs)))
+    → AddsUp profile cell end [] 0 cs cut (segments_of (ended end (marks profile cell cs)))
 unfolding unanswered_before
-Cutting-start profile cell end [] cut some fresh = absurd (some refl)
-Cutting-start profile cell end (c ∷ cs) cut some fresh = record {
+AddsUp-start profile cell end [] cut some fresh = absurd (some refl)
+AddsUp-start profile cell end (c ∷ cs) cut some fresh = record {
   joined =
       ap (λ (n : Cut). n.segments ++ to_come (answer_at profile [] (map cell (c ∷ cs))) n (onward profile cell end [] 0 (c ∷ cs))) fresh
       ∙ onward-start profile cell end c cs;
 }
 
-Cutting-step : (profile : Profile) (cell : ℕ → Cell) (end : Verdict) (before : List ℕ) (at : ℕ) (c : ℕ) (cs : List ℕ) (cut : Cut) (all : List Segment)
+AddsUp-step : (profile : Profile) (cell : ℕ → Cell) (end : Verdict) (before : List ℕ) (at : ℕ) (c : ℕ) (cs : List ℕ) (cut : Cut) (all : List Segment)
     (now : Option Verdict) (late : Option (ℕ × Verdict))
     → now ≡ now_at profile (map cell before) (cell c ∷ map cell cs) → late ≡ late_at profile (map cell before) (cell c) (map cell cs)
-    → Cutting profile cell end before at (c ∷ cs) cut all
-    → Cutting profile cell end (before ++ c ∷ []) (at + length (encode_utf8 c)) cs (met at now (answered late cut)) all
-Cutting-step profile cell end before at c cs cut all now late now_same late_same cutting =
+    → AddsUp profile cell end before at (c ∷ cs) cut all
+    → AddsUp profile cell end (before ++ c ∷ []) (at + length (encode_utf8 c)) cs (met at now (answered late cut)) all
+AddsUp-step profile cell end before at c cs cut all now late now_same late_same adds_up =
     let left = map cell before in
     let more = map cell cs in
     let holds = is_held profile left (cell c ∷ more) in
@@ -151,19 +151,19 @@ Cutting-step profile cell end before at c cs cut all now late now_same late_same
           ∙ ap (λ o. next.segments ++ to_come o next further) waits
           ∙ step begins holds still verdict (length left) at further cut (held-heads profile left (cell c) more)
           (λ headless. ap is_no (joins_no_break profile left (cell c) more headless))
-          ∙ cutting.joined;
+          ∙ adds_up.joined;
     }
 
-Cutting-end : (profile : Profile) (cell : ℕ → Cell) (end : Verdict) (before : List ℕ) (at : ℕ) (cut : Cut) (all : List Segment) (late : Option (ℕ × Verdict))
+AddsUp-end : (profile : Profile) (cell : ℕ → Cell) (end : Verdict) (before : List ℕ) (at : ℕ) (cut : Cut) (all : List Segment) (late : Option (ℕ × Verdict))
     → late ≡ answer_at profile (map cell before) []
-    → Cutting profile cell end before at [] cut all
+    → AddsUp profile cell end before at [] cut all
     → (cut_at at end (answered late cut)).segments ≡ all
-Cutting-end profile cell end before at cut all late late_same cutting =
+AddsUp-end profile cell end before at cut all late late_same adds_up =
     sym (append-nil (cut_at at end (answered late cut)).segments)
     ∙ cut_at-ending at end (answered late cut) (λ _. [])
     ∙ answered-to_come late cut (λ start. ending start at end (λ _. []))
     ∙ ap (λ o. cut.segments ++ to_come o cut (λ start. ending start at end (λ _. []))) late_same
-    ∙ cutting.joined
+    ∙ adds_up.joined
 
 -- The loop: what was cut, where `rest` is left of the text and begins at the offset `at`. Fits: what the machine knows
 -- of the cells that it has taken
@@ -173,7 +173,7 @@ pub record CutLoop (Fits : List Cell → Type 0) (profile : Profile) (cell : ℕ
   pub few : length (map cell before) ≤ at
   pub within : at + length rest ≡ length text
   pub utf8 : IsUtf8 rest
-  pub cutting : Cutting profile cell end before at (chars rest) cut (segments_of (ended end (marks profile cell (chars text))))
+  pub adds_up : AddsUp profile cell end before at (chars rest) cut (segments_of (ended end (marks profile cell (chars text))))
 
 some-chars : (text : List ℕ) → IsUtf8 text → (length text ≡ 0 → ⊥) → chars text ≡ [] → ⊥
 some-chars text utf8 some none = some (ap length (sym (encodes-chars text utf8)) ∙ ap (λ cs. length (encode_utf8_all cs)) none)
@@ -183,15 +183,15 @@ pub CutLoop-start : (Fits : List Cell → Type 0) (profile : Profile) (cell : �
     → at ≡ 0 → rest ≡ text → CutLoop Fits profile cell end text cut at rest
 CutLoop-start Fits profile cell end text cut at rest utf8 some fits fresh first whole =
     let all = segments_of (ended end (marks profile cell (chars text))) in
-    let begun = Cutting-start profile cell end (chars text) cut (some-chars text utf8 some) fresh in
-    let placed = subst (λ (n : ℕ). Cutting profile cell end [] n (chars text) cut all) (sym first) begun in
+    let begun = AddsUp-start profile cell end (chars text) cut (some-chars text utf8 some) fresh in
+    let placed = subst (λ (n : ℕ). AddsUp profile cell end [] n (chars text) cut all) (sym first) begun in
     record {
       before = [];
       fits = fits;
       few = omega arith;
       within = let same : length rest ≡ length text = ap length whole in omega arith;
       utf8 = subst IsUtf8 (sym whole) utf8;
-      cutting = subst (λ (r : List ℕ). Cutting profile cell end [] at (chars r) cut all) (sym whole) placed;
+      adds_up = subst (λ (r : List ℕ). AddsUp profile cell end [] at (chars r) cut all) (sym whole) placed;
     }
 
 pub CutLoop-step : (Fits Next : List Cell → Type 0) (profile : Profile) (cell : ℕ → Cell) (end : Verdict) (text : List ℕ) (cut : Cut) (at place after c : ℕ) (rest more : List ℕ)
@@ -208,11 +208,11 @@ CutLoop-step Fits Next profile cell end text cut at place after c rest more this
     let on = l.before ++ c ∷ [] in
     let others = map cell (chars more) in
     let begins : chars rest ≡ c ∷ chars more = chars_past_char rest more c l.utf8 splits in
-    let held = subst (λ (cs : List ℕ). Cutting profile cell end l.before at cs cut all) begins l.cutting in
+    let held = subst (λ (cs : List ℕ). AddsUp profile cell end l.before at cs cut all) begins l.adds_up in
     let now_same = nows left others l.fits ∙ ap (λ x. now_at profile left (x ∷ others)) same in
     let late_same = lates left others l.fits ∙ ap (λ x. late_at profile left x others) same in
-    let stepped = Cutting-step profile cell end l.before at c (chars more) cut all now late now_same late_same held in
-    let moved = subst (λ (n : ℕ). Cutting profile cell end on n (chars more) (met at now (answered late cut)) all) (sym further) stepped in
+    let stepped = AddsUp-step profile cell end l.before at c (chars more) cut all now late now_same late_same held in
+    let moved = subst (λ (n : ℕ). AddsUp profile cell end on n (chars more) (met at now (answered late cut)) all) (sym further) stepped in
     let width : 1 ≤ length (encode_utf8 c) = (let bounds = len_utf8_bounds c in omega (arith, length-encode c, bounds.0)) in
     let taken : left ++ this ∷ [] ≡ map cell on = ap (λ x. left ++ x ∷ []) same ∙ sym (map-append cell l.before (c ∷ [])) in
     record {
@@ -221,7 +221,7 @@ CutLoop-step Fits Next profile cell end text cut at place after c rest more this
       few = omega (arith, length-map on cell, length-map l.before cell, length_push l.before c, l.few);
       within = omega (arith, length-append (encode_utf8 c) more, ap length splits, l.within);
       utf8 = IsUtf8-past_char rest more c l.utf8 splits;
-      cutting = subst (λ (n : ℕ). Cutting profile cell end on after (chars more) (met n now (answered late cut)) all) (sym here) moved;
+      adds_up = subst (λ (n : ℕ). AddsUp profile cell end on after (chars more) (met n now (answered late cut)) all) (sym here) moved;
     }
 
 pub CutLoop-end : (Fits : List Cell → Type 0) (profile : Profile) (cell : ℕ → Cell) (end : Verdict) (text : List ℕ) (cut : Cut) (at : ℕ) (rest : List ℕ) (late : Option (ℕ × Verdict))
@@ -232,9 +232,9 @@ CutLoop-end Fits profile cell end text cut at rest late lates none l =
     let all = segments_of (ended end (marks profile cell (chars text))) in
     let no_chars : chars rest ≡ [] = ap chars (nil_from_length rest none) ∙ chars-nil in
     let place : at ≡ length text = omega (arith, l.within) in
-    let last = subst (λ (cs : List ℕ). Cutting profile cell end l.before at cs cut all) no_chars l.cutting in
-    let placed = subst (λ (n : ℕ). Cutting profile cell end l.before n [] cut all) place last in
-    Cutting-end profile cell end l.before (length text) cut all late (lates (map cell l.before) l.fits) placed
+    let last = subst (λ (cs : List ℕ). AddsUp profile cell end l.before at cs cut all) no_chars l.adds_up in
+    let placed = subst (λ (n : ℕ). AddsUp profile cell end l.before n [] cut all) place last in
+    AddsUp-end profile cell end l.before (length text) cut all late (lates (map cell l.before) l.fits) placed
 
 -- an empty text has none
 pub segments-none : (profile : Profile) (cell : ℕ → Cell) (end : Verdict) (text : List ℕ) → length text ≡ 0
