@@ -3,7 +3,7 @@
 
 use lbk_cmd::{SAMPLE_FILES, read_cells};
 use lbk_feed::devices::MemorySource;
-use lbk_passage::{Passage, Segmenter};
+use lbk_passage::{Passage, Segment, Segmenter};
 use lbk_rules::{CellPages, Kind, Profile, Rule};
 use std::alloc::{AllocError, Global};
 use std::fmt::Write;
@@ -155,6 +155,30 @@ fn segments(rt: HostRuntime) -> Result<(), Fail> {
     Ok(())
 }
 
+fn check_many(
+    rt: &impl Abort,
+    alloc: Global,
+    cells: &CellPages,
+    profile: Profile,
+    text: &[u8],
+) -> Result<(), Fail> {
+    let mut source = MemorySource::new(text);
+    let mut segmenter = Segmenter::new(alloc, cells, LIMIT, profile)?;
+    let passage = segmenter.next(&mut source)?.ok_or("no passage")?;
+    assert_eq!(rt; passage.text.len(), 4000);
+    assert_eq!(rt; passage.segments.len(), 2000);
+    assert_eq!(rt; passage.pieces.len(), 4000);
+    let last = Segment {
+        start: 3998,
+        end: 4000,
+        kind: Kind::Must,
+        rule: Rule::Lb3,
+    };
+    assert_eq!(rt; passage.segments[1999], last);
+    assert!(rt; segmenter.next(&mut source)?.is_none());
+    Ok(())
+}
+
 #[test]
 fn many_segments(rt: HostRuntime) -> Result<(), Fail> {
     let cells = read_cells(rt.alloc(), SAMPLE_FILES)?;
@@ -163,22 +187,7 @@ fn many_segments(rt: HostRuntime) -> Result<(), Fail> {
         text.extend_from_slice(b"a ")?;
     }
     for profile in [Profile::First, Profile::Second] {
-        let mut source = MemorySource::new(&text);
-        let mut segmenter = Segmenter::new(rt.alloc(), &cells, LIMIT, profile)?;
-        match segmenter.next(&mut source) {
-            Ok(Some(passage)) => {
-                assert_eq!(rt; passage.text.len(), 4000);
-                assert_eq!(rt; passage.segments.len(), 2000);
-                assert_eq!(rt; passage.pieces.len(), 4000);
-                assert_eq!(rt; passage.segments[1999].start, 3998);
-                assert_eq!(rt; passage.segments[1999].end, 4000);
-                assert_eq!(rt; passage.segments[1999].kind, Kind::Must);
-                assert_eq!(rt; passage.segments[1999].rule, Rule::Lb3);
-            }
-            other => assert!(rt; false, "{other:?}"),
-        }
-        let last = segmenter.next(&mut source);
-        assert!(rt; matches!(last, Ok(None)), "{last:?}");
+        check_many(&rt, rt.alloc(), &cells, profile, &text)?;
     }
     Ok(())
 }
