@@ -9,17 +9,17 @@ use Rattle.lbk_rules.specs.declared.verdicts.Profile.{Profile}
 use Rattle.lbk_rules.specs.declared.verdicts.Verdict.{Verdict}
 use Rattle.lbk_passage.specs.State.{State, state_with, text_held}
 use Rattle.lbk_passage.specs.Stays.{IsWhole}
-use Rattle.lbk_passage.specs.Next.{fault_in, ends_run, KeepsAhead}
+use Rattle.lbk_passage.specs.Next.{fault_in, ends_run, KeepsAhead, Stops}
 use Rattle.lbk_passage.specs.Gathering.{HasRead, Gathers, Fills, FillAnswers}
 use Rattle.lbk_passage.specs.declared.faults.PassageFault.{PassageFault}
-use Rattle.lbk_passage.specs.declared.faults.PassageFault.TheVariants.{Spent}
+use Rattle.lbk_passage.specs.declared.faults.PassageFault.TheVariants.{Limit, Memory, Read, NotUtf8, TextTooLong, ParagraphTooLong, Spent}
 use Rattle.lbk_passage.specs.declared.paragraph.Paragraph.{Paragraph}
 use Rattle.lbk_passage.proofs.Reading.{Keeps-refl, BeginsWith-held}
 use Rattle.lbk_passage.proofs.Finding.{Shows, found}
 use Rattle.lbk_passage.proofs.Gathered.{Shows-of}
 use Rattle.lbk_passage.proofs.Taking.{string_len-is}
 
-or-true : (b : Bool) → (b || true) ≡ true
+pub or-true : (b : Bool) → (b || true) ≡ true
 or-true true = refl
 or-true false = refl
 
@@ -115,3 +115,13 @@ module _ (cell : ℕ → Cell) (profile : Profile) (old : Paragraph) (u : Option
           agrees = λ h at_end. g.agrees (λ k. h (ap (λ f. f.is_ended) (sym feed_is) ∙ k)) (ap (λ f. f.is_ended) (sym feed_same) ∙ at_end);
           notices = λ open_end. g.notices (ap (λ f. f.is_ended) (sym feed_same) ∙ open_end);
         }
+
+-- a fault that stops a run ends it
+pub ends_by_fault : (s : State) (fault : PassageFault) → Stops s fault → ends_run (Some fault) ≡ true
+ends_by_fault s Memory stops = absurd stops.lies
+ends_by_fault s Limit stops = refl
+ends_by_fault s Read stops = refl
+ends_by_fault s (NotUtf8 at) stops = refl
+ends_by_fault s TextTooLong stops = refl
+ends_by_fault s (ParagraphTooLong start) stops = refl
+ends_by_fault s Spent stops = refl

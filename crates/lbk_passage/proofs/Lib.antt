@@ -9,3 +9,4 @@ pub mod Filling
 pub mod Finding
 pub mod Staying
 pub mod Taking
+pub mod SegmentLemmas

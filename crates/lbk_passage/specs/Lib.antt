@@ -11,3 +11,4 @@ pub mod Laws
 pub mod Faults
 pub mod Stays
 pub mod Gathering
+pub mod Cuts

@@ -1,6 +1,6 @@
 -- For crates above that step a late machine over a text: which positions have their answers.
 use Rattle.std.proofs.Common.{◌≡◌, ◌≢◌, ℕ, ◌+◌, ◌<◌, ◌≤◌, Bool, true, false, cond, Option, Some, None, List, [], ◌∷◌, ◌++◌, length, reverse, refl, sym, ap, subst, ◌∙◌, inl, inr, arith}
-use Rattle.std.specs.Option.{option_map}
+use Rattle.std.specs.Option.{option_map, ForSome}
 use Rattle.std.proofs.lemmas.Bool.{cases_eq, false≢true}
 use Rattle.std.proofs.lemmas.List.{length-reverse, length_push, append-nil}
 use Rattle.lbk_rules.specs.declared.cells.Cell.{Cell}
@@ -179,3 +179,37 @@ AllCome-end profile cells late end before after late_same end_same taken come k 
     let by_late = subst (λ (l : Option (ℕ × Verdict)). IsTaken value n l (Some end) before after) late_is taken in
     let by_end = subst (λ (o : Option Verdict). IsTaken value n (option_map (λ p. (p, value p)) still) o before after) (ap Some end_same) by_late in
     come-step value n false true still before after (λ _. refl) by_end come.each k (omega arith) (λ e. (let none : ⊥ = cc in none))
+
+-- one more cell of a text, `cells ++ cell ∷ more`, with `next` the cells taken then
+pub AllCome-turn : (profile : Profile) (text cells : List Cell) (cell : Cell) (more next : List Cell) (n : ℕ)
+    (late : Option (ℕ × Verdict)) (now : Option Verdict) (before after : ℕ → Type 0)
+    → cells ++ cell ∷ more ≡ text → cells ++ cell ∷ [] ≡ next → length cells ≡ n
+    → late ≡ late_at profile cells cell more → now ≡ now_at profile cells (cell ∷ more)
+    → IsTaken (λ k. verdict_in profile text k) n late now before after
+    → AllCome profile cells before → AllCome profile next after
+AllCome-turn profile text cells cell more next n late now before after whole one_more place late_same now_same taken come =
+    let by_place = subst (λ (m : ℕ). IsTaken (λ k. verdict_in profile text k) m late now before after) (sym place) taken in
+    let by_whole = subst (λ (t : List Cell). IsTaken (λ k. verdict_in profile t k) (length cells) late now before after) (sym whole) by_place in
+    subst (λ (c : List Cell). AllCome profile c after) one_more
+    (AllCome-step profile cells cell more late now before after late_same now_same by_whole come)
+
+-- Answers that come late are for positions before the cells taken, and are their verdicts
+
+answer-verdict : (value : ℕ → Verdict) (still : Option ℕ)
+    → ForSome {T = (ℕ × Verdict)} (option_map (λ p. (p, value p)) still) (λ answer. answer.1 ≡ value answer.0)
+answer-verdict value None = λ answer e. absurd (let no : ⊥ = cc in no)
+answer-verdict value (Some p) = λ answer e.
+    let here : ℕ × Verdict = (p, value p) in
+    let same : here ≡ answer = cc in
+    subst (λ (a : ℕ × Verdict). a.1 ≡ value a.0) same refl
+
+pub answer_at-verdict : (profile : Profile) (cells more : List Cell)
+    → ForSome (answer_at profile cells more) (λ answer. answer.1 ≡ verdict_in profile (cells ++ more) answer.0)
+answer_at-verdict profile cells more = answer-verdict (λ p. verdict_in profile (cells ++ more) p) (unanswered profile cells)
+
+pub late_at-verdict : (profile : Profile) (cells : List Cell) (cell : Cell) (more : List Cell)
+    → ForSome (late_at profile cells cell more) (λ answer. answer.1 ≡ verdict_in profile (cells ++ cell ∷ more) answer.0)
+late_at-verdict profile cells cell more =
+    elim (heads (reverse cells) cell)
+    as (λ v. ForSome {T = (ℕ × Verdict)} (cond v (answer_at profile cells (cell ∷ more)) None) (λ answer. answer.1 ≡ verdict_in profile (cells ++ cell ∷ more) answer.0))
+    [ true ↦ answer_at-verdict profile cells (cell ∷ more) | false ↦ λ answer e. absurd (let no : ⊥ = cc in no) ]
