@@ -1,6 +1,6 @@
 //! The passages of a text, one after another.
 
-ghost use Rattle.std.specs.Prelude.{◌≡◌, [], ◌≤◌, ◌<◌, ◌+◌, ◌^◌, ◌↔◌, ◌⊎◌, ◌||◌, true, length, IfOk, IfErr, OnOk, IsErrOf};
+ghost use Rattle.std.specs.Prelude.{◌≡◌, [], ◌≤◌, ◌<◌, ◌+◌, ◌^◌, ◌↔◌, ◌⊎◌, ◌-◌, true, length, string_len, string_bytes, IfOk, IfErr, OnOk, IsErrOf};
 ghost use Rattle.std.specs.Borrow.{sem};
 ghost use Rattle.std.specs.Io.BufRead.{Rests};
 ghost use Rattle.std.specs.Str.{chars};
@@ -68,7 +68,7 @@ impl<'a, C: CellSource> Segmenter<'a, C> {
         &mut self,
         reader: &mut R,
     ) -> Result<Option<Passage<'_>>, PassageFault>
-        ensures* after_borrow { sem 𝓛 (Rests (the_row C.row (record { mir = named 1; lft = [] })) self.entry (λ new.
+        ensures* after_borrow { sem 𝓛 (Rests (the_row (record { mir = named 1; lft = [] }) C.row C.CellSource) self.entry (λ new.
             AfterNext (state_of C.cell_of self.old) (state_of C.cell_of new) (R.unread reader.old) (R.unread reader.new)
             (R.has_ended reader.old) (R.has_ended reader.new)
             (R.read_count reader.old) (R.read_count reader.new) result)) }
@@ -77,7 +77,6 @@ impl<'a, C: CellSource> Segmenter<'a, C> {
         ensures spent_only { result ≡ Err PassageFault.Spent → (state_of C.cell_of self.old).is_spent ≡ true }
         // Where the answer was seen before, or a fault was answered, no read is made.
         ensures settled { (state_of C.cell_of self.old).is_settled ≡ true → reader.new ≡ reader.old }
-        ensures ended { (state_of C.cell_of self.old).is_ended ≡ true → reader.new ≡ reader.old }
         ensures reads { R.read_count reader.new ≤ R.read_count reader.old + ((state_of C.cell_of self.old).limit + 8) }
         // `Read` is the answer exactly where a read failed.
         ensures failures { R.failure_count reader.new ≡ failures_with (R.failure_count reader.old) (fault_in result) }
@@ -97,7 +96,13 @@ impl<'a, C: CellSource> Segmenter<'a, C> {
     }
 
     /// The paragraph as a passage.
-    fn lend(&self, end: Verdict) -> Passage<'_> {
+    fn lend(&self, end: Verdict) -> Passage<'_>
+        ensures start { result.start ≡ self.now.paragraph.feed.given - string_len self.now.paragraph.text }
+        ensures text { result.text.now ≡ string_bytes self.now.paragraph.text }
+        ensures segments { result.segments.now ≡ self.now.segments.items }
+        ensures pieces { result.pieces.now ≡ self.now.pieces.items }
+        ensures end { result.end ≡ end }
+    {
         Passage {
             start: self.paragraph.start(),
             text: self.paragraph.text(),
