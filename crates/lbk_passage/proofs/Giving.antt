@@ -146,10 +146,10 @@ module _ (cell : ℕ → Cell) (profile : Profile) (old p : Paragraph) (u v : Op
     -- what a passage says of the paragraph
     pub record IsOf (pg : Passage) : Type 0 where
       pub start : pg.start ≡ p.feed.given - string_len p.text
-      pub text : pg.text.now ≡ string_bytes p.text
+      pub bytes : pg.text.now ≡ string_bytes p.text
       pub segments : pg.segments.now ≡ segments_of (ended end (marks profile cell (chars (string_bytes p.text))))
       pub pieces : pg.pieces.now ≡ pieces_of cell (string_bytes p.text)
-      pub end : pg.end ≡ end
+      pub ends : pg.end ≡ end
 
     module _ (q : Paragraph) (pg : Passage) (same : IsSame p q false p.is_spent) (of : IsOf pg) where
       unspent : q.is_spent ≡ false
@@ -165,7 +165,7 @@ module _ (cell : ℕ → Cell) (profile : Profile) (old p : Paragraph) (u v : Op
       held_is = ap (λ l. l ++ q.feed.held) none_held ∙ ap (λ g. g.held) same.feed
 
       all_is : pg.text.now ++ (state_with cell profile q).held ≡ (state_with cell profile p).held
-      all_is = ap (λ l. l ++ (state_with cell profile q).held) of.text ∙ ap (λ l. string_bytes p.text ++ l) held_is ∙ sym shows.held
+      all_is = ap (λ l. l ++ (state_with cell profile q).held) of.bytes ∙ ap (λ l. string_bytes p.text ++ l) held_is ∙ sym shows.held
 
       start_is : (state_with cell profile old).start ≡ p.feed.given - string_len p.text
       start_is = let begins = shows.start in omega (arith, f.start, begins, string_len-is p.text)
@@ -189,16 +189,16 @@ module _ (cell : ℕ → Cell) (profile : Profile) (old p : Paragraph) (u v : Op
         marks = ms;
         passage = record {
           some = some;
-          text = of.text ∙ sym text_is;
-          utf8 = subst IsUtf8 (sym of.text) (IsUtf8-string_bytes p.text);
+          text = of.bytes ∙ sym text_is;
+          utf8 = subst IsUtf8 (sym of.bytes) (IsUtf8-string_bytes p.text);
           segments = of.segments;
           pieces = of.pieces ∙ ap (pieces_of cell) (sym text_is);
-          alone = ap (λ x. ended x (marks profile cell (chars text))) (sym of.end) ∙ ap (λ l. ended pg.end (marks profile cell l)) (sym scalars_are);
+          alone = ap (λ x. ended x (marks profile cell (chars text))) (sym of.ends) ∙ ap (λ l. ended pg.end (marks profile cell l)) (sym scalars_are);
         };
         start = of.start ∙ sym start_is;
         comes = comes_in;
         counted = let first = first_is in
-            omega (arith, f.start, ap length of.text, first.counted);
+            omega (arith, f.start, ap length of.bytes, first.counted);
       }
 
       pub After-passage : AfterNext (state_with cell profile old) (state_with cell profile q) u v e e' reads reads' (Ok (Some pg))
@@ -208,7 +208,7 @@ module _ (cell : ℕ → Cell) (profile : Profile) (old p : Paragraph) (u v : Op
             alike = record { cell = refl; profile = refl; limit = same.limit ∙ f.limit };
             answer = lends;
             start = let begins = shows.start in
-                omega (arith, ap (λ g. g.given) same.feed, ap length none_held, f.start, begins, ap length of.text);
+                omega (arith, ap (λ g. g.given) same.feed, ap length none_held, f.start, begins, ap length of.bytes);
             spent = same.spent ∙ f.spent;
             settled = out;
             got = f.got;
