@@ -99,8 +99,13 @@ module _ (cell : ℕ → Cell) (old : Paragraph) (unread : Option (List ℕ)) (e
         read = subst (λ f. HasRead old.feed (string_bytes p.text ++ p.feed.held) unread v reads r2 f) (sym s.fault_is)
             (subst (λ l. HasRead old.feed (l ++ p.feed.held) unread v reads r2 (option_map passage_fault s.fault)) (sym text)
             (HasRead-step old.feed (string_bytes now.text) now.feed p.feed unread u v reads r1 r2 s.fault g.read g.each_gave g.given s.steps s.pays));
-        each_gave = λ some. omega (arith, ap length text, length-append (string_bytes p.text) p.feed.held, length-append (string_bytes now.text) p.feed.held,
-            each-step old.feed (string_bytes now.text) now.feed p.feed unread u v reads r1 r2 s.fault g.each_gave some s.pays);
+        each_gave = λ some. omega (
+          arith,
+          ap length text,
+          length-append (string_bytes p.text) p.feed.held,
+          length-append (string_bytes now.text) p.feed.held,
+          each-step old.feed (string_bytes now.text) now.feed p.feed unread u v reads r1 r2 s.fault g.each_gave some s.pays,
+        );
         few = omega (arith, ap length text, few-step old.feed (string_bytes now.text) now.feed p.feed unread u v reads r1 r2 s.fault g.few g.each_gave s.pays);
         agrees = λ h. s.agrees (g.agrees h);
         notices = λ open_end. s.notices open_end ∙ g.notices (not_sooner now.feed p.feed u v s.fault open_end s.steps);

@@ -28,6 +28,7 @@ returns-in_err-end g c =
             let same : exit.0 ≡ Spent = cc in ap (λ (f : PassageFault). Err f) same;
         spent_only = λ is. spent_by (state_with cell profile p) p old.is_spent exit.0 fills.answer (let same : exit.0 ≡ Spent = cc in same);
         settled = λ seen. ⊎_elim (λ held. c.fill.ensures.quiet held) (λ spent. c.fill.ensures.spent spent) (or-cases old.is_held old.is_spent seen);
+        ended = λ h. c.fill.ensures.ended h;
         reads = omega (arith, c.fill.ensures.reads);
         failures = c.fill.ensures.failures ∙ ap (λ r. failures_with (g.R.Source.failure_count c.args.reader.now) (fault_in r)) was;
       },
@@ -40,14 +41,14 @@ returns-in_default g c =
     let old = c.args.self.now.paragraph in
     let p = c.fill.new.self in
     let was = c.in_ok-end.was ∙ ap Ok c.in_default.is in
-    let fills = rw was at (c.fill.ensures.fills profile) in
-    (
+    let fills = rw was at (c.fill.ensures.fills profile) in (
       (refl, (λ _. tt), After-none cell profile old p _ _ _ _ _ _ fills),
       record {
         after_borrow = tt;
         spent = λ spent. absurd (let refused = c.fill.ensures.refused spent in cc);
         spent_only = λ is. cc;
         settled = λ seen. ⊎_elim (λ held. c.fill.ensures.quiet held) (λ spent. c.fill.ensures.spent spent) (or-cases old.is_held old.is_spent seen);
+        ended = λ h. c.fill.ensures.ended h;
         reads = omega (arith, c.fill.ensures.reads);
         failures = c.fill.ensures.failures ∙ ap (λ r. failures_with (g.R.Source.failure_count c.args.reader.now) (fault_in r)) was;
       },
@@ -60,14 +61,14 @@ returns-then-is_err g c =
     let old = c.args.self.now.paragraph in
     let p = c.fill.new.self in
     let was = c.in_ok-end.was ∙ ap Ok c.in-Some.is in
-    let fills = rw was at (c.fill.ensures.fills profile) in
-    (
+    let fills = rw was at (c.fill.ensures.fills profile) in (
       (refl, (λ _. tt), After-memory cell profile old p _ _ _ _ _ _ c.in-Some.end fills),
       record {
         after_borrow = tt;
         spent = λ spent. absurd (let refused = c.fill.ensures.refused spent in cc);
         spent_only = λ is. cc;
         settled = λ seen. ⊎_elim (λ held. c.fill.ensures.quiet held) (λ spent. c.fill.ensures.spent spent) (or-cases old.is_held old.is_spent seen);
+        ended = λ h. c.fill.ensures.ended h;
         reads = omega (arith, c.fill.ensures.reads);
         failures = c.fill.ensures.failures ∙ ap (λ r. failures_with (g.R.Source.failure_count c.args.reader.now) (fault_in r)) was;
       },
@@ -80,14 +81,14 @@ returns-then-is_err-2 g c =
     let old = c.args.self.now.paragraph in
     let p = c.fill.new.self in
     let was = c.in_ok-end.was ∙ ap Ok c.in-Some.is in
-    let fills = rw was at (c.fill.ensures.fills profile) in
-    (
+    let fills = rw was at (c.fill.ensures.fills profile) in (
       (refl, (λ _. tt), After-memory cell profile old p _ _ _ _ _ _ c.in-Some.end fills),
       record {
         after_borrow = tt;
         spent = λ spent. absurd (let refused = c.fill.ensures.refused spent in cc);
         spent_only = λ is. cc;
         settled = λ seen. ⊎_elim (λ held. c.fill.ensures.quiet held) (λ spent. c.fill.ensures.spent spent) (or-cases old.is_held old.is_spent seen);
+        ended = λ h. c.fill.ensures.ended h;
         reads = omega (arith, c.fill.ensures.reads);
         failures = c.fill.ensures.failures ∙ ap (λ r. failures_with (g.R.Source.failure_count c.args.reader.now) (fault_in r)) was;
       },
@@ -106,21 +107,31 @@ returns g c =
     c.cut_lines.result (c.is_err.ensures.negation ∙ ap not c.if-is_err.false) c.cut_lines.ensures in
     let words : c.cut_words.new.pieces.items ≡ pieces_of cell c.text-text.result.now =
     on_ok (c.cut_words.new.pieces.items ≡ pieces_of cell c.text-text.result.now)
-    c.cut_words.result (c.is_err-2.ensures.negation ∙ ap not c.if-is_err-2.false) c.cut_words.ensures in
-    (
-      (refl, (λ _. tt), After-passage cell profile old p _ _ _ _ _ _ c.in-Some.end fills c.release.new.self c.lend.result c.release.ensures (record {
-        start = omega (arith, c.lend.ensures.start, ap (λ f. f.given) c.release.ensures.feed, ap length c.release.ensures.text,
-            string_len-is c.release.new.self.text, string_len-is p.text);
-        bytes = c.lend.ensures.text ∙ c.release.ensures.text;
-        segments = c.lend.ensures.segments ∙ lines ∙ ap (λ l. segments_of (ended c.in-Some.end (marks profile cell (chars l)))) c.text-text.ensures.text;
-        pieces = c.lend.ensures.pieces ∙ words ∙ ap (pieces_of cell) c.text-text.ensures.text;
-        ends = c.lend.ensures.end;
-      })),
+    c.cut_words.result (c.is_err-2.ensures.negation ∙ ap not c.if-is_err-2.false) c.cut_words.ensures in (
+      (
+        refl,
+        (λ _. tt),
+        After-passage cell profile old p _ _ _ _ _ _ c.in-Some.end fills c.release.new.self c.lend.result c.release.ensures (record {
+          start = omega (
+            arith,
+            c.lend.ensures.start,
+            ap (λ f. f.given) c.release.ensures.feed,
+            ap length c.release.ensures.text,
+            string_len-is c.release.new.self.text,
+            string_len-is p.text,
+          );
+          bytes = c.lend.ensures.text ∙ c.release.ensures.text;
+          segments = c.lend.ensures.segments ∙ lines ∙ ap (λ l. segments_of (ended c.in-Some.end (marks profile cell (chars l)))) c.text-text.ensures.text;
+          pieces = c.lend.ensures.pieces ∙ words ∙ ap (pieces_of cell) c.text-text.ensures.text;
+          ends = c.lend.ensures.end;
+        }),
+      ),
       record {
         after_borrow = tt;
         spent = λ spent. absurd (let refused = c.fill.ensures.refused spent in cc);
         spent_only = λ is. cc;
         settled = λ seen. ⊎_elim (λ held. c.fill.ensures.quiet held) (λ spent. c.fill.ensures.spent spent) (or-cases old.is_held old.is_spent seen);
+        ended = λ h. c.fill.ensures.ended h;
         reads = omega (arith, c.fill.ensures.reads);
         failures = c.fill.ensures.failures ∙ ap (λ r. failures_with (g.R.Source.failure_count c.args.reader.now) (fault_in r)) was;
       },
