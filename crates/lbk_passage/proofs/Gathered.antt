@@ -1,12 +1,11 @@
 -- The turns of the loop that gathers a paragraph.
-use Rattle.std.proofs.Common.{◌≡◌, ◌⊎◌, ℕ, ◌+◌, ◌-◌, ◌<◌, ◌≤◌, Bool, true, false, ◌&&◌, ◌||◌, not, List, [], ◌∷◌, ◌++◌, length, take, drop, Option, None, Some, Result, Ok, Err, IfOk, IfSome, option_map, is_some, encode_utf8, encode_utf8_all, string_bytes, string_len, IsUtf8, chars, if◌then◌else◌, refl, sym, ap, subst, ◌∙◌, arith, inl, inr, length-append, append_assoc, append-nil}
+use Rattle.std.proofs.Common.{◌≡◌, ℕ, ◌+◌, ◌-◌, ◌<◌, ◌≤◌, Bool, true, false, ◌&&◌, ◌||◌, not, List, [], ◌∷◌, ◌++◌, length, drop, Option, None, Some, Result, Ok, Err, IfOk, IfSome, option_map, is_some, encode_utf8_all, string_bytes, string_len, chars, if◌then◌else◌, refl, sym, ap, subst, ◌∙◌, arith, inl, inr, length-append, append_assoc, append-nil}
 use Rattle.std.specs.Bool.{OnTrue, OnFalse}
-use Rattle.std.proofs.Math.Utf8.{scalar, scalars}
+use Rattle.std.proofs.Math.Utf8.{scalars}
 use Rattle.std.proofs.Math.Seq.{drop-append_seam}
-use Rattle.std.proofs.lemmas.Str.{scalars-chars, encodes-chars, chars-nil, IsUtf8-nil, is_utf8-from_IsUtf8, IsUtf8-string_bytes}
+use Rattle.std.proofs.lemmas.Str.{scalars-chars, encodes-chars, chars-nil, is_utf8-from_IsUtf8, IsUtf8-string_bytes}
 use Rattle.lbk_feed.specs.declared.faults.FeedFault.{FeedFault}
 use Rattle.lbk_feed.specs.declared.faults.FeedFault.TheVariants as feed_fault
-use Rattle.lbk_feed.specs.Text.{longest_text}
 use Rattle.lbk_feed.specs.View.{View, IsFront, LendsFront, LiesIn, Steps}
 use Rattle.lbk_feed.specs.View as feed
 use Rattle.lbk_rules.specs.declared.classes.Class.{Class}
@@ -14,15 +13,14 @@ use Rattle.lbk_rules.specs.declared.cells.Cell.{Cell}
 use Rattle.lbk_rules.specs.declared.verdicts.Profile.{Profile}
 use Rattle.lbk_rules.specs.declared.verdicts.Verdict.{Verdict}
 use Rattle.lbk_passage.specs.Faults.{passage_fault}
-use Rattle.lbk_passage.specs.Stays.{ends_at, stays, last_class, end_before, finds_end, is_nil, IsWholeText}
-use Rattle.lbk_passage.specs.State.{State, state_with, text_held}
+use Rattle.lbk_passage.specs.Stays.{ends_at, stays, last_class, end_before, finds_end, is_nil}
+use Rattle.lbk_passage.specs.State.{state_with, text_held}
 use Rattle.lbk_passage.specs.Next.{fault_in, ends_run, Stops}
 use Rattle.lbk_passage.specs.Gathering.{StopsBefore, Takes, Settles, HasRead, Gathering, Gathers, IsSame}
 use Rattle.lbk_passage.specs.declared.faults.PassageFault.{PassageFault}
 use Rattle.lbk_passage.specs.declared.faults.PassageFault.TheVariants.{ParagraphTooLong}
 use Rattle.lbk_passage.specs.declared.paragraph.Paragraph.{Paragraph}
 use Rattle.lbk_passage.specs.declared.reach.Reach.{Reach}
-use Rattle.lbk_passage.specs.declared.reach.Stop.{Stop}
 use Rattle.lbk_passage.specs.declared.reach.Stop.TheVariants.{PieceEnds, LineEnds, NoRoom}
 use Rattle.lbk_passage.proofs.Reading.{HasRead-none, HasRead-step, few-step, each-step}
 use Rattle.lbk_passage.proofs.Staying.{stays-append, last_class-append}

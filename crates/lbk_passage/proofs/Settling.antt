@@ -1,5 +1,5 @@
 -- What a step of the feed leaves of a paragraph.
-use Rattle.std.proofs.Common.{◌≡◌, ℕ, Some, Bool, true, false, ◌&&◌, ◌||◌, not, Result, Ok, Err, is_err, is_some, refl, sym, ap, ◌∙◌}
+use Rattle.std.proofs.Common.{◌≡◌, ℕ, Some, Bool, true, false, ◌&&◌, ◌||◌, not, Result, Ok, Err, is_err, is_some, refl, ap, ◌∙◌}
 use Rattle.lbk_feed.specs.declared.faults.FeedFault.{FeedFault}
 use Rattle.lbk_feed.specs.declared.faults.FeedFault.TheVariants.{Read, NotUtf8, TextTooLong, Spent}
 use Rattle.lbk_feed.specs.View.{fault_of}

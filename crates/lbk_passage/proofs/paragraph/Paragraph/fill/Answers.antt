@@ -1,4 +1,4 @@
-use Rattle.std.proofs.Common.{◌≡◌, ◌||◌, Ok, Err, true, false, refl, sym, ap, ◌∙◌, inr}
+use Rattle.std.proofs.Common.{◌||◌, Err, refl, sym, ap, ◌∙◌, inr}
 use Rattle.std.proofs.lemmas.Result.{err_from_is_err_and}
 use Rattle.lbk_passage.specs.State.{state_with}
 use Rattle.lbk_passage.proofs.Filling.{Fills-spent, Fills-held, Fills-gathered, Fills-ok, ends_by_fault, or-true}

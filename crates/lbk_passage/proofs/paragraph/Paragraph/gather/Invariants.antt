@@ -1,4 +1,4 @@
-use Rattle.std.proofs.Common.{◌≡◌, true, ◌-◌, length, string_len}
+use Rattle.std.proofs.Common.{◌≡◌, true, ◌-◌, string_len}
 use Rattle.lbk_passage.specs.Gathering.{Gathering}
 use Rattle.lbk_passage.proofs.paragraph.Paragraph.gather.Given as goal
 

@@ -1,10 +1,10 @@
-use Rattle.std.proofs.Common.{◌≡◌, not, length, chars, ◌+◌, ◌≤◌, ◌||◌, Ok, Err, Some, None, true, false, is_ok, refl, sym, ap, subst, ◌∙◌, inl, inr, ⊎_elim, arith, OnOk}
+use Rattle.std.proofs.Common.{◌≡◌, not, length, chars, Ok, Err, refl, sym, ap, ◌∙◌, ⊎_elim, arith}
 use Rattle.std.proofs.lemmas.Result.{err_from_is_err_and}
 use Rattle.lbk_passage.specs.Marks.{marks, ended}
 use Rattle.lbk_passage.specs.Segments.{segments_of}
 use Rattle.lbk_passage.specs.Pieces.{pieces_of}
 use Rattle.lbk_passage.specs.declared.faults.PassageFault.{PassageFault}
-use Rattle.lbk_passage.specs.declared.faults.PassageFault.TheVariants.{Memory, Spent}
+use Rattle.lbk_passage.specs.declared.faults.PassageFault.TheVariants.{Spent}
 use Rattle.lbk_passage.specs.Next.{failures_with, fault_in}
 use Rattle.lbk_passage.specs.State.{state_with}
 use Rattle.lbk_passage.proofs.Giving.{or-cases, spent_by, After-fault, After-none, After-memory, After-passage, on_ok}
