@@ -15,14 +15,7 @@ use Rattle.lbk_passage.specs.declared.paragraph.Paragraph.{Paragraph}
 use Rattle.lbk_passage.proofs.Reading.{Keeps-refl, BeginsWith-held}
 use Rattle.lbk_passage.proofs.Finding.{found}
 use Rattle.lbk_passage.proofs.Gathered.{Shows-of}
-
-pub or-true : (b : Bool) → (b || true) ≡ true
-or-true true = refl
-or-true false = refl
-
-or-false : (b : Bool) → b ≡ (b || false)
-or-false true = refl
-or-false false = refl
+use Rattle.lbk_passage.proofs.Booleans.{or-false, or-true}
 
 module _ (cell : ℕ → Cell) (profile : Profile) (old : Paragraph) (u : Option (List ℕ)) (e : Bool) (reads : ℕ) where
   state : State

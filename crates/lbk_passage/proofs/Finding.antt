@@ -13,15 +13,7 @@ use Rattle.lbk_passage.specs.Next.{IsDone}
 use Rattle.lbk_passage.specs.Gathering.{IsFirst, FillAnswers}
 use Rattle.lbk_passage.specs.declared.paragraph.Paragraph.{Paragraph}
 use Rattle.lbk_passage.proofs.Marking.{scalars-behind, scalars-ended, last_in, last_class-in, first_passage, only_passage}
-
-both-left : (a b : Bool) → (a && b) ≡ true → a ≡ true
-both-left true b h = refl
-both-left false b h = h
-
-both-right : (a b : Bool) → (a && b) ≡ true → b ≡ true
-both-right true b h = h
-both-right false true h = refl
-both-right false false h = h
+use Rattle.lbk_passage.proofs.Booleans.{both-left, both-right}
 
 is_nil-nil : (l : List ℕ) → is_nil l ≡ true → l ≡ []
 is_nil-nil [] h = refl

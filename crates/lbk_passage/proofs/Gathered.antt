@@ -27,10 +27,7 @@ use Rattle.lbk_passage.proofs.Staying.{stays-append, last_class-append}
 use Rattle.lbk_passage.proofs.Taking.{string_len-is}
 use Rattle.lbk_passage.proofs.Finding.{Shows}
 use Rattle.lbk_passage.proofs.Stopping.{Stops-feed, Stops-long}
-
-both-left : (a b : Bool) → (a && b) ≡ true → a ≡ true
-both-left true b h = refl
-both-left false b h = h
+use Rattle.lbk_passage.proofs.Booleans.{both-left, or-true}
 
 -- a feed that has nothing held has nothing ready
 ready_nil : (ready rest : List ℕ) → ready ++ rest ≡ [] → ready ≡ []
@@ -175,10 +172,6 @@ module _ (cell : ℕ → Cell) (old : Paragraph) (unread : Option (List ℕ)) (e
           whole = tt;
           stops = λ profile. Stops-feed (state_with cell profile p) p (Shows-of cell profile p (ap (λ b. p.is_held || b) spent ∙ or-true p.is_held)) s.none_ends e unspent ready front lies;
         }
-      where
-        or-true : (b : Bool) → (b || true) ≡ true
-        or-true true = refl
-        or-true false = refl
 
     -- scalars of the piece that is ready went to the text
     module _ (n : Paragraph) (r : Reach) (t : Takes cell last p n r) (s : Settled p last v e' r2 None) (some : 0 < length p.feed.ready) where
@@ -305,10 +298,6 @@ module _ (cell : ℕ → Cell) (old : Paragraph) (unread : Option (List ℕ)) (e
                 (let st = (shows profile).start in omega (arith, st, ap length same.text, len, ap (λ f. f.given) same.feed)));
           }
         where
-          or-true : (b : Bool) → (b || true) ≡ true
-          or-true true = refl
-          or-true false = refl
-
           read_fault : (fault : PassageFault) → fault ≡ ParagraphTooLong (n.feed.given - string_len n.text)
               → HasRead old.feed (string_bytes p.text ++ p.feed.held) unread v reads r2 None → HasRead old.feed (string_bytes p.text ++ p.feed.held) unread v reads r2 (Some fault)
           read_fault fault is h = subst (λ f. HasRead old.feed (string_bytes p.text ++ p.feed.held) unread v reads r2 (Some f)) (sym is) (record {

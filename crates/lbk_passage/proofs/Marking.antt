@@ -17,15 +17,7 @@ use Rattle.lbk_passage.specs.Laws.{IsBehind}
 use Rattle.lbk_passage.specs.Next.{BeginsWithAll}
 use Rattle.lbk_passage.specs.Stays.{stays, last_class}
 use Rattle.lbk_passage.proofs.Cutting.{IsPart, IsOpenPart, IsClosed, cut_after-part, cut_after-open, cut_after-few, cut_after-append, cut_after-joined}
-
-both-left : (a b : Bool) → (a && b) ≡ true → a ≡ true
-both-left true b h = refl
-both-left false b h = h
-
-both-right : (a b : Bool) → (a && b) ≡ true → b ≡ true
-both-right true b h = h
-both-right false true h = refl
-both-right false false h = h
+use Rattle.lbk_passage.proofs.Booleans.{both-left, both-right}
 
 not-true : (b : Bool) → not b ≡ true → b ≡ false
 not-true true h = sym h

@@ -13,10 +13,7 @@ use Rattle.lbk_passage.specs.Next.{ComesFirst, GoesOn, IsLast, IsDone, Stops}
 use Rattle.lbk_passage.specs.Runs.{HasGiven}
 use Rattle.lbk_passage.specs.declared.faults.PassageFault.{PassageFault}
 use Rattle.lbk_passage.proofs.Finding.{IsUtf8-scalar}
-
-both-left : (a b : Bool) → (a && b) ≡ true → a ≡ true
-both-left true b h = refl
-both-left false b h = h
+use Rattle.lbk_passage.proofs.Booleans.{both-left}
 
 pub Given-none : (profile : Profile) (cell : ℕ → Cell) (left : List ℕ) → HasGiven profile cell [] left
 unfolding passages

@@ -12,15 +12,7 @@ use Rattle.lbk_passage.specs.declared.paragraph.Paragraph.{Paragraph}
 use Rattle.lbk_passage.specs.declared.reach.Reach.{Reach}
 use Rattle.lbk_passage.specs.declared.reach.Stop.{Stop}
 use Rattle.lbk_passage.specs.declared.reach.Stop.TheVariants.{PieceEnds, LineEnds, NoRoom}
-
-both-left : (a b : Bool) → (a && b) ≡ true → a ≡ true
-both-left true b h = refl
-both-left false b h = h
-
-both-right : (a b : Bool) → (a && b) ≡ true → b ≡ true
-both-right true b h = h
-both-right false true h = refl
-both-right false false h = h
+use Rattle.lbk_passage.proofs.Booleans.{both-left, both-right}
 
 -- the length that a string keeps is that of its bytes
 pub string_len-is : {Z : Type 0} (s : String Z) → string_len s ≡ length (string_bytes s)
