@@ -1,9 +1,9 @@
 //! Words into an order.
 
 ghost use Rattle.std.specs.Prelude.{◌≡◌, [], ◌∷◌, Some, IfOk, IfErr, MatchResult, map};
-ghost use Rattle.clap.specs.Words.{Text, Row, fault_of, found_of, kind_of, rows_of};
+ghost use Rattle.clap.specs.Words.{Text, Row, fault_of, found_of, kind_of, one_of, rows_of};
 ghost use Rattle.lbk_words.specs.Command.{AreAccepted, lbk_app};
-ghost use Rattle.lbk_words.specs.Task.{Task, engine_in, kinds_in, limit_in, profile_in, task_by, task_in, task_of, text_in};
+ghost use Rattle.lbk_words.specs.Task.{Task, engine_in, kinds_in, limit_in, number_or, profile_in, task_by, task_in, task_of, text_in};
 ghost use Rattle.lbk_words.specs.PlainWords.{IsPlainFor};
 ghost use Rattle.lbk_words.specs.Refusal.{IsRefusalBy};
 
@@ -76,10 +76,17 @@ fn text<'a>(given: &ArgMatches<'a>, id: &str) -> &'a str
     given.get_str(id).unwrap_or("")
 }
 
+/// The number that an option has, and `other` where it has none.
+fn number(given: &ArgMatches<'_>, id: &str, other: u32) -> u32
+    ensures { result ≡ number_or other (one_of id.now (rows_of (found_of given.now))) }
+{
+    given.get_one(id).unwrap_or(other)
+}
+
 fn limit(given: &ArgMatches<'_>) -> u32
     ensures { result ≡ limit_in (rows_of (found_of given.now)) }
 {
-    given.get_one::<u32>("limit").unwrap_or(DEFAULT_LIMIT)
+    number(given, "limit", DEFAULT_LIMIT)
 }
 
 fn kinds(given: &ArgMatches<'_>) -> bool
@@ -91,9 +98,10 @@ fn kinds(given: &ArgMatches<'_>) -> bool
 fn profile(given: &ArgMatches<'_>) -> Profile
     ensures { result ≡ profile_in (rows_of (found_of given.now)) }
 {
-    match given.get_one::<u32>("profile") {
-        Some(2) => Profile::Second,
-        _ => Profile::First,
+    if number(given, "profile", 1) == 2 {
+        Profile::Second
+    } else {
+        Profile::First
     }
 }
 
