@@ -117,12 +117,12 @@ pub entered_clean : (a : App) (name : Text) (words : List Text) → Enters a nam
 unfolding walk_fault
 entered_clean a name words enters below checks =
     let over = λ (v : Walk) (ks : Kinds). or_else ks (or_else (entered_fault a v.stopped)
-        (or_else (settle_fault a.top.rules a.top.args_override_self v.held)
-        (or_else (defaults_fault (settled a.top.rules v.held).rows a.top.rules)
-        (check_fault a.top (finished a.top.rules v.held) (is_some (entered a v.stopped)))))) in
+    (or_else (settle_fault a.top.rules a.top.args_override_self v.held)
+    (or_else (defaults_fault (settled a.top.rules v.held).rows a.top.rules)
+    (check_fault a.top (finished a.top.rules v.held) (is_some (entered a v.stopped)))))) in
     let clean : walk_fault a.top (names_of a) (walk_from nothing_held) (name ∷ words) ≡ [] =
-        ap₂ (λ (ks : Kinds) (v : Walk). or_else ks (walk_fault a.top (names_of a) v words)) enters.clean enters.walks
-        ∙ left_alone a.top (names_of a) (walk_from nothing_held) name [] words in
+    ap₂ (λ (ks : Kinds) (v : Walk). or_else ks (walk_fault a.top (names_of a) v words)) enters.clean enters.walks
+    ∙ left_alone a.top (names_of a) (walk_from nothing_held) name [] words in
     ap₂ over (top_walk a name words enters) clean
     ∙ ap (λ (ks : Kinds). or_else ks (or_else (defaults_fault [] a.top.rules)
     (check_fault a.top (finished a.top.rules nothing_held) (is_some (entered a (Some (name, words))))))) below

@@ -20,7 +20,7 @@ digits_from (d ∷ ds) e =
     let parts = both _ _ e in
     (ltb-true _ _ parts.0, digits_from ds parts.1)
 
-number_parsed : (E : Type 0) (other : ℕ) (text : Text) (n : ℕ) → ParsesUnsigned {E = E} 32 10 text (Ok n) → n ≡ number_or other (Some text)
+pub number_parsed : (E : Type 0) (other : ℕ) (text : Text) (n : ℕ) → ParsesUnsigned {E = E} 32 10 text (Ok n) → n ≡ number_or other (Some text)
 number_parsed E other text n h =
     let ds = without_leading_plus text in
     rw (lt-ltb 0 (length ds) h.0.0.0, digits_pass ds h.0.0.1, lt-ltb (digits_value 10 ds) (2 ^ 32) h.0.1) h.1
