@@ -1,5 +1,3 @@
-pub mod Cells
-pub mod CellsRefusal
 pub mod Limits
 pub mod Line
 pub mod Refusal

@@ -3,7 +3,6 @@
 ghost use Rattle.std.specs.Prelude.{◌≡◌};
 ghost use Rattle.lbk_cmd.specs.declared.faults.CmdFault.TheVariants.{Memory};
 
-use lbk_ucd::UcdFault;
 use std::alloc::{AllocError, AllocFailed};
 use std::fmt;
 use thiserror::Error;
@@ -45,17 +44,6 @@ impl fmt::Display for PassageFault {
             PassageFault::Spent => write!(f, "an earlier call was refused"),
         }
     }
-}
-
-/// Why there are no cells to decide by.
-#[derive(Clone, Copy, Debug, PartialEq, Eq, Error)]
-pub enum CellsFault {
-    /// The property files were refused at their first fault, or at a line where their tables could not grow.
-    #[error("property file {:?}, line {}: {:?}", .0.file, .0.line, .0.cause)]
-    Tables(UcdFault),
-    /// A growth of memory was refused.
-    #[error("out of memory")]
-    Memory,
 }
 
 /// Why `show` stopped.

@@ -1,12 +1,11 @@
 //! The engines of the program: what each writes is a stated function of what it reads.
 #![tactic(auto)]
 
-mod cells;
 mod engine;
 mod faults;
 pub mod laws;
 mod line;
 
-pub use cells::{SAMPLE_FILES, read_cells};
 pub use engine::show;
-pub use faults::{CellsFault, CmdFault, PassageFault};
+pub use faults::{CmdFault, PassageFault};
+pub use lbk_files::{CellsFault, SAMPLE_FILES, read_cells};

@@ -1,6 +1,6 @@
 -- The command line: the subcommands, and the options that each has.
 use Rattle.std.specs.Prelude.{◌≡◌, ℕ, true, List, [], ◌∷◌, Some, codes}
-use Rattle.clap.specs.Words.{App, Rule, Shape, Text, fault_of, new_app, new_rule, with_rule, with_subcommand}
+use Rattle.clap.specs.Words.{App, Kinds, Rule, Text, fault_of, new_app, new_rule, with_rule, with_subcommand}
 use Rattle.clap.specs.declared.builder.action.ArgAction.TheVariants.{Set, SetTrue}
 use Rattle.clap.specs.declared.builder.value_parser.ValueParser.TheVariants.{Unsigned}
 
@@ -58,6 +58,10 @@ abbrev pub lbk_app : App
 lbk_app = with_subcommand (with_subcommand (with_subcommand bare_app
     (limited_app (codes "show")).top) (limited_app (codes "segment")).top) replay_app.top
 
+-- what is wrong with the words, or what they ask for in place of work, as `clap` sorts it
+abbrev pub faults_of : List Text → Kinds
+faults_of words = fault_of lbk_app words
+
 -- the words are a command line of the program
 abbrev pub AreAccepted : List Text → Type 0
-AreAccepted words = fault_of lbk_app words ≡ []
+AreAccepted words = faults_of words ≡ []

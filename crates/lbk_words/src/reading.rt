@@ -1,8 +1,8 @@
 //! Words into an order.
 
 ghost use Rattle.std.specs.Prelude.{◌≡◌, [], ◌∷◌, Some, IfOk, IfErr, MatchResult, map};
-ghost use Rattle.clap.specs.Words.{Text, Row, fault_of, found_of, kind_of, one_of, rows_of};
-ghost use Rattle.lbk_words.specs.Command.{AreAccepted, lbk_app};
+ghost use Rattle.clap.specs.Words.{found_of, kind_of, one_of, rows_of};
+ghost use Rattle.lbk_words.specs.Command.{AreAccepted, faults_of};
 ghost use Rattle.lbk_words.specs.Task.{Task, engine_in, kinds_in, limit_in, number_or, profile_in, task_by, task_in, task_of, text_in};
 ghost use Rattle.lbk_words.specs.PlainWords.{IsPlainFor};
 ghost use Rattle.lbk_words.specs.Refusal.{IsRefusalBy};
@@ -22,7 +22,7 @@ const DEFAULT_LIMIT: u32 = 65_536;
 pub fn parse<'a>(alloc: Global, words: &'a [&'a str]) -> Result<Order<'a>, WordsFault>
     ensures accepted { IfOk result (λ order. AreAccepted (map (λ w. w.now) words.entry.now)) }
     ensures task { IfOk result (λ order. task_by (map (λ w. w.now) words.entry.now) ≡ Some (task_of order)) }
-    ensures refused { IfErr result (IsRefusalBy (fault_of lbk_app (map (λ w. w.now) words.entry.now))) }
+    ensures refused { IfErr result (IsRefusalBy (faults_of (map (λ w. w.now) words.entry.now))) }
     ensures plain { (task : Task) → IsPlainFor task (map (λ w. w.now) words.entry.now)
         → MatchResult result (λ order. task_of order ≡ task) (λ fault. fault ≡ WordsFault.Memory) }
 {

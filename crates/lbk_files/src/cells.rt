@@ -3,8 +3,8 @@
 ghost use Rattle.std.specs.Prelude.{◌≡◌, IfOk, IfErr, OnOk};
 ghost use Rattle.lbk_ucd.specs.Files.{AreLawful};
 ghost use Rattle.lbk_rules.specs.CellPages.{page_cell};
-ghost use Rattle.lbk_cmd.specs.Cells.{AreCellsOf};
-ghost use Rattle.lbk_cmd.specs.CellsRefusal.{IsCellsRefusal};
+ghost use Rattle.lbk_files.specs.Cells.{AreCellsOf};
+ghost use Rattle.lbk_files.specs.CellsRefusal.{IsCellsRefusal};
 
 use super::faults::CellsFault;
 use lbk_rules::CellPages;
