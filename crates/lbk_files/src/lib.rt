@@ -3,6 +3,7 @@
 
 mod cells;
 mod faults;
+mod front;
 mod loading;
 mod memory_store;
 mod readiness;
@@ -10,6 +11,7 @@ mod store;
 
 pub use cells::{SAMPLE_FILES, read_cells};
 pub use faults::{CellsFault, Stop};
+pub use front::read_front;
 pub use loading::{GREATEST_FILE, load_cells};
 pub use memory_store::MemoryStore;
 pub use readiness::{Ready, prepare};
