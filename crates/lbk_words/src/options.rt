@@ -29,14 +29,14 @@ Examples:
 
 Exit status: 0 done, 1 a refused file or text, 2 wrong words, 3 a replay with lines that differ or are refused.";
 
-const SHOW_ABOUT: &str = "\
-Writes a line for each passage: its marks and scalars, a tab, #, and the rule of each position";
+const SHOW_ABOUT: &str =
+    "Writes a line for each passage: its marks and scalars, and the rule of each position";
 
-const SEGMENT_ABOUT: &str = "\
-Writes `P start end` for each passage, `S start end kind rule` for its segments, `W start end` for its words";
+const SEGMENT_ABOUT: &str =
+    "Writes a line for each passage, segment and word, with its place in bytes";
 
-const REPLAY_ABOUT: &str = "\
-Compares a file of break tests with the rules: `D` and `R` lines for what differs or is refused, `T` with the counts";
+const REPLAY_ABOUT: &str =
+    "Compares a file of break tests with the rules, and counts what agrees and what differs";
 
 const SHOW_AFTER: &str = "\
 A mark stands before and after each scalar: × no break, ÷ a break may be, ! a break must be. Example:
@@ -44,7 +44,8 @@ A mark stands before and after each scalar: × no break, ÷ a break may be, ! a 
   × 0061 × 0062 × 0020 ÷ 0063 × 0064 !\t# 2 28 7 18 28 3";
 
 const SEGMENT_AFTER: &str = "\
-Offsets are bytes of the whole text; a kind is May or Must. Example:
+`P start end` is a passage, `S start end kind rule` a segment of it up to a break that may be (kind May) or must
+be (kind Must), and `W start end` a word. Places count bytes of the whole text. Example:
   $ printf 'ab cd' | lbk segment FILES
   P 0 5
   S 0 3 May 18
@@ -53,8 +54,9 @@ Offsets are bytes of the whole text; a kind is May or Must. Example:
   W 3 5";
 
 const REPLAY_AFTER: &str = "\
-`D line position file rules rule` is the first position of a line that differs, `R line place` a line that
-cannot be read, from its byte `place` on, and `T lines agreed differed refused` stands at the end. Example:
+`D line position file rules rule` is the first position of a line that differs, with the mark of the file and that
+of the rules; `R line place` is a line that cannot be read from its byte `place` on, and `R line long` one that is
+too long; `T lines agreed differed refused` stands at the end. Example:
   $ printf '× 0061 ÷ 0062 ÷\\n' | lbk replay FILES
   D 1 1 ÷ × 28
   T 1 0 1 0";
