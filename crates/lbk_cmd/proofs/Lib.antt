@@ -1,4 +1,3 @@
 pub mod Refusals
 pub mod Tokens
 pub mod Verdicts
-pub mod Writes

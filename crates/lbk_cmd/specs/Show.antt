@@ -39,7 +39,3 @@ IsCause cell limit input TextTooLong = ⊥
 IsCause cell limit input (ParagraphTooLong start) =
     (start ≡ 0) × ((limit < length input) ⊎ (IsUtf8 input × HasEarlyMust (map cell (chars input))))
 IsCause cell limit input Spent = ⊥
-
--- a device's failures rose from one count to the other, unless the count stood at the last value that it has
-abbrev pub HasFailed : ℕ → ℕ → Type 0
-HasFailed before after = before < 2 ^ 64 - 1 → before < after

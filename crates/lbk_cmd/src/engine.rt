@@ -4,15 +4,16 @@ ghost use Rattle.std.specs.Prelude.{◌≡◌, ◌≢◌, ℕ, ◌+◌, ◌<◌,
 ghost use Rattle.std.specs.Str.{chars};
 ghost use Rattle.std.specs.Io.KnownBytes.{Appends, Consumes, IsAtEnd, Keeps};
 ghost use Rattle.std.specs.Bool.{OnTrue, OnFalse};
+ghost use Rattle.lbk_feed.specs.Runs.{HasFailed};
 ghost use Rattle.lbk_rules.specs.declared.cells.Cell.{Cell};
 ghost use Rattle.lbk_cmd.specs.Limits.{IsLimit};
 ghost use Rattle.lbk_cmd.specs.Line.{verdicts_of};
 ghost use Rattle.lbk_cmd.specs.Refusal.{IsRefusal};
-ghost use Rattle.lbk_cmd.specs.Show.{IsCause, IsOnePassage, HasEarlyMust, HasFailed, show_text};
+ghost use Rattle.lbk_cmd.specs.Show.{IsCause, IsOnePassage, HasEarlyMust, show_text};
 
 use super::faults::{CmdFault, PassageFault};
 use super::line::{line, verdicts};
-use lbk_feed::{Failed, Sink, Source};
+use lbk_feed::{Failed, Sink, Source, write_all};
 use lbk_rules::{Cell, CellSource, Kind, Verdict};
 use std::alloc::{AllocError, Global};
 
@@ -189,18 +190,4 @@ fn read_input<R: Source>(alloc: Global, reader: &mut R, limit: u32) -> Result<Ve
         input.extend_from_slice(&block[..count])?;
     }
     Ok(input)
-}
-
-/// Writes all of `bytes`, in as many writes as it takes.
-fn write_all<W: Sink>(writer: &mut W, bytes: &[u8]) -> Result<(), Failed>
-    ensures ok { OnOk result (Appends (W.written writer.old) (W.written writer.new) bytes.now) }
-    ensures front { (n : ℕ) × Appends (W.written writer.old) (W.written writer.new) (take n bytes.now) }
-    ensures failed { OnErr result (HasFailed (W.failure_count writer.old) (W.failure_count writer.new)) }
-    ensures none_failed { OnOk result (W.failure_count writer.new ≡ W.failure_count writer.old) }
-{
-    let mut done = 0;
-    while done < bytes.len() {
-        done += writer.write(&bytes[done..])?;
-    }
-    Ok(())
 }

@@ -1,11 +1,10 @@
 -- What one read brings, and several in turn.
-use Rattle.std.proofs.Common.{◌≡◌, ◌⊎◌, ℕ, ◌+◌, ◌<◌, ◌≤◌, Bool, true, false, List, [], ◌∷◌, ◌++◌, length, Option, None, Some, refl, sym, ap, ◌∙◌, arith, inl, inr, ⊎_elim, length-append, append_assoc, append-nil, eqb}
+use Rattle.std.proofs.Common.{◌≡◌, ◌⊎◌, ℕ, ◌+◌, ◌<◌, ◌≤◌, Bool, true, false, List, [], ◌∷◌, ◌++◌, length, Option, None, Some, refl, sym, ap, subst, ◌∙◌, arith, inl, inr, ⊎_elim, length-append, append_assoc, append-nil, eqb}
 use Rattle.std.specs.Io.KnownBytes.{Consumes}
 use Rattle.std.proofs.lemmas.Bool.{cases_lt, eqb-true, eqb-false}
-use Rattle.lbk_feed.specs.declared.faults.TheConstants.{TEXT_MAX}
-use Rattle.lbk_feed.specs.Devices.{count_up}
+use Rattle.lbk_feed.specs.Devices.{count_up, KeepsIfTold}
 use Rattle.lbk_feed.specs.Block.{Gives}
-use Rattle.lbk_feed.specs.View.{View, BeginsWith}
+use Rattle.lbk_feed.specs.View.{View, BeginsWith, CanGoOn, AreDue}
 use Rattle.lbk_feed.specs.Intake.{Draws, DrawsAndFails, KeepsAfter}
 
 Consumes-nil : (a : Option (List ℕ)) → Consumes a a []
@@ -45,10 +44,43 @@ Gives-some old new before after n gives = by (eqb n 0) refl
     by true is = inl is
     by false is = let some = eqb-false n 0 is in inr (omega (arith, gives.count, ap length gives.held, length-append old gives.got))
 
+-- a first read
+AreDue-one : (given : ℕ) (held held' got : List ℕ) (from to : ℕ) → held' ≡ held ++ got → CanGoOn given held → to ≤ from + 1 → AreDue given held held' from to
+AreDue-one given held held' got from to grown goes_on count = record {
+  seen = [];
+  last = got;
+  grown = grown ∙ ap (λ l. l ++ got) (sym (append-nil held));
+  went_on = subst (λ l. CanGoOn given l) (sym (append-nil held)) goes_on;
+  each_gave = omega arith;
+}
+
+-- reads after others that gave `got`, at least a byte each
+AreDue-later : (given given' : ℕ) (a b c got : List ℕ) (from mid to : ℕ) → given' ≡ given → b ≡ a ++ got → mid ≤ from + length got
+    → AreDue given' b c mid to → AreDue given a c from to
+AreDue-later given given' a b c got from mid to same grown gave later =
+    let moved : b ++ later.seen ≡ a ++ (got ++ later.seen) = ap (λ l. l ++ later.seen) grown ∙ append_assoc a got later.seen in
+    record {
+      seen = got ++ later.seen;
+      last = later.last;
+      grown = later.grown ∙ ap (λ l. l ++ later.last) moved;
+      went_on = subst (λ n. CanGoOn n (a ++ (got ++ later.seen))) same (subst (λ l. CanGoOn given' l) moved later.went_on);
+      each_gave = omega (arith, later.each_gave, length-append got later.seen);
+    }
+
+-- bytes that came with no read that was counted, since the count stood at its last value
+AreDue-still : (given : ℕ) (a b c more : List ℕ) (from mid to : ℕ) → c ≡ b ++ more → to ≤ mid → AreDue given a b from mid → AreDue given a c from to
+AreDue-still given a b c more from mid to grown few due = record {
+  seen = due.seen;
+  last = due.last ++ more;
+  grown = grown ∙ ap (λ l. l ++ more) due.grown ∙ append_assoc (a ++ due.seen) due.last more;
+  went_on = due.went_on;
+  each_gave = omega (arith, due.each_gave);
+}
+
 pub Draws-one : (old new : View) (before after : Option (List ℕ)) (from to n : ℕ) → Gives old.held new.held before after n
     → new.given ≡ old.given → new.is_spent ≡ old.is_spent → new.is_ended ≡ eqb n 0 → (n ≡ 0 → length new.ready ≡ 0)
-    → to ≡ count_up from → old.given + length old.held ≤ TEXT_MAX → Draws old new before after from to
-Draws-one old new before after from to n gives given spent ended ready count within = record {
+    → to ≡ count_up from → CanGoOn old.given old.held → Draws old new before after from to
+Draws-one old new before after from to n gives given spent ended ready count goes_on = record {
   got = gives.got;
   grown = gives.held;
   taken = gives.taken;
@@ -58,8 +90,37 @@ Draws-one old new before after from to n gives given spent ended ready count wit
   none_ready = λ is. ready (eqb-true n 0 (sym ended ∙ is));
   each_gave = λ is. let some = eqb-false n 0 (sym ended ∙ is) in omega (arith, gives.count);
   but_one_gave = omega arith;
-  within = λ more. omega arith;
+  due = λ more. AreDue-one old.given old.held new.held gives.got from to gives.held goes_on (omega arith);
 }
+
+told-none : (before after : Option (List ℕ)) → KeepsIfTold before after → KeepsAfter [] before after
+told-none None after told = tt
+told-none (Some xs) None told = tt
+told-none (Some xs) (Some ys) told = told
+
+begins-none : (known : Option (List ℕ)) → BeginsWith [] known
+begins-none None = tt
+begins-none (Some xs) = (xs, refl)
+
+-- a read that failed
+pub Draws-failed : (old new : View) (before after : Option (List ℕ)) (from to : ℕ) → new.held ≡ old.held → KeepsIfTold before after
+    → new.given ≡ old.given → new.is_spent ≡ old.is_spent → new.is_ended ≡ false → length new.ready ≡ 0
+    → to ≡ count_up from → CanGoOn old.given old.held → DrawsAndFails old new before after from to
+Draws-failed old new before after from to same told given spent open_end ready count goes_on =
+    let grown : new.held ≡ old.held ++ [] = same ∙ sym (append-nil old.held) in
+    record {
+      got = [];
+      grown = grown;
+      front = begins-none before;
+      told = told-none before after told;
+      given = given;
+      spent = spent;
+      open_end = open_end;
+      none_ready = ready;
+      but_one_gave = omega arith;
+      goes_on = subst (λ n. CanGoOn n new.held) (sym given) (subst (λ l. CanGoOn old.given l) (sym same) goes_on);
+      due = λ more. AreDue-one old.given old.held new.held [] from to grown goes_on (omega arith);
+    }
 
 pub Draws-nil : (v : View) (unread : Option (List ℕ)) (count : ℕ) → v.is_ended ≡ false → Draws v v unread unread count count
 Draws-nil v unread count fresh = record {
@@ -72,7 +133,7 @@ Draws-nil v unread count fresh = record {
   none_ready = λ is. absurd (let other = sym is ∙ fresh in cc);
   each_gave = λ is. omega arith;
   but_one_gave = omega arith;
-  within = λ more. absurd (omega arith);
+  due = λ more. absurd (omega arith);
 }
 
 grown-more : (a b c got more : List ℕ) → b ≡ a ++ got → c ≡ b ++ more → c ≡ a ++ (got ++ more)
@@ -80,15 +141,10 @@ grown-more a b c got more first second = second ∙ ap (λ l. l ++ more) first �
 
 -- reads, and then others
 module _ (a b c : View) (before between after : Option (List ℕ)) (from mid to : ℕ) (fresh : b.is_ended ≡ false) (first : Draws a b before between from mid) where
-  long : length b.held ≡ length a.held + length first.got
-  long = ap length first.grown ∙ length-append a.held first.got
-
-  bounded : (mid < to → to + (b.given + length b.held) ≤ mid + (TEXT_MAX + 1)) → from < to → to + (a.given + length a.held) ≤ from + (TEXT_MAX + 1)
-  bounded second more =
-      let gave = first.each_gave fresh in
-      ⊎_elim
-      (λ (later : mid < to). omega (arith, second later, gave, long, first.given))
-      (λ (none : to ≤ mid). omega (arith, first.within (let earlier : from < mid = omega arith in earlier)))
+  due : (got : List ℕ) → c.held ≡ b.held ++ got → (mid < to → AreDue b.given b.held c.held mid to) → from < to → AreDue a.given a.held c.held from to
+  due got grown second more = ⊎_elim
+      (λ (later : mid < to). AreDue-later a.given b.given a.held b.held c.held first.got from mid to first.given first.grown (first.each_gave fresh) (second later))
+      (λ (none : to ≤ mid). AreDue-still a.given a.held b.held c.held got from mid to grown none (first.due (omega arith)))
       (cases_lt mid to)
 
   pub Draws-more : Draws b c between after mid to → Draws a c before after from to
@@ -105,7 +161,7 @@ module _ (a b c : View) (before between after : Option (List ℕ)) (from mid to 
         none_ready = second.none_ready;
         each_gave = λ is. omega (arith, second.each_gave is, gave, both);
         but_one_gave = omega (arith, second.but_one_gave, gave, both);
-        within = bounded second.within;
+        due = due second.got second.grown second.due;
       }
 
   pub Draws-fails : DrawsAndFails b c between after mid to → DrawsAndFails a c before after from to
@@ -122,5 +178,6 @@ module _ (a b c : View) (before between after : Option (List ℕ)) (from mid to 
         open_end = second.open_end;
         none_ready = second.none_ready;
         but_one_gave = omega (arith, second.but_one_gave, gave, both);
-        within = bounded second.within;
+        goes_on = second.goes_on;
+        due = due second.got second.grown second.due;
       }

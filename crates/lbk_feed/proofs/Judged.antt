@@ -4,25 +4,24 @@ use Rattle.std.specs.Str.Lossy.{utf8_valid_len}
 use Rattle.std.proofs.lemmas.List.{take-take, take_at, drop_at, drop-drop, take-append-drop, drop-take, take_all, drop_all}
 use Rattle.std.proofs.lemmas.Str.{utf8_valid_len_le, utf8_valid_len-IsUtf8, IsUtf8-nil}
 use lib.Seq.{take-add}
-use Rattle.lbk_feed.specs.declared.faults.TheConstants.{TEXT_MAX}
 use Rattle.lbk_feed.specs.declared.judge.Stop.{Stop}
 use Rattle.lbk_feed.specs.declared.judge.Stop.TheVariants.{Whole}
-use Rattle.lbk_feed.specs.Text.{well_formed_prefix, after_prefix, counted}
+use Rattle.lbk_feed.specs.Text.{longest_text, well_formed_prefix, after_prefix, counted}
 use Rattle.lbk_feed.specs.Judge.{in_reach, stop_of, IsJudged}
 use Rattle.lbk_feed.specs.View.{AfterEach, LendsFront}
 use Rattle.lbk_feed.proofs.Front.{well_formed_prefix-IsUtf8, utf8_valid_len-after}
 
 -- after a text that was used up, the bytes counted are that text and those in reach
-pub counted-after : (used held : List ℕ) (given : ℕ) → length used ≡ given → given ≤ TEXT_MAX → counted (used ++ held) ≡ used ++ in_reach given held
+pub counted-after : (used held : List ℕ) (given : ℕ) → length used ≡ given → given ≤ longest_text → counted (used ++ held) ≡ used ++ in_reach given held
 counted-after used held given long within =
-    let room = TEXT_MAX - given in
-    let parts : TEXT_MAX ≡ given + room = omega arith in
+    let room = longest_text - given in
+    let parts : longest_text ≡ given + room = omega arith in
     ap (λ n. take n (used ++ held)) parts ∙ take-add given room (used ++ held)
     ∙ ap (λ l. l ++ take room (drop given (used ++ held))) (take_at used held given long)
     ∙ ap (λ l. used ++ take room l) (drop_at used held given long)
 
 -- the longest prefix of a text and more
-prefix-after : (used bs : List ℕ) → IsUtf8 used → well_formed_prefix (used ++ bs) ≡ used ++ well_formed_prefix bs
+pub prefix-after : (used bs : List ℕ) → IsUtf8 used → well_formed_prefix (used ++ bs) ≡ used ++ well_formed_prefix bs
 prefix-after used bs text =
     let v = utf8_valid_len bs in
     ap (λ n. take n (used ++ bs)) (utf8_valid_len-after used bs text) ∙ take-add (length used) v (used ++ bs)
@@ -39,14 +38,14 @@ module _ (held : List ℕ) (given len : ℕ) (stop : Stop) (spent : Bool) (judge
   ready_within = omega (arith, judged.ready, utf8_valid_len_le (in_reach given held))
 
   pub ready_held : len ≤ length held
-  ready_held = omega (arith, ready_within, length-take (TEXT_MAX - given) held)
+  ready_held = omega (arith, ready_within, length-take (longest_text - given) held)
 
-  pub ready_counted : given + len ≤ TEXT_MAX
-  ready_counted = omega (arith, judged.within, ready_within, length-take (TEXT_MAX - given) held)
+  pub ready_counted : given + len ≤ longest_text
+  ready_counted = omega (arith, judged.within, ready_within, length-take (longest_text - given) held)
 
   pub ready-prefix : take len held ≡ well_formed_prefix (in_reach given held)
   ready-prefix =
-      let room = TEXT_MAX - given in
+      let room = longest_text - given in
       let fits : len ≤ room = omega (arith, ready_counted) in
       sym (take-take len room held fits) ∙ ap (λ n. take n (in_reach given held)) judged.ready
 
@@ -73,15 +72,15 @@ module _ (held : List ℕ) (given len : ℕ) (stop : Stop) (spent : Bool) (judge
   pub judged-drop : (n : ℕ) → n ≤ len → IsUtf8 (take n (take len held)) → IsJudged (drop n held) (given + n) (len - n) stop spent
   judged-drop n within text =
       let reach = in_reach given held in
-      let room = TEXT_MAX - (given + n) in
+      let room = longest_text - (given + n) in
       let counts = ready_counted in
-      let parts : TEXT_MAX - given ≡ n + room = omega arith in
+      let parts : longest_text - given ≡ n + room = omega arith in
       let later : drop n reach ≡ in_reach (given + n) (drop n held) =
       ap (λ k. drop n (take k held)) parts ∙ drop-take n room held in
       let used = take n reach in
       let long : length used ≡ n = length-take-le n reach (omega (arith, ready_within)) in
       let is_text : IsUtf8 used =
-      subst IsUtf8 (take-take n len held within ∙ sym (take-take n (TEXT_MAX - given) held (omega arith))) text in
+      subst IsUtf8 (take-take n len held within ∙ sym (take-take n (longest_text - given) held (omega arith))) text in
       let split : reach ≡ used ++ in_reach (given + n) (drop n held) =
       sym (take-append-drop n reach) ∙ ap (λ l. used ++ l) later in
       let whole : utf8_valid_len reach ≡ n + utf8_valid_len (in_reach (given + n) (drop n held)) =
@@ -96,7 +95,7 @@ module _ (held : List ℕ) (given len : ℕ) (stop : Stop) (spent : Bool) (judge
   -- where nothing is held, nothing stands there
   pub stop-nil : held ≡ [] → stop ≡ Whole
   stop-nil none =
-      let reach : in_reach given held ≡ [] = ap (λ l. in_reach given l) none ∙ take_all (TEXT_MAX - given) [] (omega arith) in
+      let reach : in_reach given held ≡ [] = ap (λ l. in_reach given l) none ∙ take_all (longest_text - given) [] (omega arith) in
       judged.stop_is ∙ ap (λ l. stop_of (after_prefix l)) reach ∙ ap stop_of (drop_all (utf8_valid_len []) [] (omega arith))
 
   -- the same after a fault
@@ -126,4 +125,4 @@ judged-nil held none =
     }
   where
     drop-nil : (held : List ℕ) → held ≡ [] → in_reach 0 held ≡ []
-    drop-nil held none = ap (λ l. in_reach 0 l) none ∙ take_all (TEXT_MAX - 0) [] (omega arith)
+    drop-nil held none = ap (λ l. in_reach 0 l) none ∙ take_all (longest_text - 0) [] (omega arith)

@@ -8,4 +8,5 @@ pub mod Judged
 pub mod Standing
 pub mod Drawing
 pub mod Outcomes
+pub mod Written
 pub mod Stepping

@@ -1,11 +1,13 @@
 -- What a call leaves, from what its reads brought and what was wrong with the bytes.
 use Rattle.std.proofs.Common.{◌≡◌, ◌⊎◌, ℕ, ◌+◌, ◌<◌, ◌≤◌, Bool, true, false, ◌||◌, List, [], ◌++◌, length, Option, None, Some, IfSome, IfNone, is_some, Result, Ok, Err, OnOk, IfErr, is_err, refl, sym, ap, ◌∙◌, arith, length-append, append_assoc, append-nil}
 use Rattle.std.specs.Io.KnownBytes.{Consumes, Keeps, prepend_known}
+use Rattle.lbk_feed.specs.Text.{longest_text}
 use Rattle.lbk_feed.specs.declared.faults.FeedFault.{FeedFault}
 use Rattle.lbk_feed.specs.declared.faults.FeedFault.TheVariants.{Read, NotUtf8, TextTooLong, Spent}
 use Rattle.lbk_feed.specs.Devices.{KeepsIfTold}
-use Rattle.lbk_feed.specs.View.{View, IsFront, LendsFront, LiesIn, IsOfText, IsIdle, fault_of, ahead, KeepsAhead, BeginsWith, Steps, Pays}
+use Rattle.lbk_feed.specs.View.{View, IsFront, LendsFront, LiesIn, IsOfText, IsIdle, fault_of, ahead, KeepsAhead, BeginsWith, CanGoOn, AreDue, Steps, Pays}
 use Rattle.lbk_feed.specs.Intake.{Draws, DrawsAndFails, KeepsAfter}
+use Rattle.lbk_feed.proofs.Standing.{few_held}
 
 -- what `finish` found, by the fault of its answer
 pub record Finds (v : View) (fault : Option FeedFault) : Type 0 where
@@ -118,6 +120,12 @@ told old new got None after grown kept = tt
 told old new got (Some xs) None grown kept = tt
 told old new got (Some xs) (Some ys) grown kept = ap (λ l. l ++ ys) grown ∙ append_assoc old got ys ∙ ap (λ l. old ++ l) kept
 
+due-few : (given : ℕ) (held held' : List ℕ) (from to : ℕ) → AreDue given held held' from to → to + length held ≤ from + 4
+due-few given held held' from to due = omega (arith, due.each_gave, few_held given (held ++ due.seen) due.went_on, length-append held due.seen)
+
+due-within : (given : ℕ) (held held' : List ℕ) (from to : ℕ) → AreDue given held held' from to → to + (given + length held) ≤ from + (longest_text + 1)
+due-within given held held' from to due = omega (arith, due.each_gave, due.went_on.within, length-append held due.seen)
+
 module _ (old mid : View) (before after : Option (List ℕ)) (from to : ℕ) where
   pub Steps-drawn : (fault : Option FeedFault) → Draws old mid before after from to → old.is_spent ≡ false → ¬ (IsIdle old) → IsFront mid → LendsFront mid → Finds mid fault
       → Steps old (record mid { is_spent = is_some fault }) before after fault
@@ -141,7 +149,9 @@ module _ (old mid : View) (before after : Option (List ℕ)) (from to : ℕ) whe
       record {
         all = λ some. by mid.is_ended refl some;
         but_one = omega (arith, long, drawn.but_one_gave);
-        within = drawn.within;
+        due = drawn.due;
+        few = λ more. due-few _ _ _ _ _ (drawn.due more);
+        within = λ more. due-within _ _ _ _ _ (drawn.due more);
       }
     where
       by : (b : Bool) → mid.is_ended ≡ b → 0 < length mid.ready → to + length old.held ≤ from + length mid.held
@@ -159,7 +169,7 @@ module _ (old mid : View) (before after : Option (List ℕ)) (from to : ℕ) whe
     front = front;
     lends = LendsFront-spent mid true lends;
     found = tt;
-    lies = (none, tt);
+    lies = (none, drawn.goes_on);
     spent = spent_is old.is_spent (Some Read) fresh;
     same = λ idle. absurd (due idle);
   }
@@ -168,5 +178,7 @@ module _ (old mid : View) (before after : Option (List ℕ)) (from to : ℕ) whe
   Pays-failed drawn = record {
     all = λ some. absurd (omega (arith, drawn.none_ready));
     but_one = omega (arith, ap length drawn.grown, length-append old.held drawn.got, drawn.but_one_gave);
-    within = drawn.within;
+    due = drawn.due;
+    few = λ more. due-few _ _ _ _ _ (drawn.due more);
+    within = λ more. due-within _ _ _ _ _ (drawn.due more);
   }

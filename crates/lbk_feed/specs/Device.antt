@@ -3,17 +3,17 @@ use Rattle.std.specs.Prelude.{ℕ, Bool}
 use Rattle.lbk_feed.specs.declared.adapter.Device.{Device}
 
 -- the reader or the writer of std
-abbrev pub inner_of : {D : Type 0} → Device D → D
+unfoldable pub inner_of : {D : Type 0} → Device D → D
 inner_of d = d.inner
 
 -- how many reads were made
-abbrev pub reads_of : {D : Type 0} → Device D → ℕ
+unfoldable pub reads_of : {D : Type 0} → Device D → ℕ
 reads_of d = d.tally.reads
 
 -- how many calls failed
-abbrev pub failures_of : {D : Type 0} → Device D → ℕ
+unfoldable pub failures_of : {D : Type 0} → Device D → ℕ
 failures_of d = d.tally.failures
 
 -- whether a read with room gave no byte
-abbrev pub has_met_end : {D : Type 0} → Device D → Bool
+unfoldable pub has_met_end : {D : Type 0} → Device D → Bool
 has_met_end d = d.tally.ended

@@ -1,27 +1,27 @@
 -- What an intake shows, when it wants to read on, and what its reads do.
 use Rattle.std.specs.Prelude.{◌≡◌, ◌⊎◌, ℕ, ◌+◌, ◌<◌, ◌≤◌, true, false, List, ◌++◌, length, take, Option}
 use Rattle.std.specs.Io.KnownBytes.{Consumes, IsAtEnd, prepend_known}
-use Rattle.lbk_feed.specs.declared.faults.TheConstants.{TEXT_MAX}
+use Rattle.lbk_feed.specs.Text.{longest_text}
 use Rattle.lbk_feed.specs.declared.judge.Stop.TheVariants.{Faulty}
 use Rattle.lbk_feed.specs.declared.intake.Intake.{Intake}
 use Rattle.lbk_feed.specs.Devices.{KeepsIfTold}
 use Rattle.lbk_feed.specs.Block.{items}
-use Rattle.lbk_feed.specs.View.{View, BeginsWith}
+use Rattle.lbk_feed.specs.View.{View, BeginsWith, CanGoOn, AreDue}
 
 -- the intake as callers of the feed see it
-abbrev pub view_of : Intake → View
+unfoldable pub view_of : Intake → View
 view_of i = record { held = items i.block; ready = take i.ready_len (items i.block); given = i.given; is_ended = i.is_ended; is_spent = i.is_spent }
 
--- nothing is ready and nothing is wrong: a read is due
+-- nothing is ready, and what is held may go on: a read is due
 pub record WantsMore (i : Intake) : Type 0 where
   pub none_ready : i.ready_len ≡ 0
   pub few : length (items i.block) < 4
-  pub within : i.given + length (items i.block) ≤ TEXT_MAX
+  pub goes_on : CanGoOn i.given (items i.block)
   pub open_end : i.is_ended ≡ false
 
 -- a piece is ready, the bytes are at fault, more were read than a text may have, or the end was met
 abbrev pub IsSettled : Intake → Type 0
-IsSettled i = (0 < i.ready_len) ⊎ ((i.stop ≡ Faulty) ⊎ ((TEXT_MAX < i.given + length (items i.block)) ⊎ (i.is_ended ≡ true)))
+IsSettled i = (0 < i.ready_len) ⊎ ((i.stop ≡ Faulty) ⊎ ((longest_text < i.given + length (items i.block)) ⊎ (i.is_ended ≡ true)))
 
 -- what reads that did not fail bring: `before` and `after` are the bytes unread, `from` and `to` the counts of reads
 pub record Draws (old new : View) (before after : Option (List ℕ)) (from to : ℕ) : Type 0 where
@@ -34,7 +34,7 @@ pub record Draws (old new : View) (before after : Option (List ℕ)) (from to : 
   pub none_ready : new.is_ended ≡ true → length new.ready ≡ 0
   pub each_gave : new.is_ended ≡ false → to ≤ from + length got
   pub but_one_gave : to ≤ from + length got + 1
-  pub within : from < to → to + (old.given + length old.held) ≤ from + (TEXT_MAX + 1)
+  pub due : from < to → AreDue old.given old.held new.held from to
 
 -- what the source tells after it failed is what was unread without the bytes got
 abbrev pub KeepsAfter : List ℕ → Option (List ℕ) → Option (List ℕ) → Type 0
@@ -51,4 +51,5 @@ pub record DrawsAndFails (old new : View) (before after : Option (List ℕ)) (fr
   pub open_end : new.is_ended ≡ false
   pub none_ready : length new.ready ≡ 0
   pub but_one_gave : to ≤ from + length got + 1
-  pub within : from < to → to + (old.given + length old.held) ≤ from + (TEXT_MAX + 1)
+  pub goes_on : CanGoOn new.given new.held
+  pub due : from < to → AreDue old.given old.held new.held from to

@@ -1,14 +1,13 @@
 -- How far the bytes held are well-formed, of those that a text may still have, and what stands there.
 use Rattle.std.specs.Prelude.{◌≡◌, ℕ, ◌-◌, ◌≤◌, Bool, true, List, [], ◌∷◌, take, is_some, if◌then◌else◌}
 use Rattle.std.specs.Str.Lossy.{utf8_valid_len, utf8_error_len}
-use Rattle.lbk_feed.specs.declared.faults.TheConstants.{TEXT_MAX}
 use Rattle.lbk_feed.specs.declared.judge.Stop.{Stop}
 use Rattle.lbk_feed.specs.declared.judge.Stop.TheVariants.{Whole, Cut, Faulty}
-use Rattle.lbk_feed.specs.Text.{after_prefix}
+use Rattle.lbk_feed.specs.Text.{longest_text, after_prefix}
 
 -- of the bytes held after `given` others, those that a text may still have
 abbrev pub in_reach : ℕ → List ℕ → List ℕ
-in_reach given held = take (TEXT_MAX - given) held
+in_reach given held = take (longest_text - given) held
 
 -- what bytes are that follow a longest well-formed prefix
 abbrev pub stop_of : List ℕ → Stop
@@ -17,7 +16,7 @@ stop_of (x ∷ xs) = if is_some (utf8_error_len (x ∷ xs)) then Faulty else Cut
 
 -- the numbers kept beside the bytes held say how far they are well-formed; after a fault nothing is
 pub record IsJudged (held : List ℕ) (given ready_len : ℕ) (stop : Stop) (is_spent : Bool) : Type 0 where
-  pub within : given ≤ TEXT_MAX
+  pub within : given ≤ longest_text
   pub ready : ready_len ≡ utf8_valid_len (in_reach given held)
   pub stop_is : stop ≡ stop_of (after_prefix (in_reach given held))
   pub spent : is_spent ≡ true → ready_len ≡ 0

@@ -1,12 +1,14 @@
--- What the contracts of this crate cite.
-pub mod Block
-pub mod Device
-pub mod Devices
-pub mod MemorySink
-pub mod MemorySource
-pub mod RepeatedSource
-pub mod Tally
+-- What a reader has to believe.
 pub mod Text
-pub mod Judge
+pub mod Devices
 pub mod View
+pub mod Runs
+pub mod Tally
+pub mod Device
+pub mod MemorySource
+pub mod MemorySink
+pub mod RepeatedSource
+-- What only carries proofs.
+pub mod Block
+pub mod Judge
 pub mod Intake

@@ -4,17 +4,17 @@ use Rattle.lbk_feed.specs.declared.tally.Tally.{Tally}
 use Rattle.lbk_feed.specs.declared.devices.memory_sink.MemorySink.{MemorySink}
 
 -- the bytes that the sink took
-abbrev pub sink_bytes : MemorySink → List ℕ
+unfoldable pub sink_bytes : MemorySink → List ℕ
 sink_bytes s = s.bytes.items
 
 -- how many bytes the sink takes in all
-abbrev pub sink_room : MemorySink → ℕ
+unfoldable pub sink_room : MemorySink → ℕ
 sink_room s = s.room
 
 -- the most bytes that one write takes
-abbrev pub most_in_a_write : MemorySink → ℕ
+unfoldable pub most_in_a_write : MemorySink → ℕ
 most_in_a_write s = s.most
 
 -- what it has counted
-abbrev pub sink_tally : MemorySink → Tally
+unfoldable pub sink_tally : MemorySink → Tally
 sink_tally s = s.tally

@@ -4,9 +4,9 @@ use Rattle.lbk_feed.specs.declared.tally.Tally.{Tally}
 use Rattle.lbk_feed.specs.declared.devices.repeated_source.RepeatedSource.{RepeatedSource}
 
 -- the bytes that the source has left
-abbrev pub repeated_bytes : RepeatedSource → List ℕ
+unfoldable pub repeated_bytes : RepeatedSource → List ℕ
 repeated_bytes s = replicate s.left s.byte
 
 -- what it has counted
-abbrev pub repeated_tally : RepeatedSource → Tally
+unfoldable pub repeated_tally : RepeatedSource → Tally
 repeated_tally s = s.tally

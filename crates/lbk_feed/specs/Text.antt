@@ -2,7 +2,6 @@
 use Rattle.std.specs.Prelude.{◌≡◌, ◌⊎◌, ℕ, ◌<◌, ◌≤◌, Bool, true, List, ◌++◌, length, take, drop, IsUtf8, encode_utf8}
 use Rattle.std.specs.Char.{IsScalar}
 use Rattle.std.specs.Str.Lossy.{utf8_valid_len}
-use Rattle.lbk_feed.specs.declared.faults.TheConstants.{TEXT_MAX}
 
 -- the longest prefix that is a text
 abbrev pub well_formed_prefix : List ℕ → List ℕ
@@ -32,9 +31,13 @@ pub record IsCutScalar (bs : List ℕ) : Type 0 where
 abbrev pub IsOpen : List ℕ → Type 0
 IsOpen bs = IsCutScalar (after_prefix bs)
 
--- the bytes that a text may have: the first TEXT_MAX
+-- the most bytes of a text: 2 to the power of 30
+abbrev pub longest_text : ℕ
+longest_text = 1073741824
+
+-- the bytes that a text may have: the first 1,073,741,824
 abbrev pub counted : List ℕ → List ℕ
-counted bs = take TEXT_MAX bs
+counted bs = take longest_text bs
 
 -- of the bytes bs that were read, to their end or not, those from `at` on are ill-formed, or they end inside a scalar
 pub record IsNotUtf8At (bs : List ℕ) (ended : Bool) (at : ℕ) : Type 0 where
@@ -44,5 +47,5 @@ pub record IsNotUtf8At (bs : List ℕ) (ended : Bool) (at : ℕ) : Type 0 where
 
 -- more bytes were read than a text may have, and those that it may have are well-formed, or end inside a scalar
 pub record IsTooLong (bs : List ℕ) : Type 0 where
-  pub over : TEXT_MAX < length bs
+  pub over : longest_text < length bs
   pub text : (well_formed_prefix (counted bs) ≡ counted bs) ⊎ IsOpen (counted bs)

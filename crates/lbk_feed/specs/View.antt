@@ -2,11 +2,10 @@
 use Rattle.std.specs.Prelude.{◌≡◌, ◌⊎◌, ℕ, ◌+◌, ◌<◌, ◌≤◌, Bool, true, false, ◌||◌, List, [], ◌++◌, length, Option, None, Some, IfSome, IfNone, is_some, Result, Ok, Err, IfOk, MatchOption, ⊤, IsUtf8}
 use Rattle.std.specs.Borrow.{Bor}
 use Rattle.std.specs.Io.KnownBytes.{prepend_known, Keeps, IsAtEnd}
-use Rattle.lbk_feed.specs.declared.faults.TheConstants.{TEXT_MAX}
 use Rattle.lbk_feed.specs.declared.faults.FeedFault.{FeedFault}
 use Rattle.lbk_feed.specs.declared.faults.FeedFault.TheVariants.{Read, NotUtf8, TextTooLong, Spent}
 use Rattle.lbk_feed.specs.Devices.{KeepsIfTold, count_up}
-use Rattle.lbk_feed.specs.Text.{well_formed_prefix, counted, IsNotUtf8At, IsTooLong}
+use Rattle.lbk_feed.specs.Text.{longest_text, well_formed_prefix, counted, IsCutScalar, IsNotUtf8At, IsTooLong}
 
 -- the bytes that were read and not yet used up, those of them that are lent, how many were used up,
 -- whether a read gave no byte, and whether a fault was answered
@@ -34,11 +33,17 @@ pub record LendsFront (f : View) : Type 0 where
   pub text : IsUtf8 f.ready
   pub rest : List ℕ
   pub first : f.held ≡ f.ready ++ rest
-  pub few : f.given + length f.ready ≤ TEXT_MAX
+  pub few : f.given + length f.ready ≤ longest_text
 
--- where a fault lies in the bytes read
+-- what is held after `given` bytes that were used up, none of it ready, may still go on to a piece: a text may have it,
+-- and it is nothing, or the first bytes of a scalar
+pub record CanGoOn (given : ℕ) (held : List ℕ) : Type 0 where
+  pub within : given + length held ≤ longest_text
+  pub cut : (held ≡ []) ⊎ IsCutScalar held
+
+-- where a fault lies in the bytes read; where it is a failed read, no fault of the text was certain before that
 abbrev pub LiesIn : FeedFault → View → Type 0
-LiesIn Read f = ⊤
+LiesIn Read f = CanGoOn f.given f.held
 LiesIn (NotUtf8 at) f = AfterEach f.given (λ used. IsNotUtf8At (used ++ f.held) f.is_ended at)
 LiesIn TextTooLong f = AfterEach f.given (λ used. IsTooLong (used ++ f.held))
 LiesIn Spent f = ⊤
@@ -72,9 +77,9 @@ BeginsWith bs known = IfSome known (λ xs. (rest : List ℕ) × (xs ≡ bs ++ re
 abbrev pub Agrees : View → Bool → Option (List ℕ) → Type 0
 Agrees f ended unread = f.is_ended ≡ true → (ended ≡ true) × IsAtEnd unread
 
--- a piece is ready, the end was met, or a fault was answered: no read is made
+-- a piece is ready, the end was met, a fault was answered or is certain of the bytes held: no read is made
 abbrev pub IsIdle : View → Type 0
-IsIdle f = (0 < length f.ready) ⊎ ((f.is_ended ≡ true) ⊎ (f.is_spent ≡ true))
+IsIdle f = (0 < length f.ready) ⊎ ((f.is_ended ≡ true) ⊎ ((f.is_spent ≡ true) ⊎ (¬ (CanGoOn f.given f.held))))
 
 -- the count of a reader's failures after a call: one more exactly where the call answered so
 abbrev pub failures_with : ℕ → Option FeedFault → ℕ
@@ -95,12 +100,24 @@ pub record Steps (old new : View) (before after : Option (List ℕ)) (fault : Op
   pub spent : new.is_spent ≡ (old.is_spent || is_some fault)
   pub same : IsIdle old → (new.held ≡ old.held) × (new.ready ≡ old.ready) × (new.is_ended ≡ old.is_ended)
 
+-- reads are made only while the bytes held may go on to a piece: some first bytes of those that came, and at least
+-- one of each read but the last, still could before the last
+pub record AreDue (given : ℕ) (held held' : List ℕ) (from to : ℕ) : Type 0 where
+  pub seen : List ℕ
+  pub last : List ℕ
+  pub grown : held' ≡ held ++ seen ++ last
+  pub went_on : CanGoOn given (held ++ seen)
+  pub each_gave : to ≤ from + (length seen + 1)
+
 -- what the reads of a call cost, from the count before it to the count after: each but the last gives a byte,
--- and so does the last where a piece comes; and none is made once more bytes were read than a text may have
+-- and so does the last where a piece comes; none is made where a fault is certain, so at most three bytes are held
+-- before each, and none is made once more bytes were read than a text may have
 pub record Pays (old new : View) (from to : ℕ) : Type 0 where
   pub all : 0 < length new.ready → to + length old.held ≤ from + length new.held
   pub but_one : to + length old.held ≤ from + length new.held + 1
-  pub within : from < to → to + (old.given + length old.held) ≤ from + (TEXT_MAX + 1)
+  pub due : from < to → AreDue old.given old.held new.held from to
+  pub few : from < to → to + length old.held ≤ from + 4
+  pub within : from < to → to + (old.given + length old.held) ≤ from + (longest_text + 1)
 
 -- what the feed is once the piece that a call lent is given back; `unread`, `ended` and `reads` are the reader's
 -- before the call, and those with a prime after it

@@ -1,9 +1,9 @@
 //! What no clause says of the devices: when they fail, and that they give and take what they should.
 
 use crate::devices::{MemorySink, MemorySource, RepeatedSource};
-use crate::{Device, Failed, Sink, Source};
+use crate::{Device, Failed, Sink, Source, write_all};
 use std::io;
-use std::io::{ErrorKind, Read};
+use std::io::{ErrorKind, Read, Write};
 use std::process::Abort;
 use std::test::Fail;
 
@@ -30,22 +30,56 @@ fn check_reads<S: Source>(
     assert_eq!(rt; source.ended(), ended);
 }
 
-#[derive(Drop)]
-struct Interrupted(bool);
+/// What a call of a reader or a writer of std comes to.
+#[derive(Clone, Copy)]
+enum Call {
+    /// It gives this byte.
+    Gives(u8),
+    /// It takes this many bytes.
+    Takes(usize),
+    /// It fails for this reason.
+    Fails(ErrorKind),
+}
 
-impl Read for Interrupted {
+/// A reader and writer of std whose calls come to what they are told, each to the next; past the last they move
+/// nothing.
+#[derive(Drop)]
+struct Told<'a> {
+    calls: &'a [Call],
+}
+
+impl Told<'_> {
+    fn next_call(&mut self) -> Option<Call> {
+        let (call, later) = self.calls.split_first()?;
+        self.calls = later;
+        Some(*call)
+    }
+}
+
+impl Read for Told<'_> {
     fn read(&mut self, buf: &mut [u8]) -> io::Result<usize> {
-        if self.0 {
-            self.0 = false;
-            return Err(io::Error::new(ErrorKind::Interrupted, "once"));
-        }
-        match buf {
-            [first, ..] => {
-                *first = b'i';
+        match (self.next_call(), buf) {
+            (Some(Call::Gives(byte)), [first, ..]) => {
+                *first = byte;
                 Ok(1)
             }
-            [] => Ok(0),
+            (Some(Call::Fails(kind)), _) => Err(io::Error::new(kind, "told")),
+            _ => Ok(0),
         }
+    }
+}
+
+impl Write for Told<'_> {
+    fn write(&mut self, bytes: &[u8]) -> io::Result<usize> {
+        match self.next_call() {
+            Some(Call::Takes(n)) => Ok(n.min(bytes.len())),
+            Some(Call::Fails(kind)) => Err(io::Error::new(kind, "told")),
+            _ => Ok(0),
+        }
+    }
+
+    fn flush(&mut self) -> io::Result<()> {
+        Ok(())
     }
 }
 
@@ -71,9 +105,35 @@ fn sources(rt: HostRuntime) {
 
     let mut device = Device::new(b"abcde".as_slice());
     check_reads(&rt, &mut device, &[Ok("abcd"), Ok("e"), Ok("")], 0, true);
+}
 
-    let mut interrupted = Device::new(Interrupted(true));
-    check_reads(&rt, &mut interrupted, &[Err(Failed), Ok("i")], 1, false);
+// A device calls what it is over once a call, and goes on after a failure.
+#[test]
+fn readers_of_std(rt: HostRuntime) {
+    let calls = [
+        Call::Gives(b'a'),
+        Call::Fails(ErrorKind::Interrupted),
+        Call::Gives(b'b'),
+        Call::Fails(ErrorKind::Other),
+        Call::Fails(ErrorKind::UnexpectedEof),
+        Call::Gives(b'c'),
+    ];
+    let mut device = Device::new(Told { calls: &calls });
+    check_reads(
+        &rt,
+        &mut device,
+        &[
+            Ok("a"),
+            Err(Failed),
+            Ok("b"),
+            Err(Failed),
+            Err(Failed),
+            Ok("c"),
+        ],
+        3,
+        false,
+    );
+    check_reads(&rt, &mut device, &[Ok(""), Ok("")], 3, true);
 }
 
 // Writes the text again and again, and compares each answer, then the count of failures.
@@ -116,5 +176,48 @@ fn sinks(rt: HostRuntime) -> Result<(), Fail> {
         &[Ok(3), Ok(2), Err(Failed), Err(Failed)],
         2,
     );
+    check_writes(&rt, &mut device, "", &[Ok(0)], 2);
+    assert_eq!(rt; room, *b"abcab");
+    Ok(())
+}
+
+#[test]
+fn writers_of_std(rt: HostRuntime) {
+    let calls = [
+        Call::Takes(1),
+        Call::Fails(ErrorKind::Interrupted),
+        Call::Takes(2),
+        Call::Fails(ErrorKind::BrokenPipe),
+        Call::Takes(0),
+        Call::Takes(3),
+    ];
+    let mut device = Device::new(Told { calls: &calls });
+    check_writes(
+        &rt,
+        &mut device,
+        "abc",
+        &[
+            Ok(1),
+            Err(Failed),
+            Ok(2),
+            Err(Failed),
+            Err(Failed),
+            Ok(3),
+            Err(Failed),
+        ],
+        4,
+    );
+}
+
+// All is written over short writes, and a failure ends the writing where it comes.
+#[test]
+fn all_of_the_bytes(rt: HostRuntime) -> Result<(), Fail> {
+    let mut sink = MemorySink::new(rt.alloc(), 5)?.at_most(2);
+    assert_eq!(rt; write_all(&mut sink, b"abc"), Ok(()));
+    assert_eq!(rt; write_all(&mut sink, b""), Ok(()));
+    assert_eq!(rt; sink.failures(), 0);
+    assert_eq!(rt; write_all(&mut sink, b"def"), Err(Failed));
+    assert_eq!(rt; sink.failures(), 1);
+    assert_eq!(rt; sink.bytes(), b"abcde".as_slice());
     Ok(())
 }

@@ -85,6 +85,60 @@ fn pieces(rt: HostRuntime) {
     );
 }
 
+// Where bytes are ill-formed no read follows, so one that would fail changes no answer.
+#[test]
+fn no_read_after_a_fault(rt: HostRuntime) {
+    let ill = |at| Row(Err(FeedFault::NotUtf8 { at }), 1);
+    let spent = || Row(Err(FeedFault::Spent), 0);
+    check_pieces(
+        &rt,
+        &mut MemorySource::cut(b"ab\xFFc", &[1]).failing_at(3),
+        &[
+            Row(Ok(Some(b"a")), 1),
+            Row(Ok(Some(b"b")), 1),
+            ill(2),
+            spent(),
+        ],
+    );
+    check_pieces(
+        &rt,
+        &mut MemorySource::cut(b"ab\xFFc", &[3]).failing_at(1),
+        &[
+            Row(Ok(Some(b"ab")), 1),
+            Row(Err(FeedFault::NotUtf8 { at: 2 }), 0),
+            spent(),
+        ],
+    );
+    check_pieces(
+        &rt,
+        &mut MemorySource::cut(b"a\xE2\x41c", &[2, 1]).failing_at(2),
+        &[Row(Ok(Some(b"a")), 1), ill(1), spent()],
+    );
+}
+
+// `settle` answers whether a piece stands, and lends nothing.
+#[test]
+fn settled(rt: HostRuntime) {
+    let mut reader = MemorySource::cut(b"a\xE2\x82\xACb", &[2, 1, 2]);
+    let mut feed = Feed::new();
+    for want in ["a", "€b"] {
+        assert_eq!(rt; feed.settle(&mut reader), Ok(true));
+        assert_eq!(rt; feed.settle(&mut reader), Ok(true));
+        assert_eq!(rt; feed.ready(), want);
+        let n = feed.ready().len();
+        feed.advance(n);
+    }
+    assert_eq!(rt; reader.reads(), 3);
+    assert_eq!(rt; feed.settle(&mut reader), Ok(false));
+    assert_eq!(rt; feed.settle(&mut reader), Ok(false));
+    assert_eq!(rt; reader.reads(), 4);
+
+    let mut feed = Feed::new();
+    let mut ill = MemorySource::new(b"\xFF");
+    assert_eq!(rt; feed.settle(&mut ill), Err(FeedFault::NotUtf8 { at: 0 }));
+    assert_eq!(rt; feed.settle(&mut ill), Err(FeedFault::Spent));
+}
+
 // A scalar is used up by itself, and the rest of what is ready is lent again without a read.
 #[test]
 fn parts_of_a_piece(rt: HostRuntime) {

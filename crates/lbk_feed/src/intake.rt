@@ -1,4 +1,5 @@
 //! What was read and is not yet used up, and how far it is well-formed.
+#![tactic(auto, unfolding(crate::specs::Intake::view_of))]
 
 ghost use Rattle.std.specs.Prelude.{◌≡◌};
 ghost use Rattle.lbk_feed.specs.Block.{items};
@@ -68,9 +69,9 @@ impl Intake {
         requires { IsCharBoundary (view_of self.old).ready n }
         ensures held { (view_of self.new).held ≡ drop n (view_of self.old).held }
         ensures ready { (view_of self.new).ready ≡ drop n (view_of self.old).ready }
-        ensures given { self.new.given ≡ self.old.given + n }
-        ensures ended { self.new.is_ended ≡ self.old.is_ended }
-        ensures spent { self.new.is_spent ≡ self.old.is_spent }
+        ensures given { (view_of self.new).given ≡ (view_of self.old).given + n }
+        ensures ended { (view_of self.new).is_ended ≡ (view_of self.old).is_ended }
+        ensures spent { (view_of self.new).is_spent ≡ (view_of self.old).is_spent }
         ensures front { IsFront (view_of self.new) }
         ensures lends { LendsFront (view_of self.new) }
     {
@@ -188,12 +189,13 @@ impl Intake {
         ensures pays { Pays (view_of self.old) (view_of self.new) (R.read_count reader.old) (R.read_count reader.new) }
         ensures agrees { Agrees (view_of self.old) (R.has_ended reader.old) (R.unread reader.old)
             → Agrees (view_of self.new) (R.has_ended reader.new) (R.unread reader.new) }
-        ensures notices { self.new.is_ended ≡ false → R.has_ended reader.new ≡ R.has_ended reader.old }
-        ensures again { self.old.is_ended ≡ true → (view_of self.old).held ≡ [] → self.old.is_spent ≡ false
-            → IsOk result }
-        ensures spent { self.old.is_spent ≡ true → result ≡ Err FeedFault.Spent }
-        ensures spent_only { result ≡ Err FeedFault.Spent → self.old.is_spent ≡ true }
+        ensures notices { (view_of self.new).is_ended ≡ false → R.has_ended reader.new ≡ R.has_ended reader.old }
+        ensures again { (view_of self.old).is_ended ≡ true → (view_of self.old).held ≡ []
+            → (view_of self.old).is_spent ≡ false → IsOk result }
+        ensures spent { (view_of self.old).is_spent ≡ true → result ≡ Err FeedFault.Spent }
+        ensures spent_only { result ≡ Err FeedFault.Spent → (view_of self.old).is_spent ≡ true }
         ensures idle { IsIdle (view_of self.old) → reader.new ≡ reader.old }
+        ensures read { result ≡ Err FeedFault.Read → ¬ (IsIdle (view_of self.old)) }
         ensures failures { R.failure_count reader.new ≡ failures_with (R.failure_count reader.old) (fault_of result) }
         ensures reads { R.read_count reader.new ≤ R.read_count reader.old + 4 }
     {

@@ -15,8 +15,10 @@ pub mod laws;
 mod pieces;
 mod tally;
 mod traits;
+mod writes;
 
 pub use adapter::Device;
 pub use faults::{FeedFault, TEXT_MAX};
 pub use pieces::Feed;
 pub use traits::{Failed, Sink, Source};
+pub use writes::write_all;

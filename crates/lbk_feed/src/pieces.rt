@@ -4,10 +4,12 @@ ghost use Rattle.std.specs.Prelude.{◌≡◌, ◌+◌, ◌≤◌, ◌<◌, drop
 ghost use Rattle.std.specs.Borrow.{sem};
 ghost use Rattle.std.specs.Io.BufRead.{Rests};
 ghost use Rattle.std.specs.Str.{IsCharBoundary};
-ghost use Rattle.lbk_feed.specs.View.{new_view, IsFront, LendsFront, IsIdle, AfterPiece, fault_of, failures_with};
+ghost use Rattle.std.specs.Bool.{OnTrue, OnFalse};
+ghost use Rattle.lbk_feed.specs.Text.{longest_text};
+ghost use Rattle.lbk_feed.specs.View.{new_view, IsFront, LendsFront, IsIdle, Steps, Pays, Agrees, AfterPiece, fault_of, failures_with};
 ghost use Rattle.lbk_feed.specs.contracts.pieces.Feed.{the_row};
 
-use crate::faults::{FeedFault, TEXT_MAX};
+use crate::faults::FeedFault;
 use crate::intake::Intake;
 use crate::traits::Source;
 use std::marker::Model;
@@ -43,7 +45,7 @@ impl Feed {
     /// How many bytes were used up so far; never more than 1,073,741,824.
     pub fn given(&self) -> u64
         ensures given { result ≡ self.now.given }
-        ensures within { result ≤ TEXT_MAX }
+        ensures within { result ≤ longest_text }
     {
         self.intake.given()
     }
@@ -67,6 +69,35 @@ impl Feed {
         self.intake.use_up(n);
     }
 
+    /// Reads where a read is due, until a piece stands in `ready`, and answers whether one does; if not, the text
+    /// is at its end.
+    ///
+    /// It is `piece` with nothing lent: it makes the same reads, and meets the same faults.
+    pub fn settle<R: Source>(&mut self, reader: &mut R) -> Result<bool, FeedFault>
+        ensures steps { Steps self.old self.new (R.unread reader.old) (R.unread reader.new) (fault_of result) }
+        ensures pays { Pays self.old self.new (R.read_count reader.old) (R.read_count reader.new) }
+        ensures agrees { Agrees self.old (R.has_ended reader.old) (R.unread reader.old)
+            → Agrees self.new (R.has_ended reader.new) (R.unread reader.new) }
+        ensures notices { self.new.is_ended ≡ false → R.has_ended reader.new ≡ R.has_ended reader.old }
+
+        ensures stands { IfOk result (λ stands. OnTrue stands (0 < length self.new.ready)) }
+        ensures ends { IfOk result (λ stands. OnFalse stands ((self.new.held ≡ []) × (self.new.is_ended ≡ true))) }
+        ensures ready { 0 < length self.old.ready → result ≡ Ok true }
+        ensures again { self.old.is_ended ≡ true → self.old.held ≡ [] → self.old.is_spent ≡ false → result ≡ Ok false }
+        ensures spent { self.old.is_spent ≡ true → result ≡ Err FeedFault.Spent }
+        ensures spent_only { result ≡ Err FeedFault.Spent → self.old.is_spent ≡ true }
+
+        // Where a piece is ready, the end was met, or a fault was answered or is certain, no read is made.
+        ensures idle { IsIdle self.old → reader.new ≡ reader.old }
+        ensures read { result ≡ Err FeedFault.Read → ¬ (IsIdle self.old) }
+        ensures reads { R.read_count reader.new ≤ R.read_count reader.old + 4 }
+        // `Read` is the answer exactly where a read failed.
+        ensures failures { R.failure_count reader.new ≡ failures_with (R.failure_count reader.old) (fault_of result) }
+    {
+        self.intake.settle(reader)?;
+        Ok(!self.intake.ready().is_empty())
+    }
+
     /// The next piece, which is all that is ready and never empty, or `None` at the end of the text.
     pub fn piece<R: Source>(&mut self, reader: &mut R) -> Result<Option<&str>, FeedFault>
         ensures* after_borrow { sem 𝓛 (Rests the_row self.entry (λ new.
@@ -82,17 +113,16 @@ impl Feed {
         ensures spent { self.old.is_spent ≡ true → result ≡ Err FeedFault.Spent }
         ensures spent_only { result ≡ Err FeedFault.Spent → self.old.is_spent ≡ true }
 
-        // Where a piece is ready, the end was met or a fault was answered, no read is made.
+        // Where a piece is ready, the end was met, or a fault was answered or is certain, no read is made.
         ensures idle { IsIdle self.old → reader.new ≡ reader.old }
+        ensures read { result ≡ Err FeedFault.Read → ¬ (IsIdle self.old) }
         ensures reads { R.read_count reader.new ≤ R.read_count reader.old + 4 }
         // `Read` is the answer exactly where a read failed.
         ensures failures { R.failure_count reader.new ≡ failures_with (R.failure_count reader.old) (fault_of result) }
     {
-        self.intake.settle(reader)?;
-        let ready = self.intake.ready();
-        if ready.is_empty() {
+        if !self.settle(reader)? {
             return Ok(None);
         }
-        Ok(Some(ready))
+        Ok(Some(self.ready()))
     }
 }

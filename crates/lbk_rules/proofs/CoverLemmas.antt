@@ -26,7 +26,7 @@ pub record Covers (value : ℕ → Verdict) (list : List Verdict) (count n : ℕ
   pub each : (k : ℕ) → k < n → still ≢ Some k → slice_get list k ≡ Some (value k)
   pub counted : count + count_of still ≡ n
 
-some-same : (a b : ℕ) → Some a ≡ Some b → a ≡ b
+pub some-same : (a b : ℕ) → Some a ≡ Some b → a ≡ b
 some-same a b e = cc
 
 none-some : (k : ℕ) → None ≡ Some k → ⊥
@@ -141,7 +141,7 @@ unanswered-below profile (cell ∷ side) p =
           ]
     ]
 
-unanswered-snoc : (profile : Profile) (left : List Cell) (cell : Cell) (more : List Cell)
+pub unanswered-snoc : (profile : Profile) (left : List Cell) (cell : Cell) (more : List Cell)
     → unanswered profile (left ++ cell ∷ [])
     ≡ cond (is_held profile left (cell ∷ more)) (Some (length left)) (cond (heads (reverse left) cell) None (unanswered profile left))
 unfolding unanswered_before

@@ -141,7 +141,7 @@ from_cells-settled Second left right more settled =
 
 -- Held positions, in words and as the table tells them
 
-mark-not_QU : (class : Class) → mark class ≡ true → QU class ≡ false
+pub mark-not_QU : (class : Class) → mark class ≡ true → QU class ≡ false
 unfolding is
 mark-not_QU CombiningMark _ = refl
 mark-not_QU ZWJ _ = refl

@@ -5,9 +5,11 @@ pub mod MachineLemmas
 pub mod PagesLemmas
 pub mod PagesOfText
 pub mod ParagraphLemmas
-pub mod WordLemmas
+pub mod AnnexLemmas
 pub mod WritingLemmas
 pub mod HeldLemmas
 pub mod WaitingLemmas
 pub mod CoverLemmas
 pub mod UnansweredLemmas
+pub mod EndLemmas
+pub mod StepLemmas

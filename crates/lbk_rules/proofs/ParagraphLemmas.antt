@@ -12,6 +12,7 @@ use Rattle.lbk_rules.specs.declared.verdicts.Profile.{Profile}
 use Rattle.lbk_rules.specs.declared.verdicts.Profile.TheVariants.{First, Second}
 use Rattle.lbk_rules.specs.declared.verdicts.Verdict.{Verdict}
 use Rattle.lbk_rules.specs.Classes.{Set, ◌or◌, none_of, is, hard, mark, opens_after, BK, CR, LF, NL, SP, ZW, OP, QU, CL, CP, B2, HL, RI}
+use Rattle.lbk_rules.specs.Ends.{ends_line}
 use Rattle.lbk_rules.specs.Sides.{Side, at, before_spaces, past_spaces, at_odd_run, opens_quotation, opening, leaves_open}
 use Rattle.lbk_rules.specs.Units.{unit, units}
 use Rattle.lbk_rules.specs.Facts.{nearest, space, units_before}
@@ -20,10 +21,6 @@ use Rattle.lbk_rules.specs.Chain.{choose, from_11, from_14, from_15, from_16, fr
 use Rattle.lbk_rules.specs.Verdict.{verdict_between_in, verdict_in}
 use Rattle.lbk_rules.proofs.ChainLemmas.{verdict_between-chain, from_11-list}
 use Rattle.lbk_rules.proofs.FactsLemmas.{units_before-begins}
-
--- a line ends after these classes
-abbrev pub ends : Set
-ends = BK or CR or LF or NL
 
 -- what such a class is not, and is
 pub record IsEnd (class : Class) : Type 0 where
@@ -39,7 +36,7 @@ pub record IsEnd (class : Class) : Type 0 where
   pub indicator_no : RI class ≡ false
   pub opens_after_yes : opens_after class ≡ true
 
-IsEnd-ends : (class : Class) → ends class ≡ true → IsEnd class
+pub IsEnd-ends : (class : Class) → ends_line class ≡ true → IsEnd class
 unfolding is
 IsEnd-ends MandatoryBreak _ = record { hard_yes = refl; mark_no = refl; space_no = refl; zero_width_no = refl; opening_no = refl; quotation_no = refl; closing_no = refl; dash_no = refl; hebrew_no = refl; indicator_no = refl; opens_after_yes = refl }
 IsEnd-ends CarriageReturn _ = record { hard_yes = refl; mark_no = refl; space_no = refl; zero_width_no = refl; opening_no = refl; quotation_no = refl; closing_no = refl; dash_no = refl; hebrew_no = refl; indicator_no = refl; opens_after_yes = refl }
@@ -171,7 +168,7 @@ unfolding is
 hard-end [] end far here = here
 hard-end (_ ∷ _) end far here = refl
 
-or-true : (b : Bool) → (b || true) ≡ true
+pub or-true : (b : Bool) → (b || true) ≡ true
 or-true true = refl
 or-true false = refl
 
@@ -209,13 +206,13 @@ from_cells-end profile cell side end far right here =
 
 -- Where a line must end though text follows
 
-abbrev is_must : Kind → Bool
+abbrev pub is_must : Kind → Bool
 is_must No = false
 is_must May = false
 is_must Must = true
 
 -- no line that holds here answers Must
-abbrev never_must : List Line → Side → Side → Bool
+abbrev pub never_must : List Line → Side → Side → Bool
 never_must [] left right = true
 never_must (line ∷ lines) left right =
     (not (is_must line.answer.kind) || not (line.holds left right)) && never_must lines left right
@@ -234,7 +231,7 @@ held-never_must false holds h here = refl
 held-never_must true true h here = sym h
 held-never_must true false h here = sym here
 
-choose-never_must : (lines : List Line) (left right : Side) (otherwise : Verdict)
+pub choose-never_must : (lines : List Line) (left right : Side) (otherwise : Verdict)
     → never_must lines left right ≡ true → is_must otherwise.kind ≡ false
     → is_must (choose lines left right otherwise).kind ≡ false
 choose-never_must [] left right otherwise none here = here
@@ -252,7 +249,7 @@ unfolding unit_rules joining_rules opening_rules quotation_rules space_rules hyp
 units-never_must First left right = refl
 units-never_must Second left right = refl
 
-from_11-never_must : (profile : Profile) (left right : Side) → is_must (from_11 profile left right).kind ≡ false
+pub from_11-never_must : (profile : Profile) (left right : Side) → is_must (from_11 profile left right).kind ≡ false
 from_11-never_must profile left right =
     ap (λ v. is_must v.kind) (sym (from_11-list profile left right))
     ∙ choose-never_must (unit_rules profile) left right (record { kind = May; rule = Lb31 }) (units-never_must profile left right) refl
@@ -261,32 +258,32 @@ none-of-four : (a b c d : Bool) → (((a || b) || c) || d) ≡ false → (a ≡ 
 none-of-four true b c d h = (h, absurd (false≢true (sym h)))
 none-of-four false b c d h = (refl, h)
 
-cells-never_must : (end : Cell) (far : Side) (cell : Cell) (more : List Cell) → ends end.class ≡ false
+pub cells-never_must : (end : Cell) (far : Side) (cell : Cell) (more : List Cell) → ends_line end.class ≡ false
     → never_must cell_rules (end ∷ far) (cell ∷ more) ≡ true
 unfolding cell_rules
 cells-never_must end far cell more here =
     let none = none-of-four (BK end.class) (CR end.class) (LF end.class) (NL end.class) here in
     rw (none.0, none.1)
 
-true-unless : (b : Bool) → (b ≡ false → ⊥) → b ≡ true
+pub true-unless : (b : Bool) → (b ≡ false → ⊥) → b ≡ true
 true-unless true h = refl
 true-unless false h = absurd (h refl)
 
 -- a line must end before more text only after a class that ends it
-Must-ends : (profile : Profile) (side : Side) (cell : Cell) (more : List Cell)
+pub Must-ends : (profile : Profile) (side : Side) (cell : Cell) (more : List Cell)
     → (from_cells profile side (cell ∷ more)).kind ≡ Must
     → (end : Cell) × (far : Side) × (side ≡ end ∷ far) × IsEnd end.class
 unfolding from_cells cell_rules
 Must-ends profile [] cell more must = absurd (false≢true (ap is_must must))
 Must-ends profile (end ∷ far) cell more must =
-    let none = λ (here : ends end.class ≡ false).
+    let none = λ (here : ends_line end.class ≡ false).
     false≢true (sym (choose-never_must cell_rules (end ∷ far) (cell ∷ more)
     (from_11 profile (units_before (end ∷ far)) (units (cell ∷ more)))
     (cells-never_must end far cell more here) (from_11-never_must profile _ _)) ∙ ap is_must must) in
-    (end, far, refl, IsEnd-ends end.class (true-unless (ends end.class) none))
+    (end, far, refl, IsEnd-ends end.class (true-unless (ends_line end.class) none))
 
 -- a list that is not empty, read outwards
-reverse-begins : (cell : Cell) (cells : List Cell) → (last : Cell) × (side : Side) × (reverse (cell ∷ cells) ≡ last ∷ side)
+pub reverse-begins : (cell : Cell) (cells : List Cell) → (last : Cell) × (side : Side) × (reverse (cell ∷ cells) ≡ last ∷ side)
 reverse-begins cell cells =
     let e = reverse-append (cell ∷ []) cells in
     elim (reverse cells) as (λ v. reverse (cell ∷ cells) ≡ v ++ cell ∷ [] → (last : Cell) × (side : Side) × (reverse (cell ∷ cells) ≡ last ∷ side))

@@ -1,28 +1,13 @@
 -- The few facts of the left side that the rules ask for.
-use Rattle.std.specs.Prelude.{◌≡◌, Bool, false, ◌||◌, if◌then◌else◌, [], ◌∷◌}
-use Rattle.lbk_rules.specs.declared.classes.Class.TheVariants.{Space}
-use Rattle.lbk_rules.specs.declared.classes.Quote.TheVariants.{Neither}
+use Rattle.std.specs.Prelude.{◌≡◌, Bool, false, if◌then◌else◌, [], ◌∷◌}
 use Rattle.lbk_rules.specs.declared.verdicts.Profile.{Profile}
 use Rattle.lbk_rules.specs.declared.verdicts.Profile.TheVariants.{First, Second}
-use Rattle.lbk_rules.specs.declared.cells.Cell.{Cell}
 use Rattle.lbk_rules.specs.declared.facts.Left.{Left}
 use Rattle.lbk_rules.specs.declared.facts.Before.{Before}
-use Rattle.lbk_rules.specs.Classes.{hard, mark, none_of, ZW, HL}
+use Rattle.lbk_rules.specs.Classes.{ZW, HL}
 use Rattle.lbk_rules.specs.Sides.{Side, is_nothing, before_spaces, behind, past_spaces, at_odd_run, opens_quotation, leaves_closed}
 use Rattle.lbk_rules.specs.Units.{unit}
-
--- a space, which stands for what is nearest where nothing is left
-abbrev pub space : Cell
-space = record { class = Space; wide = false; pict_cn = false; quote = Neither; letter = false }
-
--- the nearest cell or unit
-abbrev pub nearest : Side → Cell
-nearest [] = space
-nearest (cell ∷ _) = cell
-
--- a cell after these heads a unit
-abbrev pub heads : Side → Cell → Bool
-heads side cell = hard (nearest side).class || none_of mark cell.class
+pub use Rattle.lbk_rules.specs.Units.{space, nearest, heads}
 
 -- the units of the cells on the left, read outwards
 abbrev pub units_before : Side → Side

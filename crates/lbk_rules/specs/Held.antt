@@ -8,7 +8,7 @@ use Rattle.lbk_rules.specs.declared.verdicts.Rule.{Rule}
 use Rattle.lbk_rules.specs.declared.verdicts.Rule.TheVariants.{Lb15b}
 use Rattle.lbk_rules.specs.declared.verdicts.Verdict.{Verdict}
 use Rattle.lbk_rules.specs.Sides.{Side, closing}
-use Rattle.lbk_rules.specs.Facts.{heads}
+use Rattle.lbk_rules.specs.Units.{heads}
 use Rattle.lbk_rules.specs.Rules.{Entry, rule_list}
 use Rattle.lbk_rules.specs.Verdict.{verdict_in, verdict_between_in}
 

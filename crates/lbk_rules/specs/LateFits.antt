@@ -1,5 +1,5 @@
 -- What a late machine knows of the cells that it has taken.
-use Rattle.std.specs.Prelude.{◌≡◌, ℕ, if◌then◌else◌, List, [], ◌∷◌, length, reverse, Option, Some, None}
+use Rattle.std.specs.Prelude.{◌≡◌, ℕ, if◌then◌else◌, List, [], ◌∷◌, length, reverse, Option, Some, None, option_map}
 use Rattle.lbk_rules.specs.declared.cells.Cell.{Cell}
 use Rattle.lbk_rules.specs.declared.late.Held.{Held}
 use Rattle.lbk_rules.specs.declared.late.LateMachine.{LateMachine}
@@ -16,6 +16,10 @@ waiting profile (cell ∷ side) =
     if is_15b (from_cells profile side (cell ∷ [])).rule
     then Some (record { position = length side; left = facts side; quotation = cell })
     else (if heads side cell then None else waiting profile side)
+
+-- the position that a machine holds open, if there is one
+unfoldable pub held_position : LateMachine → Option ℕ
+held_position machine = option_map (λ held. held.position) machine.held
 
 -- how many steps a machine has made
 unfoldable pub steps_of : LateMachine → ℕ

@@ -1,16 +1,20 @@
+-- What a reader has to believe.
+pub mod Classes
+pub mod Sides
+pub mod Units
+pub mod Rules
+pub mod Verdict
+pub mod Resolve
+pub mod Labels
+pub mod Held
+pub mod Annex
+pub mod Ends
+pub mod Once
+-- What only carries proofs.
 pub mod Answers
 pub mod CellPages
 pub mod Chain
-pub mod Classes
 pub mod Facts
 pub mod Fits
-pub mod Held
-pub mod Labels
 pub mod LateFits
 pub mod Pages
-pub mod Resolve
-pub mod Rules
-pub mod Sides
-pub mod Units
-pub mod Verdict
-pub mod Words

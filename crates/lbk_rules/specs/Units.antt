@@ -1,9 +1,10 @@
 -- Units, the runs of cells that rules LB9 and LB10 make into one (UAX #14, section 6.1).
 use Rattle.std.specs.Prelude.{Bool, true, false, ◌||◌, if◌then◌else◌, List, [], ◌∷◌, Option, Some, None}
-use Rattle.lbk_rules.specs.declared.classes.Class.TheVariants.{Alphabetic}
+use Rattle.lbk_rules.specs.declared.classes.Class.TheVariants.{Alphabetic, Space}
 use Rattle.lbk_rules.specs.declared.classes.Quote.TheVariants.{Neither}
 use Rattle.lbk_rules.specs.declared.cells.Cell.{Cell}
 use Rattle.lbk_rules.specs.Classes.{hard, mark, none_of}
+use Rattle.lbk_rules.specs.Sides.{Side}
 
 -- a letter with no property of its own
 abbrev pub letter : Cell
@@ -35,3 +36,16 @@ first (cell ∷ _) = Some cell
 abbrev pub next_unit : List Cell → Option Cell
 next_unit [] = None
 next_unit (cell ∷ cells) = first (units_after (hard cell.class) cells)
+
+-- a space, which stands for what is nearest where nothing is left
+abbrev pub space : Cell
+space = record { class = Space; wide = false; pict_cn = false; quote = Neither; letter = false }
+
+-- the nearest cell or unit
+abbrev pub nearest : Side → Cell
+nearest [] = space
+nearest (cell ∷ _) = cell
+
+-- a cell after these, read outwards, heads a unit
+abbrev pub heads : Side → Cell → Bool
+heads side cell = hard (nearest side).class || none_of mark cell.class

@@ -50,8 +50,8 @@ impl LateMachine {
     ghost use Rattle.lbk_rules.specs.declared.verdicts.Profile.{Profile};
     ghost use Rattle.lbk_rules.specs.declared.verdicts.Profile.TheVariants.{Second};
     ghost use Rattle.lbk_rules.specs.Classes.{hard};
-    ghost use Rattle.lbk_rules.specs.Facts.{closes_in, nearest};
-    ghost use Rattle.lbk_rules.specs.Units.{units_after};
+    ghost use Rattle.lbk_rules.specs.Facts.{closes_in};
+    ghost use Rattle.lbk_rules.specs.Units.{nearest, units_after};
 
     /// A machine of this profile that has taken no cell.
     #[tactic(auto, unfolding(crate::specs::LateFits::waiting, crate::specs::LateFits::steps_of))]

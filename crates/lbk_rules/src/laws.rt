@@ -1,12 +1,18 @@
 //! What the verdicts of a text have in common, over the definitions alone. Each law is the contract of a
 //! function that does nothing.
-ghost use Rattle.std.specs.Prelude.{◌≡◌, ℕ, ◌+◌, ◌-◌, ◌<◌, ◌≤◌, ◌⊎◌, List, ◌∷◌, ◌++◌, length, take, drop, IsSome, IsTrue, Some, None};
+ghost use Rattle.std.specs.Prelude.{◌≡◌, ℕ, ◌+◌, ◌-◌, ◌<◌, ◌≤◌, ◌⊎◌, false, not, List, [], ◌∷◌, ◌++◌, length, reverse, take, drop, IsSome, IsTrue, Some, None};
 ghost use Rattle.lbk_rules.specs.declared.cells.Cell.{Cell};
-ghost use Rattle.lbk_rules.specs.declared.verdicts.Kind.TheVariants.{Must};
+ghost use Rattle.lbk_rules.specs.declared.late.LateMachine.{LateMachine};
+ghost use Rattle.lbk_rules.specs.declared.verdicts.Kind.TheVariants.{No, Must};
 ghost use Rattle.lbk_rules.specs.declared.verdicts.Profile.{Profile};
 ghost use Rattle.lbk_rules.specs.declared.verdicts.Profile.TheVariants.{First, Second};
-ghost use Rattle.lbk_rules.specs.Held.{is_held, unanswered};
-ghost use Rattle.lbk_rules.specs.Units.{next_unit};
+ghost use Rattle.lbk_rules.specs.declared.verdicts.Rule.TheVariants.{Lb2};
+ghost use Rattle.lbk_rules.specs.Classes.{mark};
+ghost use Rattle.lbk_rules.specs.Ends.{ends_line, ends_between, end_after, end_of_text, joins, joined_after};
+ghost use Rattle.lbk_rules.specs.Held.{is_held, unanswered, answer_at, late_at, now_at};
+ghost use Rattle.lbk_rules.specs.LateFits.{LateFits, held_position};
+ghost use Rattle.lbk_rules.specs.Once.{named, came_late, came_now};
+ghost use Rattle.lbk_rules.specs.Units.{heads, next_unit};
 ghost use Rattle.lbk_rules.specs.Verdict.{verdict, verdict_in, verdict_between, verdict_between_in};
 
 /// The paragraph law: after a position before the end where a line must end, the text before it decides
@@ -65,4 +71,83 @@ pub fn unanswered_alone()
     ensures { (profile : Profile) (cells : List Cell) (p : ℕ) → p < length cells
         → IsTrue (is_held profile (take p cells) (drop p cells)) → next_unit (drop p cells) ≡ None
         → unanswered profile cells ≡ Some p }
+{}
+
+/// A line must end before more text exactly between a cell of BK, CR, LF or NL and the next cell, but for CR
+/// and LF, by rule 4 after BK and by rule 5 after the others. Such a position is never held (UAX #14, section
+/// 6.1, rules LB2, LB4 and LB5).
+pub fn must_end()
+    ensures there { (profile : Profile) (left : List Cell) (x y : Cell) (right : List Cell)
+        → IsTrue (ends_between x.class y.class)
+        → verdict_between_in profile (left ++ x ∷ []) (y ∷ right) ≡ end_after x.class }
+    ensures there_alone { (profile : Profile) (left : List Cell) (x y : Cell) (right : List Cell)
+        → (verdict_between_in profile (left ++ x ∷ []) (y ∷ right)).kind ≡ Must
+        → IsTrue (ends_between x.class y.class) }
+    ensures not_held { (profile : Profile) (left : List Cell) (x y : Cell) (right : List Cell)
+        → IsTrue (ends_between x.class y.class)
+        → is_held profile (left ++ x ∷ []) (y ∷ right) ≡ false }
+    ensures not_at_start { (profile : Profile) (right : List Cell)
+        → verdict_between_in profile [] right ≡ record { kind = No; rule = Lb2 } }
+{}
+
+/// A line must end after all cells of a text that is not empty (UAX #14, section 6.1, rule LB3).
+pub fn must_end_of_text()
+    ensures between { (profile : Profile) (left : List Cell) (x : Cell)
+        → verdict_between_in profile (left ++ x ∷ []) [] ≡ end_of_text }
+    ensures at { (profile : Profile) (cells : List Cell) → 0 < length cells
+        → verdict_in profile cells (length cells) ≡ end_of_text }
+{}
+
+/// Nothing behind a cell of BK, CR, LF or NL decides before that cell.
+pub fn before_line_end()
+    ensures between { (profile : Profile) (left middle : List Cell) (x : Cell) (a b : List Cell)
+        → IsTrue (ends_line x.class)
+        → verdict_between_in profile left (middle ++ x ∷ a) ≡ verdict_between_in profile left (middle ++ x ∷ b) }
+    ensures at { (profile : Profile) (cells : List Cell) (x : Cell) (a b : List Cell) (k : ℕ)
+        → IsTrue (ends_line x.class) → k ≤ length cells
+        → verdict_in profile (cells ++ x ∷ a) k ≡ verdict_in profile (cells ++ x ∷ b) k }
+{}
+
+/// A mark that joins the cell before it comes after no break, by rule 9, or by rule 8a after ZWJ, and its
+/// position is never held. Those marks are the cells that head no unit.
+pub fn joined_mark()
+    ensures between { (profile : Profile) (left : List Cell) (x y : Cell) (right : List Cell)
+        → IsTrue (joins x.class y.class)
+        → verdict_between_in profile (left ++ x ∷ []) (y ∷ right) ≡ joined_after x.class }
+    ensures not_held { (profile : Profile) (left : List Cell) (cell : Cell) (more : List Cell)
+        → IsTrue (mark cell.class) → is_held profile left (cell ∷ more) ≡ false }
+    ensures headless { (left : List Cell) (x y : Cell)
+        → heads (reverse (left ++ x ∷ [])) y ≡ not (joins x.class y.class) }
+    ensures no_break { (profile : Profile) (left : List Cell) (cell : Cell) (more : List Cell)
+        → heads (reverse left) cell ≡ false → (verdict_between_in profile left (cell ∷ more)).kind ≡ No }
+{}
+
+/// A position that is not held is decided by what stands before it and the cell after it. The cell after a
+/// held one heads a unit.
+pub fn held_or_settled()
+    ensures settled { (profile : Profile) (left : List Cell) (cell : Cell) (a b : List Cell)
+        → is_held profile left (cell ∷ a) ≡ false
+        → verdict_between_in profile left (cell ∷ a) ≡ verdict_between_in profile left (cell ∷ b) }
+    ensures headed { (profile : Profile) (left : List Cell) (cell : Cell) (more : List Cell)
+        → IsTrue (is_held profile left (cell ∷ more)) → IsTrue (heads (reverse left) cell) }
+{}
+
+/// A late machine that has taken some cells holds the position that is unanswered after them, and none else.
+pub fn machine_holds()
+    ensures { (machine : LateMachine) (profile : Profile) (cells : List Cell) → LateFits machine profile cells
+        → held_position machine ≡ unanswered profile cells }
+{}
+
+/// A step answers each position once: the positions that come late, that stay open and that come now are
+/// the one that was open and the step's own. The end answers the one that is open then.
+pub fn answered_once()
+    ensures step { (profile : Profile) (cells : List Cell) (cell : Cell) (more : List Cell)
+        → came_late (late_at profile cells cell more)
+        ++ named (unanswered profile (cells ++ cell ∷ []))
+        ++ came_now (length cells) (now_at profile cells (cell ∷ more))
+        ≡ named (unanswered profile cells) ++ length cells ∷ [] }
+    ensures end { (profile : Profile) (cells : List Cell)
+        → came_late (answer_at profile cells []) ≡ named (unanswered profile cells) }
+    ensures first { (cells right : List Cell) → (unanswered First cells ≡ None)
+        × (now_at First cells right ≡ Some (verdict_between_in First cells right)) }
 {}

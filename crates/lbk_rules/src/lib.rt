@@ -4,6 +4,7 @@
 //! whether the line may break, must break or must not, and the rule that says so.
 #![tactic(auto)]
 
+pub mod annex;
 mod cells;
 mod classes;
 mod evaluator;
@@ -15,7 +16,6 @@ mod pages;
 mod resolution;
 mod table;
 mod verdicts;
-pub mod words;
 
 pub use cells::{Cell, CellSource};
 pub use classes::{Class, Quote};

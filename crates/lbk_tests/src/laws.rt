@@ -1,6 +1,6 @@
 //! The laws over definitions can be called.
 
-use lbk_rules::words;
+use lbk_rules::annex;
 use lbk_ucd::LineBreak;
 
 #[test]
@@ -21,7 +21,16 @@ fn laws() {
     lbk_rules::laws::look_ahead_second_between();
     lbk_rules::laws::unanswered_position();
     lbk_rules::laws::unanswered_alone();
-    words::spaces();
-    words::indicators();
-    words::heads();
+    lbk_rules::laws::must_end();
+    lbk_rules::laws::must_end_of_text();
+    lbk_rules::laws::before_line_end();
+    lbk_rules::laws::joined_mark();
+    lbk_rules::laws::held_or_settled();
+    lbk_rules::laws::machine_holds();
+    lbk_rules::laws::answered_once();
+    annex::spaces();
+    annex::indicators();
+    annex::heads();
+    annex::opening_quotation();
+    annex::closing_quotation();
 }

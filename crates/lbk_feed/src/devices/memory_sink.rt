@@ -1,7 +1,8 @@
 //! Memory that is written to, up to a room.
+#![tactic(auto, unfolding(crate::specs::MemorySink::sink_bytes, crate::specs::MemorySink::sink_room, crate::specs::MemorySink::most_in_a_write, crate::specs::MemorySink::sink_tally))]
 
-ghost use Rattle.std.specs.Prelude.{◌≡◌, ◌<◌, ◌≤◌, ◌-◌, [], min, max, length, vec_capacity, Some, IfOk, OnErr};
-ghost use Rattle.lbk_feed.specs.Devices.{Puts};
+ghost use Rattle.std.specs.Prelude.{◌≡◌, ◌<◌, ◌≤◌, ◌-◌, ◌↔◌, [], min, max, length, vec_capacity, Some, IfOk, IsErr};
+ghost use Rattle.lbk_feed.specs.Devices.{failures_after, Puts};
 ghost use Rattle.lbk_feed.specs.Tally.{IsFresh};
 
 use crate::tally::Tally;
@@ -72,8 +73,10 @@ impl MemorySink {
         ensures some { 0 < length bytes.now → IfOk result (λ n. 0 < n) }
         ensures size { IfOk result (λ n.
             n ≡ min (min (length bytes.now) (most_in_a_write self.old)) (sink_room self.old - length (sink_bytes self.old))) }
-        ensures fails { OnErr result (sink_room self.old ≤ length (sink_bytes self.old)) }
+        ensures fails { IsErr result ↔ ((0 < length bytes.now) × (sink_room self.old ≤ length (sink_bytes self.old))) }
         ensures bytes { Puts (Some (sink_bytes self.old)) (Some (sink_bytes self.new)) result bytes.now }
+        ensures room { sink_room self.new ≡ sink_room self.old }
+        ensures most { most_in_a_write self.new ≡ most_in_a_write self.old }
         ensures tally { sink_tally self.new ≡ sink_tally self.old }
     {
         let room = self.room.saturating_sub(self.bytes.len());
@@ -89,14 +92,26 @@ impl MemorySink {
 }
 
 impl Sink for MemorySink {
-    ghost use Rattle.std.specs.Prelude.{Some};
-    ghost use Rattle.lbk_feed.specs.MemorySink.{sink_bytes, sink_tally};
+    ghost use Rattle.lbk_feed.specs.MemorySink.{sink_bytes, sink_room, most_in_a_write, sink_tally};
 
     ghost written = { λ s. Some (sink_bytes s) };
 
     ghost failure_count = { λ s. (sink_tally s).failures };
 
-    fn write(&mut self, bytes: &[u8]) -> Result<usize, Failed> {
+    /// Fails where there is a byte to write and no room left, and nowhere else; else takes as many bytes as there is
+    /// room for and one write may take.
+    fn write(&mut self, bytes: &[u8]) -> Result<usize, Failed>
+        ensures within { IfOk result (λ n. n ≤ length bytes.now) }
+        ensures some { 0 < length bytes.now → IfOk result (λ n. 0 < n) }
+        ensures bytes { Puts (Some (sink_bytes self.old)) (Some (sink_bytes self.new)) result bytes.now }
+        ensures failures { (sink_tally self.new).failures ≡ failures_after (sink_tally self.old).failures result }
+
+        ensures fails { IsErr result ↔ ((0 < length bytes.now) × (sink_room self.old ≤ length (sink_bytes self.old))) }
+        ensures size { IfOk result (λ n.
+            n ≡ min (min (length bytes.now) (most_in_a_write self.old)) (sink_room self.old - length (sink_bytes self.old))) }
+        ensures room { sink_room self.new ≡ sink_room self.old }
+        ensures most { most_in_a_write self.new ≡ most_in_a_write self.old }
+    {
         let outcome = self.take(bytes);
         self.tally.note_write(&outcome);
         outcome

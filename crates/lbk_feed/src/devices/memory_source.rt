@@ -1,9 +1,10 @@
 //! Bytes in memory, read in pieces, with a read that fails.
+#![tactic(auto, unfolding(crate::specs::MemorySource::source_bytes, crate::specs::MemorySource::source_sizes, crate::specs::MemorySource::failing_read, crate::specs::MemorySource::source_tally))]
 
-ghost use Rattle.std.specs.Prelude.{◌≡◌, ◌≤◌, ◌↔◌, [], min, length, Some, None, IsErr, IfOk};
-ghost use Rattle.lbk_feed.specs.Devices.{Takes};
+ghost use Rattle.std.specs.Prelude.{◌≡◌, ◌≤◌, ◌↔◌, [], min, length, Some, None, IsErr, IfOk, OnOk, OnErr};
+ghost use Rattle.lbk_feed.specs.Devices.{count_up, failures_after, ended_after, Takes};
 ghost use Rattle.lbk_feed.specs.Tally.{IsFresh};
-ghost use Rattle.lbk_feed.specs.MemorySource.{source_bytes, source_sizes, next_size_of, failing_read, source_tally};
+ghost use Rattle.lbk_feed.specs.MemorySource.{source_bytes, source_sizes, next_size_of, later_sizes, failing_read, source_tally};
 
 use crate::tally::Tally;
 use crate::traits::{Failed, Source};
@@ -61,6 +62,7 @@ impl<'a> MemorySource<'a> {
     /// The most bytes that the next read gives.
     fn next_size(&mut self) -> usize
         ensures size { result ≡ next_size_of (source_sizes self.old) }
+        ensures sizes { source_sizes self.new ≡ later_sizes (source_sizes self.old) }
         ensures bytes { source_bytes self.new ≡ source_bytes self.old }
         ensures failing { failing_read self.new ≡ failing_read self.old }
         ensures tally { source_tally self.new ≡ source_tally self.old }
@@ -80,6 +82,8 @@ impl<'a> MemorySource<'a> {
         ensures fails { IsErr result ↔ (failing_read self.old ≡ Some (source_tally self.old).reads) }
         ensures size { IfOk result (λ n. n ≡ min (min (next_size_of (source_sizes self.old)) (length buf.old)) (length (source_bytes self.old))) }
         ensures bytes { Takes (Some (source_bytes self.old)) (Some (source_bytes self.new)) result buf.new }
+        ensures sizes { OnOk result (source_sizes self.new ≡ later_sizes (source_sizes self.old)) }
+        ensures same_sizes { OnErr result (source_sizes self.new ≡ source_sizes self.old) }
         ensures failing { failing_read self.new ≡ failing_read self.old }
         ensures tally { source_tally self.new ≡ source_tally self.old }
     {
@@ -103,7 +107,21 @@ impl Source for MemorySource<'_> {
 
     ghost has_ended = { λ s. (source_tally s).ended };
 
-    fn read(&mut self, buf: &mut [u8]) -> Result<usize, Failed> {
+    /// Fails where it is the read that is to fail, and nowhere else; else gives as many bytes as the next size, the
+    /// room and the bytes left allow.
+    fn read(&mut self, buf: &mut [u8]) -> Result<usize, Failed>
+        ensures within { IfOk result (λ n. n ≤ length buf.old) }
+        ensures bytes { Takes (Some (source_bytes self.old)) (Some (source_bytes self.new)) result buf.new }
+        ensures reads { (source_tally self.new).reads ≡ count_up (source_tally self.old).reads }
+        ensures failures { (source_tally self.new).failures ≡ failures_after (source_tally self.old).failures result }
+        ensures ended { (source_tally self.new).ended ≡ ended_after (source_tally self.old).ended result (length buf.old) }
+
+        ensures fails { IsErr result ↔ (failing_read self.old ≡ Some (source_tally self.old).reads) }
+        ensures size { IfOk result (λ n. n ≡ min (min (next_size_of (source_sizes self.old)) (length buf.old)) (length (source_bytes self.old))) }
+        ensures sizes { OnOk result (source_sizes self.new ≡ later_sizes (source_sizes self.old)) }
+        ensures same_sizes { OnErr result (source_sizes self.new ≡ source_sizes self.old) }
+        ensures failing { failing_read self.new ≡ failing_read self.old }
+    {
         let outcome = self.give(buf);
         self.tally.note_read(&outcome, buf.len());
         outcome

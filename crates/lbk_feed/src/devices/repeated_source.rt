@@ -1,6 +1,8 @@
 //! One byte as often as it is wanted, for inputs that are too long to hold.
+#![tactic(auto, unfolding(crate::specs::RepeatedSource::repeated_bytes, crate::specs::RepeatedSource::repeated_tally))]
 
-ghost use Rattle.std.specs.Prelude.{◌≡◌, ◌<◌, ◌≤◌, [], ◌++◌, length, take, replicate, Some};
+ghost use Rattle.std.specs.Prelude.{◌≡◌, ◌<◌, ◌≤◌, [], ◌++◌, min, length, take, replicate, Some, IfOk, IsOk};
+ghost use Rattle.lbk_feed.specs.Devices.{count_up, failures_after, ended_after, Takes};
 ghost use Rattle.lbk_feed.specs.Tally.{IsFresh};
 ghost use Rattle.lbk_feed.specs.RepeatedSource.{repeated_bytes, repeated_tally};
 
@@ -30,6 +32,7 @@ impl RepeatedSource {
 
     fn give(&mut self, buf: &mut [u8]) -> usize
         ensures within { result ≤ length buf.old }
+        ensures size { result ≡ min (length (repeated_bytes self.old)) (length buf.old) }
         ensures bytes { repeated_bytes self.old ≡ take result buf.new ++ repeated_bytes self.new }
         ensures end { result ≡ 0 → 0 < length buf.old → repeated_bytes self.new ≡ [] }
         ensures tally { repeated_tally self.new ≡ repeated_tally self.old }
@@ -50,7 +53,17 @@ impl Source for RepeatedSource {
 
     ghost has_ended = { λ s. (repeated_tally s).ended };
 
-    fn read(&mut self, buf: &mut [u8]) -> Result<usize, Failed> {
+    /// Never fails, and gives as many bytes as the room and the bytes left allow.
+    fn read(&mut self, buf: &mut [u8]) -> Result<usize, Failed>
+        ensures within { IfOk result (λ n. n ≤ length buf.old) }
+        ensures bytes { Takes (Some (repeated_bytes self.old)) (Some (repeated_bytes self.new)) result buf.new }
+        ensures reads { (repeated_tally self.new).reads ≡ count_up (repeated_tally self.old).reads }
+        ensures failures { (repeated_tally self.new).failures ≡ failures_after (repeated_tally self.old).failures result }
+        ensures ended { (repeated_tally self.new).ended ≡ ended_after (repeated_tally self.old).ended result (length buf.old) }
+
+        ensures ok { IsOk result }
+        ensures size { IfOk result (λ n. n ≡ min (length (repeated_bytes self.old)) (length buf.old)) }
+    {
         let outcome = Ok(self.give(buf));
         self.tally.note_read(&outcome, buf.len());
         outcome

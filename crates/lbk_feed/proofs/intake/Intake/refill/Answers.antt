@@ -6,15 +6,18 @@ use Rattle.lbk_feed.proofs.Outcomes.{OnErr-always}
 use Rattle.lbk_feed.proofs.intake.Intake.refill.Goals as goal
 
 pub returns-in_err-read_more-clause-err : goal.returns-in_err-read_more-clause-err
+unfolding view_of
 returns-in_err-read_more-clause-err g c =
     OnErr-always c.from_residual.result
     (Draws-fails (view_of c.args.self.now) (view_of c.loop.self) (view_of c.read_more.new.self) _ _ _ _ _ _ c.loop.invariant.due.open_end c.loop.invariant.drawn c.in_err-read_more.ensures.err)
 
 pub returns-then-not-wants_more-clause-ok : goal.returns-then-not-wants_more-clause-ok
+unfolding view_of
 returns-then-not-wants_more-clause-ok g c =
     Draws-more (view_of c.args.self.now) (view_of c.loop.self) (view_of c.read_more.new.self) _ _ _ _ _ _ c.loop.invariant.due.open_end c.loop.invariant.drawn c.in_ok-read_more.ensures.ok
 
 pub loop-preserved : goal.loop-preserved
+unfolding view_of
 loop-preserved g c = record {
   due = c.wants_more.ensures.yes c.if-not-wants_more.false;
   unspent = c.in_ok-read_more.ensures.ok.spent ∙ c.loop.invariant.unspent;

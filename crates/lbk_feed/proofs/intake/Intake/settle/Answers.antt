@@ -2,7 +2,7 @@ use Rattle.std.proofs.Common.{◌≡◌, ◌⊎◌, ◌<◌, [], length, take, B
 use Rattle.std.proofs.lemmas.List.{length-take}
 use Rattle.lbk_feed.specs.declared.intake.Intake.{Intake}
 use Rattle.lbk_feed.specs.Block.{items}
-use Rattle.lbk_feed.specs.View.{View, IsFront, LendsFront, IsIdle, fault_of, Steps, Pays}
+use Rattle.lbk_feed.specs.View.{View, IsFront, LendsFront, CanGoOn, IsIdle, fault_of, Steps, Pays}
 use Rattle.lbk_feed.specs.Intake.{view_of, WantsMore}
 use Rattle.lbk_feed.proofs.Judged.{front, lends, judged-spent}
 use Rattle.lbk_feed.proofs.Drawing.{no_bytes}
@@ -12,27 +12,35 @@ use Rattle.lbk_feed.proofs.intake.Intake.settle.Goals as goal
 use Rattle.lbk_feed.proofs.intake.Intake.settle.Goals.{After-refill}
 
 front_of : (i : Intake) → IsFront (view_of i)
+unfolding view_of
 front_of i = front _ _ _ _ _ i.judged
 
 lends_of : (i : Intake) → LendsFront (view_of i)
+unfolding view_of
 lends_of i = lends _ _ _ _ _ i.judged i.is_ended
 
 not_idle : (i : Intake) → WantsMore i → i.is_spent ≡ false → ¬ (IsIdle (view_of i))
+unfolding view_of
 not_idle i due fresh idle = ⊎_elim
     (λ (some : 0 < length (take i.ready_len (items i.block))). absurd (omega (arith, due.none_ready, length-take i.ready_len (items i.block))))
-    (λ (other : (i.is_ended ≡ true) ⊎ (i.is_spent ≡ true)). ⊎_elim
+    (λ (other : (i.is_ended ≡ true) ⊎ ((i.is_spent ≡ true) ⊎ (¬ (CanGoOn i.given (items i.block))))). ⊎_elim
     (λ (ended : i.is_ended ≡ true). absurd (let both = sym ended ∙ due.open_end in cc))
+    (λ (later : (i.is_spent ≡ true) ⊎ (¬ (CanGoOn i.given (items i.block)))). ⊎_elim
     (λ (spent : i.is_spent ≡ true). absurd (let both = sym spent ∙ fresh in cc))
+    (λ (certain : ¬ (CanGoOn i.given (items i.block))). certain due.goes_on)
+    later)
     other)
     idle
 
 pub returns-then-self-clause-steps : goal.returns-then-self-clause-steps
+unfolding view_of
 returns-then-self-clause-steps g c =
     let i = c.args.self.now in
     let none : take i.ready_len (items i.block) ≡ [] = ap (λ n. take n (items i.block)) (i.judged.spent c.if-self.true) in
     Steps-spent (view_of i) _ c.if-self.true none (front_of i) (lends_of i)
 
 pub returns-then-not-wants_more-clause-steps : goal.returns-then-not-wants_more-clause-steps
+unfolding view_of
 returns-then-not-wants_more-clause-steps g c =
     let i = c.args.self.now in
     let e = c.finish.ensures in
@@ -41,11 +49,13 @@ returns-then-not-wants_more-clause-steps g c =
     (Steps-still (view_of i) _ (fault_of c.finish.result) c.if-self.false (front_of i) (lends_of i) (Finds-of (view_of i) c.finish.result e.text e.lies e.found))
 
 pub invariant_of-self : goal.invariant_of-self
+unfolding view_of
 invariant_of-self g c =
     let failed = OnErr-at c.refill.result (sym c.is_err.ensures.value ∙ c.if-is_err.true) c.refill.ensures.err in
     record { judged = judged-spent _ _ _ _ _ c.refill.new.self.judged failed.none_ready }
 
 pub returns-then-is_err-clause-steps : goal.returns-then-is_err-clause-steps
+unfolding view_of
 returns-then-is_err-clause-steps g c =
     let i = c.args.self.now in
     let m = c.refill.new.self in
@@ -54,11 +64,13 @@ returns-then-is_err-clause-steps g c =
     Steps-failed (view_of i) (view_of m) _ _ _ _ failed c.if-self.false (not_idle i due c.if-self.false) (no_bytes _ failed.none_ready) (front_of m) (lends_of m)
 
 pub returns-then-is_err-clause-pays : goal.returns-then-is_err-clause-pays
+unfolding view_of
 returns-then-is_err-clause-pays g c =
     let failed = OnErr-at c.refill.result (sym c.is_err.ensures.value ∙ c.if-is_err.true) c.refill.ensures.err in
     Pays-failed (view_of c.args.self.now) (view_of c.refill.new.self) (g.R.Source.unread c.args.reader.now) (g.R.Source.unread c.refill.new.reader) _ _ failed
 
 pub returns-clause-steps : goal.returns-clause-steps
+unfolding view_of
 returns-clause-steps g c =
     let i = c.args.self.now in
     let m = c.refill.new.self in
@@ -71,6 +83,7 @@ returns-clause-steps g c =
     (Steps-drawn (view_of i) (view_of m) _ _ _ _ (fault_of r) drawn c.if-self.false (not_idle i due c.if-self.false) (front_of m) (lends_of m) (Finds-of (view_of m) r e.text e.lies e.found))
 
 pub returns-clause-pays : goal.returns-clause-pays
+unfolding view_of
 returns-clause-pays g c =
     let m = c.refill.new.self in
     let drawn = OnOk-at c.refill.result (sym c.is_err.ensures.value ∙ c.if-is_err.false) c.refill.ensures.ok in

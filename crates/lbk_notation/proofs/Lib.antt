@@ -1,0 +1,13 @@
+pub mod Sorts
+pub mod Digits
+pub mod Runs
+pub mod Completes
+pub mod Sound
+pub mod Places
+pub mod Answered
+pub mod Tokens
+pub mod Writes
+pub mod OutcomeLemmas
+pub mod ProgressLemmas
+pub mod RunLemmas
+pub mod StreamLemmas

@@ -1,0 +1,143 @@
+-- What one byte more does to the lines of a file.
+use Rattle.std.proofs.Common.{◌≡◌, ◌≢◌, ℕ, ◌+◌, ◌<◌, Bool, true, false, cond, eqb, ◌&&◌, List, [], ◌∷◌, ◌++◌, length, refl, sym, ap, ◌∙◌, inl, inr, arith}
+use Rattle.std.proofs.lemmas.Bool.{cases_Bool, eqb-true, false_from_ne_true, false≢true}
+use Rattle.lbk_notation.specs.Stream.{Cut, byte_order_mark, cut_of, cut_on, nothing_cut, then_byte}
+
+pub cut_on-append : (cut : Cut) (xs ys : List ℕ) → cut_on cut (xs ++ ys) ≡ cut_on (cut_on cut xs) ys
+cut_on-append cut [] ys = refl
+cut_on-append cut (x ∷ xs) ys = cut_on-append (then_byte cut x) xs ys
+
+-- the byte order mark and nothing else
+abbrev pub is_mark : List ℕ → Bool
+is_mark [] = false
+is_mark (a ∷ []) = false
+is_mark (a ∷ b ∷ []) = false
+is_mark (a ∷ b ∷ c ∷ []) = eqb a 0xEF && eqb b 0xBB && eqb c 0xBF
+is_mark (a ∷ b ∷ c ∷ d ∷ _) = false
+
+not_mark : (a b c d : ℕ) (rest : List ℕ) → is_mark (a ∷ b ∷ c ∷ (rest ++ d ∷ [])) ≡ false
+not_mark a b c d [] = refl
+not_mark a b c d (x ∷ rest) = refl
+
+-- a byte completes the byte order mark, or comes after all others
+pub cut_of-snoc : (used : List ℕ) (byte : ℕ)
+    → cut_of (used ++ byte ∷ []) ≡ cond (is_mark (used ++ byte ∷ [])) nothing_cut (then_byte (cut_of used) byte)
+unfolding cut_of
+cut_of-snoc [] byte = refl
+cut_of-snoc (a ∷ []) byte = refl
+cut_of-snoc (a ∷ b ∷ []) byte =
+    elim (eqb a 0xEF && eqb b 0xBB && eqb byte 0xBF)
+    as (λ v. cut_on nothing_cut (cond v [] (a ∷ b ∷ byte ∷ [])) ≡ cond v nothing_cut (cut_on nothing_cut (a ∷ b ∷ byte ∷ [])))
+    [ true ↦ refl | false ↦ refl ]
+cut_of-snoc (a ∷ b ∷ c ∷ rest) byte =
+    (elim (eqb a 0xEF && eqb b 0xBB && eqb c 0xBF)
+    as (λ v. cut_on nothing_cut (cond v (rest ++ byte ∷ []) (a ∷ b ∷ c ∷ (rest ++ byte ∷ [])))
+    ≡ then_byte (cut_on nothing_cut (cond v rest (a ∷ b ∷ c ∷ rest))) byte) [
+      | true ↦ cut_on-append nothing_cut rest (byte ∷ [])
+      | false ↦ cut_on-append nothing_cut (a ∷ b ∷ c ∷ rest) (byte ∷ [])
+    ])
+    ∙ ap (λ v. cond v nothing_cut (then_byte (cut_of (a ∷ b ∷ c ∷ rest)) byte)) (sym (not_mark a b c byte rest))
+
+both : (a b : Bool) → (a && b) ≡ true → (a ≡ true) × (b ≡ true)
+both true b h = (refl, h)
+both false b h = absurd (false≢true h)
+
+mark_alone : (bytes : List ℕ) → is_mark bytes ≡ true → bytes ≡ byte_order_mark
+mark_alone [] h = absurd (false≢true h)
+mark_alone (a ∷ []) h = absurd (false≢true h)
+mark_alone (a ∷ b ∷ []) h = absurd (false≢true h)
+mark_alone (a ∷ b ∷ c ∷ []) h =
+    let ab = both (eqb a 0xEF && eqb b 0xBB) (eqb c 0xBF) h in
+    let first = both (eqb a 0xEF) (eqb b 0xBB) ab.0 in
+    let e1 : a ≡ 0xEF = eqb-true a 0xEF first.0 in
+    let e2 : b ≡ 0xBB = eqb-true b 0xBB first.1 in
+    let e3 : c ≡ 0xBF = eqb-true c 0xBF ab.1 in
+    cc
+mark_alone (a ∷ b ∷ c ∷ d ∷ rest) h = absurd (false≢true h)
+
+snoc-apart : (used : List ℕ) (byte : ℕ) → used ++ byte ∷ [] ≡ byte_order_mark → (used ≡ 0xEF ∷ 0xBB ∷ []) × (byte ≡ 0xBF)
+snoc-apart [] byte e = absurd (let no : ⊥ = cc in no)
+snoc-apart (a ∷ []) byte e = absurd (let no : ⊥ = cc in no)
+snoc-apart (a ∷ b ∷ []) byte e = (let same : a ∷ b ∷ [] ≡ 0xEF ∷ 0xBB ∷ [] = cc in same, let same : byte ≡ 0xBF = cc in same)
+snoc-apart (a ∷ b ∷ c ∷ []) byte e = absurd (let no : ⊥ = cc in no)
+snoc-apart (a ∷ b ∷ c ∷ d ∷ rest) byte e = absurd (let no : ⊥ = cc in no)
+
+-- before the byte that completes the mark stand its two others
+pub mark_completed : (used : List ℕ) (byte : ℕ) → is_mark (used ++ byte ∷ []) ≡ true
+    → (length used ≡ 2) × (cut_of used ≡ record { lines = []; rest = 0xEF ∷ 0xBB ∷ [] }) × (byte ≡ 0xBF)
+unfolding cut_of
+mark_completed used byte h =
+    let apart = snoc-apart used byte (mark_alone (used ++ byte ∷ []) h) in
+    (ap length apart.0, ap cut_of apart.0, apart.1)
+
+-- what one byte more does to the bytes behind the last LF
+then_byte-rest : (cut : Cut) (byte : ℕ) → (then_byte cut byte).rest ≡ cond (eqb byte 10) [] (cut.rest ++ byte ∷ [])
+then_byte-rest cut byte =
+    elim (eqb byte 10)
+    as (λ v. (cond {A = Cut} v (record { lines = cut.lines ++ cut.rest ∷ []; rest = [] }) (record { lines = cut.lines; rest = cut.rest ++ byte ∷ [] })).rest
+    ≡ cond v [] (cut.rest ++ byte ∷ []))
+    [ true ↦ refl | false ↦ refl ]
+
+three_bytes : (ends_first ends_second : Bool) (a b byte : ℕ)
+    → cond ends_second [] (cond ends_first [] (a ∷ []) ++ b ∷ []) ++ byte ∷ [] ≡ byte_order_mark → a ∷ b ∷ byte ∷ [] ≡ byte_order_mark
+three_bytes first true a b byte e = absurd (let no : ⊥ = cc in no)
+three_bytes true false a b byte e = absurd (let no : ⊥ = cc in no)
+three_bytes false false a b byte e = e
+
+-- three bytes that leave the mark behind the last LF are the mark
+pub mark_held : (used : List ℕ) (byte : ℕ) → length used + 1 ≡ 3 → (cut_of used).rest ++ byte ∷ [] ≡ byte_order_mark → used ++ byte ∷ [] ≡ byte_order_mark
+unfolding cut_of
+mark_held [] byte count e = absurd (omega arith)
+mark_held (a ∷ []) byte count e = absurd (omega arith)
+mark_held (a ∷ b ∷ c ∷ rest) byte count e = absurd (omega arith)
+mark_held (a ∷ b ∷ []) byte count e =
+    let inner : (then_byte nothing_cut a).rest ≡ cond (eqb a 10) [] (a ∷ []) = then_byte-rest nothing_cut a in
+    let outer : (cut_on nothing_cut (a ∷ b ∷ [])).rest ≡ cond (eqb b 10) [] ((then_byte nothing_cut a).rest ++ b ∷ []) =
+    then_byte-rest (then_byte nothing_cut a) b in
+    three_bytes (eqb a 10) (eqb b 10) a b byte
+    (ap (λ l. cond (eqb b 10) [] (l ++ b ∷ []) ++ byte ∷ []) (sym inner) ∙ ap (λ l. l ++ byte ∷ []) (sym outer) ∙ e)
+
+pub is_mark-mark : (bytes : List ℕ) → bytes ≡ byte_order_mark → is_mark bytes ≡ true
+is_mark-mark bytes e = ap is_mark e
+
+-- a byte that is no LF, after those used
+pub cut-add : (used : List ℕ) (byte : ℕ) → byte ≢ 10
+    → cut_of (used ++ byte ∷ [])
+    ≡ cond (is_mark (used ++ byte ∷ [])) nothing_cut (record { lines = (cut_of used).lines; rest = (cut_of used).rest ++ byte ∷ [] })
+cut-add used byte other =
+    cut_of-snoc used byte
+    ∙ ap (λ v. cond (is_mark (used ++ byte ∷ [])) nothing_cut
+    (cond v (record { lines = (cut_of used).lines ++ (cut_of used).rest ∷ []; rest = [] }) (record { lines = (cut_of used).lines; rest = (cut_of used).rest ++ byte ∷ [] })))
+    (false_from_ne_true (eqb byte 10) (λ same. other (eqb-true byte 10 same)))
+
+not_mark_at_end : (used : List ℕ) → is_mark (used ++ 10 ∷ []) ≡ false
+not_mark_at_end used = false_from_ne_true (is_mark (used ++ 10 ∷ []))
+    (λ h. let e : 10 ≡ 0xBF = (mark_completed used 10 h).2 in absurd (omega arith))
+
+-- an LF, after those used
+pub cut-end : (used : List ℕ) → cut_of (used ++ 10 ∷ []) ≡ record { lines = (cut_of used).lines ++ (cut_of used).rest ∷ []; rest = [] }
+cut-end used =
+    cut_of-snoc used 10 ∙ ap (λ v. cond v nothing_cut (then_byte (cut_of used) 10)) (not_mark_at_end used)
+
+-- it ends no line
+pub lines-add : (used : List ℕ) (byte : ℕ) → byte ≢ 10 → (cut_of (used ++ byte ∷ [])).lines ≡ (cut_of used).lines
+lines-add used byte other =
+    ap (λ cut. cut.lines) (cut-add used byte other)
+    ∙ (elim (cases_Bool (is_mark (used ++ byte ∷ []))) [
+      | inl marked ↦
+          ap (λ v. (cond {A = Cut} v nothing_cut (record { lines = (cut_of used).lines; rest = (cut_of used).rest ++ byte ∷ [] })).lines) marked
+          ∙ sym (ap (λ cut. cut.lines) (mark_completed used byte marked).1)
+      | inr unmarked ↦ ap (λ v. (cond {A = Cut} v nothing_cut (record { lines = (cut_of used).lines; rest = (cut_of used).rest ++ byte ∷ [] })).lines) unmarked
+    ])
+
+-- the bytes behind the last LF, with one that is none
+pub rest-add : (used : List ℕ) (byte : ℕ) → byte ≢ 10 → is_mark (used ++ byte ∷ []) ≡ false
+    → (cut_of (used ++ byte ∷ [])).rest ≡ (cut_of used).rest ++ byte ∷ []
+rest-add used byte other unmarked =
+    ap (λ cut. cut.rest) (cut-add used byte other)
+    ∙ ap (λ v. (cond {A = Cut} v nothing_cut (record { lines = (cut_of used).lines; rest = (cut_of used).rest ++ byte ∷ [] })).rest) unmarked
+
+pub rest-mark : (used : List ℕ) (byte : ℕ) → byte ≢ 10 → is_mark (used ++ byte ∷ []) ≡ true → (cut_of (used ++ byte ∷ [])).rest ≡ []
+rest-mark used byte other marked =
+    ap (λ cut. cut.rest) (cut-add used byte other)
+    ∙ ap (λ v. (cond {A = Cut} v nothing_cut (record { lines = (cut_of used).lines; rest = (cut_of used).rest ++ byte ∷ [] })).rest) marked

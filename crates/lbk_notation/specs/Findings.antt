@@ -1,0 +1,28 @@
+-- What the lines of a test file come to.
+use Rattle.std.specs.Prelude.{ℕ, ◌≤◌, List, [], ◌∷◌, length, None, Some, ⊤}
+use Rattle.lbk_rules.specs.declared.cells.Cell.{Cell}
+use Rattle.lbk_rules.specs.declared.verdicts.Profile.{Profile}
+use Rattle.lbk_notation.specs.declared.fault.LineFault.TheVariants as Faults
+use Rattle.lbk_notation.specs.declared.findings.Finding.{Finding}
+use Rattle.lbk_notation.specs.declared.findings.Finding.TheVariants.{NoLine, Replayed, Bad, Long}
+use Rattle.lbk_notation.specs.declared.marks.Form.{Form}
+use Rattle.lbk_notation.specs.Fault.{longest, IsFault}
+use Rattle.lbk_notation.specs.Grammar.{IsLine}
+use Rattle.lbk_notation.specs.Line.{Line}
+use Rattle.lbk_notation.specs.Outcome.{IsOutcome}
+
+-- a line comes to this: a blank or comment, or marks and scalars that compare so with the rules; or it is refused
+abbrev pub IsFinding : (ℕ → Cell) → Form → Profile → List ℕ → Finding → Type 0
+IsFinding cell form profile bytes NoLine = (length bytes ≤ longest) × IsLine form bytes None
+IsFinding cell form profile bytes (Replayed outcome) =
+    (length bytes ≤ longest) × ((line : Line) × IsLine form bytes (Some line) × IsOutcome cell form profile line outcome)
+IsFinding cell form profile bytes (Bad at) = IsFault form bytes (Faults.Bad at)
+IsFinding cell form profile bytes Long = IsFault form bytes Faults.LineTooLong
+
+-- line by line
+abbrev pub AreFindings : (ℕ → Cell) → Form → Profile → List (List ℕ) → List Finding → Type 0
+AreFindings cell form profile [] [] = ⊤
+AreFindings cell form profile [] (finding ∷ findings) = ⊥
+AreFindings cell form profile (line ∷ lines) [] = ⊥
+AreFindings cell form profile (line ∷ lines) (finding ∷ findings) =
+    IsFinding cell form profile line finding × AreFindings cell form profile lines findings

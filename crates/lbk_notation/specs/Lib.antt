@@ -1,0 +1,17 @@
+-- What a reader has to believe.
+pub mod Line
+pub mod Grammar
+pub mod Place
+pub mod Written
+pub mod Fault
+pub mod Marks
+pub mod Outcome
+pub mod Stream
+pub mod Findings
+pub mod ReplayText
+pub mod Replay
+-- What only carries proofs.
+pub mod Run
+pub mod Met
+pub mod Counted
+pub mod Progress

@@ -1,0 +1,77 @@
+-- How far a replay has come, and what its steps do.
+use Rattle.std.specs.Prelude.{◌≡◌, ◌≢◌, ℕ, ◌+◌, ◌<◌, ◌≤◌, Bool, true, false, List, [], ◌∷◌, ◌++◌, length, Option, Result, Ok, Err, MatchResult}
+use Rattle.std.specs.Io.KnownBytes.{Appends}
+use Rattle.lbk_rules.specs.declared.cells.Cell.{Cell}
+use Rattle.lbk_rules.specs.declared.verdicts.Profile.{Profile}
+use Rattle.lbk_notation.specs.declared.findings.Finding.{Finding}
+use Rattle.lbk_notation.specs.declared.findings.Report.{Report}
+use Rattle.lbk_notation.specs.declared.findings.ReplayFault.{ReplayFault}
+use Rattle.lbk_notation.specs.declared.findings.ReplayFault.TheVariants.{Read}
+use Rattle.lbk_notation.specs.declared.progress.Progress.{Progress}
+use Rattle.lbk_notation.specs.declared.marks.Form.{Form}
+use Rattle.lbk_notation.specs.Fault.{longest}
+use Rattle.lbk_notation.specs.Counted.{counted}
+use Rattle.lbk_notation.specs.Findings.{IsFinding, AreFindings}
+use Rattle.lbk_notation.specs.Replay.{IsReplay, IsReplayText, IsStoppedReplay}
+use Rattle.lbk_notation.specs.ReplayText.{finding_text, text_from, report_of}
+use Rattle.lbk_notation.specs.Stream.{cut_of, ended_lines, lines_of}
+
+-- what is held of the bytes behind the last LF: all of them, or that they are more than a line may have
+abbrev pub Holds : List ℕ → List ℕ → Bool → Type 0
+Holds rest line false = (line ≡ rest) × (length rest ≤ longest)
+Holds rest line true = longest < length rest
+
+-- the bytes used so far, and what was written of the lines that they end
+pub record Stands (cell : ℕ → Cell) (form : Form) (profile : Profile) (progress : Progress) (used out : List ℕ) : Type 0 where
+  pub taken : progress.taken ≡ length used
+  pub held : Holds (cut_of used).rest progress.line.items progress.is_long
+  pub findings : List Finding
+  pub are : AreFindings cell form profile (ended_lines used) findings
+  pub number : progress.number ≡ length findings
+  pub counts : progress.report ≡ report_of findings
+  pub text : out ≡ text_from form 1 findings
+
+-- all lines of the file are told, but for the counts
+pub record StandsAtEnd (cell : ℕ → Cell) (form : Form) (profile : Profile) (progress : Progress) (used out : List ℕ) : Type 0 where
+  pub findings : List Finding
+  pub are : AreFindings cell form profile (lines_of used) findings
+  pub counts : progress.report ≡ report_of findings
+  pub text : out ≡ text_from form 1 findings
+
+-- a line was ended, and came to a finding
+pub record Settles (cell : ℕ → Cell) (form : Form) (profile : Profile) (old new : Progress) : Type 0 where
+  pub finding : Finding
+  pub found : (rest : List ℕ) → Holds rest old.line.items old.is_long → IsFinding cell form profile rest finding
+  pub line : new.line.items ≡ []
+  pub is_short : new.is_long ≡ false
+  pub taken : new.taken ≡ old.taken
+  pub number : new.number ≡ old.number + 1
+  pub counts : new.report ≡ counted old.report finding
+  pub text : new.text.items ≡ finding_text form (old.number + 1) finding
+
+-- what a call that uses some bytes writes
+pub record Uses (cell : ℕ → Cell) (form : Form) (profile : Profile) (old new : Progress) (bytes : List ℕ)
+    (written written' : Option (List ℕ)) (result : Result Unit ReplayFault) : Type 0 where
+  pub text : List ℕ
+  pub put : Appends written written' text
+  pub so : (used out : List ℕ) → Stands cell form profile old used out
+      → MatchResult result (λ _. Stands cell form profile new (used ++ bytes) (out ++ text))
+      (λ _. IsStoppedReplay cell form profile ⊥ (used ++ bytes) (out ++ text))
+
+-- what the call that ends the file writes
+pub record Ends (cell : ℕ → Cell) (form : Form) (profile : Profile) (old : Progress) (written written' : Option (List ℕ))
+    (result : Result Report ReplayFault) : Type 0 where
+  pub text : List ℕ
+  pub put : Appends written written' text
+  pub so : (used out : List ℕ) → Stands cell form profile old used out
+      → MatchResult result (λ report. IsReplayText cell form profile used report (out ++ text))
+      (λ _. IsStoppedReplay cell form profile (Unit {0}) used (out ++ text))
+
+abbrev pub is_read_fault_of : Result Progress ReplayFault → Bool
+is_read_fault_of (Err Read) = true
+is_read_fault_of _ = false
+
+-- what was read to the end of the stream, or to a fault, and written of it
+abbrev pub HasRead : (ℕ → Cell) → Form → Profile → Result Progress ReplayFault → List ℕ → List ℕ → Type 0
+HasRead cell form profile (Ok progress) read out = Stands cell form profile progress read out
+HasRead cell form profile (Err fault) read out = IsReplay cell form profile ⊥ (Err fault) read out

@@ -1,0 +1,57 @@
+-- What a replay writes and answers, by what it read.
+use Rattle.std.specs.Prelude.{◌≡◌, ℕ, ◌<◌, ◌≤◌, Bool, true, false, List, ◌++◌, length, take, Option, Result, Ok, Err}
+use Rattle.std.specs.Io.KnownBytes.{Appends}
+use Rattle.lbk_rules.specs.declared.cells.Cell.{Cell}
+use Rattle.lbk_rules.specs.declared.verdicts.Profile.{Profile}
+use Rattle.lbk_notation.specs.declared.findings.Finding.{Finding}
+use Rattle.lbk_notation.specs.declared.findings.Report.{Report}
+use Rattle.lbk_notation.specs.declared.findings.ReplayFault.{ReplayFault}
+use Rattle.lbk_notation.specs.declared.findings.ReplayFault.TheVariants.{Read, Write, Memory, StreamTooLong}
+use Rattle.lbk_notation.specs.declared.findings.TheConstants.{STREAM_MAX}
+use Rattle.lbk_notation.specs.declared.marks.Form.{Form}
+use Rattle.lbk_notation.specs.Findings.{AreFindings}
+use Rattle.lbk_notation.specs.ReplayText.{text_from, report_of, total_text}
+use Rattle.lbk_feed.specs.Runs.{IsStopped}
+use Rattle.lbk_notation.specs.Stream.{ended_lines, lines_of}
+
+-- what is written of the lines that an LF ends
+pub record IsEndedText (cell : ℕ → Cell) (form : Form) (profile : Profile) (bytes out : List ℕ) : Type 0 where
+  pub findings : List Finding
+  pub are : AreFindings cell form profile (ended_lines bytes) findings
+  pub text : out ≡ text_from form 1 findings
+
+-- what is written of a file that is all of the bytes, and the report of it
+pub record IsReplayText (cell : ℕ → Cell) (form : Form) (profile : Profile) (bytes : List ℕ) (report : Report) (out : List ℕ) : Type 0 where
+  pub findings : List Finding
+  pub are : AreFindings cell form profile (lines_of bytes) findings
+  pub counts : report ≡ report_of findings
+  pub text : out ≡ text_from form 1 findings ++ total_text report
+
+-- the file fits, and its replay text was written
+pub record IsReplayed (cell : ℕ → Cell) (form : Form) (profile : Profile) (input : List ℕ) (report : Report) (written written' : Option (List ℕ)) : Type 0 where
+  pub fits : length input ≤ STREAM_MAX
+  pub out : List ℕ
+  pub text : IsReplayText cell form profile input report out
+  pub put : Appends written written' out
+
+abbrev pub is_read_fault : Result Report ReplayFault → Bool
+is_read_fault (Err Read) = true
+is_read_fault _ = false
+
+-- stopped at some place: what went out is a front of what the lines ended before that place write, or, once the end
+-- was met, of the replay text
+abbrev pub IsStoppedReplay : (ℕ → Cell) → Form → Profile → Type 0 → List ℕ → List ℕ → Type 0
+IsStoppedReplay cell form profile ended read out =
+    IsStopped (IsEndedText cell form profile) (λ bytes all. (report : Report) × IsReplayText cell form profile bytes report all)
+    ended read out
+
+-- what was written, by what was read and by the answer; `ended`: the end was met
+abbrev pub IsReplay : (ℕ → Cell) → Form → Profile → Type 0 → Result Report ReplayFault → List ℕ → List ℕ → Type 0
+IsReplay cell form profile ended (Ok report) read out =
+    (length read ≤ STREAM_MAX) × IsReplayText cell form profile read report out
+IsReplay cell form profile ended (Err Read) read out =
+    (length read ≤ STREAM_MAX) × IsEndedText cell form profile read out
+IsReplay cell form profile ended (Err StreamTooLong) read out =
+    (STREAM_MAX < length read) × IsEndedText cell form profile (take STREAM_MAX read) out
+IsReplay cell form profile ended (Err Write) read out = IsStoppedReplay cell form profile ended (take STREAM_MAX read) out
+IsReplay cell form profile ended (Err Memory) read out = IsStoppedReplay cell form profile ended (take STREAM_MAX read) out

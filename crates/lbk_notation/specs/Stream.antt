@@ -1,0 +1,45 @@
+-- The lines of a test file.
+use Rattle.std.specs.Prelude.{ℕ, ◌==◌, ◌&&◌, if◌then◌else◌, List, [], ◌∷◌, ◌++◌}
+
+abbrev pub byte_order_mark : List ℕ
+byte_order_mark = 0xEF ∷ 0xBB ∷ 0xBF ∷ []
+
+-- a file without the byte order mark at its front
+abbrev pub without_mark : List ℕ → List ℕ
+without_mark (a ∷ b ∷ c ∷ bytes) = if (a == 0xEF) && (b == 0xBB) && (c == 0xBF) then bytes else a ∷ b ∷ c ∷ bytes
+without_mark bytes = bytes
+
+-- the lines that an LF ends, each without it, and what stands behind the last LF
+pub record Cut : Type 0 where
+  pub lines : List (List ℕ)
+  pub rest : List ℕ
+
+abbrev pub nothing_cut : Cut
+nothing_cut = record { lines = []; rest = [] }
+
+-- one byte more
+abbrev pub then_byte : Cut → ℕ → Cut
+then_byte cut byte =
+    if byte == 10
+    then record { lines = cut.lines ++ cut.rest ∷ []; rest = [] }
+    else record { lines = cut.lines; rest = cut.rest ++ byte ∷ [] }
+
+abbrev pub cut_on : Cut → List ℕ → Cut
+cut_on cut [] = cut
+cut_on cut (byte ∷ bytes) = cut_on (then_byte cut byte) bytes
+
+unfoldable pub cut_of : List ℕ → Cut
+cut_of bytes = cut_on nothing_cut (without_mark bytes)
+
+-- the lines whose line end is among the bytes
+abbrev pub ended_lines : List ℕ → List (List ℕ)
+ended_lines bytes = (cut_of bytes).lines
+
+-- what stands behind the last LF is a line, unless it is empty
+abbrev pub last_line : List ℕ → List (List ℕ)
+last_line [] = []
+last_line (byte ∷ bytes) = (byte ∷ bytes) ∷ []
+
+-- the lines of a file that is all of the bytes
+abbrev pub lines_of : List ℕ → List (List ℕ)
+lines_of bytes = (cut_of bytes).lines ++ last_line (cut_of bytes).rest

@@ -1,0 +1,169 @@
+//! Whole test files against the rules.
+
+ghost use Rattle.std.specs.Prelude.{◌≡◌, ◌+◌, ◌<◌, ◌≤◌, ◌⊎◌, ℕ, List, [], ◌∷◌, length, take, IsTrue, IfSome, IfOk, IfErr, OnOk, IsErrOf};
+ghost use Rattle.std.specs.Io.KnownBytes.{Appends, IsAtEnd};
+ghost use Rattle.lbk_notation.specs.Progress.{Ends, HasRead, Uses, is_read_fault_of};
+ghost use Rattle.lbk_notation.specs.Replay.{IsReplay, IsReplayed, is_read_fault};
+ghost use Rattle.lbk_feed.specs.Runs.{HasFailed, Ran};
+
+use super::findings::{ReplayFault, Report};
+use super::marks::Form;
+use super::progress::Progress;
+use super::replayer::Replayer;
+use lbk_feed::{Sink, Source, write_all};
+use lbk_rules::{CellSource, Profile};
+use std::alloc::Global;
+
+const BLOCK: usize = 4096;
+
+/// Compares each line of a test file with the rules.
+pub fn replay<R: Source, W: Sink, C: CellSource>(
+    alloc: Global,
+    reader: &mut R,
+    writer: &mut W,
+    cells: &C,
+    form: Form,
+    profile: Profile,
+) -> Result<Report, ReplayFault>
+    // What is written of a file that the reader tells.
+    ensures replayed { IfOk result (λ report. IfSome (R.unread reader.old) (λ input.
+        IsReplayed (C.cell_of cells.now) form profile input report (W.written writer.old) (W.written writer.new))) }
+
+    // What is written of what was read, whatever the answer.
+    ensures run { Ran (is_read_fault result) (R.unread reader.old) (R.unread reader.new) (W.written writer.old) (W.written writer.new)
+        (IsReplay (C.cell_of cells.now) form profile (IsTrue (R.has_ended reader.new) × IsAtEnd (R.unread reader.new)) result) }
+    ensures ended { OnOk result (IsTrue (R.has_ended reader.new) × IsAtEnd (R.unread reader.new)) }
+
+    // When a device's fault comes, and how much is read.
+    ensures read { IsErrOf result ReplayFault.Read → HasFailed (R.failure_count reader.old) (R.failure_count reader.new) }
+    ensures read_failed { R.failure_count reader.old < R.failure_count reader.new → result ≡ Err ReplayFault.Read }
+    ensures write { IsErrOf result ReplayFault.Write → HasFailed (W.failure_count writer.old) (W.failure_count writer.new) }
+    ensures write_failed { W.failure_count writer.old < W.failure_count writer.new → result ≡ Err ReplayFault.Write }
+    ensures reads { R.read_count reader.new ≤ R.read_count reader.old + 1073741825 }
+{
+    let replayer = Replayer {
+        cells,
+        form,
+        profile,
+    };
+    let progress = read_all(alloc, reader, writer, &replayer)?;
+    finish(alloc, writer, &replayer, progress)
+}
+
+/// Reads the file to its end, and writes what its ended lines write.
+fn read_all<R: Source, W: Sink, C: CellSource>(
+    alloc: Global,
+    reader: &mut R,
+    writer: &mut W,
+    replayer: &Replayer<C>,
+) -> Result<Progress, ReplayFault>
+    ensures run { Ran (is_read_fault_of result) (R.unread reader.old) (R.unread reader.new) (W.written writer.old) (W.written writer.new)
+        (HasRead (C.cell_of replayer.now.cells.now) replayer.now.form replayer.now.profile result) }
+    ensures ended { OnOk result (IsTrue (R.has_ended reader.new) × IsAtEnd (R.unread reader.new)) }
+    ensures read { IsErrOf result ReplayFault.Read → HasFailed (R.failure_count reader.old) (R.failure_count reader.new) }
+    ensures read_failed { R.failure_count reader.old < R.failure_count reader.new → result ≡ Err ReplayFault.Read }
+    ensures write { IsErrOf result ReplayFault.Write → HasFailed (W.failure_count writer.old) (W.failure_count writer.new) }
+    ensures write_failed { W.failure_count writer.old < W.failure_count writer.new → result ≡ Err ReplayFault.Write }
+    ensures reads { R.read_count reader.new ≤ R.read_count reader.old + 1073741825 }
+{
+    let mut progress = Progress::new(alloc);
+    let mut block = [0u8; BLOCK];
+    loop {
+        let Ok(count) = reader.read(&mut block) else {
+            return Err(ReplayFault::Read);
+        };
+        if count == 0 {
+            return Ok(progress);
+        }
+        let counted = count.min(progress.room());
+        take_all(alloc, writer, replayer, &mut progress, &block[..counted])?;
+        if counted < count {
+            return Err(ReplayFault::StreamTooLong);
+        }
+    }
+}
+
+/// Takes bytes one after another, and writes what each line that they end writes.
+fn take_all<W: Sink, C: CellSource>(
+    alloc: Global,
+    writer: &mut W,
+    replayer: &Replayer<C>,
+    progress: &mut Progress,
+    bytes: &[u8],
+) -> Result<(), ReplayFault>
+    requires { progress.old.taken + length bytes.now ≤ 1073741824 }
+    ensures uses { Uses (C.cell_of replayer.now.cells.now) replayer.now.form replayer.now.profile progress.old progress.new
+        bytes.now (W.written writer.old) (W.written writer.new) result }
+    ensures taken { OnOk result (progress.new.taken ≡ progress.old.taken + length bytes.now) }
+    ensures only { IfErr result (λ fault. (fault ≡ ReplayFault.Memory) ⊎ (fault ≡ ReplayFault.Write)) }
+    ensures write { IsErrOf result ReplayFault.Write → HasFailed (W.failure_count writer.old) (W.failure_count writer.new) }
+    ensures write_failed { W.failure_count writer.old < W.failure_count writer.new → result ≡ Err ReplayFault.Write }
+    ensures none_failed { OnOk result (W.failure_count writer.new ≡ W.failure_count writer.old) }
+{
+    for byte in bytes {
+        take(alloc, writer, replayer, progress, *byte)?;
+    }
+    Ok(())
+}
+
+/// Takes a byte, and writes what the line that it ends writes.
+fn take<W: Sink, C: CellSource>(
+    alloc: Global,
+    writer: &mut W,
+    replayer: &Replayer<C>,
+    progress: &mut Progress,
+    byte: u8,
+) -> Result<(), ReplayFault>
+    requires { progress.old.taken < 1073741824 }
+    ensures uses { Uses (C.cell_of replayer.now.cells.now) replayer.now.form replayer.now.profile progress.old progress.new
+        (byte ∷ []) (W.written writer.old) (W.written writer.new) result }
+    ensures taken { progress.new.taken ≡ progress.old.taken + 1 }
+    ensures only { IfErr result (λ fault. (fault ≡ ReplayFault.Memory) ⊎ (fault ≡ ReplayFault.Write)) }
+    ensures write { IsErrOf result ReplayFault.Write → HasFailed (W.failure_count writer.old) (W.failure_count writer.new) }
+    ensures write_failed { W.failure_count writer.old < W.failure_count writer.new → result ≡ Err ReplayFault.Write }
+    ensures none_failed { OnOk result (W.failure_count writer.new ≡ W.failure_count writer.old) }
+{
+    if byte != b'\n' {
+        progress.add(byte)?;
+        return Ok(());
+    }
+    progress.end_line(alloc, replayer)?;
+    put(writer, progress.text())
+}
+
+/// Ends the file: writes what its last line writes, and the counts.
+fn finish<W: Sink, C: CellSource>(
+    alloc: Global,
+    writer: &mut W,
+    replayer: &Replayer<C>,
+    progress: Progress,
+) -> Result<Report, ReplayFault>
+    ensures ends { Ends (C.cell_of replayer.now.cells.now) replayer.now.form replayer.now.profile progress
+        (W.written writer.old) (W.written writer.new) result }
+    ensures only { IfErr result (λ fault. (fault ≡ ReplayFault.Memory) ⊎ (fault ≡ ReplayFault.Write)) }
+    ensures write { IsErrOf result ReplayFault.Write → HasFailed (W.failure_count writer.old) (W.failure_count writer.new) }
+    ensures write_failed { W.failure_count writer.old < W.failure_count writer.new → result ≡ Err ReplayFault.Write }
+    ensures none_failed { OnOk result (W.failure_count writer.new ≡ W.failure_count writer.old) }
+{
+    let mut progress = progress;
+    progress.end_last(alloc, replayer)?;
+    put(writer, progress.text())?;
+    progress.total()?;
+    put(writer, progress.text())?;
+    Ok(progress.report())
+}
+
+/// Writes all of `bytes`.
+fn put<W: Sink>(writer: &mut W, bytes: &[u8]) -> Result<(), ReplayFault>
+    ensures ok { OnOk result (Appends (W.written writer.old) (W.written writer.new) bytes.now) }
+    ensures front { (n : ℕ) × Appends (W.written writer.old) (W.written writer.new) (take n bytes.now) }
+    ensures only { IfErr result (λ fault. fault ≡ ReplayFault.Write) }
+    ensures write { IsErrOf result ReplayFault.Write → HasFailed (W.failure_count writer.old) (W.failure_count writer.new) }
+    ensures write_failed { W.failure_count writer.old < W.failure_count writer.new → result ≡ Err ReplayFault.Write }
+    ensures none_failed { OnOk result (W.failure_count writer.new ≡ W.failure_count writer.old) }
+{
+    match write_all(writer, bytes) {
+        Ok(()) => Ok(()),
+        Err(_) => Err(ReplayFault::Write),
+    }
+}

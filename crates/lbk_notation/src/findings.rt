@@ -1,0 +1,108 @@
+//! What a line of a test file comes to.
+
+ghost use Rattle.std.specs.Prelude.{◌≡◌, ◌+◌, ◌<◌};
+ghost use Rattle.lbk_notation.specs.declared.findings.ReplayFault.TheVariants.{Memory};
+
+use super::marks::Mark;
+use lbk_rules::Verdict;
+use std::alloc::{AllocError, AllocFailed};
+
+/// How a line of a break test compares with the rules (UAX #14, section 6).
+#[derive(Clone, Copy, Debug, PartialEq, Eq)]
+pub enum Outcome {
+    /// Each mark agrees.
+    Agree,
+    /// The first position whose mark does not agree, counted in scalars from 0, the line's mark there, and what
+    /// the rules say.
+    Differ {
+        position: usize,
+        file: Mark,
+        rules: Verdict,
+    },
+}
+
+/// What one line of a test file comes to.
+#[derive(Clone, Copy, Debug, PartialEq, Eq)]
+pub enum Finding {
+    /// It is blank, or a comment.
+    NoLine,
+    /// Its marks were compared with the rules.
+    Replayed(Outcome),
+    /// It is no line of the notation, from byte `at` on.
+    Bad { at: u32 },
+    /// It has more bytes than a line may have.
+    Long,
+}
+
+/// How the lines of a test file compare with the rules: each of `lines` agreed, differed or was refused. Blank
+/// and comment lines are not counted.
+#[derive(Clone, Copy, Debug, PartialEq, Eq)]
+pub struct Report {
+    pub lines: u32,
+    pub agreed: u32,
+    pub differed: u32,
+    pub refused: u32,
+}
+
+/// Why a replay stopped before the end of its file.
+#[derive(Clone, Copy, Debug, PartialEq, Eq)]
+pub enum ReplayFault {
+    /// The reader failed in this call.
+    Read,
+    /// The writer failed in this call.
+    Write,
+    /// A growth of memory was refused.
+    Memory,
+    /// More than 1,073,741,824 bytes were read.
+    StreamTooLong,
+}
+
+/// The most bytes of a file that is replayed.
+pub const STREAM_MAX: usize = 1_073_741_824;
+
+impl From<AllocError> for ReplayFault {
+    ghost from_gives = { λ _ fault. fault ≡ Memory };
+
+    fn from(_refused: AllocError) -> ReplayFault {
+        ReplayFault::Memory
+    }
+}
+
+impl<T: Drop> From<AllocFailed<T>> for ReplayFault {
+    ghost from_gives = { λ _ fault. fault ≡ Memory };
+
+    fn from(_refused: AllocFailed<T>) -> ReplayFault {
+        ReplayFault::Memory
+    }
+}
+
+impl Report {
+    ghost use Rattle.lbk_notation.specs.Counted.{counted};
+
+    /// No line yet.
+    pub(crate) fn none() -> Report
+        ensures { result ≡ record { lines = 0; agreed = 0; differed = 0; refused = 0 } }
+    {
+        Report {
+            lines: 0,
+            agreed: 0,
+            differed: 0,
+            refused: 0,
+        }
+    }
+
+    /// One line more.
+    pub(crate) fn count(&mut self, finding: Finding)
+        requires few { self.old.lines < 1073741824 }
+        requires sum { self.old.agreed + self.old.differed + self.old.refused ≡ self.old.lines }
+        ensures { self.new ≡ counted self.old finding }
+    {
+        match finding {
+            Finding::NoLine => return,
+            Finding::Replayed(Outcome::Agree) => self.agreed += 1,
+            Finding::Replayed(Outcome::Differ { .. }) => self.differed += 1,
+            Finding::Bad { .. } | Finding::Long => self.refused += 1,
+        }
+        self.lines += 1;
+    }
+}

@@ -1,0 +1,211 @@
+//! How far a replay has come: the line that is not ended yet, what the last one wrote, and the counts.
+
+ghost use Rattle.std.specs.Prelude.{◌≡◌, ◌≢◌, ◌⊎◌, ℕ, ◌+◌, ◌<◌, ◌≤◌, List, [], ◌∷◌, ◌++◌, length, true, false, OnOk, IfOk, IfErr};
+ghost use Rattle.std.specs.Bool.{OnTrue, OnFalse};
+
+use super::findings::{Finding, ReplayFault, Report, STREAM_MAX};
+use super::reading::LONGEST;
+use super::replayer::Replayer;
+use super::rows::{push_finding, push_total};
+use lbk_rules::CellSource;
+use std::alloc::{AllocError, Global};
+
+const MARK: [u8; 3] = [0xEF, 0xBB, 0xBF];
+
+/// The state of a replay, which holds at most one line of the file.
+#[derive(Drop)]
+pub struct Progress {
+    // The bytes behind the last LF, unless they are too many for a line.
+    line: Vec<u8>,
+    is_long: bool,
+    // What the last line that was ended writes.
+    text: Vec<u8>,
+    // How many bytes were taken, and how many lines ended.
+    taken: u32,
+    number: u32,
+    report: Report,
+    ghost within: { taken ≤ 1073741824 },
+    ghost short: { length line.items ≤ 268435456 },
+    ghost few: { number + length line.items ≤ taken },
+    ghost long: { is_long ≡ true → number < taken },
+    ghost counted: { report.lines ≤ number },
+    ghost sum: { report.agreed + report.differed + report.refused ≡ report.lines },
+}
+
+impl Progress {
+    ghost use Rattle.lbk_rules.specs.declared.cells.Cell.{Cell};
+    ghost use Rattle.lbk_rules.specs.declared.verdicts.Profile.{Profile};
+    ghost use Rattle.lbk_notation.specs.declared.marks.Form.{Form};
+    ghost use Rattle.lbk_notation.specs.Findings.{IsFinding};
+    ghost use Rattle.lbk_notation.specs.Progress.{Holds, Settles, Stands, StandsAtEnd};
+    ghost use Rattle.lbk_notation.specs.ReplayText.{total_text};
+    ghost use Rattle.lbk_notation.specs.Stream.{byte_order_mark};
+
+    /// Nothing is taken yet.
+    pub fn new(alloc: Global) -> Progress
+        ensures stands { (cell : ℕ → Cell) (form : Form) (profile : Profile) → Stands cell form profile result [] [] }
+        ensures taken { result.taken ≡ 0 }
+    {
+        Progress {
+            line: Vec::new(alloc),
+            is_long: false,
+            text: Vec::new(alloc),
+            taken: 0,
+            number: 0,
+            report: Report::none(),
+        }
+    }
+
+    /// How many bytes may still come.
+    pub fn room(&self) -> usize
+        ensures { result + self.now.taken ≡ STREAM_MAX }
+    {
+        STREAM_MAX - self.taken as usize
+    }
+
+    /// What the last line that was ended writes.
+    pub fn text(&self) -> &[u8]
+        ensures { result.now ≡ self.now.text.items }
+    {
+        self.text.as_slice()
+    }
+
+    /// The counts of the lines that were ended.
+    pub fn report(&self) -> Report
+        ensures { result ≡ self.now.report }
+    {
+        self.report
+    }
+
+    /// Takes a byte that ends no line.
+    pub fn add(&mut self, byte: u8) -> Result<(), AllocError>
+        requires room { self.old.taken < STREAM_MAX }
+        requires within_line { byte ≢ 10 }
+        ensures stands { (cell : ℕ → Cell) (form : Form) (profile : Profile) (used out : List ℕ)
+            → Stands cell form profile self.old used out
+            → OnOk result (Stands cell form profile self.new (used ++ byte ∷ []) out) }
+        ensures taken { self.new.taken ≡ self.old.taken + 1 }
+    {
+        self.taken += 1;
+        if self.is_long {
+            return Ok(());
+        }
+        if self.line.len() == LONGEST {
+            self.line.clear();
+            self.is_long = true;
+            return Ok(());
+        }
+        self.line.push(byte)?;
+        if self.holds_mark() {
+            self.line.clear();
+            return Ok(());
+        }
+        Ok(())
+    }
+
+    /// Whether the bytes taken are the byte order mark, and nothing else.
+    fn holds_mark(&self) -> bool
+        ensures yes { OnTrue result ((self.now.taken ≡ 3) × (self.now.line.items ≡ byte_order_mark)) }
+        ensures no { OnFalse result (self.now.taken ≡ 3 → self.now.line.items ≢ byte_order_mark) }
+    {
+        self.taken == 3 && self.line.as_slice() == MARK.as_slice()
+    }
+
+    /// Takes the LF that ends a line. What the line writes is then `text`.
+    pub fn end_line<C: CellSource>(
+        &mut self,
+        alloc: Global,
+        replayer: &Replayer<C>,
+    ) -> Result<(), ReplayFault>
+        requires { self.old.taken < STREAM_MAX }
+        ensures stands { (used out : List ℕ)
+            → Stands (C.cell_of replayer.now.cells.now) replayer.now.form replayer.now.profile self.old used out
+            → OnOk result (Stands (C.cell_of replayer.now.cells.now) replayer.now.form replayer.now.profile
+            self.new (used ++ 10 ∷ []) (out ++ self.new.text.items)) }
+        ensures taken { self.new.taken ≡ self.old.taken + 1 }
+        ensures only { IfErr result (λ fault. fault ≡ ReplayFault.Memory) }
+    {
+        self.taken += 1;
+        self.settle(alloc, replayer)
+    }
+
+    /// Ends the last line of the file, unless an LF has ended it. What it writes is then `text`.
+    pub fn end_last<C: CellSource>(
+        &mut self,
+        alloc: Global,
+        replayer: &Replayer<C>,
+    ) -> Result<(), ReplayFault>
+        ensures stands { (used out : List ℕ)
+            → Stands (C.cell_of replayer.now.cells.now) replayer.now.form replayer.now.profile self.old used out
+            → OnOk result (StandsAtEnd (C.cell_of replayer.now.cells.now) replayer.now.form replayer.now.profile
+            self.new used (out ++ self.new.text.items)) }
+        ensures only { IfErr result (λ fault. fault ≡ ReplayFault.Memory) }
+    {
+        if !self.holds_line() {
+            self.text.clear();
+            return Ok(());
+        }
+        self.settle(alloc, replayer)
+    }
+
+    /// Whether bytes stand behind the last LF.
+    fn holds_line(&self) -> bool
+        ensures yes { OnTrue result ((self.now.is_long ≡ true) ⊎ (0 < length self.now.line.items)) }
+        ensures no { OnFalse result ((self.now.is_long ≡ false) × (self.now.line.items ≡ [])) }
+        ensures few { OnTrue result (self.now.number < self.now.taken) }
+    {
+        if self.is_long {
+            return true;
+        }
+        !self.line.is_empty()
+    }
+
+    /// Makes `text` the line of the counts.
+    pub fn total(&mut self) -> Result<(), ReplayFault>
+        ensures text { OnOk result (self.new.text.items ≡ total_text self.old.report) }
+        ensures report { self.new.report ≡ self.old.report }
+        ensures only { IfErr result (λ fault. fault ≡ ReplayFault.Memory) }
+    {
+        self.text.clear();
+        push_total(&mut self.text, self.report)?;
+        Ok(())
+    }
+
+    /// Judges the line that is held, counts it, and makes `text` what it writes.
+    fn settle<C: CellSource>(
+        &mut self,
+        alloc: Global,
+        replayer: &Replayer<C>,
+    ) -> Result<(), ReplayFault>
+        requires { self.old.number < self.old.taken }
+        ensures settles { OnOk result (Settles (C.cell_of replayer.now.cells.now) replayer.now.form
+            replayer.now.profile self.old self.new) }
+        ensures taken { self.new.taken ≡ self.old.taken }
+        ensures only { IfErr result (λ fault. fault ≡ ReplayFault.Memory) }
+    {
+        let finding = self.finding(alloc, replayer)?;
+        self.number += 1;
+        self.report.count(finding);
+        self.line.clear();
+        self.is_long = false;
+        self.text.clear();
+        push_finding(&mut self.text, replayer.form, self.number, finding)?;
+        Ok(())
+    }
+
+    /// What the line that is held comes to.
+    fn finding<C: CellSource>(
+        &self,
+        alloc: Global,
+        replayer: &Replayer<C>,
+    ) -> Result<Finding, ReplayFault>
+        ensures finding { IfOk result (λ finding. (rest : List ℕ) → Holds rest self.now.line.items self.now.is_long
+            → IsFinding (C.cell_of replayer.now.cells.now) replayer.now.form replayer.now.profile rest finding) }
+        ensures only { IfErr result (λ fault. fault ≡ ReplayFault.Memory) }
+    {
+        if self.is_long {
+            return Ok(Finding::Long);
+        }
+        replayer.finding(alloc, self.line.as_slice())
+    }
+}

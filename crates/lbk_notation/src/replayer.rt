@@ -1,0 +1,41 @@
+//! What a line of a test file comes to.
+
+ghost use Rattle.std.specs.Prelude.{◌≡◌, IfOk, IfErr};
+ghost use Rattle.lbk_notation.specs.Findings.{IsFinding};
+
+use super::fault::LineFault;
+use super::findings::{Finding, ReplayFault};
+use super::marks::Form;
+use super::outcome::replay_line;
+use super::reading::read_line;
+use lbk_rules::{CellSource, Profile};
+use std::alloc::Global;
+
+/// What the lines of a file are compared with, and in which form.
+#[derive(Drop)]
+pub struct Replayer<'a, C: CellSource> {
+    pub cells: &'a C,
+    pub form: Form,
+    pub profile: Profile,
+}
+
+impl<C: CellSource> Replayer<'_, C> {
+    /// What a line comes to, given without its line end.
+    pub fn finding(&self, alloc: Global, line: &[u8]) -> Result<Finding, ReplayFault>
+        ensures finding { IfOk result (IsFinding (C.cell_of self.now.cells.now) self.now.form self.now.profile line.now) }
+        ensures only { IfErr result (λ fault. fault ≡ ReplayFault.Memory) }
+    {
+        match read_line(alloc, line, self.form) {
+            Ok(None) => Ok(Finding::NoLine),
+            Ok(Some(line)) => Ok(Finding::Replayed(replay_line(
+                self.cells,
+                &line,
+                self.form,
+                self.profile,
+            ))),
+            Err(LineFault::LineTooLong) => Ok(Finding::Long),
+            Err(LineFault::Bad { at }) => Ok(Finding::Bad { at }),
+            Err(LineFault::Memory) => Err(ReplayFault::Memory),
+        }
+    }
+}
