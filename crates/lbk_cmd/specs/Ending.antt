@@ -1,5 +1,5 @@
 -- How a run ends, by the step that ended it, and the exit status of each ending.
-use Rattle.std.specs.Prelude.{ℕ, ◌||◌, Bool, Unit, tt, Result, Ok, Err, if◌then◌else◌, nat_lt}
+use Rattle.std.specs.Prelude.{ℕ, ◌||◌, Bool, Result, Ok, Err, if◌then◌else◌, nat_lt}
 use Rattle.lbk_notation.specs.declared.findings.Report.{Report}
 use Rattle.lbk_notation.specs.declared.findings.ReplayFault.{ReplayFault}
 use Rattle.lbk_files.specs.declared.faults.CellsFault.{CellsFault}

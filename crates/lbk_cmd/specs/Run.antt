@@ -13,9 +13,7 @@ use Rattle.lbk_words.specs.Command.{default_limit}
 use Rattle.lbk_words.specs.Task.{Task}
 use Rattle.lbk_files.specs.declared.faults.CellsFault.{CellsFault}
 use Rattle.lbk_files.specs.declared.faults.Stop.{Stop}
-use Rattle.lbk_files.specs.Cells.{AreCellsOf}
-use Rattle.lbk_files.specs.CellsRefusal.{IsCellsRefusal}
-use Rattle.lbk_files.specs.declared.cells.TheConstants.{SAMPLE_FILES}
+use Rattle.lbk_files.specs.SomeFiles.{AreCellsOfSomeFiles, IsFaultOfSomeFiles}
 use Rattle.lbk_files.specs.FileFault.{AreCellsFrom}
 use Rattle.lbk_files.specs.Named.{files_of}
 use Rattle.lbk_files.specs.Ready.{IsStoppedAt}
@@ -40,11 +38,11 @@ form_of kinds = if kinds then Kinds else Plain
 abbrev pub StopsBefore : (Stop → Type 0) → Devices → Devices → Ending → Type 0
 StopsBefore IsStop before after ending = (stop : Stop) × IsStop stop × (ending ≡ ending_of_stop stop) × (after ≡ before)
 
--- without words: `show` by the cells of the sample files, or these are refused, as lawful files only are for want of memory
+-- without words: `show` by the cells of four files, or these give none
 abbrev pub ShowsSamples : TextRun → Devices → Devices → Ending → Type 0
 ShowsSamples Shows before after ending =
-    ((fault : CellsFault) × IsCellsRefusal SAMPLE_FILES fault × (ending ≡ ending_of_files fault) × (after ≡ before))
-    ⊎ ((cell : ℕ → Cell) × AreCellsOf SAMPLE_FILES cell
+    ((fault : CellsFault) × IsFaultOfSomeFiles fault × (ending ≡ ending_of_files fault) × (after ≡ before))
+    ⊎ ((cell : ℕ → Cell) × AreCellsOfSomeFiles cell
     × ((answer : Result (Unit {0}) CmdFault) × Shows cell default_limit First before after answer × (ending ≡ ending_of_text answer)))
 
 module _ (Shows Segments : TextRun) (Replays : ReplayRun) where

@@ -1,9 +1,8 @@
 //! The engines that the words of the program choose from.
 
-ghost use Rattle.std.specs.Prelude.{ℕ, Unit, Result};
 ghost use Rattle.lbk_rules.specs.CellPages.{page_cell};
-ghost use Rattle.lbk_rules.specs.declared.cells.Cell.{Cell};
-ghost use Rattle.lbk_cmd.specs.Devices.{Devices, devices_of};
+ghost use Rattle.lbk_cmd.specs.Devices.{devices_of};
+ghost use Rattle.lbk_cmd.specs.Run.{ReplayRun, TextRun};
 
 use super::faults::CmdFault;
 use lbk_feed::{Sink, Source};
@@ -14,11 +13,11 @@ use std::alloc::Global;
 /// What runs once the words and the files are read.
 pub trait Engines {
     // What each engine does to its reader and writer, and answers.
-    ghost shows: { (ℕ → Cell) → ℕ → Profile → Devices → Devices → Result (Unit {0}) CmdFault → Type 0 };
+    ghost shows: { TextRun };
 
-    ghost segments: { (ℕ → Cell) → ℕ → Profile → Devices → Devices → Result (Unit {0}) CmdFault → Type 0 };
+    ghost segments: { TextRun };
 
-    ghost replays: { (ℕ → Cell) → Form → Profile → Devices → Devices → Result Report ReplayFault → Type 0 };
+    ghost replays: { ReplayRun };
 
     /// Writes a line for each passage of a text.
     fn show<R: Source, W: Sink>(

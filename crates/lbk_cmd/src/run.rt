@@ -13,7 +13,7 @@ ghost use Rattle.lbk_cmd.specs.Run.{EngineRuns, Performs, ShowsSamples, StopsBef
 use super::ending::Ending;
 use super::engines::Engines;
 use lbk_feed::{Sink, Source};
-use lbk_files::{Ready, SAMPLE_FILES, Store, prepare, read_cells};
+use lbk_files::{Ready, Store, prepare, sample_cells};
 use lbk_notation::Form;
 use lbk_rules::Profile;
 use lbk_words::Engine;
@@ -22,6 +22,7 @@ use std::alloc::Global;
 const SAMPLE_LIMIT: u32 = 65_536;
 
 /// Runs the engines by the words behind the program's name. Without words it shows the text by the sample files.
+#[tactic(none)]
 pub fn run_with<'a, E: Engines, S: Store, R: Source, W: Sink>(
     alloc: Global,
     engines: &E,
@@ -39,7 +40,7 @@ pub fn run_with<'a, E: Engines, S: Store, R: Source, W: Sink>(
         (devices_of (R.unread reader.old) (R.read_count reader.old) (R.failure_count reader.old) (R.has_ended reader.old) (W.written writer.old) (W.failure_count writer.old))
         (devices_of (R.unread reader.new) (R.read_count reader.new) (R.failure_count reader.new) (R.has_ended reader.new) (W.written writer.new) (W.failure_count writer.new))
         result }
-    ensures accepted { (task : Task) → AreAccepted (map (λ w. w.now) words.entry.now)
+    ensures accepted { (task : Task) → words.entry.now ≢ [] → AreAccepted (map (λ w. w.now) words.entry.now)
         → task_by (map (λ w. w.now) words.entry.now) ≡ Some task
         → Performs E.shows E.segments E.replays (S.file store.now) task
         (devices_of (R.unread reader.old) (R.read_count reader.old) (R.failure_count reader.old) (R.has_ended reader.old) (W.written writer.old) (W.failure_count writer.old))
@@ -61,6 +62,7 @@ pub fn run_with<'a, E: Engines, S: Store, R: Source, W: Sink>(
 }
 
 /// `show` by the sample files.
+#[tactic(none)]
 fn show_samples<E: Engines, R: Source, W: Sink>(
     alloc: Global,
     engines: &E,
@@ -72,7 +74,7 @@ fn show_samples<E: Engines, R: Source, W: Sink>(
         (devices_of (R.unread reader.new) (R.read_count reader.new) (R.failure_count reader.new) (R.has_ended reader.new) (W.written writer.new) (W.failure_count writer.new))
         result }
 {
-    match read_cells(alloc, SAMPLE_FILES) {
+    match sample_cells(alloc) {
         Ok(cells) => Ending::of_text(engines.show(
             alloc,
             reader,
@@ -86,6 +88,7 @@ fn show_samples<E: Engines, R: Source, W: Sink>(
 }
 
 /// Runs the engine that is ready.
+#[tactic(none)]
 fn perform<E: Engines, R: Source, W: Sink>(
     alloc: Global,
     engines: &E,

@@ -1,10 +1,11 @@
 //! The cells that the program decides by, out of property files.
 
-ghost use Rattle.std.specs.Prelude.{◌≡◌, IfOk, IfErr, OnOk};
+ghost use Rattle.std.specs.Prelude.{◌≡◌, IfOk, IfErr, OnOk, MatchResult};
 ghost use Rattle.lbk_ucd.specs.Files.{AreLawful};
 ghost use Rattle.lbk_rules.specs.CellPages.{page_cell};
 ghost use Rattle.lbk_files.specs.Cells.{AreCellsOf};
 ghost use Rattle.lbk_files.specs.CellsRefusal.{IsCellsRefusal};
+ghost use Rattle.lbk_files.specs.SomeFiles.{AreCellsOfSomeFiles, IsFaultOfSomeFiles};
 
 use super::faults::CellsFault;
 use lbk_rules::CellPages;
@@ -31,4 +32,11 @@ pub fn read_cells(alloc: Global, files: Files<'_>) -> Result<CellPages, CellsFau
 {
     let tables = Tables::read(alloc, files).map_err(CellsFault::Tables)?;
     CellPages::build(alloc, &tables).map_err(|_| CellsFault::Memory)
+}
+
+/// The cells of the sample files.
+pub fn sample_cells(alloc: Global) -> Result<CellPages, CellsFault>
+    ensures { MatchResult result (λ pages. AreCellsOfSomeFiles (page_cell pages)) IsFaultOfSomeFiles }
+{
+    read_cells(alloc, SAMPLE_FILES)
 }

@@ -9,7 +9,7 @@ mod memory_store;
 mod readiness;
 mod store;
 
-pub use cells::{SAMPLE_FILES, read_cells};
+pub use cells::{SAMPLE_FILES, read_cells, sample_cells};
 pub use faults::{CellsFault, Stop};
 pub use front::read_front;
 pub use loading::{GREATEST_FILE, load_cells};
