@@ -1,5 +1,5 @@
 -- The reader answers what the grammar relates to the bytes.
-use Rattle.std.proofs.Common.{◌≡◌, ◌≢◌, ℕ, suc, ◌+◌, ◌*◌, ◌<◌, ◌≤◌, Bool, true, false, ltb, leb, nat_eq, ◌&&◌, ◌||◌, cond, IsTrue, List, [], ◌∷◌, ◌++◌, length, map, Option, Some, None, Result, Ok, Err, refl, ap, sym, subst, ◌∙◌, arith, append-nil, append_assoc, ◌⊎◌, inl, inr}
+use Rattle.std.proofs.Common.{◌≡◌, ◌≢◌, ℕ, suc, ◌+◌, ◌*◌, ◌<◌, true, ltb, leb, nat_eq, ◌&&◌, List, [], ◌∷◌, ◌++◌, length, Option, Some, None, Ok, Err, refl, ap, ◌∙◌, arith, append-nil, append_assoc, ◌⊎◌, inl, inr}
 use Rattle.std.specs.List.{AllByRecursion}
 use Rattle.std.proofs.lemmas.Bool.{cond-true, eq-eqb, le-leb, lt-ltb, and_from, or_left, or_right}
 use Rattle.lbk_notation.specs.declared.marks.Form.{Form}
@@ -7,13 +7,13 @@ use Rattle.lbk_notation.specs.declared.marks.Form.TheVariants.{Plain, Kinds}
 use Rattle.lbk_notation.specs.declared.marks.Mark.{Mark}
 use Rattle.lbk_notation.specs.declared.marks.Mark.TheVariants.{No, May, Must}
 use Rattle.lbk_notation.specs.declared.reader.Sort.{Sort}
-use Rattle.lbk_notation.specs.declared.reader.Sort.TheVariants.{Space, Digit, Lead, Times, Division, Exclamation, Return, Hash, LineFeed, Other}
+use Rattle.lbk_notation.specs.declared.reader.Sort.TheVariants.{Space, Lead, Exclamation, Return, Hash, LineFeed}
 use Rattle.lbk_notation.specs.declared.reader.State.{State}
 use Rattle.lbk_notation.specs.declared.reader.State.TheVariants.{Start, Half, Marked, Spaced, Digits, Coded, Comment, Ended}
 use Rattle.lbk_notation.specs.declared.reader.Taken.{Taken}
 use Rattle.lbk_notation.specs.declared.reader.Taken.TheVariants.{Dead, On, OneScalar, OneMark}
 use Rattle.lbk_notation.specs.Line.{Line, made}
-use Rattle.lbk_notation.specs.Grammar.{is_space, IsBlank, IsGap, mark_bytes, Has, digit_byte, token_bytes, number_of, number_behind, HasShape, IsToken, IsEnd, IsAfter, last, more, IsLine, no_line, line}
+use Rattle.lbk_notation.specs.Grammar.{IsBlank, IsGap, mark_bytes, Has, digit_byte, token_bytes, number_of, IsToken, IsEnd, IsAfter, last, more, IsLine, no_line, line}
 use Rattle.lbk_notation.specs.Run.{step_of, sort_of, marking, comment_step, digits_step, takes_digit, is_scalar, can_end, run, run_line}
 use Rattle.lbk_notation.proofs.Runs.{run_taken, run_step}
 use Rattle.lbk_notation.proofs.Sorts.{sort-space, sort-digit, sort-lead, sort-times, sort-division, sort-exclamation, sort-return, sort-hash, sort-no-line-feed}

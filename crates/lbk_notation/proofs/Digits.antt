@@ -1,5 +1,5 @@
 -- Digits with which a token may begin.
-use Rattle.std.proofs.Common.{◌≡◌, ℕ, suc, ◌+◌, ◌*◌, ◌^◌, ◌<◌, ◌≤◌, Bool, true, false, ltb, leb, nat_eq, cond, ◌&&◌, refl, sym, ap, subst, ◌∙◌, arith, lit<, lit≤, add-one, ◌⊎◌, inl, inr}
+use Rattle.std.proofs.Common.{◌≡◌, ℕ, ◌+◌, ◌*◌, ◌^◌, ◌<◌, ◌≤◌, Bool, true, false, ltb, leb, nat_eq, cond, ◌&&◌, refl, sym, arith, lit<, lit≤, add-one, ◌⊎◌, inl, inr}
 use Rattle.std.proofs.Math.Nat.{pow-le-pow_right, pow-succ'}
 use Rattle.std.proofs.lemmas.Bool.{and_right, cond-false, cases_lt, leb-true, ltb-true, eqb-true}
 use Rattle.std.proofs.lemmas.Bool.Decides.{nat_tests}

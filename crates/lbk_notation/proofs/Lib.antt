@@ -7,7 +7,11 @@ pub mod Places
 pub mod Answered
 pub mod Tokens
 pub mod Writes
+pub mod Markings
+pub mod Lengths
+pub mod FindingLemmas
 pub mod OutcomeLemmas
 pub mod ProgressLemmas
 pub mod RunLemmas
 pub mod StreamLemmas
+pub mod Worked

@@ -1,5 +1,5 @@
 -- What the verdict of one position more does to the least difference.
-use Rattle.std.proofs.Common.{◌≡◌, ℕ, ◌≤◌, ◌<◌, Bool, true, false, cond, ◌||◌, ◌⊎◌, inl, inr, ⊎_elim, List, [], ◌∷◌, ◌++◌, length, map, take, drop, get_or, ◌+◌, Option, Some, None, MatchOption, refl, sym, ap, subst, ◌∙◌, arith, append-nil}
+use Rattle.std.proofs.Common.{◌≡◌, ℕ, ◌≤◌, ◌<◌, true, false, cond, ◌||◌, ◌⊎◌, inl, inr, ⊎_elim, List, [], ◌∷◌, ◌++◌, length, map, take, drop, get_or, ◌+◌, Option, Some, None, MatchOption, refl, sym, ap, subst, ◌∙◌, arith, append-nil}
 use Rattle.std.specs.List.{slice_get}
 use Rattle.std.specs.Option.{ForSome, option_map}
 use Rattle.std.proofs.lemmas.List.{get_or-map, length-map, length-take-le, take_more}
@@ -22,7 +22,7 @@ use Rattle.lbk_notation.specs.declared.marks.Form.TheVariants.{Plain, Kinds}
 use Rattle.lbk_notation.specs.declared.marks.Mark.{Mark}
 use Rattle.lbk_notation.specs.declared.marks.Mark.TheVariants.{No, May, Must}
 use Rattle.lbk_notation.specs.Line.{Line}
-use Rattle.lbk_notation.specs.Met.{Clears, Differs, IsTrueOf, Meets, agrees, is_before, met}
+use Rattle.lbk_notation.specs.Met.{Clears, IsTrueOf, Meets, agrees, is_before, met}
 use Rattle.lbk_notation.specs.Outcome.{Agrees, AgreesAt, IsOutcome, verdict_at}
 
 pub agrees-yes : (form : Form) (mark : Mark) (kind : Kind) → agrees form mark kind ≡ true → Agrees form mark kind

@@ -1,18 +1,17 @@
 -- Where the reader goes wrong, a line stops being the beginning of any line of the grammar.
-use Rattle.std.proofs.Common.{◌≡◌, ◌≢◌, ℕ, zero, suc, ◌+◌, ◌*◌, ◌<◌, ◌≤◌, Bool, true, false, ltb, leb, nat_eq, ◌&&◌, ◌||◌, cond, List, [], ◌∷◌, ◌++◌, length, take, Option, Some, None, Result, Ok, Err, refl, ap, sym, subst, ◌∙◌, arith, add-one, append_assoc, lit<}
+use Rattle.std.proofs.Common.{◌≡◌, ℕ, zero, suc, ◌+◌, ◌*◌, ◌<◌, ◌≤◌, Bool, true, false, ltb, leb, cond, List, [], ◌∷◌, ◌++◌, length, take, Option, Result, Ok, Err, refl, ap, ◌∙◌, arith, add-one, lit<}
 use Rattle.std.proofs.lemmas.Bool.{or_right, or_parts, le-leb, lt-ltb, ltb-false}
 use Rattle.lbk_notation.specs.declared.marks.Form.{Form}
 use Rattle.lbk_notation.specs.declared.marks.Mark.{Mark}
-use Rattle.lbk_notation.specs.declared.marks.Mark.TheVariants.{No, May, Must}
+use Rattle.lbk_notation.specs.declared.marks.Mark.TheVariants.{No}
 use Rattle.lbk_notation.specs.declared.reader.State.{State}
 use Rattle.lbk_notation.specs.declared.reader.State.TheVariants.{Start, Half, Marked, Spaced, Digits, Coded, Comment, Ended}
 use Rattle.lbk_notation.specs.declared.reader.Taken.{Taken}
 use Rattle.lbk_notation.specs.declared.reader.Taken.TheVariants.{Dead, On, OneScalar, OneMark}
 use Rattle.lbk_notation.specs.Line.{Line, made}
-use Rattle.lbk_notation.specs.Grammar.{IsLine}
 use Rattle.lbk_notation.specs.Place.{IsBytes, IsViable, IsOutside, IsPlace}
 use Rattle.lbk_notation.specs.Run.{IsGood, IsOpen, step_of, sort_of, takes_digit, is_scalar, can_end, run, run_line}
-use Rattle.lbk_notation.proofs.Completes.{Gives, take_byte, token_off, digit_on, marked, ends, complete}
+use Rattle.lbk_notation.proofs.Completes.{Gives, take_byte, token_off, digit_on, marked, complete}
 use Rattle.lbk_notation.proofs.Runs.{IsGoodTaken, run_taken, run_step, good_step}
 use Rattle.lbk_notation.proofs.Sorts.{sorted, sort-times}
 use Rattle.lbk_notation.proofs.Sound.{sound}

@@ -1,5 +1,5 @@
 -- What one byte, one line and the end do to how far a replay has come.
-use Rattle.std.proofs.Common.{◌≡◌, ◌≢◌, ℕ, ◌+◌, ◌<◌, ◌≤◌, ◌⊎◌, Bool, true, false, cond, List, [], ◌∷◌, ◌++◌, length, refl, sym, ap, subst, ◌∙◌, inl, inr, arith, count_by, append_assoc, append-nil, add-zero, length-append}
+use Rattle.std.proofs.Common.{◌≡◌, ◌≢◌, ℕ, ◌+◌, ◌<◌, ◌⊎◌, Bool, true, false, cond, List, [], ◌∷◌, ◌++◌, length, refl, sym, ap, subst, ◌∙◌, inl, inr, arith, count_by, append_assoc, append-nil, add-zero, length-append}
 use Rattle.std.proofs.lemmas.Bool.{cases_Bool, false≢true}
 use Rattle.std.proofs.lemmas.List.Sums.{fold-append}
 use Rattle.lbk_rules.specs.declared.cells.Cell.{Cell}
@@ -87,14 +87,19 @@ AreFindings-snoc cell form profile [] (f ∷ fs) line finding are is = absurd ar
 AreFindings-snoc cell form profile (l ∷ ls) [] line finding are is = absurd are
 AreFindings-snoc cell form profile (l ∷ ls) (f ∷ fs) line finding are is = (are.0, AreFindings-snoc cell form profile ls fs line finding are.1 is)
 
-pub text_from-snoc : (form : Form) (number : ℕ) (findings : List Finding) (finding : Finding)
+pub text_from-append : (form : Form) (number : ℕ) (findings more : List Finding)
+    → text_from form number (findings ++ more) ≡ text_from form number findings ++ text_from form (number + length findings) more
+text_from-append form number [] more = ap (λ n. text_from form n more) (sym (add-zero number))
+text_from-append form number (f ∷ fs) more =
+    ap (λ t. finding_text form number f ++ t) (text_from-append form (number + 1) fs more)
+    ∙ sym (append_assoc (finding_text form number f) (text_from form (number + 1) fs) (text_from form (number + 1 + length fs) more))
+    ∙ ap (λ n. finding_text form number f ++ text_from form (number + 1) fs ++ text_from form n more) (omega arith)
+
+text_from-snoc : (form : Form) (number : ℕ) (findings : List Finding) (finding : Finding)
     → text_from form number (findings ++ finding ∷ []) ≡ text_from form number findings ++ finding_text form (number + length findings) finding
-text_from-snoc form number [] finding =
-    append-nil (finding_text form number finding) ∙ ap (λ n. finding_text form n finding) (sym (add-zero number))
-text_from-snoc form number (f ∷ fs) finding =
-    ap (λ t. finding_text form number f ++ t) (text_from-snoc form (number + 1) fs finding)
-    ∙ sym (append_assoc (finding_text form number f) (text_from form (number + 1) fs) (finding_text form (number + 1 + length fs) finding))
-    ∙ ap (λ n. finding_text form number f ++ text_from form (number + 1) fs ++ finding_text form n finding) (omega arith)
+text_from-snoc form number findings finding =
+    text_from-append form number findings (finding ∷ [])
+    ∙ ap (λ t. text_from form number findings ++ t) (append-nil (finding_text form (number + length findings) finding))
 
 abbrev report : ℕ → ℕ → ℕ → Report
 report agreed differed refused =

@@ -1,11 +1,11 @@
 -- How the steps of a replay make up a run.
-use Rattle.std.proofs.Common.{◌≡◌, ℕ, ◌+◌, ◌-◌, ◌<◌, ◌≤◌, ◌⊎◌, inl, inr, Bool, true, false, List, [], ◌∷◌, ◌++◌, length, take, drop, Option, Some, None, IfSome, Result, Ok, Err, IfErr, OnOk, MatchResult, refl, sym, ap, subst, ◌∙◌, arith, append_assoc, append-nil, length-append, take-append-drop}
+use Rattle.std.proofs.Common.{◌≡◌, ℕ, ◌+◌, ◌-◌, ◌<◌, ◌≤◌, ◌⊎◌, inl, inr, Bool, true, false, List, [], ◌∷◌, ◌++◌, length, take, drop, Option, Some, None, IfSome, Result, Ok, Err, IfOk, IfErr, OnOk, MatchResult, refl, sym, ap, subst, ◌∙◌, arith, append_assoc, append-nil, length-append, take-append-drop}
 use Rattle.std.specs.Io.KnownBytes.{Appends, Consumes, IsAtEnd}
 use Rattle.std.proofs.KnownBytes.{Appends-nil, Appends-trans, Consumes-nil, Consumes-trans, Consumes-whole}
-use Rattle.std.proofs.lemmas.List.{take_all}
+use Rattle.std.proofs.lemmas.List.{length-drop, length-take-le, take-take, take_all}
 use Rattle.std.proofs.Math.Seq.{take-append-add, take-append_seam, take-length}
 use Rattle.lbk_feed.specs.Devices.{KeepsIfTold}
-use Rattle.lbk_feed.specs.Runs.{IsStopped, Ran, Took}
+use Rattle.lbk_feed.specs.Runs.{Ran, Took}
 use Rattle.lbk_feed.specs.Runs.IsStopped.{midway, at_end}
 use Rattle.lbk_rules.specs.declared.cells.Cell.{Cell}
 use Rattle.lbk_rules.specs.declared.verdicts.Profile.{Profile}
@@ -401,3 +401,19 @@ pub IsReplayed-ran : (cell : ℕ → Cell) (form : Form) (profile : Profile) (en
 IsReplayed-ran cell form profile ended report unread unread' written written' at ran =
     Consumes-whole unread unread' ran.read (λ input. IsReplayed cell form profile input report written written') ran.took at
     (record { fits = ran.so.0; out = ran.out; text = ran.so.1; put = ran.put })
+
+pub IfOk-replayed : (cell : ℕ → Cell) (form : Form) (profile : Profile) (ended : Type 0) (result : Result Report ReplayFault) (unread unread' written written' : Option (List ℕ))
+    → IsAtEnd unread' → Ran (is_read_fault result) unread unread' written written' (IsReplay cell form profile ended result)
+    → IfOk result (λ report. IfSome unread (λ input. IsReplayed cell form profile input report written written'))
+IfOk-replayed cell form profile ended (Ok report) unread unread' written written' at ran =
+    IsReplayed-ran cell form profile ended report unread unread' written written' at ran
+IfOk-replayed cell form profile ended (Err fault) unread unread' written written' at ran = tt
+
+-- the bytes of a block that count, and those that do not
+pub front-split : (counted count : ℕ) (block : List ℕ) → counted ≤ count
+    → take count block ≡ take counted block ++ drop counted (take count block)
+front-split counted count block within =
+    sym (take-append-drop counted (take count block)) ∙ ap (λ l. l ++ drop counted (take count block)) (take-take counted count block within)
+
+pub length-past : (counted count : ℕ) (block : List ℕ) → counted < count → count ≤ length block → 0 < length (drop counted (take count block))
+length-past counted count block below within = rw (length-drop, length-take-le count block within) (omega arith)

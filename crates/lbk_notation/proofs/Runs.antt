@@ -1,16 +1,16 @@
 -- One step of a run.
-use Rattle.std.proofs.Common.{◌≡◌, ℕ, ◌+◌, ◌*◌, ◌<◌, ◌≤◌, List, [], ◌∷◌, ◌++◌, Option, Result, Ok, Err, refl, ap, sym, subst, ◌∙◌, get_or, drop, length, leb, ◌&&◌, lit≤, arith}
+use Rattle.std.proofs.Common.{◌≡◌, ℕ, ◌+◌, ◌*◌, ◌<◌, List, [], ◌∷◌, ◌++◌, Option, Result, Err, ap, sym, subst, ◌∙◌, get_or, drop, length, leb, ◌&&◌, lit≤, arith}
 use Rattle.std.proofs.lemmas.Bool.{cond_both}
 use Rattle.std.proofs.lemmas.List.{drop_more}
 use Rattle.lbk_notation.specs.declared.marks.Form.{Form}
 use Rattle.lbk_notation.specs.declared.marks.Form.TheVariants.{Plain, Kinds}
 use Rattle.lbk_notation.specs.declared.marks.Mark.{Mark}
 use Rattle.lbk_notation.specs.declared.reader.Sort.{Sort}
-use Rattle.lbk_notation.specs.declared.reader.Sort.TheVariants.{Space, Digit, Lead, Times, Division, Exclamation, Return, Hash, LineFeed, Other}
+use Rattle.lbk_notation.specs.declared.reader.Sort.TheVariants.{Space, Digit, Lead, Times, Exclamation, Return, LineFeed, Other}
 use Rattle.lbk_notation.specs.declared.reader.State.{State}
 use Rattle.lbk_notation.specs.declared.reader.State.TheVariants.{Start, Half, Marked, Spaced, Digits, Coded, Comment, Ended}
 use Rattle.lbk_notation.specs.declared.reader.Taken.{Taken}
-use Rattle.lbk_notation.specs.declared.reader.Taken.TheVariants.{Dead, On, OneScalar, OneMark}
+use Rattle.lbk_notation.specs.declared.reader.Taken.TheVariants.{Dead, On, OneScalar}
 use Rattle.lbk_notation.specs.Line.{Line}
 use Rattle.lbk_notation.specs.Run.{IsGood, step_of, sort_of, takes_digit, is_scalar, digits_step, start_step, spaced_step, coded_step, marking, ending, match_taken, run}
 use Rattle.lbk_notation.proofs.Digits.{open-more}

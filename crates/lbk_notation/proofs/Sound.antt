@@ -1,8 +1,8 @@
 -- The grammar relates to the bytes what the reader answers.
-use Rattle.std.proofs.Common.{◌≡◌, ◌≢◌, ℕ, zero, suc, ◌+◌, ◌*◌, ◌^◌, ◌<◌, ◌≤◌, Bool, true, false, ltb, leb, nat_eq, ◌&&◌, ◌||◌, cond, IsTrue, List, [], ◌∷◌, ◌++◌, length, map, Option, Some, None, Result, Ok, Err, refl, ap, sym, subst, ◌∙◌, arith, append-nil, append_assoc, length-append, ◌⊎◌, inl, inr}
+use Rattle.std.proofs.Common.{◌≡◌, ◌≢◌, ℕ, ◌+◌, ◌*◌, ◌<◌, ◌≤◌, Bool, true, false, ltb, leb, ◌&&◌, cond, IsTrue, List, [], ◌∷◌, ◌++◌, length, Option, Result, Ok, Err, refl, ap, sym, subst, ◌∙◌, arith, append-nil, append_assoc, length-append, inl, inr}
 use Rattle.std.specs.List.{AllByRecursion}
 use Rattle.std.proofs.lemmas.Bool.Decides.{nat_tests}
-use Rattle.std.proofs.lemmas.Bool.{cond-true, cond_both, and_parts, or_cases, ltb-true, leb-true}
+use Rattle.std.proofs.lemmas.Bool.{and_parts, or_cases, ltb-true, leb-true}
 use Rattle.lbk_notation.specs.declared.marks.Form.{Form}
 use Rattle.lbk_notation.specs.declared.marks.Form.TheVariants.{Plain, Kinds}
 use Rattle.lbk_notation.specs.declared.marks.Mark.{Mark}
@@ -14,7 +14,7 @@ use Rattle.lbk_notation.specs.declared.reader.State.TheVariants.{Start, Half, Ma
 use Rattle.lbk_notation.specs.declared.reader.Taken.{Taken}
 use Rattle.lbk_notation.specs.declared.reader.Taken.TheVariants.{Dead, On, OneScalar, OneMark}
 use Rattle.lbk_notation.specs.Line.{Line, made}
-use Rattle.lbk_notation.specs.Grammar.{is_space, IsBlank, IsGap, mark_bytes, Has, digit_byte, token_bytes, number_of, number_behind, HasShape, IsToken, IsEnd, IsAfter, last, more, IsLine, no_line, line}
+use Rattle.lbk_notation.specs.Grammar.{is_space, IsBlank, mark_bytes, Has, digit_byte, token_bytes, number_of, number_behind, HasShape, IsToken, IsEnd, IsAfter, last, more, IsLine, no_line, line}
 use Rattle.lbk_notation.specs.Run.{IsGood, IsOpen, step_of, sort_of, marking, ending, start_step, half_step, marked_step, spaced_step, coded_step, comment_step, digits_step, takes_digit, is_scalar, can_end, run, run_line}
 use Rattle.lbk_notation.proofs.Completes.{length-after, made-some}
 use Rattle.lbk_notation.proofs.Runs.{IsGoodTaken, run_taken, good_step}

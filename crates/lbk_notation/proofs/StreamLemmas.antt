@@ -1,7 +1,8 @@
 -- What one byte more does to the lines of a file.
-use Rattle.std.proofs.Common.{◌≡◌, ◌≢◌, ℕ, ◌+◌, ◌<◌, Bool, true, false, cond, eqb, ◌&&◌, List, [], ◌∷◌, ◌++◌, length, refl, sym, ap, ◌∙◌, inl, inr, arith}
-use Rattle.std.proofs.lemmas.Bool.{cases_Bool, eqb-true, false_from_ne_true, false≢true}
-use Rattle.lbk_notation.specs.Stream.{Cut, byte_order_mark, cut_of, cut_on, nothing_cut, then_byte}
+use Rattle.std.proofs.Common.{◌≡◌, ◌≢◌, ℕ, ◌+◌, Bool, true, false, cond, eqb, ◌&&◌, List, [], ◌∷◌, ◌++◌, length, refl, sym, ap, subst, ◌∙◌, inl, inr, arith, append_assoc, append-nil}
+use Rattle.std.proofs.lemmas.Bool.{cases_Bool, cases_eq, eqb-false, eqb-true, false_from_ne_true, false≢true}
+use Rattle.std.specs.List.{AllByRecursion}
+use Rattle.lbk_notation.specs.Stream.{Cut, HasNoLineEnd, byte_order_mark, cut_of, cut_on, nothing_cut, then_byte, with_line_ends, without_mark}
 
 pub cut_on-append : (cut : Cut) (xs ys : List ℕ) → cut_on cut (xs ++ ys) ≡ cut_on (cut_on cut xs) ys
 cut_on-append cut [] ys = refl
@@ -141,3 +142,85 @@ pub rest-mark : (used : List ℕ) (byte : ℕ) → byte ≢ 10 → is_mark (used
 rest-mark used byte other marked =
     ap (λ cut. cut.rest) (cut-add used byte other)
     ∙ ap (λ v. (cond {A = Cut} v nothing_cut (record { lines = (cut_of used).lines; rest = (cut_of used).rest ++ byte ∷ [] })).rest) marked
+
+-- The lines make up the file
+
+abbrev value : Cut → List ℕ
+value cut = with_line_ends cut.lines ++ cut.rest
+
+with_line_ends-snoc : (lines : List (List ℕ)) (line : List ℕ) → with_line_ends (lines ++ line ∷ []) ≡ with_line_ends lines ++ (line ++ 10 ∷ [])
+with_line_ends-snoc [] line = refl
+with_line_ends-snoc (first ∷ lines) line =
+    ap (λ l. first ++ (10 ∷ l)) (with_line_ends-snoc lines line) ∙ sym (append_assoc first (10 ∷ with_line_ends lines) (line ++ 10 ∷ []))
+
+then_byte-ends : (lines : List (List ℕ)) (rest : List ℕ) (byte : ℕ) → byte ≡ 10
+    → with_line_ends (lines ++ rest ∷ []) ++ [] ≡ (with_line_ends lines ++ rest) ++ byte ∷ []
+then_byte-ends lines rest byte same =
+    append-nil (with_line_ends (lines ++ rest ∷ [])) ∙ with_line_ends-snoc lines rest ∙ sym (append_assoc (with_line_ends lines) rest (10 ∷ []))
+    ∙ ap (λ b. (with_line_ends lines ++ rest) ++ b ∷ []) (sym same)
+
+then_byte-value : (cut : Cut) (byte : ℕ) → value (then_byte cut byte) ≡ value cut ++ byte ∷ []
+then_byte-value cut byte =
+    elim (cases_Bool (eqb byte 10)) [
+      | inl ends ↦
+          ap (λ v. value (cond v (record { lines = cut.lines ++ cut.rest ∷ []; rest = [] }) (record { lines = cut.lines; rest = cut.rest ++ byte ∷ [] }))) ends
+          ∙ then_byte-ends cut.lines cut.rest byte (eqb-true byte 10 ends)
+      | inr goes_on ↦
+          ap (λ v. value (cond v (record { lines = cut.lines ++ cut.rest ∷ []; rest = [] }) (record { lines = cut.lines; rest = cut.rest ++ byte ∷ [] }))) goes_on
+          ∙ sym (append_assoc (with_line_ends cut.lines) cut.rest (byte ∷ []))
+    ]
+
+cut_on-value : (cut : Cut) (bytes : List ℕ) → value (cut_on cut bytes) ≡ value cut ++ bytes
+cut_on-value cut [] = sym (append-nil (value cut))
+cut_on-value cut (byte ∷ bytes) =
+    cut_on-value (then_byte cut byte) bytes ∙ ap (λ v. v ++ bytes) (then_byte-value cut byte) ∙ append_assoc (value cut) (byte ∷ []) bytes
+
+pub value-cut_of : (bytes : List ℕ) → with_line_ends (cut_of bytes).lines ++ (cut_of bytes).rest ≡ without_mark bytes
+unfolding cut_of
+value-cut_of bytes = cut_on-value nothing_cut (without_mark bytes)
+
+all-snoc : {X : Type 0} (P : X → Type 0) (xs : List X) (x : X) → AllByRecursion P xs → P x → AllByRecursion P (xs ++ x ∷ [])
+all-snoc P [] x all is = (is, tt)
+all-snoc P (y ∷ xs) x all is = (all.0, all-snoc P xs x all.1 is)
+
+pub record IsCut (cut : Cut) : Type 0 where
+  pub lines : AllByRecursion HasNoLineEnd cut.lines
+  pub rest : HasNoLineEnd cut.rest
+
+then_byte-IsCut : (cut : Cut) (byte : ℕ) → IsCut cut → IsCut (then_byte cut byte)
+then_byte-IsCut cut byte is =
+    elim (cases_Bool (eqb byte 10)) [
+      | inl ends ↦
+          subst (λ (v : Bool). IsCut (cond v (record { lines = cut.lines ++ cut.rest ∷ []; rest = [] }) (record { lines = cut.lines; rest = cut.rest ++ byte ∷ [] })))
+          (sym ends) (record { lines = all-snoc HasNoLineEnd cut.lines cut.rest is.lines is.rest; rest = tt })
+      | inr goes_on ↦
+          subst (λ (v : Bool). IsCut (cond v (record { lines = cut.lines ++ cut.rest ∷ []; rest = [] }) (record { lines = cut.lines; rest = cut.rest ++ byte ∷ [] })))
+          (sym goes_on) (record { lines = is.lines; rest = all-snoc (λ b. b ≢ 10) cut.rest byte is.rest (eqb-false byte 10 goes_on) })
+    ]
+
+cut_on-IsCut : (cut : Cut) (bytes : List ℕ) → IsCut cut → IsCut (cut_on cut bytes)
+cut_on-IsCut cut [] is = is
+cut_on-IsCut cut (byte ∷ bytes) is = cut_on-IsCut (then_byte cut byte) bytes (then_byte-IsCut cut byte is)
+
+pub IsCut-cut_of : (bytes : List ℕ) → IsCut (cut_of bytes)
+unfolding cut_of
+IsCut-cut_of bytes = cut_on-IsCut nothing_cut (without_mark bytes) (record { lines = tt; rest = tt })
+
+-- the lines ended by more bytes come behind those that were ended before
+
+lines-byte : (used : List ℕ) (byte : ℕ) → (later : List (List ℕ)) × ((cut_of (used ++ byte ∷ [])).lines ≡ (cut_of used).lines ++ later)
+lines-byte used byte =
+    elim (cases_eq byte 10) [
+      | inl ends ↦ ((cut_of used).rest ∷ [], ap (λ b. (cut_of (used ++ b ∷ [])).lines) ends ∙ ap (λ cut. cut.lines) (cut-end used))
+      | inr goes_on ↦ ([], lines-add used byte goes_on ∙ sym (append-nil (cut_of used).lines))
+    ]
+
+pub lines-more : (used more : List ℕ) → (later : List (List ℕ)) × ((cut_of (used ++ more)).lines ≡ (cut_of used).lines ++ later)
+lines-more used [] = ([], ap (λ u. (cut_of u).lines) (append-nil used) ∙ sym (append-nil (cut_of used).lines))
+lines-more used (byte ∷ more) =
+    let first = lines-byte used byte in
+    let rest = lines-more (used ++ byte ∷ []) more in (
+      first.0 ++ rest.0,
+      ap (λ u. (cut_of u).lines) (sym (append_assoc used (byte ∷ []) more)) ∙ rest.1 ∙ ap (λ l. l ++ rest.0) first.1
+          ∙ append_assoc (cut_of used).lines first.0 rest.0,
+    )

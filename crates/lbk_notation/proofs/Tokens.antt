@@ -1,10 +1,9 @@
 -- The one token of a scalar.
-use Rattle.std.proofs.Common.{◌≡◌, ◌≢◌, ℕ, zero, suc, ◌+◌, ◌*◌, ◌/◌, ◌%◌, ◌<◌, ◌≤◌, Bool, true, false, ltb, cond, List, [], ◌∷◌, ◌++◌, length, map, refl, ap, sym, ◌∙◌, arith, ◌⊎◌, inl, inr}
+use Rattle.std.proofs.Common.{◌≡◌, ◌≢◌, ℕ, ◌+◌, ◌*◌, ◌/◌, ◌%◌, ◌<◌, ◌≤◌, ltb, List, [], ◌∷◌, length, ap, sym, ◌∙◌, arith, ◌⊎◌, inl, inr}
 use Rattle.std.specs.Char.{IsScalar}
-use Rattle.std.specs.List.{AllByRecursion}
 use Rattle.std.proofs.Math.Utf8.{scalar_cases}
-use Rattle.std.proofs.lemmas.Bool.{cond_both, ltb-true, ltb-false}
-use Rattle.lbk_notation.specs.Grammar.{number_of, HasShape, IsToken, token_bytes}
+use Rattle.std.proofs.lemmas.Bool.{cond_both, cond-true, cond-false, lt-ltb, le-ltb, ltb-true, ltb-false}
+use Rattle.lbk_notation.specs.Grammar.{number_of, IsToken}
 use Rattle.lbk_notation.specs.Written.{digits_of, token}
 
 -- digits that are the token of a scalar
@@ -67,3 +66,40 @@ digits-IsToken scalar is = (spelt scalar is).shape
 
 pub number-digits : (scalar : ℕ) → IsScalar scalar → number_of (digits_of scalar) ≡ scalar
 number-digits scalar is = (spelt scalar is).number
+
+-- the digits of a token are those that are written of its number
+
+same_four : (a b c d a' b' c' d' : ℕ) → a ≡ a' → b ≡ b' → c ≡ c' → d ≡ d' → a ∷ b ∷ c ∷ d ∷ [] ≡ a' ∷ b' ∷ c' ∷ d' ∷ []
+same_four a b c d a' b' c' d' ea eb ec ed = cc
+
+one_four : (a b c d : ℕ) → (a < 16) × (b < 16) × (c < 16) × (d < 16) → a ∷ b ∷ c ∷ d ∷ [] ≡ digits_of (number_of (a ∷ b ∷ c ∷ d ∷ []))
+one_four a b c d small =
+    let n = number_of (a ∷ b ∷ c ∷ d ∷ []) in
+    same_four a b c d (n / 4096) (n / 256 % 16) (n / 16 % 16) (n % 16) (omega arith) (omega arith) (omega arith) (omega arith)
+    ∙ sym (cond-true (ltb n 0x10000) (n / 4096 ∷ n / 256 % 16 ∷ n / 16 % 16 ∷ n % 16 ∷ []) _ (lt-ltb n 0x10000 (omega arith)))
+
+one_five : (a b c d e : ℕ) → (a < 16) × (b < 16) × (c < 16) × (d < 16) × (e < 16) → a ≢ 0
+    → a ∷ b ∷ c ∷ d ∷ e ∷ [] ≡ digits_of (number_of (a ∷ b ∷ c ∷ d ∷ e ∷ []))
+one_five a b c d e small some =
+    let n = number_of (a ∷ b ∷ c ∷ d ∷ e ∷ []) in
+    ap (λ l. a ∷ l) (same_four b c d e (n / 4096 % 16) (n / 256 % 16) (n / 16 % 16) (n % 16) (omega arith) (omega arith) (omega arith) (omega arith))
+    ∙ ap (λ m. m ∷ n / 4096 % 16 ∷ n / 256 % 16 ∷ n / 16 % 16 ∷ n % 16 ∷ []) (let first : a ≡ n / 65536 = omega arith in first)
+    ∙ sym (cond-false (ltb n 0x10000) _ _ (le-ltb n 0x10000 (omega arith)) ∙ cond-true (ltb n 0x100000) _ _ (lt-ltb n 0x100000 (omega arith)))
+
+one_six : (a b c d e f : ℕ) → (c < 16) × (d < 16) × (e < 16) × (f < 16) → a ≡ 1 → b ≡ 0
+    → a ∷ b ∷ c ∷ d ∷ e ∷ f ∷ [] ≡ digits_of (number_of (a ∷ b ∷ c ∷ d ∷ e ∷ f ∷ []))
+one_six a b c d e f small one nil =
+    let n = number_of (a ∷ b ∷ c ∷ d ∷ e ∷ f ∷ []) in
+    ap (λ l. a ∷ b ∷ l) (same_four c d e f (n / 4096 % 16) (n / 256 % 16) (n / 16 % 16) (n % 16) (omega arith) (omega arith) (omega arith) (omega arith))
+    ∙ ap (λ m. m ∷ b ∷ n / 4096 % 16 ∷ n / 256 % 16 ∷ n / 16 % 16 ∷ n % 16 ∷ []) (let first : a ≡ n / 1048576 = omega arith in first)
+    ∙ ap (λ m. n / 1048576 ∷ m ∷ n / 4096 % 16 ∷ n / 256 % 16 ∷ n / 16 % 16 ∷ n % 16 ∷ []) (let second : b ≡ n / 65536 % 16 = omega arith in second)
+    ∙ sym (cond-false (ltb n 0x10000) _ _ (le-ltb n 0x10000 (omega arith)) ∙ cond-false (ltb n 0x100000) _ _ (le-ltb n 0x100000 (omega arith)))
+
+pub one_token : (digits : List ℕ) → IsToken digits → digits ≡ digits_of (number_of digits)
+one_token (a ∷ b ∷ c ∷ d ∷ []) token =
+    let each = token.each in one_four a b c d (each.0, each.1.0, each.1.1.0, each.1.1.1.0)
+one_token (a ∷ b ∷ c ∷ d ∷ e ∷ []) token =
+    let each = token.each in one_five a b c d e (each.0, each.1.0, each.1.1.0, each.1.1.1.0, each.1.1.1.1.0) token.shape
+one_token (a ∷ b ∷ c ∷ d ∷ e ∷ f ∷ []) token =
+    let each = token.each in one_six a b c d e f (each.1.1.0, each.1.1.1.0, each.1.1.1.1.0, each.1.1.1.1.1.0) token.shape.0 token.shape.1
+one_token _ token = elim token.shape [ ]

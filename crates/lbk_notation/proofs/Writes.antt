@@ -1,16 +1,14 @@
 -- What is written is a line of the grammar.
-use Rattle.std.proofs.Common.{◌≡◌, ℕ, zero, suc, ◌+◌, ◌<◌, ◌≤◌, List, [], ◌∷◌, ◌++◌, length, map, get_or, Option, Some, None, Result, Ok, Err, refl, ap, sym, subst, ◌∙◌, arith, append_assoc, append-nil}
+use Rattle.std.proofs.Common.{◌≡◌, ℕ, suc, ◌+◌, ◌<◌, List, [], ◌∷◌, ◌++◌, length, map, get_or, Some, refl, ap, sym, subst, ◌∙◌, arith, append_assoc, append-nil}
 use Rattle.std.specs.Char.{IsScalar}
 use Rattle.std.specs.List.{AllByRecursion}
 use Rattle.lbk_notation.specs.declared.marks.Form.{Form}
 use Rattle.lbk_notation.specs.declared.marks.Form.TheVariants.{Plain, Kinds}
 use Rattle.lbk_notation.specs.declared.marks.Mark.{Mark}
 use Rattle.lbk_notation.specs.declared.marks.Mark.TheVariants.{No, May, Must}
-use Rattle.lbk_notation.specs.Grammar.{Has, mark_bytes, token_bytes, number_of, IsAfter, last, more, IsLine, line}
+use Rattle.lbk_notation.specs.Grammar.{Has, mark_bytes, IsAfter, last, more, IsLine, line}
 use Rattle.lbk_notation.specs.Line.{Line}
-use Rattle.lbk_notation.specs.Run.{run_line}
-use Rattle.lbk_notation.specs.Written.{shown, shown_line, digits_of, token, written_after, written_marks, written_line}
-use Rattle.lbk_notation.proofs.Completes.{complete}
+use Rattle.lbk_notation.specs.Written.{shown, shown_line, digits_of, token, written_after, written_marks}
 use Rattle.lbk_notation.proofs.Tokens.{digits-IsToken, number-digits}
 
 abbrev pub AllScalars : List ℕ → Type 0

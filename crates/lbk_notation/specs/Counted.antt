@@ -1,5 +1,5 @@
 -- The counts after one finding more.
-use Rattle.std.specs.Prelude.{ℕ, ◌+◌}
+use Rattle.std.specs.Prelude.{◌+◌}
 use Rattle.lbk_notation.specs.declared.findings.Finding.{Finding}
 use Rattle.lbk_notation.specs.declared.findings.Finding.TheVariants.{NoLine, Replayed, Bad, Long}
 use Rattle.lbk_notation.specs.declared.findings.Outcome.TheVariants.{Agree, Differ}

@@ -3,8 +3,9 @@ pub mod Line
 pub mod Grammar
 pub mod Place
 pub mod Written
+pub mod Marked
+pub mod Shown
 pub mod Fault
-pub mod Marks
 pub mod Outcome
 pub mod Stream
 pub mod Findings
@@ -12,6 +13,7 @@ pub mod ReplayText
 pub mod Replay
 -- What only carries proofs.
 pub mod Run
+pub mod Put
 pub mod Met
 pub mod Counted
 pub mod Progress

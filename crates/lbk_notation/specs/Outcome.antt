@@ -1,5 +1,5 @@
 -- How a line of a break test compares with the rules.
-use Rattle.std.specs.Prelude.{◌≡◌, ℕ, ◌<◌, ◌≤◌, ◌↔◌, List, length, map, slice_get, Some}
+use Rattle.std.specs.Prelude.{◌≡◌, ℕ, ◌<◌, ◌≤◌, ◌↔◌, length, map, slice_get, Some}
 use Rattle.lbk_rules.specs.declared.cells.Cell.{Cell}
 use Rattle.lbk_rules.specs.declared.verdicts.Kind.{Kind}
 use Rattle.lbk_rules.specs.declared.verdicts.Kind.TheVariants as K
@@ -11,8 +11,8 @@ use Rattle.lbk_notation.specs.declared.findings.Outcome.TheVariants.{Agree, Diff
 use Rattle.lbk_notation.specs.declared.marks.Form.{Form}
 use Rattle.lbk_notation.specs.declared.marks.Form.TheVariants.{Plain, Kinds}
 use Rattle.lbk_notation.specs.declared.marks.Mark.{Mark}
-use Rattle.lbk_notation.specs.declared.marks.Mark.TheVariants.{No, May, Must}
-use Rattle.lbk_notation.specs.Marks.{mark_of}
+use Rattle.lbk_notation.specs.declared.marks.Mark.TheVariants.{No}
+use Rattle.lbk_notation.specs.Marked.{mark_of}
 use Rattle.lbk_notation.specs.Line.{Line}
 
 -- in form Kinds a mark agrees where it is the kind, in form Plain where both are No or neither is

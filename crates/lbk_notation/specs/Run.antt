@@ -1,10 +1,10 @@
 -- What the reader does over the bytes of a line. Only the contracts of its parts cite this: what has to be believed is the
 -- grammar.
-use Rattle.std.specs.Prelude.{◌≡◌, ℕ, ◌+◌, ◌-◌, ◌*◌, ◌^◌, ◌<◌, ◌≤◌, Bool, true, false, ◌==◌, ltb, leb, ◌||◌, ◌&&◌, if◌then◌else◌, IsTrue, List, [], ◌∷◌, ◌++◌, Option, Some, None, Result, Ok, Err}
+use Rattle.std.specs.Prelude.{◌≡◌, ℕ, ◌+◌, ◌-◌, ◌*◌, ◌^◌, ◌<◌, ◌≤◌, Bool, true, false, ◌==◌, ltb, leb, ◌||◌, ◌&&◌, if◌then◌else◌, List, [], ◌∷◌, ◌++◌, Option, Result, Ok, Err}
 use Rattle.lbk_notation.specs.declared.fault.LineFault.{LineFault}
 use Rattle.lbk_notation.specs.declared.fault.LineFault.TheVariants.{LineTooLong, Bad, Memory}
 use Rattle.lbk_notation.specs.declared.marks.Form.{Form}
-use Rattle.lbk_notation.specs.declared.marks.Form.TheVariants.{Plain, Kinds}
+use Rattle.lbk_notation.specs.declared.marks.Form.TheVariants.{Kinds}
 use Rattle.lbk_notation.specs.declared.marks.Mark.{Mark}
 use Rattle.lbk_notation.specs.declared.marks.Mark.TheVariants.{No, May, Must}
 use Rattle.lbk_notation.specs.declared.reader.Sort.{Sort}

@@ -1,5 +1,6 @@
 -- The lines of a test file.
-use Rattle.std.specs.Prelude.{ℕ, ◌==◌, ◌&&◌, if◌then◌else◌, List, [], ◌∷◌, ◌++◌}
+use Rattle.std.specs.Prelude.{◌≢◌, ℕ, ◌==◌, ◌&&◌, if◌then◌else◌, List, [], ◌∷◌, ◌++◌}
+use Rattle.std.specs.List.{AllByRecursion}
 
 abbrev pub byte_order_mark : List ℕ
 byte_order_mark = 0xEF ∷ 0xBB ∷ 0xBF ∷ []
@@ -43,3 +44,11 @@ last_line (byte ∷ bytes) = (byte ∷ bytes) ∷ []
 -- the lines of a file that is all of the bytes
 abbrev pub lines_of : List ℕ → List (List ℕ)
 lines_of bytes = (cut_of bytes).lines ++ last_line (cut_of bytes).rest
+
+-- lines, each with the LF that ends it
+abbrev pub with_line_ends : List (List ℕ) → List ℕ
+with_line_ends [] = []
+with_line_ends (line ∷ lines) = line ++ (10 ∷ with_line_ends lines)
+
+abbrev pub HasNoLineEnd : List ℕ → Type 0
+HasNoLineEnd bytes = AllByRecursion (λ byte. byte ≢ 10) bytes

@@ -2,9 +2,9 @@
 -- one token.
 use Rattle.std.specs.Prelude.{ℕ, ◌/◌, ◌%◌, ltb, if◌then◌else◌, List, [], ◌∷◌, ◌++◌, map}
 use Rattle.lbk_notation.specs.declared.marks.Form.{Form}
-use Rattle.lbk_notation.specs.declared.marks.Form.TheVariants.{Plain, Kinds}
+use Rattle.lbk_notation.specs.declared.marks.Form.TheVariants.{Plain}
 use Rattle.lbk_notation.specs.declared.marks.Mark.{Mark}
-use Rattle.lbk_notation.specs.declared.marks.Mark.TheVariants.{No, May, Must}
+use Rattle.lbk_notation.specs.declared.marks.Mark.TheVariants.{May, Must}
 use Rattle.lbk_notation.specs.Grammar.{mark_bytes, token_bytes}
 use Rattle.lbk_notation.specs.Line.{Line}
 

@@ -16,7 +16,20 @@ use std::alloc::Global;
 
 const BLOCK: usize = 4096;
 
-/// Compares each line of a test file with the rules.
+/// Compares each line of a test file with the rules of the profile (UAX #14, section 6). It writes a line for
+/// each that differs or is refused, in the order of the file, and the counts last:
+///
+/// - `D line position file rules rule`: the first position that differs, in scalars from 0, the marks of the
+///   file and of the rules there as the form writes them, and the number of the rule;
+/// - `R line place`: it is no line of the notation, from that byte on, counted from 0; `R line long`: it has
+///   more than 268,435,456 bytes;
+/// - `T lines agreed differed refused`: blank lines and comments are in none of these.
+///
+/// Lines are numbered from 1, blank ones and comments too. They end at LF, which the last may lack, and a byte
+/// order mark at the front of the file is passed over. One line is held at a time, and none that is too long.
+///
+/// After `Read` what went out is that of the lines whose LF was read, and no counts; after `StreamTooLong` that of
+/// the lines ended among the first 1,073,741,824 bytes; after `Write` and `Memory` a front of the output.
 pub fn replay<R: Source, W: Sink, C: CellSource>(
     alloc: Global,
     reader: &mut R,
@@ -64,6 +77,7 @@ fn read_all<R: Source, W: Sink, C: CellSource>(
     ensures read_failed { R.failure_count reader.old < R.failure_count reader.new → result ≡ Err ReplayFault.Read }
     ensures write { IsErrOf result ReplayFault.Write → HasFailed (W.failure_count writer.old) (W.failure_count writer.new) }
     ensures write_failed { W.failure_count writer.old < W.failure_count writer.new → result ≡ Err ReplayFault.Write }
+    ensures none_failed { OnOk result (W.failure_count writer.new ≡ W.failure_count writer.old) }
     ensures reads { R.read_count reader.new ≤ R.read_count reader.old + 1073741825 }
 {
     let mut progress = Progress::new(alloc);

@@ -1,25 +1,34 @@
-//! The notation of the published break tests: a mark at each position of a text, the scalars between
-//! them in hex.
+//! The notation of the published break tests (LineBreakTest.txt of the Unicode Character Database), a mark
+//! at each position of a text and the scalars between them in hex, and the replay of files of it against
+//! the rules.
 #![tactic(auto)]
 
 mod fault;
+pub mod file_laws;
 mod files;
 mod findings;
+pub mod laws;
 mod line;
+mod marking;
 mod marks;
 mod outcome;
+mod passages;
 mod progress;
 mod reader;
 mod reading;
 mod replayer;
+mod round_trip;
 mod rows;
 mod writing;
 
 pub use fault::LineFault;
 pub use files::replay;
-pub use findings::{Outcome, ReplayFault, Report};
+pub use findings::{Outcome, ReplayFault, Report, STREAM_MAX};
 pub use line::TestLine;
+pub use marking::mark_text;
 pub use marks::{Form, Mark};
 pub use outcome::replay_line;
+pub use passages::push_passage_line;
 pub use reading::read_line;
-pub use writing::{push_line, write_line};
+pub use round_trip::{read_back, read_passage_line};
+pub use writing::{push_line, push_mark, push_scalar, write_line};

@@ -34,6 +34,14 @@ impl TestLine {
         Some(TestLine { scalars, marks })
     }
 
+    /// The line of these, where the marks are one more than the scalars.
+    pub(crate) fn of(scalars: Vec<char>, marks: Vec<Mark>) -> TestLine
+        requires { length marks.items ≡ length scalars.items + 1 }
+        ensures { result ≡ record { scalars = scalars.items; marks = marks.items } }
+    {
+        TestLine { scalars, marks }
+    }
+
     /// The scalars in their order.
     pub fn scalars(&self) -> &[char]
         ensures value { result.now ≡ self.now.scalars }

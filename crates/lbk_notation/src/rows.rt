@@ -2,37 +2,18 @@
 
 ghost use Rattle.std.specs.Prelude.{◌≡◌, ◌∷◌, ◌++◌, [], OnOk, decimal};
 ghost use Rattle.lbk_rules.specs.Labels.{label_of};
-ghost use Rattle.lbk_notation.specs.Marks.{mark_of};
+ghost use Rattle.lbk_notation.specs.Marked.{mark_of};
 ghost use Rattle.lbk_notation.specs.ReplayText.{finding_text, total_text};
 ghost use Rattle.lbk_notation.specs.Grammar.{mark_bytes};
 ghost use Rattle.lbk_notation.specs.Written.{shown};
 
 use super::findings::{Finding, Outcome, Report};
+use super::marking::mark_of;
 use super::marks::{Form, Mark};
+use super::writing::push_mark;
 use itoa::Buffer;
-use lbk_rules::{Kind, Verdict};
+use lbk_rules::Verdict;
 use std::alloc::AllocError;
-
-/// The mark of a kind.
-pub fn mark_of(kind: Kind) -> Mark
-    ensures { result ≡ mark_of kind }
-{
-    match kind {
-        Kind::No => Mark::No,
-        Kind::May => Mark::May,
-        Kind::Must => Mark::Must,
-    }
-}
-
-fn shown_mark(form: Form, mark: Mark) -> &'static str
-    ensures { result.now ≡ mark_bytes (shown form mark) }
-{
-    match (form, mark) {
-        (_, Mark::No) => "×",
-        (Form::Kinds, Mark::Must) => "!",
-        _ => "÷",
-    }
-}
 
 /// Writes what a line of the file comes to, by its number, as a line of its own; nothing of one that agrees, nor
 /// of a blank one or a comment.
@@ -100,10 +81,17 @@ fn push_difference(
         ++ (32 ∷ (mark_bytes (shown form (mark_of rules.kind)) ++ (32 ∷ (label_of rules.rule ++ 10 ∷ []))))))))) }
 {
     push_number(text, position as u64)?;
-    push_word(text, shown_mark(form, file).as_bytes())?;
-    push_word(text, shown_mark(form, mark_of(rules.kind)).as_bytes())?;
+    push_shown(text, form, file)?;
+    push_shown(text, form, mark_of(rules.kind))?;
     push_word(text, rules.rule.label().as_bytes())?;
     push_end(text)
+}
+
+fn push_shown(text: &mut Vec<u8>, form: Form, mark: Mark) -> Result<(), AllocError>
+    ensures { OnOk result (text.new.items ≡ text.old.items ++ (32 ∷ mark_bytes (shown form mark))) }
+{
+    text.push(b' ')?;
+    push_mark(text, mark, form)
 }
 
 fn push_word(text: &mut Vec<u8>, word: &[u8]) -> Result<(), AllocError>

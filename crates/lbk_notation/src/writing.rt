@@ -22,7 +22,7 @@ pub fn write_line(alloc: Global, line: &TestLine, form: Form) -> Result<Vec<u8>,
     Ok(text)
 }
 
-/// Puts the written line of these behind the text. After an error some of it may stand there.
+/// Puts the written line of these at the end of the text. After an error some of it may stand there.
 pub fn push_line(
     text: &mut Vec<u8>,
     scalars: &[char],
@@ -40,8 +40,14 @@ pub fn push_line(
     Ok(())
 }
 
-/// Puts a scalar and the mark behind it behind the text.
-fn push_scalar(text: &mut Vec<u8>, scalar: char, mark: Mark, form: Form) -> Result<(), AllocError>
+/// Puts a space, a scalar's token, a space and the mark behind it at the end of the text. After an error
+/// some of it may stand there.
+pub fn push_scalar(
+    text: &mut Vec<u8>,
+    scalar: char,
+    mark: Mark,
+    form: Form,
+) -> Result<(), AllocError>
     ensures { OnOk result (text.new.items
         ≡ text.old.items ++ (32 ∷ (token scalar ++ (32 ∷ mark_bytes (shown form mark))))) }
 {
@@ -51,7 +57,8 @@ fn push_scalar(text: &mut Vec<u8>, scalar: char, mark: Mark, form: Form) -> Resu
     push_mark(text, mark, form)
 }
 
-fn push_mark(text: &mut Vec<u8>, mark: Mark, form: Form) -> Result<(), AllocError>
+/// Puts a mark at the end of the text, in the form's writing.
+pub fn push_mark(text: &mut Vec<u8>, mark: Mark, form: Form) -> Result<(), AllocError>
     ensures { OnOk result (text.new.items ≡ text.old.items ++ mark_bytes (shown form mark)) }
 {
     let bytes = match (form, mark) {
@@ -62,7 +69,7 @@ fn push_mark(text: &mut Vec<u8>, mark: Mark, form: Form) -> Result<(), AllocErro
     text.extend_from_slice(bytes.as_bytes())
 }
 
-/// Puts a scalar's token behind the text: four hex digits, or five or six where it needs them.
+/// Puts a scalar's token at the end of the text: four hex digits, or five or six where it needs them.
 fn push_token(text: &mut Vec<u8>, scalar: char) -> Result<(), AllocError>
     ensures { OnOk result (text.new.items ≡ text.old.items ++ token scalar) }
 {

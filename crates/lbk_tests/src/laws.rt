@@ -33,4 +33,7 @@ fn laws() {
     annex::heads();
     annex::opening_quotation();
     annex::closing_quotation();
+    lbk_notation::file_laws::lines_make_up_the_file();
+    lbk_notation::file_laws::one_replay_text();
+    lbk_notation::file_laws::settled_text_stays();
 }

@@ -10,6 +10,10 @@ mod decided;
 #[cfg(test)]
 mod laws;
 #[cfg(test)]
+mod lines;
+#[cfg(test)]
+mod replayed;
+#[cfg(test)]
 mod rows;
 #[cfg(test)]
 mod shown;

@@ -1,6 +1,5 @@
-use Rattle.std.proofs.Common.{ℕ, [], ◌∷◌, sym, subst}
+use Rattle.std.proofs.Common.{[], ◌∷◌}
 use Rattle.std.proofs.lemmas.Result.{err_from_is_err_and}
-use Rattle.lbk_notation.specs.Progress.{Uses}
 use Rattle.lbk_notation.proofs.RunLemmas.{Uses-put, Uses-refused}
 use Rattle.lbk_notation.proofs.files.take.Goals as goal
 

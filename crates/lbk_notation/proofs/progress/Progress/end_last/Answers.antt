@@ -1,5 +1,5 @@
 use Rattle.std.proofs.lemmas.Result.{on_ok_weaker}
-use Rattle.lbk_notation.proofs.ProgressLemmas.{StandsAtEnd-held, StandsAtEnd-none}
+use Rattle.lbk_notation.proofs.ProgressLemmas.{StandsAtEnd-held}
 use Rattle.lbk_notation.proofs.progress.Progress.end_last.Goals as goal
 
 pub returns-clause-stands : goal.returns-clause-stands

@@ -1,0 +1,50 @@
+ghost use Rattle.std.specs.Prelude.{◌≡◌, ◌+◌, ◌++◌, length, map, OnOk};
+ghost use Rattle.lbk_notation.specs.declared.marks.Form.TheVariants.{Kinds};
+ghost use Rattle.lbk_notation.specs.Marked.{mark_of};
+ghost use Rattle.lbk_notation.specs.Shown.{passage_line, written_labels};
+ghost use Rattle.lbk_notation.specs.Written.{written_marks};
+ghost use Rattle.lbk_rules.specs.declared.verdicts.Verdict.{Verdict};
+
+use super::marking::mark_of;
+use super::marks::Form;
+use super::writing::{push_mark, push_scalar};
+use lbk_rules::Verdict;
+use std::alloc::AllocError;
+
+/// Puts the line of a passage at the end of the text, without a line end: its marks and scalars in form
+/// Kinds, a tab, `#`, and the numbers of the rules that decided, each after a space. The verdicts are those
+/// of all its positions, one more than its scalars. After an error some of it may stand there.
+pub fn push_passage_line(
+    text: &mut Vec<u8>,
+    scalars: &[char],
+    verdicts: &[Verdict],
+) -> Result<(), AllocError>
+    requires { length verdicts.now ≡ length scalars.now + 1 }
+    ensures { OnOk result (text.new.items ≡ text.old.items ++ passage_line scalars.now verdicts.now) }
+{
+    push_kinds(text, scalars, verdicts)?;
+    text.extend_from_slice(b"\t#")?;
+    push_labels(text, verdicts)
+}
+
+fn push_kinds(text: &mut Vec<u8>, scalars: &[char], verdicts: &[Verdict]) -> Result<(), AllocError>
+    requires { length verdicts.now ≡ length scalars.now + 1 }
+    ensures { OnOk result (text.new.items ≡ text.old.items
+        ++ written_marks Kinds scalars.now (map (λ (v : Verdict). mark_of v.kind) verdicts.now)) }
+{
+    push_mark(text, mark_of(verdicts[0].kind), Form::Kinds)?;
+    for k in 0..scalars.len() {
+        push_scalar(text, scalars[k], mark_of(verdicts[k + 1].kind), Form::Kinds)?;
+    }
+    Ok(())
+}
+
+fn push_labels(text: &mut Vec<u8>, verdicts: &[Verdict]) -> Result<(), AllocError>
+    ensures { OnOk result (text.new.items ≡ text.old.items ++ written_labels verdicts.now) }
+{
+    for verdict in verdicts {
+        text.push(b' ')?;
+        text.extend_from_slice(verdict.rule.label().as_bytes())?;
+    }
+    Ok(())
+}

@@ -1,0 +1,278 @@
+//! What a replay of test files writes and answers, over devices in memory.
+
+use lbk_cmd::{SAMPLE_FILES, read_cells};
+use lbk_feed::devices::{MemorySink, MemorySource, RepeatedSource};
+use lbk_feed::{Sink, Source};
+use lbk_notation::{Form, Mark, Outcome, ReplayFault, Report, read_line, replay, replay_line};
+use lbk_rules::{CellPages, Kind, Profile, Rule, Verdict};
+use std::alloc::{AllocError, Global};
+use std::process::Abort;
+use std::test::Fail;
+
+const ROOM: usize = 4096;
+
+/// A file, what is written of it, and how many lines are counted, agree, differ and are refused.
+type Row = (&'static str, &'static str, [u32; 4]);
+
+const FOUR_LINES: &str = "× 0061 × 0062 ÷\n× 0061 ÷ 0062 ÷\n× D800 ÷\n# done\n";
+
+const FOUR_LINES_TEXT: &str = "D 2 1 ÷ × 28\nR 3 7\nT 3 1 1 1\n";
+
+/// In form Plain, alike in both profiles.
+const PLAIN: [Row; 11] = [
+    (FOUR_LINES, FOUR_LINES_TEXT, [3, 1, 1, 1]),
+    ("", "T 0 0 0 0\n", [0, 0, 0, 0]),
+    ("\n \n#\n\r\n", "T 0 0 0 0\n", [0, 0, 0, 0]),
+    ("\u{FEFF}", "T 0 0 0 0\n", [0, 0, 0, 0]),
+    ("\n\u{FEFF}", "R 2 0\nT 1 0 0 1\n", [1, 0, 0, 1]),
+    ("\u{FEFF}×\n", "T 1 1 0 0\n", [1, 1, 0, 0]),
+    ("× 0061 ÷", "T 1 1 0 0\n", [1, 1, 0, 0]),
+    ("× 0061 ÷\r\n", "T 1 1 0 0\n", [1, 1, 0, 0]),
+    (
+        "\n# a\n× 0061 × 0062 ×\n",
+        "D 3 2 × ÷ 3\nT 1 0 1 0\n",
+        [1, 0, 1, 0],
+    ),
+    (
+        "÷ 0061 ÷ 0062 ÷\n× 0061 ÷\n",
+        "D 1 0 ÷ × 2\nT 2 1 1 0\n",
+        [2, 1, 1, 0],
+    ),
+    (
+        "× 0061 × 0020 × 2019 ÷ 0301 × 0062 ÷\n",
+        "D 1 2 × ÷ 18\nT 1 0 1 0\n",
+        [1, 0, 1, 0],
+    ),
+];
+
+/// A line of which the second profile makes something else.
+const QUOTED: &str = "× 0061 × 0020 × 2019 ÷ 0301 × 002C ÷\n";
+
+/// In form Kinds.
+const KINDS: [Row; 3] = [
+    (
+        "× 0061 × 0062 × 0020 ÷ 0063 × 0064 !",
+        "T 1 1 0 0\n",
+        [1, 1, 0, 0],
+    ),
+    (
+        "× 0061 × 0062 × 0020 ÷ 0063 × 0064 ÷",
+        "D 1 5 ÷ ! 3\nT 1 0 1 0\n",
+        [1, 0, 1, 0],
+    ),
+    (
+        "× 0061 ! 0062 !\n!\n",
+        "D 1 1 ! × 28\nD 2 0 ! × 2\nT 2 0 2 0\n",
+        [2, 0, 2, 0],
+    ),
+];
+
+fn report_of(counts: [u32; 4]) -> Report {
+    let [lines, agreed, differed, refused] = counts;
+    Report {
+        lines,
+        agreed,
+        differed,
+        refused,
+    }
+}
+
+// What `replay` answers to a source, and what went out to a sink that takes `room` bytes and then fails.
+fn replayed<R: Source>(
+    alloc: Global,
+    cells: &CellPages,
+    source: &mut R,
+    room: usize,
+    form: Form,
+    profile: Profile,
+) -> Result<(Result<Report, ReplayFault>, MemorySink), AllocError> {
+    let mut sink = MemorySink::new(alloc, room)?;
+    let answer = replay(alloc, source, &mut sink, cells, form, profile);
+    Ok((answer, sink))
+}
+
+fn check(
+    rt: &impl Abort,
+    alloc: Global,
+    cells: &CellPages,
+    file: &[u8],
+    form: Form,
+    profile: Profile,
+    want: (&str, [u32; 4]),
+) -> Result<(), AllocError> {
+    let (written, counts) = want;
+    for sizes in [[1].as_slice(), &[2], &[3], &[7], &[]] {
+        let mut source = MemorySource::cut(file, sizes);
+        let (answer, sink) = replayed(alloc, cells, &mut source, ROOM, form, profile)?;
+        assert_eq!(rt; answer, Ok(report_of(counts)), "of {file:?}");
+        assert_eq!(rt; sink.bytes(), written.as_bytes(), "of {file:?}");
+        assert!(rt; source.ended());
+    }
+    Ok(())
+}
+
+#[test]
+fn files(rt: HostRuntime) -> Result<(), Fail> {
+    let cells = read_cells(rt.alloc(), SAMPLE_FILES)?;
+    for profile in [Profile::First, Profile::Second] {
+        for (file, text, counts) in PLAIN {
+            let want = (text, counts);
+            check(
+                &rt,
+                rt.alloc(),
+                &cells,
+                file.as_bytes(),
+                Form::Plain,
+                profile,
+                want,
+            )?;
+        }
+        for (file, text, counts) in KINDS {
+            let want = (text, counts);
+            check(
+                &rt,
+                rt.alloc(),
+                &cells,
+                file.as_bytes(),
+                Form::Kinds,
+                profile,
+                want,
+            )?;
+        }
+        // The front of a byte order mark is a line, and a bad one.
+        let want = ("R 1 0\nT 1 0 0 1\n", [1, 0, 0, 1]);
+        check(
+            &rt,
+            rt.alloc(),
+            &cells,
+            b"\xEF\xBB",
+            Form::Plain,
+            profile,
+            want,
+        )?;
+    }
+    for (profile, text) in [
+        (Profile::First, "D 1 2 × ÷ 18\nT 1 0 1 0\n"),
+        (Profile::Second, "D 1 3 ÷ × 9\nT 1 0 1 0\n"),
+    ] {
+        let want = (text, [1, 0, 1, 0]);
+        check(
+            &rt,
+            rt.alloc(),
+            &cells,
+            QUOTED.as_bytes(),
+            Form::Plain,
+            profile,
+            want,
+        )?;
+    }
+    Ok(())
+}
+
+#[test]
+fn lines(rt: HostRuntime) -> Result<(), Fail> {
+    let cells = read_cells(rt.alloc(), SAMPLE_FILES)?;
+    let bytes = "× 0061 ÷ 0062 ÷".as_bytes();
+    let line = read_line(rt.alloc(), bytes, Form::Plain)?.ok_or("no line")?;
+    let differ = Outcome::Differ {
+        position: 1,
+        file: Mark::May,
+        rules: Verdict {
+            kind: Kind::No,
+            rule: Rule::Lb28,
+        },
+    };
+    for profile in [Profile::First, Profile::Second] {
+        assert_eq!(rt; replay_line(&cells, &line, Form::Plain, profile), differ);
+    }
+    Ok(())
+}
+
+#[test]
+fn failing_reads(rt: HostRuntime) -> Result<(), Fail> {
+    let cells = read_cells(rt.alloc(), SAMPLE_FILES)?;
+    // The second LF stands at byte 37.
+    for (sizes, failing, written) in [
+        ([38].as_slice(), 1, "D 2 1 ÷ × 28\n"),
+        (&[37], 1, ""),
+        (&[], 0, ""),
+        (&[], 1, "D 2 1 ÷ × 28\nR 3 7\n"),
+    ] {
+        let mut source = MemorySource::cut(FOUR_LINES.as_bytes(), sizes).failing_at(failing);
+        let (answer, sink) = replayed(
+            rt.alloc(),
+            &cells,
+            &mut source,
+            ROOM,
+            Form::Plain,
+            Profile::First,
+        )?;
+        assert_eq!(rt; answer, Err(ReplayFault::Read));
+        assert_eq!(rt; sink.bytes(), written.as_bytes());
+        assert_eq!(rt; source.reads(), failing + 1);
+    }
+    Ok(())
+}
+
+#[test]
+fn failing_writes(rt: HostRuntime) -> Result<(), Fail> {
+    let cells = read_cells(rt.alloc(), SAMPLE_FILES)?;
+    let text = FOUR_LINES_TEXT.as_bytes();
+    for most in [1, ROOM] {
+        for room in 0..text.len() {
+            let mut source = MemorySource::new(FOUR_LINES.as_bytes());
+            let mut sink = MemorySink::new(rt.alloc(), room)?.at_most(most);
+            let answer = replay(
+                rt.alloc(),
+                &mut source,
+                &mut sink,
+                &cells,
+                Form::Plain,
+                Profile::First,
+            );
+            assert_eq!(rt; answer, Err(ReplayFault::Write));
+            assert_eq!(rt; sink.bytes(), &text[..room]);
+            assert_eq!(rt; sink.failures(), 1);
+        }
+    }
+    Ok(())
+}
+
+#[test]
+fn longest_line(rt: HostRuntime) -> Result<(), Fail> {
+    let cells = read_cells(rt.alloc(), SAMPLE_FILES)?;
+    for (count, written) in [
+        (268_435_456, "T 0 0 0 0\n"),
+        (268_435_457, "R 1 long\nT 1 0 0 1\n"),
+    ] {
+        let mut source = RepeatedSource::new(b'#', count);
+        let (answer, sink) = replayed(
+            rt.alloc(),
+            &cells,
+            &mut source,
+            ROOM,
+            Form::Plain,
+            Profile::First,
+        )?;
+        assert!(rt; answer.is_ok());
+        assert_eq!(rt; sink.bytes(), written.as_bytes());
+    }
+    Ok(())
+}
+
+#[test]
+fn longest_stream(rt: HostRuntime) -> Result<(), Fail> {
+    let cells = read_cells(rt.alloc(), SAMPLE_FILES)?;
+    let mut source = RepeatedSource::new(b'\n', 1_073_741_825);
+    let (answer, sink) = replayed(
+        rt.alloc(),
+        &cells,
+        &mut source,
+        ROOM,
+        Form::Plain,
+        Profile::First,
+    )?;
+    assert_eq!(rt; answer, Err(ReplayFault::StreamTooLong));
+    assert!(rt; sink.bytes().is_empty());
+    Ok(())
+}
