@@ -10,7 +10,7 @@ use Rattle.lbk_files.specs.declared.readiness.Ready.{Ready}
 use Rattle.lbk_files.specs.Ready.{IsReadyFor}
 use Rattle.lbk_cmd.specs.declared.ending.Ending.{Ending}
 use Rattle.lbk_cmd.specs.Devices.{Devices}
-use Rattle.lbk_cmd.specs.Run.{EngineRuns, Performs, ReplayRun, TextRun}
+use Rattle.lbk_cmd.specs.Acts.{EngineRuns, Performs, ReplayRun, TextRun}
 
 -- an engine that runs on what is ready for a task performs it
 pub ready_performs : (Shows Segments : TextRun) (Replays : ReplayRun) (file : List ℕ → Option (Option (List ℕ))) (task : Task) (ready : Ready)

@@ -5,4 +5,4 @@ pub mod Refusal
 pub mod Show
 pub mod Ending
 pub mod Devices
-pub mod Run
+pub mod Acts

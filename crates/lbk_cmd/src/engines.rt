@@ -2,7 +2,7 @@
 
 ghost use Rattle.lbk_rules.specs.CellPages.{page_cell};
 ghost use Rattle.lbk_cmd.specs.Devices.{devices_of};
-ghost use Rattle.lbk_cmd.specs.Run.{ReplayRun, TextRun};
+ghost use Rattle.lbk_cmd.specs.Acts.{ReplayRun, TextRun};
 
 use super::faults::CmdFault;
 use lbk_feed::{Sink, Source};

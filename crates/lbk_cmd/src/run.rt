@@ -8,7 +8,7 @@ ghost use Rattle.lbk_words.specs.PlainWords.{IsPlainFor};
 ghost use Rattle.lbk_files.specs.Ready.{IsStoppedByWords};
 ghost use Rattle.lbk_cmd.specs.Devices.{devices_of};
 ghost use Rattle.lbk_cmd.specs.Ending.{ending_of_text};
-ghost use Rattle.lbk_cmd.specs.Run.{EngineRuns, Performs, ShowsSamples, StopsBefore, form_of};
+ghost use Rattle.lbk_cmd.specs.Acts.{EngineRuns, Performs, ShowsSamples, StopsBefore, form_of};
 
 use super::ending::Ending;
 use super::engines::Engines;
