@@ -12,4 +12,6 @@ mod laws;
 #[cfg(test)]
 mod rows;
 #[cfg(test)]
+mod segmented;
+#[cfg(test)]
 mod shown;

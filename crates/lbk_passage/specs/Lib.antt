@@ -1,0 +1,14 @@
+-- What a reader has to believe.
+pub mod Marks
+pub mod Passages
+pub mod Breaks
+pub mod Segments
+pub mod Pieces
+pub mod State
+pub mod Next
+pub mod Laws
+-- What only carries proofs.
+pub mod Faults
+pub mod Stays
+pub mod Gathering
+pub mod Cuts
