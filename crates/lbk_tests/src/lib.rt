@@ -10,6 +10,8 @@ mod decided;
 #[cfg(test)]
 mod laws;
 #[cfg(test)]
+mod lines;
+#[cfg(test)]
 mod rows;
 #[cfg(test)]
 mod segmented;

@@ -1,0 +1,37 @@
+-- What is answered of the run over a line, in the words of the grammar.
+use Rattle.std.proofs.Common.{◌≡◌, ℕ, ◌≤◌, List, length, Option, Result, Ok, Err, IfOk, IfErr}
+use Rattle.lbk_notation.specs.declared.fault.LineFault.{LineFault}
+use Rattle.lbk_notation.specs.declared.fault.LineFault.TheVariants.{LineTooLong, Bad, Memory}
+use Rattle.lbk_notation.specs.declared.marks.Form.{Form}
+use Rattle.lbk_notation.specs.Fault.{IsFault, longest}
+use Rattle.lbk_notation.specs.Grammar.{IsLine}
+use Rattle.lbk_notation.specs.Line.{Line}
+use Rattle.lbk_notation.specs.Run.{run_line, IsRunFault}
+use Rattle.lbk_notation.proofs.Completes.{complete}
+use Rattle.lbk_notation.proofs.Sound.{sound}
+use Rattle.lbk_notation.proofs.Places.{outside, placed}
+
+-- one value alone is related to bytes
+pub only : (form : Form) (bytes : List ℕ) (value other : Option Line) → run_line form bytes ≡ Ok value → IsLine form bytes other → other ≡ value
+only form bytes value other e is = let ok = complete form bytes other is in cc
+
+pub answered_found : (form : Form) (bytes : List ℕ) (r : Result (Option Line) LineFault) → IfOk r (λ value. run_line form bytes ≡ Ok value)
+    → IfOk r (λ value. IsLine form bytes value)
+answered_found form bytes (Ok value) e = sound form bytes value e
+answered_found form bytes (Err fault) e = tt
+
+pub answered_only : (form : Form) (bytes : List ℕ) (r : Result (Option Line) LineFault) → IfOk r (λ value. run_line form bytes ≡ Ok value)
+    → IfOk r (λ value. (other : Option Line) → IsLine form bytes other → other ≡ value)
+answered_only form bytes (Ok value) e = λ other is. only form bytes value other e is
+answered_only form bytes (Err fault) e = tt
+
+pub answered_fault : (form : Form) (bytes : List ℕ) (r : Result (Option Line) LineFault) → length bytes ≤ longest
+    → IfErr r (λ fault. IsRunFault form bytes fault) → IfErr r (λ fault. IsFault form bytes fault)
+answered_fault form bytes (Ok value) short e = tt
+answered_fault form bytes (Err LineTooLong) short e = elim e [ ]
+answered_fault form bytes (Err (Bad at)) short e = (short, outside form bytes at e, placed form bytes at e)
+answered_fault form bytes (Err Memory) short e = short
+
+-- so a line that says something says nothing else
+pub only_of : (form : Form) (bytes : List ℕ) (value other : Option Line) → IsLine form bytes value → IsLine form bytes other → other ≡ value
+only_of form bytes value other is is' = only form bytes value other (complete form bytes value is) is'

@@ -1,0 +1,11 @@
+pub mod Sorts
+pub mod Digits
+pub mod Runs
+pub mod Completes
+pub mod Sound
+pub mod Places
+pub mod Answered
+pub mod Tokens
+pub mod Writes
+pub mod Markings
+pub mod Lengths

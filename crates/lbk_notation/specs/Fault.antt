@@ -1,0 +1,16 @@
+-- When a line is refused.
+use Rattle.std.specs.Prelude.{ℕ, ◌<◌, ◌≤◌, List, length}
+use Rattle.lbk_notation.specs.declared.fault.LineFault.{LineFault}
+use Rattle.lbk_notation.specs.declared.fault.LineFault.TheVariants.{LineTooLong, Bad, Memory}
+use Rattle.lbk_notation.specs.declared.marks.Form.{Form}
+use Rattle.lbk_notation.specs.Place.{IsOutside, IsPlace}
+
+-- the longest line, in bytes
+abbrev pub longest : ℕ
+longest = 268435456
+
+-- what a fault says of the bytes; of want of memory it says that they are not too long
+abbrev pub IsFault : Form → List ℕ → LineFault → Type 0
+IsFault form bytes LineTooLong = longest < length bytes
+IsFault form bytes (Bad at) = (length bytes ≤ longest) × IsOutside form bytes × IsPlace form bytes at
+IsFault form bytes Memory = length bytes ≤ longest

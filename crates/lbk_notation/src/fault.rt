@@ -1,0 +1,32 @@
+ghost use Rattle.std.specs.Prelude.{◌≡◌};
+ghost use Rattle.lbk_notation.specs.declared.fault.LineFault.TheVariants.{Memory};
+
+use std::alloc::{AllocError, AllocFailed};
+
+/// Why a line could not be read.
+#[derive(Clone, Copy, PartialEq, Eq, Debug, Drop)]
+pub enum LineFault {
+    /// It has more than 268,435,456 bytes.
+    LineTooLong,
+    /// It is no line of the notation: with its bytes up to and with the one at `at`, counted from 0, no
+    /// line begins; where `at` is its length, it ends before a line does.
+    Bad { at: u32 },
+    /// Memory was refused.
+    Memory,
+}
+
+impl From<AllocError> for LineFault {
+    ghost from_gives = { λ _ fault. fault ≡ Memory };
+
+    fn from(_: AllocError) -> LineFault {
+        LineFault::Memory
+    }
+}
+
+impl<T: Drop> From<AllocFailed<T>> for LineFault {
+    ghost from_gives = { λ _ fault. fault ≡ Memory };
+
+    fn from(_: AllocFailed<T>) -> LineFault {
+        LineFault::Memory
+    }
+}

@@ -1,0 +1,60 @@
+ghost use Rattle.std.specs.Prelude.{◌≡◌, ◌+◌, length};
+ghost use Rattle.lbk_notation.specs.Line.{made};
+
+use super::marks::Mark;
+use std::marker::Model;
+
+/// A line of the notation: scalars, and a mark at each position, from the one before the first scalar to
+/// the one after the last.
+#[derive(Drop)]
+pub struct TestLine {
+    scalars: Vec<char>,
+    marks: Vec<Mark>,
+}
+
+impl Model for TestLine {
+    ghost use Rattle.std.specs.Prelude.{◌≡◌, ◌+◌, length};
+    ghost use Rattle.lbk_notation.specs.Line.{Line};
+
+    ghost Value = { Line };
+
+    ghost view = { λ line. record { scalars = line.scalars.items; marks = line.marks.items } };
+
+    ghost invariant = { λ line. length line.marks.items ≡ length line.scalars.items + 1 };
+}
+
+impl TestLine {
+    /// The line of these. None, both lists being dropped, unless the marks are one more than the scalars.
+    pub fn new(scalars: Vec<char>, marks: Vec<Mark>) -> Option<TestLine>
+        ensures { result ≡ made scalars.items marks.items }
+    {
+        if marks.is_empty() || marks.len() - 1 != scalars.len() {
+            return None;
+        }
+        Some(TestLine { scalars, marks })
+    }
+
+    /// The line of these, where the marks are one more than the scalars.
+    pub(crate) fn of(scalars: Vec<char>, marks: Vec<Mark>) -> TestLine
+        requires { length marks.items ≡ length scalars.items + 1 }
+        ensures { result ≡ record { scalars = scalars.items; marks = marks.items } }
+    {
+        TestLine { scalars, marks }
+    }
+
+    /// The scalars in their order.
+    pub fn scalars(&self) -> &[char]
+        ensures value { result.now ≡ self.now.scalars }
+        ensures one_less { length self.now.marks ≡ length self.now.scalars + 1 }
+    {
+        &self.scalars
+    }
+
+    /// The marks of all positions, one more than the scalars.
+    pub fn marks(&self) -> &[Mark]
+        ensures value { result.now ≡ self.now.marks }
+        ensures one_more { length self.now.marks ≡ length self.now.scalars + 1 }
+    {
+        &self.marks
+    }
+}

@@ -1,0 +1,19 @@
+/// What a line of the notation says of a position.
+#[derive(Clone, Copy, PartialEq, Eq, Debug)]
+pub enum Mark {
+    /// `×`: no break.
+    No,
+    /// `÷`: a break that may be; in form Plain any break.
+    May,
+    /// `!`: a break that must be; in form Kinds alone.
+    Must,
+}
+
+/// Which marks a line may have.
+#[derive(Clone, Copy, PartialEq, Eq, Debug)]
+pub enum Form {
+    /// That of the published tests: `×` and `÷`, which stands for every break.
+    Plain,
+    /// With `!` for a break that must be.
+    Kinds,
+}

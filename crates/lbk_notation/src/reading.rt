@@ -1,0 +1,65 @@
+ghost use Rattle.std.specs.Prelude.{◌≡◌, ◌<◌, ◌≤◌, ◌↔◌, Option, Ok, length, IfOk, IfErr, IsErrOf};
+ghost use Rattle.lbk_notation.specs.Fault.{IsFault, longest};
+ghost use Rattle.lbk_notation.specs.Grammar.{IsLine};
+ghost use Rattle.lbk_notation.specs.Line.{Line};
+ghost use Rattle.lbk_notation.specs.Run.{run_line, IsRunFault};
+ghost use Rattle.lbk_notation.specs.declared.fault.LineFault.TheVariants.{LineTooLong};
+
+use super::fault::LineFault;
+use super::line::TestLine;
+use super::marks::Form;
+use super::reader::{State, Taken, sort_of, step};
+use std::alloc::Global;
+
+/// The longest line, in bytes.
+const LONGEST: usize = 268_435_456;
+
+/// Reads a line of the notation, without its line end: its scalars and marks, or None for a blank line or
+/// a comment. A line over 268,435,456 bytes is `LineTooLong`, which is looked at first; one that is none
+/// of the notation is `Bad`, with the place where it stops being the beginning of any line. `Memory` may
+/// come in place of an answer where a growth was refused.
+pub fn read_line(alloc: Global, bytes: &[u8], form: Form) -> Result<Option<TestLine>, LineFault>
+    ensures long { IsErrOf result LineTooLong ↔ (longest < length bytes.now) }
+    // The line is one that the grammar relates to the bytes, and it relates no other.
+    ensures found { IfOk result (λ line. IsLine form bytes.now line) }
+    ensures only { IfOk result (λ line. (other : Option Line) → IsLine form bytes.now other → other ≡ line) }
+    // The bytes are outside the grammar and go wrong at the place.
+    ensures fault { IfErr result (λ fault. IsFault form bytes.now fault) }
+{
+    if bytes.len() > LONGEST {
+        return Err(LineFault::LineTooLong);
+    }
+    read_bytes(alloc, bytes, form)
+}
+
+/// Reads a line that is not too long.
+fn read_bytes(alloc: Global, bytes: &[u8], form: Form) -> Result<Option<TestLine>, LineFault>
+    requires { length bytes.now ≤ longest }
+    ensures line { IfOk result (λ line. run_line form bytes.now ≡ Ok line) }
+    ensures fault { IfErr result (λ fault. IsRunFault form bytes.now fault) }
+{
+    let mut scalars = Vec::new(alloc);
+    let mut marks = Vec::new(alloc);
+    let mut state = State::Start;
+    for (place, byte) in bytes.iter().enumerate() {
+        match step(form, state, sort_of(*byte)) {
+            Taken::Dead => return Err(LineFault::Bad { at: place as u32 }),
+            Taken::On(next) => state = next,
+            Taken::OneScalar(scalar) => {
+                scalars.push(scalar)?;
+                state = State::Coded;
+            }
+            Taken::OneMark(mark) => {
+                marks.push(mark)?;
+                state = State::Marked;
+            }
+        }
+    }
+    if !state.can_end() {
+        return Err(LineFault::Bad {
+            at: bytes.len() as u32,
+        });
+    }
+    // Without a mark there is no line.
+    Ok(TestLine::new(scalars, marks))
+}

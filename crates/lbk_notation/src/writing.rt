@@ -1,0 +1,100 @@
+ghost use Rattle.std.specs.Prelude.{◌≡◌, ◌+◌, ◌<◌, ◌++◌, ◌∷◌, Option, Some, length, IfOk, OnOk, EachIndex, slice_index};
+ghost use Rattle.std.specs.Char.{IsScalar};
+ghost use Rattle.lbk_notation.specs.Grammar.{IsLine, digit_byte, mark_bytes};
+ghost use Rattle.lbk_notation.specs.Line.{Line};
+ghost use Rattle.lbk_notation.specs.Written.{shown, token, written_marks, written_line, shown_line};
+
+use super::line::TestLine;
+use super::marks::{Form, Mark};
+use std::alloc::{AllocError, Global};
+
+/// The line as bytes, without a line end: marks and hex tokens with one space between them, each token
+/// with the fewest digits that are four or more. Form Plain has `÷` for every break.
+pub fn write_line(alloc: Global, line: &TestLine, form: Form) -> Result<Vec<u8>, AllocError>
+    ensures text { IfOk result (λ bytes. bytes.items ≡ written_line form line.now) }
+    // What is written is a line of the grammar that says the marks shown and the scalars, and nothing else.
+    ensures again { IfOk result (λ bytes. IsLine form bytes.items (Some (shown_line form line.now))) }
+    ensures only { IfOk result (λ bytes. (other : Option Line) → IsLine form bytes.items other
+        → other ≡ Some (shown_line form line.now)) }
+{
+    let mut text = Vec::new(alloc);
+    push_line(&mut text, line.scalars(), line.marks(), form)?;
+    Ok(text)
+}
+
+/// Puts the written line of these at the end of the text. After an error some of it may stand there.
+pub fn push_line(
+    text: &mut Vec<u8>,
+    scalars: &[char],
+    marks: &[Mark],
+    form: Form,
+) -> Result<(), AllocError>
+    requires { length marks.now ≡ length scalars.now + 1 }
+    ensures text { OnOk result (text.new.items ≡ text.old.items ++ written_marks form scalars.now marks.now) }
+    ensures chars { OnOk result (EachIndex scalars.now (λ k. IsScalar (slice_index scalars.now k))) }
+{
+    push_mark(text, marks[0], form)?;
+    for k in 0..scalars.len() {
+        push_scalar(text, scalars[k], marks[k + 1], form)?;
+    }
+    Ok(())
+}
+
+/// Puts a space, a scalar's token, a space and the mark behind it at the end of the text. After an error
+/// some of it may stand there.
+pub fn push_scalar(
+    text: &mut Vec<u8>,
+    scalar: char,
+    mark: Mark,
+    form: Form,
+) -> Result<(), AllocError>
+    ensures { OnOk result (text.new.items
+        ≡ text.old.items ++ (32 ∷ (token scalar ++ (32 ∷ mark_bytes (shown form mark))))) }
+{
+    text.push(b' ')?;
+    push_token(text, scalar)?;
+    text.push(b' ')?;
+    push_mark(text, mark, form)
+}
+
+/// Puts a mark at the end of the text, in the form's writing.
+pub fn push_mark(text: &mut Vec<u8>, mark: Mark, form: Form) -> Result<(), AllocError>
+    ensures { OnOk result (text.new.items ≡ text.old.items ++ mark_bytes (shown form mark)) }
+{
+    let bytes = match (form, mark) {
+        (_, Mark::No) => "×",
+        (Form::Kinds, Mark::Must) => "!",
+        (Form::Plain, Mark::Must) | (_, Mark::May) => "÷",
+    };
+    text.extend_from_slice(bytes.as_bytes())
+}
+
+/// Puts a scalar's token at the end of the text: four hex digits, or five or six where it needs them.
+fn push_token(text: &mut Vec<u8>, scalar: char) -> Result<(), AllocError>
+    ensures { OnOk result (text.new.items ≡ text.old.items ++ token scalar) }
+{
+    let code = u32::from(scalar);
+    if code >= 0x10_0000 {
+        text.push(digit_byte(code / 0x10_0000))?;
+    }
+    if code >= 0x1_0000 {
+        text.push(digit_byte(code / 0x1_0000 % 16))?;
+    }
+    text.push(digit_byte(code / 0x1000 % 16))?;
+    text.push(digit_byte(code / 0x100 % 16))?;
+    text.push(digit_byte(code / 0x10 % 16))?;
+    text.push(digit_byte(code % 16))?;
+    Ok(())
+}
+
+/// The upper-case hex digit of a number below 16.
+fn digit_byte(digit: u32) -> u8
+    requires { digit < 16 }
+    ensures { result ≡ digit_byte digit }
+{
+    if digit < 10 {
+        b'0' + digit as u8
+    } else {
+        b'A' + (digit as u8 - 10)
+    }
+}
