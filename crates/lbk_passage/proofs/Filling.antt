@@ -8,7 +8,7 @@ use Rattle.lbk_rules.specs.declared.cells.Cell.{Cell}
 use Rattle.lbk_rules.specs.declared.verdicts.Profile.{Profile}
 use Rattle.lbk_rules.specs.declared.verdicts.Verdict.{Verdict}
 use Rattle.lbk_passage.specs.State.{State, state_with, text_held}
-use Rattle.lbk_passage.specs.Stays.{IsWhole}
+use Rattle.lbk_passage.specs.Stays.{IsWhole, IsWholeText}
 use Rattle.lbk_passage.specs.Next.{fault_in, ends_run, KeepsAhead, Stops}
 use Rattle.lbk_passage.specs.Gathering.{HasRead, Gathers, Fills, FillAnswers}
 use Rattle.lbk_passage.specs.declared.faults.PassageFault.{PassageFault}
@@ -125,3 +125,17 @@ ends_by_fault s (NotUtf8 at) stops = refl
 ends_by_fault s TextTooLong stops = refl
 ends_by_fault s (ParagraphTooLong start) stops = refl
 ends_by_fault s Spent stops = refl
+
+-- a paragraph whose end was found
+pub Fills-ok : (cell : ℕ → Cell) (profile : Profile) (old : Paragraph) (u : Option (List ℕ)) (e : Bool) (reads : ℕ)
+    (mid new p : Paragraph) (v : Option (List ℕ)) (e' : Bool) (reads' : ℕ) (end : Option Verdict)
+    → (old.is_held || old.is_spent) ≡ false → mid.feed ≡ old.feed → mid.limit ≡ old.limit
+    → Gathers cell mid new u v e e' reads reads' (Ok end) → p.feed ≡ new.feed → string_bytes p.text ≡ string_bytes new.text
+    → p.limit ≡ new.limit → p.is_spent ≡ new.is_spent → p.is_held ≡ true → old.is_spent ≡ false → Fills cell profile old p u v e e' reads reads' (Ok end)
+Fills-ok cell profile old u e reads mid new p v e' reads' end fresh feed_is limit_is g feed_same text_same limit_same spent_same held unspent =
+    let in_hand = ap (λ b. b || p.is_spent) held in
+    let whole : IsWholeText cell (string_bytes p.text) p.feed end =
+    subst (λ f. IsWholeText cell (string_bytes p.text) f end) (sym feed_same)
+    (subst (λ l. IsWholeText cell l new.feed end) (sym text_same) g.whole) in
+    Fills-gathered cell profile old u e reads mid new p v e' reads' (Ok end) fresh feed_is limit_is g feed_same text_same limit_same spent_same in_hand unspent
+    (found (state_with cell profile p) p (Shows-of cell profile p in_hand) end old.is_spent whole)

@@ -1,5 +1,11 @@
 //! The passages of a text, one after another.
 
+ghost use Rattle.std.specs.Prelude.{◌≡◌, [], ◌≤◌, ◌<◌, ◌+◌, ◌^◌, ◌↔◌, ◌⊎◌, ◌||◌, true, length, IfOk, IfErr, OnOk, IsErrOf};
+ghost use Rattle.std.specs.Borrow.{sem};
+ghost use Rattle.std.specs.Io.BufRead.{Rests};
+ghost use Rattle.std.specs.Str.{chars};
+ghost use Rattle.lbk_passage.specs.Stays.{IsWhole};
+
 use crate::faults::{LIMIT_MAX, PassageFault};
 use crate::paragraph::Paragraph;
 use crate::passage::{Passage, Piece, Segment};
@@ -19,9 +25,16 @@ pub struct Segmenter<'a, C: CellSource> {
     paragraph: Paragraph,
     segments: Vec<Segment>,
     pieces: Vec<Piece>,
+    ghost whole: { paragraph.is_held ≡ true → IsWhole (C.cell_of cells.now) paragraph },
 }
 
 impl<'a, C: CellSource> Segmenter<'a, C> {
+    ghost use Rattle.lbk_passage.specs.State.{IsLimit, new_state};
+    ghost use Rattle.lbk_passage.specs.Shown.{state_of};
+    ghost use Rattle.lbk_passage.specs.Next.{AfterNext, fault_in, failures_with};
+    ghost use Rattle.lbk_passage.specs.contracts.segmenter.Segmenter.{the_row};
+    ghost use mir.Syntax.{named};
+
     /// A segmenter that has read nothing. It reserves room for the `limit` bytes of one paragraph and nothing else.
     ///
     /// `Limit` comes exactly where the limit is not 1 to 16,777,216, `Memory` where the room could not be had.
@@ -30,7 +43,11 @@ impl<'a, C: CellSource> Segmenter<'a, C> {
         cells: &'a C,
         limit: u32,
         profile: Profile,
-    ) -> Result<Segmenter<'a, C>, PassageFault> {
+    ) -> Result<Segmenter<'a, C>, PassageFault>
+        ensures limit { IsErrOf result PassageFault.Limit ↔ (¬ (IsLimit limit)) }
+        ensures only { IfErr result (λ fault. (fault ≡ PassageFault.Limit) ⊎ (fault ≡ PassageFault.Memory)) }
+        ensures state { IfOk result (λ s. state_of C.cell_of s ≡ new_state (C.cell_of cells.now) profile limit) }
+    {
         if limit == 0 || limit > LIMIT_MAX {
             return Err(PassageFault::Limit);
         }
@@ -47,22 +64,36 @@ impl<'a, C: CellSource> Segmenter<'a, C> {
     }
 
     /// The next passage, or `None` at the end of the text and from then on.
-    pub fn next<R: Source>(&mut self, reader: &mut R) -> Result<Option<Passage<'_>>, PassageFault> {
+    pub fn next<R: Source>(
+        &mut self,
+        reader: &mut R,
+    ) -> Result<Option<Passage<'_>>, PassageFault>
+        ensures* after_borrow { sem 𝓛 (Rests (the_row C.row (record { mir = named 1; lft = [] })) self.entry (λ new.
+            AfterNext (state_of C.cell_of self.old) (state_of C.cell_of new) (R.unread reader.old) (R.unread reader.new)
+            (R.has_ended reader.old) (R.has_ended reader.new)
+            (R.read_count reader.old) (R.read_count reader.new) result)) }
+
+        ensures spent { (state_of C.cell_of self.old).is_spent ≡ true → result ≡ Err PassageFault.Spent }
+        ensures spent_only { result ≡ Err PassageFault.Spent → (state_of C.cell_of self.old).is_spent ≡ true }
+        // Where the answer was seen before, or a fault was answered, no read is made.
+        ensures settled { (state_of C.cell_of self.old).is_settled ≡ true → reader.new ≡ reader.old }
+        ensures ended { (state_of C.cell_of self.old).is_ended ≡ true → reader.new ≡ reader.old }
+        ensures reads { R.read_count reader.new ≤ R.read_count reader.old + ((state_of C.cell_of self.old).limit + 8) }
+        // `Read` is the answer exactly where a read failed.
+        ensures failures { R.failure_count reader.new ≡ failures_with (R.failure_count reader.old) (fault_in result) }
+    {
         let Some(end) = self.paragraph.fill(reader, self.cells)? else {
             return Ok(None);
         };
-        if self.cut(end).is_err() {
+        let text = self.paragraph.text();
+        if cut_lines(self.cells, self.profile, text, end, &mut self.segments).is_err() {
+            return Err(PassageFault::Memory);
+        }
+        if cut_words(self.cells, text, &mut self.pieces).is_err() {
             return Err(PassageFault::Memory);
         }
         self.paragraph.release();
         Ok(Some(self.lend(end)))
-    }
-
-    /// Cuts the paragraph into segments and pieces.
-    fn cut(&mut self, end: Verdict) -> Result<(), AllocError> {
-        let text = self.paragraph.text();
-        cut_lines(self.cells, self.profile, text, end, &mut self.segments)?;
-        cut_words(self.cells, text, &mut self.pieces)
     }
 
     /// The paragraph as a passage.

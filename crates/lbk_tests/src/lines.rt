@@ -55,14 +55,15 @@ const PLAIN: [(&str, Want); 34] = [
     ("\r ", Want::Bad(1)),
 ];
 
-const KINDS: [(&str, Want); 4] = [
+const KINDS: [(&str, Want); 5] = [
     ("! 0061 !", Want::Line("! 0061 !")),
     (
         "× 0061 × 0062 × 0020 ÷ 0063 × 0064 !\t# 2 28 7 18 28 3",
         Want::Line("× 0061 × 0062 × 0020 ÷ 0063 × 0064 !"),
     ),
     ("!!", Want::Bad(1)),
-    ("× 0061 \r÷", Want::Bad(7)),
+    ("× 0061 \r÷", Want::Bad(8)),
+    ("× \r÷", Want::Bad(4)),
 ];
 
 fn check(

@@ -1,9 +1,7 @@
 use Rattle.std.proofs.Common.{◌≡◌, ◌||◌, Ok, Err, true, false, refl, sym, ap, ◌∙◌, inr}
 use Rattle.std.proofs.lemmas.Result.{err_from_is_err_and}
 use Rattle.lbk_passage.specs.State.{state_with}
-use Rattle.lbk_passage.proofs.Finding.{found}
-use Rattle.lbk_passage.proofs.Gathered.{Shows-of}
-use Rattle.lbk_passage.proofs.Filling.{Fills-spent, Fills-held, Fills-gathered, ends_by_fault, or-true}
+use Rattle.lbk_passage.proofs.Filling.{Fills-spent, Fills-held, Fills-gathered, Fills-ok, ends_by_fault, or-true}
 use Rattle.lbk_passage.proofs.paragraph.Paragraph.fill.Goals as goal
 
 pub returns-then-self-clause-fills : goal.returns-then-self-clause-fills
@@ -32,6 +30,5 @@ returns-clause-fills g c = λ profile.
     let old = c.args.self.now in
     let new = c.gather.new.self in
     let gathers = rw c.in_ok-end.was at c.gather.ensures.gathers in
-    Fills-gathered cell profile old _ _ _ _ new _ _ _ _ (Ok c.in_ok-end.end) (ap (λ b. b || old.is_spent) c.if-self-2.false ∙ c.if-self.false) refl refl
+    Fills-ok cell profile old _ _ _ _ new _ _ _ _ c.in_ok-end.end (ap (λ b. b || old.is_spent) c.if-self-2.false ∙ c.if-self.false) refl refl
     gathers refl refl refl refl refl c.if-self.false
-    (found (state_with cell profile _) _ (Shows-of cell profile _ refl) c.in_ok-end.end old.is_spent gathers.whole)
