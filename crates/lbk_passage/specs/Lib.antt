@@ -5,7 +5,6 @@ pub mod Breaks
 pub mod Segments
 pub mod Pieces
 pub mod State
-pub mod Shown
 pub mod Next
 pub mod Laws
 -- What only carries proofs.
