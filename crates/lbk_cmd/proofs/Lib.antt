@@ -1,3 +1,4 @@
-pub mod Refusals
-pub mod Tokens
-pub mod Verdicts
+pub mod Deciding
+pub mod LineWriting
+pub mod Running
+pub mod Stopping

@@ -1,6 +1,9 @@
+-- What a reader has to believe.
 pub mod Cells
 pub mod CellsRefusal
-pub mod Limits
-pub mod Line
-pub mod Refusal
 pub mod Show
+pub mod Segment
+pub mod Texts
+pub mod Run
+-- What only carries proofs.
+pub mod Deciding

@@ -2,11 +2,9 @@
 #![tactic(auto)]
 
 mod cells;
-mod engine;
 mod faults;
-pub mod laws;
-mod line;
+mod segmented;
+mod shown;
 
 pub use cells::{SAMPLE_FILES, read_cells};
-pub use engine::show;
-pub use faults::{CellsFault, CmdFault, PassageFault};
+pub use faults::{CellsFault, CmdFault};

@@ -35,7 +35,7 @@ module _ (s : State) (p : Paragraph) (shows : Shows s p) (none : stays s.cell No
       (λ all. all ++ p.feed.ready ≡ well_formed_prefix (counted (all ++ p.feed.held)))
       (λ used. used ++ encode_utf8_all (chars (string_bytes p.text)) ≡ well_formed_prefix (counted (used ++ s.held)))
       (λ used is. ap (λ l. used ++ l) text_is ∙ sym (append-nil (used ++ string_bytes p.text)) ∙ ap (λ l. (used ++ string_bytes p.text) ++ l) (sym ready)
-          ∙ is ∙ ap (λ l. well_formed_prefix (counted l)) (joined used))
+      ∙ is ∙ ap (λ l. well_formed_prefix (counted l)) (joined used))
       front
 
   short : length (encode_utf8_all (chars (string_bytes p.text))) ≤ s.limit
@@ -63,8 +63,11 @@ module _ (s : State) (p : Paragraph) (shows : Shows s p) (none : stays s.cell No
     few = few_passages s.profile s.cell (chars (string_bytes p.text)) none;
     unfinished = λ some more. begins_with_all s.profile s.cell (chars (string_bytes p.text)) more some none;
     all_seen = all_seen ready front;
-    lies = (short, behind (λ all. IsNotUtf8At (all ++ p.feed.held) p.feed.is_ended at) (λ used. IsNotUtf8At (used ++ s.held) s.is_ended at)
-        (λ used h. subst (λ l. IsNotUtf8At l s.is_ended at) (joined used) (subst (λ b. IsNotUtf8At ((used ++ string_bytes p.text) ++ p.feed.held) b at) (sym shows.is_ended) h)) lies);
+    lies = (
+      short,
+      behind (λ all. IsNotUtf8At (all ++ p.feed.held) p.feed.is_ended at) (λ used. IsNotUtf8At (used ++ s.held) s.is_ended at)
+          (λ used h. subst (λ l. IsNotUtf8At l s.is_ended at) (joined used) (subst (λ b. IsNotUtf8At ((used ++ string_bytes p.text) ++ p.feed.held) b at) (sym shows.is_ended) h)) lies,
+    );
   }
   Stops-feed feed_fault.TextTooLong unspent ready front lies = record {
     seen = chars (string_bytes p.text);
@@ -74,8 +77,11 @@ module _ (s : State) (p : Paragraph) (shows : Shows s p) (none : stays s.cell No
     few = few_passages s.profile s.cell (chars (string_bytes p.text)) none;
     unfinished = λ some more. begins_with_all s.profile s.cell (chars (string_bytes p.text)) more some none;
     all_seen = all_seen ready front;
-    lies = (short, behind (λ all. IsTooLong (all ++ p.feed.held)) (λ used. IsTooLong (used ++ s.held))
-        (λ used h. subst IsTooLong (joined used) h) lies);
+    lies = (
+      short,
+      behind (λ all. IsTooLong (all ++ p.feed.held)) (λ used. IsTooLong (used ++ s.held))
+          (λ used h. subst IsTooLong (joined used) h) lies,
+    );
   }
   Stops-feed feed_fault.Spent unspent ready front lies = absurd (unspent refl)
 

@@ -105,8 +105,15 @@ Takes-moves cell last old new r lends reaches moves =
       utf8 = subst IsUtf8 (sym (ap (λ f. f.ready) moves.feed ∙ back_alone cell last old.feed.ready room r lends.text reaches))
           (IsUtf8-scalars reaches.rest (scalars-right reaches.taken reaches.rest all));
       front = held_is ∙ ap (λ l. l ++ lends.rest) (sym (ap (λ f. f.ready) moves.feed ∙ back_alone cell last old.feed.ready room r lends.text reaches));
-      few = omega (arith, ap (λ f. f.given) moves.feed, reaches.len, ap length (parts cell last old.feed.ready room r lends.text reaches),
-          length-append (encode_utf8_all reaches.taken) (encode_utf8_all reaches.rest), lends.few);
+      few = omega (
+        arith,
+        ap (λ f. f.given) moves.feed,
+        reaches.len,
+        ap length (parts cell last old.feed.ready room r lends.text reaches),
+        length-append (encode_utf8_all reaches.taken) (encode_utf8_all reaches.rest),
+        lends.few,
+        ap (λ f. length f.ready) moves.feed ∙ ap length (back_alone cell last old.feed.ready room r lends.text reaches),
+      );
       was_held = lends.first ∙ ap (λ l. l ++ lends.rest) (parts cell last old.feed.ready room r lends.text reaches)
           ∙ append_assoc (encode_utf8_all reaches.taken) (encode_utf8_all reaches.rest) lends.rest ∙ ap (λ l. encode_utf8_all reaches.taken ++ l) (sym held_is);
       is_held = held_is;

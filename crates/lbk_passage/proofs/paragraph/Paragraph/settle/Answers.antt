@@ -1,5 +1,5 @@
-use Rattle.std.proofs.Common.{◌≡◌, None, Some, Err, ◌&&◌, not, is_err, refl, sym, ap, ◌∙◌}
-use Rattle.lbk_feed.specs.declared.faults.FeedFault.TheVariants.{Spent}
+use Rattle.std.proofs.Common.{◌≡◌, None, Some, Err, ◌&&◌, not, is_err, inl, inr, refl, sym, ap, ◌∙◌}
+use Rattle.lbk_feed.specs.declared.faults.FeedFault.TheVariants.{Read, Spent}
 use Rattle.lbk_feed.specs.View.{fault_of}
 use Rattle.lbk_feed.specs.View as feed
 use Rattle.lbk_passage.specs.Next.{failures_with}
@@ -26,6 +26,7 @@ returns-in-Ok-clause-settles g c = record {
   pays = c.settle-outcome.ensures.pays;
   agrees = c.settle-outcome.ensures.agrees;
   notices = c.settle-outcome.ensures.notices;
+  unread = λ h e. cc;
   stands = rw c.in-Ok.is at c.settle-outcome.ensures.stands;
   ends = rw c.in-Ok.is at c.settle-outcome.ensures.ends;
 }
@@ -45,6 +46,7 @@ returns-in-Err-clause-settles g c = record {
   pays = c.settle-outcome.ensures.pays;
   agrees = c.settle-outcome.ensures.agrees;
   notices = c.settle-outcome.ensures.notices;
+  unread = λ h e. let same : c.in-Err.fault ≡ Read = cc in c.settle-outcome.ensures.read (c.in-Err.is ∙ ap Err same) (inr (inl h));
   stands = tt;
   ends = tt;
 }
