@@ -6,6 +6,7 @@ pub mod Settling
 pub mod Stopping
 pub mod Gathered
 pub mod Filling
+pub mod Giving
 pub mod Finding
 pub mod Staying
 pub mod Taking

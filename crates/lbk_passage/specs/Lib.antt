@@ -5,6 +5,7 @@ pub mod Breaks
 pub mod Segments
 pub mod Pieces
 pub mod State
+pub mod Shown
 pub mod Next
 pub mod Laws
 -- What only carries proofs.

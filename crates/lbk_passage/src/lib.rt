@@ -9,7 +9,9 @@ mod paragraph;
 mod passage;
 mod pieces;
 mod reach;
+mod segmenter;
 mod segments;
 
 pub use faults::{LIMIT_MAX, PassageFault};
 pub use passage::{Passage, Piece, Segment};
+pub use segmenter::Segmenter;

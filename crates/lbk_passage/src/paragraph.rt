@@ -91,6 +91,7 @@ impl Paragraph {
         ensures reads { R.read_count reader.new ≤ R.read_count reader.old + (self.old.limit + 4) }
         ensures quiet { self.old.is_held ≡ true → reader.new ≡ reader.old }
         ensures spent { self.old.is_spent ≡ true → reader.new ≡ reader.old }
+        ensures refused { self.old.is_spent ≡ true → result ≡ Err PassageFault.Spent }
     {
         if self.is_spent {
             return Err(PassageFault::Spent);
