@@ -122,9 +122,11 @@ module _ (cell : ℕ → Cell) (old : Paragraph) (unread : Option (List ℕ)) (e
         notices = λ open_end. s.notices open_end ∙ g.notices (not_sooner now.feed p.feed u v s.fault open_end s.steps);
         quiet = λ h.
             (let was = g.quiet h in
-            let same = s.steps.same (inr (inl was.1)) in
-            (ap (λ l. l ++ p.feed.held) text ∙ ap (λ l. string_bytes now.text ++ l) same.0 ∙ was.0, same.2 ∙ was.1,
-            λ e. s.unread was.1 (read_by s.fault (sym s.fault_is ∙ e))));
+            let same = s.steps.same (inr (inl was.1)) in (
+              ap (λ l. l ++ p.feed.held) text ∙ ap (λ l. string_bytes now.text ++ l) same.0 ∙ was.0,
+              same.2 ∙ was.1,
+              λ e. s.unasked was.1 (read_by s.fault (sym s.fault_is ∙ e)),
+            ));
         none_ends = ap (λ l. stays cell None (chars l)) text ∙ g.none_ends;
         last_is = g.last_is ∙ ap (λ l. last_class cell None (chars l)) (sym text);
       }

@@ -1,6 +1,6 @@
 -- What a call of `next` leaves, by the answer of the call that fills a paragraph.
 use Rattle.std.proofs.Common.{◌≡◌, ◌⊎◌, ℕ, ◌+◌, ◌-◌, ◌<◌, ◌≤◌, Bool, true, false, ◌||◌, not, List, [], ◌∷◌, ◌++◌, length, Option, None, Some, Result, Ok, Err, is_ok, OnOk, string_bytes, string_len, encode_utf8_all, chars, IsUtf8, if◌then◌else◌, refl, sym, ap, subst, ◌∙◌, arith, inl, inr, ⊎_elim, append-nil}
-use Rattle.std.proofs.lemmas.Str.{encodes-chars, IsUtf8-string_bytes}
+use Rattle.std.proofs.lemmas.Str.{chars-nil, encodes-chars, IsUtf8-string_bytes}
 use Rattle.std.specs.Io.KnownBytes.{prepend_known}
 use Rattle.lbk_feed.specs.View.{BeginsWith}
 use Rattle.lbk_feed.specs.Text.{longest_text}
@@ -11,7 +11,7 @@ use Rattle.lbk_passage.specs.Marks.{Marked, marks, ended, scalars_of, text_of}
 use Rattle.lbk_passage.specs.Segments.{segments_of}
 use Rattle.lbk_passage.specs.Pieces.{pieces_of}
 use Rattle.lbk_passage.specs.State.{State, state_with, text_held}
-use Rattle.lbk_passage.specs.Next.{Answers, AfterNext, Lends, IsPassage, ComesFirst, GoesOn, IsLast, Stops, KeepsAhead, ends_run}
+use Rattle.lbk_passage.specs.Next.{Answers, AfterNext, IsPlaced, Lends, IsPassage, ComesFirst, GoesOn, IsLast, Stops, KeepsAhead, ends_run}
 use Rattle.lbk_passage.specs.Gathering.{Fills, FillAnswers, IsFirst, IsSame}
 use Rattle.lbk_passage.specs.declared.faults.PassageFault.{PassageFault}
 use Rattle.lbk_passage.specs.declared.faults.PassageFault.TheVariants.{Limit, Memory, Read, NotUtf8, TextTooLong, ParagraphTooLong, Spent}
@@ -72,6 +72,7 @@ module _ (cell : ℕ → Cell) (profile : Profile) (old p : Paragraph) (u v : Op
     costs = f.costs;
     agrees = f.agrees;
     notices = f.notices;
+    quiet = f.quiet;
   }
 
   pub After-none : Fills cell profile old p u v e e' reads reads' (Ok None)
@@ -89,6 +90,7 @@ module _ (cell : ℕ → Cell) (profile : Profile) (old p : Paragraph) (u v : Op
     costs = f.costs;
     agrees = f.agrees;
     notices = f.notices;
+    quiet = f.quiet;
   }
 
   module _ (end : Verdict) (f : Fills cell profile old p u v e e' reads reads' (Ok (Some end))) where
@@ -141,6 +143,7 @@ module _ (cell : ℕ → Cell) (profile : Profile) (old p : Paragraph) (u v : Op
       costs = record { each_gave = f.costs.each_gave; but_one = f.costs.but_one; within = f.costs.within };
       agrees = f.agrees;
       notices = f.notices;
+      quiet = λ h. ((f.quiet h).0, (f.quiet h).1, λ e. cc);
     }
 
     -- what a passage says of the paragraph
@@ -149,7 +152,7 @@ module _ (cell : ℕ → Cell) (profile : Profile) (old p : Paragraph) (u v : Op
       pub text : pg.text.now ≡ string_bytes p.text
       pub segments : pg.segments.now ≡ segments_of (ended end (marks profile cell (chars (string_bytes p.text))))
       pub pieces : pg.pieces.now ≡ pieces_of cell (string_bytes p.text)
-      pub end : pg.end ≡ end
+      pub ends : pg.end ≡ end
 
     module _ (q : Paragraph) (pg : Passage) (same : IsSame p q false p.is_spent) (of : IsOf pg) where
       unspent : q.is_spent ≡ false
@@ -193,12 +196,16 @@ module _ (cell : ℕ → Cell) (profile : Profile) (old p : Paragraph) (u v : Op
           utf8 = subst IsUtf8 (sym of.text) (IsUtf8-string_bytes p.text);
           segments = of.segments;
           pieces = of.pieces ∙ ap (pieces_of cell) (sym text_is);
-          alone = ap (λ x. ended x (marks profile cell (chars text))) (sym of.end) ∙ ap (λ l. ended pg.end (marks profile cell l)) (sym scalars_are);
+          alone = ap (λ x. ended x (marks profile cell (chars text))) (sym of.ends) ∙ ap (λ l. ended pg.end (marks profile cell l)) (sym scalars_are);
         };
         start = of.start ∙ sym start_is;
         comes = comes_in;
         counted = let first = first_is in
             omega (arith, f.start, ap length of.text, first.counted);
+        near = λ next rest e.
+            (let first : IsFirst (state_with cell profile p) p end = f.answer in
+            let begins = shows.start in
+            omega (arith, f.start, ap length of.text, begins, first.near next rest (sym held_is ∙ e)));
       }
 
       pub After-passage : AfterNext (state_with cell profile old) (state_with cell profile q) u v e e' reads reads' (Ok (Some pg))
@@ -222,4 +229,18 @@ module _ (cell : ℕ → Cell) (profile : Profile) (old p : Paragraph) (u v : Op
             };
             agrees = λ h at_end. f.agrees h (sym ended_is ∙ at_end);
             notices = λ open_end. f.notices (sym ended_is ∙ open_end);
+            quiet = λ h. (all_is ∙ (f.quiet h).0, ended_is ∙ (f.quiet h).1, λ e. cc);
           }
+
+      some_text : (l : List ℕ) → 0 < length (chars l) → 0 < length l
+      some_text [] h = absurd (let none = ap length chars-nil in omega (arith, h, none))
+      some_text (x ∷ xs) h = omega arith
+
+      pub lent_placed : IsPlaced pg
+      lent_placed =
+          let first : IsFirst (state_with cell profile p) p end = f.answer in
+          let text_in = some_text (string_bytes p.text) first.some in
+          (omega (arith, text_in, ap length of.text), omega (arith, lends.start, lends.counted))
+
+      pub After-lent : AfterNext (state_with cell profile old) (state_with cell profile q) u v e e' reads reads' (Ok (Some pg)) × IsPlaced pg
+      After-lent = (After-passage, lent_placed)

@@ -82,7 +82,7 @@ pub record Settles (old new : Paragraph) (unread unread' : Option (List ℕ)) (e
   pub pays : Pays old.feed new.feed reads reads'
   pub agrees : feed.Agrees old.feed ended unread → feed.Agrees new.feed ended' unread'
   pub notices : new.feed.is_ended ≡ false → ended' ≡ ended
-  pub unread : old.feed.is_ended ≡ true → ¬ (fault ≡ Some feed_read)
+  pub unasked : old.feed.is_ended ≡ true → ¬ (fault ≡ Some feed_read)
   pub stands : IfOk r (λ stands. OnTrue stands (0 < length new.feed.ready))
   pub ends : IfOk r (λ stands. OnFalse stands ((new.feed.held ≡ []) × (new.feed.is_ended ≡ true)))
 

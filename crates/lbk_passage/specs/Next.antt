@@ -74,6 +74,10 @@ pub record ComesFirst (s : State) (ms : List Marked) (behind : List ℕ) : Type 
   pub within : length (text_of ms) ≤ s.limit
   pub follows : GoesOn s ms behind ⊎ IsLast s ms behind
 
+-- a passage is not empty, and all of it lies within the bytes that a text may have
+abbrev pub IsPlaced : Passage → Type 0
+IsPlaced p = (0 < length p.text.now) × (p.start + length p.text.now ≤ longest_text)
+
 -- an answer lends the first passage of the text still to come
 pub record Lends (old new : State) (p : Passage) : Type 0 where
   pub marks : List Marked

@@ -26,7 +26,7 @@ returns-in-Ok-clause-settles g c = record {
   pays = c.settle-outcome.ensures.pays;
   agrees = c.settle-outcome.ensures.agrees;
   notices = c.settle-outcome.ensures.notices;
-  unread = λ h e. cc;
+  unasked = λ h e. cc;
   stands = rw c.in-Ok.is at c.settle-outcome.ensures.stands;
   ends = rw c.in-Ok.is at c.settle-outcome.ensures.ends;
 }
@@ -46,7 +46,7 @@ returns-in-Err-clause-settles g c = record {
   pays = c.settle-outcome.ensures.pays;
   agrees = c.settle-outcome.ensures.agrees;
   notices = c.settle-outcome.ensures.notices;
-  unread = λ h e. let same : c.in-Err.fault ≡ Read = cc in c.settle-outcome.ensures.read (c.in-Err.is ∙ ap Err same) (inr (inl h));
+  unasked = λ h e. let same : c.in-Err.fault ≡ Read = cc in c.settle-outcome.ensures.read (c.in-Err.is ∙ ap Err same) (inr (inl h));
   stands = tt;
   ends = tt;
 }

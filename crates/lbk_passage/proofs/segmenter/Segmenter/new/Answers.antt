@@ -7,5 +7,5 @@ invariant_of-result g c = record {
   whole = λ held. absurd (false≢true (
       sym (ap (λ s. s.is_settled) (c.in-Ok.ensures (g.C.CellSource.cell_of c.args.cells.now) c.args.profile))
       ∙ ap (λ b. b || c.in-Ok.paragraph.is_spent) held
-  ));
+      ));
 }

@@ -7,7 +7,7 @@ use Rattle.lbk_passage.specs.declared.faults.PassageFault.{PassageFault}
 use Rattle.lbk_passage.specs.declared.faults.PassageFault.TheVariants.{Memory, Spent}
 use Rattle.lbk_passage.specs.Next.{failures_with, fault_in}
 use Rattle.lbk_passage.specs.State.{state_with}
-use Rattle.lbk_passage.proofs.Giving.{or-cases, spent_by, After-fault, After-none, After-memory, After-passage, on_ok}
+use Rattle.lbk_passage.proofs.Giving.{or-cases, spent_by, After-fault, After-none, After-memory, After-lent, on_ok}
 use Rattle.lbk_passage.proofs.Taking.{string_len-is}
 use Rattle.lbk_passage.proofs.segmenter.Segmenter.next.Goals as goal
 
@@ -24,6 +24,7 @@ returns-in_err-end g c =
       (refl, (λ _. tt), After-fault cell profile old p _ _ _ _ _ _ exit.0 fills),
       record {
         after_borrow = tt;
+        lent = tt;
         spent = λ spent. let told = sym was ∙ c.fill.ensures.refused spent in
             let same : exit.0 ≡ Spent = cc in ap (λ (f : PassageFault). Err f) same;
         spent_only = λ is. spent_by (state_with cell profile p) p old.is_spent exit.0 fills.answer (let same : exit.0 ≡ Spent = cc in same);
@@ -40,11 +41,11 @@ returns-in_default g c =
     let old = c.args.self.now.paragraph in
     let p = c.fill.new.self in
     let was = c.in_ok-end.was ∙ ap Ok c.in_default.is in
-    let fills = rw was at (c.fill.ensures.fills profile) in
-    (
+    let fills = rw was at (c.fill.ensures.fills profile) in (
       (refl, (λ _. tt), After-none cell profile old p _ _ _ _ _ _ fills),
       record {
         after_borrow = tt;
+        lent = tt;
         spent = λ spent. absurd (let refused = c.fill.ensures.refused spent in cc);
         spent_only = λ is. cc;
         settled = λ seen. ⊎_elim (λ held. c.fill.ensures.quiet held) (λ spent. c.fill.ensures.spent spent) (or-cases old.is_held old.is_spent seen);
@@ -60,11 +61,11 @@ returns-then-is_err g c =
     let old = c.args.self.now.paragraph in
     let p = c.fill.new.self in
     let was = c.in_ok-end.was ∙ ap Ok c.in-Some.is in
-    let fills = rw was at (c.fill.ensures.fills profile) in
-    (
+    let fills = rw was at (c.fill.ensures.fills profile) in (
       (refl, (λ _. tt), After-memory cell profile old p _ _ _ _ _ _ c.in-Some.end fills),
       record {
         after_borrow = tt;
+        lent = tt;
         spent = λ spent. absurd (let refused = c.fill.ensures.refused spent in cc);
         spent_only = λ is. cc;
         settled = λ seen. ⊎_elim (λ held. c.fill.ensures.quiet held) (λ spent. c.fill.ensures.spent spent) (or-cases old.is_held old.is_spent seen);
@@ -80,11 +81,11 @@ returns-then-is_err-2 g c =
     let old = c.args.self.now.paragraph in
     let p = c.fill.new.self in
     let was = c.in_ok-end.was ∙ ap Ok c.in-Some.is in
-    let fills = rw was at (c.fill.ensures.fills profile) in
-    (
+    let fills = rw was at (c.fill.ensures.fills profile) in (
       (refl, (λ _. tt), After-memory cell profile old p _ _ _ _ _ _ c.in-Some.end fills),
       record {
         after_borrow = tt;
+        lent = tt;
         spent = λ spent. absurd (let refused = c.fill.ensures.refused spent in cc);
         spent_only = λ is. cc;
         settled = λ seen. ⊎_elim (λ held. c.fill.ensures.quiet held) (λ spent. c.fill.ensures.spent spent) (or-cases old.is_held old.is_spent seen);
@@ -101,21 +102,28 @@ returns g c =
     let p = c.fill.new.self in
     let was = c.in_ok-end.was ∙ ap Ok c.in-Some.is in
     let fills = rw was at (c.fill.ensures.fills profile) in
-    (
-      (refl, (λ _. tt), After-passage cell profile old p _ _ _ _ _ _ c.in-Some.end fills c.release.new.self c.lend.result c.release.ensures (record {
-        start = omega (arith, c.lend.ensures.start, ap (λ f. f.given) c.release.ensures.feed, ap length c.release.ensures.text,
-            string_len-is c.release.new.self.text, string_len-is p.text);
-        text = c.lend.ensures.text ∙ c.release.ensures.text;
-        segments = c.lend.ensures.segments
-            ∙ on_ok _ c.cut_lines.result (c.is_err.ensures.negation ∙ ap not c.if-is_err.false) c.cut_lines.ensures
-            ∙ ap (λ l. segments_of (ended c.in-Some.end (marks profile cell (chars l)))) c.text-text.ensures.text;
-        pieces = c.lend.ensures.pieces
-            ∙ on_ok _ c.cut_words.result (c.is_err-2.ensures.negation ∙ ap not c.if-is_err-2.false) c.cut_words.ensures
-            ∙ ap (pieces_of cell) c.text-text.ensures.text;
-        end = c.lend.ensures.end;
-      })),
+    let given = After-lent cell profile old p _ _ _ _ _ _ c.in-Some.end fills c.release.new.self c.lend.result c.release.ensures (record {
+      start = omega (
+        arith,
+        c.lend.ensures.start,
+        ap (λ f. f.given) c.release.ensures.feed,
+        ap length c.release.ensures.text,
+        string_len-is c.release.new.self.text,
+        string_len-is p.text,
+      );
+      text = c.lend.ensures.text ∙ c.release.ensures.text;
+      segments = c.lend.ensures.segments
+          ∙ on_ok _ c.cut_lines.result (c.is_err.ensures.negation ∙ ap not c.if-is_err.false) c.cut_lines.ensures
+          ∙ ap (λ l. segments_of (ended c.in-Some.end (marks profile cell (chars l)))) c.text-text.ensures.text;
+      pieces = c.lend.ensures.pieces
+          ∙ on_ok _ c.cut_words.result (c.is_err-2.ensures.negation ∙ ap not c.if-is_err-2.false) c.cut_words.ensures
+          ∙ ap (pieces_of cell) c.text-text.ensures.text;
+      end = c.lend.ensures.end;
+    }) in (
+      (refl, (λ _. tt), given.0),
       record {
         after_borrow = tt;
+        lent = given.1;
         spent = λ spent. absurd (let refused = c.fill.ensures.refused spent in cc);
         spent_only = λ is. cc;
         settled = λ seen. ⊎_elim (λ held. c.fill.ensures.quiet held) (λ spent. c.fill.ensures.spent spent) (or-cases old.is_held old.is_spent seen);
