@@ -149,7 +149,7 @@ module _ (cell : ℕ → Cell) (profile : Profile) (old p : Paragraph) (u v : Op
     -- what a passage says of the paragraph
     pub record IsOf (pg : Passage) : Type 0 where
       pub start : pg.start ≡ p.feed.given - string_len p.text
-      pub text : pg.text.now ≡ string_bytes p.text
+      pub bytes : pg.text.now ≡ string_bytes p.text
       pub segments : pg.segments.now ≡ segments_of (ended end (marks profile cell (chars (string_bytes p.text))))
       pub pieces : pg.pieces.now ≡ pieces_of cell (string_bytes p.text)
       pub ends : pg.end ≡ end
@@ -168,7 +168,7 @@ module _ (cell : ℕ → Cell) (profile : Profile) (old p : Paragraph) (u v : Op
       held_is = ap (λ l. l ++ q.feed.held) none_held ∙ ap (λ g. g.held) same.feed
 
       all_is : pg.text.now ++ (state_with cell profile q).held ≡ (state_with cell profile p).held
-      all_is = ap (λ l. l ++ (state_with cell profile q).held) of.text ∙ ap (λ l. string_bytes p.text ++ l) held_is ∙ sym shows.held
+      all_is = ap (λ l. l ++ (state_with cell profile q).held) of.bytes ∙ ap (λ l. string_bytes p.text ++ l) held_is ∙ sym shows.held
 
       start_is : (state_with cell profile old).start ≡ p.feed.given - string_len p.text
       start_is = let begins = shows.start in omega (arith, f.start, begins, string_len-is p.text)
@@ -192,8 +192,8 @@ module _ (cell : ℕ → Cell) (profile : Profile) (old p : Paragraph) (u v : Op
         marks = ms;
         passage = record {
           some = some;
-          text = of.text ∙ sym text_is;
-          utf8 = subst IsUtf8 (sym of.text) (IsUtf8-string_bytes p.text);
+          text = of.bytes ∙ sym text_is;
+          utf8 = subst IsUtf8 (sym of.bytes) (IsUtf8-string_bytes p.text);
           segments = of.segments;
           pieces = of.pieces ∙ ap (pieces_of cell) (sym text_is);
           alone = ap (λ x. ended x (marks profile cell (chars text))) (sym of.ends) ∙ ap (λ l. ended pg.end (marks profile cell l)) (sym scalars_are);
@@ -201,11 +201,11 @@ module _ (cell : ℕ → Cell) (profile : Profile) (old p : Paragraph) (u v : Op
         start = of.start ∙ sym start_is;
         comes = comes_in;
         counted = let first = first_is in
-            omega (arith, f.start, ap length of.text, first.counted);
+            omega (arith, f.start, ap length of.bytes, first.counted);
         near = λ next rest e.
-            (let first : IsFirst (state_with cell profile p) p end = f.answer in
+            (let first = first_is in
             let begins = shows.start in
-            omega (arith, f.start, ap length of.text, begins, first.near next rest (sym held_is ∙ e)));
+            omega (arith, f.start, ap length of.bytes, begins, first.near next rest (sym held_is ∙ e)));
       }
 
       pub After-passage : AfterNext (state_with cell profile old) (state_with cell profile q) u v e e' reads reads' (Ok (Some pg))
@@ -215,7 +215,7 @@ module _ (cell : ℕ → Cell) (profile : Profile) (old p : Paragraph) (u v : Op
             alike = record { cell = refl; profile = refl; limit = same.limit ∙ f.limit };
             answer = lends;
             start = let begins = shows.start in
-                omega (arith, ap (λ g. g.given) same.feed, ap length none_held, f.start, begins, ap length of.text);
+                omega (arith, ap (λ g. g.given) same.feed, ap length none_held, f.start, begins, ap length of.bytes);
             spent = same.spent ∙ f.spent;
             settled = out;
             got = f.got;
@@ -238,9 +238,9 @@ module _ (cell : ℕ → Cell) (profile : Profile) (old p : Paragraph) (u v : Op
 
       pub lent_placed : IsPlaced pg
       lent_placed =
-          let first : IsFirst (state_with cell profile p) p end = f.answer in
+          let first = first_is in
           let text_in = some_text (string_bytes p.text) first.some in
-          (omega (arith, text_in, ap length of.text), omega (arith, lends.start, lends.counted))
+          (omega (arith, text_in, ap length of.bytes), omega (arith, lends.start, lends.counted))
 
       pub After-lent : AfterNext (state_with cell profile old) (state_with cell profile q) u v e e' reads reads' (Ok (Some pg)) × IsPlaced pg
       After-lent = (After-passage, lent_placed)

@@ -7,6 +7,7 @@ pub mod Stopping
 pub mod Gathered
 pub mod Filling
 pub mod Giving
+pub mod Running
 pub mod Finding
 pub mod Staying
 pub mod Taking

@@ -8,6 +8,7 @@ pub mod State
 pub mod Shown
 pub mod Next
 pub mod Laws
+pub mod Runs
 -- What only carries proofs.
 pub mod Faults
 pub mod Stays

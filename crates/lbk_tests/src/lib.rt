@@ -10,7 +10,11 @@ mod decided;
 #[cfg(test)]
 mod laws;
 #[cfg(test)]
+<<<<<<< HEAD
 mod lines;
+=======
+mod passages;
+>>>>>>> hub/passage
 #[cfg(test)]
 mod rows;
 #[cfg(test)]

@@ -41,7 +41,8 @@ returns-in_default g c =
     let old = c.args.self.now.paragraph in
     let p = c.fill.new.self in
     let was = c.in_ok-end.was ∙ ap Ok c.in_default.is in
-    let fills = rw was at (c.fill.ensures.fills profile) in (
+    let fills = rw was at (c.fill.ensures.fills profile) in
+    (
       (refl, (λ _. tt), After-none cell profile old p _ _ _ _ _ _ fills),
       record {
         after_borrow = tt;
@@ -61,7 +62,8 @@ returns-then-is_err g c =
     let old = c.args.self.now.paragraph in
     let p = c.fill.new.self in
     let was = c.in_ok-end.was ∙ ap Ok c.in-Some.is in
-    let fills = rw was at (c.fill.ensures.fills profile) in (
+    let fills = rw was at (c.fill.ensures.fills profile) in
+    (
       (refl, (λ _. tt), After-memory cell profile old p _ _ _ _ _ _ c.in-Some.end fills),
       record {
         after_borrow = tt;
@@ -81,7 +83,8 @@ returns-then-is_err-2 g c =
     let old = c.args.self.now.paragraph in
     let p = c.fill.new.self in
     let was = c.in_ok-end.was ∙ ap Ok c.in-Some.is in
-    let fills = rw was at (c.fill.ensures.fills profile) in (
+    let fills = rw was at (c.fill.ensures.fills profile) in
+    (
       (refl, (λ _. tt), After-memory cell profile old p _ _ _ _ _ _ c.in-Some.end fills),
       record {
         after_borrow = tt;
@@ -102,24 +105,21 @@ returns g c =
     let p = c.fill.new.self in
     let was = c.in_ok-end.was ∙ ap Ok c.in-Some.is in
     let fills = rw was at (c.fill.ensures.fills profile) in
+    let lines : c.cut_lines.new.segments.items ≡ segments_of (ended c.in-Some.end (marks profile cell (chars c.text-text.result.now))) =
+    on_ok (c.cut_lines.new.segments.items ≡ segments_of (ended c.in-Some.end (marks profile cell (chars c.text-text.result.now))))
+    c.cut_lines.result (c.is_err.ensures.negation ∙ ap not c.if-is_err.false) c.cut_lines.ensures in
+    let words : c.cut_words.new.pieces.items ≡ pieces_of cell c.text-text.result.now =
+    on_ok (c.cut_words.new.pieces.items ≡ pieces_of cell c.text-text.result.now)
+    c.cut_words.result (c.is_err-2.ensures.negation ∙ ap not c.if-is_err-2.false) c.cut_words.ensures in
     let given = After-lent cell profile old p _ _ _ _ _ _ c.in-Some.end fills c.release.new.self c.lend.result c.release.ensures (record {
-      start = omega (
-        arith,
-        c.lend.ensures.start,
-        ap (λ f. f.given) c.release.ensures.feed,
-        ap length c.release.ensures.text,
-        string_len-is c.release.new.self.text,
-        string_len-is p.text,
-      );
-      text = c.lend.ensures.text ∙ c.release.ensures.text;
-      segments = c.lend.ensures.segments
-          ∙ on_ok _ c.cut_lines.result (c.is_err.ensures.negation ∙ ap not c.if-is_err.false) c.cut_lines.ensures
-          ∙ ap (λ l. segments_of (ended c.in-Some.end (marks profile cell (chars l)))) c.text-text.ensures.text;
-      pieces = c.lend.ensures.pieces
-          ∙ on_ok _ c.cut_words.result (c.is_err-2.ensures.negation ∙ ap not c.if-is_err-2.false) c.cut_words.ensures
-          ∙ ap (pieces_of cell) c.text-text.ensures.text;
-      end = c.lend.ensures.end;
-    }) in (
+        start = omega (arith, c.lend.ensures.start, ap (λ f. f.given) c.release.ensures.feed, ap length c.release.ensures.text,
+            string_len-is c.release.new.self.text, string_len-is p.text);
+        bytes = c.lend.ensures.text ∙ c.release.ensures.text;
+        segments = c.lend.ensures.segments ∙ lines ∙ ap (λ l. segments_of (ended c.in-Some.end (marks profile cell (chars l)))) c.text-text.ensures.text;
+        pieces = c.lend.ensures.pieces ∙ words ∙ ap (pieces_of cell) c.text-text.ensures.text;
+        ends = c.lend.ensures.end;
+      }) in
+    (
       (refl, (λ _. tt), given.0),
       record {
         after_borrow = tt;
