@@ -10,11 +10,9 @@ mod decided;
 #[cfg(test)]
 mod laws;
 #[cfg(test)]
-<<<<<<< HEAD
 mod lines;
-=======
+#[cfg(test)]
 mod passages;
->>>>>>> hub/passage
 #[cfg(test)]
 mod rows;
 #[cfg(test)]

@@ -41,8 +41,7 @@ returns-in_default g c =
     let old = c.args.self.now.paragraph in
     let p = c.fill.new.self in
     let was = c.in_ok-end.was ∙ ap Ok c.in_default.is in
-    let fills = rw was at (c.fill.ensures.fills profile) in
-    (
+    let fills = rw was at (c.fill.ensures.fills profile) in (
       (refl, (λ _. tt), After-none cell profile old p _ _ _ _ _ _ fills),
       record {
         after_borrow = tt;
@@ -62,8 +61,7 @@ returns-then-is_err g c =
     let old = c.args.self.now.paragraph in
     let p = c.fill.new.self in
     let was = c.in_ok-end.was ∙ ap Ok c.in-Some.is in
-    let fills = rw was at (c.fill.ensures.fills profile) in
-    (
+    let fills = rw was at (c.fill.ensures.fills profile) in (
       (refl, (λ _. tt), After-memory cell profile old p _ _ _ _ _ _ c.in-Some.end fills),
       record {
         after_borrow = tt;
@@ -83,8 +81,7 @@ returns-then-is_err-2 g c =
     let old = c.args.self.now.paragraph in
     let p = c.fill.new.self in
     let was = c.in_ok-end.was ∙ ap Ok c.in-Some.is in
-    let fills = rw was at (c.fill.ensures.fills profile) in
-    (
+    let fills = rw was at (c.fill.ensures.fills profile) in (
       (refl, (λ _. tt), After-memory cell profile old p _ _ _ _ _ _ c.in-Some.end fills),
       record {
         after_borrow = tt;
@@ -112,14 +109,19 @@ returns g c =
     on_ok (c.cut_words.new.pieces.items ≡ pieces_of cell c.text-text.result.now)
     c.cut_words.result (c.is_err-2.ensures.negation ∙ ap not c.if-is_err-2.false) c.cut_words.ensures in
     let given = After-lent cell profile old p _ _ _ _ _ _ c.in-Some.end fills c.release.new.self c.lend.result c.release.ensures (record {
-        start = omega (arith, c.lend.ensures.start, ap (λ f. f.given) c.release.ensures.feed, ap length c.release.ensures.text,
-            string_len-is c.release.new.self.text, string_len-is p.text);
-        bytes = c.lend.ensures.text ∙ c.release.ensures.text;
-        segments = c.lend.ensures.segments ∙ lines ∙ ap (λ l. segments_of (ended c.in-Some.end (marks profile cell (chars l)))) c.text-text.ensures.text;
-        pieces = c.lend.ensures.pieces ∙ words ∙ ap (pieces_of cell) c.text-text.ensures.text;
-        ends = c.lend.ensures.end;
-      }) in
-    (
+      start = omega (
+        arith,
+        c.lend.ensures.start,
+        ap (λ f. f.given) c.release.ensures.feed,
+        ap length c.release.ensures.text,
+        string_len-is c.release.new.self.text,
+        string_len-is p.text,
+      );
+      bytes = c.lend.ensures.text ∙ c.release.ensures.text;
+      segments = c.lend.ensures.segments ∙ lines ∙ ap (λ l. segments_of (ended c.in-Some.end (marks profile cell (chars l)))) c.text-text.ensures.text;
+      pieces = c.lend.ensures.pieces ∙ words ∙ ap (pieces_of cell) c.text-text.ensures.text;
+      ends = c.lend.ensures.end;
+    }) in (
       (refl, (λ _. tt), given.0),
       record {
         after_borrow = tt;
