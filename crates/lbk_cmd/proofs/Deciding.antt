@@ -16,7 +16,7 @@ use Rattle.lbk_rules.specs.Held.{is_held, unanswered_before, answer_at, late_at,
 use Rattle.lbk_rules.specs.Verdict.{verdict_between_in}
 use Rattle.lbk_rules.proofs.CoverLemmas.{held-heads, answer_at-below}
 use Rattle.lbk_rules.proofs.EndLemmas.{start_of_text}
-use Rattle.lbk_passage.specs.Marks.{ended, marks, marks_behind}
+use Rattle.lbk_passage.specs.Marks.{Marked, ended, marks, marks_behind}
 use Rattle.lbk_passage.proofs.SegmentLemmas.{answer-snoc}
 use Rattle.lbk_cmd.specs.Deciding.{placed}
 use Rattle.lbk_cmd.specs.Show.{at_start, verdicts_of}
@@ -181,3 +181,19 @@ Decides-end Fits profile cell end text list list' rest late lates none pushed l 
     let no_chars : chars rest ≡ [] = ap chars (nil_from_length rest none) ∙ chars-nil in
     let last = subst (λ (cs : List ℕ). AddsUp profile cell end l.before cs list all) no_chars l.adds_up in
     pushed ∙ ap (λ o. written o list ++ end ∷ []) (lates (map cell l.before) l.fits) ∙ last.joined
+
+length-ended : (end : Verdict) (ms : List Marked) → length (ended end ms) ≡ length ms
+length-ended end [] = refl
+length-ended end (m ∷ []) = refl
+length-ended end (m ∷ n ∷ ms) = let rest = length-ended end (n ∷ ms) in omega (arith, rest)
+
+length-marks : (profile : Profile) (cell : ℕ → Cell) (before cs : List ℕ) → length (marks_behind profile cell before cs) ≡ length cs
+length-marks profile cell before [] = refl
+length-marks profile cell before (c ∷ cs) = let rest = length-marks profile cell (before ++ c ∷ []) cs in omega (arith, rest)
+
+-- as many as positions
+pub length-verdicts : (profile : Profile) (cell : ℕ → Cell) (end : Verdict) (cs : List ℕ)
+    → length (verdicts_of (ended end (marks profile cell cs))) ≡ length cs + 1
+length-verdicts profile cell end cs =
+    let each = length-map (ended end (marks profile cell cs)) (λ (m : Marked). m.after) in
+    omega (arith, each, length-ended end (marks profile cell cs), length-marks profile cell [] cs)

@@ -194,9 +194,10 @@ module _ (e : Engine) where
             (short : length (encode_utf8_all stops.seen) ≤ t.limit) where
           all_seen : AreAll e (bytes ++ a.got) (st.scalars ++ stops.seen) stops.seen
           unfolding used
-          all_seen =
-              (encodes-append st.scalars stops.seen ∙ covered ∙ ap (λ l. well_formed_prefix (counted l)) (sym all_now),
-              omega (arith, short, a.alike.limit, st.limit))
+          all_seen = (
+            encodes-append st.scalars stops.seen ∙ covered ∙ ap (λ l. well_formed_prefix (counted l)) (sym all_now),
+            omega (arith, short, a.alike.limit, st.limit),
+          )
 
           -- something was seen behind a passage, unless the text ended there
           none_seen : (s.is_ended ≡ true → s.held ≡ [] → ⊥) → NoneSeen
@@ -219,8 +220,15 @@ module _ (e : Engine) where
                   let prefix : used ++ encode_utf8_all stops.seen ≡ front ++ well_formed_prefix later =
                   covered ∙ ap well_formed_prefix count ∙ prefix-after front later (IsUtf8-append used (encode_utf8 next) st.utf8 utf8) in
                   let some = some_bytes next in
-                  absurd (omega (arith, some, long, ap length prefix, length-append used (encode_utf8_all stops.seen), length-append front (well_formed_prefix later),
-                  ap (λ l. length (encode_utf8_all l)) none))
+                  absurd (omega (
+                    arith,
+                    some,
+                    long,
+                    ap length prefix,
+                    length-append used (encode_utf8_all stops.seen),
+                    length-append front (well_formed_prefix later),
+                    ap (λ l. length (encode_utf8_all l)) none,
+                  ))
               by (ended held is_at_end given) = absurd (not_ended is_at_end held)
 
       at_its_end : (bs : List ℕ) (b c : Bool) (at : ℕ) → (b ≡ true → c ≡ true) → IsNotUtf8At bs b at → IsNotUtf8At bs c at
@@ -251,7 +259,7 @@ module _ (e : Engine) where
           let stops : Stops t fault.Read = a.answer in
           let covered = stops.all_seen (used fault.Read a stops) st.utf8 (begin_now fault.Read a stops) in
           record {
-            settled = settled fault.Read a stops (none_seen fault.Read a stops covered stops.lies (λ is_at_end held. (a.quiet is_at_end).2 refl));
+            settled = settled fault.Read a stops (none_seen fault.Read a stops covered stops.lies (λ is_at_end held. (a.quiet is_at_end).3 refl));
             lies = all_seen fault.Read a stops covered stops.lies;
           }
       run_fault (fault.NotUtf8 at) a notices =
@@ -266,10 +274,20 @@ module _ (e : Engine) where
                 (λ is_at_end held.
                 let none = ap length ((a.quiet is_at_end).0 ∙ held) in
                 let follows = there.follows in
-                omega (arith, there.place, follows, ap length covered, length-append us (encode_utf8_all stops.seen), length-append us t.held, none,
-                length-take longest_text (us ++ t.held))));
-            lies = (all_seen (fault.NotUtf8 at) a stops covered stops.lies.0,
-                subst (λ l. IsNotUtf8At l e2 at) (sym all) (at_its_end (us ++ t.held) t.is_ended e2 at notices there));
+                omega (
+                  arith,
+                  there.place,
+                  follows,
+                  ap length covered,
+                  length-append us (encode_utf8_all stops.seen),
+                  length-append us t.held,
+                  none,
+                  length-take longest_text (us ++ t.held),
+                )));
+            lies = (
+              all_seen (fault.NotUtf8 at) a stops covered stops.lies.0,
+              subst (λ l. IsNotUtf8At l e2 at) (sym all) (at_its_end (us ++ t.held) t.is_ended e2 at notices there),
+            );
           }
       run_fault fault.TextTooLong a notices =
           let stops : Stops t fault.TextTooLong = a.answer in

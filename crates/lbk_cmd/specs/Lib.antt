@@ -5,5 +5,6 @@ pub mod Show
 pub mod Segment
 pub mod Texts
 pub mod Run
+pub mod Engines
 -- What only carries proofs.
 pub mod Deciding

@@ -1,8 +1,9 @@
 //! The faults of the engines, by name.
 
 ghost use Rattle.std.specs.Prelude.{◌≡◌};
-ghost use Rattle.lbk_cmd.specs.declared.faults.CmdFault.TheVariants.{Memory, Passage as passage_fault};
+ghost use Rattle.lbk_cmd.specs.declared.faults.CmdFault.TheVariants.{Memory, Passage as passage_fault, Write};
 
+use lbk_feed::Failed;
 use lbk_passage::PassageFault;
 use lbk_ucd::UcdFault;
 use std::alloc::{AllocError, AllocFailed};
@@ -62,6 +63,14 @@ impl From<PassageFault> for CmdFault {
 
     fn from(fault: PassageFault) -> CmdFault {
         CmdFault::Passage(fault)
+    }
+}
+
+impl From<Failed> for CmdFault {
+    ghost from_gives = { λ _ fault. fault ≡ Write };
+
+    fn from(_failed: Failed) -> CmdFault {
+        CmdFault::Write
     }
 }
 

@@ -2,9 +2,11 @@
 #![tactic(auto)]
 
 mod cells;
+mod engine;
 mod faults;
 mod segmented;
 mod shown;
 
 pub use cells::{SAMPLE_FILES, read_cells};
+pub use engine::{segment, show};
 pub use faults::{CellsFault, CmdFault};

@@ -27,8 +27,9 @@ pub fn decide<C: CellSource>(
 ) -> Result<(), AllocError>
     requires some { 0 < length text.now }
     requires few { length text.now < 2 ^ 32 }
-    ensures { OnOk result (verdicts.new.items
+    ensures verdicts { OnOk result (verdicts.new.items
         ≡ verdicts_of (ended end (marks profile (C.cell_of cells.now) (chars text.now)))) }
+    ensures many { OnOk result (length verdicts.new.items ≡ length (chars text.now) + 1) }
 {
     verdicts.clear();
     let mut machine = LateMachine::start(profile);

@@ -47,7 +47,7 @@ module _ (cell : ℕ → Cell) (profile : Profile) (old : Paragraph) (u : Option
     costs = record { each_gave = λ open_end. cc; but_one = omega arith; within = λ less. absurd (omega arith) };
     agrees = λ h. h;
     notices = λ h. refl;
-    quiet = λ h. (refl, h, λ e. cc);
+    quiet = λ h. (refl, h, omega arith, λ e. cc);
   }
 
   -- a paragraph that is held already
@@ -66,7 +66,7 @@ module _ (cell : ℕ → Cell) (profile : Profile) (old : Paragraph) (u : Option
     costs = record { each_gave = λ open_end. omega arith; but_one = omega arith; within = λ less. absurd (omega arith) };
     agrees = λ h. h;
     notices = λ h. refl;
-    quiet = λ h. (refl, h, λ e. cc);
+    quiet = λ h. (refl, h, omega arith, λ e. cc);
   }
 
   -- a paragraph that was gathered
@@ -118,7 +118,7 @@ module _ (cell : ℕ → Cell) (profile : Profile) (old : Paragraph) (u : Option
           notices = λ open_end. g.notices (ap (λ f. f.is_ended) (sym feed_same) ∙ open_end);
           quiet = λ h.
               (let still = g.quiet (ap (λ f. f.is_ended) feed_is ∙ h) in
-              (new_held ∙ still.0 ∙ sym old_held, ap (λ f. f.is_ended) feed_same ∙ still.1, still.2));
+              (new_held ∙ still.0 ∙ sym old_held, ap (λ f. f.is_ended) feed_same ∙ still.1, still.2, still.3));
         }
 
 -- a fault that stops a run ends it

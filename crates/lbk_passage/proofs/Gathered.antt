@@ -79,7 +79,7 @@ module _ (cell : ℕ → Cell) (old : Paragraph) (unread : Option (List ℕ)) (e
         few = omega arith;
         agrees = λ h. h;
         notices = λ h. refl;
-        quiet = λ h. (all, h);
+        quiet = λ h. (all, h, omega arith);
         none_ends = ap (stays cell None) scalars_are;
         last_is = sym (ap (last_class cell None) scalars_are);
       }
@@ -95,7 +95,7 @@ module _ (cell : ℕ → Cell) (old : Paragraph) (unread : Option (List ℕ)) (e
     pub agrees : feed.Agrees old.feed ended unread → feed.Agrees p.feed ended' unread'
     pub notices : p.feed.is_ended ≡ false → ended' ≡ ended
     pub quiet : old.feed.is_ended ≡ true
-        → (string_bytes p.text ++ p.feed.held ≡ old.feed.held) × (p.feed.is_ended ≡ true) × (¬ (fault ≡ Some Read))
+        → (string_bytes p.text ++ p.feed.held ≡ old.feed.held) × (p.feed.is_ended ≡ true) × (reads' ≤ reads) × (¬ (fault ≡ Some Read))
     pub none_ends : stays cell None (chars (string_bytes p.text)) ≡ true
     pub last_is : last ≡ last_class cell None (chars (string_bytes p.text))
 
@@ -125,7 +125,7 @@ module _ (cell : ℕ → Cell) (old : Paragraph) (unread : Option (List ℕ)) (e
             let same = s.steps.same (inr (inl was.1)) in (
               ap (λ l. l ++ p.feed.held) text ∙ ap (λ l. string_bytes now.text ++ l) same.0 ∙ was.0,
               same.2 ∙ was.1,
-              λ e. s.unasked was.1 (read_by s.fault (sym s.fault_is ∙ e)),
+              omega (arith, was.2, (s.unasked was.1).0), λ e. (s.unasked was.1).1 (read_by s.fault (sym s.fault_is ∙ e)),
             ));
         none_ends = ap (λ l. stays cell None (chars l)) text ∙ g.none_ends;
         last_is = g.last_is ∙ ap (λ l. last_class cell None (chars l)) (sym text);
@@ -237,8 +237,8 @@ module _ (cell : ℕ → Cell) (old : Paragraph) (unread : Option (List ℕ)) (e
       kept_short : length (string_bytes n.text) ≤ n.limit
       kept_short = let len = string_len-is n.text in let kept = n.within in omega (arith, len, kept)
 
-      still : old.feed.is_ended ≡ true → (string_bytes n.text ++ n.feed.held ≡ old.feed.held) × (n.feed.is_ended ≡ true)
-      still h = (all_same ∙ (s.quiet h).0, t.ended ∙ (s.quiet h).1)
+      still : old.feed.is_ended ≡ true → (string_bytes n.text ++ n.feed.held ≡ old.feed.held) × (n.feed.is_ended ≡ true) × (r2 ≤ reads)
+      still h = (all_same ∙ (s.quiet h).0, t.ended ∙ (s.quiet h).1, (s.quiet h).2)
 
       -- the piece is all of the paragraph
       pub Gathering-more : p.is_spent ≡ false → Gathering cell old n r.last unread v ended e' reads r2
@@ -285,7 +285,7 @@ module _ (cell : ℕ → Cell) (old : Paragraph) (unread : Option (List ℕ)) (e
             few = omega (arith, few, t.limit, s.limit, kept);
             agrees = λ h at_end. s.agrees h (sym t.ended ∙ at_end);
             notices = λ h. s.notices (sym t.ended ∙ h);
-            quiet = λ h. ((still h).0, (still h).1, λ e. cc);
+            quiet = λ h. ((still h).0, (still h).1, (still h).2, λ e. cc);
             whole = record {
               utf8 = is_utf8-from_IsUtf8 n.feed.ready t.utf8;
               first = ap (λ l. n.feed.ready ++ drop (length n.feed.ready) l) t.front ∙ ap (λ l. n.feed.ready ++ l) (drop-append_seam n.feed.ready t.behind) ∙ sym t.front;
@@ -323,7 +323,7 @@ module _ (cell : ℕ → Cell) (old : Paragraph) (unread : Option (List ℕ)) (e
             few = omega (arith, few, t.limit, s.limit, kept);
             agrees = λ h at_end. s.agrees h (sym t.ended ∙ sym (ap (λ f. f.is_ended) same.feed) ∙ at_end);
             notices = λ h. s.notices (sym t.ended ∙ sym (ap (λ f. f.is_ended) same.feed) ∙ h);
-            quiet = λ h. (text_same ∙ (still h).0, ap (λ f. f.is_ended) same.feed ∙ (still h).1, λ e. cc);
+            quiet = λ h. (text_same ∙ (still h).0, ap (λ f. f.is_ended) same.feed ∙ (still h).1, (still h).2, λ e. cc);
             whole = tt;
             stops = λ profile.
                 subst (Stops (state_with cell profile m)) (sym fault_is)

@@ -1,5 +1,6 @@
 -- What a call of `next` leaves, by the answer of the call that fills a paragraph.
 use Rattle.std.proofs.Common.{◌≡◌, ◌⊎◌, ℕ, ◌+◌, ◌-◌, ◌<◌, ◌≤◌, Bool, true, false, ◌||◌, not, List, [], ◌∷◌, ◌++◌, length, Option, None, Some, Result, Ok, Err, is_ok, OnOk, string_bytes, string_len, encode_utf8_all, chars, IsUtf8, if◌then◌else◌, refl, sym, ap, subst, ◌∙◌, arith, inl, inr, ⊎_elim, append-nil}
+use Rattle.std.proofs.lemmas.Bool.{false≢true}
 use Rattle.std.proofs.lemmas.Str.{chars-nil, encodes-chars, IsUtf8-string_bytes}
 use Rattle.std.specs.Io.KnownBytes.{prepend_known}
 use Rattle.lbk_feed.specs.View.{BeginsWith}
@@ -31,6 +32,9 @@ length-scalars [] = refl
 length-scalars (m ∷ l) = let rest = length-scalars l in omega (arith, rest)
 
 -- what an `Ok` says
+pub ok_err : {T E : Type 0} (r : Result T E) (x : T) (e : E) → r ≡ Ok x → r ≡ Err e → ⊥
+ok_err r x e ok err = false≢true (sym (ap is_ok (sym ok ∙ err)))
+
 pub on_ok : {T E : Type 0} (P : Type 0) (r : Result T E) → is_ok r ≡ true → OnOk r P → P
 on_ok P (Ok x) is h = h
 on_ok P (Err e) is h = cc
@@ -143,7 +147,7 @@ module _ (cell : ℕ → Cell) (profile : Profile) (old p : Paragraph) (u v : Op
       costs = record { each_gave = f.costs.each_gave; but_one = f.costs.but_one; within = f.costs.within };
       agrees = f.agrees;
       notices = f.notices;
-      quiet = λ h. ((f.quiet h).0, (f.quiet h).1, λ e. cc);
+      quiet = λ h. ((f.quiet h).0, (f.quiet h).1, (f.quiet h).2, λ e. cc);
     }
 
     -- what a passage says of the paragraph
@@ -229,7 +233,7 @@ module _ (cell : ℕ → Cell) (profile : Profile) (old p : Paragraph) (u v : Op
             };
             agrees = λ h at_end. f.agrees h (sym ended_is ∙ at_end);
             notices = λ open_end. f.notices (sym ended_is ∙ open_end);
-            quiet = λ h. (all_is ∙ (f.quiet h).0, ended_is ∙ (f.quiet h).1, λ e. cc);
+            quiet = λ h. (all_is ∙ (f.quiet h).0, ended_is ∙ (f.quiet h).1, (f.quiet h).2, λ e. cc);
           }
 
       some_text : (l : List ℕ) → 0 < length (chars l) → 0 < length l

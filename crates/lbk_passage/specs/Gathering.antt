@@ -82,7 +82,7 @@ pub record Settles (old new : Paragraph) (unread unread' : Option (List ℕ)) (e
   pub pays : Pays old.feed new.feed reads reads'
   pub agrees : feed.Agrees old.feed ended unread → feed.Agrees new.feed ended' unread'
   pub notices : new.feed.is_ended ≡ false → ended' ≡ ended
-  pub unasked : old.feed.is_ended ≡ true → ¬ (fault ≡ Some feed_read)
+  pub unasked : old.feed.is_ended ≡ true → (reads' ≤ reads) × (¬ (fault ≡ Some feed_read))
   pub stands : IfOk r (λ stands. OnTrue stands (0 < length new.feed.ready))
   pub ends : IfOk r (λ stands. OnFalse stands ((new.feed.held ≡ []) × (new.feed.is_ended ≡ true)))
 
@@ -107,7 +107,7 @@ pub record Gathering (cell : ℕ → Cell) (old now : Paragraph) (last : Option 
   pub few : reads' ≤ reads + (length (string_bytes now.text) + 4)
   pub agrees : feed.Agrees old.feed ended unread → feed.Agrees now.feed ended' unread'
   pub notices : now.feed.is_ended ≡ false → ended' ≡ ended
-  pub quiet : old.feed.is_ended ≡ true → (string_bytes now.text ++ now.feed.held ≡ old.feed.held) × (now.feed.is_ended ≡ true)
+  pub quiet : old.feed.is_ended ≡ true → (string_bytes now.text ++ now.feed.held ≡ old.feed.held) × (now.feed.is_ended ≡ true) × (reads' ≤ reads)
   pub none_ends : stays cell None (chars (string_bytes now.text)) ≡ true
   pub last_is : last ≡ last_class cell None (chars (string_bytes now.text))
 
@@ -126,7 +126,7 @@ pub record Gathers (cell : ℕ → Cell) (old new : Paragraph) (unread unread' :
   pub agrees : feed.Agrees old.feed ended unread → feed.Agrees new.feed ended' unread'
   pub notices : new.feed.is_ended ≡ false → ended' ≡ ended
   pub quiet : old.feed.is_ended ≡ true
-      → (string_bytes new.text ++ new.feed.held ≡ old.feed.held) × (new.feed.is_ended ≡ true) × (¬ (fault_in r ≡ Some Read))
+      → (string_bytes new.text ++ new.feed.held ≡ old.feed.held) × (new.feed.is_ended ≡ true) × (reads' ≤ reads) × (¬ (fault_in r ≡ Some Read))
   pub whole : IfOk r (λ end. IsWholeText cell (string_bytes new.text) new.feed end)
   pub stops : IfErr r (λ fault. (profile : Profile) → Stops (state_with cell profile new) fault)
 
@@ -160,7 +160,7 @@ pub record Fills (cell : ℕ → Cell) (profile : Profile) (old new : Paragraph)
   pub agrees : feed.Agrees old.feed ended unread → feed.Agrees new.feed ended' unread'
   pub notices : new.feed.is_ended ≡ false → ended' ≡ ended
   pub quiet : old.feed.is_ended ≡ true
-      → ((state_with cell profile new).held ≡ (state_with cell profile old).held) × (new.feed.is_ended ≡ true) × (¬ (fault_in r ≡ Some Read))
+      → ((state_with cell profile new).held ≡ (state_with cell profile old).held) × (new.feed.is_ended ≡ true) × (reads' ≤ reads) × (¬ (fault_in r ≡ Some Read))
 
 -- the same paragraph, but for whether it is held, and whether it is spent
 pub record IsSame (old new : Paragraph) (is_held is_spent : Bool) : Type 0 where

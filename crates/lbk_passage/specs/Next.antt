@@ -182,4 +182,4 @@ pub record AfterNext (old new : State) (unread unread' : Option (List ℕ)) (end
   pub costs : Costs old new (lent_text r ++ new.held) (ends_run (fault_in r)) reads reads'
   pub agrees : Agrees old ended unread → Agrees new ended' unread'
   pub notices : new.is_ended ≡ false → ended' ≡ ended
-  pub quiet : old.is_ended ≡ true → (lent_text r ++ new.held ≡ old.held) × (new.is_ended ≡ true) × (¬ (fault_in r ≡ Some Read))
+  pub quiet : old.is_ended ≡ true → (lent_text r ++ new.held ≡ old.held) × (new.is_ended ≡ true) × (reads' ≤ reads) × (¬ (fault_in r ≡ Some Read))

@@ -1,11 +1,11 @@
-use Rattle.std.proofs.Common.{◌≡◌, ◌∷◌, [], ◌++◌, ap, sym, arith, ◌∙◌}
+use Rattle.std.proofs.Common.{◌≡◌, ◌∷◌, [], ◌++◌, length, chars, ap, sym, arith, ◌∙◌}
 use Rattle.std.specs.Str.Iter.{chars_rest}
 use Rattle.lbk_rules.specs.Answers.{written}
 use Rattle.lbk_rules.specs.Held.{answer_at, late_at}
 use Rattle.lbk_rules.specs.LateFits.{LateFits}
 use Rattle.lbk_rules.proofs.CoverLemmas.{answer_at-below, late_at-below}
 use Rattle.lbk_cmd.specs.Deciding.{placed}
-use Rattle.lbk_cmd.proofs.Deciding.{Decides-start, Decides-step, Decides-end, Decides-below}
+use Rattle.lbk_cmd.proofs.Deciding.{Decides-start, Decides-step, Decides-end, Decides-below, length-verdicts}
 use Rattle.lbk_cmd.proofs.shown.decide.Goals as goal
 
 pub loop-c-init : goal.loop-c-init
@@ -52,8 +52,8 @@ place-requires-2 g c =
     (chars_rest l.c-iterator) (λ cells. answer_at profile cells []) c.finish.result.late
     (λ cells fits. c.finish.ensures.late profile cells fits) (λ cells. answer_at-below profile cells []) l.invariant
 
-pub returns : goal.returns
-returns g c =
+pub returns-clause-verdicts : goal.returns-clause-verdicts
+returns-clause-verdicts g c =
     let profile = c.args.profile in
     let l = c.loop-c in
     let pushed : c.push-2.new.self.items ≡ written c.finish.result.late l.verdicts.items ++ c.args.end ∷ [] =
@@ -61,3 +61,7 @@ returns g c =
     Decides-end (LateFits l.machine profile) profile (g.C.CellSource.cell_of c.args.cells.now) c.args.end
     c.args.text.now l.verdicts.items c.push-2.new.self.items (chars_rest l.c-iterator) c.finish.result.late (c.finish.ensures.late profile)
     c.in-None.ensures.steps.0.0 pushed l.invariant
+
+pub returns-clause-many : goal.returns-clause-many
+returns-clause-many g c =
+    ap length (returns-clause-verdicts g c) ∙ length-verdicts c.args.profile (g.C.CellSource.cell_of c.args.cells.now) c.args.end (chars c.args.text.now)

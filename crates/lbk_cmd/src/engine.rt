@@ -1,0 +1,170 @@
+//! The engines: each reads a text to its end, and writes its lines of every passage.
+
+ghost use Rattle.std.specs.Prelude.{◌≡◌, ℕ, ◌+◌, ◌<◌, ◌≤◌, ◌↔◌, ◌++◌, List, length, IsUtf8, IsTrue, IfSome, OnOk, IsErrOf};
+ghost use Rattle.std.specs.Str.{chars};
+ghost use Rattle.std.specs.Io.KnownBytes.{Appends, IsAtEnd};
+ghost use Rattle.lbk_feed.specs.Runs.{HasFailed, Ran};
+ghost use Rattle.lbk_passage.specs.Marks.{Marked};
+ghost use Rattle.lbk_passage.specs.Next.{IsPassage, IsPlaced};
+ghost use Rattle.lbk_passage.specs.Passages.{passages};
+ghost use Rattle.lbk_passage.specs.State.{State, IsLimit};
+ghost use Rattle.lbk_cmd.specs.Engines.{engine_of, showing, segmenting};
+ghost use Rattle.lbk_cmd.specs.Run.{IsRun, is_failed_read};
+ghost use Rattle.lbk_cmd.specs.Texts.{show_text, segment_text};
+
+use super::faults::CmdFault;
+use super::segmented::push_segmented;
+use super::shown::{decide, push_shown};
+use lbk_feed::{Sink, Source, write_all};
+use lbk_passage::{Passage, PassageFault, Segmenter};
+use lbk_rules::{CellSource, Profile, Verdict};
+use std::alloc::{AllocError, Global};
+
+/// Writes the marks, scalars and rules of a text (UAX #14, section 6), each passage in a line of its own: the marks
+/// of its positions with its scalars between them, a tab, `#`, and the number of the rule that decided each position.
+///
+/// A passage's line is written as a whole, once the scalar behind the passage was seen, or the end of the text.
+/// `limit` is the most bytes of a paragraph, 1 to 16,777,216. `Passage` says why no more passages come, `Write` that
+/// the writer failed, `Memory` that memory could not grow for a line.
+pub fn show<R: Source, W: Sink, C: CellSource>(
+    alloc: Global,
+    reader: &mut R,
+    writer: &mut W,
+    cells: &C,
+    limit: u32,
+    profile: Profile,
+) -> Result<(), CmdFault>
+    // What is written of an input that the reader tells.
+    ensures shown { OnOk result (IfSome (R.unread reader.old) (λ input. IsUtf8 input
+        × Appends (W.written writer.old) (W.written writer.new) (show_text (passages profile (C.cell_of cells.now) (chars input))))) }
+    ensures ended { OnOk result (IsTrue (R.has_ended reader.new) × IsAtEnd (R.unread reader.new)) }
+
+    // What was read and what was written, whatever the answer.
+    ensures run { Ran (is_failed_read result) (R.unread reader.old) (R.unread reader.new) (W.written writer.old)
+        (W.written writer.new) (IsRun (showing (C.cell_of cells.now) profile limit) (R.has_ended reader.new) result) }
+    ensures reads { R.read_count reader.new ≤ R.read_count reader.old + 1073741825 }
+
+    // When each refusal comes that the bytes do not tell.
+    ensures limit { IsErrOf result (CmdFault.Passage PassageFault.Limit) ↔ (¬ (IsLimit limit)) }
+    ensures read { IsErrOf result (CmdFault.Passage PassageFault.Read)
+        → HasFailed (R.failure_count reader.old) (R.failure_count reader.new) }
+    ensures read_failed { R.failure_count reader.old < R.failure_count reader.new
+        → result ≡ Err (CmdFault.Passage PassageFault.Read) }
+    ensures write { IsErrOf result CmdFault.Write
+        → HasFailed (W.failure_count writer.old) (W.failure_count writer.new) }
+    ensures write_failed { W.failure_count writer.old < W.failure_count writer.new → result ≡ Err CmdFault.Write }
+{
+    write_lines(Lines::Shown, alloc, reader, writer, cells, limit, profile)
+}
+
+/// Writes the segments and words of a text: for each passage a line `P` with its first byte and the byte behind its
+/// last, then a line `S` for each segment, with the kind and the rule of the line break at its end (UAX #14,
+/// section 6), then a line `W` for each word (UAX #29, section 4). Offsets count bytes of the whole text.
+///
+/// The lines of a passage are written as a whole, and refused, as by `show`.
+pub fn segment<R: Source, W: Sink, C: CellSource>(
+    alloc: Global,
+    reader: &mut R,
+    writer: &mut W,
+    cells: &C,
+    limit: u32,
+    profile: Profile,
+) -> Result<(), CmdFault>
+    // What is written of an input that the reader tells.
+    ensures shown { OnOk result (IfSome (R.unread reader.old) (λ input. IsUtf8 input
+        × Appends (W.written writer.old) (W.written writer.new)
+        (segment_text (C.cell_of cells.now) (passages profile (C.cell_of cells.now) (chars input))))) }
+    ensures ended { OnOk result (IsTrue (R.has_ended reader.new) × IsAtEnd (R.unread reader.new)) }
+
+    // What was read and what was written, whatever the answer.
+    ensures run { Ran (is_failed_read result) (R.unread reader.old) (R.unread reader.new) (W.written writer.old)
+        (W.written writer.new) (IsRun (segmenting (C.cell_of cells.now) profile limit) (R.has_ended reader.new) result) }
+    ensures reads { R.read_count reader.new ≤ R.read_count reader.old + 1073741825 }
+
+    // When each refusal comes that the bytes do not tell.
+    ensures limit { IsErrOf result (CmdFault.Passage PassageFault.Limit) ↔ (¬ (IsLimit limit)) }
+    ensures read { IsErrOf result (CmdFault.Passage PassageFault.Read)
+        → HasFailed (R.failure_count reader.old) (R.failure_count reader.new) }
+    ensures read_failed { R.failure_count reader.old < R.failure_count reader.new
+        → result ≡ Err (CmdFault.Passage PassageFault.Read) }
+    ensures write { IsErrOf result CmdFault.Write
+        → HasFailed (W.failure_count writer.old) (W.failure_count writer.new) }
+    ensures write_failed { W.failure_count writer.old < W.failure_count writer.new → result ≡ Err CmdFault.Write }
+{
+    write_lines(
+        Lines::Segmented,
+        alloc,
+        reader,
+        writer,
+        cells,
+        limit,
+        profile,
+    )
+}
+
+/// What is written of a passage.
+#[derive(Clone, Copy)]
+enum Lines {
+    /// Its marks, scalars and rules, in one line.
+    Shown,
+    /// Itself, its segments and its words.
+    Segmented,
+}
+
+/// Reads a text to its end, and writes the lines of each passage by one call of `write_all`.
+fn write_lines<R: Source, W: Sink, C: CellSource>(
+    lines: Lines,
+    alloc: Global,
+    reader: &mut R,
+    writer: &mut W,
+    cells: &C,
+    limit: u32,
+    profile: Profile,
+) -> Result<(), CmdFault>
+    ensures ended { OnOk result (IsTrue (R.has_ended reader.new) × IsAtEnd (R.unread reader.new)) }
+    ensures run { Ran (is_failed_read result) (R.unread reader.old) (R.unread reader.new) (W.written writer.old)
+        (W.written writer.new) (IsRun (engine_of lines (C.cell_of cells.now) profile limit) (R.has_ended reader.new) result) }
+    ensures reads { R.read_count reader.new ≤ R.read_count reader.old + 1073741825 }
+    ensures limit { IsErrOf result (CmdFault.Passage PassageFault.Limit) ↔ (¬ (IsLimit limit)) }
+    ensures read { IsErrOf result (CmdFault.Passage PassageFault.Read)
+        → HasFailed (R.failure_count reader.old) (R.failure_count reader.new) }
+    ensures read_failed { R.failure_count reader.old < R.failure_count reader.new
+        → result ≡ Err (CmdFault.Passage PassageFault.Read) }
+    ensures write { IsErrOf result CmdFault.Write
+        → HasFailed (W.failure_count writer.old) (W.failure_count writer.new) }
+    ensures write_failed { W.failure_count writer.old < W.failure_count writer.new → result ≡ Err CmdFault.Write }
+{
+    let mut segmenter = Segmenter::new(alloc, cells, limit, profile)?;
+    let mut verdicts = Vec::new(alloc);
+    let mut text = Vec::new(alloc);
+    while let Some(passage) = segmenter.next(reader)? {
+        text.clear();
+        push_lines(lines, cells, profile, &passage, &mut verdicts, &mut text)?;
+        write_all(writer, &text)?;
+    }
+    Ok(())
+}
+
+/// Puts the lines of a passage at the end of a text, `verdicts` being a list to work in. After an error some of them
+/// may stand there.
+fn push_lines<C: CellSource>(
+    lines: Lines,
+    cells: &C,
+    profile: Profile,
+    passage: &Passage<'_>,
+    verdicts: &mut Vec<Verdict>,
+    text: &mut Vec<u8>,
+) -> Result<(), AllocError>
+    requires { IsPlaced passage.now }
+    ensures { OnOk result ((s : State) (ms : List Marked) → s.cell ≡ C.cell_of cells.now → s.profile ≡ profile
+        → IsPassage s ms passage.now
+        → text.new.items ≡ text.old.items ++ (engine_of lines (C.cell_of cells.now) profile 0).lines passage.now.start ms) }
+{
+    match lines {
+        Lines::Shown => {
+            decide(cells, profile, passage.text, passage.end, verdicts)?;
+            push_shown(text, passage.text, verdicts)
+        }
+        Lines::Segmented => push_segmented(text, passage),
+    }
+}
