@@ -1,4 +1,5 @@
-pub mod Refusals
+pub mod Deciding
+pub mod LineWriting
+pub mod Running
 pub mod Runs
-pub mod Tokens
-pub mod Verdicts
+pub mod Stopping

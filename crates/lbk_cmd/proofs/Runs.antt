@@ -10,18 +10,18 @@ use Rattle.lbk_files.specs.declared.readiness.Ready.{Ready}
 use Rattle.lbk_files.specs.Ready.{IsReadyFor}
 use Rattle.lbk_cmd.specs.declared.ending.Ending.{Ending}
 use Rattle.lbk_cmd.specs.Devices.{Devices}
-use Rattle.lbk_cmd.specs.Acts.{EngineRuns, Performs, ReplayRun, TextRun}
+use Rattle.lbk_cmd.specs.Acts.{EngineRuns, Performs}
 
 -- an engine that runs on what is ready for a task performs it
-pub ready_performs : (Shows Segments : TextRun) (Replays : ReplayRun) (file : List ℕ → Option (Option (List ℕ))) (task : Task) (ready : Ready)
+pub ready_performs : (file : List ℕ → Option (Option (List ℕ))) (task : Task) (ready : Ready)
     (before after : Devices) (ending : Ending) → IsReadyFor file task ready
-    → EngineRuns Shows Segments Replays ready.engine ready.profile (page_cell ready.cells) before after ending
-    → Performs Shows Segments Replays file task before after ending
-ready_performs Shows Segments Replays file task ready before after ending is runs = inr (
+    → EngineRuns ready.engine ready.profile (page_cell ready.cells) before after ending
+    → Performs file task before after ending
+ready_performs file task ready before after ending is runs = inr (
   page_cell ready.cells,
   is.cells,
-  subst (λ (engine : Engine). EngineRuns Shows Segments Replays engine task.profile (page_cell ready.cells) before after ending) is.engine
-      (subst (λ (profile : Profile). EngineRuns Shows Segments Replays ready.engine profile (page_cell ready.cells) before after ending) is.profile runs),
+  subst (λ (engine : Engine). EngineRuns engine task.profile (page_cell ready.cells) before after ending) is.engine
+      (subst (λ (profile : Profile). EngineRuns ready.engine profile (page_cell ready.cells) before after ending) is.profile runs),
 )
 
 -- a list of no words

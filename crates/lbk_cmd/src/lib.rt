@@ -1,19 +1,17 @@
-//! The engines of the program: what each writes is a stated function of what it reads.
+//! The engines of the program, and the program's run: what each writes is a stated function of what it reads.
 #![tactic(auto)]
 
+mod command;
 mod ending;
 mod engine;
-mod engines;
 mod faults;
-pub mod laws;
-mod line;
-mod run;
+mod segmented;
+mod shown;
 
+pub use command::run;
 pub use ending::{Ending, RunFault};
-pub use engine::show;
-pub use engines::Engines;
-pub use faults::{CmdFault, PassageFault};
+pub use engine::{segment, show};
+pub use faults::CmdFault;
 pub use lbk_files::{
     CellsFault, LoadFault, MemoryStore, SAMPLE_FILES, Store, read_cells, read_front,
 };
-pub use run::run_with;

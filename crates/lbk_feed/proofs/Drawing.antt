@@ -1,32 +1,11 @@
 -- What one read brings, and several in turn.
-use Rattle.std.proofs.Common.{◌≡◌, ◌⊎◌, ℕ, ◌+◌, ◌<◌, ◌≤◌, Bool, true, false, List, [], ◌∷◌, ◌++◌, length, Option, None, Some, refl, sym, ap, subst, ◌∙◌, arith, inl, inr, ⊎_elim, length-append, append_assoc, append-nil, eqb}
-use Rattle.std.specs.Io.KnownBytes.{Consumes}
+use Rattle.std.proofs.Common.{◌≡◌, ◌⊎◌, ℕ, ◌+◌, ◌<◌, ◌≤◌, Bool, true, false, List, [], ◌∷◌, ◌++◌, length, Option, refl, sym, ap, subst, ◌∙◌, arith, inl, inr, ⊎_elim, length-append, append_assoc, append-nil, eqb}
 use Rattle.std.proofs.lemmas.Bool.{cases_lt, eqb-true, eqb-false}
 use Rattle.lbk_feed.specs.Devices.{count_up, KeepsIfTold}
 use Rattle.lbk_feed.specs.Block.{Gives}
-use Rattle.lbk_feed.specs.View.{View, BeginsWith, CanGoOn, AreDue}
-use Rattle.lbk_feed.specs.Intake.{Draws, DrawsAndFails, KeepsAfter}
-
-Consumes-nil : (a : Option (List ℕ)) → Consumes a a []
-Consumes-nil None = tt
-Consumes-nil (Some x) = refl
-
-Consumes-trans : (a b c : Option (List ℕ)) (bs cs : List ℕ) → Consumes a b bs → Consumes b c cs → Consumes a c (bs ++ cs)
-Consumes-trans None b c bs cs p q = tt
-Consumes-trans (Some x) None c bs cs p q = absurd p
-Consumes-trans (Some x) (Some y) None bs cs p q = absurd q
-Consumes-trans (Some x) (Some y) (Some z) bs cs p q = p ∙ ap (λ l. bs ++ l) q ∙ sym (append_assoc bs cs z)
-
-BeginsWith-after : (a b : Option (List ℕ)) (bs cs : List ℕ) → Consumes a b bs → BeginsWith cs b → BeginsWith (bs ++ cs) a
-BeginsWith-after None b bs cs p q = tt
-BeginsWith-after (Some x) None bs cs p q = absurd p
-BeginsWith-after (Some x) (Some y) bs cs p q = (q.0, p ∙ ap (λ l. bs ++ l) q.1 ∙ sym (append_assoc bs cs q.0))
-
-KeepsAfter-after : (a b c : Option (List ℕ)) (bs cs : List ℕ) → Consumes a b bs → KeepsAfter cs b c → KeepsAfter (bs ++ cs) a c
-KeepsAfter-after None b c bs cs p q = tt
-KeepsAfter-after (Some x) None c bs cs p q = absurd p
-KeepsAfter-after (Some x) (Some y) None bs cs p q = tt
-KeepsAfter-after (Some x) (Some y) (Some z) bs cs p q = append_assoc bs cs z ∙ ap (λ l. bs ++ l) q ∙ sym p
+use Rattle.lbk_feed.specs.View.{View, CanGoOn, AreDue}
+use Rattle.lbk_feed.specs.Intake.{Draws, DrawsAndFails}
+use Rattle.lbk_feed.proofs.Taking.{Consumes-nil, Consumes-trans, BeginsWith-none, BeginsWith-after, KeepsAfter-none, KeepsAfter-after}
 
 pub no_bytes : (bs : List ℕ) → length bs ≡ 0 → bs ≡ []
 no_bytes [] none = refl
@@ -93,15 +72,6 @@ Draws-one old new before after from to n gives given spent ended ready count goe
   due = λ more. AreDue-one old.given old.held new.held gives.got from to gives.held goes_on (omega arith);
 }
 
-told-none : (before after : Option (List ℕ)) → KeepsIfTold before after → KeepsAfter [] before after
-told-none None after told = tt
-told-none (Some xs) None told = tt
-told-none (Some xs) (Some ys) told = told
-
-begins-none : (known : Option (List ℕ)) → BeginsWith [] known
-begins-none None = tt
-begins-none (Some xs) = (xs, refl)
-
 -- a read that failed
 pub Draws-failed : (old new : View) (before after : Option (List ℕ)) (from to : ℕ) → new.held ≡ old.held → KeepsIfTold before after
     → new.given ≡ old.given → new.is_spent ≡ old.is_spent → new.is_ended ≡ false → length new.ready ≡ 0
@@ -111,8 +81,8 @@ Draws-failed old new before after from to same told given spent open_end ready c
     record {
       got = [];
       grown = grown;
-      front = begins-none before;
-      told = told-none before after told;
+      front = BeginsWith-none before;
+      told = KeepsAfter-none before after told;
       given = given;
       spent = spent;
       open_end = open_end;

@@ -6,6 +6,7 @@ pub mod Cut
 pub mod Stops
 pub mod Judged
 pub mod Standing
+pub mod Taking
 pub mod Drawing
 pub mod Outcomes
 pub mod Written

@@ -5,7 +5,7 @@ use Rattle.lbk_feed.specs.Text.{longest_text}
 use Rattle.lbk_feed.specs.declared.faults.FeedFault.{FeedFault}
 use Rattle.lbk_feed.specs.declared.faults.FeedFault.TheVariants.{Read, NotUtf8, TextTooLong, Spent}
 use Rattle.lbk_feed.specs.Devices.{KeepsIfTold}
-use Rattle.lbk_feed.specs.View.{View, IsFront, LendsFront, LiesIn, IsOfText, IsIdle, fault_of, ahead, KeepsAhead, BeginsWith, CanGoOn, AreDue, Steps, Pays}
+use Rattle.lbk_feed.specs.View.{View, IsFront, LendsFront, LiesIn, IsOfText, IsIdle, fault_of, ahead, KeepsAhead, BeginsWith, AreDue, Steps, Pays}
 use Rattle.lbk_feed.specs.Intake.{Draws, DrawsAndFails, KeepsAfter}
 use Rattle.lbk_feed.proofs.Standing.{few_held}
 

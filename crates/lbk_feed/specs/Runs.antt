@@ -1,12 +1,19 @@
 -- What is said of a run that reads a stream and writes another: what it took, what it put out, and when a device failed.
-use Rattle.std.specs.Prelude.{◌≡◌, ℕ, ◌-◌, ◌^◌, ◌<◌, Bool, true, false, List, ◌++◌, take, Option}
+use Rattle.std.specs.Prelude.{◌≡◌, ℕ, ◌-◌, ◌^◌, ◌<◌, Bool, true, false, List, ◌++◌, take, Option, Some}
 use Rattle.std.specs.Io.KnownBytes.{Consumes, Appends, prepend_known}
 use Rattle.lbk_feed.specs.Devices.{KeepsIfTold}
 use Rattle.lbk_feed.specs.View.{BeginsWith}
+use Rattle.lbk_feed.specs.declared.faults.FeedFault.{FeedFault}
+use Rattle.lbk_feed.specs.declared.faults.FeedFault.TheVariants.{Read}
 
 -- a device's failures rose from one count to the other, unless the count stood at the last value that it has
 abbrev pub HasFailed : ℕ → ℕ → Type 0
 HasFailed before after = before < 2 ^ 64 - 1 → before < after
+
+-- whether a call of a feed ended with a failed read
+abbrev pub is_failed_read : Option FeedFault → Bool
+is_failed_read (Some Read) = true
+is_failed_read _ = false
 
 -- the bytes read are the front of those that were unread and are taken from it; after a read that failed the reader
 -- need not tell what it has left, and where it tells it, that is what stood behind them

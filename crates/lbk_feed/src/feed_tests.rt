@@ -201,7 +201,7 @@ fn block_edges(rt: HostRuntime) -> Result<(), Fail> {
     Ok(())
 }
 
-// The longest text, and one byte more.
+// The longest text, and one byte more: it comes in 262,144 full reads and a last one, behind which none is made.
 #[test]
 fn longest_text(rt: HostRuntime) {
     let longest = 1_073_741_824u64;
@@ -220,8 +220,10 @@ fn longest_text(rt: HostRuntime) {
         feed.advance(n);
     }
     assert_eq!(rt; feed.given(), longest);
+    assert_eq!(rt; reader.reads(), 262_145);
     assert!(rt; feed.ready().is_empty());
     assert_eq!(rt; feed.piece(&mut reader), Err(FeedFault::Spent));
+    assert_eq!(rt; reader.reads(), 262_145);
 
     let mut whole = RepeatedSource::new(b'a', 5000);
     let mut feed = Feed::new();

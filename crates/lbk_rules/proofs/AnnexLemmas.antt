@@ -10,8 +10,8 @@ use Rattle.lbk_rules.specs.declared.classes.Quote.{Quote}
 use Rattle.lbk_rules.specs.declared.classes.Quote.TheVariants.{Neither, Initial, Final}
 use Rattle.lbk_rules.specs.Classes.{Set, SP, RI, QU, is, hard, mark, none_of, opens_after, closes_before}
 use Rattle.lbk_rules.specs.Sides.{Side, is_nothing, at, before_spaces, past_spaces, at_odd_run, is_initial, is_final, opening, closing, leaves_open, leaves_closed, opens_quotation, closes_quotation}
-use Rattle.lbk_rules.specs.Units.{unit, units}
-use Rattle.lbk_rules.specs.Facts.{nearest, units_before}
+use Rattle.lbk_rules.specs.Units.{unit, units, heads, nearest}
+use Rattle.lbk_rules.specs.Facts.{units_before}
 use Rattle.lbk_rules.specs.Annex.{HasNoSpace, EndsInSpacesAfter, EndsInRun, EndsIn, BeginsIn, EndsInOpenQuotation, BeginsInClosedQuotation, is_odd, is_head}
 use Rattle.lbk_rules.proofs.FactsLemmas.{units_before-reverse}
 
@@ -108,6 +108,9 @@ head_outwards (cell ∷ side) b =
       | false ↦ elim [ true ↦ refl | false ↦ refl ]
     ] in
     either (hard cell.class) b
+
+pub heads-is_head : (cells : List Cell) (cell : Cell) → heads (reverse cells) cell ≡ is_head cells cell
+heads-is_head cells cell = head_outwards (reverse cells) (none_of mark cell.class)
 
 pub units_one_more : (cells : List Cell) (cell : Cell) → units (cells ++ cell ∷ []) ≡ cond (is_head cells cell) (units cells ++ unit cell ∷ []) (units cells)
 units_one_more cells cell =

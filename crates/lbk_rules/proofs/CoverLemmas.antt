@@ -12,7 +12,7 @@ use Rattle.lbk_rules.specs.declared.verdicts.Profile.TheVariants.{First, Second}
 use Rattle.lbk_rules.specs.declared.verdicts.Verdict.{Verdict}
 use Rattle.lbk_rules.specs.Answers.{count_of, written}
 use Rattle.lbk_rules.specs.Classes.{is, hard, mark, QU}
-use Rattle.lbk_rules.specs.Facts.{heads, nearest}
+use Rattle.lbk_rules.specs.Units.{heads, nearest}
 use Rattle.lbk_rules.specs.Held.{any_matches, before_15b, is_held, answer_at, late_at, now_at, unanswered, unanswered_before}
 use Rattle.lbk_rules.specs.Rules.{rule_list}
 use Rattle.lbk_rules.specs.Sides.{Side, closing, is_final}

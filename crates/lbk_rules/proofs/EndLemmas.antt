@@ -13,8 +13,8 @@ use Rattle.lbk_rules.specs.declared.verdicts.Verdict.{Verdict}
 use Rattle.lbk_rules.specs.Classes.{◌or◌, none_of, is, hard, mark, isZWJ, BK, CR, LF, NL, SP, ZW, QU}
 use Rattle.lbk_rules.specs.Ends.{ends_line, ends_between, end_after, end_of_text, joins, joined_after}
 use Rattle.lbk_rules.specs.Sides.{Side, before_spaces}
-use Rattle.lbk_rules.specs.Units.{unit, units, units_after, first}
-use Rattle.lbk_rules.specs.Facts.{heads, nearest, units_before}
+use Rattle.lbk_rules.specs.Units.{unit, units, units_after, first, heads, nearest}
+use Rattle.lbk_rules.specs.Facts.{units_before}
 use Rattle.lbk_rules.specs.Held.{is_15b, is_held}
 use Rattle.lbk_rules.specs.Rules.{cell_rules}
 use Rattle.lbk_rules.specs.Chain.{choose, from_11, from_cells}

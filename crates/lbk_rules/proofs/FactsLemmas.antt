@@ -3,9 +3,9 @@ use Rattle.std.proofs.Common.{◌≡◌, true, false, cond, ◌||◌, List, [], 
 use Rattle.lbk_rules.specs.declared.cells.Cell.{Cell}
 use Rattle.lbk_rules.specs.declared.facts.Left.{Left}
 use Rattle.lbk_rules.specs.Classes.{is, hard, mark, none_of}
-use Rattle.lbk_rules.specs.Facts.{nearest, units_before, facts_of_units, facts, Sees}
+use Rattle.lbk_rules.specs.Facts.{units_before, facts_of_units, facts, Sees}
 use Rattle.lbk_rules.specs.Sides.{Side}
-use Rattle.lbk_rules.specs.Units.{unit, units, units_after}
+use Rattle.lbk_rules.specs.Units.{unit, units, units_after, nearest}
 use Rattle.std.proofs.lemmas.List.{reverse-append, append-nil}
 
 -- a list with a first element

@@ -1,11 +1,11 @@
 -- What is used of pages: that `==` tells them apart, and that equal ones have one digest.
-use Rattle.std.proofs.Common.{◌≡◌, ℕ, ◌+◌, ◌*◌, ◌/◌, ◌%◌, ◌<◌, ◌≤◌, Bool, List, [], ◌∷◌, ◌++◌, length, map, get_or, inl, inr, ap, sym, subst, ◌∙◌, arith, Decides}
+use Rattle.std.proofs.Common.{◌≡◌, ℕ, ◌+◌, ◌-◌, ◌*◌, ◌/◌, ◌%◌, ◌<◌, ◌≤◌, Bool, List, [], ◌∷◌, ◌++◌, length, map, get_or, inl, inr, ap, sym, subst, ◌∙◌, arith, below_more, Decides}
 use Rattle.std.proofs.Math.Utf8.{scalar_cases}
 use Rattle.std.specs.Char.{IsScalar}
 use Rattle.std.specs.Cmp.{booleans_Decides}
 use Rattle.std.specs.Cmp.Lexicographic.{pointwise}
 use Rattle.std.proofs.lemmas.Bool.Decides.{Decides-and, Decides-like}
-use Rattle.std.proofs.lemmas.List.{get_or-map, get_or_append_left, get_or_push, length-map}
+use Rattle.std.proofs.lemmas.List.{get_or-map, get_or_append_left, get_or_push, length-map, length_push}
 use Rattle.std.proofs.lemmas.Slice.Eq.{slice_eq-Decides}
 use denote.Enum.Bare.{same_true, true_same, sameb}
 use Rattle.lbk_rules.specs.contracts.classes.Class.{the_type as class_type}
@@ -14,7 +14,7 @@ use Rattle.lbk_rules.specs.contracts.cells.CellPartialEq.TheImpl.{eq-value}
 use Rattle.lbk_rules.specs.declared.cells.Cell.{Cell}
 use Rattle.lbk_rules.specs.declared.classes.Class.{Class}
 use Rattle.lbk_rules.specs.declared.classes.Quote.{Quote}
-use Rattle.lbk_rules.specs.Pages.{IsPageOf, cell_in, digest_of, page_at}
+use Rattle.lbk_rules.specs.Pages.{AreSame, IsPageOf, cell_in, digest_of, page_at}
 
 class_Decides : (one other : Class) → Decides (sameb class_type one other) (one ≡ other)
 class_Decides one other = (same_true class_type tt one other, true_same class_type one other)
@@ -69,4 +69,45 @@ pub cell_in-filled : (cell_of : ℕ → Cell) (numbers : List ℕ) (pages : List
 cell_in-filled cell_of numbers pages count all filled code scalar =
     let below = scalar_below code scalar in
     let here : 256 * (code / 256) + code % 256 ≡ code = omega arith in
-    filled (code / 256) (omega arith) (code % 256) (omega arith) (subst IsScalar (sym here) scalar) ∙ ap cell_of here
+    filled (code / 256) (omega arith) (code % 256) (omega arith) ∙ ap cell_of here
+
+-- a page and the next have the same cells where both lie in a range of one cell
+pub next_page-same : (cell_of : ℕ → Cell) (k first last : ℕ) (cell : Cell) (page : List Cell) → AreSame cell_of first last cell → first + 256 ≤ 256 * k → 256 * k + 255 ≤ last → IsPageOf cell_of (256 * (k - 1)) page → IsPageOf cell_of (256 * k) page
+next_page-same cell_of k first last cell page same begins ends here i below =
+    here i below ∙ (same (256 * (k - 1) + i) (omega arith) (omega arith) ∙ sym (same (256 * k + i) (omega arith) (omega arith)))
+
+-- the first k pages are kept, and a range goes on from one of their codes or from the next
+pub record IsFilledTo (cell_of : ℕ → Cell) (numbers : List ℕ) (pages : List (List Cell)) (k first last : ℕ) (cell : Cell) : Type 0 where
+  pub counted : length numbers ≡ k
+  pub few : length pages ≤ k
+  pub numbered : (i : ℕ) → i < k → get_or numbers i 0 < length pages
+  pub filled : (i : ℕ) → i < k → IsPageOf cell_of (256 * i) (page_at numbers pages i)
+  pub begins : first ≤ 256 * k
+  pub ends : last ≤ 0x10FFFF
+  pub same : AreSame cell_of first last cell
+
+-- one page more
+pub filled_more : (cell_of : ℕ → Cell) (numbers : List ℕ) (before after : List (List Cell)) (k n first last : ℕ) (cell : Cell) (first' last' : ℕ) (cell' : Cell)
+    → IsFilledTo cell_of numbers before k first last cell
+    → n < length after
+    → ((j : ℕ) → j < length before → get_or after j [] ≡ get_or before j [])
+    → length before ≤ length after
+    → length after ≤ length before + 1
+    → IsPageOf cell_of (256 * k) (get_or after n [])
+    → first' ≤ 256 * (k + 1)
+    → last' ≤ 0x10FFFF
+    → AreSame cell_of first' last' cell'
+    → IsFilledTo cell_of (numbers ++ n ∷ []) after (k + 1) first' last' cell'
+filled_more cell_of numbers before after k n first last cell first' last' cell' to here stay less more page begins ends same = record {
+  counted = length_push numbers n ∙ (let counted = to.counted in omega arith);
+  few = omega (arith, to.few);
+  numbered = below_more _ _
+      (λ i h. let old = get_or_append_left numbers (n ∷ []) 0 i (let counted = to.counted in omega arith) in let below = to.numbered i h in omega arith)
+      (let new = get_or_push numbers n 0 k to.counted in omega (arith, here));
+  filled = below_more _ _
+      (λ i h. rw (page_at-earlier numbers n before after i (let counted = to.counted in omega arith) (to.numbered i h) stay) (to.filled i h))
+      (rw (page_at-last numbers n k after to.counted) page);
+  begins = begins;
+  ends = ends;
+  same = same;
+}

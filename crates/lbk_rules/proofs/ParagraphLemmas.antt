@@ -14,8 +14,8 @@ use Rattle.lbk_rules.specs.declared.verdicts.Verdict.{Verdict}
 use Rattle.lbk_rules.specs.Classes.{Set, ◌or◌, none_of, is, hard, mark, opens_after, BK, CR, LF, NL, SP, ZW, OP, QU, CL, CP, B2, HL, RI}
 use Rattle.lbk_rules.specs.Ends.{ends_line}
 use Rattle.lbk_rules.specs.Sides.{Side, at, before_spaces, past_spaces, at_odd_run, opens_quotation, opening, leaves_open}
-use Rattle.lbk_rules.specs.Units.{unit, units}
-use Rattle.lbk_rules.specs.Facts.{nearest, space, units_before}
+use Rattle.lbk_rules.specs.Units.{unit, units, nearest, space}
+use Rattle.lbk_rules.specs.Facts.{units_before}
 use Rattle.lbk_rules.specs.Rules.{Line, unit_rules, cell_rules, joining_rules, opening_rules, quotation_rules, space_rules, hyphen_rules, affix_rules, number_rules, syllable_rules, letter_rules, last_rule}
 use Rattle.lbk_rules.specs.Chain.{choose, from_11, from_14, from_15, from_16, from_19, from_23, from_25, from_26, from_28, from_cells}
 use Rattle.lbk_rules.specs.Verdict.{verdict_between_in, verdict_in}

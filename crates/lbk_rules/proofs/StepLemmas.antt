@@ -8,7 +8,7 @@ use Rattle.lbk_rules.specs.declared.late.LateMachine.{LateMachine}
 use Rattle.lbk_rules.specs.declared.verdicts.Profile.{Profile}
 use Rattle.lbk_rules.specs.declared.verdicts.Profile.TheVariants.{First}
 use Rattle.lbk_rules.specs.declared.verdicts.Verdict.{Verdict}
-use Rattle.lbk_rules.specs.Facts.{heads}
+use Rattle.lbk_rules.specs.Units.{heads}
 use Rattle.lbk_rules.specs.Held.{is_held, answer_at, late_at, now_at, unanswered, unanswered_before}
 use Rattle.lbk_rules.specs.LateFits.{LateFits, held_position}
 use Rattle.lbk_rules.specs.Once.{named, came_late, came_now}

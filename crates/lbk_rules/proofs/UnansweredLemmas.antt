@@ -7,11 +7,10 @@ use Rattle.lbk_rules.specs.declared.late.Held.{Held}
 use Rattle.lbk_rules.specs.declared.verdicts.Profile.{Profile}
 use Rattle.lbk_rules.specs.Classes.{hard}
 use Rattle.lbk_rules.specs.Chain.{from_cells}
-use Rattle.lbk_rules.specs.Facts.{heads, nearest, space}
 use Rattle.lbk_rules.specs.Held.{is_15b, is_held, unanswered, unanswered_before}
 use Rattle.lbk_rules.specs.LateFits.{waiting}
 use Rattle.lbk_rules.specs.Sides.{Side}
-use Rattle.lbk_rules.specs.Units.{first, next_unit, unit, units_after}
+use Rattle.lbk_rules.specs.Units.{first, next_unit, unit, units_after, heads, nearest, space}
 use Rattle.lbk_rules.proofs.CoverLemmas.{held-heads}
 use Rattle.lbk_rules.proofs.FactsLemmas.{onto, onto-nil}
 use Rattle.lbk_rules.proofs.HeldLemmas.{is_held-chain}

@@ -10,8 +10,8 @@ use Rattle.lbk_rules.specs.declared.verdicts.Profile.TheVariants.{First, Second}
 use Rattle.lbk_rules.specs.declared.verdicts.Verdict.{Verdict}
 use Rattle.lbk_rules.specs.Classes.{hard}
 use Rattle.lbk_rules.specs.Sides.{Side}
-use Rattle.lbk_rules.specs.Units.{unit, units_after}
-use Rattle.lbk_rules.specs.Facts.{facts, heads, nearest, closes_in}
+use Rattle.lbk_rules.specs.Units.{unit, units_after, heads, nearest}
+use Rattle.lbk_rules.specs.Facts.{facts, closes_in}
 use Rattle.lbk_rules.specs.Chain.{from_cells}
 use Rattle.lbk_rules.specs.Held.{is_15b, is_held, unanswered_before, answer_at, now_at}
 use Rattle.lbk_rules.specs.LateFits.{waiting}

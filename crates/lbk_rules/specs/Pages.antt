@@ -1,6 +1,5 @@
 -- Pages of cells: each holds the cells of 256 codes that follow one another.
-use Rattle.std.specs.Prelude.{◌≡◌, ◌≢◌, ℕ, ◌+◌, ◌*◌, ◌/◌, ◌%◌, ◌^◌, ◌<◌, List, [], fold, AllPairs, slice_index, slice_index_or}
-use Rattle.std.specs.Char.{IsScalar}
+use Rattle.std.specs.Prelude.{◌≡◌, ◌≢◌, ℕ, ◌+◌, ◌*◌, ◌/◌, ◌%◌, ◌^◌, ◌<◌, ◌≤◌, List, [], fold, AllPairs, slice_index, slice_index_or}
 use Rattle.std.specs.Int.{from_bool}
 use Rattle.lbk_rules.specs.declared.cells.Cell.{Cell}
 use Rattle.lbk_rules.specs.declared.classes.Quote.{Quote}
@@ -8,10 +7,14 @@ use Rattle.lbk_rules.specs.declared.classes.Quote.TheVariants.{Neither, Initial,
 use Rattle.lbk_rules.specs.Classes.{place}
 use Rattle.lbk_rules.specs.Units.{letter}
 
--- the page holds the cells of the 256 codes from `first` on; of a surrogate nothing is said
+-- the page holds the cells of the 256 codes from `first` on
 abbrev pub IsPageOf : (ℕ → Cell) → ℕ → List Cell → Type 0
 IsPageOf cell_of first page =
-    (k : ℕ) → k < 256 → IsScalar (first + k) → slice_index_or page k letter ≡ cell_of (first + k)
+    (k : ℕ) → k < 256 → slice_index_or page k letter ≡ cell_of (first + k)
+
+-- the codes from first to last have this cell
+abbrev pub AreSame : (ℕ → Cell) → ℕ → ℕ → Cell → Type 0
+AreSame cell_of first last cell = (code : ℕ) → first ≤ code → code ≤ last → cell_of code ≡ cell
 
 -- the page that the numbers give the k-th 256 codes
 abbrev pub page_at : List ℕ → List (List Cell) → ℕ → List Cell

@@ -4,7 +4,7 @@ ghost use Rattle.std.specs.Prelude.{◌≡◌, true, if◌then◌else◌, List, 
 ghost use Rattle.lbk_rules.specs.declared.cells.Cell.{Cell};
 ghost use Rattle.lbk_rules.specs.Classes.{Set};
 ghost use Rattle.lbk_rules.specs.Sides.{past_spaces, at_odd_run, opens_quotation, closes_quotation};
-ghost use Rattle.lbk_rules.specs.Units.{unit, units};
+ghost use Rattle.lbk_rules.specs.Units.{heads, unit, units};
 ghost use Rattle.lbk_rules.specs.Annex.{HasNoSpace, EndsInSpacesAfter, EndsInRun, EndsInOpenQuotation, BeginsInClosedQuotation, is_odd, is_head};
 
 /// 'X SP*': some place of the left holds a class of X, which has no space, and all later places hold SP.
@@ -20,11 +20,13 @@ pub fn indicators()
     ensures { (cells run : List Cell) → EndsInRun cells run → at_odd_run (reverse cells) ≡ is_odd (length run) }
 {}
 
-/// The units of a list are its heads in their order (rules LB9 and LB10).
+/// The units of a list are its heads in their order (rules LB9 and LB10). The test for a head that reads the
+/// cells outwards is the same.
 pub fn heads()
     ensures none { units [] ≡ [] }
     ensures one_more { (cells : List Cell) (cell : Cell) → units (cells ++ cell ∷ [])
         ≡ (if is_head cells cell then units cells ++ unit cell ∷ [] else units cells) }
+    ensures outwards { (cells : List Cell) (cell : Cell) → heads (reverse cells) cell ≡ is_head cells cell }
 {}
 
 /// Rule LB15a asks whether some place of the left holds an opening quotation mark, before which nothing

@@ -1,5 +1,6 @@
 ghost use Rattle.std.specs.Prelude.{◌≡◌, [], ◌∷◌, reverse};
-ghost use Rattle.lbk_rules.specs.Facts.{facts, facts_of_units, heads};
+ghost use Rattle.lbk_rules.specs.Facts.{facts, facts_of_units};
+ghost use Rattle.lbk_rules.specs.Units.{heads};
 ghost use Rattle.lbk_rules.specs.Sides.{Side};
 
 use crate::cells::Cell;

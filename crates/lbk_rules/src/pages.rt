@@ -2,11 +2,12 @@
 
 ghost use Rattle.std.specs.Prelude.{◌≡◌, ℕ, ◌+◌, ◌*◌, ◌<◌, ◌≤◌, length, slice_index, IfOk};
 ghost use Rattle.std.specs.Char.{IsScalar};
-ghost use Rattle.lbk_rules.specs.Pages.{IsPageOf, AreDistinct};
+ghost use Rattle.lbk_rules.specs.Pages.{AreDistinct, AreSame, IsPageOf};
 
 mod kept;
 
 use crate::cells::{Cell, CellSource};
+use crate::resolution::resolve;
 use kept::Kept;
 use lbk_ucd::Tables;
 use std::alloc::{AllocError, Global};
@@ -19,6 +20,49 @@ const PAGE_COUNT: u32 = 4352;
 
 /// The cells of 256 codes that follow one another.
 type Page = [Cell; PAGE_LENGTH];
+
+/// The cell that all codes from `first` to `last` have.
+#[derive(Clone, Copy)]
+struct CellRun {
+    first: u32,
+    last: u32,
+    cell: Cell,
+}
+
+/// Something that knows the cells of ranges of codes.
+trait CellRuns {
+    ghost use Rattle.lbk_rules.specs.declared.cells.Cell.{Cell};
+    ghost use Rattle.lbk_rules.specs.Pages.{AreSame};
+
+    ghost cell_at: { Self → ℕ → Cell };
+
+    /// The cell of a code, and a last code up to which all codes have it.
+    fn cell_run(&self, code: u32) -> CellRun
+        requires { code ≤ 0x10FFFF }
+        ensures ends { (result.first ≡ code) × (code ≤ result.last) × (result.last ≤ 0x10FFFF) }
+        ensures same { AreSame (cell_at self.now) result.first result.last result.cell };
+}
+
+impl CellRuns for Tables {
+    ghost use Rattle.lbk_rules.specs.Resolve.{cell_of_tables};
+
+    ghost cell_at = { cell_of_tables };
+
+    #[tactic(auto, unfolding(crate::specs::Resolve::cell_of_tables))]
+    fn cell_run(&self, code: u32) -> CellRun {
+        let run = self.run(code);
+        CellRun {
+            first: code,
+            last: run.last,
+            cell: resolve(
+                run.line_break,
+                run.east_asian,
+                run.category,
+                run.is_pictographic,
+            ),
+        }
+    }
+}
 
 /// The cells of all scalar values, for a look-up of two reads: the number of a page, and a cell in
 /// it. Equal pages are kept once.
@@ -45,16 +89,23 @@ impl CellPages {
     }
 
     /// The pages of any source.
-    fn build_over<C: CellSource>(alloc: Global, source: &C) -> Result<CellPages, AllocError>
+    fn build_over<C: CellRuns>(alloc: Global, source: &C) -> Result<CellPages, AllocError>
         ensures { IfOk result (λ pages. (code : ℕ) → IsScalar code
-            → page_cell pages code ≡ C.cell_of source.now code) }
+            → page_cell pages code ≡ C.cell_at source.now code) }
     {
         let mut kept = Kept::new(alloc);
         let mut numbers = Vec::with_capacity(alloc, PAGE_COUNT as usize)?;
-        let mut page = [source.cell('\0'); PAGE_LENGTH];
+        let mut run = source.cell_run(0);
+        let mut page = [run.cell; PAGE_LENGTH];
         for k in 0..PAGE_COUNT {
-            fill(&mut page, source, PAGE_LENGTH as u32 * k);
-            numbers.push(kept.number_of(&page)?)?;
+            let first = 256 * k;
+            if run.first + 256 <= first && first + 255 <= run.last {
+                let number = numbers[k as usize - 1];
+                numbers.push(number)?;
+            } else {
+                run = fill(&mut page, source, run, first);
+                numbers.push(kept.number_of(&page)?)?;
+            }
         }
         Ok(CellPages {
             numbers,
@@ -76,21 +127,25 @@ impl CellSource for CellPages {
     }
 }
 
-/// Puts the cells of the codes from `first` on into the page.
-fn fill<C: CellSource>(page: &mut Page, source: &C, first: u32)
-    requires { first + 256 ≤ 0x11_0000 }
-    ensures { IsPageOf (C.cell_of source.now) first page.new }
+/// Puts the cells of the codes from `first` on into the page. `run` is a range that begins there or before, and the
+/// result the one of the last code.
+fn fill<C: CellRuns>(page: &mut Page, source: &C, run: CellRun, first: u32) -> CellRun
+    requires first { first + 256 ≤ 0x11_0000 }
+    requires begins { run.first ≤ first }
+    requires run { (run.last ≤ 0x10FFFF) × AreSame (C.cell_at source.now) run.first run.last run.cell }
+    ensures page { IsPageOf (C.cell_at source.now) first page.new }
+    ensures begins { result.first < first + 256 }
+    ensures run { (result.last ≤ 0x10FFFF) × AreSame (C.cell_at source.now) result.first result.last result.cell }
 {
+    let mut run = run;
     for (k, cell) in page.iter_mut().enumerate() {
-        *cell = cell_of_code(source, first + k as u32);
+        let code = first + k as u32;
+        if run.last < code {
+            run = source.cell_run(code);
+        }
+        *cell = run.cell;
     }
-}
-
-/// The cell of a code; a surrogate, which has none, gets that of the replacement character.
-fn cell_of_code<C: CellSource>(source: &C, code: u32) -> Cell
-    ensures { IsScalar code → result ≡ C.cell_of source.now code }
-{
-    source.cell(char::from_u32(code).unwrap_or(char::REPLACEMENT_CHARACTER))
+    run
 }
 
 #[cfg(test)]

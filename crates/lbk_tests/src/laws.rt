@@ -5,7 +5,9 @@ use lbk_ucd::LineBreak;
 
 #[test]
 fn laws() {
+    lbk_feed::laws::text_max();
     lbk_feed::laws::prefix_is_longest_text();
+    lbk_feed::laws::prefix_behind_a_text();
     lbk_feed::laws::faults_exclude_each_other();
     lbk_cmd::laws::tokens();
     lbk_ucd::laws::lines_say_what_the_grammar_has();

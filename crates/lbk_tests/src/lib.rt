@@ -12,8 +12,12 @@ mod laws;
 #[cfg(test)]
 mod lines;
 #[cfg(test)]
+mod passages;
+#[cfg(test)]
 mod replayed;
 #[cfg(test)]
 mod rows;
+#[cfg(test)]
+mod segmented;
 #[cfg(test)]
 mod shown;

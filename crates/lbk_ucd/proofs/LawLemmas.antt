@@ -11,8 +11,8 @@ use Rattle.lbk_ucd.specs.declared.fault.UcdCause.{UcdCause}
 use Rattle.lbk_ucd.specs.declared.fault.UcdCause.TheVariants.{FileTooLong}
 use Rattle.lbk_ucd.specs.Rows.{holds, shares, AreApart}
 use Rattle.lbk_ucd.specs.File.{Format, row_in, rows_in, defaults_in, lines_of, cause_at, IsLawfulBefore, IsLawful, IsLineFault, IsFault}
-use Rattle.lbk_ucd.proofs.FileLemmas.{lawful_more, elsewhere, apart_line}
-use Rattle.lbk_ucd.proofs.RowLemmas.{fails_each}
+use Rattle.lbk_ucd.proofs.FileLemmas.{lawful_more, apart_line}
+use Rattle.lbk_ucd.proofs.RowLemmas.{elsewhere, fails_each}
 
 -- whether a list lacks what passes a test
 abbrev lacks : (ℕ → Bool) → List ℕ → Bool
@@ -34,18 +34,6 @@ split_lacks p (x ∷ xs) = go (p x) refl (split_lacks p xs)
     go false is rest = rw is (onto_lacks p x (slice_split p xs) is rest)
 
 module _ {V : Type 0} where
-  -- the greater of the two first codes is shared, where some code is
-  pub shared_code : (first last : ℕ) (row : Row V) → first ≤ last → row.first ≤ row.last → shares first last row ≡ true
-      → (code : ℕ) × (first ≤ code) × (code ≤ last) × (holds code row ≡ true)
-  shared_code first last row rises rises' meets =
-      elim (cases_lt first row.first) [
-        | inl less ↦ (row.first, omega arith, grind (arith, nat_tests), grind (arith, nat_tests))
-        | inr not_less ↦ (first, omega arith, omega arith, grind (arith, nat_tests))
-      ]
-
-  pub shares_code : (first last : ℕ) (row : Row V) (code : ℕ) → first ≤ code → code ≤ last → holds code row ≡ true → shares first last row ≡ true
-  shares_code first last row code low high here = grind (arith, nat_tests)
-
   -- none of the first lines has a cause, or there is a first that has one
   first_cause : (format : Format V) (lines : List (List ℕ)) (n : ℕ)
       → IsLawfulBefore format lines n

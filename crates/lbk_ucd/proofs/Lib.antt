@@ -1,5 +1,6 @@
 pub mod FileLemmas
 pub mod GrammarLemmas
 pub mod LawLemmas
+pub mod OverlayLemmas
 pub mod RowLemmas
 pub mod Worked

@@ -1,4 +1,4 @@
--- Rows in the order of their codes: where one that holds a code can stand, what a search by halves finds, and where a further row goes.
+-- Rows in the order of their codes: where one that holds a code can stand, and what a search by halves finds.
 use Rattle.std.proofs.Common.{◌≡◌, ℕ, suc, ◌+◌, ◌-◌, ◌<◌, ◌≤◌, Bool, true, false, List, [], ◌∷◌, length, get_or, Some, None, sym, ap, refl, ◌∙◌, arith, inl, inr, ◌⊎◌}
 use Rattle.std.specs.List.{All, AllWithin, find, insert, list_any, position_or_len, slice_get}
 use Rattle.std.specs.List.Sorted.{IsNonDecreasingBy}
@@ -10,14 +10,15 @@ use Rattle.std.proofs.lemmas.List.Edits.{length-insert, get_or-insert_below, get
 use Rattle.std.proofs.lemmas.Option.{slice_get-get_or}
 use Rattle.std.proofs.lemmas.Bool.Decides.{nat_tests}
 use Rattle.lbk_ucd.specs.declared.rows.Row.{Row}
-use Rattle.lbk_ucd.specs.Rows.{holds, shares, first_value, IsInOrder}
+use Rattle.lbk_ucd.specs.Ranges.{IsRange, IsInOrder}
+use Rattle.lbk_ucd.specs.Rows.{holds, shares, first_value}
 
 module _ {V : Type 0} where
   -- the ends rise
   pub ends_rise : (rows : List (Row V)) → IsInOrder rows → IsNonDecreasingBy (λ row. row.last) rows
   ends_rise rows h i j d le lt =
       elim (cases_lt i j) [
-        | inl less ↦ omega (arith, h.apart i j d less lt, h.each j d lt)
+        | inl less ↦ omega (arith, h.apart i j d less lt, (h.each j d lt).0)
         | inr not_less ↦ let same : i ≡ j = omega arith in rw same (omega arith)
       ]
 
@@ -46,7 +47,7 @@ module _ {V : Type 0} where
         | inr not_less ↦
             let here : last < (get_or rows at d).first = after d (omega arith) in
             elim (cases_lt at k) [
-              | inl more ↦ begins_after first last (get_or rows k d) (omega (arith, h.apart at k d more lt, h.each at d (omega arith)))
+              | inl more ↦ begins_after first last (get_or rows k d) (omega (arith, h.apart at k d more lt, (h.each at d (omega arith)).0))
               | inr not_more ↦
                   let same : k ≡ at = omega arith in
                   rw same (begins_after first last (get_or rows at d) here)
@@ -80,67 +81,18 @@ module _ {V : Type 0} where
       go true is = absurd (false≢true (sym none ∙ list_any_at p rows k d lt is))
       go false is = is
 
-  -- the rows stay in order where a row goes in that shares no code with them
-  module _ (rows : List (Row V)) (new : Row V) (at : ℕ)
-      (h : IsInOrder rows) (rises : new.first ≤ new.last) (within : at ≤ length rows)
-      (before : AllWithin (λ row. row.last < new.first) rows 0 at)
-      (after : AllWithin (λ row. new.first ≤ row.last) rows at (length rows))
-      (apart : list_any (shares new.first new.last) rows ≡ false) where
-    behind : (k : ℕ) (d : Row V) → at ≤ k → k < length rows → new.last < (get_or rows k d).first
-    behind k d le lt =
-        after_codes new.first new.last (get_or rows k d) (fails_each (shares new.first new.last) rows apart k d lt) (after k d le lt)
+  -- a code of a row is in none that shares none with it
+  pub elsewhere : (code : ℕ) (new other : Row V) → holds code new ≡ true → shares new.first new.last other ≡ false → holds code other ≡ false
+  elsewhere code new other here apart = grind (arith, nat_tests)
 
-    -- which row stands at a place
-    placed : (k : ℕ) (d : Row V)
-        → ((k < at) × (get_or (insert rows at new) k d ≡ get_or rows k d))
-        ⊎ (((k ≡ at) × (get_or (insert rows at new) k d ≡ new))
-        ⊎ ((at < k) × (get_or (insert rows at new) k d ≡ get_or rows (k - 1) d)))
-    placed k d =
-        elim (cases_lt k at) [
-          | inl less ↦ inl (less, get_or-insert_below rows at new d k less within)
-          | inr not_less ↦ elim (cases_lt at k) [
-            | inl more ↦
-                let back : k - 1 + 1 ≡ k = omega arith in
-                inr (inr (more, rw back at (get_or-insert_above rows at new d (k - 1) (omega arith) within)))
-            | inr not_more ↦ let same : k ≡ at = omega arith in inr (inl (same, rw same (get_or-insert_at rows at new d within)))
-          ]
-        ]
+  -- the greater of the two first codes is shared, where some code is
+  pub shared_code : (first last : ℕ) (row : Row V) → first ≤ last → row.first ≤ row.last → shares first last row ≡ true
+      → (code : ℕ) × (first ≤ code) × (code ≤ last) × (holds code row ≡ true)
+  shared_code first last row rises rises' meets =
+      elim (cases_lt first row.first) [
+        | inl less ↦ (row.first, omega arith, grind (arith, nat_tests), grind (arith, nat_tests))
+        | inr not_less ↦ (first, omega arith, omega arith, grind (arith, nat_tests))
+      ]
 
-    each : (k : ℕ) (d : Row V) → k < length (insert rows at new)
-        → (get_or (insert rows at new) k d).first ≤ (get_or (insert rows at new) k d).last
-    each k d lt =
-        let longer = length-insert rows at new within in
-        elim (placed k d) [
-          | inl p ↦ rw p.1 (h.each k d (omega arith))
-          | inr q ↦ elim q [
-            | inl p ↦ rw p.1 rises
-            | inr p ↦ rw p.1 (h.each (k - 1) d (omega arith))
-          ]
-        ]
-
-    pairs : (i j : ℕ) (d : Row V) → i < j → j < length (insert rows at new)
-        → (get_or (insert rows at new) i d).last < (get_or (insert rows at new) j d).first
-    pairs i j d less lt =
-        let longer = length-insert rows at new within in
-        elim (placed j d) [
-          | inl p ↦ elim (placed i d) [
-            | inl q ↦ rw (p.1, q.1) (h.apart i j d less (omega arith))
-            | inr q ↦ absurd (elim q [ inl r ↦ omega arith | inr r ↦ omega arith ])
-          ]
-          | inr p' ↦ elim p' [
-            | inl p ↦ elim (placed i d) [
-              | inl q ↦ rw (p.1, q.1) (before i d (omega arith) q.0)
-              | inr q ↦ absurd (elim q [ inl r ↦ omega arith | inr r ↦ omega arith ])
-            ]
-            | inr p ↦ elim (placed i d) [
-              | inl q ↦ rw (p.1, q.1) (h.apart i (j - 1) d (omega arith) (omega arith))
-              | inr q' ↦ elim q' [
-                | inl q ↦ rw (p.1, q.1) (behind (j - 1) d (omega arith) (omega arith))
-                | inr q ↦ rw (p.1, q.1) (h.apart (i - 1) (j - 1) d (omega arith) (omega arith))
-              ]
-            ]
-          ]
-        ]
-
-    pub inserted_in_order : IsInOrder (insert rows at new)
-    inserted_in_order = record { each = each; apart = pairs }
+  pub shares_code : (first last : ℕ) (row : Row V) (code : ℕ) → first ≤ code → code ≤ last → holds code row ≡ true → shares first last row ≡ true
+  shares_code first last row code low high here = grind (arith, nat_tests)

@@ -6,7 +6,7 @@ use Rattle.std.specs.Option.{option_map}
 use Rattle.std.specs.Str.{bytes_eq}
 use Rattle.lbk_ucd.specs.declared.rows.Row.{Row}
 use Rattle.lbk_ucd.specs.declared.fault.UcdCause.{UcdCause}
-use Rattle.lbk_ucd.specs.declared.fault.UcdCause.TheVariants.{FileTooLong, LineTooLong, RowSyntax, Range, UnknownValue, Overlap, TooManyRows}
+use Rattle.lbk_ucd.specs.declared.fault.UcdCause.TheVariants.{FileTooLong, LineTooLong, RowSyntax, Range, UnknownValue, Overlap, TooManyRows, Memory}
 use Rattle.lbk_ucd.specs.Line.{Entry, Meaning, nothing, row, default, meaning_of}
 use Rattle.lbk_ucd.specs.Rows.{shares, value_at}
 
@@ -138,3 +138,8 @@ module _ {V : Type 0} where
   unfoldable pub property_of : Format V → List ℕ → ℕ → V
   property_of format bytes code =
       value_at (rows_in format (lines_of bytes)) (defaults_in format (lines_of bytes)) format.unlisted code
+
+  -- a file is refused at a line by its fault, or by want of memory where the tables grow
+  abbrev pub IsRefusal : Format V → List ℕ → ℕ → UcdCause → Type 0
+  IsRefusal format bytes number cause =
+      IsFault format bytes number cause ⊎ ((cause ≡ Memory) × IsGrowth format bytes number)

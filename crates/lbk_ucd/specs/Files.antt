@@ -5,8 +5,7 @@ use Rattle.lbk_ucd.specs.declared.values.Which.TheVariants.{LineBreak, EastAsian
 use Rattle.lbk_ucd.specs.declared.fault.UcdCause.{UcdCause}
 use Rattle.lbk_ucd.specs.declared.fault.UcdFault.{UcdFault}
 use Rattle.lbk_ucd.specs.declared.tables.Files.{Files}
-use Rattle.lbk_ucd.specs.File.{IsLawful}
-use Rattle.lbk_ucd.specs.Reading.{IsRefusal}
+use Rattle.lbk_ucd.specs.File.{IsLawful, IsRefusal}
 use Rattle.lbk_ucd.specs.Names.{line_break_format, east_asian_format, category_format, emoji_format}
 
 -- no file has a fault

@@ -1,9 +1,12 @@
-pub mod File
-pub mod Files
-pub mod Grammar
+-- What a reader has to believe.
 pub mod Line
-pub mod Names
-pub mod Reading
 pub mod Rows
-pub mod Shown
+pub mod File
+pub mod Names
+pub mod Files
 pub mod Tables
+pub mod Grammar
+-- What only carries proofs.
+pub mod Ranges
+pub mod Reading
+pub mod Shown

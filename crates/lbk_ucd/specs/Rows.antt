@@ -1,7 +1,7 @@
 -- Ranges of codes with a value, and the value that lists of them give a code.
-use Rattle.std.specs.Prelude.{ℕ, true, ◌<◌, ◌≤◌, Bool, ◌&&◌, nat_le, List, length, reverse, Option, unwrap_or, ◌≡◌}
+use Rattle.std.specs.Prelude.{ℕ, true, Bool, ◌&&◌, nat_le, List, reverse, Option, unwrap_or, ◌≡◌}
 use Rattle.std.specs.Option.{option_map}
-use Rattle.std.specs.List.{All, AllPairs, find, insert}
+use Rattle.std.specs.List.{find}
 use Rattle.lbk_ucd.specs.declared.rows.Row.{Row}
 
 -- whether a row holds a code
@@ -24,14 +24,3 @@ first_value code rows = option_map (λ row. row.value) (find (holds code) rows)
 abbrev pub value_at : {V : Type 0} → List (Row V) → List (Row V) → V → ℕ → V
 value_at rows defaults unlisted code =
     unwrap_or (first_value code rows) (unwrap_or (first_value code (reverse defaults)) unlisted)
-
--- no row ends before it begins, and each ends before the next begins
-pub record IsInOrder {V : Type 0} (rows : List (Row V)) : Type 0 where
-  pub each : All (λ row. row.first ≤ row.last) rows
-  pub apart : AllPairs (λ row later. row.last < later.first) rows
-
--- new is old with the row at some place
-pub record Inserts {V : Type 0} (row : Row V) (old new : List (Row V)) : Type 0 where
-  pub at : ℕ
-  pub within : at ≤ length old
-  pub is : new ≡ insert old at row

@@ -1,19 +1,15 @@
 -- What the tables answer at each code.
-use Rattle.std.specs.Prelude.{ℕ, ◌+◌, Bool, length}
+use Rattle.std.specs.Prelude.{ℕ, Bool, unwrap_or}
 use Rattle.lbk_ucd.specs.declared.tables.Tables.{Tables}
 use Rattle.lbk_ucd.specs.declared.rows.Assigned.{Assigned}
 use Rattle.lbk_ucd.specs.declared.values.LineBreak.{LineBreak}
 use Rattle.lbk_ucd.specs.declared.values.EastAsian.{EastAsian}
 use Rattle.lbk_ucd.specs.declared.values.Category.{Category}
-use Rattle.lbk_ucd.specs.Rows.{value_at}
+use Rattle.lbk_ucd.specs.Rows.{first_value}
 
--- the value that the kept rows and defaults of one file give a code
+-- the value that the rows of one file give a code
 abbrev pub value_of : {V : Type 0} → Assigned V → ℕ → V
-value_of assigned code = value_at assigned.rows.items assigned.defaults.items assigned.unlisted code
-
--- how many rows and defaults of a file are kept
-abbrev pub count_of : {V : Type 0} → Assigned V → ℕ
-count_of assigned = length assigned.rows.items + length assigned.defaults.items
+value_of assigned code = unwrap_or (first_value code assigned.rows.items) assigned.unlisted
 
 -- Line_Break
 unfoldable pub line_break_of : Tables → ℕ → LineBreak

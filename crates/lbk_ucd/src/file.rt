@@ -1,14 +1,16 @@
 ghost use Rattle.std.specs.Prelude.{◌≡◌, ◌≤◌, ◌==◌, ℕ, [], ◌∷◌, None, Some, IfOk, IfErr, OnOk, cond};
-ghost use Rattle.lbk_ucd.specs.File.{cause_of_room, cause_of_kept, cause_of_entry, cause_beside, valued, row_in, default_in, IsLawful, property_of, without_mark};
+ghost use Rattle.lbk_ucd.specs.File.{cause_of_room, cause_of_kept, cause_of_entry, cause_beside, valued, row_in, default_in, IsLawful, IsRefusal, property_of, without_mark};
 ghost use Rattle.std.specs.List.{slice_split};
-ghost use Rattle.lbk_ucd.specs.Reading.{Adds, IsAnswered, IsRefusal};
+ghost use Rattle.lbk_ucd.specs.Reading.{Adds, IsAnswered, count_of};
+ghost use Rattle.lbk_ucd.specs.Ranges.{IsRange};
 ghost use Rattle.lbk_ucd.specs.Shown.{shown_entry, shown_format, lines_left};
-ghost use Rattle.lbk_ucd.specs.Tables.{count_of, value_of};
+ghost use Rattle.lbk_ucd.specs.Tables.{value_of};
 
 use crate::fault::{UcdCause, UcdFault};
 use crate::format::{Format, value_named};
+use crate::gathered::Gathered;
 use crate::line::{Entry, Meaning, meaning_of, place_of};
-use crate::rows::{Assigned, Row, any_shares};
+use crate::rows::{Assigned, LAST_CODE, Row};
 use crate::values::Which;
 use std::alloc::Global;
 
@@ -17,9 +19,6 @@ const LONGEST_FILE: usize = 8_388_608;
 
 /// How many bytes a line has at most, without its LF.
 const LONGEST_LINE: usize = 1_024;
-
-/// The greatest code.
-const LAST_CODE: u32 = 0x10_FFFF;
 
 /// What a file assigns to codes, or the first fault of the file.
 pub(crate) fn read_file<V: Copy>(
@@ -40,34 +39,46 @@ pub(crate) fn read_file<V: Copy>(
             cause: UcdCause::FileTooLong,
         });
     }
-    let mut assigned = Assigned::new(alloc, format.unlisted);
+    let mut gathered = Gathered::new(alloc, format.unlisted);
     let mut line = 0;
+    let mut grown = 0;
     let mut rest = Some(without_mark(bytes));
     while let Some(text) = rest {
         let (first, after) = first_line(text);
+        let count = gathered.count();
         line += 1;
-        if let Err(cause) = take_line(&mut assigned, format, first) {
+        if let Err(cause) = take_line(&mut gathered, format, first) {
             return Err(UcdFault {
                 file: which,
                 line,
                 cause,
             });
         }
+        if count < gathered.count() {
+            grown = line;
+        }
         rest = after;
     }
-    Ok(assigned)
+    match gathered.assigned(alloc) {
+        Ok(assigned) => Ok(assigned),
+        Err(_) => Err(UcdFault {
+            file: which,
+            line: grown,
+            cause: UcdCause::Memory,
+        }),
+    }
 }
 
 /// Keeps what a line gives, or answers its first cause.
 #[tactic(auto, unfolding(crate::specs::File::cause_beside))]
 fn take_line<V: Copy>(
-    assigned: &mut Assigned<V>,
+    gathered: &mut Gathered<V>,
     format: &Format<V>,
     line: &[u8],
 ) -> Result<(), UcdCause>
-    ensures none { OnOk result (cause_beside (shown_format format.now) assigned.old.rows.items (count_of assigned.old) line.now ≡ None) }
-    ensures adds { OnOk result (Adds (row_in (shown_format format.now) line.now) (default_in (shown_format format.now) line.now) assigned.old assigned.new) }
-    ensures answered { IfErr result (IsAnswered (cause_beside (shown_format format.now) assigned.old.rows.items (count_of assigned.old) line.now)
+    ensures none { OnOk result (cause_beside (shown_format format.now) gathered.old.rows.items (count_of gathered.old) line.now ≡ None) }
+    ensures adds { OnOk result (Adds (row_in (shown_format format.now) line.now) (default_in (shown_format format.now) line.now) gathered.old gathered.new) }
+    ensures answered { IfErr result (IsAnswered (cause_beside (shown_format format.now) gathered.old.rows.items (count_of gathered.old) line.now)
         (row_in (shown_format format.now) line.now) (default_in (shown_format format.now) line.now)) }
 {
     if line.len() > LONGEST_LINE {
@@ -76,23 +87,23 @@ fn take_line<V: Copy>(
     match meaning_of(line, format.defaults) {
         None => Err(UcdCause::RowSyntax),
         Some(Meaning::Nothing) => Ok(()),
-        Some(Meaning::Row(entry)) => take_entry(assigned, format, entry, false),
-        Some(Meaning::Default(entry)) => take_entry(assigned, format, entry, true),
+        Some(Meaning::Row(entry)) => take_entry(gathered, format, entry, false),
+        Some(Meaning::Default(entry)) => take_entry(gathered, format, entry, true),
     }
 }
 
 /// Keeps an entry as a row or as a default, or answers its first cause.
 #[tactic(auto, unfolding(crate::specs::File::cause_of_entry))]
 fn take_entry<V: Copy>(
-    assigned: &mut Assigned<V>,
+    gathered: &mut Gathered<V>,
     format: &Format<V>,
     entry: Entry<'_>,
     is_default: bool,
 ) -> Result<(), UcdCause>
-    ensures none { OnOk result (cause_of_entry (shown_format format.now) (cond is_default [] assigned.old.rows.items) (count_of assigned.old) (shown_entry entry.entry) ≡ None) }
+    ensures none { OnOk result (cause_of_entry (shown_format format.now) (cond is_default [] gathered.old.rows.items) (count_of gathered.old) (shown_entry entry.entry) ≡ None) }
     ensures adds { OnOk result (Adds (cond is_default None (valued (shown_format format.now) (shown_entry entry.entry)))
-        (cond is_default (valued (shown_format format.now) (shown_entry entry.entry)) None) assigned.old assigned.new) }
-    ensures answered { IfErr result (IsAnswered (cause_of_entry (shown_format format.now) (cond is_default [] assigned.old.rows.items) (count_of assigned.old) (shown_entry entry.entry))
+        (cond is_default (valued (shown_format format.now) (shown_entry entry.entry)) None) gathered.old gathered.new) }
+    ensures answered { IfErr result (IsAnswered (cause_of_entry (shown_format format.now) (cond is_default [] gathered.old.rows.items) (count_of gathered.old) (shown_entry entry.entry))
         (cond is_default None (valued (shown_format format.now) (shown_entry entry.entry)))
         (cond is_default (valued (shown_format format.now) (shown_entry entry.entry)) None)) }
 {
@@ -112,41 +123,42 @@ fn take_entry<V: Copy>(
         value,
     };
     if is_default {
-        keep_default(assigned, row)
+        keep_default(gathered, row)
     } else {
-        keep_row(assigned, row)
+        keep_row(gathered, row)
     }
 }
 
 /// Keeps a row, unless it shares a code with one that is kept, or there is no room.
-fn keep_row<V: Copy>(assigned: &mut Assigned<V>, row: Row<V>) -> Result<(), UcdCause>
-    requires { row.first ≤ row.last }
-    ensures none { OnOk result (cause_of_kept assigned.old.rows.items (count_of assigned.old) row.first row.last ≡ None) }
-    ensures adds { OnOk result (Adds (Some row) None assigned.old assigned.new) }
-    ensures answered { IfErr result (IsAnswered (cause_of_kept assigned.old.rows.items (count_of assigned.old) row.first row.last) (Some row) None) }
+fn keep_row<V: Copy>(gathered: &mut Gathered<V>, row: Row<V>) -> Result<(), UcdCause>
+    requires { IsRange row }
+    ensures none { OnOk result (cause_of_kept gathered.old.rows.items (count_of gathered.old) row.first row.last ≡ None) }
+    ensures adds { OnOk result (Adds (Some row) None gathered.old gathered.new) }
+    ensures answered { IfErr result (IsAnswered (cause_of_kept gathered.old.rows.items (count_of gathered.old) row.first row.last) (Some row) None) }
 {
-    if any_shares(&assigned.rows, row.first, row.last) {
+    if gathered.any_shares(row.first, row.last) {
         return Err(UcdCause::Overlap);
     }
-    if assigned.is_full() {
+    if gathered.is_full() {
         return Err(UcdCause::TooManyRows);
     }
-    match assigned.add_row(row) {
+    match gathered.add_row(row) {
         Ok(()) => Ok(()),
         Err(_) => Err(UcdCause::Memory),
     }
 }
 
 /// Keeps a default, unless there is no room.
-fn keep_default<V: Copy>(assigned: &mut Assigned<V>, row: Row<V>) -> Result<(), UcdCause>
-    ensures none { OnOk result (cause_of_room (count_of assigned.old) ≡ None) }
-    ensures adds { OnOk result (Adds None (Some row) assigned.old assigned.new) }
-    ensures answered { IfErr result (IsAnswered (cause_of_room (count_of assigned.old)) None (Some row)) }
+fn keep_default<V: Copy>(gathered: &mut Gathered<V>, row: Row<V>) -> Result<(), UcdCause>
+    requires { IsRange row }
+    ensures none { OnOk result (cause_of_room (count_of gathered.old) ≡ None) }
+    ensures adds { OnOk result (Adds None (Some row) gathered.old gathered.new) }
+    ensures answered { IfErr result (IsAnswered (cause_of_room (count_of gathered.old)) None (Some row)) }
 {
-    if assigned.is_full() {
+    if gathered.is_full() {
         return Err(UcdCause::TooManyRows);
     }
-    match assigned.add_default(row) {
+    match gathered.add_default(row) {
         Ok(()) => Ok(()),
         Err(_) => Err(UcdCause::Memory),
     }

@@ -1,8 +1,7 @@
 //! The generic reader at each of the four files.
 ghost use Rattle.std.specs.Prelude.{◌≡◌, ℕ, IfOk, IfErr, OnOk};
 ghost use Rattle.lbk_ucd.specs.Tables.{value_of};
-ghost use Rattle.lbk_ucd.specs.File.{IsLawful, property_of};
-ghost use Rattle.lbk_ucd.specs.Reading.{IsRefusal};
+ghost use Rattle.lbk_ucd.specs.File.{IsLawful, IsRefusal, property_of};
 ghost use Rattle.lbk_ucd.specs.Names.{line_break_format, east_asian_format, category_format, emoji_format};
 
 use crate::fault::UcdFault;

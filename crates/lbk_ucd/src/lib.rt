@@ -5,16 +5,19 @@ mod fault;
 mod file;
 mod format;
 mod four;
+mod gathered;
 pub mod laws;
 mod line;
+mod overlay;
 mod rows;
 mod samples;
 mod tables;
+mod taken;
 mod values;
 
 pub use fault::{UcdCause, UcdFault};
 pub use samples::{SAMPLE_CATEGORY, SAMPLE_EAST_ASIAN, SAMPLE_EMOJI, SAMPLE_LINE_BREAK};
-pub use tables::{Files, Tables};
+pub use tables::{Files, Run, Tables};
 pub use values::{Category, EastAsian, LineBreak, Which};
 
 #[cfg(test)]

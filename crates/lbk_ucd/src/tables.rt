@@ -28,6 +28,21 @@ pub struct Tables {
     pictographic: Assigned<bool>,
 }
 
+/// The properties of a code, which all codes from it to `last` have.
+#[derive(Clone, Copy, PartialEq, Eq, Debug)]
+pub struct Run {
+    /// Line_Break (UAX #14, section 5).
+    pub line_break: LineBreak,
+    /// East_Asian_Width (UAX #11).
+    pub east_asian: EastAsian,
+    /// General_Category (Unicode Standard, section 4.5).
+    pub category: Category,
+    /// Extended_Pictographic (UTS #51, Annex A).
+    pub is_pictographic: bool,
+    /// The last code that is known to have them, at most 10FFFF.
+    pub last: u32,
+}
+
 impl Tables {
     ghost use Rattle.lbk_ucd.specs.Tables.{line_break_of, east_asian_of, category_of, is_pictographic_of};
     ghost use Rattle.lbk_ucd.specs.File.{property_of};
@@ -91,5 +106,33 @@ impl Tables {
         ensures { result ≡ is_pictographic_of self.now code }
     {
         self.pictographic.value(code)
+    }
+
+    /// The four properties of a code, and a last code up to which all codes have them. So all codes are gone through
+    /// range by range: from 0, and each time from the code after `last`, until `last` is 10FFFF.
+    #[tactic(auto, unfolding(crate::specs::Tables::line_break_of, crate::specs::Tables::east_asian_of, crate::specs::Tables::category_of, crate::specs::Tables::is_pictographic_of))]
+    pub fn run(&self, code: u32) -> Run
+        requires { code ≤ 0x10FFFF }
+        ensures last { (code ≤ result.last) × (result.last ≤ 0x10FFFF) }
+        ensures line_break { (k : ℕ) → code ≤ k → k ≤ result.last → line_break_of self.now k ≡ result.line_break }
+        ensures east_asian { (k : ℕ) → code ≤ k → k ≤ result.last → east_asian_of self.now k ≡ result.east_asian }
+        ensures category { (k : ℕ) → code ≤ k → k ≤ result.last → category_of self.now k ≡ result.category }
+        ensures pictographic { (k : ℕ) → code ≤ k → k ≤ result.last → is_pictographic_of self.now k ≡ result.is_pictographic }
+    {
+        let line_break = self.line_break.stretch(code);
+        let east_asian = self.east_asian.stretch(code);
+        let category = self.category.stretch(code);
+        let pictographic = self.pictographic.stretch(code);
+        Run {
+            line_break: line_break.value,
+            east_asian: east_asian.value,
+            category: category.value,
+            is_pictographic: pictographic.value,
+            last: line_break
+                .last
+                .min(east_asian.last)
+                .min(category.last)
+                .min(pictographic.last),
+        }
     }
 }

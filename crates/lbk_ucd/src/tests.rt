@@ -12,6 +12,13 @@ const NO_FILES: Files<'static> = Files {
     emoji: b"",
 };
 
+const SAMPLES: Files<'static> = Files {
+    line_break: SAMPLE_LINE_BREAK,
+    east_asian: SAMPLE_EAST_ASIAN,
+    category: SAMPLE_CATEGORY,
+    emoji: SAMPLE_EMOJI,
+};
+
 /// The fault of a LineBreak file beside empty files, as its line and cause.
 fn line_break_fault(alloc: Global, bytes: &[u8]) -> Option<(u32, UcdCause)> {
     let files = Files {
@@ -102,15 +109,7 @@ const SAMPLE_ROWS: [(u32, LineBreak, EastAsian, Category, bool); 10] = [
 
 #[test]
 fn samples_answer(rt: HostRuntime) -> Result<(), Fail> {
-    let tables = Tables::read(
-        rt.alloc(),
-        Files {
-            line_break: SAMPLE_LINE_BREAK,
-            east_asian: SAMPLE_EAST_ASIAN,
-            category: SAMPLE_CATEGORY,
-            emoji: SAMPLE_EMOJI,
-        },
-    )?;
+    let tables = Tables::read(rt.alloc(), SAMPLES)?;
     for (code, line_break, east_asian, category, is_pictographic) in SAMPLE_ROWS {
         assert!(rt; code <= 0x10FFFF);
         assert_eq!(rt; tables.line_break(code), line_break, "at {code:x}");
@@ -251,6 +250,70 @@ fn defaults_and_other_files(rt: HostRuntime) -> Result<(), Fail> {
             Err(found) => assert_eq!(rt; found, fault),
         }
     }
+    Ok(())
+}
+
+#[test]
+fn defaults_over_one_another(rt: HostRuntime) -> Result<(), Fail> {
+    let mut text = String::new(rt.alloc());
+    for code in 0..2_000u32 {
+        let name = if code % 2 == 0 { "AL" } else { "ID" };
+        writeln!(text, "# @missing: {code:04X}..10FFFF; {name}")?;
+    }
+    text.push_str("07CF;QU\n")?;
+    let tables = Tables::read(
+        rt.alloc(),
+        Files {
+            line_break: text.as_bytes(),
+            ..NO_FILES
+        },
+    )?;
+    for (code, line_break, last) in [
+        (0, LineBreak::Alphabetic, 0),
+        (1, LineBreak::Ideographic, 1),
+        (1_234, LineBreak::Alphabetic, 1_234),
+        (1_998, LineBreak::Alphabetic, 1_998),
+        (1_999, LineBreak::Quotation, 1_999),
+        (2_000, LineBreak::Ideographic, 0x10_FFFF),
+        (0x10_FFFF, LineBreak::Ideographic, 0x10_FFFF),
+    ] {
+        assert!(rt; code <= 0x10FFFF);
+        assert_eq!(rt; tables.line_break(code), line_break, "at {code:x}");
+        let run = tables.run(code);
+        assert_eq!(rt; run.line_break, line_break, "at {code:x}");
+        assert_eq!(rt; run.last, last, "at {code:x}");
+    }
+    Ok(())
+}
+
+#[test]
+fn rows_in_falling_order(rt: HostRuntime) -> Result<(), Fail> {
+    let mut text = String::new(rt.alloc());
+    for code in 0..=0xFFFFu32 {
+        writeln!(text, "{:04X};AL", 0xFFFF - code)?;
+    }
+    assert_eq!(rt; line_break_fault(rt.alloc(), text.as_bytes()), None);
+    text.push_str("8000..8001;AL")?;
+    assert_eq!(rt;
+        line_break_fault(rt.alloc(), text.as_bytes()),
+        Some((65_537, UcdCause::Overlap))
+    );
+    Ok(())
+}
+
+#[test]
+fn runs_of_the_samples(rt: HostRuntime) -> Result<(), Fail> {
+    let tables = Tables::read(rt.alloc(), SAMPLES)?;
+    for (code, line_break, east_asian, category, is_pictographic) in SAMPLE_ROWS {
+        assert!(rt; code <= 0x10FFFF);
+        let run = tables.run(code);
+        assert_eq!(rt; run.line_break, line_break, "at {code:x}");
+        assert_eq!(rt; run.east_asian, east_asian, "at {code:x}");
+        assert_eq!(rt; run.category, category, "at {code:x}");
+        assert_eq!(rt; run.is_pictographic, is_pictographic, "at {code:x}");
+    }
+    let end = tables.run(0x10_FFFF);
+    assert_eq!(rt; end.last, 0x10_FFFF);
     Ok(())
 }
 

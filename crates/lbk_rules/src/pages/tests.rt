@@ -1,4 +1,4 @@
-ghost use Rattle.std.specs.Prelude.{◌==◌, if◌then◌else◌};
+ghost use Rattle.std.specs.Prelude.{◌==◌, ◌/◌, ◌%◌, if◌then◌else◌, slice_index_or};
 
 use super::*;
 use crate::classes::{Class, Quote};
@@ -12,14 +12,55 @@ struct Spot {
     elsewhere: Cell,
 }
 
-impl CellSource for Spot {
-    ghost cell_of = { λ s code. if code == s.code then s.there else s.elsewhere };
+impl CellRuns for Spot {
+    ghost cell_at = { λ s code. if code == s.code then s.there else s.elsewhere };
 
-    fn cell(&self, c: char) -> Cell {
-        if c == self.code {
-            self.there
+    fn cell_run(&self, code: u32) -> CellRun {
+        let spot = u32::from(self.code);
+        if code < spot {
+            CellRun {
+                first: code,
+                last: spot - 1,
+                cell: self.elsewhere,
+            }
+        } else if code == spot {
+            CellRun {
+                first: code,
+                last: spot,
+                cell: self.there,
+            }
+        } else {
+            CellRun {
+                first: code,
+                last: 0x10_FFFF,
+                cell: self.elsewhere,
+            }
+        }
+    }
+}
+
+/// In each page one mark, at the place of the page among 256 that follow one another; eight times 256 pages differ.
+#[derive(Clone, Copy)]
+struct Stripes {
+    marks: [Cell; 8],
+    elsewhere: Cell,
+}
+
+impl CellRuns for Stripes {
+    ghost cell_at = { λ s code. if code % 256 == code / 256 % 256
+        then slice_index_or s.marks (code / 65536 % 8) s.elsewhere
+        else s.elsewhere };
+
+    fn cell_run(&self, code: u32) -> CellRun {
+        let cell = if code % 256 == code / 256 % 256 {
+            self.marks[(code / 65_536 % 8) as usize]
         } else {
             self.elsewhere
+        };
+        CellRun {
+            first: code,
+            last: code,
+            cell,
         }
     }
 }
@@ -71,5 +112,37 @@ fn keeps_equal_pages_once(rt: HostRuntime) -> Result<(), Fail> {
     let pages = CellPages::build_over(rt.alloc(), &spot)?;
     assert_eq!(rt; pages.pages.len(), 1);
     assert_eq!(rt; pages.cell('\u{4e00}'), everywhere);
+    Ok(())
+}
+
+#[test]
+fn keeps_many_pages(rt: HostRuntime) -> Result<(), Fail> {
+    let elsewhere = plain(Class::Alphabetic);
+    let marks = [
+        plain(Class::OpenPunctuation),
+        plain(Class::ClosePunctuation),
+        plain(Class::Quotation),
+        plain(Class::Exclamation),
+        plain(Class::InfixNumeric),
+        plain(Class::Hyphen),
+        plain(Class::Inseparable),
+        plain(Class::Glue),
+    ];
+    let pages = CellPages::build_over(rt.alloc(), &Stripes { marks, elsewhere })?;
+    assert_eq!(rt; pages.pages.len(), 2_048);
+    for (code, cell) in [
+        ('\0', marks[0]),
+        ('\u{1}', elsewhere),
+        ('\u{101}', marks[0]),
+        ('\u{ffff}', marks[0]),
+        ('\u{10000}', marks[1]),
+        ('\u{3abab}', marks[3]),
+        ('\u{7ffff}', marks[7]),
+        ('\u{80000}', marks[0]),
+        ('\u{10fffe}', elsewhere),
+        ('\u{10ffff}', marks[0]),
+    ] {
+        assert_eq!(rt; pages.cell(code), cell, "at {code:?}");
+    }
     Ok(())
 }

@@ -1,4 +1,4 @@
-use Rattle.lbk_ucd.proofs.LawLemmas.{shared_code, shares_code}
+use Rattle.lbk_ucd.proofs.RowLemmas.{shared_code, shares_code}
 use Rattle.lbk_ucd.proofs.laws.shared_codes_are_held.Goals as goal
 
 pub returns : goal.returns

@@ -1,11 +1,10 @@
-use Rattle.std.proofs.Common.{◌≡◌, ◌⊎◌, ◌<◌, ℕ, List, [], length, eqb, not, Bool, true, false, Err, sym, ap, subst, ◌∙◌, ⊎_elim, arith, OnOk, length-append}
+use Rattle.std.proofs.Common.{◌≡◌, ◌⊎◌, ◌<◌, ℕ, List, length, eqb, not, Bool, true, false, Err, sym, ap, subst, ◌∙◌, ⊎_elim, arith}
 use Rattle.std.specs.Bool.{OnTrue, OnFalse}
 use Rattle.std.proofs.lemmas.Result.{err_from_is_err_and}
 use Rattle.std.proofs.lemmas.Bool.{eqb-true, eqb-false}
 use Rattle.lbk_feed.specs.declared.faults.FeedFault.{FeedFault}
 use Rattle.lbk_feed.specs.declared.faults.FeedFault.TheVariants.{Read}
 use Rattle.lbk_feed.specs.View.{View, Agrees, IsIdle}
-use Rattle.lbk_feed.specs.Intake.{view_of}
 use Rattle.lbk_feed.proofs.pieces.Feed.settle.Goals as goal
 
 pub returns-in_err-settle-clause-agrees : goal.returns-in_err-settle-clause-agrees

@@ -1,33 +1,44 @@
-use Rattle.std.proofs.Common.{◌≡◌, length, [], ◌∷◌, ◌++◌, arith, ap, ◌∙◌, below_more}
-use Rattle.std.proofs.lemmas.List.{get_or_append_left, get_or_push, length_push}
+use Rattle.std.proofs.Common.{◌≡◌, ◌-◌, ◌∙◌, [], get_or, refl, arith}
+use Rattle.std.proofs.lemmas.List.{get_or_default}
 use Rattle.lbk_rules.specs.CellPages.{page_cell}
-use Rattle.lbk_rules.proofs.PagesLemmas.{cell_in-filled, page_at-earlier, page_at-last}
+use Rattle.lbk_rules.proofs.PagesLemmas.{cell_in-filled, filled_more, next_page-same}
 use Rattle.lbk_rules.proofs.pages.CellPages.build_over.Goals as goal
+use Rattle.lbk_rules.proofs.pages.CellPages.build_over.Goals.{then-run-first+then-first-run+in_ok-push, else-run-first+in_ok-number_of+in_ok-push-2}
 
 pub loop-k-preserved : goal.loop-k-preserved
 loop-k-preserved g c =
-    let so_far = c.loop-k.invariant in
+    let cell_of = g.C.CellRuns.cell_at c.args.source.now in
+    let to = c.loop-k.invariant in
+    let k = c.loop-k.k in
     let numbers = c.loop-k.numbers.items in
-    let n = c.in_ok-number_of.field-0 in
     let before = c.loop-k.kept.pages.items in
-    let after = c.number_of.new.self.pages.items in
-    let pushed : c.push.new.self.items ≡ numbers ++ n ∷ [] = c.in_ok-push.ensures.items in
-    let number = c.in_ok-number_of.ensures.number in
-    let stay = c.in_ok-number_of.ensures.stay in
-    let more = c.in_ok-number_of.ensures.more in
-    record {
-      counted = ap length pushed ∙ length_push numbers n ∙ omega arith;
-      few = omega arith;
-      numbered = rw pushed (below_more _ _
-          (λ i h. let old = get_or_append_left numbers (n ∷ []) 0 i (omega arith) in let below = so_far.numbered i h in omega arith)
-          (let new = get_or_push numbers n 0 c.loop-k.k so_far.counted in omega (arith, number.0)));
-      filled = rw pushed (below_more _ _
-          (λ i h. rw (page_at-earlier numbers n before after i (omega arith) (so_far.numbered i h) stay) (so_far.filled i h))
-          (rw (page_at-last numbers n c.loop-k.k after so_far.counted) (rw number.1 c.fill.ensures)));
-    }
+    let run = c.loop-k.run in
+    elim c.if-run-first.branch [
+      | then-run-first+then-first-run+in_ok-push w ↦
+          let n = w.index-number.result.now in
+          let counted = to.counted in
+          let number : n ≡ get_or numbers (k - 1) 0
+          = w.index-number.ensures ∙ get_or_default numbers (k - 1) n 0 (omega arith) in
+          rw (w.kept-is, w.numbers-is, w.run-is, w.in_ok-push.ensures.items)
+          (filled_more cell_of numbers before before k n run.first run.last run.cell run.first run.last run.cell to (rw number (to.numbered (k - 1) (omega arith)))
+          (λ j below. refl) (omega arith) (omega arith)
+          (next_page-same cell_of k run.first run.last run.cell (get_or before n []) to.same (omega arith) (omega arith) (rw number (to.filled (k - 1) (omega arith))))
+          (omega (arith, to.begins)) to.ends to.same)
+      | else-run-first+in_ok-number_of+in_ok-push-2 w ↦
+          let n = w.in_ok-number_of.field-0 in
+          let number = w.in_ok-number_of.ensures.number in
+          let stay = w.in_ok-number_of.ensures.stay in
+          let more = w.in_ok-number_of.ensures.more in
+          rw (w.kept-is, w.numbers-is, w.run-is, w.in_ok-push-2.ensures.items)
+          (filled_more cell_of numbers before w.number_of.new.self.pages.items k n run.first run.last run.cell
+          w.fill-run.result.first w.fill-run.result.last w.fill-run.result.cell to number.0
+          stay more.0 more.1
+          (rw number.1 w.fill-run.ensures.page)
+          (let begins = w.fill-run.ensures.begins in omega arith) w.fill-run.ensures.run.0 w.fill-run.ensures.run.1)
+    ]
 
 pub returns : goal.returns
 unfolding page_cell
 returns g c code scalar =
     rw c.into_pages.ensures.kept
-    (cell_in-filled (g.C.CellSource.cell_of c.args.source.now) c.loop-k.numbers.items c.loop-k.kept.pages.items c.loop-k.k (omega arith) c.loop-k.invariant.filled code scalar)
+    (cell_in-filled (g.C.CellRuns.cell_at c.args.source.now) c.loop-k.numbers.items c.loop-k.kept.pages.items c.loop-k.k (omega arith) c.loop-k.invariant.filled code scalar)

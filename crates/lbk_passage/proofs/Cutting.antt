@@ -1,0 +1,115 @@
+-- A list that is cut after each element that ends a part.
+use Rattle.std.proofs.Common.{◌≡◌, Bool, true, false, cond, List, [], ◌∷◌, ◌++◌, map, refl, sym, ap, ◌∙◌}
+use Rattle.std.specs.List.{flat_map}
+use Rattle.lbk_passage.specs.Passages.{cut_after, join_first}
+
+-- of these elements the last alone ends a part · perhaps the last, and no other · the last, and perhaps others
+abbrev pub IsPart : {A : Type 0} → (A → Bool) → List A → Type 0
+IsPart ends [] = ⊥
+IsPart ends (x ∷ []) = ends x ≡ true
+IsPart ends (x ∷ y ∷ xs) = (ends x ≡ false) × IsPart ends (y ∷ xs)
+
+abbrev pub IsOpenPart : {A : Type 0} → (A → Bool) → List A → Type 0
+IsOpenPart ends [] = Unit {0}
+IsOpenPart ends (x ∷ []) = Unit {0}
+IsOpenPart ends (x ∷ y ∷ xs) = (ends x ≡ false) × IsOpenPart ends (y ∷ xs)
+
+abbrev pub IsClosed : {A : Type 0} → (A → Bool) → List A → Type 0
+IsClosed ends [] = Unit {0}
+IsClosed ends (x ∷ []) = ends x ≡ true
+IsClosed ends (x ∷ y ∷ xs) = IsClosed ends (y ∷ xs)
+
+module _ {A : Type 0} (ends : A → Bool) where
+  step : (x : A) (xs : List A) (b : Bool) → ends x ≡ b
+      → cut_after ends (x ∷ xs) ≡ cond b ((x ∷ []) ∷ cut_after ends xs) (join_first x (cut_after ends xs))
+  step x xs b is = ap (λ v. cond v ((x ∷ []) ∷ cut_after ends xs) (join_first x (cut_after ends xs))) is
+
+  -- a part is the first of what begins with it
+  pub cut_after-part : (xs ys : List A) → IsPart ends xs → cut_after ends (xs ++ ys) ≡ xs ∷ cut_after ends ys
+  cut_after-part [] ys part = absurd part
+  cut_after-part (x ∷ []) ys part = step x ys true part
+  cut_after-part (x ∷ y ∷ xs) ys part =
+      step x ((y ∷ xs) ++ ys) false part.0 ∙ ap (join_first x) (cut_after-part (y ∷ xs) ys part.1)
+
+  pub cut_after-alone : (xs : List A) → IsPart ends xs → cut_after ends xs ≡ xs ∷ []
+  cut_after-alone [] part = absurd part
+  cut_after-alone (x ∷ []) part = step x [] true part
+  cut_after-alone (x ∷ y ∷ xs) part = step x (y ∷ xs) false part.0 ∙ ap (join_first x) (cut_after-alone (y ∷ xs) part.1)
+
+  -- the first part holds all of what is open
+  pub record Holds (xs : List A) (parts : List (List A)) : Type 0 where
+    pub behind : List A
+    pub others : List (List A)
+    pub is : parts ≡ (xs ++ behind) ∷ others
+
+  joined : (x : A) (parts : List (List A)) → Holds (x ∷ []) (join_first x parts)
+  joined x [] = record { behind = []; others = []; is = refl }
+  joined x (part ∷ parts) = record { behind = part; others = parts; is = refl }
+
+  pub cut_after-open : (x : A) (xs ys : List A) → IsOpenPart ends (x ∷ xs) → Holds (x ∷ xs) (cut_after ends ((x ∷ xs) ++ ys))
+  cut_after-open x [] ys part = by (ends x) refl
+    where
+      by : (b : Bool) → ends x ≡ b → Holds (x ∷ []) (cut_after ends (x ∷ ys))
+      by true is = record { behind = []; others = cut_after ends ys; is = step x ys true is }
+      by false is =
+          let rest = joined x (cut_after ends ys) in
+          record { behind = rest.behind; others = rest.others; is = step x ys false is ∙ rest.is }
+  cut_after-open x (y ∷ xs) ys part =
+      let rest = cut_after-open y xs ys part.1 in
+      record { behind = rest.behind; others = rest.others; is = step x ((y ∷ xs) ++ ys) false part.0 ∙ ap (join_first x) rest.is }
+
+  -- what is open is at most one part
+  pub cut_after-few : (x : A) (xs : List A) → IsOpenPart ends (x ∷ xs) → cut_after ends (x ∷ xs) ≡ (x ∷ xs) ∷ []
+  cut_after-few x [] part = by (ends x) refl
+    where
+      by : (b : Bool) → ends x ≡ b → cut_after ends (x ∷ []) ≡ (x ∷ []) ∷ []
+      by true is = step x [] true is
+      by false is = step x [] false is
+  cut_after-few x (y ∷ xs) part = step x (y ∷ xs) false part.0 ∙ ap (join_first x) (cut_after-few y xs part.1)
+
+  join_first-append : (x : A) (p : List A) (ps qs : List (List A)) → join_first x ((p ∷ ps) ++ qs) ≡ join_first x (p ∷ ps) ++ qs
+  join_first-append x p ps qs = refl
+
+  -- some part is cut of some elements
+  pub record IsSome (parts : List (List A)) : Type 0 where
+    pub first : List A
+    pub others : List (List A)
+    pub is : parts ≡ first ∷ others
+
+  some : (x : A) (xs : List A) → IsSome (cut_after ends (x ∷ xs))
+  some x xs = by (ends x) refl
+    where
+      by : (b : Bool) → ends x ≡ b → IsSome (cut_after ends (x ∷ xs))
+      by true is = record { first = x ∷ []; others = cut_after ends xs; is = step x xs true is }
+      by false is =
+          let rest = joined x (cut_after ends xs) in
+          record { first = x ∷ rest.behind; others = rest.others; is = step x xs false is ∙ rest.is }
+
+  -- two lists joined, where the first ends a part
+  pub cut_after-append : (xs ys : List A) → IsClosed ends xs → cut_after ends (xs ++ ys) ≡ cut_after ends xs ++ cut_after ends ys
+  cut_after-append [] ys closed = refl
+  cut_after-append (x ∷ []) ys closed = step x ys true closed ∙ ap (λ l. l ++ cut_after ends ys) (sym (step x [] true closed))
+  cut_after-append (x ∷ y ∷ xs) ys closed = by (cut_after-append (y ∷ xs) ys closed) (ends x) refl
+    where
+      by : cut_after ends ((y ∷ xs) ++ ys) ≡ cut_after ends (y ∷ xs) ++ cut_after ends ys
+          → (b : Bool) → ends x ≡ b → cut_after ends ((x ∷ y ∷ xs) ++ ys) ≡ cut_after ends (x ∷ y ∷ xs) ++ cut_after ends ys
+      by rest true is =
+          step x ((y ∷ xs) ++ ys) true is ∙ ap (λ l. (x ∷ []) ∷ l) rest ∙ ap (λ l. l ++ cut_after ends ys) (sym (step x (y ∷ xs) true is))
+      by rest false is =
+          let s = some y xs in
+          step x ((y ∷ xs) ++ ys) false is ∙ ap (join_first x) (rest ∙ ap (λ l. l ++ cut_after ends ys) s.is)
+          ∙ join_first-append x s.first s.others (cut_after ends ys) ∙ ap (λ l. join_first x l ++ cut_after ends ys) (sym s.is)
+          ∙ ap (λ l. l ++ cut_after ends ys) (sym (step x (y ∷ xs) false is))
+
+  -- the parts, joined, are the list
+  pub cut_after-joined : {B : Type 0} (f : A → B) (xs : List A) → flat_map (map f) (cut_after ends xs) ≡ map f xs
+  cut_after-joined f [] = refl
+  cut_after-joined f (x ∷ xs) = by (cut_after-joined f xs) (ends x) refl
+    where
+      put_first : (parts : List (List A)) → flat_map (map f) (join_first x parts) ≡ f x ∷ flat_map (map f) parts
+      put_first [] = refl
+      put_first (part ∷ parts) = refl
+
+      by : flat_map (map f) (cut_after ends xs) ≡ map f xs → (b : Bool) → ends x ≡ b → flat_map (map f) (cut_after ends (x ∷ xs)) ≡ f x ∷ map f xs
+      by rest true is = ap (flat_map (map f)) (step x xs true is) ∙ ap (λ l. f x ∷ l) rest
+      by rest false is = ap (flat_map (map f)) (step x xs false is) ∙ put_first (cut_after ends xs) ∙ ap (λ l. f x ∷ l) rest

@@ -1,0 +1,250 @@
+-- What a call of `next` leaves, by the answer of the call that fills a paragraph.
+use Rattle.std.proofs.Common.{◌≡◌, ◌⊎◌, ℕ, ◌+◌, ◌-◌, ◌<◌, ◌≤◌, Bool, true, false, ◌||◌, not, List, [], ◌∷◌, ◌++◌, length, Option, None, Some, Result, Ok, Err, is_ok, OnOk, string_bytes, string_len, encode_utf8_all, chars, IsUtf8, if◌then◌else◌, refl, sym, ap, subst, ◌∙◌, arith, inl, inr, ⊎_elim, append-nil}
+use Rattle.std.proofs.lemmas.Bool.{false≢true}
+use Rattle.std.proofs.lemmas.Str.{chars-nil, encodes-chars, IsUtf8-string_bytes}
+use Rattle.std.specs.Io.KnownBytes.{prepend_known}
+use Rattle.lbk_feed.specs.View.{BeginsWith}
+use Rattle.lbk_feed.specs.Text.{longest_text}
+use Rattle.lbk_rules.specs.declared.cells.Cell.{Cell}
+use Rattle.lbk_rules.specs.declared.verdicts.Profile.{Profile}
+use Rattle.lbk_rules.specs.declared.verdicts.Verdict.{Verdict}
+use Rattle.lbk_passage.specs.Marks.{Marked, marks, ended, scalars_of, text_of}
+use Rattle.lbk_passage.specs.Segments.{segments_of}
+use Rattle.lbk_passage.specs.Pieces.{pieces_of}
+use Rattle.lbk_passage.specs.State.{State, state_with, text_held}
+use Rattle.lbk_passage.specs.Next.{Answers, AfterNext, IsPlaced, Lends, IsPassage, ComesFirst, GoesOn, IsLast, Stops, KeepsAhead, ends_run}
+use Rattle.lbk_passage.specs.Gathering.{Fills, FillAnswers, IsFirst, IsSame}
+use Rattle.lbk_passage.specs.declared.faults.PassageFault.{PassageFault}
+use Rattle.lbk_passage.specs.declared.faults.PassageFault.TheVariants.{Limit, Memory, Read, NotUtf8, TextTooLong, ParagraphTooLong, Spent}
+use Rattle.lbk_passage.specs.declared.paragraph.Paragraph.{Paragraph}
+use Rattle.lbk_passage.specs.declared.passage.Passage.{Passage}
+use Rattle.lbk_passage.proofs.Finding.{Shows}
+use Rattle.lbk_passage.proofs.Marking.{scalars-behind, scalars-ended}
+use Rattle.lbk_passage.proofs.Gathered.{Shows-of}
+use Rattle.lbk_passage.proofs.Taking.{string_len-is}
+
+pub or-cases : (a b : Bool) → (a || b) ≡ true → (a ≡ true) ⊎ (b ≡ true)
+or-cases true b h = inl refl
+or-cases false b h = inr h
+
+length-scalars : (l : List Marked) → length (scalars_of l) ≡ length l
+length-scalars [] = refl
+length-scalars (m ∷ l) = let rest = length-scalars l in omega (arith, rest)
+
+-- what an `Ok` says
+pub ok_err : {T E : Type 0} (r : Result T E) (x : T) (e : E) → r ≡ Ok x → r ≡ Err e → ⊥
+ok_err r x e ok err = false≢true (sym (ap is_ok (sym ok ∙ err)))
+
+pub on_ok : {T E : Type 0} (P : Type 0) (r : Result T E) → is_ok r ≡ true → OnOk r P → P
+on_ok P (Ok x) is h = h
+on_ok P (Err e) is h = cc
+
+-- a fault is `Spent` only where one was answered before
+pub spent_by : (s : State) (p : Paragraph) (was : Bool) (fault : PassageFault) → FillAnswers s p was (Err fault) → fault ≡ Spent → was ≡ true
+spent_by s p was fault answer is =
+    ⊎_elim (λ a. a.1) (λ stops. absurd (let at_spent : Stops s Spent = subst (Stops s) is stops in at_spent.lies)) answer
+
+module _ (cell : ℕ → Cell) (profile : Profile) (old p : Paragraph) (u v : Option (List ℕ)) (e e' : Bool) (reads reads' : ℕ) where
+  fault-answers : (s : State) (fault : PassageFault) → FillAnswers s p old.is_spent (Err fault) → Answers (state_with cell profile old) s (Err fault)
+  fault-answers s Limit (inl h) = absurd (let e = h.0 in cc)
+  fault-answers s Limit (inr h) = h
+  fault-answers s Memory (inl h) = absurd (let e = h.0 in cc)
+  fault-answers s Memory (inr h) = absurd h.lies
+  fault-answers s Read (inl h) = absurd (let e = h.0 in cc)
+  fault-answers s Read (inr h) = h
+  fault-answers s (NotUtf8 at) (inl h) = absurd (let e = h.0 in cc)
+  fault-answers s (NotUtf8 at) (inr h) = h
+  fault-answers s TextTooLong (inl h) = absurd (let e = h.0 in cc)
+  fault-answers s TextTooLong (inr h) = h
+  fault-answers s (ParagraphTooLong start) (inl h) = absurd (let e = h.0 in cc)
+  fault-answers s (ParagraphTooLong start) (inr h) = h
+  fault-answers s Spent (inl h) = h.1
+  fault-answers s Spent (inr h) = absurd h.lies
+
+  pub After-fault : (fault : PassageFault) → Fills cell profile old p u v e e' reads reads' (Err fault)
+      → AfterNext (state_with cell profile old) (state_with cell profile p) u v e e' reads reads' (Err fault)
+  After-fault fault f = record {
+    alike = record { cell = refl; profile = refl; limit = f.limit };
+    answer = fault-answers (state_with cell profile p) fault f.answer;
+    start = omega (arith, f.start);
+    spent = f.spent;
+    settled = f.in_hand;
+    got = f.got;
+    grown = f.grown;
+    ahead_kept = f.ahead_kept;
+    begins = f.begins;
+    costs = f.costs;
+    agrees = f.agrees;
+    notices = f.notices;
+    quiet = f.quiet;
+  }
+
+  pub After-none : Fills cell profile old p u v e e' reads reads' (Ok None)
+      → AfterNext (state_with cell profile old) (state_with cell profile p) u v e e' reads reads' (Ok None)
+  After-none f = record {
+    alike = record { cell = refl; profile = refl; limit = f.limit };
+    answer = f.answer;
+    start = omega (arith, f.start);
+    spent = f.spent;
+    settled = f.in_hand;
+    got = f.got;
+    grown = f.grown;
+    ahead_kept = f.ahead_kept;
+    begins = f.begins;
+    costs = f.costs;
+    agrees = f.agrees;
+    notices = f.notices;
+    quiet = f.quiet;
+  }
+
+  module _ (end : Verdict) (f : Fills cell profile old p u v e e' reads reads' (Ok (Some end))) where
+    shows : Shows (state_with cell profile p) p
+    shows = Shows-of cell profile p f.in_hand
+
+    abbrev text : List ℕ
+    text = string_bytes p.text
+
+    abbrev ms : List Marked
+    ms = ended end (marks profile cell (chars text))
+
+    scalars_are : scalars_of ms ≡ chars text
+    scalars_are = scalars-ended profile cell end (marks profile cell (chars text)) ∙ scalars-behind profile cell [] (chars text)
+
+    text_is : text_of ms ≡ text
+    text_is = ap encode_utf8_all scalars_are ∙ encodes-chars (string_bytes p.text) (IsUtf8-string_bytes p.text)
+
+    first_is : IsFirst (state_with cell profile p) p end
+    first_is = f.answer
+
+    some : 0 < length ms
+    some =
+        let first = first_is in
+        let given = first.some in
+        let long = ap length scalars_are in
+        let same = length-scalars ms in
+        omega (arith, long, same, given)
+
+    comes : ComesFirst (state_with cell profile p) ms p.feed.held
+    comes = let first = first_is in first.comes
+
+    pub After-memory : AfterNext (state_with cell profile old) (state_with cell profile p) u v e e' reads reads' (Err Memory)
+    After-memory = record {
+      alike = record { cell = refl; profile = refl; limit = f.limit };
+      answer = record {
+        marks = ms;
+        some = some;
+        behind = p.feed.held;
+        bytes = shows.held ∙ ap (λ l. l ++ p.feed.held) (sym text_is);
+        comes = comes;
+      };
+      start = omega (arith, f.start);
+      spent = f.spent;
+      settled = f.in_hand;
+      got = f.got;
+      grown = f.grown;
+      ahead_kept = f.ahead_kept;
+      begins = f.begins;
+      costs = record { each_gave = f.costs.each_gave; but_one = f.costs.but_one; within = f.costs.within };
+      agrees = f.agrees;
+      notices = f.notices;
+      quiet = λ h. ((f.quiet h).0, (f.quiet h).1, (f.quiet h).2, λ e. cc);
+    }
+
+    -- what a passage says of the paragraph
+    pub record IsOf (pg : Passage) : Type 0 where
+      pub start : pg.start ≡ p.feed.given - string_len p.text
+      pub bytes : pg.text.now ≡ string_bytes p.text
+      pub segments : pg.segments.now ≡ segments_of (ended end (marks profile cell (chars (string_bytes p.text))))
+      pub pieces : pg.pieces.now ≡ pieces_of cell (string_bytes p.text)
+      pub ends : pg.end ≡ end
+
+    module _ (q : Paragraph) (pg : Passage) (same : IsSame p q false p.is_spent) (of : IsOf pg) where
+      unspent : q.is_spent ≡ false
+      unspent = same.spent ∙ f.spent ∙ ap (λ b. b || false) (f.unspent refl)
+
+      out : (q.is_held || q.is_spent) ≡ false
+      out = ap (λ b. b || q.is_spent) same.held ∙ unspent
+
+      none_held : text_held q ≡ []
+      none_held = ap (λ b. if b then string_bytes q.text else []) out
+
+      held_is : (state_with cell profile q).held ≡ p.feed.held
+      held_is = ap (λ l. l ++ q.feed.held) none_held ∙ ap (λ g. g.held) same.feed
+
+      all_is : pg.text.now ++ (state_with cell profile q).held ≡ (state_with cell profile p).held
+      all_is = ap (λ l. l ++ (state_with cell profile q).held) of.bytes ∙ ap (λ l. string_bytes p.text ++ l) held_is ∙ sym shows.held
+
+      start_is : (state_with cell profile old).start ≡ p.feed.given - string_len p.text
+      start_is = let begins = shows.start in omega (arith, f.start, begins, string_len-is p.text)
+
+      ended_is : (state_with cell profile q).is_ended ≡ (state_with cell profile p).is_ended
+      ended_is = ap (λ g. g.is_ended) same.feed
+
+      comes_in : ComesFirst (state_with cell profile q) ms (state_with cell profile q).held
+      comes_in = subst (ComesFirst (state_with cell profile q) ms) (sym held_is) (record {
+        within = omega (arith, comes.within, same.limit);
+        follows = ⊎_elim
+            (λ (h : GoesOn (state_with cell profile p) ms p.feed.held).
+            inl (record { next = h.next; rest = h.rest; bytes = h.bytes; scalar = h.scalar; first = h.first }))
+            (λ (h : IsLast (state_with cell profile p) ms p.feed.held).
+            inr (record { none = h.none; at_end = ended_is ∙ h.at_end; first = h.first }))
+            comes.follows;
+      })
+
+      lends : Lends (state_with cell profile old) (state_with cell profile q) pg
+      lends = record {
+        marks = ms;
+        passage = record {
+          some = some;
+          text = of.bytes ∙ sym text_is;
+          utf8 = subst IsUtf8 (sym of.bytes) (IsUtf8-string_bytes p.text);
+          segments = of.segments;
+          pieces = of.pieces ∙ ap (pieces_of cell) (sym text_is);
+          alone = ap (λ x. ended x (marks profile cell (chars text))) (sym of.ends) ∙ ap (λ l. ended pg.end (marks profile cell l)) (sym scalars_are);
+        };
+        start = of.start ∙ sym start_is;
+        comes = comes_in;
+        counted = let first = first_is in
+            omega (arith, f.start, ap length of.bytes, first.counted);
+        near = λ next rest e.
+            (let first = first_is in
+            let begins = shows.start in
+            omega (arith, f.start, ap length of.bytes, begins, first.near next rest (sym held_is ∙ e)));
+      }
+
+      pub After-passage : AfterNext (state_with cell profile old) (state_with cell profile q) u v e e' reads reads' (Ok (Some pg))
+      After-passage =
+          let long = ap length all_is in
+          record {
+            alike = record { cell = refl; profile = refl; limit = same.limit ∙ f.limit };
+            answer = lends;
+            start = let begins = shows.start in
+                omega (arith, ap (λ g. g.given) same.feed, ap length none_held, f.start, begins, ap length of.bytes);
+            spent = same.spent ∙ f.spent;
+            settled = out;
+            got = f.got;
+            grown = all_is ∙ f.grown;
+            ahead_kept = subst (λ l. KeepsAhead None (prepend_known (state_with cell profile old).held u) (prepend_known l v)) (sym all_is) f.ahead_kept;
+            begins = subst (λ l. BeginsWith l (prepend_known (state_with cell profile old).held u)) (sym all_is) f.begins;
+            costs = record {
+              each_gave = λ open_end. omega (arith, long, f.costs.each_gave (sym ended_is ∙ open_end));
+              but_one = omega (arith, long, f.costs.but_one);
+              within = f.costs.within;
+            };
+            agrees = λ h at_end. f.agrees h (sym ended_is ∙ at_end);
+            notices = λ open_end. f.notices (sym ended_is ∙ open_end);
+            quiet = λ h. (all_is ∙ (f.quiet h).0, ended_is ∙ (f.quiet h).1, (f.quiet h).2, λ e. cc);
+          }
+
+      some_text : (l : List ℕ) → 0 < length (chars l) → 0 < length l
+      some_text [] h = absurd (let none = ap length chars-nil in omega (arith, h, none))
+      some_text (x ∷ xs) h = omega arith
+
+      pub lent_placed : IsPlaced pg
+      lent_placed =
+          let first = first_is in
+          let text_in = some_text (string_bytes p.text) first.some in
+          (omega (arith, text_in, ap length of.bytes), omega (arith, lends.start, lends.counted))
+
+      pub After-lent : AfterNext (state_with cell profile old) (state_with cell profile q) u v e e' reads reads' (Ok (Some pg)) × IsPlaced pg
+      After-lent = (After-passage, lent_placed)

@@ -1,0 +1,14 @@
+-- Lemmas that several proofs share.
+pub mod Cutting
+pub mod Marking
+pub mod Reading
+pub mod Settling
+pub mod Stopping
+pub mod Gathered
+pub mod Filling
+pub mod Giving
+pub mod Running
+pub mod Finding
+pub mod Staying
+pub mod Taking
+pub mod SegmentLemmas

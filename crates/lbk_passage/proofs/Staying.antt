@@ -1,0 +1,56 @@
+-- Scalars that stay in one paragraph, one more of them at a time.
+use Rattle.std.proofs.Common.{◌≡◌, ℕ, ◌+◌, ◌<◌, ◌≤◌, Bool, true, false, ◌&&◌, not, List, [], ◌∷◌, ◌++◌, length, get_or, Option, Some, None, encode_utf8, encode_utf8_all, refl, sym, ap, ◌∙◌, arith, length-append, append-nil, append_assoc}
+use Rattle.std.proofs.lemmas.Str.{encodes-append}
+use Rattle.lbk_rules.specs.declared.classes.Class.{Class}
+use Rattle.lbk_rules.specs.declared.cells.Cell.{Cell}
+use Rattle.lbk_passage.specs.Stays.{ends_at, stays, last_class}
+
+and-true : (a b : Bool) → a ≡ true → b ≡ true → (a && b) ≡ true
+and-true a b p q = ap (λ v. v && b) p ∙ q
+
+both-left : (a b : Bool) → (a && b) ≡ true → a ≡ true
+both-left true b h = refl
+both-left false b h = h
+
+both-right : (a b : Bool) → (a && b) ≡ true → b ≡ true
+both-right true b h = h
+both-right false true h = refl
+both-right false false h = h
+
+module _ (cell : ℕ → Cell) where
+  pub last_class-append : (last : Option Class) (xs ys : List ℕ) → last_class cell last (xs ++ ys) ≡ last_class cell (last_class cell last xs) ys
+  last_class-append last [] ys = refl
+  last_class-append last (c ∷ cs) ys = last_class-append (Some (cell c).class) cs ys
+
+  pub stays-append : (last : Option Class) (xs ys : List ℕ) → stays cell last xs ≡ true → stays cell (last_class cell last xs) ys ≡ true
+      → stays cell last (xs ++ ys) ≡ true
+  stays-append last [] ys a b = b
+  stays-append last (c ∷ cs) ys a b =
+      and-true _ _ (both-left _ _ a) (stays-append (Some (cell c).class) cs ys (both-right _ _ a) b)
+
+  pub stays-snoc : (last : Option Class) (xs : List ℕ) (c : ℕ) → stays cell last xs ≡ true
+      → ends_at (last_class cell last xs) (cell c).class ≡ false → stays cell last (xs ++ c ∷ []) ≡ true
+  stays-snoc last xs c a ends = stays-append last xs (c ∷ []) a (and-true _ _ (ap not ends) refl)
+
+-- the turn of a loop that takes a list one after another
+pub record IsTurn (all taken : List ℕ) (x : ℕ) : Type 0 where
+  pub rest : List ℕ
+  pub is : all ≡ taken ++ x ∷ rest
+
+get_or-past : (xs rest : List ℕ) (r d : ℕ) → get_or (xs ++ r ∷ rest) (length xs) d ≡ r
+get_or-past [] rest r d = refl
+get_or-past (x ∷ xs) rest r d = get_or-past xs rest r d
+
+pub turn : (all taken : List ℕ) (x : ℕ) → ((rest : List ℕ) × (taken ++ rest ≡ all)) → (length taken < length all) × (x ≡ get_or all (length taken) x)
+    → IsTurn all taken x
+turn all taken x front here = by front.0 front.1
+  where
+    by : (rest : List ℕ) → taken ++ rest ≡ all → IsTurn all taken x
+    by [] is = absurd (omega (arith, ap length (sym (append-nil taken) ∙ is), here.0))
+    by (r ∷ rest) is =
+        let same : x ≡ r = here.1 ∙ ap (λ l. get_or l (length taken) x) (sym is) ∙ get_or-past taken rest r x in
+        record { rest = rest; is = sym is ∙ ap (λ y. taken ++ y ∷ rest) (sym same) }
+
+pub length-encode_more : (xs : List ℕ) (c : ℕ) → length (encode_utf8_all (xs ++ c ∷ [])) ≡ length (encode_utf8_all xs) + length (encode_utf8 c)
+length-encode_more xs c =
+    ap length (encodes-append xs (c ∷ [])) ∙ length-append (encode_utf8_all xs) (encode_utf8_all (c ∷ [])) ∙ ap (λ l. length (encode_utf8_all xs) + length l) (append-nil (encode_utf8 c))

@@ -1,0 +1,109 @@
+-- Where a segmenter stops: by a fault of the feed, or by too long a paragraph.
+use Rattle.std.proofs.Common.{◌≡◌, ◌⊎◌, ℕ, ◌+◌, ◌-◌, ◌<◌, ◌≤◌, Bool, true, false, ◌&&◌, not, List, [], ◌∷◌, ◌++◌, length, Option, None, Some, encode_utf8, encode_utf8_all, string_bytes, IsUtf8, chars, refl, sym, ap, subst, ◌∙◌, arith, inl, inr, length-append, append_assoc, append-nil}
+use Rattle.std.proofs.Math.Utf8.{scalar, scalars}
+use Rattle.std.proofs.lemmas.Str.{scalars-chars, encodes-chars, encodes-append, IsUtf8-append}
+use Rattle.lbk_feed.specs.declared.faults.FeedFault.{FeedFault}
+use Rattle.lbk_feed.specs.declared.faults.FeedFault.TheVariants as feed_fault
+use Rattle.lbk_feed.specs.Text.{longest_text, well_formed_prefix, counted, IsNotUtf8At, IsTooLong}
+use Rattle.lbk_feed.specs.View.{View, AfterEach, IsFront, LiesIn}
+use Rattle.lbk_passage.specs.Faults.{passage_fault}
+use Rattle.lbk_passage.specs.Stays.{ends_at, stays, last_class}
+use Rattle.lbk_passage.specs.State.{State}
+use Rattle.lbk_passage.specs.Next.{Stops}
+use Rattle.lbk_passage.specs.declared.faults.PassageFault.TheVariants.{ParagraphTooLong}
+use Rattle.lbk_passage.specs.declared.paragraph.Paragraph.{Paragraph}
+use Rattle.lbk_passage.proofs.Marking.{few_passages, begins_with_all}
+use Rattle.lbk_passage.proofs.Staying.{stays-snoc, length-encode_more}
+use Rattle.lbk_passage.proofs.Finding.{Shows, IsUtf8-scalar}
+
+module _ (s : State) (p : Paragraph) (shows : Shows s p) (none : stays s.cell None (chars (string_bytes p.text)) ≡ true) where
+  text_is : encode_utf8_all (chars (string_bytes p.text)) ≡ string_bytes p.text
+  text_is = encodes-chars (string_bytes p.text) shows.text
+
+  -- what holds behind each text before the paragraph and the paragraph holds behind each text before it
+  behind : (P Q : List ℕ → Type 0) → ((used : List ℕ) → P (used ++ string_bytes p.text) → Q used) → AfterEach p.feed.given P → AfterEach s.start Q
+  behind P Q to each used utf8 long =
+      to used (each (used ++ string_bytes p.text) (IsUtf8-append used (string_bytes p.text) utf8 shows.text)
+      (length-append used (string_bytes p.text) ∙ ap (λ n. n + length (string_bytes p.text)) long ∙ shows.start))
+
+  joined : (used : List ℕ) → (used ++ string_bytes p.text) ++ p.feed.held ≡ used ++ s.held
+  joined used = append_assoc used (string_bytes p.text) p.feed.held ∙ ap (λ l. used ++ l) (sym shows.held)
+
+  all_seen : p.feed.ready ≡ [] → IsFront p.feed
+      → AfterEach s.start (λ used. used ++ encode_utf8_all (chars (string_bytes p.text)) ≡ well_formed_prefix (counted (used ++ s.held)))
+  all_seen ready front = behind
+      (λ all. all ++ p.feed.ready ≡ well_formed_prefix (counted (all ++ p.feed.held)))
+      (λ used. used ++ encode_utf8_all (chars (string_bytes p.text)) ≡ well_formed_prefix (counted (used ++ s.held)))
+      (λ used is. ap (λ l. used ++ l) text_is ∙ sym (append-nil (used ++ string_bytes p.text)) ∙ ap (λ l. (used ++ string_bytes p.text) ++ l) (sym ready)
+      ∙ is ∙ ap (λ l. well_formed_prefix (counted l)) (joined used))
+      front
+
+  short : length (encode_utf8_all (chars (string_bytes p.text))) ≤ s.limit
+  short = omega (arith, ap length text_is, shows.within)
+
+  bytes : s.held ≡ encode_utf8_all (chars (string_bytes p.text)) ++ p.feed.held
+  bytes = shows.held ∙ ap (λ l. l ++ p.feed.held) (sym text_is)
+
+  pub Stops-feed : (e : FeedFault) → ¬ (Some e ≡ Some feed_fault.Spent) → p.feed.ready ≡ [] → IsFront p.feed → LiesIn e p.feed → Stops s (passage_fault e)
+  Stops-feed feed_fault.Read unspent ready front lies = record {
+    seen = chars (string_bytes p.text);
+    rest = p.feed.held;
+    bytes = bytes;
+    text = subst IsUtf8 (sym text_is) shows.text;
+    few = few_passages s.profile s.cell (chars (string_bytes p.text)) none;
+    unfinished = λ some more. begins_with_all s.profile s.cell (chars (string_bytes p.text)) more some none;
+    all_seen = all_seen ready front;
+    lies = short;
+  }
+  Stops-feed (feed_fault.NotUtf8 at) unspent ready front lies = record {
+    seen = chars (string_bytes p.text);
+    rest = p.feed.held;
+    bytes = bytes;
+    text = subst IsUtf8 (sym text_is) shows.text;
+    few = few_passages s.profile s.cell (chars (string_bytes p.text)) none;
+    unfinished = λ some more. begins_with_all s.profile s.cell (chars (string_bytes p.text)) more some none;
+    all_seen = all_seen ready front;
+    lies = (
+      short,
+      behind (λ all. IsNotUtf8At (all ++ p.feed.held) p.feed.is_ended at) (λ used. IsNotUtf8At (used ++ s.held) s.is_ended at)
+          (λ used h. subst (λ l. IsNotUtf8At l s.is_ended at) (joined used) (subst (λ b. IsNotUtf8At ((used ++ string_bytes p.text) ++ p.feed.held) b at) (sym shows.is_ended) h)) lies,
+    );
+  }
+  Stops-feed feed_fault.TextTooLong unspent ready front lies = record {
+    seen = chars (string_bytes p.text);
+    rest = p.feed.held;
+    bytes = bytes;
+    text = subst IsUtf8 (sym text_is) shows.text;
+    few = few_passages s.profile s.cell (chars (string_bytes p.text)) none;
+    unfinished = λ some more. begins_with_all s.profile s.cell (chars (string_bytes p.text)) more some none;
+    all_seen = all_seen ready front;
+    lies = (
+      short,
+      behind (λ all. IsTooLong (all ++ p.feed.held)) (λ used. IsTooLong (used ++ s.held))
+          (λ used h. subst IsTooLong (joined used) h) lies,
+    );
+  }
+  Stops-feed feed_fault.Spent unspent ready front lies = absurd (unspent refl)
+
+  -- the next scalar goes past the limit
+  pub Stops-long : (c : ℕ) (cs behind : List ℕ) (start : ℕ) → p.feed.held ≡ encode_utf8_all (c ∷ cs) ++ behind → scalar c ≡ true
+      → ends_at (last_class s.cell None (chars (string_bytes p.text))) (s.cell c).class ≡ false
+      → s.limit < length (string_bytes p.text) + length (encode_utf8 c) → start ≡ s.start → Stops s (ParagraphTooLong start)
+  Stops-long c cs behind start held is ends over start_is =
+      let text = string_bytes p.text in
+      let seen = chars text ++ c ∷ [] in
+      let stay = stays-snoc s.cell None (chars text) c none ends in
+      let long = length-encode_more (chars text) c in
+      let spelt : encode_utf8_all seen ≡ text ++ encode_utf8 c =
+      encodes-append (chars text) (c ∷ []) ∙ ap (λ l. encode_utf8_all (chars text) ++ l) (append-nil (encode_utf8 c)) ∙ ap (λ l. l ++ encode_utf8 c) text_is in
+      record {
+        seen = seen;
+        rest = encode_utf8_all cs ++ behind;
+        bytes = shows.held ∙ ap (λ l. text ++ l) (held ∙ append_assoc (encode_utf8 c) (encode_utf8_all cs) behind)
+            ∙ sym (append_assoc text (encode_utf8 c) (encode_utf8_all cs ++ behind)) ∙ ap (λ l. l ++ (encode_utf8_all cs ++ behind)) (sym spelt);
+        text = subst IsUtf8 (sym spelt) (IsUtf8-append text (encode_utf8 c) shows.text (IsUtf8-scalar c is));
+        few = few_passages s.profile s.cell seen stay;
+        unfinished = λ some more. begins_with_all s.profile s.cell seen more some stay;
+        all_seen = tt;
+        lies = (start_is, (chars text, c, refl, short, omega (arith, ap length text_is, long, over)));
+      }

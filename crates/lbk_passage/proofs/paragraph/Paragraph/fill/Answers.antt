@@ -1,0 +1,34 @@
+use Rattle.std.proofs.Common.{◌≡◌, ◌||◌, Ok, Err, true, false, refl, sym, ap, ◌∙◌, inr}
+use Rattle.std.proofs.lemmas.Result.{err_from_is_err_and}
+use Rattle.lbk_passage.specs.State.{state_with}
+use Rattle.lbk_passage.proofs.Filling.{Fills-spent, Fills-held, Fills-gathered, Fills-ok, ends_by_fault, or-true}
+use Rattle.lbk_passage.proofs.paragraph.Paragraph.fill.Goals as goal
+
+pub returns-then-self-clause-fills : goal.returns-then-self-clause-fills
+returns-then-self-clause-fills g c = λ profile. Fills-spent (g.C.CellSource.cell_of c.args.cells.now) profile c.args.self.now _ _ _ c.if-self.true
+
+pub returns-then-self-2-clause-fills : goal.returns-then-self-2-clause-fills
+returns-then-self-2-clause-fills g c =
+    λ profile. Fills-held (g.C.CellSource.cell_of c.args.cells.now) profile c.args.self.now _ _ _ c.if-self-2.true c.if-self.false (c.requires c.if-self-2.true)
+
+pub returns-in_err-end-clause-fills : goal.returns-in_err-end-clause-fills
+returns-in_err-end-clause-fills g c = λ profile.
+    let cell = g.C.CellSource.cell_of c.args.cells.now in
+    let old = c.args.self.now in
+    let new = c.gather.new.self in
+    let p = err_from_is_err_and c.from_residual.result c.from_residual.ensures.1 in
+    let was = c.in_err-end.was ∙ ap Err (sym p.2) in
+    let gathers = rw was at c.gather.ensures.gathers in
+    let stops = gathers.stops profile in
+    let ends = ends_by_fault (state_with cell profile new) p.0 stops in
+    rw p.1 (Fills-gathered cell profile old _ _ _ _ new new _ _ _ (Err p.0) (ap (λ b. b || old.is_spent) c.if-self-2.false ∙ c.if-self.false) refl refl
+    gathers refl refl refl refl (ap (λ b. new.is_held || b) (gathers.spent ∙ ends) ∙ or-true new.is_held) c.if-self.false (inr stops))
+
+pub returns-clause-fills : goal.returns-clause-fills
+returns-clause-fills g c = λ profile.
+    let cell = g.C.CellSource.cell_of c.args.cells.now in
+    let old = c.args.self.now in
+    let new = c.gather.new.self in
+    let gathers = rw c.in_ok-end.was at c.gather.ensures.gathers in
+    Fills-ok cell profile old _ _ _ _ new _ _ _ _ c.in_ok-end.end (ap (λ b. b || old.is_spent) c.if-self-2.false ∙ c.if-self.false) refl refl
+    gathers refl refl refl refl refl c.if-self.false

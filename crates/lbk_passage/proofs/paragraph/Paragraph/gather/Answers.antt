@@ -1,0 +1,48 @@
+use Rattle.std.proofs.Common.{◌≡◌, Err, Some, refl, sym, ap, ◌∙◌}
+use Rattle.std.proofs.lemmas.Result.{err_from_is_err_and}
+use Rattle.lbk_passage.specs.Next.{failures_with, fault_in}
+use Rattle.lbk_passage.proofs.Gathered.{Gathering-none, turn-end, turn-more, turn-less, turn-line, turn-long, turn-fault}
+use Rattle.lbk_passage.proofs.paragraph.Paragraph.gather.Goals as goal
+
+pub loop-self-init : goal.loop-self-init
+loop-self-init g c = record {
+  gathering = Gathering-none (g.C.CellSource.cell_of c.args.cells.now) c.args.self.now _ _ _ c.requires.fresh c.requires.open_end c.requires.unspent;
+  failures = refl;
+}
+
+pub returns-in_err-settle-clause-gathers : goal.returns-in_err-settle-clause-gathers
+returns-in_err-settle-clause-gathers g c =
+    let p = err_from_is_err_and c.from_residual.result c.from_residual.ensures.1 in
+    rw p.1 (turn-fault (g.C.CellSource.cell_of c.args.cells.now) c.args.self.now _ _ _ c.loop-self.self c.settle.new.self c.loop-self.last _ _ _ _ _ _ c.settle.result
+    c.loop-self.invariant.gathering c.settle.ensures.settles p.0 (c.in_err-settle.was ∙ ap Err (sym p.2)))
+
+pub loop-self-smaller : goal.loop-self-smaller
+loop-self-smaller g c =
+    turn-less (g.C.CellSource.cell_of c.args.cells.now) c.args.self.now _ _ _ c.loop-self.self c.settle.new.self c.loop-self.last _ _ _ _ _ _ c.settle.result
+    c.loop-self.invariant.gathering c.settle.ensures.settles c.in_ok-settle.field-0 c.in_ok-settle.was c.if-branch.true
+    c.take-reach.new.self c.take-reach.result c.take-reach.ensures c.in-PieceEnds.is
+
+pub loop-self-preserved : goal.loop-self-preserved
+loop-self-preserved g c = record {
+  gathering = turn-more (g.C.CellSource.cell_of c.args.cells.now) c.args.self.now _ _ _ c.loop-self.self c.settle.new.self c.loop-self.last _ _ _ _ _ _ c.settle.result
+      c.loop-self.invariant.gathering c.settle.ensures.settles c.in_ok-settle.field-0 c.in_ok-settle.was c.if-branch.true
+      c.take-reach.new.self c.take-reach.result c.take-reach.ensures;
+  failures = c.settle.ensures.failures ∙ ap (λ r. failures_with (g.R.Source.failure_count c.loop-self.reader) (fault_in r)) c.in_ok-settle.was ∙ c.loop-self.invariant.failures;
+}
+
+pub returns-in-LineEnds-clause-gathers : goal.returns-in-LineEnds-clause-gathers
+returns-in-LineEnds-clause-gathers g c =
+    turn-line (g.C.CellSource.cell_of c.args.cells.now) c.args.self.now _ _ _ c.loop-self.self c.settle.new.self c.loop-self.last _ _ _ _ _ _ c.settle.result
+    c.loop-self.invariant.gathering c.settle.ensures.settles c.in_ok-settle.field-0 c.in_ok-settle.was c.if-branch.true
+    c.take-reach.new.self c.take-reach.result c.take-reach.ensures c.end_before.result c.in-LineEnds.is c.end_before.ensures
+
+pub returns-in-NoRoom-clause-gathers : goal.returns-in-NoRoom-clause-gathers
+returns-in-NoRoom-clause-gathers g c =
+    turn-long (g.C.CellSource.cell_of c.args.cells.now) c.args.self.now _ _ _ c.loop-self.self c.settle.new.self c.loop-self.last _ _ _ _ _ _ c.settle.result
+    c.loop-self.invariant.gathering c.settle.ensures.settles c.in_ok-settle.field-0 c.in_ok-settle.was c.if-branch.true
+    c.take-reach.new.self c.take-reach.result c.take-reach.ensures c.refuse.new.self c.refuse.result c.refuse.ensures.same c.in-NoRoom.is c.refuse.ensures.fault
+
+pub returns-clause-gathers : goal.returns-clause-gathers
+returns-clause-gathers g c =
+    turn-end (g.C.CellSource.cell_of c.args.cells.now) c.args.self.now _ _ _ c.loop-self.self c.settle.new.self c.loop-self.last _ _ _ _ _ _ c.settle.result
+    c.loop-self.invariant.gathering c.settle.ensures.settles c.in_ok-settle.field-0 c.in_ok-settle.was c.end_before-2.result c.if-branch.false c.end_before-2.ensures

@@ -1,0 +1,14 @@
+use Rattle.std.proofs.Common.{◌≡◌, ◌-◌, length, string_len}
+use Rattle.lbk_passage.specs.Gathering.{Gathering}
+use Rattle.lbk_passage.proofs.paragraph.Paragraph.gather.Given as goal
+
+abbrev pub invariant-loop-self : goal.invariant-loop-self
+invariant-loop-self g l = record {
+  gathering : Gathering (g.C.CellSource.cell_of l.cells) l.initial.self l.self l.last
+      (g.R.Source.unread l.initial.reader) (g.R.Source.unread l.reader) (g.R.Source.has_ended l.initial.reader) (g.R.Source.has_ended l.reader)
+      (g.R.Source.read_count l.initial.reader) (g.R.Source.read_count l.reader);
+  failures : g.R.Source.failure_count l.reader ≡ g.R.Source.failure_count l.initial.reader;
+}
+
+abbrev pub decreases-loop-self : goal.decreases-loop-self
+decreases-loop-self g l = l.self.limit - string_len l.self.text

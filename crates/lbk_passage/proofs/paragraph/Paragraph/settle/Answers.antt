@@ -1,0 +1,61 @@
+use Rattle.std.proofs.Common.{◌≡◌, None, Some, Err, ◌&&◌, not, is_err, inl, inr, arith, refl, sym, ap, ◌∙◌}
+use Rattle.lbk_feed.specs.declared.faults.FeedFault.TheVariants.{Read, Spent}
+use Rattle.lbk_feed.specs.View.{fault_of}
+use Rattle.lbk_feed.specs.View as feed
+use Rattle.lbk_passage.specs.Next.{failures_with}
+use Rattle.lbk_passage.proofs.Settling.{feed_unspent, spent_together, failures_alike}
+use Rattle.lbk_passage.proofs.paragraph.Paragraph.settle.Goals as goal
+
+pub invariant_of-self-clause-spent : goal.invariant_of-self-clause-spent
+invariant_of-self-clause-spent g c =
+    ap (λ b. c.settle-outcome.new.self.is_spent && not b) c.is_err-self.ensures.value
+    ∙ spent_together c.args.self.now.feed.is_spent c.settle-outcome.new.self.is_spent c.settle-outcome.result
+    (feed_unspent c.args.self.now.feed.is_spent c.args.self.now.is_spent c.args.self.now.spent c.requires.unspent)
+    c.settle-outcome.ensures.steps.spent
+
+pub returns-in-Ok-clause-settles : goal.returns-in-Ok-clause-settles
+returns-in-Ok-clause-settles g c = record {
+  text = refl;
+  limit = refl;
+  same_held = refl;
+  fault = None;
+  unspent = λ e. cc;
+  fault_is = refl;
+  spent = c.is_err-self.ensures.value ∙ ap is_err c.in-Ok.is;
+  steps = rw c.in-Ok.is at c.settle-outcome.ensures.steps;
+  pays = c.settle-outcome.ensures.pays;
+  agrees = c.settle-outcome.ensures.agrees;
+  notices = c.settle-outcome.ensures.notices;
+  unasked = λ h.
+      (let same = ap g.R.Source.read_count (c.settle-outcome.ensures.idle (inr (inl h))) in (omega (arith, same), λ e. cc));
+  stands = rw c.in-Ok.is at c.settle-outcome.ensures.stands;
+  ends = rw c.in-Ok.is at c.settle-outcome.ensures.ends;
+}
+
+pub returns-in-Err-clause-settles : goal.returns-in-Err-clause-settles
+returns-in-Err-clause-settles g c = record {
+  text = refl;
+  limit = refl;
+  same_held = refl;
+  fault = Some c.in-Err.fault;
+  unspent = λ e. let same : c.in-Err.fault ≡ Spent = cc in
+      let spent = c.settle-outcome.ensures.spent_only (c.in-Err.is ∙ ap Err same) in
+      let fresh = feed_unspent c.args.self.now.feed.is_spent c.args.self.now.is_spent c.args.self.now.spent c.requires.unspent in cc;
+  fault_is = ap Some c.from_feed.ensures;
+  spent = c.is_err-self.ensures.value ∙ ap is_err c.in-Err.is;
+  steps = rw c.in-Err.is at c.settle-outcome.ensures.steps;
+  pays = c.settle-outcome.ensures.pays;
+  agrees = c.settle-outcome.ensures.agrees;
+  notices = c.settle-outcome.ensures.notices;
+  unasked = λ h.
+      (let same = ap g.R.Source.read_count (c.settle-outcome.ensures.idle (inr (inl h))) in
+      (omega (arith, same), λ e. let is : c.in-Err.fault ≡ Read = cc in c.settle-outcome.ensures.read (c.in-Err.is ∙ ap Err is) (inr (inl h))));
+  stands = tt;
+  ends = tt;
+}
+
+pub returns-in-Err-clause-failures : goal.returns-in-Err-clause-failures
+returns-in-Err-clause-failures g c =
+    c.settle-outcome.ensures.failures ∙ ap (λ r. feed.failures_with (g.R.Source.failure_count c.args.reader.now) (fault_of r)) c.in-Err.is
+    ∙ failures_alike (g.R.Source.failure_count c.args.reader.now) c.in-Err.fault
+    ∙ ap (λ e. failures_with (g.R.Source.failure_count c.args.reader.now) (Some e)) (sym c.from_feed.ensures)

@@ -1,0 +1,135 @@
+use Rattle.std.proofs.Common.{◌≡◌, not, length, chars, ◌+◌, ◌≤◌, ◌||◌, Ok, Err, Some, None, true, false, is_ok, refl, sym, ap, subst, ◌∙◌, inl, inr, ⊎_elim, arith, OnOk}
+use Rattle.std.proofs.lemmas.Result.{err_from_is_err_and}
+use Rattle.lbk_passage.specs.Marks.{marks, ended}
+use Rattle.lbk_passage.specs.Segments.{segments_of}
+use Rattle.lbk_passage.specs.Pieces.{pieces_of}
+use Rattle.lbk_passage.specs.declared.faults.PassageFault.{PassageFault}
+use Rattle.lbk_passage.specs.declared.faults.PassageFault.TheVariants.{Memory, Spent}
+use Rattle.lbk_passage.specs.Next.{failures_with, fault_in}
+use Rattle.lbk_passage.specs.State.{state_with}
+use Rattle.lbk_passage.proofs.Giving.{or-cases, spent_by, After-fault, After-none, After-memory, After-lent, on_ok, ok_err}
+use Rattle.lbk_passage.proofs.Taking.{string_len-is}
+use Rattle.lbk_passage.proofs.segmenter.Segmenter.next.Goals as goal
+
+pub returns-in_err-end : goal.returns-in_err-end
+returns-in_err-end g c =
+    let cell = g.C.CellSource.cell_of c.args.self.now.cells.now in
+    let profile = c.args.self.now.profile in
+    let old = c.args.self.now.paragraph in
+    let p = c.fill.new.self in
+    let exit = err_from_is_err_and c.from_residual.result c.from_residual.ensures.1 in
+    let was = c.in_err-end.was ∙ ap Err (sym exit.2) in
+    let fills = rw was at (c.fill.ensures.fills profile) in
+    rw exit.1 (
+      (refl, (λ _. tt), After-fault cell profile old p _ _ _ _ _ _ exit.0 fills),
+      record {
+        after_borrow = tt;
+        lent = tt;
+        spent = λ spent. let told = sym was ∙ c.fill.ensures.refused spent in
+            let same : exit.0 ≡ Spent = cc in ap (λ (f : PassageFault). Err f) same;
+        spent_only = λ is. spent_by (state_with cell profile p) p old.is_spent exit.0 fills.answer (let same : exit.0 ≡ Spent = cc in same);
+        settled = λ seen. ⊎_elim (λ held. c.fill.ensures.quiet held) (λ spent. c.fill.ensures.spent spent) (or-cases old.is_held old.is_spent seen);
+        reads = omega (arith, c.fill.ensures.reads);
+        failures = c.fill.ensures.failures ∙ ap (λ r. failures_with (g.R.Source.failure_count c.args.reader.now) (fault_in r)) was;
+      },
+    )
+
+pub returns-in_default : goal.returns-in_default
+returns-in_default g c =
+    let cell = g.C.CellSource.cell_of c.args.self.now.cells.now in
+    let profile = c.args.self.now.profile in
+    let old = c.args.self.now.paragraph in
+    let p = c.fill.new.self in
+    let was = c.in_ok-end.was ∙ ap Ok c.in_default.is in
+    let fills = rw was at (c.fill.ensures.fills profile) in (
+      (refl, (λ _. tt), After-none cell profile old p _ _ _ _ _ _ fills),
+      record {
+        after_borrow = tt;
+        lent = tt;
+        spent = λ spent. absurd (let refused = c.fill.ensures.refused spent in cc);
+        spent_only = λ is. cc;
+        settled = λ seen. ⊎_elim (λ held. c.fill.ensures.quiet held) (λ spent. c.fill.ensures.spent spent) (or-cases old.is_held old.is_spent seen);
+        reads = omega (arith, c.fill.ensures.reads);
+        failures = c.fill.ensures.failures ∙ ap (λ r. failures_with (g.R.Source.failure_count c.args.reader.now) (fault_in r)) was;
+      },
+    )
+
+pub returns-then-is_err : goal.returns-then-is_err
+returns-then-is_err g c =
+    let cell = g.C.CellSource.cell_of c.args.self.now.cells.now in
+    let profile = c.args.self.now.profile in
+    let old = c.args.self.now.paragraph in
+    let p = c.fill.new.self in
+    let was = c.in_ok-end.was ∙ ap Ok c.in-Some.is in
+    let fills = rw was at (c.fill.ensures.fills profile) in (
+      (refl, (λ _. tt), After-memory cell profile old p _ _ _ _ _ _ c.in-Some.end fills),
+      record {
+        after_borrow = tt;
+        lent = tt;
+        spent = λ spent. absurd (let refused = c.fill.ensures.refused spent in cc);
+        spent_only = λ is. cc;
+        settled = λ seen. ⊎_elim (λ held. c.fill.ensures.quiet held) (λ spent. c.fill.ensures.spent spent) (or-cases old.is_held old.is_spent seen);
+        reads = omega (arith, c.fill.ensures.reads);
+        failures = c.fill.ensures.failures ∙ ap (λ r. failures_with (g.R.Source.failure_count c.args.reader.now) (fault_in r)) was;
+      },
+    )
+
+pub returns-then-is_err-2 : goal.returns-then-is_err-2
+returns-then-is_err-2 g c =
+    let cell = g.C.CellSource.cell_of c.args.self.now.cells.now in
+    let profile = c.args.self.now.profile in
+    let old = c.args.self.now.paragraph in
+    let p = c.fill.new.self in
+    let was = c.in_ok-end.was ∙ ap Ok c.in-Some.is in
+    let fills = rw was at (c.fill.ensures.fills profile) in (
+      (refl, (λ _. tt), After-memory cell profile old p _ _ _ _ _ _ c.in-Some.end fills),
+      record {
+        after_borrow = tt;
+        lent = tt;
+        spent = λ spent. absurd (let refused = c.fill.ensures.refused spent in cc);
+        spent_only = λ is. cc;
+        settled = λ seen. ⊎_elim (λ held. c.fill.ensures.quiet held) (λ spent. c.fill.ensures.spent spent) (or-cases old.is_held old.is_spent seen);
+        reads = omega (arith, c.fill.ensures.reads);
+        failures = c.fill.ensures.failures ∙ ap (λ r. failures_with (g.R.Source.failure_count c.args.reader.now) (fault_in r)) was;
+      },
+    )
+
+pub returns : goal.returns
+returns g c =
+    let cell = g.C.CellSource.cell_of c.args.self.now.cells.now in
+    let profile = c.args.self.now.profile in
+    let old = c.args.self.now.paragraph in
+    let p = c.fill.new.self in
+    let was = c.in_ok-end.was ∙ ap Ok c.in-Some.is in
+    let fills = rw was at (c.fill.ensures.fills profile) in
+    let lines : c.cut_lines.new.segments.items ≡ segments_of (ended c.in-Some.end (marks profile cell (chars c.text-text.result.now))) =
+    on_ok (c.cut_lines.new.segments.items ≡ segments_of (ended c.in-Some.end (marks profile cell (chars c.text-text.result.now))))
+    c.cut_lines.result (c.is_err.ensures.negation ∙ ap not c.if-is_err.false) c.cut_lines.ensures in
+    let words : c.cut_words.new.pieces.items ≡ pieces_of cell c.text-text.result.now =
+    on_ok (c.cut_words.new.pieces.items ≡ pieces_of cell c.text-text.result.now)
+    c.cut_words.result (c.is_err-2.ensures.negation ∙ ap not c.if-is_err-2.false) c.cut_words.ensures in
+    let given = After-lent cell profile old p _ _ _ _ _ _ c.in-Some.end fills c.release.new.self c.lend.result c.release.ensures (record {
+      start = omega (
+        arith,
+        c.lend.ensures.start,
+        ap (λ f. f.given) c.release.ensures.feed,
+        ap length c.release.ensures.text,
+        string_len-is c.release.new.self.text,
+        string_len-is p.text,
+      );
+      bytes = c.lend.ensures.text ∙ c.release.ensures.text;
+      segments = c.lend.ensures.segments ∙ lines ∙ ap (λ l. segments_of (ended c.in-Some.end (marks profile cell (chars l)))) c.text-text.ensures.text;
+      pieces = c.lend.ensures.pieces ∙ words ∙ ap (pieces_of cell) c.text-text.ensures.text;
+      ends = c.lend.ensures.end;
+    }) in (
+      (refl, (λ _. tt), given.0),
+      record {
+        after_borrow = tt;
+        lent = given.1;
+        spent = λ spent. absurd (ok_err c.fill.result (Some c.in-Some.end) Spent was (c.fill.ensures.refused spent));
+        spent_only = λ is. absurd (ok_err (Ok (Some c.lend.result)) (Some c.lend.result) Spent refl is);
+        settled = λ seen. ⊎_elim (λ held. c.fill.ensures.quiet held) (λ spent. c.fill.ensures.spent spent) (or-cases old.is_held old.is_spent seen);
+        reads = omega (arith, c.fill.ensures.reads);
+        failures = c.fill.ensures.failures ∙ ap (λ r. failures_with (g.R.Source.failure_count c.args.reader.now) (fault_in r)) was;
+      },
+    )

@@ -1,0 +1,16 @@
+-- What a reader has to believe.
+pub mod Marks
+pub mod Passages
+pub mod Breaks
+pub mod Segments
+pub mod Pieces
+pub mod State
+pub mod Shown
+pub mod Next
+pub mod Laws
+pub mod Runs
+-- What only carries proofs.
+pub mod Faults
+pub mod Stays
+pub mod Gathering
+pub mod Cuts

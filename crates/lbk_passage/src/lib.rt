@@ -1,0 +1,17 @@
+//! Passages of a text: paragraphs, their segments at line breaks (Unicode Standard Annex #14) and their words
+//! (Unicode Standard Annex #29), while only one paragraph is held.
+#![tactic(auto)]
+
+mod ends;
+mod faults;
+pub mod laws;
+mod paragraph;
+mod passage;
+mod pieces;
+mod reach;
+mod segmenter;
+mod segments;
+
+pub use faults::{LIMIT_MAX, PassageFault};
+pub use passage::{Passage, Piece, Segment};
+pub use segmenter::Segmenter;

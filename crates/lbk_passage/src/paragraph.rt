@@ -1,0 +1,176 @@
+//! The text of one paragraph, gathered from the pieces of a feed.
+
+ghost use Rattle.std.specs.Prelude.{◌≤◌, ◌≡◌, ◌&&◌, not, false, string_len, string_capacity};
+
+use crate::ends::end_before;
+use crate::faults::{PassageFault, from_feed};
+use crate::reach::{Reach, Stop, reach_in};
+use lbk_feed::{Feed, Source};
+use lbk_rules::{CellSource, Class, Verdict};
+use std::alloc::{AllocError, Global};
+
+/// The bytes of the paragraph in progress, what was read behind them, and how far the paragraph may reach.
+#[derive(Drop)]
+pub struct Paragraph {
+    feed: Feed,
+    text: String,
+    limit: u32,
+    /// The verdict at the end of the paragraph, where it is held; `None` where no text was left.
+    end: Option<Verdict>,
+    /// Whether its end was found, and it was not given.
+    is_held: bool,
+    is_spent: bool,
+    ghost few: { limit ≤ 16777216 },
+    ghost room: { limit ≤ string_capacity text },
+    ghost within: { string_len text ≤ limit },
+    ghost given: { string_len text ≤ feed.given },
+    ghost spent: { (feed.is_spent && not is_spent) ≡ false },
+}
+
+impl Paragraph {
+    ghost use Rattle.std.specs.Prelude.{ℕ, ◌-◌, ◌+◌, ◌<◌, ◌∷◌, true, [], drop, length, OnOk, IfOk, string_bytes};
+    ghost use Rattle.lbk_passage.specs.State.{state_with, new_state};
+    ghost use Rattle.lbk_passage.specs.Stays.{IsWhole};
+    ghost use Rattle.lbk_passage.specs.Gathering.{Takes, Settles, Gathering, Gathers, Fills, IsSame};
+    ghost use Rattle.lbk_passage.specs.Next.{failures_with, fault_in};
+    ghost use Rattle.lbk_rules.specs.declared.cells.Cell.{Cell};
+    ghost use Rattle.lbk_rules.specs.declared.verdicts.Profile.{Profile};
+
+    /// A paragraph of at most `limit` bytes, for which room is reserved.
+    pub fn new(alloc: Global, limit: u32) -> Result<Paragraph, AllocError>
+        requires { limit ≤ 16777216 }
+        ensures { IfOk result (λ p. (cell : ℕ → Cell) (profile : Profile) → state_with cell profile p ≡ new_state cell profile limit) }
+    {
+        Ok(Paragraph {
+            feed: Feed::new(),
+            text: String::with_capacity(alloc, limit as usize)?,
+            limit,
+            end: None,
+            is_held: false,
+            is_spent: false,
+        })
+    }
+
+    /// The bytes of the paragraph.
+    pub fn text(&self) -> &str
+        ensures text { result.now ≡ string_bytes self.now.text }
+        ensures few { length result.now ≤ self.now.limit }
+        ensures limit { self.now.limit ≤ 16777216 }
+    {
+        self.text.as_str()
+    }
+
+    /// How many bytes of the whole text stand before the paragraph.
+    pub fn start(&self) -> u64
+        ensures start { result ≡ self.now.feed.given - string_len self.now.text }
+    {
+        self.feed.given() - self.text.len() as u64
+    }
+
+    /// Lets the paragraph go, which was given.
+    pub fn release(&mut self)
+        ensures { IsSame self.old self.new false self.old.is_spent }
+    {
+        self.is_held = false;
+    }
+
+    /// Gathers the paragraph, unless it is held already, and answers the verdict at its end, or `None` where no text
+    /// is left.
+    pub fn fill<R: Source, C: CellSource>(
+        &mut self,
+        reader: &mut R,
+        cells: &C,
+    ) -> Result<Option<Verdict>, PassageFault>
+        requires { self.old.is_held ≡ true → IsWhole (C.cell_of cells.now) self.old }
+        ensures fills { (profile : Profile) → Fills (C.cell_of cells.now) profile self.old self.new
+            (R.unread reader.old) (R.unread reader.new) (R.has_ended reader.old) (R.has_ended reader.new)
+            (R.read_count reader.old) (R.read_count reader.new) result }
+        ensures whole { self.new.is_held ≡ true → IsWhole (C.cell_of cells.now) self.new }
+        ensures end { IfOk result (λ end. end ≡ self.new.end) }
+        ensures failures { R.failure_count reader.new ≡ failures_with (R.failure_count reader.old) (fault_in result) }
+        ensures reads { R.read_count reader.new ≤ R.read_count reader.old + (self.old.limit + 4) }
+        ensures quiet { self.old.is_held ≡ true → reader.new ≡ reader.old }
+        ensures spent { self.old.is_spent ≡ true → reader.new ≡ reader.old }
+        ensures refused { self.old.is_spent ≡ true → result ≡ Err PassageFault.Spent }
+    {
+        if self.is_spent {
+            return Err(PassageFault::Spent);
+        }
+        if self.is_held {
+            return Ok(self.end);
+        }
+        self.text.clear();
+        let end = self.gather(reader, cells)?;
+        self.end = end;
+        self.is_held = true;
+        Ok(end)
+    }
+
+    /// Takes pieces until a line must end before the next scalar, or no text is left.
+    fn gather<R: Source, C: CellSource>(
+        &mut self,
+        reader: &mut R,
+        cells: &C,
+    ) -> Result<Option<Verdict>, PassageFault>
+        requires fresh { string_bytes self.old.text ≡ [] }
+        requires open_end { self.old.is_held ≡ false }
+        requires unspent { self.old.is_spent ≡ false }
+        ensures gathers { Gathers (C.cell_of cells.now) self.old self.new
+            (R.unread reader.old) (R.unread reader.new) (R.has_ended reader.old) (R.has_ended reader.new)
+            (R.read_count reader.old) (R.read_count reader.new) result }
+        ensures failures { R.failure_count reader.new ≡ failures_with (R.failure_count reader.old) (fault_in result) }
+    {
+        let mut last = None;
+        while self.settle(reader)? {
+            let reach = self.take(cells, last);
+            last = reach.last;
+            match reach.stop {
+                Stop::PieceEnds => {}
+                Stop::LineEnds => return Ok(end_before(last, true)),
+                Stop::NoRoom => return Err(self.refuse()),
+            }
+        }
+        Ok(end_before(last, false))
+    }
+
+    /// Makes sure that a piece is ready, by reads where they are due, and answers whether one is.
+    fn settle<R: Source>(&mut self, reader: &mut R) -> Result<bool, PassageFault>
+        requires unspent { self.old.is_spent ≡ false }
+        ensures settles { Settles self.old self.new
+            (R.unread reader.old) (R.unread reader.new) (R.has_ended reader.old) (R.has_ended reader.new)
+            (R.read_count reader.old) (R.read_count reader.new) result }
+        ensures failures { R.failure_count reader.new ≡ failures_with (R.failure_count reader.old) (fault_in result) }
+    {
+        let outcome = self.feed.settle(reader);
+        self.is_spent = outcome.is_err();
+        match outcome {
+            Ok(stands) => Ok(stands),
+            Err(fault) => Err(from_feed(fault)),
+        }
+    }
+
+    /// Takes of the piece that is ready what belongs to the paragraph, behind a scalar of class `last`.
+    fn take<C: CellSource>(&mut self, cells: &C, last: Option<Class>) -> Reach
+        ensures { Takes (C.cell_of cells.now) last self.old self.new result }
+    {
+        let ready = self.feed.ready();
+        let room = self.limit as usize - self.text.len();
+        let reach = reach_in(cells, last, ready, room);
+        if self.text.push_str(&ready[..reach.len]).is_err() {
+            unreachable!();
+        }
+        self.feed.advance(reach.len);
+        reach
+    }
+
+    /// The fault of a paragraph that is too long.
+    fn refuse(&mut self) -> PassageFault
+        ensures same { IsSame self.old self.new self.old.is_held true }
+        ensures fault { result ≡ PassageFault.ParagraphTooLong (self.old.feed.given - string_len self.old.text) }
+    {
+        self.is_spent = true;
+        PassageFault::ParagraphTooLong {
+            start: self.start(),
+        }
+    }
+}

@@ -1,0 +1,38 @@
+//! What a segmenter gives.
+
+use lbk_rules::{Kind, Rule, Verdict};
+
+/// A passage: the text up to and with a position where a line must end (UAX #14, section 6.1), or up to the end of
+/// the whole text. It is never empty.
+#[derive(Clone, Copy, Debug)]
+pub struct Passage<'a> {
+    /// How many bytes of the whole text stand before it.
+    pub start: u64,
+    pub text: &'a str,
+    /// Its cutting at the positions where a line may or must end.
+    pub segments: &'a [Segment],
+    /// Its cutting at word boundaries (UAX #29, section 4), its text taken alone.
+    pub pieces: &'a [Piece],
+    /// What the rules say of the position after its last scalar.
+    pub end: Verdict,
+}
+
+/// A part of a passage that ends at a line break. Offsets count bytes of the passage's text.
+#[derive(Clone, Copy, PartialEq, Eq, Debug)]
+pub struct Segment {
+    pub start: u32,
+    pub end: u32,
+    /// The kind of the break at its end.
+    pub kind: Kind,
+    /// The rule that decided there.
+    pub rule: Rule,
+}
+
+/// A part of a passage between two word boundaries. Offsets count bytes of the passage's text.
+#[derive(Clone, Copy, PartialEq, Eq, Debug)]
+pub struct Piece {
+    pub start: u32,
+    pub end: u32,
+    /// Whether it holds a letter or a number: a scalar whose cell has `letter`.
+    pub word: bool,
+}

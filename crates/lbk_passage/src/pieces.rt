@@ -1,0 +1,37 @@
+//! The pieces of a passage.
+
+ghost use Rattle.std.specs.Prelude.{◌≡◌, ◌<◌, ◌^◌, length, OnOk};
+ghost use Rattle.lbk_passage.specs.Pieces.{is_word, pieces_of};
+
+use crate::passage::Piece;
+use lbk_rules::CellSource;
+use std::alloc::AllocError;
+use unicode_segmentation::UnicodeSegmentation;
+
+/// Writes the pieces of a text in place of what the list held (UAX #29, section 4). Where memory could not grow the
+/// list holds some of them.
+pub fn cut_words<C: CellSource>(
+    cells: &C,
+    text: &str,
+    pieces: &mut Vec<Piece>,
+) -> Result<(), AllocError>
+    requires { length text.now < 2 ^ 32 }
+    ensures { OnOk result (pieces.new.items ≡ pieces_of (C.cell_of cells.now) text.now) }
+{
+    pieces.clear();
+    let mut start = 0;
+    for piece in text.split_word_bounds() {
+        let end = start + piece.len() as u32;
+        let word = is_word(cells, piece);
+        pieces.push(Piece { start, end, word })?;
+        start = end;
+    }
+    Ok(())
+}
+
+/// Whether a piece holds a letter or a number.
+fn is_word<C: CellSource>(cells: &C, piece: &str) -> bool
+    ensures { result ≡ is_word (C.cell_of cells.now) piece.now }
+{
+    piece.chars().any(|c| cells.cell(c).letter)
+}

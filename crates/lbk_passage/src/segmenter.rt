@@ -1,0 +1,112 @@
+//! The passages of a text, one after another.
+
+ghost use Rattle.std.specs.Prelude.{◌≡◌, [], ◌≤◌, ◌<◌, ◌+◌, ◌^◌, ◌↔◌, ◌⊎◌, ◌-◌, true, length, string_len, string_bytes, IfOk, IfErr, IfSome, OnOk, IsErrOf};
+ghost use Rattle.std.specs.Borrow.{sem};
+ghost use Rattle.std.specs.Io.BufRead.{Rests};
+ghost use Rattle.std.specs.Str.{chars};
+ghost use Rattle.lbk_passage.specs.Stays.{IsWhole};
+
+use crate::faults::{LIMIT_MAX, PassageFault};
+use crate::paragraph::Paragraph;
+use crate::passage::{Passage, Piece, Segment};
+use crate::pieces::cut_words;
+use crate::segments::cut_lines;
+use lbk_feed::Source;
+use lbk_rules::{CellSource, Profile, Verdict};
+use std::alloc::{AllocError, Global};
+
+/// Cuts a text of any length into passages, of which it holds one at a time.
+///
+/// One reader serves all calls. The text of a paragraph has at most as many bytes as the limit says.
+#[derive(Drop)]
+pub struct Segmenter<'a, C: CellSource> {
+    cells: &'a C,
+    profile: Profile,
+    paragraph: Paragraph,
+    segments: Vec<Segment>,
+    pieces: Vec<Piece>,
+    ghost whole: { paragraph.is_held ≡ true → IsWhole (C.cell_of cells.now) paragraph },
+}
+
+impl<'a, C: CellSource> Segmenter<'a, C> {
+    ghost use Rattle.lbk_passage.specs.State.{IsLimit, new_state};
+    ghost use Rattle.lbk_passage.specs.Shown.{state_of};
+    ghost use Rattle.lbk_passage.specs.Next.{AfterNext, IsPlaced, fault_in, failures_with};
+    ghost use Rattle.lbk_passage.specs.contracts.segmenter.Segmenter.{the_row};
+    ghost use mir.Syntax.{named};
+
+    /// A segmenter that has read nothing. It reserves room for the `limit` bytes of one paragraph and nothing else.
+    ///
+    /// `Limit` comes exactly where the limit is not 1 to 16,777,216, `Memory` where the room could not be had.
+    pub fn new(
+        alloc: Global,
+        cells: &'a C,
+        limit: u32,
+        profile: Profile,
+    ) -> Result<Segmenter<'a, C>, PassageFault>
+        ensures limit { IsErrOf result PassageFault.Limit ↔ (¬ (IsLimit limit)) }
+        ensures only { IfErr result (λ fault. (fault ≡ PassageFault.Limit) ⊎ (fault ≡ PassageFault.Memory)) }
+        ensures state { IfOk result (λ s. state_of C.cell_of s ≡ new_state (C.cell_of cells.now) profile limit) }
+    {
+        if limit == 0 || limit > LIMIT_MAX {
+            return Err(PassageFault::Limit);
+        }
+        let Ok(paragraph) = Paragraph::new(alloc, limit) else {
+            return Err(PassageFault::Memory);
+        };
+        Ok(Segmenter {
+            cells,
+            profile,
+            paragraph,
+            segments: Vec::new(alloc),
+            pieces: Vec::new(alloc),
+        })
+    }
+
+    /// The next passage, or `None` at the end of the text and from then on.
+    pub fn next<R: Source>(&mut self, reader: &mut R) -> Result<Option<Passage<'_>>, PassageFault>
+        ensures* after_borrow { sem 𝓛 (Rests (the_row (record { mir = named 1; lft = [] }) C.row C.CellSource) self.entry (λ new.
+            AfterNext (state_of C.cell_of self.old) (state_of C.cell_of new) (R.unread reader.old) (R.unread reader.new)
+            (R.has_ended reader.old) (R.has_ended reader.new)
+            (R.read_count reader.old) (R.read_count reader.new) result)) }
+
+        ensures lent { IfOk result (λ o. IfSome o IsPlaced) }
+        ensures spent { (state_of C.cell_of self.old).is_spent ≡ true → result ≡ Err PassageFault.Spent }
+        ensures spent_only { result ≡ Err PassageFault.Spent → (state_of C.cell_of self.old).is_spent ≡ true }
+        // Where the answer was seen before, or a fault was answered, no read is made.
+        ensures settled { (state_of C.cell_of self.old).is_settled ≡ true → reader.new ≡ reader.old }
+        ensures reads { R.read_count reader.new ≤ R.read_count reader.old + ((state_of C.cell_of self.old).limit + 8) }
+        // `Read` is the answer exactly where a read failed.
+        ensures failures { R.failure_count reader.new ≡ failures_with (R.failure_count reader.old) (fault_in result) }
+    {
+        let Some(end) = self.paragraph.fill(reader, self.cells)? else {
+            return Ok(None);
+        };
+        let text = self.paragraph.text();
+        if cut_lines(self.cells, self.profile, text, end, &mut self.segments).is_err() {
+            return Err(PassageFault::Memory);
+        }
+        if cut_words(self.cells, text, &mut self.pieces).is_err() {
+            return Err(PassageFault::Memory);
+        }
+        self.paragraph.release();
+        Ok(Some(self.lend(end)))
+    }
+
+    /// The paragraph as a passage.
+    fn lend(&self, end: Verdict) -> Passage<'_>
+        ensures start { result.start ≡ self.now.paragraph.feed.given - string_len self.now.paragraph.text }
+        ensures text { result.text.now ≡ string_bytes self.now.paragraph.text }
+        ensures segments { result.segments.now ≡ self.now.segments.items }
+        ensures pieces { result.pieces.now ≡ self.now.pieces.items }
+        ensures end { result.end ≡ end }
+    {
+        Passage {
+            start: self.paragraph.start(),
+            text: self.paragraph.text(),
+            segments: &self.segments,
+            pieces: &self.pieces,
+            end,
+        }
+    }
+}

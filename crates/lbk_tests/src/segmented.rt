@@ -1,0 +1,193 @@
+//! The segments and pieces that a segmenter gives over the sample files, in both profiles and however the reads are
+//! cut.
+
+use lbk_cmd::{SAMPLE_FILES, read_cells};
+use lbk_feed::devices::MemorySource;
+use lbk_passage::{Passage, Segment, Segmenter};
+use lbk_rules::{CellPages, Kind, Profile, Rule};
+use std::alloc::{AllocError, Global};
+use std::fmt::Write;
+use std::process::Abort;
+use std::test::Fail;
+
+const LIMIT: u32 = 65_536;
+
+/// A text, and of each of its passages: `P`, its start, its length and the rule at its end; `S`, start, end, kind and
+/// rule of a segment; `W`, start and end of a word; `p`, those of another piece.
+type Row = (&'static str, &'static [&'static str]);
+
+/// What both profiles say.
+const BOTH: [Row; 10] = [
+    ("", &[]),
+    (
+        "ab cd",
+        &["P 0 5 3 S 0 3 May 18 S 3 5 Must 3 W 0 2 p 2 3 W 3 5"],
+    ),
+    (
+        "a\r\nb",
+        &[
+            "P 0 3 5 S 0 3 Must 5 W 0 1 p 1 3",
+            "P 3 1 3 S 0 1 Must 3 W 0 1",
+        ],
+    ),
+    (
+        "\n\n",
+        &["P 0 1 5 S 0 1 Must 5 p 0 1", "P 1 1 3 S 0 1 Must 3 p 0 1"],
+    ),
+    ("can't", &["P 0 5 3 S 0 5 Must 3 W 0 5"]),
+    ("1,2", &["P 0 3 3 S 0 3 Must 3 W 0 3"]),
+    ("$ !", &["P 0 3 3 S 0 3 Must 3 p 0 1 p 1 2 p 2 3"]),
+    (
+        "e\u{301} b",
+        &["P 0 5 3 S 0 4 May 18 S 4 5 Must 3 W 0 3 p 3 4 W 4 5"],
+    ),
+    (
+        "a \u{2019}\u{301}b",
+        &["P 0 8 3 S 0 2 May 18 S 2 8 Must 3 W 0 1 p 1 2 p 2 7 W 7 8"],
+    ),
+    (
+        "a \u{2019}a \u{2019}b\nc",
+        &[
+            "P 0 12 5 S 0 2 May 18 S 2 7 May 18 S 7 12 Must 5 W 0 1 p 1 2 p 2 5 W 5 6 p 6 7 p 7 10 W 10 11 p 11 12",
+            "P 12 1 3 S 0 1 Must 3 W 0 1",
+        ],
+    ),
+];
+
+/// What the first says.
+const FIRST: [Row; 3] = [
+    (
+        "a \u{2019}\u{301},",
+        &["P 0 8 3 S 0 2 May 18 S 2 8 Must 3 W 0 1 p 1 2 p 2 7 p 7 8"],
+    ),
+    (
+        "a \u{2019}",
+        &["P 0 5 3 S 0 2 May 18 S 2 5 Must 3 W 0 1 p 1 2 p 2 5"],
+    ),
+    (
+        "\u{2018} a",
+        &["P 0 5 3 S 0 4 May 18 S 4 5 Must 3 p 0 3 p 3 4 W 4 5"],
+    ),
+];
+
+/// What the second says.
+const SECOND: [Row; 6] = [
+    (
+        "a \u{2019}\u{301},",
+        &["P 0 8 3 S 0 8 Must 3 W 0 1 p 1 2 p 2 7 p 7 8"],
+    ),
+    ("a \u{2019}", &["P 0 5 3 S 0 5 Must 3 W 0 1 p 1 2 p 2 5"]),
+    ("\u{2018} a", &["P 0 5 3 S 0 5 Must 3 p 0 3 p 3 4 W 4 5"]),
+    (
+        "a\u{2019}\u{200D}\u{301},",
+        &["P 0 10 3 S 0 10 Must 3 W 0 1 p 1 9 p 9 10"],
+    ),
+    (
+        "a\u{2019}\u{2019}a",
+        &["P 0 8 3 S 0 8 Must 3 W 0 1 p 1 4 p 4 7 W 7 8"],
+    ),
+    (
+        "a \u{2019}\nb",
+        &[
+            "P 0 6 5 S 0 6 Must 5 W 0 1 p 1 2 p 2 5 p 5 6",
+            "P 6 1 3 S 0 1 Must 3 W 0 1",
+        ],
+    ),
+];
+
+/// What is told of a passage.
+fn told(alloc: Global, passage: &Passage<'_>) -> Result<String, AllocError> {
+    let mut line = String::new(alloc);
+    let end = passage.end.rule.label();
+    write!(line, "P {} {} {}", passage.start, passage.text.len(), end)?;
+    for segment in passage.segments {
+        let (start, end, kind) = (segment.start, segment.end, segment.kind);
+        write!(line, " S {start} {end} {kind:?} {}", segment.rule.label())?;
+    }
+    for piece in passage.pieces {
+        let name = if piece.word { 'W' } else { 'p' };
+        write!(line, " {name} {} {}", piece.start, piece.end)?;
+    }
+    Ok(line)
+}
+
+/// Runs a segmenter over the text in reads of the sizes, and compares its passages.
+fn check(
+    rt: &impl Abort,
+    alloc: Global,
+    cells: &CellPages,
+    profile: Profile,
+    sizes: &[usize],
+    row: &Row,
+) -> Result<(), Fail> {
+    let mut source = MemorySource::cut(row.0.as_bytes(), sizes);
+    let mut segmenter = Segmenter::new(alloc, cells, LIMIT, profile)?;
+    for want in row.1 {
+        match segmenter.next(&mut source) {
+            Ok(Some(passage)) => assert_eq!(rt; told(alloc, &passage)?.as_str(), *want),
+            other => assert!(rt; false, "{other:?} in {row:?}"),
+        }
+    }
+    for _ in 0..2 {
+        let last = segmenter.next(&mut source);
+        assert!(rt; matches!(last, Ok(None)), "{last:?} after {row:?}");
+    }
+    Ok(())
+}
+
+const CUTTINGS: [&[usize]; 6] = [&[1], &[2], &[3], &[7], &[4096], &[]];
+
+#[test]
+fn segments(rt: HostRuntime) -> Result<(), Fail> {
+    let cells = read_cells(rt.alloc(), SAMPLE_FILES)?;
+    for sizes in CUTTINGS {
+        for row in &BOTH {
+            check(&rt, rt.alloc(), &cells, Profile::First, sizes, row)?;
+            check(&rt, rt.alloc(), &cells, Profile::Second, sizes, row)?;
+        }
+        for row in &FIRST {
+            check(&rt, rt.alloc(), &cells, Profile::First, sizes, row)?;
+        }
+        for row in &SECOND {
+            check(&rt, rt.alloc(), &cells, Profile::Second, sizes, row)?;
+        }
+    }
+    Ok(())
+}
+
+fn check_many(
+    rt: &impl Abort,
+    alloc: Global,
+    cells: &CellPages,
+    profile: Profile,
+    text: &[u8],
+) -> Result<(), Fail> {
+    let mut source = MemorySource::new(text);
+    let mut segmenter = Segmenter::new(alloc, cells, LIMIT, profile)?;
+    let passage = segmenter.next(&mut source)?.ok_or("no passage")?;
+    assert_eq!(rt; passage.text.len(), 4000);
+    assert_eq!(rt; passage.segments.len(), 2000);
+    assert_eq!(rt; passage.pieces.len(), 4000);
+    let last = Segment {
+        start: 3998,
+        end: 4000,
+        kind: Kind::Must,
+        rule: Rule::Lb3,
+    };
+    assert_eq!(rt; passage.segments[1999], last);
+    assert!(rt; segmenter.next(&mut source)?.is_none());
+    Ok(())
+}
+
+#[test]
+fn many_segments(rt: HostRuntime) -> Result<(), Fail> {
+    let cells = read_cells(rt.alloc(), SAMPLE_FILES)?;
+    let mut text = Vec::new(rt.alloc());
+    for _ in 0..2000 {
+        text.extend_from_slice(b"a ")?;
+    }
+    for profile in [Profile::First, Profile::Second] {
+        check_many(&rt, rt.alloc(), &cells, profile, &text)?;
+    }
+    Ok(())
+}

@@ -1,0 +1,23 @@
+-- Rows in the order of their codes, rows laid over others, and the marks of the codes that rows hold.
+use Rattle.std.specs.Prelude.{ℕ, false, Bool, ◌<◌, ◌≤◌, ◌≡◌, List, slice_index_or}
+use Rattle.std.specs.Option.{option_or}
+use Rattle.std.specs.List.{All, AllPairs, list_any}
+use Rattle.lbk_ucd.specs.declared.rows.Row.{Row}
+use Rattle.lbk_ucd.specs.Rows.{holds, first_value}
+
+-- a row does not end before it begins, and ends within the codes
+abbrev pub IsRange : {V : Type 0} → Row V → Type 0
+IsRange row = (row.first ≤ row.last) × (row.last ≤ 0x10FFFF)
+
+-- each row is such, and ends before the next begins
+pub record IsInOrder {V : Type 0} (rows : List (Row V)) : Type 0 where
+  pub each : All IsRange rows
+  pub apart : AllPairs (λ row later. row.last < later.first) rows
+
+-- a code has in the result its value of over, or else that of under
+abbrev pub IsOverlay : {V : Type 0} → List (Row V) → List (Row V) → List (Row V) → Type 0
+IsOverlay under over result = (code : ℕ) → first_value code result ≡ option_or (first_value code over) (first_value code under)
+
+-- a code is marked exactly if a row holds it
+abbrev pub AreMarked : {V : Type 0} → List (Row V) → List Bool → Type 0
+AreMarked rows marks = (code : ℕ) → slice_index_or marks code false ≡ list_any (holds code) rows

@@ -1,0 +1,118 @@
+//! What the lines of one file have given so far.
+ghost use Rattle.std.specs.Prelude.{◌≡◌, ◌+◌, ◌<◌, ◌≤◌, ℕ, false, [], ◌∷◌, ◌++◌, length, not, nat_lt, IfOk, OnOk, OnErr};
+ghost use Rattle.std.specs.List.{All, AllPairs, list_any};
+ghost use Rattle.lbk_ucd.specs.Ranges.{AreMarked, IsRange};
+ghost use Rattle.lbk_ucd.specs.Rows.{shares, AreApart, value_at};
+ghost use Rattle.lbk_ucd.specs.declared.gathered.TheConstants.{MOST_ROWS};
+
+use crate::overlay::{flatten, overlay};
+use crate::rows::{Assigned, Row};
+use crate::taken::Taken;
+use std::alloc::{AllocError, Global};
+
+/// How many kept rows and defaults a file has at most.
+pub(crate) const MOST_ROWS: usize = 65_536;
+
+/// The kept rows and the default lines so far, in the order of the file, and the value of the codes that neither
+/// holds. `taken` has the codes that rows hold.
+#[derive(Drop)]
+pub(crate) struct Gathered<V> {
+    pub(crate) rows: Vec<Row<V>>,
+    pub(crate) defaults: Vec<Row<V>>,
+    pub(crate) unlisted: V,
+    taken: Taken,
+    ghost ranges: { All IsRange rows.items },
+    ghost default_ranges: { All IsRange defaults.items },
+    ghost apart: { AllPairs AreApart rows.items },
+    ghost marked: { AreMarked rows.items taken.marks.items },
+    ghost few: { length rows.items + length defaults.items ≤ MOST_ROWS },
+}
+
+impl<V: Copy> Gathered<V> {
+    ghost use Rattle.lbk_ucd.specs.Reading.{count_of};
+    ghost use Rattle.lbk_ucd.specs.Tables.{value_of};
+
+    /// Nothing yet.
+    pub(crate) fn new(alloc: Global, unlisted: V) -> Self
+        ensures rows { result.rows.items ≡ [] }
+        ensures defaults { result.defaults.items ≡ [] }
+        ensures unlisted { result.unlisted ≡ unlisted }
+    {
+        Gathered {
+            rows: Vec::new(alloc),
+            defaults: Vec::new(alloc),
+            unlisted,
+            taken: Taken::new(alloc),
+        }
+    }
+
+    /// How many rows and defaults there are.
+    pub(crate) fn count(&self) -> usize
+        ensures count { result ≡ count_of self.now }
+        ensures most { result ≤ MOST_ROWS }
+    {
+        self.rows.len() + self.defaults.len()
+    }
+
+    /// Whether there is room for no further row or default.
+    pub(crate) fn is_full(&self) -> bool
+        ensures { result ≡ not (nat_lt (count_of self.now) MOST_ROWS) }
+    {
+        self.rows.len() + self.defaults.len() >= MOST_ROWS
+    }
+
+    /// Whether a row shares a code with the codes from `first` to `last`.
+    pub(crate) fn any_shares(&self, first: u32, last: u32) -> bool
+        requires rises { first ≤ last }
+        requires last { last ≤ 0x10FFFF }
+        ensures { result ≡ list_any (shares first last) self.now.rows.items }
+    {
+        self.taken.any(first, last)
+    }
+
+    /// Keeps a row that shares no code with those kept.
+    pub(crate) fn add_row(&mut self, row: Row<V>) -> Result<(), AllocError>
+        requires range { IsRange row }
+        requires apart { list_any (shares row.first row.last) self.old.rows.items ≡ false }
+        requires room { count_of self.old < MOST_ROWS }
+        ensures ok { OnOk result (self.new.rows.items ≡ self.old.rows.items ++ row ∷ []) }
+        ensures defaults { self.new.defaults.items ≡ self.old.defaults.items }
+        ensures unlisted { self.new.unlisted ≡ self.old.unlisted }
+    {
+        self.taken.reserve()?;
+        self.rows.push(row)?;
+        self.taken.add(row.first, row.last);
+        Ok(())
+    }
+
+    /// Keeps a default line behind those kept.
+    pub(crate) fn add_default(&mut self, row: Row<V>) -> Result<(), AllocError>
+        requires range { IsRange row }
+        requires room { count_of self.old < MOST_ROWS }
+        ensures ok { OnOk result (self.new.defaults.items ≡ self.old.defaults.items ++ row ∷ []) }
+        ensures rows { self.new.rows.items ≡ self.old.rows.items }
+        ensures unlisted { self.new.unlisted ≡ self.old.unlisted }
+    {
+        self.defaults.push(row)?;
+        Ok(())
+    }
+
+    /// What the rows and defaults assign to codes. Where there are none, no memory is taken.
+    pub(crate) fn assigned(&self, alloc: Global) -> Result<Assigned<V>, AllocError>
+        ensures values { IfOk result (λ assigned. (code : ℕ) → value_of assigned code ≡ value_at self.now.rows.items self.now.defaults.items self.now.unlisted code) }
+        ensures refused { OnErr result (0 < count_of self.now) }
+    {
+        if self.count() == 0 {
+            return Ok(Assigned {
+                rows: Vec::new(alloc),
+                unlisted: self.unlisted,
+            });
+        }
+        let defaults = flatten(alloc, &self.defaults)?;
+        let rows = flatten(alloc, &self.rows)?;
+        Ok(Assigned {
+            rows: overlay(alloc, &defaults, &rows)?,
+            unlisted: self.unlisted,
+        })
+    }
+}

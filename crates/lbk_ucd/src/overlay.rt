@@ -1,0 +1,86 @@
+//! Ranges of codes that may share codes, made into ranges that share none.
+ghost use Rattle.std.specs.Prelude.{◌≡◌, ◌≤◌, ◌<◌, ℕ, true, false, length, reverse, IfOk};
+ghost use Rattle.std.specs.List.{All, AllWithin};
+ghost use Rattle.lbk_ucd.specs.Ranges.{IsInOrder, IsOverlay, IsRange};
+ghost use Rattle.lbk_ucd.specs.Rows.{first_value};
+
+use crate::rows::{LAST_CODE, Row, stretch_from};
+use std::alloc::{AllocError, Global};
+
+/// Rows that share no code, sorted by their codes, in which a code has the value of the last of these rows that holds it.
+pub(crate) fn flatten<V: Copy>(alloc: Global, rows: &[Row<V>]) -> Result<Vec<Row<V>>, AllocError>
+    requires { All IsRange rows.now }
+    ensures ordered { IfOk result (λ flat. IsInOrder flat.items) }
+    ensures values { IfOk result (λ flat. (code : ℕ) → first_value code flat.items ≡ first_value code (reverse rows.now)) }
+{
+    if are_in_order(rows) {
+        return Vec::from_slice(alloc, rows);
+    }
+    let (earlier, later) = rows.split_at(rows.len() / 2);
+    let under = flatten(alloc, earlier)?;
+    let over = flatten(alloc, later)?;
+    overlay(alloc, &under, &over)
+}
+
+/// Sorted rows in which a code has its value of `over`, or else that of `under`.
+pub(crate) fn overlay<V: Copy>(
+    alloc: Global,
+    under: &[Row<V>],
+    over: &[Row<V>],
+) -> Result<Vec<Row<V>>, AllocError>
+    requires under { IsInOrder under.now }
+    requires over { IsInOrder over.now }
+    ensures ordered { IfOk result (λ rows. IsInOrder rows.items) }
+    ensures values { IfOk result (λ rows. IsOverlay under.now over.now rows.items) }
+{
+    let mut rows = Vec::new(alloc);
+    let mut from = 0;
+    let mut low = 0;
+    let mut high = 0;
+    while from <= LAST_CODE {
+        low = next_from(under, low, from);
+        high = next_from(over, high, from);
+        let below = stretch_from(under, low, from);
+        let above = stretch_from(over, high, from);
+        let last = below.last.min(above.last);
+        if let Some(value) = above.value.or(below.value) {
+            rows.push(Row {
+                first: from,
+                last,
+                value,
+            })?;
+        }
+        from = last + 1;
+    }
+    Ok(rows)
+}
+
+/// The place of the first row that doesn't end before a code, where those before `at` do.
+fn next_from<V: Copy>(rows: &[Row<V>], at: usize, code: u32) -> usize
+    requires ordered { IsInOrder rows.now }
+    requires within { at ≤ length rows.now }
+    requires before { AllWithin (λ row. row.last < code) rows.now 0 at }
+    ensures within { result ≤ length rows.now }
+    ensures before { AllWithin (λ row. row.last < code) rows.now 0 result }
+    ensures after { AllWithin (λ row. code ≤ row.last) rows.now result (length rows.now) }
+{
+    let mut next = at;
+    while next < rows.len() && rows[next].last < code {
+        next += 1;
+    }
+    next
+}
+
+/// Whether each row ends before the next begins.
+fn are_in_order<V: Copy>(rows: &[Row<V>]) -> bool
+    requires { All IsRange rows.now }
+    ensures yes { result ≡ true → IsInOrder rows.now }
+    ensures no { result ≡ false → 2 ≤ length rows.now }
+{
+    for next in 1..rows.len() {
+        if rows[next].first <= rows[next - 1].last {
+            return false;
+        }
+    }
+    true
+}
