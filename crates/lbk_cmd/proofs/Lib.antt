@@ -1,4 +1,6 @@
 pub mod Deciding
 pub mod LineWriting
+pub mod PassageLines
 pub mod Running
 pub mod Stopping
+pub mod Looping

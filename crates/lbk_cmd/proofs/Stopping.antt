@@ -35,6 +35,9 @@ module _ (e : Engine) where
     within = tt;
   }
 
+  pub settled_none : IsSettled e [] []
+  settled_none = record { scalars = []; rest = []; begins = refl; utf8 = IsUtf8-nil; given = []; are = none_given; is = refl }
+
   module _ (s : State) (bytes out : List ℕ) (st : Standing e s bytes out) where
     -- nothing was given
     settled_fresh : st.given ≡ [] → IsSettled e bytes out
@@ -240,8 +243,9 @@ module _ (e : Engine) where
       }
 
       -- by the fault that a call answered
-      pub run_fault : (why : PassageFault) (a : AfterNext s t u v e1 e2 r1 r2 (Err why)) → (t.is_ended ≡ true → e2 ≡ true)
-          → IsRun {X = Unit {0}} e e2 (Err (Passage why)) (bytes ++ a.got) out
+      pub run_fault : {X : Type 0} (why : PassageFault) (a : AfterNext s t u v e1 e2 r1 r2 (Err why)) → (t.is_ended ≡ true → e2 ≡ true)
+          → IsRun {X = X} e e2 (Err (Passage why)) (bytes ++ a.got) out
+      unfolding used settled
       run_fault fault.Limit a notices = absurd a.answer.lies
       run_fault fault.Memory a notices = settled_more (bytes ++ a.got) a.got refl (run_memory a)
         where
