@@ -3,6 +3,7 @@
 
 use lbk_cmd::{SAMPLE_FILES, read_cells, show};
 use lbk_feed::Device;
+use lbk_rules::Profile;
 use std::env;
 use std::fmt::Display;
 use std::io::ErrorKind;
@@ -30,7 +31,14 @@ fn run(rt: &HostRuntime) -> ExitCode {
     };
     let mut reader = Device::new(rt.stdin());
     let mut writer = Device::new(rt.stdout());
-    match show(rt.alloc(), &mut reader, &mut writer, &cells, LIMIT) {
+    match show(
+        rt.alloc(),
+        &mut reader,
+        &mut writer,
+        &cells,
+        LIMIT,
+        Profile::First,
+    ) {
         Ok(()) => ExitCode::SUCCESS,
         Err(fault) => ended(rt, fault, REFUSED),
     }

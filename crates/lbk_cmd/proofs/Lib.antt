@@ -4,3 +4,4 @@ pub mod PassageLines
 pub mod Running
 pub mod Stopping
 pub mod Looping
+pub mod Known

@@ -1,5 +1,5 @@
 -- The loop of an engine: what was read and what was written, from passage to passage.
-use Rattle.std.proofs.Common.{◌≡◌, ℕ, ◌+◌, ◌-◌, ◌<◌, ◌≤◌, Bool, true, false, ◌||◌, List, [], ◌∷◌, ◌++◌, length, take, Option, None, Some, Result, Ok, Err, refl, sym, ap, subst, ◌∙◌, arith, ⊎_elim, length-append, append_assoc, append-nil}
+use Rattle.std.proofs.Common.{◌≡◌, ℕ, ◌+◌, ◌-◌, ◌<◌, ◌≤◌, Bool, true, false, ◌||◌, ◌⊎◌, List, [], ◌∷◌, ◌++◌, length, take, Option, None, Some, Result, Ok, Err, refl, sym, ap, subst, ◌∙◌, arith, ⊎_elim, length-append, append_assoc, append-nil}
 use Rattle.std.proofs.Math.Seq.{take-append-add, take-append_seam}
 use Rattle.std.proofs.lemmas.Bool.{cases_lt, false≢true}
 use Rattle.std.proofs.lemmas.List.{append_cancel_left}
@@ -16,6 +16,7 @@ use Rattle.lbk_passage.specs.declared.faults.PassageFault.{PassageFault}
 use Rattle.lbk_passage.specs.declared.faults.PassageFault.TheVariants as fault
 use Rattle.lbk_passage.specs.declared.passage.Passage.{Passage}
 use Rattle.lbk_cmd.specs.Run.{Engine, IsRun, IsSettled, IsWhole, is_failed_read}
+use Rattle.lbk_cmd.specs.declared.faults.CmdFault.{CmdFault}
 use Rattle.lbk_cmd.specs.declared.faults.CmdFault.TheVariants as cmd
 use Rattle.lbk_cmd.proofs.Running.{Standing, Standing-new, Standing-next, given_now, passage_now, start_now}
 use Rattle.lbk_cmd.proofs.Stopping.{stopped, run_whole, run_fault, settled_none}
@@ -50,15 +51,15 @@ module _ (held held' got : List ℕ) (grown : held' ≡ held ++ got) where
   told_took (Some xs) (Some ys) told = sym (behind xs ys (sym told))
 
 -- what a call that answered a fault took from its reader
-took_fault : {X : Type 0} (s t : State) (u v : Option (List ℕ)) (e1 e2 : Bool) (r1 r2 : ℕ) (why : PassageFault) (a : AfterNext s t u v e1 e2 r1 r2 (Err why))
+took_fault : (X : Type 0) (s t : State) (u v : Option (List ℕ)) (e1 e2 : Bool) (r1 r2 : ℕ) (why : PassageFault) (a : AfterNext s t u v e1 e2 r1 r2 (Err why))
     → Took (is_failed_read {X = X} (Err (cmd.Passage why))) u v a.got
-took_fault s t u v e1 e2 r1 r2 fault.Limit a = kept_took _ _ _ a.grown u v a.ahead_kept
-took_fault s t u v e1 e2 r1 r2 fault.Memory a = kept_took _ _ _ a.grown u v a.ahead_kept
-took_fault s t u v e1 e2 r1 r2 fault.Read a = (begun_took _ _ _ a.grown u a.begins, told_took _ _ _ a.grown u v a.ahead_kept)
-took_fault s t u v e1 e2 r1 r2 (fault.NotUtf8 at) a = kept_took _ _ _ a.grown u v a.ahead_kept
-took_fault s t u v e1 e2 r1 r2 fault.TextTooLong a = kept_took _ _ _ a.grown u v a.ahead_kept
-took_fault s t u v e1 e2 r1 r2 (fault.ParagraphTooLong start) a = kept_took _ _ _ a.grown u v a.ahead_kept
-took_fault s t u v e1 e2 r1 r2 fault.Spent a = kept_took _ _ _ a.grown u v a.ahead_kept
+took_fault X s t u v e1 e2 r1 r2 fault.Limit a = kept_took _ _ _ a.grown u v a.ahead_kept
+took_fault X s t u v e1 e2 r1 r2 fault.Memory a = kept_took _ _ _ a.grown u v a.ahead_kept
+took_fault X s t u v e1 e2 r1 r2 fault.Read a = (begun_took _ _ _ a.grown u a.begins, told_took _ _ _ a.grown u v a.ahead_kept)
+took_fault X s t u v e1 e2 r1 r2 (fault.NotUtf8 at) a = kept_took _ _ _ a.grown u v a.ahead_kept
+took_fault X s t u v e1 e2 r1 r2 fault.TextTooLong a = kept_took _ _ _ a.grown u v a.ahead_kept
+took_fault X s t u v e1 e2 r1 r2 (fault.ParagraphTooLong start) a = kept_took _ _ _ a.grown u v a.ahead_kept
+took_fault X s t u v e1 e2 r1 r2 fault.Spent a = kept_took _ _ _ a.grown u v a.ahead_kept
 
 module _ (e : Engine) (u0 w0 : Option (List ℕ)) (reads0 : ℕ) where
   -- what the calls so far took from the reader, and what was written
@@ -142,9 +143,9 @@ module _ (e : Engine) (u0 w0 : Option (List ℕ)) (reads0 : ℕ) where
           most = most_reads (Ok (Some p)) a;
         }
 
-        pub ran_write : {X : Type 0} (w' : Option (List ℕ)) (n : ℕ) → Appends w w' (take n line)
+        pub ran_write : (X : Type 0) (w' : Option (List ℕ)) (n : ℕ) → Appends w w' (take n line)
             → Ran false u0 v w0 w' (IsRun {X = X} e e2 (Err cmd.Write))
-        ran_write w' n wrote = record {
+        ran_write X w' n wrote = record {
           read = g.bytes ++ a.got;
           out = g.out ++ take n line;
           took = took_now;
@@ -154,8 +155,8 @@ module _ (e : Engine) (u0 w0 : Option (List ℕ)) (reads0 : ℕ) where
         }
 
       -- memory could not grow for its lines
-      pub ran_memory : {X : Type 0} → Ran false u0 v w0 w (IsRun {X = X} e e2 (Err cmd.Memory))
-      ran_memory =
+      pub ran_memory : (X : Type 0) → Ran false u0 v w0 w (IsRun {X = X} e e2 (Err cmd.Memory))
+      ran_memory X =
           let line = e.lines s.start (given_now e s g.bytes g.out g.standing t u v e1 e2 r1 r2 p a) in
           record {
             read = g.bytes ++ a.got;
@@ -180,19 +181,61 @@ module _ (e : Engine) (u0 w0 : Option (List ℕ)) (reads0 : ℕ) where
     at_the_end a = let done : IsDone t = a.answer in a.agrees g.agrees done.at_end
 
     -- the segmenter answered a fault
-    pub ran_fault : {X : Type 0} (why : PassageFault) → AfterNext s t u v e1 e2 r1 r2 (Err why)
+    pub ran_fault : (X : Type 0) (why : PassageFault) → AfterNext s t u v e1 e2 r1 r2 (Err why)
         → Ran (is_failed_read {X = X} (Err (cmd.Passage why))) u0 v w0 w (IsRun {X = X} e e2 (Err (cmd.Passage why)))
-    ran_fault {X} why a = record {
+    ran_fault X why a = record {
       read = g.bytes ++ a.got;
       out = g.out;
-      took = Took-then (is_failed_read {X = X} (Err (cmd.Passage why))) u0 u v g.bytes a.got g.took (took_fault s t u v e1 e2 r1 r2 why a);
+      took = Took-then (is_failed_read {X = X} (Err (cmd.Passage why))) u0 u v g.bytes a.got g.took (took_fault X s t u v e1 e2 r1 r2 why a);
       put = g.put;
-      so = run_fault e s g.bytes g.out g.standing t u v e1 e2 r1 r2 why a (notices (Err why) a);
+      so = run_fault e s g.bytes g.out g.standing t u v e1 e2 r1 r2 X why a (notices (Err why) a);
     }
 
   -- nothing was read, where the segmenter could not be made
-  pub ran_none : {X : Type 0} (has_ended : Bool) → Ran false u0 u0 w0 w0 (IsRun {X = X} e has_ended (Err (cmd.Passage fault.Memory)))
-  ran_none has_ended = record { read = []; out = []; took = Consumes-nil u0; put = Appends-nil w0; so = settled_none e }
+  pub ran_none : (X : Type 0) (has_ended : Bool) → Ran false u0 u0 w0 w0 (IsRun {X = X} e has_ended (Err (cmd.Passage fault.Memory)))
+  ran_none X has_ended = record { read = []; out = []; took = Consumes-nil u0; put = Appends-nil w0; so = settled_none e }
 
-  pub ran_limit : {X : Type 0} (has_ended : Bool) → Ran false u0 u0 w0 w0 (IsRun {X = X} e has_ended (Err (cmd.Passage fault.Limit)))
-  ran_limit has_ended = record { read = []; out = []; took = Consumes-nil u0; put = Appends-nil w0; so = (refl, refl) }
+  pub ran_limit : (X : Type 0) (has_ended : Bool) → Ran false u0 u0 w0 w0 (IsRun {X = X} e has_ended (Err (cmd.Passage fault.Limit)))
+  ran_limit X has_ended = record { read = []; out = []; took = Consumes-nil u0; put = Appends-nil w0; so = (refl, refl) }
+
+-- A run by the answers of its calls
+
+module _ (e : Engine) (u0 w0 : Option (List ℕ)) (reads0 : ℕ) (X : Type 0) (answer : Result X CmdFault) where
+  -- the segmenter could not be made
+  pub run_none : (why : PassageFault) (has_ended : Bool) → answer ≡ Err (cmd.Passage why) → (why ≡ fault.Limit) ⊎ (why ≡ fault.Memory)
+      → Ran (is_failed_read answer) u0 u0 w0 w0 (IsRun e has_ended answer)
+  run_none why has_ended is one = ⊎_elim
+      (λ limit. subst (λ r. Ran (is_failed_read r) u0 u0 w0 w0 (IsRun e has_ended r)) (sym (is ∙ ap (λ f. Err (cmd.Passage f)) limit)) (ran_limit e u0 w0 reads0 X has_ended))
+      (λ memory. subst (λ r. Ran (is_failed_read r) u0 u0 w0 w0 (IsRun e has_ended r)) (sym (is ∙ ap (λ f. Err (cmd.Passage f)) memory)) (ran_none e u0 w0 reads0 X has_ended))
+      one
+
+  module _ (s t : State) (u v w : Option (List ℕ)) (e1 e2 : Bool) (r1 r2 : ℕ) (r : Result (Option Passage) PassageFault)
+      (g : Going e u0 w0 reads0 s u w e1 r1) (a : AfterNext s t u v e1 e2 r1 r2 r) where
+    pub run_stopped : (why : PassageFault) → r ≡ Err why → answer ≡ Err (cmd.Passage why)
+        → Ran (is_failed_read answer) u0 v w0 w (IsRun e e2 answer)
+    run_stopped why was is =
+        subst (λ x. Ran (is_failed_read x) u0 v w0 w (IsRun e e2 x)) (sym is)
+        (ran_fault e u0 w0 reads0 s t u v w e1 e2 r1 r2 g X why (subst (AfterNext s t u v e1 e2 r1 r2) was a))
+
+    pub run_ended : (x : X) → r ≡ Ok None → answer ≡ Ok x → Ran (is_failed_read answer) u0 v w0 w (IsRun e e2 answer)
+    run_ended x was is =
+        subst (λ y. Ran (is_failed_read y) u0 v w0 w (IsRun e e2 y)) (sym is)
+        (ran_whole e u0 w0 reads0 s t u v w e1 e2 r1 r2 g x (subst (AfterNext s t u v e1 e2 r1 r2) was a))
+
+    module _ (p : Passage) (was : r ≡ Ok (Some p)) where
+      given : AfterNext s t u v e1 e2 r1 r2 (Ok (Some p))
+      given = subst (AfterNext s t u v e1 e2 r1 r2) was a
+
+      pub run_out_of_memory : answer ≡ Err cmd.Memory → Ran (is_failed_read answer) u0 v w0 w (IsRun e e2 answer)
+      run_out_of_memory is =
+          subst (λ x. Ran (is_failed_read x) u0 v w0 w (IsRun e e2 x)) (sym is) (ran_memory e u0 w0 reads0 s t u v w e1 e2 r1 r2 g p given X)
+
+      module _ (line : List ℕ) (lines : (ms : List Marked) → s.cell ≡ e.cell → s.profile ≡ e.profile → IsPassage s ms p → line ≡ e.lines p.start ms)
+          (w' : Option (List ℕ)) where
+        pub run_unwritten : answer ≡ Err cmd.Write → (n : ℕ) → Appends w w' (take n line) → Ran (is_failed_read answer) u0 v w0 w' (IsRun e e2 answer)
+        run_unwritten is n wrote =
+            subst (λ x. Ran (is_failed_read x) u0 v w0 w' (IsRun e e2 x)) (sym is)
+            (ran_write e u0 w0 reads0 s t u v w e1 e2 r1 r2 g p given line lines X w' n wrote)
+
+        pub run_goes_on : Appends w w' line → Going e u0 w0 reads0 t v w' e2 r2
+        run_goes_on wrote = Going-next e u0 w0 reads0 s t u v w e1 e2 r1 r2 g p given line lines w' wrote

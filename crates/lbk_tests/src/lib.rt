@@ -16,6 +16,8 @@ mod passages;
 #[cfg(test)]
 mod rows;
 #[cfg(test)]
+mod segment_lines;
+#[cfg(test)]
 mod segmented;
 #[cfg(test)]
 mod shown;
