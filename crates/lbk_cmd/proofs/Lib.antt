@@ -5,3 +5,4 @@ pub mod Running
 pub mod Stopping
 pub mod Looping
 pub mod Known
+mod Rows
