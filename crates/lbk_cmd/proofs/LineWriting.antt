@@ -38,15 +38,15 @@ regroup : (out word mark rest : List ℕ) → (out ++ (32 ∷ (word ++ (32 ∷ m
 regroup out word mark rest =
     append_assoc out (32 ∷ (word ++ (32 ∷ mark))) rest ∙ ap (λ l. out ++ (32 ∷ l)) (append_assoc word (32 ∷ mark) rest)
 
-pub Writes-step : (verdicts : List Verdict) (k c : ℕ) (v : Verdict) (rest more out out' all : List ℕ) → rest ≡ encode_utf8 c ++ more
-    → v ≡ get_or verdicts k v → out' ≡ out ++ (32 ∷ (token c ++ (32 ∷ mark_bytes (shown Kinds (mark_of v.kind)))))
+pub Writes-step : (verdicts : List Verdict) (k c : ℕ) (v d : Verdict) (rest more out out' all : List ℕ) → rest ≡ encode_utf8 c ++ more
+    → v ≡ get_or verdicts k d → out' ≡ out ++ (32 ∷ (token c ++ (32 ∷ mark_bytes (shown Kinds (mark_of v.kind)))))
     → Writes verdicts k rest out all → Writes verdicts (k + 1) more out' all
-Writes-step verdicts k c v rest more out out' all splits here pushed w =
+Writes-step verdicts k c v d rest more out out' all splits here pushed w =
     let begins : chars rest ≡ c ∷ chars more = chars_past_char rest more c w.utf8 splits in
     let within : k < length verdicts = omega (arith, w.place, ap length begins) in
     let next : suc k ≡ k + 1 = omega arith in
     let cut : drop k verdicts ≡ v ∷ drop (k + 1) verdicts =
-    drop-cons verdicts k v within ∙ ap (λ x. x ∷ drop (suc k) verdicts) (sym here) ∙ ap (λ n. v ∷ drop n verdicts) next in
+    drop-cons verdicts k d within ∙ ap (λ x. x ∷ drop (suc k) verdicts) (sym here) ∙ ap (λ n. v ∷ drop n verdicts) next in
     let mark = mark_bytes (shown Kinds (mark_of v.kind)) in
     let behind = written_after Kinds (chars more) (marks_in (drop (k + 1) verdicts)) in
     record {

@@ -35,6 +35,9 @@ module _ (e : Engine) where
     within = tt;
   }
 
+  pub settled_none : IsSettled e [] []
+  settled_none = record { scalars = []; rest = []; begins = refl; utf8 = IsUtf8-nil; given = []; are = none_given; is = refl }
+
   module _ (s : State) (bytes out : List ℕ) (st : Standing e s bytes out) where
     -- nothing was given
     settled_fresh : st.given ≡ [] → IsSettled e bytes out
@@ -240,10 +243,11 @@ module _ (e : Engine) where
       }
 
       -- by the fault that a call answered
-      pub run_fault : (why : PassageFault) (a : AfterNext s t u v e1 e2 r1 r2 (Err why)) → (t.is_ended ≡ true → e2 ≡ true)
-          → IsRun {X = Unit {0}} e e2 (Err (Passage why)) (bytes ++ a.got) out
-      run_fault fault.Limit a notices = absurd a.answer.lies
-      run_fault fault.Memory a notices = settled_more (bytes ++ a.got) a.got refl (run_memory a)
+      pub run_fault : (X : Type 0) (why : PassageFault) (a : AfterNext s t u v e1 e2 r1 r2 (Err why)) → (t.is_ended ≡ true → e2 ≡ true)
+          → IsRun {X = X} e e2 (Err (Passage why)) (bytes ++ a.got) out
+      unfolding used settled
+      run_fault X fault.Limit a notices = absurd a.answer.lies
+      run_fault X fault.Memory a notices = settled_more (bytes ++ a.got) a.got refl (run_memory a)
         where
           settled_more : (all got : List ℕ) → all ≡ bytes ++ got → IsSettled e bytes out → IsSettled e all out
           settled_more all got is x = record {
@@ -255,14 +259,14 @@ module _ (e : Engine) where
             are = x.are;
             is = x.is;
           }
-      run_fault fault.Read a notices =
+      run_fault X fault.Read a notices =
           let stops : Stops t fault.Read = a.answer in
           let covered = stops.all_seen (used fault.Read a stops) st.utf8 (begin_now fault.Read a stops) in
           record {
             settled = settled fault.Read a stops (none_seen fault.Read a stops covered stops.lies (λ is_at_end held. (a.quiet is_at_end).3 refl));
             lies = all_seen fault.Read a stops covered stops.lies;
           }
-      run_fault (fault.NotUtf8 at) a notices =
+      run_fault X (fault.NotUtf8 at) a notices =
           let stops : Stops t (fault.NotUtf8 at) = a.answer in
           let us = used (fault.NotUtf8 at) a stops in
           let begins = begin_now (fault.NotUtf8 at) a stops in
@@ -289,7 +293,7 @@ module _ (e : Engine) where
               subst (λ l. IsNotUtf8At l e2 at) (sym all) (at_its_end (us ++ t.held) t.is_ended e2 at notices there),
             );
           }
-      run_fault fault.TextTooLong a notices =
+      run_fault X fault.TextTooLong a notices =
           let stops : Stops t fault.TextTooLong = a.answer in
           let us = used fault.TextTooLong a stops in
           let begins = begin_now fault.TextTooLong a stops in
@@ -303,7 +307,7 @@ module _ (e : Engine) where
                 omega (arith, more, length-append us t.held, none, begins, a.start, st.few)));
             lies = (all_seen fault.TextTooLong a stops covered stops.lies.0, subst IsTooLong (sym (all_now fault.TextTooLong a stops)) over);
           }
-      run_fault (fault.ParagraphTooLong start) a notices =
+      run_fault X (fault.ParagraphTooLong start) a notices =
           let stops : Stops t (fault.ParagraphTooLong start) = a.answer in
           let where_it_is = stops.lies in
           let some = ap length where_it_is.1.2 ∙ length-append where_it_is.1.0 (where_it_is.1.1 ∷ []) in
@@ -315,4 +319,4 @@ module _ (e : Engine) where
               (where_it_is.1.0, where_it_is.1.1, where_it_is.1.2, omega (arith, where_it_is.1.3, a.alike.limit, st.limit)),
             );
           }
-      run_fault fault.Spent a notices = absurd (false≢true (sym st.unspent ∙ a.answer))
+      run_fault X fault.Spent a notices = absurd (false≢true (sym st.unspent ∙ a.answer))

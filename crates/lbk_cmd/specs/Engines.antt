@@ -17,6 +17,10 @@ showing cell profile limit = record { lines = λ start ms. shown_passage ms; cel
 abbrev pub segmenting : (ℕ → Cell) → Profile → ℕ → Engine
 segmenting cell profile limit = record { lines = segmented_passage cell; cell = cell; profile = profile; limit = limit }
 
+-- the lines that each writes
+abbrev pub lines_of : Lines → (ℕ → Cell) → ℕ → List Marked → List ℕ
+lines_of Shown cell start ms = shown_passage ms
+lines_of Segmented cell start ms = segmented_passage cell start ms
+
 abbrev pub engine_of : Lines → (ℕ → Cell) → Profile → ℕ → Engine
-engine_of Shown cell profile limit = showing cell profile limit
-engine_of Segmented cell profile limit = segmenting cell profile limit
+engine_of lines cell profile limit = record { lines = lines_of lines cell; cell = cell; profile = profile; limit = limit }

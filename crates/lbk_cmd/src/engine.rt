@@ -8,7 +8,7 @@ ghost use Rattle.lbk_passage.specs.Marks.{Marked};
 ghost use Rattle.lbk_passage.specs.Next.{IsPassage, IsPlaced};
 ghost use Rattle.lbk_passage.specs.Passages.{passages};
 ghost use Rattle.lbk_passage.specs.State.{State, IsLimit};
-ghost use Rattle.lbk_cmd.specs.Engines.{engine_of, showing, segmenting};
+ghost use Rattle.lbk_cmd.specs.Engines.{engine_of, lines_of, showing, segmenting};
 ghost use Rattle.lbk_cmd.specs.Run.{IsRun, is_failed_read};
 ghost use Rattle.lbk_cmd.specs.Texts.{show_text, segment_text};
 
@@ -158,7 +158,7 @@ fn push_lines<C: CellSource>(
     requires { IsPlaced passage.now }
     ensures { OnOk result ((s : State) (ms : List Marked) → s.cell ≡ C.cell_of cells.now → s.profile ≡ profile
         → IsPassage s ms passage.now
-        → text.new.items ≡ text.old.items ++ (engine_of lines (C.cell_of cells.now) profile 0).lines passage.now.start ms) }
+        → text.new.items ≡ text.old.items ++ lines_of lines (C.cell_of cells.now) passage.now.start ms) }
 {
     match lines {
         Lines::Shown => {

@@ -1,9 +1,7 @@
 -- What filling a paragraph leaves, as its callers see it.
-use Rattle.std.proofs.Common.{◌≡◌, ◌⊎◌, ℕ, ◌+◌, ◌-◌, ◌<◌, ◌≤◌, Bool, true, false, ◌||◌, not, List, [], ◌∷◌, ◌++◌, length, Option, None, Some, Result, Ok, Err, is_ok, string_bytes, string_len, if◌then◌else◌, refl, sym, ap, subst, ◌∙◌, arith, inl, inr, length-append, append-nil}
+use Rattle.std.proofs.Common.{◌≡◌, ℕ, Bool, true, false, ◌||◌, List, [], ◌++◌, length, Option, Some, Result, Ok, Err, string_bytes, if◌then◌else◌, refl, sym, ap, subst, ◌∙◌, arith, inl, append-nil}
 use Rattle.std.specs.Io.KnownBytes.{prepend_known}
-use Rattle.lbk_feed.specs.Text.{longest_text}
 use Rattle.lbk_feed.specs.View.{BeginsWith}
-use Rattle.lbk_feed.specs.View as feed
 use Rattle.lbk_rules.specs.declared.cells.Cell.{Cell}
 use Rattle.lbk_rules.specs.declared.verdicts.Profile.{Profile}
 use Rattle.lbk_rules.specs.declared.verdicts.Verdict.{Verdict}
@@ -15,17 +13,9 @@ use Rattle.lbk_passage.specs.declared.faults.PassageFault.{PassageFault}
 use Rattle.lbk_passage.specs.declared.faults.PassageFault.TheVariants.{Limit, Memory, Read, NotUtf8, TextTooLong, ParagraphTooLong, Spent}
 use Rattle.lbk_passage.specs.declared.paragraph.Paragraph.{Paragraph}
 use Rattle.lbk_passage.proofs.Reading.{Keeps-refl, BeginsWith-held}
-use Rattle.lbk_passage.proofs.Finding.{Shows, found}
+use Rattle.lbk_passage.proofs.Finding.{found}
 use Rattle.lbk_passage.proofs.Gathered.{Shows-of}
-use Rattle.lbk_passage.proofs.Taking.{string_len-is}
-
-pub or-true : (b : Bool) → (b || true) ≡ true
-or-true true = refl
-or-true false = refl
-
-or-false : (b : Bool) → b ≡ (b || false)
-or-false true = refl
-or-false false = refl
+use Rattle.lbk_passage.proofs.Booleans.{or-false, or-true}
 
 module _ (cell : ℕ → Cell) (profile : Profile) (old : Paragraph) (u : Option (List ℕ)) (e : Bool) (reads : ℕ) where
   state : State

@@ -1,29 +1,19 @@
 -- A paragraph that is held whole is the first passage of the text still to come.
-use Rattle.std.proofs.Common.{◌≡◌, ◌⊎◌, ℕ, ◌+◌, ◌-◌, ◌<◌, ◌≤◌, Bool, true, false, ◌&&◌, ◌||◌, not, List, [], ◌∷◌, ◌++◌, length, take, drop, Option, None, Some, Ok, encode_utf8, encode_utf8_all, string_bytes, IsUtf8, chars, refl, sym, ap, subst, ◌∙◌, arith, inl, inr, length-append, append_assoc, append-nil}
+use Rattle.std.proofs.Common.{◌≡◌, ℕ, ◌+◌, ◌≤◌, Bool, true, false, ◌&&◌, not, List, [], ◌∷◌, ◌++◌, length, drop, Option, None, Some, Ok, encode_utf8, encode_utf8_all, string_bytes, IsUtf8, chars, refl, sym, ap, subst, ◌∙◌, arith, inl, inr, length-append, append_assoc, append-nil}
 use Rattle.std.proofs.Math.Utf8.{scalar, scalars}
-use Rattle.std.proofs.lemmas.Str.{scalars-chars, chars-encodes, encodes-chars, encode_same, length-encode, len_utf8_bounds, IsUtf8-from_is_utf8}
+use Rattle.std.proofs.lemmas.Str.{scalars-chars, encodes-chars, encode_same, length-encode, len_utf8_bounds, IsUtf8-from_is_utf8}
 use Rattle.lbk_feed.specs.Text.{longest_text}
-use Rattle.lbk_feed.specs.View.{View}
-use Rattle.lbk_rules.specs.declared.cells.Cell.{Cell}
 use Rattle.lbk_rules.specs.declared.verdicts.Verdict.{Verdict}
 use Rattle.lbk_rules.specs.Ends.{ends_between, end_after, end_of_text}
-use Rattle.lbk_passage.specs.Marks.{Marked, marks, marks_behind, scalars_of, text_of, ended}
+use Rattle.lbk_passage.specs.Marks.{marks, scalars_of, text_of, ended}
 use Rattle.lbk_passage.specs.Passages.{passages}
 use Rattle.lbk_passage.specs.Stays.{ends_at, stays, last_class, end_before, finds_end, is_nil, IsWholeText}
 use Rattle.lbk_passage.specs.State.{State}
-use Rattle.lbk_passage.specs.Next.{GoesOn, IsLast, ComesFirst, IsDone}
+use Rattle.lbk_passage.specs.Next.{IsDone}
 use Rattle.lbk_passage.specs.Gathering.{IsFirst, FillAnswers}
 use Rattle.lbk_passage.specs.declared.paragraph.Paragraph.{Paragraph}
 use Rattle.lbk_passage.proofs.Marking.{scalars-behind, scalars-ended, last_in, last_class-in, first_passage, only_passage}
-
-both-left : (a b : Bool) → (a && b) ≡ true → a ≡ true
-both-left true b h = refl
-both-left false b h = h
-
-both-right : (a b : Bool) → (a && b) ≡ true → b ≡ true
-both-right true b h = h
-both-right false true h = refl
-both-right false false h = h
+use Rattle.lbk_passage.proofs.Booleans.{both-left, both-right}
 
 is_nil-nil : (l : List ℕ) → is_nil l ≡ true → l ≡ []
 is_nil-nil [] h = refl

@@ -1,12 +1,11 @@
 -- The turns of the loop that gathers a paragraph.
-use Rattle.std.proofs.Common.{◌≡◌, ◌⊎◌, ℕ, ◌+◌, ◌-◌, ◌<◌, ◌≤◌, Bool, true, false, ◌&&◌, ◌||◌, not, List, [], ◌∷◌, ◌++◌, length, take, drop, Option, None, Some, Result, Ok, Err, IfOk, IfSome, option_map, is_some, encode_utf8, encode_utf8_all, string_bytes, string_len, IsUtf8, chars, if◌then◌else◌, refl, sym, ap, subst, ◌∙◌, arith, inl, inr, length-append, append_assoc, append-nil}
+use Rattle.std.proofs.Common.{◌≡◌, ℕ, ◌+◌, ◌-◌, ◌<◌, ◌≤◌, Bool, true, false, ◌&&◌, ◌||◌, not, List, [], ◌∷◌, ◌++◌, length, drop, Option, None, Some, Result, Ok, Err, IfOk, IfSome, option_map, is_some, encode_utf8_all, string_bytes, string_len, chars, if◌then◌else◌, refl, sym, ap, subst, ◌∙◌, arith, inl, inr, length-append, append_assoc, append-nil}
 use Rattle.std.specs.Bool.{OnTrue, OnFalse}
-use Rattle.std.proofs.Math.Utf8.{scalar, scalars}
+use Rattle.std.proofs.Math.Utf8.{scalars}
 use Rattle.std.proofs.Math.Seq.{drop-append_seam}
-use Rattle.std.proofs.lemmas.Str.{scalars-chars, encodes-chars, chars-nil, IsUtf8-nil, is_utf8-from_IsUtf8, IsUtf8-string_bytes}
+use Rattle.std.proofs.lemmas.Str.{scalars-chars, encodes-chars, chars-nil, is_utf8-from_IsUtf8, IsUtf8-string_bytes}
 use Rattle.lbk_feed.specs.declared.faults.FeedFault.{FeedFault}
 use Rattle.lbk_feed.specs.declared.faults.FeedFault.TheVariants as feed_fault
-use Rattle.lbk_feed.specs.Text.{longest_text}
 use Rattle.lbk_feed.specs.View.{View, IsFront, LendsFront, LiesIn, Steps}
 use Rattle.lbk_feed.specs.View as feed
 use Rattle.lbk_rules.specs.declared.classes.Class.{Class}
@@ -14,25 +13,21 @@ use Rattle.lbk_rules.specs.declared.cells.Cell.{Cell}
 use Rattle.lbk_rules.specs.declared.verdicts.Profile.{Profile}
 use Rattle.lbk_rules.specs.declared.verdicts.Verdict.{Verdict}
 use Rattle.lbk_passage.specs.Faults.{passage_fault}
-use Rattle.lbk_passage.specs.Stays.{ends_at, stays, last_class, end_before, finds_end, is_nil, IsWholeText}
-use Rattle.lbk_passage.specs.State.{State, state_with, text_held}
+use Rattle.lbk_passage.specs.Stays.{ends_at, stays, last_class, end_before, finds_end, is_nil}
+use Rattle.lbk_passage.specs.State.{state_with, text_held}
 use Rattle.lbk_passage.specs.Next.{fault_in, ends_run, Stops}
 use Rattle.lbk_passage.specs.Gathering.{StopsBefore, Takes, Settles, HasRead, Gathering, Gathers, IsSame}
 use Rattle.lbk_passage.specs.declared.faults.PassageFault.{PassageFault}
 use Rattle.lbk_passage.specs.declared.faults.PassageFault.TheVariants.{Read, ParagraphTooLong}
 use Rattle.lbk_passage.specs.declared.paragraph.Paragraph.{Paragraph}
 use Rattle.lbk_passage.specs.declared.reach.Reach.{Reach}
-use Rattle.lbk_passage.specs.declared.reach.Stop.{Stop}
 use Rattle.lbk_passage.specs.declared.reach.Stop.TheVariants.{PieceEnds, LineEnds, NoRoom}
 use Rattle.lbk_passage.proofs.Reading.{HasRead-none, HasRead-step, few-step, each-step}
 use Rattle.lbk_passage.proofs.Staying.{stays-append, last_class-append}
 use Rattle.lbk_passage.proofs.Taking.{string_len-is}
 use Rattle.lbk_passage.proofs.Finding.{Shows}
 use Rattle.lbk_passage.proofs.Stopping.{Stops-feed, Stops-long}
-
-both-left : (a b : Bool) → (a && b) ≡ true → a ≡ true
-both-left true b h = refl
-both-left false b h = h
+use Rattle.lbk_passage.proofs.Booleans.{both-left, or-true}
 
 -- a failed read is that of the feed
 read_by : (fault : Option FeedFault) → option_map passage_fault fault ≡ Some Read → fault ≡ Some feed_fault.Read
@@ -125,7 +120,8 @@ module _ (cell : ℕ → Cell) (old : Paragraph) (unread : Option (List ℕ)) (e
             let same = s.steps.same (inr (inl was.1)) in (
               ap (λ l. l ++ p.feed.held) text ∙ ap (λ l. string_bytes now.text ++ l) same.0 ∙ was.0,
               same.2 ∙ was.1,
-              omega (arith, was.2, (s.unasked was.1).0), λ e. (s.unasked was.1).1 (read_by s.fault (sym s.fault_is ∙ e)),
+              omega (arith, was.2, (s.unasked was.1).0),
+              λ e. (s.unasked was.1).1 (read_by s.fault (sym s.fault_is ∙ e)),
             ));
         none_ends = ap (λ l. stays cell None (chars l)) text ∙ g.none_ends;
         last_is = g.last_is ∙ ap (λ l. last_class cell None (chars l)) (sym text);
@@ -197,10 +193,6 @@ module _ (cell : ℕ → Cell) (old : Paragraph) (unread : Option (List ℕ)) (e
           whole = tt;
           stops = λ profile. Stops-feed (state_with cell profile p) p (Shows-of cell profile p (ap (λ b. p.is_held || b) spent ∙ or-true p.is_held)) s.none_ends e unspent ready front lies;
         }
-      where
-        or-true : (b : Bool) → (b || true) ≡ true
-        or-true true = refl
-        or-true false = refl
 
     -- scalars of the piece that is ready went to the text
     module _ (n : Paragraph) (r : Reach) (t : Takes cell last p n r) (s : Settled p last v e' r2 None) (some : 0 < length p.feed.ready) where
@@ -333,10 +325,6 @@ module _ (cell : ℕ → Cell) (old : Paragraph) (unread : Option (List ℕ)) (e
                 (let st = (shows profile).start in omega (arith, st, ap length same.text, len, ap (λ f. f.given) same.feed)));
           }
         where
-          or-true : (b : Bool) → (b || true) ≡ true
-          or-true true = refl
-          or-true false = refl
-
           read_fault : (fault : PassageFault) → fault ≡ ParagraphTooLong (n.feed.given - string_len n.text)
               → HasRead old.feed (string_bytes p.text ++ p.feed.held) unread v reads r2 None → HasRead old.feed (string_bytes p.text ++ p.feed.held) unread v reads r2 (Some fault)
           read_fault fault is h = subst (λ f. HasRead old.feed (string_bytes p.text ++ p.feed.held) unread v reads r2 (Some f)) (sym is) (record {

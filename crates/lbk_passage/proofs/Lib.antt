@@ -1,4 +1,5 @@
 -- Lemmas that several proofs share.
+pub mod Booleans
 pub mod Cutting
 pub mod Marking
 pub mod Reading

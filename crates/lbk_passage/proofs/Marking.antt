@@ -1,5 +1,5 @@
 -- The marks of a text, and where its first passage ends.
-use Rattle.std.proofs.Common.{◌≡◌, ◌⊎◌, ℕ, ◌<◌, ◌≤◌, Bool, true, false, cond, ◌&&◌, not, List, [], ◌∷◌, ◌++◌, map, length, Option, Some, None, refl, sym, ap, ◌∙◌, inl, inr, ⊎_elim, append_assoc, append-nil, arith}
+use Rattle.std.proofs.Common.{◌≡◌, ◌⊎◌, ℕ, ◌<◌, ◌≤◌, Bool, true, false, ◌&&◌, not, List, [], ◌∷◌, ◌++◌, map, length, Some, None, refl, sym, ap, ◌∙◌, ⊎_elim, append_assoc, append-nil, arith}
 use Rattle.std.proofs.lemmas.List.{map-append}
 use Rattle.lbk_rules.specs.declared.classes.Class.{Class}
 use Rattle.lbk_rules.specs.declared.cells.Cell.{Cell}
@@ -15,17 +15,9 @@ use Rattle.lbk_passage.specs.Marks.{Marked, marks_behind, marks, scalars_of, end
 use Rattle.lbk_passage.specs.Passages.{passages, cut_after, ends_passage, is_must}
 use Rattle.lbk_passage.specs.Laws.{IsBehind}
 use Rattle.lbk_passage.specs.Next.{BeginsWithAll}
-use Rattle.lbk_passage.specs.Stays.{ends_at, stays, last_class}
-use Rattle.lbk_passage.proofs.Cutting.{IsPart, IsOpenPart, IsClosed, cut_after-part, cut_after-alone, cut_after-open, cut_after-few, cut_after-append, cut_after-joined}
-
-both-left : (a b : Bool) → (a && b) ≡ true → a ≡ true
-both-left true b h = refl
-both-left false b h = h
-
-both-right : (a b : Bool) → (a && b) ≡ true → b ≡ true
-both-right true b h = h
-both-right false true h = refl
-both-right false false h = h
+use Rattle.lbk_passage.specs.Stays.{stays, last_class}
+use Rattle.lbk_passage.proofs.Cutting.{IsPart, IsOpenPart, IsClosed, cut_after-part, cut_after-open, cut_after-few, cut_after-append, cut_after-joined}
+use Rattle.lbk_passage.proofs.Booleans.{both-left, both-right}
 
 not-true : (b : Bool) → not b ≡ true → b ≡ false
 not-true true h = sym h

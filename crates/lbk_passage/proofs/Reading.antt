@@ -1,11 +1,10 @@
 -- What was read while a paragraph is gathered: one step of the feed more.
-use Rattle.std.proofs.Common.{◌≡◌, ◌⊎◌, ℕ, ◌+◌, ◌<◌, ◌≤◌, Bool, true, false, ◌||◌, List, [], ◌∷◌, ◌++◌, length, Option, None, Some, option_map, refl, sym, ap, subst, ◌∙◌, arith, ⊎_elim, length-append, append_assoc, append-nil}
+use Rattle.std.proofs.Common.{◌≡◌, ℕ, ◌+◌, ◌<◌, ◌≤◌, List, [], ◌++◌, length, Option, None, Some, option_map, refl, sym, ap, ◌∙◌, arith, ⊎_elim, length-append, append_assoc, append-nil}
 use Rattle.std.proofs.lemmas.Bool.{cases_lt}
 use Rattle.std.specs.Io.KnownBytes.{prepend_known, Keeps}
 use Rattle.lbk_feed.specs.declared.faults.FeedFault.{FeedFault}
 use Rattle.lbk_feed.specs.declared.faults.FeedFault.TheVariants as feed_fault
 use Rattle.lbk_feed.specs.Devices.{KeepsIfTold}
-use Rattle.lbk_feed.specs.Text.{longest_text}
 use Rattle.lbk_feed.specs.View.{View, BeginsWith, Steps, Pays}
 use Rattle.lbk_feed.specs.View as feed
 use Rattle.lbk_passage.specs.Faults.{passage_fault}

@@ -1,5 +1,5 @@
 -- A run: what was given so far, and what comes with the next answer.
-use Rattle.std.proofs.Common.{◌≡◌, ◌⊎◌, ℕ, ◌+◌, ◌<◌, ◌≤◌, Bool, true, false, ◌&&◌, List, [], ◌∷◌, ◌++◌, length, encode_utf8, encode_utf8_all, IsUtf8, chars, refl, sym, ap, subst, ◌∙◌, arith, inl, inr, ⊎_elim, append_assoc, append-nil, length-append}
+use Rattle.std.proofs.Common.{◌≡◌, ℕ, ◌<◌, Bool, true, false, ◌&&◌, List, [], ◌∷◌, ◌++◌, length, encode_utf8, encode_utf8_all, IsUtf8, chars, refl, sym, ap, ◌∙◌, arith, inl, inr, ⊎_elim, append_assoc, append-nil, length-append}
 use Rattle.std.specs.List.{flat_map}
 use Rattle.std.proofs.Math.Utf8.{scalar, scalars}
 use Rattle.std.proofs.lemmas.Grind.{flat_map-append}
@@ -13,10 +13,7 @@ use Rattle.lbk_passage.specs.Next.{ComesFirst, GoesOn, IsLast, IsDone, Stops}
 use Rattle.lbk_passage.specs.Runs.{HasGiven}
 use Rattle.lbk_passage.specs.declared.faults.PassageFault.{PassageFault}
 use Rattle.lbk_passage.proofs.Finding.{IsUtf8-scalar}
-
-both-left : (a b : Bool) → (a && b) ≡ true → a ≡ true
-both-left true b h = refl
-both-left false b h = h
+use Rattle.lbk_passage.proofs.Booleans.{both-left}
 
 pub Given-none : (profile : Profile) (cell : ℕ → Cell) (left : List ℕ) → HasGiven profile cell [] left
 unfolding passages
@@ -74,16 +71,41 @@ module _ (s : State) (given : List (List Marked)) where
   Given-more [] behind some utf8 h comes = absurd (omega arith)
   Given-more (m ∷ ms) behind some utf8 h comes = ⊎_elim (followed m ms behind utf8 h) (ended m ms behind utf8 h) comes.follows
 
+  -- what comes first still does, where more bytes are behind it
+  further : (passage : List Marked) (behind unread : List ℕ) → (s.is_ended ≡ true → unread ≡ []) → ComesFirst s passage behind → ComesFirst s passage (behind ++ unread)
+  further passage behind unread at_end comes = record {
+    within = comes.within;
+    follows = ⊎_elim
+        (λ (goes : GoesOn s passage behind).
+        inl (record {
+          next = goes.next;
+          rest = goes.rest ++ unread;
+          bytes = ap (λ l. l ++ unread) goes.bytes ∙ append_assoc (encode_utf8 goes.next) goes.rest unread;
+          scalar = goes.scalar;
+          first = goes.first;
+        }))
+        (λ (last : IsLast s passage behind).
+        inr (record { none = ap (λ l. l ++ unread) last.none ∙ at_end last.at_end; at_end = last.at_end; first = last.first }))
+        comes.follows;
+  }
+
+  pub Given-further : (passage : List Marked) (behind unread : List ℕ) → 0 < length passage → IsUtf8 (text_of passage) → (s.is_ended ≡ true → unread ≡ [])
+      → HasGiven s.profile s.cell given (text_of passage ++ (behind ++ unread)) → ComesFirst s passage behind
+      → HasGiven s.profile s.cell (given ++ passage ∷ []) (behind ++ unread)
+  Given-further passage behind unread some utf8 at_end h comes = Given-more passage (behind ++ unread) some utf8 h (further passage behind unread at_end comes)
+
   pub Given-all : HasGiven s.profile s.cell given s.held → IsDone s → passages s.profile s.cell (flat_map scalars_of given) ≡ given
   Given-all h done = ap (passages s.profile s.cell) h.scalars ∙ h.whole done.none
 
-  pub Given-stopped : (fault : PassageFault) (stops : Stops s fault) → HasGiven s.profile s.cell given s.held → 0 < length stops.seen → (more : List ℕ)
+  pub Given-stopped : (fault : PassageFault) (unread : List ℕ) (stops : Stops s fault) → HasGiven s.profile s.cell given (s.held ++ unread) → 0 < length stops.seen → (more : List ℕ)
       → passages s.profile s.cell (flat_map scalars_of given ++ (stops.seen ++ more)) ≡ given ++ passages s.profile s.cell (stops.seen ++ more)
-  Given-stopped fault stops h some more =
+  Given-stopped fault unread stops h some more =
       ap (λ l. passages s.profile s.cell (l ++ (stops.seen ++ more))) h.scalars ∙ by stops.seen stops.text some stops.bytes h
     where
       by : (seen : List ℕ) → IsUtf8 (encode_utf8_all seen) → 0 < length seen → s.held ≡ encode_utf8_all seen ++ stops.rest
-          → (h : HasGiven s.profile s.cell given s.held) → passages s.profile s.cell (h.before ++ (seen ++ more)) ≡ given ++ passages s.profile s.cell (seen ++ more)
+          → (h : HasGiven s.profile s.cell given (s.held ++ unread)) → passages s.profile s.cell (h.before ++ (seen ++ more)) ≡ given ++ passages s.profile s.cell (seen ++ more)
       by [] text some is h = absurd (omega arith)
       by (c ∷ cs) text some is h =
-          h.first c (encode_utf8_all cs ++ stops.rest) (cs ++ more) (is ∙ append_assoc (encode_utf8 c) (encode_utf8_all cs) stops.rest) (first_scalar c cs text)
+          h.first c ((encode_utf8_all cs ++ stops.rest) ++ unread) (cs ++ more)
+          (ap (λ l. l ++ unread) (is ∙ append_assoc (encode_utf8 c) (encode_utf8_all cs) stops.rest) ∙ append_assoc (encode_utf8 c) (encode_utf8_all cs ++ stops.rest) unread)
+          (first_scalar c cs text)

@@ -1,15 +1,12 @@
 -- What a step of the feed leaves of a paragraph.
-use Rattle.std.proofs.Common.{◌≡◌, ℕ, Some, Bool, true, false, ◌&&◌, ◌||◌, not, Result, Ok, Err, is_err, is_some, refl, sym, ap, ◌∙◌}
+use Rattle.std.proofs.Common.{◌≡◌, ℕ, Some, Bool, true, false, ◌&&◌, ◌||◌, not, Result, Ok, Err, is_err, is_some, refl, ap, ◌∙◌}
 use Rattle.lbk_feed.specs.declared.faults.FeedFault.{FeedFault}
 use Rattle.lbk_feed.specs.declared.faults.FeedFault.TheVariants.{Read, NotUtf8, TextTooLong, Spent}
 use Rattle.lbk_feed.specs.View.{fault_of}
 use Rattle.lbk_feed.specs.View as feed
 use Rattle.lbk_passage.specs.Faults.{passage_fault}
 use Rattle.lbk_passage.specs.Next.{failures_with}
-
-and-false : (b : Bool) → (b && false) ≡ false
-and-false true = refl
-and-false false = refl
+use Rattle.lbk_passage.proofs.Booleans.{and-false}
 
 -- a feed is not spent where its paragraph is not
 pub feed_unspent : (feed paragraph : Bool) → (feed && not paragraph) ≡ false → paragraph ≡ false → feed ≡ false

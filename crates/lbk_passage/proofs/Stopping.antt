@@ -1,11 +1,11 @@
 -- Where a segmenter stops: by a fault of the feed, or by too long a paragraph.
-use Rattle.std.proofs.Common.{◌≡◌, ◌⊎◌, ℕ, ◌+◌, ◌-◌, ◌<◌, ◌≤◌, Bool, true, false, ◌&&◌, not, List, [], ◌∷◌, ◌++◌, length, Option, None, Some, encode_utf8, encode_utf8_all, string_bytes, IsUtf8, chars, refl, sym, ap, subst, ◌∙◌, arith, inl, inr, length-append, append_assoc, append-nil}
-use Rattle.std.proofs.Math.Utf8.{scalar, scalars}
-use Rattle.std.proofs.lemmas.Str.{scalars-chars, encodes-chars, encodes-append, IsUtf8-append}
+use Rattle.std.proofs.Common.{◌≡◌, ℕ, ◌+◌, ◌<◌, ◌≤◌, true, false, List, [], ◌∷◌, ◌++◌, length, None, Some, encode_utf8, encode_utf8_all, string_bytes, IsUtf8, chars, refl, sym, ap, subst, ◌∙◌, arith, length-append, append_assoc, append-nil}
+use Rattle.std.proofs.Math.Utf8.{scalar}
+use Rattle.std.proofs.lemmas.Str.{encodes-chars, encodes-append, IsUtf8-append}
 use Rattle.lbk_feed.specs.declared.faults.FeedFault.{FeedFault}
 use Rattle.lbk_feed.specs.declared.faults.FeedFault.TheVariants as feed_fault
-use Rattle.lbk_feed.specs.Text.{longest_text, well_formed_prefix, counted, IsNotUtf8At, IsTooLong}
-use Rattle.lbk_feed.specs.View.{View, AfterEach, IsFront, LiesIn}
+use Rattle.lbk_feed.specs.Text.{well_formed_prefix, counted, IsNotUtf8At, IsTooLong}
+use Rattle.lbk_feed.specs.View.{AfterEach, IsFront, LiesIn}
 use Rattle.lbk_passage.specs.Faults.{passage_fault}
 use Rattle.lbk_passage.specs.Stays.{ends_at, stays, last_class}
 use Rattle.lbk_passage.specs.State.{State}

@@ -1,27 +1,18 @@
 -- What the text and the feed are once scalars went from the one to the other.
-use Rattle.std.proofs.Common.{◌≡◌, ℕ, ◌+◌, ◌-◌, ◌<◌, ◌≤◌, Bool, true, false, ◌&&◌, List, [], ◌∷◌, ◌++◌, length, take, drop, Option, Result, is_ok, if◌then◌else◌, encode_utf8, encode_utf8_all, string_bytes, string_len, String, IsUtf8, IsCharBoundary, chars, refl, sym, ap, subst, ◌∙◌, arith, length-append, append_assoc}
+use Rattle.std.proofs.Common.{◌≡◌, ℕ, ◌+◌, ◌-◌, ◌<◌, Bool, true, false, ◌&&◌, List, [], ◌∷◌, ◌++◌, length, take, drop, Option, Result, is_ok, if◌then◌else◌, encode_utf8, encode_utf8_all, string_bytes, string_len, String, IsUtf8, IsCharBoundary, chars, refl, sym, ap, subst, ◌∙◌, arith, length-append, append_assoc}
 use Rattle.std.specs.List.{slice_range}
 use Rattle.std.proofs.Math.Utf8.{scalars}
 use Rattle.std.proofs.Math.Seq.{take-append_seam, drop-append_seam}
 use Rattle.std.proofs.lemmas.Str.{scalars-chars, chars-encodes, encodes-chars, encodes-append, chars-append, IsUtf8-string_bytes, IsCharBoundary-at_seam}
-use Rattle.lbk_feed.specs.View.{View, LendsFront}
+use Rattle.lbk_feed.specs.View.{LendsFront}
 use Rattle.lbk_rules.specs.declared.classes.Class.{Class}
 use Rattle.lbk_rules.specs.declared.cells.Cell.{Cell}
-use Rattle.lbk_passage.specs.Stays.{ends_at, stays, last_class}
 use Rattle.lbk_passage.specs.Gathering.{Reaches, Takes, StopsBefore}
 use Rattle.lbk_passage.specs.declared.paragraph.Paragraph.{Paragraph}
 use Rattle.lbk_passage.specs.declared.reach.Reach.{Reach}
 use Rattle.lbk_passage.specs.declared.reach.Stop.{Stop}
 use Rattle.lbk_passage.specs.declared.reach.Stop.TheVariants.{PieceEnds, LineEnds, NoRoom}
-
-both-left : (a b : Bool) → (a && b) ≡ true → a ≡ true
-both-left true b h = refl
-both-left false b h = h
-
-both-right : (a b : Bool) → (a && b) ≡ true → b ≡ true
-both-right true b h = h
-both-right false true h = refl
-both-right false false h = h
+use Rattle.lbk_passage.proofs.Booleans.{both-left, both-right}
 
 -- the length that a string keeps is that of its bytes
 pub string_len-is : {Z : Type 0} (s : String Z) → string_len s ≡ length (string_bytes s)

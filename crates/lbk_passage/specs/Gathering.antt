@@ -1,5 +1,5 @@
 -- How far a paragraph reaches, and what the steps of gathering it leave.
-use Rattle.std.specs.Prelude.{◌≡◌, ◌⊎◌, ℕ, ◌+◌, ◌-◌, ◌<◌, ◌≤◌, Bool, true, false, ◌||◌, List, [], ◌∷◌, ◌++◌, length, Option, None, Some, Result, Ok, Err, IfSome, OnOk, OnErr, IfOk, IfErr, is_ok, is_some, option_map, encode_utf8, encode_utf8_all, string_bytes, string_len, IsUtf8}
+use Rattle.std.specs.Prelude.{◌≡◌, ◌⊎◌, ℕ, ◌+◌, ◌<◌, ◌≤◌, Bool, true, false, ◌||◌, List, [], ◌∷◌, ◌++◌, length, Option, None, Some, Result, Ok, Err, IfOk, IfErr, is_ok, is_some, option_map, encode_utf8, encode_utf8_all, string_bytes, string_len, IsUtf8}
 use Rattle.std.specs.Str.{chars}
 use Rattle.std.specs.Bool.{OnTrue, OnFalse}
 use Rattle.std.specs.Io.KnownBytes.{prepend_known}
@@ -13,10 +13,10 @@ use Rattle.lbk_rules.specs.declared.cells.Cell.{Cell}
 use Rattle.lbk_rules.specs.declared.verdicts.Profile.{Profile}
 use Rattle.lbk_rules.specs.declared.verdicts.Verdict.{Verdict}
 use Rattle.lbk_passage.specs.Faults.{passage_fault}
-use Rattle.lbk_passage.specs.Marks.{Marked, marks, ended}
+use Rattle.lbk_passage.specs.Marks.{marks, ended}
 use Rattle.lbk_passage.specs.Stays.{ends_at, stays, last_class, IsWholeText}
 use Rattle.lbk_passage.specs.State.{State, state_with}
-use Rattle.lbk_passage.specs.Next.{fault_in, ends_run, KeepsAhead, IsDone, ComesFirst, Stops, Costs, Agrees}
+use Rattle.lbk_passage.specs.Next.{fault_in, ends_run, KeepsAhead, IsDone, ComesFirst, Stops, Costs}
 use Rattle.lbk_passage.specs.declared.faults.PassageFault.{PassageFault}
 use Rattle.lbk_passage.specs.declared.faults.PassageFault.TheVariants.{Read, Spent}
 use Rattle.lbk_passage.specs.declared.paragraph.Paragraph.{Paragraph}

@@ -1,7 +1,7 @@
 //! What the passages of a text have in common, over the definitions alone. Each law is the contract of a function
 //! that does nothing.
 
-ghost use Rattle.std.specs.Prelude.{◌≡◌, ◌⊎◌, ℕ, ◌<◌, List, [], ◌∷◌, ◌++◌, length, map, IsUtf8};
+ghost use Rattle.std.specs.Prelude.{◌≡◌, ◌⊎◌, ℕ, ◌<◌, List, [], ◌∷◌, ◌++◌, true, length, map, IsUtf8};
 ghost use Rattle.std.specs.List.{flat_map};
 ghost use Rattle.lbk_rules.specs.declared.cells.Cell.{Cell};
 ghost use Rattle.lbk_rules.specs.declared.verdicts.Kind.TheVariants.{Must};
@@ -29,11 +29,12 @@ pub fn run_begins()
 {}
 
 /// A passage more: where it comes first in the text still to come, those given before it and it are the first ones of
-/// the whole text. The bytes left before it are its own and those behind it.
+/// the whole text. The bytes left before it are its own, those behind it, and those unread; at the end none are unread.
 pub fn run_goes_on()
-    ensures { (s : State) (given : List (List Marked)) (passage : List Marked) (behind : List ℕ)
-        → 0 < length passage → IsUtf8 (text_of passage) → HasGiven s.profile s.cell given (text_of passage ++ behind)
-        → ComesFirst s passage behind → HasGiven s.profile s.cell (given ++ passage ∷ []) behind }
+    ensures { (s : State) (given : List (List Marked)) (passage : List Marked) (behind unread : List ℕ)
+        → 0 < length passage → IsUtf8 (text_of passage) → (s.is_ended ≡ true → unread ≡ [])
+        → HasGiven s.profile s.cell given (text_of passage ++ (behind ++ unread))
+        → ComesFirst s passage behind → HasGiven s.profile s.cell (given ++ passage ∷ []) (behind ++ unread) }
 {}
 
 /// Where a run ends, all passages of the text were given; and where it stops by a fault, those given are the first ones
@@ -41,8 +42,8 @@ pub fn run_goes_on()
 pub fn run_ends()
     ensures whole { (s : State) (given : List (List Marked)) → HasGiven s.profile s.cell given s.held → IsDone s
         → passages s.profile s.cell (flat_map scalars_of given) ≡ given }
-    ensures stopped { (s : State) (fault : PassageFault) (given : List (List Marked)) (stops : Stops s fault)
-        → HasGiven s.profile s.cell given s.held → 0 < length stops.seen → (more : List ℕ)
+    ensures stopped { (s : State) (fault : PassageFault) (given : List (List Marked)) (unread : List ℕ) (stops : Stops s fault)
+        → HasGiven s.profile s.cell given (s.held ++ unread) → 0 < length stops.seen → (more : List ℕ)
         → passages s.profile s.cell (flat_map scalars_of given ++ (stops.seen ++ more))
         ≡ given ++ passages s.profile s.cell (stops.seen ++ more) }
 {}

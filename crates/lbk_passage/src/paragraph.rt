@@ -91,6 +91,7 @@ impl Paragraph {
         ensures reads { R.read_count reader.new ≤ R.read_count reader.old + (self.old.limit + 4) }
         ensures quiet { self.old.is_held ≡ true → reader.new ≡ reader.old }
         ensures spent { self.old.is_spent ≡ true → reader.new ≡ reader.old }
+        ensures ended { self.old.feed.is_ended ≡ true → reader.new ≡ reader.old }
         ensures refused { self.old.is_spent ≡ true → result ≡ Err PassageFault.Spent }
     {
         if self.is_spent {
@@ -119,6 +120,7 @@ impl Paragraph {
             (R.unread reader.old) (R.unread reader.new) (R.has_ended reader.old) (R.has_ended reader.new)
             (R.read_count reader.old) (R.read_count reader.new) result }
         ensures failures { R.failure_count reader.new ≡ failures_with (R.failure_count reader.old) (fault_in result) }
+        ensures quiet { self.old.feed.is_ended ≡ true → reader.new ≡ reader.old }
     {
         let mut last = None;
         while self.settle(reader)? {
@@ -140,6 +142,7 @@ impl Paragraph {
             (R.unread reader.old) (R.unread reader.new) (R.has_ended reader.old) (R.has_ended reader.new)
             (R.read_count reader.old) (R.read_count reader.new) result }
         ensures failures { R.failure_count reader.new ≡ failures_with (R.failure_count reader.old) (fault_in result) }
+        ensures quiet { self.old.feed.is_ended ≡ true → reader.new ≡ reader.old }
     {
         let outcome = self.feed.settle(reader);
         self.is_spent = outcome.is_err();

@@ -64,6 +64,10 @@ impl<'a, C: CellSource> Segmenter<'a, C> {
     }
 
     /// The next passage, or `None` at the end of the text and from then on.
+    ///
+    /// It is given once the scalar after it, or the end of the text, was seen, after at most `limit + 8` reads. A
+    /// fault of the reader or of the text comes at its place, and `Spent` from then on. After `Memory`, which comes
+    /// where segments or pieces could not grow, the passage stays, and the same call reads nothing.
     pub fn next<R: Source>(&mut self, reader: &mut R) -> Result<Option<Passage<'_>>, PassageFault>
         ensures* after_borrow { sem 𝓛 (Rests (the_row (record { mir = named 1; lft = [] }) C.row C.CellSource) self.entry (λ new.
             AfterNext (state_of C.cell_of self.old) (state_of C.cell_of new) (R.unread reader.old) (R.unread reader.new)
@@ -75,6 +79,7 @@ impl<'a, C: CellSource> Segmenter<'a, C> {
         ensures spent_only { result ≡ Err PassageFault.Spent → (state_of C.cell_of self.old).is_spent ≡ true }
         // Where the answer was seen before, or a fault was answered, no read is made.
         ensures settled { (state_of C.cell_of self.old).is_settled ≡ true → reader.new ≡ reader.old }
+        ensures ended { (state_of C.cell_of self.old).is_ended ≡ true → reader.new ≡ reader.old }
         ensures reads { R.read_count reader.new ≤ R.read_count reader.old + ((state_of C.cell_of self.old).limit + 8) }
         // `Read` is the answer exactly where a read failed.
         ensures failures { R.failure_count reader.new ≡ failures_with (R.failure_count reader.old) (fault_in result) }

@@ -18,6 +18,8 @@ mod replayed;
 #[cfg(test)]
 mod rows;
 #[cfg(test)]
+mod segment_lines;
+#[cfg(test)]
 mod segmented;
 #[cfg(test)]
 mod shown;

@@ -5,4 +5,4 @@ pub returns-clause-whole : goal.returns-clause-whole
 returns-clause-whole c = Given-all
 
 pub returns-clause-stopped : goal.returns-clause-stopped
-returns-clause-stopped c = λ s fault given stops. Given-stopped s given fault stops
+returns-clause-stopped c = λ s fault given unread stops. Given-stopped s given fault unread stops

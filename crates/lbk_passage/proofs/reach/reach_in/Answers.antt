@@ -1,10 +1,10 @@
-use Rattle.std.proofs.Common.{◌≡◌, Some, false, ℕ, ◌+◌, ◌∷◌, ◌++◌, [], length, encode_utf8, encode_utf8_all, refl, sym, ap, ◌∙◌, arith, append_assoc, append-nil}
+use Rattle.std.proofs.Common.{◌≡◌, Some, false, ◌∷◌, [], refl, sym, ap, ◌∙◌, arith, append_assoc, append-nil}
 use Rattle.std.specs.Str.{chars}
 use Rattle.std.proofs.lemmas.List.{map-id}
 use Rattle.std.proofs.lemmas.Str.{length-encode}
 use Rattle.std.proofs.lemmas.Iterator.{YieldsList-from_chars}
 use Rattle.std.proofs.lemmas.Iterator.Consumers.{YieldsList-turn, YieldsList-end}
-use Rattle.lbk_passage.specs.Stays.{ends_at, stays, last_class}
+use Rattle.lbk_passage.specs.Stays.{ends_at, last_class}
 use Rattle.lbk_passage.proofs.Staying.{IsTurn, turn, stays-snoc, last_class-append, length-encode_more}
 use Rattle.lbk_passage.proofs.reach.reach_in.Goals as goal
 

@@ -1,7 +1,8 @@
-use Rattle.std.proofs.Common.{◌≡◌, ◌||◌, Ok, Err, true, false, refl, sym, ap, ◌∙◌, inr}
+use Rattle.std.proofs.Common.{◌||◌, Err, refl, sym, ap, ◌∙◌, inr}
 use Rattle.std.proofs.lemmas.Result.{err_from_is_err_and}
 use Rattle.lbk_passage.specs.State.{state_with}
-use Rattle.lbk_passage.proofs.Filling.{Fills-spent, Fills-held, Fills-gathered, Fills-ok, ends_by_fault, or-true}
+use Rattle.lbk_passage.proofs.Filling.{Fills-spent, Fills-held, Fills-gathered, Fills-ok, ends_by_fault}
+use Rattle.lbk_passage.proofs.Booleans.{or-true}
 use Rattle.lbk_passage.proofs.paragraph.Paragraph.fill.Goals as goal
 
 pub returns-then-self-clause-fills : goal.returns-then-self-clause-fills

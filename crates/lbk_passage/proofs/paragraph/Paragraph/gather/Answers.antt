@@ -1,4 +1,4 @@
-use Rattle.std.proofs.Common.{◌≡◌, Err, Some, refl, sym, ap, ◌∙◌}
+use Rattle.std.proofs.Common.{inl, inr, Err, refl, sym, ap, ◌∙◌}
 use Rattle.std.proofs.lemmas.Result.{err_from_is_err_and}
 use Rattle.lbk_passage.specs.Next.{failures_with, fault_in}
 use Rattle.lbk_passage.proofs.Gathered.{Gathering-none, turn-end, turn-more, turn-less, turn-line, turn-long, turn-fault}
@@ -8,6 +8,7 @@ pub loop-self-init : goal.loop-self-init
 loop-self-init g c = record {
   gathering = Gathering-none (g.C.CellSource.cell_of c.args.cells.now) c.args.self.now _ _ _ c.requires.fresh c.requires.open_end c.requires.unspent;
   failures = refl;
+  quiet = λ h. (refl, h);
 }
 
 pub returns-in_err-settle-clause-gathers : goal.returns-in_err-settle-clause-gathers
@@ -28,6 +29,8 @@ loop-self-preserved g c = record {
       c.loop-self.invariant.gathering c.settle.ensures.settles c.in_ok-settle.field-0 c.in_ok-settle.was c.if-branch.true
       c.take-reach.new.self c.take-reach.result c.take-reach.ensures;
   failures = c.settle.ensures.failures ∙ ap (λ r. failures_with (g.R.Source.failure_count c.loop-self.reader) (fault_in r)) c.in_ok-settle.was ∙ c.loop-self.invariant.failures;
+  quiet = λ h. let q = c.loop-self.invariant.quiet h in
+      (c.settle.ensures.quiet q.1 ∙ q.0, c.take-reach.ensures.ended ∙ (c.settle.ensures.settles.steps.same (inr (inl q.1))).2 ∙ q.1);
 }
 
 pub returns-in-LineEnds-clause-gathers : goal.returns-in-LineEnds-clause-gathers
@@ -46,3 +49,15 @@ pub returns-clause-gathers : goal.returns-clause-gathers
 returns-clause-gathers g c =
     turn-end (g.C.CellSource.cell_of c.args.cells.now) c.args.self.now _ _ _ c.loop-self.self c.settle.new.self c.loop-self.last _ _ _ _ _ _ c.settle.result
     c.loop-self.invariant.gathering c.settle.ensures.settles c.in_ok-settle.field-0 c.in_ok-settle.was c.end_before-2.result c.if-branch.false c.end_before-2.ensures
+
+pub returns-in_err-settle-clause-quiet : goal.returns-in_err-settle-clause-quiet
+returns-in_err-settle-clause-quiet g c = λ h. let q = c.loop-self.invariant.quiet h in c.settle.ensures.quiet q.1 ∙ q.0
+
+pub returns-in-LineEnds-clause-quiet : goal.returns-in-LineEnds-clause-quiet
+returns-in-LineEnds-clause-quiet g c = λ h. let q = c.loop-self.invariant.quiet h in c.settle.ensures.quiet q.1 ∙ q.0
+
+pub returns-in-NoRoom-clause-quiet : goal.returns-in-NoRoom-clause-quiet
+returns-in-NoRoom-clause-quiet g c = λ h. let q = c.loop-self.invariant.quiet h in c.settle.ensures.quiet q.1 ∙ q.0
+
+pub returns-clause-quiet : goal.returns-clause-quiet
+returns-clause-quiet g c = λ h. let q = c.loop-self.invariant.quiet h in c.settle.ensures.quiet q.1 ∙ q.0

@@ -1,4 +1,4 @@
-use Rattle.std.proofs.Common.{◌≡◌, ◌-◌, length, string_len}
+use Rattle.std.proofs.Common.{◌≡◌, true, ◌-◌, string_len}
 use Rattle.lbk_passage.specs.Gathering.{Gathering}
 use Rattle.lbk_passage.proofs.paragraph.Paragraph.gather.Given as goal
 
@@ -8,6 +8,7 @@ invariant-loop-self g l = record {
       (g.R.Source.unread l.initial.reader) (g.R.Source.unread l.reader) (g.R.Source.has_ended l.initial.reader) (g.R.Source.has_ended l.reader)
       (g.R.Source.read_count l.initial.reader) (g.R.Source.read_count l.reader);
   failures : g.R.Source.failure_count l.reader ≡ g.R.Source.failure_count l.initial.reader;
+  quiet : l.initial.self.feed.is_ended ≡ true → (l.reader ≡ l.initial.reader) × (l.self.feed.is_ended ≡ true);
 }
 
 abbrev pub decreases-loop-self : goal.decreases-loop-self

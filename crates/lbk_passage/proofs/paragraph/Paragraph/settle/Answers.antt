@@ -59,3 +59,9 @@ returns-in-Err-clause-failures g c =
     c.settle-outcome.ensures.failures ∙ ap (λ r. feed.failures_with (g.R.Source.failure_count c.args.reader.now) (fault_of r)) c.in-Err.is
     ∙ failures_alike (g.R.Source.failure_count c.args.reader.now) c.in-Err.fault
     ∙ ap (λ e. failures_with (g.R.Source.failure_count c.args.reader.now) (Some e)) (sym c.from_feed.ensures)
+
+pub returns-in-Ok-clause-quiet : goal.returns-in-Ok-clause-quiet
+returns-in-Ok-clause-quiet g c = λ h. c.settle-outcome.ensures.idle (inr (inl h))
+
+pub returns-in-Err-clause-quiet : goal.returns-in-Err-clause-quiet
+returns-in-Err-clause-quiet g c = λ h. c.settle-outcome.ensures.idle (inr (inl h))

@@ -1,6 +1,6 @@
-use Rattle.std.proofs.Common.{◌≡◌, ◌-◌, ◌++◌, IsUtf8, IsCharBoundary, string_len, string_bytes, not, is_ok, if◌then◌else◌, encode_utf8_all, refl, sym, ap, subst, ◌∙◌}
-use Rattle.lbk_passage.specs.Gathering.{Reaches, Takes}
-use Rattle.lbk_passage.proofs.Taking.{boundary, Takes-moves, Moves, pushed}
+use Rattle.std.proofs.Common.{◌-◌, ◌++◌, IsCharBoundary, string_len, string_bytes, not, is_ok, if◌then◌else◌, refl, ap, subst, ◌∙◌}
+use Rattle.lbk_passage.specs.Gathering.{Reaches}
+use Rattle.lbk_passage.proofs.Taking.{boundary, Takes-moves, pushed}
 use Rattle.lbk_passage.proofs.paragraph.Paragraph.take.Goals as goal
 
 pub range-requires-clause-end_boundary : goal.range-requires-clause-end_boundary

@@ -1,10 +1,10 @@
-use Rattle.std.proofs.Common.{◌≡◌, not, length, chars, ◌+◌, ◌≤◌, ◌||◌, Ok, Err, Some, None, true, false, is_ok, refl, sym, ap, subst, ◌∙◌, inl, inr, ⊎_elim, arith, OnOk}
+use Rattle.std.proofs.Common.{◌≡◌, not, length, chars, Ok, Err, Some, refl, sym, ap, ◌∙◌, ⊎_elim, arith}
 use Rattle.std.proofs.lemmas.Result.{err_from_is_err_and}
 use Rattle.lbk_passage.specs.Marks.{marks, ended}
 use Rattle.lbk_passage.specs.Segments.{segments_of}
 use Rattle.lbk_passage.specs.Pieces.{pieces_of}
 use Rattle.lbk_passage.specs.declared.faults.PassageFault.{PassageFault}
-use Rattle.lbk_passage.specs.declared.faults.PassageFault.TheVariants.{Memory, Spent}
+use Rattle.lbk_passage.specs.declared.faults.PassageFault.TheVariants.{Spent}
 use Rattle.lbk_passage.specs.Next.{failures_with, fault_in}
 use Rattle.lbk_passage.specs.State.{state_with}
 use Rattle.lbk_passage.proofs.Giving.{or-cases, spent_by, After-fault, After-none, After-memory, After-lent, on_ok, ok_err}
@@ -29,6 +29,7 @@ returns-in_err-end g c =
             let same : exit.0 ≡ Spent = cc in ap (λ (f : PassageFault). Err f) same;
         spent_only = λ is. spent_by (state_with cell profile p) p old.is_spent exit.0 fills.answer (let same : exit.0 ≡ Spent = cc in same);
         settled = λ seen. ⊎_elim (λ held. c.fill.ensures.quiet held) (λ spent. c.fill.ensures.spent spent) (or-cases old.is_held old.is_spent seen);
+        ended = λ h. c.fill.ensures.ended h;
         reads = omega (arith, c.fill.ensures.reads);
         failures = c.fill.ensures.failures ∙ ap (λ r. failures_with (g.R.Source.failure_count c.args.reader.now) (fault_in r)) was;
       },
@@ -49,6 +50,7 @@ returns-in_default g c =
         spent = λ spent. absurd (let refused = c.fill.ensures.refused spent in cc);
         spent_only = λ is. cc;
         settled = λ seen. ⊎_elim (λ held. c.fill.ensures.quiet held) (λ spent. c.fill.ensures.spent spent) (or-cases old.is_held old.is_spent seen);
+        ended = λ h. c.fill.ensures.ended h;
         reads = omega (arith, c.fill.ensures.reads);
         failures = c.fill.ensures.failures ∙ ap (λ r. failures_with (g.R.Source.failure_count c.args.reader.now) (fault_in r)) was;
       },
@@ -69,6 +71,7 @@ returns-then-is_err g c =
         spent = λ spent. absurd (let refused = c.fill.ensures.refused spent in cc);
         spent_only = λ is. cc;
         settled = λ seen. ⊎_elim (λ held. c.fill.ensures.quiet held) (λ spent. c.fill.ensures.spent spent) (or-cases old.is_held old.is_spent seen);
+        ended = λ h. c.fill.ensures.ended h;
         reads = omega (arith, c.fill.ensures.reads);
         failures = c.fill.ensures.failures ∙ ap (λ r. failures_with (g.R.Source.failure_count c.args.reader.now) (fault_in r)) was;
       },
@@ -89,6 +92,7 @@ returns-then-is_err-2 g c =
         spent = λ spent. absurd (let refused = c.fill.ensures.refused spent in cc);
         spent_only = λ is. cc;
         settled = λ seen. ⊎_elim (λ held. c.fill.ensures.quiet held) (λ spent. c.fill.ensures.spent spent) (or-cases old.is_held old.is_spent seen);
+        ended = λ h. c.fill.ensures.ended h;
         reads = omega (arith, c.fill.ensures.reads);
         failures = c.fill.ensures.failures ∙ ap (λ r. failures_with (g.R.Source.failure_count c.args.reader.now) (fault_in r)) was;
       },
@@ -129,6 +133,7 @@ returns g c =
         spent = λ spent. absurd (ok_err c.fill.result (Some c.in-Some.end) Spent was (c.fill.ensures.refused spent));
         spent_only = λ is. absurd (ok_err (Ok (Some c.lend.result)) (Some c.lend.result) Spent refl is);
         settled = λ seen. ⊎_elim (λ held. c.fill.ensures.quiet held) (λ spent. c.fill.ensures.spent spent) (or-cases old.is_held old.is_spent seen);
+        ended = λ h. c.fill.ensures.ended h;
         reads = omega (arith, c.fill.ensures.reads);
         failures = c.fill.ensures.failures ∙ ap (λ r. failures_with (g.R.Source.failure_count c.args.reader.now) (fault_in r)) was;
       },
