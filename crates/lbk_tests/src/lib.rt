@@ -6,6 +6,8 @@ mod agreement;
 #[cfg(test)]
 mod cells;
 #[cfg(test)]
+mod commands;
+#[cfg(test)]
 mod decided;
 #[cfg(test)]
 mod laws;
