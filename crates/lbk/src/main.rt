@@ -1,42 +1,82 @@
-//! `lbk`: the line breaks of a text on standard input, and the rules that decide them.
+//! `lbk`: where a text may break and where it must, and the rules that decide it.
 #![tactic(auto)]
 
-use lbk_cmd::{SAMPLE_FILES, read_cells, show};
+mod file_store;
+mod message;
+
+use file_store::FileStore;
+use lbk_cmd::{Ending, run};
 use lbk_feed::Device;
-use std::env;
-use std::fmt::Display;
+use lbk_words::parse;
+use message::Message;
 use std::io::ErrorKind;
 use std::process::ExitCode;
-
-/// The most bytes of a paragraph.
-const LIMIT: u32 = 65_536;
+use std::{env, io};
 
 const REFUSED: u8 = 1;
 
 const USAGE: u8 = 2;
 
 fn main(rt: HostRuntime) -> ExitCode {
-    match env::args(&rt) {
-        Ok(words) if words.len() <= 1 => run(&rt),
-        Err(error) if error.kind() == ErrorKind::OutOfMemory => ended(&rt, error, REFUSED),
-        _ => ended(&rt, "usage: lbk, with a text on standard input", USAGE),
-    }
-}
-
-fn run(rt: &HostRuntime) -> ExitCode {
-    let cells = match read_cells(rt.alloc(), SAMPLE_FILES) {
-        Ok(cells) => cells,
-        Err(fault) => return ended(rt, fault, REFUSED),
+    let given = match words_given(&rt) {
+        Ok(given) => given,
+        Err(error) if error.kind() == ErrorKind::OutOfMemory => return ended(&rt, REFUSED),
+        Err(_) => {
+            let _ = eprintln!(rt; "lbk: the words are not UTF-8");
+            return ExitCode::from(USAGE);
+        }
     };
+    let mut words = Vec::new(rt.alloc());
+    for word in &given {
+        if words.push(word.as_str()).is_err() {
+            return ended(&rt, REFUSED);
+        }
+    }
     let mut reader = Device::new(rt.stdin());
     let mut writer = Device::new(rt.stdout());
-    match show(rt.alloc(), &mut reader, &mut writer, &cells, LIMIT) {
-        Ok(()) => ExitCode::SUCCESS,
-        Err(fault) => ended(rt, fault, REFUSED),
-    }
+    let store = FileStore::new(&rt);
+    let ending = run(
+        rt.alloc(),
+        words.as_slice(),
+        &store,
+        &mut reader,
+        &mut writer,
+    );
+    told(&rt, words.as_slice(), &ending)
 }
 
-fn ended(rt: &impl Eprint, why: impl Display + Drop, status: u8) -> ExitCode {
-    let _ = eprintln!(rt; "lbk: {why}");
+/// The words behind the program's name.
+fn words_given(rt: &HostRuntime) -> io::Result<Vec<String>> {
+    let words = env::args(rt)?.skip(1).collect(rt.alloc())?;
+    Ok(words)
+}
+
+/// Want of memory before the words were read.
+fn ended(rt: &HostRuntime, status: u8) -> ExitCode {
+    let _ = eprintln!(rt; "lbk: out of memory");
     ExitCode::from(status)
+}
+
+/// Help goes to standard output, usage and faults to standard error.
+fn told(rt: &HostRuntime, words: &[&str], ending: &Ending) -> ExitCode {
+    match ending {
+        Ending::Done | Ending::Differs(_) => {}
+        Ending::Help { text } => {
+            if print!(rt; "{text}").is_err() {
+                let _ = eprintln!(rt; "lbk: standard output cannot be written");
+                return ExitCode::from(REFUSED);
+            }
+        }
+        Ending::Usage { text } => {
+            let _ = eprint!(rt; "{text}");
+        }
+        Ending::Refused(fault) => {
+            let message = Message {
+                fault: *fault,
+                order: parse(rt.alloc(), words).ok(),
+            };
+            let _ = eprintln!(rt; "lbk: {message}");
+        }
+    }
+    ExitCode::from(ending.status())
 }

@@ -1,3 +1,9 @@
-pub mod Refusals
-pub mod Tokens
-pub mod Verdicts
+pub mod Deciding
+pub mod LineWriting
+pub mod PassageLines
+pub mod Running
+pub mod Runs
+pub mod Stopping
+pub mod Looping
+pub mod Known
+mod Rows

@@ -1,7 +1,11 @@
 -- What a reader has to believe.
-pub mod Cells
-pub mod CellsRefusal
-pub mod Limits
-pub mod Line
-pub mod Refusal
 pub mod Show
+pub mod Segment
+pub mod Texts
+pub mod Run
+pub mod Engines
+pub mod Ending
+pub mod Acts
+-- What only carries proofs.
+pub mod Deciding
+pub mod Devices

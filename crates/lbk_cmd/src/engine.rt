@@ -1,48 +1,51 @@
-//! `show`: the marks, scalars and rules of a text, a line a passage.
+//! The engines: each reads a text to its end, and writes its lines of every passage.
 
-ghost use Rattle.std.specs.Prelude.{◌≡◌, ◌≢◌, ℕ, ◌+◌, ◌<◌, ◌≤◌, ◌↔◌, ◌⊎◌, map, length, take, string_bytes, IsUtf8, IsTrue, IfSome, IfOk, IfErr, OnOk, OnErr, IsErrOf};
+ghost use Rattle.std.specs.Prelude.{◌≡◌, ℕ, ◌+◌, ◌<◌, ◌≤◌, ◌↔◌, ◌++◌, List, length, IsUtf8, IsTrue, IfSome, OnOk, IsErrOf};
 ghost use Rattle.std.specs.Str.{chars};
-ghost use Rattle.std.specs.Io.KnownBytes.{Appends, Consumes, IsAtEnd, Keeps};
-ghost use Rattle.std.specs.Bool.{OnTrue, OnFalse};
-ghost use Rattle.lbk_feed.specs.Runs.{HasFailed};
-ghost use Rattle.lbk_rules.specs.declared.cells.Cell.{Cell};
-ghost use Rattle.lbk_cmd.specs.Limits.{IsLimit};
-ghost use Rattle.lbk_cmd.specs.Line.{verdicts_of};
-ghost use Rattle.lbk_cmd.specs.Refusal.{IsRefusal};
-ghost use Rattle.lbk_cmd.specs.Show.{IsCause, IsOnePassage, HasEarlyMust, show_text};
+ghost use Rattle.std.specs.Io.KnownBytes.{Appends, IsAtEnd};
+ghost use Rattle.lbk_feed.specs.Runs.{HasFailed, Ran};
+ghost use Rattle.lbk_passage.specs.Marks.{Marked};
+ghost use Rattle.lbk_passage.specs.Next.{IsPassage, IsPlaced};
+ghost use Rattle.lbk_passage.specs.Passages.{passages};
+ghost use Rattle.lbk_passage.specs.State.{State, IsLimit};
+ghost use Rattle.lbk_cmd.specs.Engines.{engine_of, lines_of, showing, segmenting};
+ghost use Rattle.lbk_cmd.specs.Run.{IsRun, is_failed_read};
+ghost use Rattle.lbk_cmd.specs.Texts.{show_text, segment_text};
 
-use super::faults::{CmdFault, PassageFault};
-use super::line::{line, verdicts};
-use lbk_feed::{Failed, Sink, Source, write_all};
-use lbk_rules::{Cell, CellSource, Kind, Verdict};
+use super::faults::CmdFault;
+use super::segmented::push_segmented;
+use super::shown::{decide, push_shown};
+use lbk_feed::{Sink, Source, write_all};
+use lbk_passage::{Passage, PassageFault, Segmenter};
+use lbk_rules::{CellSource, Profile, Verdict};
 use std::alloc::{AllocError, Global};
 
-const GREATEST_LIMIT: u32 = 1_048_576;
-
-const BLOCK: usize = 4096;
-
-/// Writes the marks, scalars and rules of a text (UAX #14, section 6), each passage in a line of its own:
-/// the marks of its positions with its scalars between them, a tab, `#`, and the number of the rule that
-/// decided each position. It is written as a whole, once all of it is known.
+/// Writes the marks, scalars and rules of a text (UAX #14, section 6), each passage in a line of its own: the marks
+/// of its positions with its scalars between them, a tab, `#`, and the number of the rule that decided each position.
 ///
-/// For now a text is one passage: one that must break before its end is `ParagraphTooLong`.
+/// A passage's line is written as a whole, once the scalar behind the passage was seen, or the end of the text.
+/// `limit` is the most bytes of a paragraph, 1 to 16,777,216. `Passage` says why no more passages come, `Write` that
+/// the writer failed, `Memory` that memory could not grow for a line.
 pub fn show<R: Source, W: Sink, C: CellSource>(
     alloc: Global,
     reader: &mut R,
     writer: &mut W,
     cells: &C,
     limit: u32,
+    profile: Profile,
 ) -> Result<(), CmdFault>
-    // What is written of an input that the reader tells, and of what kind the input then is.
-    ensures shown { OnOk result (IfSome (R.unread reader.old) (λ input.
-        IsOnePassage (C.cell_of cells.now) limit input
-        × Appends (W.written writer.old) (W.written writer.new) (show_text (C.cell_of cells.now) input))) }
+    // What is written of an input that the reader tells.
+    ensures shown { OnOk result (IfSome (R.unread reader.old) (λ input. IsUtf8 input
+        × Appends (W.written writer.old) (W.written writer.new) (show_text (passages profile (C.cell_of cells.now) (chars input))))) }
     ensures ended { OnOk result (IsTrue (R.has_ended reader.new) × IsAtEnd (R.unread reader.new)) }
 
-    // When each refusal comes.
+    // What was read and what was written, whatever the answer.
+    ensures run { Ran (is_failed_read result) (R.unread reader.old) (R.unread reader.new) (W.written writer.old)
+        (W.written writer.new) (IsRun (showing (C.cell_of cells.now) profile limit) (R.has_ended reader.new) result) }
+    ensures reads { R.read_count reader.new ≤ R.read_count reader.old + 1073741825 }
+
+    // When each refusal comes that the bytes do not tell.
     ensures limit { IsErrOf result (CmdFault.Passage PassageFault.Limit) ↔ (¬ (IsLimit limit)) }
-    ensures refused { IfErr result (λ fault. IfSome (R.unread reader.old) (λ input.
-        IsRefusal (C.cell_of cells.now) limit input fault)) }
     ensures read { IsErrOf result (CmdFault.Passage PassageFault.Read)
         → HasFailed (R.failure_count reader.old) (R.failure_count reader.new) }
     ensures read_failed { R.failure_count reader.old < R.failure_count reader.new
@@ -50,144 +53,118 @@ pub fn show<R: Source, W: Sink, C: CellSource>(
     ensures write { IsErrOf result CmdFault.Write
         → HasFailed (W.failure_count writer.old) (W.failure_count writer.new) }
     ensures write_failed { W.failure_count writer.old < W.failure_count writer.new → result ≡ Err CmdFault.Write }
-
-    // What went out and how much was read, whatever the answer.
-    ensures front { (n : ℕ) × IfSome (R.unread reader.old) (λ input.
-        Appends (W.written writer.old) (W.written writer.new) (take n (show_text (C.cell_of cells.now) input))) }
-    ensures untouched { IfErr result (λ fault. fault ≢ CmdFault.Write → writer.new ≡ writer.old) }
-    ensures reads { R.read_count reader.new ≤ R.read_count reader.old + (limit + 2) }
 {
-    if limit == 0 || limit > GREATEST_LIMIT {
-        return Err(CmdFault::Passage(PassageFault::Limit));
-    }
-    let line = line_of_input(alloc, reader, cells, limit)?;
-    match write_all(writer, line.as_bytes()) {
-        Ok(()) => Ok(()),
-        Err(Failed) => Err(CmdFault::Write),
-    }
+    write_lines(Lines::Shown, alloc, reader, writer, cells, limit, profile)
 }
 
-/// Reads a text to its end, and answers its line.
-fn line_of_input<R: Source, C: CellSource>(
+/// Writes the segments and words of a text: for each passage a line `P` with its first byte and the byte behind its
+/// last, then a line `S` for each segment, with the kind and the rule of the line break at its end (UAX #14,
+/// section 6), then a line `W` for each word (UAX #29, section 4). Offsets count bytes of the whole text.
+///
+/// The lines of a passage are written as a whole, and refused, as by `show`.
+pub fn segment<R: Source, W: Sink, C: CellSource>(
     alloc: Global,
     reader: &mut R,
+    writer: &mut W,
     cells: &C,
     limit: u32,
-) -> Result<String, CmdFault>
-    ensures line { IfOk result (λ line. IfSome (R.unread reader.old) (λ input.
-        IsOnePassage (C.cell_of cells.now) limit input
-        × (string_bytes line ≡ show_text (C.cell_of cells.now) input))) }
+    profile: Profile,
+) -> Result<(), CmdFault>
+    // What is written of an input that the reader tells.
+    ensures shown { OnOk result (IfSome (R.unread reader.old) (λ input. IsUtf8 input
+        × Appends (W.written writer.old) (W.written writer.new)
+        (segment_text (C.cell_of cells.now) (passages profile (C.cell_of cells.now) (chars input))))) }
     ensures ended { OnOk result (IsTrue (R.has_ended reader.new) × IsAtEnd (R.unread reader.new)) }
-    ensures refused { IfErr result (λ fault. IfSome (R.unread reader.old) (λ input.
-        IsRefusal (C.cell_of cells.now) limit input fault)) }
-    ensures only { IfErr result (λ fault. (fault ≢ CmdFault.Passage PassageFault.Limit) × (fault ≢ CmdFault.Write)) }
+
+    // What was read and what was written, whatever the answer.
+    ensures run { Ran (is_failed_read result) (R.unread reader.old) (R.unread reader.new) (W.written writer.old)
+        (W.written writer.new) (IsRun (segmenting (C.cell_of cells.now) profile limit) (R.has_ended reader.new) result) }
+    ensures reads { R.read_count reader.new ≤ R.read_count reader.old + 1073741825 }
+
+    // When each refusal comes that the bytes do not tell.
+    ensures limit { IsErrOf result (CmdFault.Passage PassageFault.Limit) ↔ (¬ (IsLimit limit)) }
     ensures read { IsErrOf result (CmdFault.Passage PassageFault.Read)
         → HasFailed (R.failure_count reader.old) (R.failure_count reader.new) }
     ensures read_failed { R.failure_count reader.old < R.failure_count reader.new
         → result ≡ Err (CmdFault.Passage PassageFault.Read) }
-    ensures reads { R.read_count reader.new ≤ R.read_count reader.old + (limit + 2) }
+    ensures write { IsErrOf result CmdFault.Write
+        → HasFailed (W.failure_count writer.old) (W.failure_count writer.new) }
+    ensures write_failed { W.failure_count writer.old < W.failure_count writer.new → result ≡ Err CmdFault.Write }
 {
-    let input = read_input(alloc, reader, limit)?;
-    match input_text(&input, limit) {
-        Ok(text) => passage_line(alloc, cells, text),
-        Err(fault) => Err(CmdFault::Passage(fault)),
-    }
+    write_lines(
+        Lines::Segmented,
+        alloc,
+        reader,
+        writer,
+        cells,
+        limit,
+        profile,
+    )
 }
 
-/// The text that the input is, where it fits the limit and is well-formed (Unicode Standard, Table 3-7).
-fn input_text(input: &[u8], limit: u32) -> Result<&str, PassageFault>
-    ensures text { IfOk result (λ text. (text.now ≡ input.now) × IsUtf8 input.now × (length input.now ≤ limit)) }
-    ensures refused { IfErr result (λ fault. (cell : ℕ → Cell) → IsCause cell limit input.now fault) }
-    ensures only { IfErr result (λ fault. (fault ≢ PassageFault.Limit) × (fault ≢ PassageFault.Read)) }
-{
-    if input.len() > limit as usize {
-        return Err(PassageFault::ParagraphTooLong { start: 0 });
-    }
-    simdutf8::compat::from_utf8(input).map_err(|error| PassageFault::NotUtf8 {
-        at: error.valid_up_to() as u64,
-    })
+/// What is written of a passage.
+#[derive(Clone, Copy)]
+enum Lines {
+    /// Its marks, scalars and rules, in one line.
+    Shown,
+    /// Itself, its segments and its words.
+    Segmented,
 }
 
-/// The line of a text that is one passage; of an empty text, nothing.
-fn passage_line<C: CellSource>(alloc: Global, source: &C, text: &str) -> Result<String, CmdFault>
-    ensures line { IfOk result (λ line. string_bytes line ≡ show_text (C.cell_of source.now) text.now) }
-    ensures whole { OnOk result (¬ (HasEarlyMust (map (C.cell_of source.now) (chars text.now)))) }
-    ensures refused { IfErr result (λ fault. (fault ≡ CmdFault.Memory)
-        ⊎ ((fault ≡ CmdFault.Passage (PassageFault.ParagraphTooLong 0))
-        × HasEarlyMust (map (C.cell_of source.now) (chars text.now)))) }
-{
-    let scalars = scalars_of(alloc, text)?;
-    if scalars.is_empty() {
-        return Ok(String::new(alloc));
-    }
-    let cells = cells_of(alloc, source, &scalars)?;
-    let verdicts = verdicts(alloc, &cells)?;
-    if breaks_early(&cells, &verdicts) {
-        return Err(CmdFault::Passage(PassageFault::ParagraphTooLong { start: 0 }));
-    }
-    Ok(line(alloc, &scalars, &verdicts)?)
-}
-
-fn scalars_of(alloc: Global, text: &str) -> Result<Vec<char>, AllocError>
-    ensures { IfOk result (λ scalars. scalars.items ≡ chars text.now) }
-{
-    text.chars().collect(alloc)
-}
-
-fn cells_of<C: CellSource>(
+/// Reads a text to its end, and writes the lines of each passage by one call of `write_all`.
+fn write_lines<R: Source, W: Sink, C: CellSource>(
+    lines: Lines,
     alloc: Global,
-    source: &C,
-    scalars: &[char],
-) -> Result<Vec<Cell>, AllocError>
-    ensures cells { IfOk result (λ cells. cells.items ≡ map (C.cell_of source.now) scalars.now) }
-    ensures len { IfOk result (λ cells. length cells.items ≡ length scalars.now) }
+    reader: &mut R,
+    writer: &mut W,
+    cells: &C,
+    limit: u32,
+    profile: Profile,
+) -> Result<(), CmdFault>
+    ensures ended { OnOk result (IsTrue (R.has_ended reader.new) × IsAtEnd (R.unread reader.new)) }
+    ensures run { Ran (is_failed_read result) (R.unread reader.old) (R.unread reader.new) (W.written writer.old)
+        (W.written writer.new) (IsRun (engine_of lines (C.cell_of cells.now) profile limit) (R.has_ended reader.new) result) }
+    ensures reads { R.read_count reader.new ≤ R.read_count reader.old + 1073741825 }
+    ensures limit { IsErrOf result (CmdFault.Passage PassageFault.Limit) ↔ (¬ (IsLimit limit)) }
+    ensures read { IsErrOf result (CmdFault.Passage PassageFault.Read)
+        → HasFailed (R.failure_count reader.old) (R.failure_count reader.new) }
+    ensures read_failed { R.failure_count reader.old < R.failure_count reader.new
+        → result ≡ Err (CmdFault.Passage PassageFault.Read) }
+    ensures write { IsErrOf result CmdFault.Write
+        → HasFailed (W.failure_count writer.old) (W.failure_count writer.new) }
+    ensures write_failed { W.failure_count writer.old < W.failure_count writer.new → result ≡ Err CmdFault.Write }
 {
-    scalars.iter().map(|c| source.cell(*c)).collect(alloc)
-}
-
-/// Whether a position before the end is one that must break.
-fn breaks_early(cells: &[Cell], verdicts: &[Verdict]) -> bool
-    requires { verdicts.now ≡ verdicts_of cells.now }
-    ensures yes { OnTrue result (HasEarlyMust cells.now) }
-    ensures no { OnFalse result (¬ (HasEarlyMust cells.now)) }
-{
-    for k in 0..cells.len() {
-        if is_must(verdicts[k].kind) {
-            return true;
-        }
+    let mut segmenter = Segmenter::new(alloc, cells, limit, profile)?;
+    let mut verdicts = Vec::new(alloc);
+    let mut text = Vec::new(alloc);
+    while let Some(passage) = segmenter.next(reader)? {
+        text.clear();
+        push_lines(lines, cells, profile, &passage, &mut verdicts, &mut text)?;
+        write_all(writer, &text)?;
     }
-    false
+    Ok(())
 }
 
-fn is_must(kind: Kind) -> bool
-    ensures yes { OnTrue result (kind ≡ Kind.Must) }
-    ensures no { OnFalse result (kind ≢ Kind.Must) }
+/// Puts the lines of a passage at the end of a text, `verdicts` being a list to work in. After an error some of them
+/// may stand there.
+fn push_lines<C: CellSource>(
+    lines: Lines,
+    cells: &C,
+    profile: Profile,
+    passage: &Passage<'_>,
+    verdicts: &mut Vec<Verdict>,
+    text: &mut Vec<u8>,
+) -> Result<(), AllocError>
+    requires { IsPlaced passage.now }
+    ensures { OnOk result ((s : State) (ms : List Marked) → s.cell ≡ C.cell_of cells.now → s.profile ≡ profile
+        → IsPassage s ms passage.now
+        → text.new.items ≡ text.old.items ++ lines_of lines (C.cell_of cells.now) passage.now.start ms) }
 {
-    matches!(kind, Kind::Must)
-}
-
-/// Reads until the end, or until one byte more than the limit is there.
-fn read_input<R: Source>(alloc: Global, reader: &mut R, limit: u32) -> Result<Vec<u8>, CmdFault>
-    ensures bytes { IfOk result (λ input. Consumes (R.unread reader.old) (R.unread reader.new) input.items) }
-    ensures whole { IfOk result (λ input. length input.items ≤ limit
-        → IsTrue (R.has_ended reader.new) × IsAtEnd (R.unread reader.new)) }
-    ensures reads { R.read_count reader.new ≤ R.read_count reader.old + (limit + 2) }
-    ensures read { IsErrOf result (CmdFault.Passage PassageFault.Read) → HasFailed (R.failure_count reader.old) (R.failure_count reader.new) }
-    ensures read_failed { R.failure_count reader.old < R.failure_count reader.new → result ≡ Err (CmdFault.Passage PassageFault.Read) }
-    ensures only { IfErr result (λ fault. (fault ≡ CmdFault.Passage PassageFault.Read) ⊎ (fault ≡ CmdFault.Memory)) }
-{
-    let most = limit as usize + 1;
-    let mut input = Vec::new(alloc);
-    let mut block = [0u8; BLOCK];
-    while input.len() < most {
-        let room = BLOCK.min(most - input.len());
-        let Ok(count) = reader.read(&mut block[..room]) else {
-            return Err(CmdFault::Passage(PassageFault::Read));
-        };
-        if count == 0 {
-            return Ok(input);
+    match lines {
+        Lines::Shown => {
+            decide(cells, profile, passage.text, passage.end, verdicts)?;
+            push_shown(text, passage.text, verdicts)
         }
-        input.extend_from_slice(&block[..count])?;
+        Lines::Segmented => push_segmented(text, passage),
     }
-    Ok(input)
 }

@@ -1,41 +1,40 @@
 //! The faults of the engines, by name.
 
 ghost use Rattle.std.specs.Prelude.{◌≡◌};
-ghost use Rattle.lbk_cmd.specs.declared.faults.CmdFault.TheVariants.{Memory};
+ghost use Rattle.lbk_cmd.specs.declared.faults.CmdFault.TheVariants.{Memory, Passage as passage_fault, Write};
 
-use lbk_ucd::UcdFault;
+use lbk_feed::Failed;
+use lbk_passage::PassageFault;
 use std::alloc::{AllocError, AllocFailed};
 use std::fmt;
 use thiserror::Error;
 
-/// Why a passage is refused.
-#[derive(Clone, Copy, Debug, PartialEq, Eq)]
-pub enum PassageFault {
-    /// The limit is not 1 to 1,048,576 bytes; it is looked at first.
-    Limit,
-    /// A growth of memory was refused.
+/// Why an engine stopped.
+#[derive(Clone, Copy, Debug, PartialEq, Eq, Error)]
+pub enum CmdFault {
+    /// A passage was refused, or memory could not grow for it.
+    #[error("{}", Told(*.0))]
+    Passage(PassageFault),
+    /// The writer failed in this call.
+    #[error("the output cannot be written")]
+    Write,
+    /// Memory could not grow for what is written.
+    #[error("out of memory")]
     Memory,
-    /// The reader failed in this call.
-    Read,
-    /// `at` is the length in bytes of the longest well-formed prefix of the input (Unicode Standard,
-    /// Table 3-7), and the bytes from there on are ill-formed or end inside a scalar.
-    NotUtf8 { at: u64 },
-    /// More bytes were read than a text may have.
-    TextTooLong,
-    /// The paragraph that begins at byte `start` goes past the limit.
-    ParagraphTooLong { start: u64 },
-    /// An earlier call was refused, and the rest of the text is not read.
-    Spent,
 }
 
-impl fmt::Display for PassageFault {
+/// A fault of a passage, as it is told.
+#[derive(Clone, Copy)]
+struct Told(PassageFault);
+
+impl fmt::Display for Told {
     fn fmt<W: fmt::Write>(&self, f: &mut fmt::Formatter<W>) -> fmt::Result {
-        match self {
-            PassageFault::Limit => write!(f, "the limit of a paragraph is 1 to 1048576 bytes"),
+        match self.0 {
+            PassageFault::Limit => write!(f, "the limit of a paragraph is 1 to 16777216 bytes"),
             PassageFault::Memory => write!(f, "out of memory"),
             PassageFault::Read => write!(f, "the input cannot be read"),
             PassageFault::NotUtf8 { at } => write!(f, "the input is not UTF-8 from byte {at} on"),
-            PassageFault::TextTooLong => write!(f, "the text is too long"),
+            PassageFault::TextTooLong => write!(f, "the text is longer than 1073741824 bytes"),
             PassageFault::ParagraphTooLong { start } => {
                 write!(
                     f,
@@ -47,29 +46,20 @@ impl fmt::Display for PassageFault {
     }
 }
 
-/// Why there are no cells to decide by.
-#[derive(Clone, Copy, Debug, PartialEq, Eq, Error)]
-pub enum CellsFault {
-    /// The property files were refused at their first fault, or at a line where their tables could not grow.
-    #[error("property file {:?}, line {}: {:?}", .0.file, .0.line, .0.cause)]
-    Tables(UcdFault),
-    /// A growth of memory was refused.
-    #[error("out of memory")]
-    Memory,
+impl From<PassageFault> for CmdFault {
+    ghost from_gives = { λ passage fault. fault ≡ passage_fault passage };
+
+    fn from(fault: PassageFault) -> CmdFault {
+        CmdFault::Passage(fault)
+    }
 }
 
-/// Why `show` stopped.
-#[derive(Clone, Copy, Debug, PartialEq, Eq, Error)]
-pub enum CmdFault {
-    /// A passage was refused.
-    #[error("{0}")]
-    Passage(PassageFault),
-    /// The writer failed in this call.
-    #[error("the output cannot be written")]
-    Write,
-    /// A growth of memory was refused.
-    #[error("out of memory")]
-    Memory,
+impl From<Failed> for CmdFault {
+    ghost from_gives = { λ _ fault. fault ≡ Write };
+
+    fn from(_failed: Failed) -> CmdFault {
+        CmdFault::Write
+    }
 }
 
 impl From<AllocError> for CmdFault {

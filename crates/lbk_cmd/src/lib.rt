@@ -1,12 +1,17 @@
-//! The engines of the program: what each writes is a stated function of what it reads.
+//! The engines of the program, and the program's run: what each writes is a stated function of what it reads.
 #![tactic(auto)]
 
-mod cells;
+mod command;
+mod ending;
 mod engine;
 mod faults;
-pub mod laws;
-mod line;
+mod segmented;
+mod shown;
 
-pub use cells::{SAMPLE_FILES, read_cells};
-pub use engine::show;
-pub use faults::{CellsFault, CmdFault, PassageFault};
+pub use command::run;
+pub use ending::{Ending, RunFault};
+pub use engine::{segment, show};
+pub use faults::CmdFault;
+pub use lbk_files::{
+    CellsFault, LoadFault, MemoryStore, SAMPLE_FILES, Store, read_cells, read_front,
+};

@@ -37,6 +37,7 @@ module _ (cell : ℕ → Cell) (profile : Profile) (old : Paragraph) (u : Option
     costs = record { each_gave = λ open_end. cc; but_one = omega arith; within = λ less. absurd (omega arith) };
     agrees = λ h. h;
     notices = λ h. refl;
+    quiet = λ h. (refl, h, omega arith, λ e. cc);
   }
 
   -- a paragraph that is held already
@@ -55,6 +56,7 @@ module _ (cell : ℕ → Cell) (profile : Profile) (old : Paragraph) (u : Option
     costs = record { each_gave = λ open_end. omega arith; but_one = omega arith; within = λ less. absurd (omega arith) };
     agrees = λ h. h;
     notices = λ h. refl;
+    quiet = λ h. (refl, h, omega arith, λ e. cc);
   }
 
   -- a paragraph that was gathered
@@ -104,6 +106,9 @@ module _ (cell : ℕ → Cell) (profile : Profile) (old : Paragraph) (u : Option
           };
           agrees = λ h at_end. g.agrees (λ k. h (ap (λ f. f.is_ended) (sym feed_is) ∙ k)) (ap (λ f. f.is_ended) (sym feed_same) ∙ at_end);
           notices = λ open_end. g.notices (ap (λ f. f.is_ended) (sym feed_same) ∙ open_end);
+          quiet = λ h.
+              (let still = g.quiet (ap (λ f. f.is_ended) feed_is ∙ h) in
+              (new_held ∙ still.0 ∙ sym old_held, ap (λ f. f.is_ended) feed_same ∙ still.1, still.2, still.3));
         }
 
 -- a fault that stops a run ends it

@@ -1,7 +1,7 @@
 -- A paragraph that is held whole is the first passage of the text still to come.
-use Rattle.std.proofs.Common.{◌≡◌, ℕ, ◌+◌, ◌≤◌, Bool, true, false, ◌&&◌, not, List, [], ◌∷◌, ◌++◌, length, drop, Option, None, Some, Ok, encode_utf8, encode_utf8_all, string_bytes, IsUtf8, chars, refl, sym, ap, subst, ◌∙◌, arith, inl, inr, append_assoc, append-nil}
+use Rattle.std.proofs.Common.{◌≡◌, ℕ, ◌+◌, ◌≤◌, Bool, true, false, ◌&&◌, not, List, [], ◌∷◌, ◌++◌, length, drop, Option, None, Some, Ok, encode_utf8, encode_utf8_all, string_bytes, IsUtf8, chars, refl, sym, ap, subst, ◌∙◌, arith, inl, inr, length-append, append_assoc, append-nil}
 use Rattle.std.proofs.Math.Utf8.{scalar, scalars}
-use Rattle.std.proofs.lemmas.Str.{scalars-chars, encodes-chars, IsUtf8-from_is_utf8}
+use Rattle.std.proofs.lemmas.Str.{scalars-chars, encodes-chars, encode_same, length-encode, len_utf8_bounds, IsUtf8-from_is_utf8}
 use Rattle.lbk_feed.specs.Text.{longest_text}
 use Rattle.lbk_rules.specs.declared.verdicts.Verdict.{Verdict}
 use Rattle.lbk_rules.specs.Ends.{ends_between, end_after, end_of_text}
@@ -30,6 +30,9 @@ pub record Shows (s : State) (p : Paragraph) : Type 0 where
   pub is_ended : s.is_ended ≡ p.feed.is_ended
   pub text : IsUtf8 (string_bytes p.text)
   pub within : length (string_bytes p.text) ≤ s.limit
+
+some_bytes : (c : ℕ) → 1 ≤ length (encode_utf8 c)
+some_bytes c = let bounds = len_utf8_bounds c in omega (arith, length-encode c, bounds.0)
 
 module _ (s : State) (p : Paragraph) (shows : Shows s p) where
   scalars_are : (end : Verdict) (cs : List ℕ) → scalars_of (ended end (marks s.profile s.cell cs)) ≡ cs
@@ -71,6 +74,10 @@ module _ (s : State) (p : Paragraph) (shows : Shows s p) where
         });
       };
       counted = counted;
+      near = λ next rest e.
+          (let none = ap length (sym e ∙ is_nil-nil p.feed.held (both-left _ _ found)) in
+          let some = some_bytes next in
+          absurd (omega (arith, none, some, length-append (encode_utf8 next) rest)));
     }
 
     -- text follows it
@@ -97,6 +104,11 @@ module _ (s : State) (p : Paragraph) (shows : Shows s p) where
             });
           };
           counted = counted;
+          near = λ next rest e.
+              (let held = sym e ∙ sym whole.first ∙ ap (λ l. l ++ behind) ready ∙ append_assoc (encode_utf8 y) (encode_utf8_all ys) behind in
+              let same = encode_same next y rest (encode_utf8_all ys ++ behind) held in
+              let few = whole.few in
+              omega (arith, few, ap (λ x. length (encode_utf8 x)) same.0, ap length ready, length-append (encode_utf8 y) (encode_utf8_all ys)));
         }
 
   Answered : Option Verdict → Type 0

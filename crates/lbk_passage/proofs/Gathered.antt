@@ -18,7 +18,7 @@ use Rattle.lbk_passage.specs.State.{state_with, text_held}
 use Rattle.lbk_passage.specs.Next.{fault_in, ends_run, Stops}
 use Rattle.lbk_passage.specs.Gathering.{StopsBefore, Takes, Settles, HasRead, Gathering, Gathers, IsSame}
 use Rattle.lbk_passage.specs.declared.faults.PassageFault.{PassageFault}
-use Rattle.lbk_passage.specs.declared.faults.PassageFault.TheVariants.{ParagraphTooLong}
+use Rattle.lbk_passage.specs.declared.faults.PassageFault.TheVariants.{Read, ParagraphTooLong}
 use Rattle.lbk_passage.specs.declared.paragraph.Paragraph.{Paragraph}
 use Rattle.lbk_passage.specs.declared.reach.Reach.{Reach}
 use Rattle.lbk_passage.specs.declared.reach.Stop.TheVariants.{PieceEnds, LineEnds, NoRoom}
@@ -28,6 +28,14 @@ use Rattle.lbk_passage.proofs.Taking.{string_len-is}
 use Rattle.lbk_passage.proofs.Finding.{Shows}
 use Rattle.lbk_passage.proofs.Stopping.{Stops-feed, Stops-long}
 use Rattle.lbk_passage.proofs.Booleans.{both-left, or-true}
+
+-- a failed read is that of the feed
+read_by : (fault : Option FeedFault) → option_map passage_fault fault ≡ Some Read → fault ≡ Some feed_fault.Read
+read_by None e = cc
+read_by (Some feed_fault.Read) e = refl
+read_by (Some (feed_fault.NotUtf8 at)) e = cc
+read_by (Some feed_fault.TextTooLong) e = cc
+read_by (Some feed_fault.Spent) e = cc
 
 -- a feed that has nothing held has nothing ready
 ready_nil : (ready rest : List ℕ) → ready ++ rest ≡ [] → ready ≡ []
@@ -66,6 +74,7 @@ module _ (cell : ℕ → Cell) (old : Paragraph) (unread : Option (List ℕ)) (e
         few = omega arith;
         agrees = λ h. h;
         notices = λ h. refl;
+        quiet = λ h. (all, h, omega arith);
         none_ends = ap (stays cell None) scalars_are;
         last_is = sym (ap (last_class cell None) scalars_are);
       }
@@ -80,6 +89,8 @@ module _ (cell : ℕ → Cell) (old : Paragraph) (unread : Option (List ℕ)) (e
     pub few : reads' ≤ reads + (length (string_bytes p.text) + 4)
     pub agrees : feed.Agrees old.feed ended unread → feed.Agrees p.feed ended' unread'
     pub notices : p.feed.is_ended ≡ false → ended' ≡ ended
+    pub quiet : old.feed.is_ended ≡ true
+        → (string_bytes p.text ++ p.feed.held ≡ old.feed.held) × (p.feed.is_ended ≡ true) × (reads' ≤ reads) × (¬ (fault ≡ Some Read))
     pub none_ends : stays cell None (chars (string_bytes p.text)) ≡ true
     pub last_is : last ≡ last_class cell None (chars (string_bytes p.text))
 
@@ -104,6 +115,14 @@ module _ (cell : ℕ → Cell) (old : Paragraph) (unread : Option (List ℕ)) (e
         few = omega (arith, ap length text, few-step old.feed (string_bytes now.text) now.feed p.feed unread u v reads r1 r2 s.fault g.few g.each_gave s.pays);
         agrees = λ h. s.agrees (g.agrees h);
         notices = λ open_end. s.notices open_end ∙ g.notices (not_sooner now.feed p.feed u v s.fault open_end s.steps);
+        quiet = λ h.
+            (let was = g.quiet h in
+            let same = s.steps.same (inr (inl was.1)) in (
+              ap (λ l. l ++ p.feed.held) text ∙ ap (λ l. string_bytes now.text ++ l) same.0 ∙ was.0,
+              same.2 ∙ was.1,
+              omega (arith, was.2, (s.unasked was.1).0),
+              λ e. (s.unasked was.1).1 (read_by s.fault (sym s.fault_is ∙ e)),
+            ));
         none_ends = ap (λ l. stays cell None (chars l)) text ∙ g.none_ends;
         last_is = g.last_is ∙ ap (λ l. last_class cell None (chars l)) (sym text);
       }
@@ -136,6 +155,7 @@ module _ (cell : ℕ → Cell) (old : Paragraph) (unread : Option (List ℕ)) (e
           few = omega (arith, s.few, s.limit, kept);
           agrees = s.agrees;
           notices = s.notices;
+          quiet = s.quiet;
           whole = record {
             utf8 = is_utf8-from_IsUtf8 p.feed.ready lends.text;
             first = ap (λ l. l ++ drop (length l) p.feed.held) ready;
@@ -169,6 +189,7 @@ module _ (cell : ℕ → Cell) (old : Paragraph) (unread : Option (List ℕ)) (e
           few = omega (arith, s.few, s.limit, kept);
           agrees = s.agrees;
           notices = s.notices;
+          quiet = s.quiet;
           whole = tt;
           stops = λ profile. Stops-feed (state_with cell profile p) p (Shows-of cell profile p (ap (λ b. p.is_held || b) spent ∙ or-true p.is_held)) s.none_ends e unspent ready front lies;
         }
@@ -208,6 +229,9 @@ module _ (cell : ℕ → Cell) (old : Paragraph) (unread : Option (List ℕ)) (e
       kept_short : length (string_bytes n.text) ≤ n.limit
       kept_short = let len = string_len-is n.text in let kept = n.within in omega (arith, len, kept)
 
+      still : old.feed.is_ended ≡ true → (string_bytes n.text ++ n.feed.held ≡ old.feed.held) × (n.feed.is_ended ≡ true) × (r2 ≤ reads)
+      still h = (all_same ∙ (s.quiet h).0, t.ended ∙ (s.quiet h).1, (s.quiet h).2)
+
       -- the piece is all of the paragraph
       pub Gathering-more : p.is_spent ≡ false → Gathering cell old n r.last unread v ended e' reads r2
       Gathering-more unspent = record {
@@ -220,6 +244,7 @@ module _ (cell : ℕ → Cell) (old : Paragraph) (unread : Option (List ℕ)) (e
         few = few;
         agrees = λ h at_end. s.agrees h (sym t.ended ∙ at_end);
         notices = λ h. s.notices (sym t.ended ∙ h);
+        quiet = still;
         none_ends = none_ends;
         last_is = last_is;
       }
@@ -252,6 +277,7 @@ module _ (cell : ℕ → Cell) (old : Paragraph) (unread : Option (List ℕ)) (e
             few = omega (arith, few, t.limit, s.limit, kept);
             agrees = λ h at_end. s.agrees h (sym t.ended ∙ at_end);
             notices = λ h. s.notices (sym t.ended ∙ h);
+            quiet = λ h. ((still h).0, (still h).1, (still h).2, λ e. cc);
             whole = record {
               utf8 = is_utf8-from_IsUtf8 n.feed.ready t.utf8;
               first = ap (λ l. n.feed.ready ++ drop (length n.feed.ready) l) t.front ∙ ap (λ l. n.feed.ready ++ l) (drop-append_seam n.feed.ready t.behind) ∙ sym t.front;
@@ -289,6 +315,7 @@ module _ (cell : ℕ → Cell) (old : Paragraph) (unread : Option (List ℕ)) (e
             few = omega (arith, few, t.limit, s.limit, kept);
             agrees = λ h at_end. s.agrees h (sym t.ended ∙ sym (ap (λ f. f.is_ended) same.feed) ∙ at_end);
             notices = λ h. s.notices (sym t.ended ∙ sym (ap (λ f. f.is_ended) same.feed) ∙ h);
+            quiet = λ h. (text_same ∙ (still h).0, ap (λ f. f.is_ended) same.feed ∙ (still h).1, (still h).2, λ e. cc);
             whole = tt;
             stops = λ profile.
                 subst (Stops (state_with cell profile m)) (sym fault_is)

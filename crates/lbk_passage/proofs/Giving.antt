@@ -1,6 +1,7 @@
 -- What a call of `next` leaves, by the answer of the call that fills a paragraph.
-use Rattle.std.proofs.Common.{◌≡◌, ◌⊎◌, ℕ, ◌-◌, ◌<◌, Bool, true, false, ◌||◌, List, [], ◌∷◌, ◌++◌, length, Option, None, Some, Result, Ok, Err, is_ok, OnOk, string_bytes, string_len, encode_utf8_all, chars, IsUtf8, if◌then◌else◌, refl, sym, ap, subst, ◌∙◌, arith, inl, inr, ⊎_elim}
-use Rattle.std.proofs.lemmas.Str.{encodes-chars, IsUtf8-string_bytes}
+use Rattle.std.proofs.Common.{◌≡◌, ◌⊎◌, ℕ, ◌+◌, ◌-◌, ◌<◌, ◌≤◌, Bool, true, false, ◌||◌, not, List, [], ◌∷◌, ◌++◌, length, Option, None, Some, Result, Ok, Err, is_ok, OnOk, string_bytes, string_len, encode_utf8_all, chars, IsUtf8, if◌then◌else◌, refl, sym, ap, subst, ◌∙◌, arith, inl, inr, ⊎_elim, append-nil}
+use Rattle.std.proofs.lemmas.Bool.{false≢true}
+use Rattle.std.proofs.lemmas.Str.{chars-nil, encodes-chars, IsUtf8-string_bytes}
 use Rattle.std.specs.Io.KnownBytes.{prepend_known}
 use Rattle.lbk_feed.specs.View.{BeginsWith}
 use Rattle.lbk_rules.specs.declared.cells.Cell.{Cell}
@@ -10,7 +11,7 @@ use Rattle.lbk_passage.specs.Marks.{Marked, marks, ended, scalars_of, text_of}
 use Rattle.lbk_passage.specs.Segments.{segments_of}
 use Rattle.lbk_passage.specs.Pieces.{pieces_of}
 use Rattle.lbk_passage.specs.State.{State, state_with, text_held}
-use Rattle.lbk_passage.specs.Next.{Answers, AfterNext, Lends, ComesFirst, GoesOn, IsLast, Stops, KeepsAhead}
+use Rattle.lbk_passage.specs.Next.{Answers, AfterNext, IsPlaced, Lends, IsPassage, ComesFirst, GoesOn, IsLast, Stops, KeepsAhead, ends_run}
 use Rattle.lbk_passage.specs.Gathering.{Fills, FillAnswers, IsFirst, IsSame}
 use Rattle.lbk_passage.specs.declared.faults.PassageFault.{PassageFault}
 use Rattle.lbk_passage.specs.declared.faults.PassageFault.TheVariants.{Limit, Memory, Read, NotUtf8, TextTooLong, ParagraphTooLong, Spent}
@@ -30,6 +31,9 @@ length-scalars [] = refl
 length-scalars (m ∷ l) = let rest = length-scalars l in omega (arith, rest)
 
 -- what an `Ok` says
+pub ok_err : {T E : Type 0} (r : Result T E) (x : T) (e : E) → r ≡ Ok x → r ≡ Err e → ⊥
+ok_err r x e ok err = false≢true (sym (ap is_ok (sym ok ∙ err)))
+
 pub on_ok : {T E : Type 0} (P : Type 0) (r : Result T E) → is_ok r ≡ true → OnOk r P → P
 on_ok P (Ok x) is h = h
 on_ok P (Err e) is h = cc
@@ -71,6 +75,7 @@ module _ (cell : ℕ → Cell) (profile : Profile) (old p : Paragraph) (u v : Op
     costs = f.costs;
     agrees = f.agrees;
     notices = f.notices;
+    quiet = f.quiet;
   }
 
   pub After-none : Fills cell profile old p u v e e' reads reads' (Ok None)
@@ -88,6 +93,7 @@ module _ (cell : ℕ → Cell) (profile : Profile) (old p : Paragraph) (u v : Op
     costs = f.costs;
     agrees = f.agrees;
     notices = f.notices;
+    quiet = f.quiet;
   }
 
   module _ (end : Verdict) (f : Fills cell profile old p u v e e' reads reads' (Ok (Some end))) where
@@ -140,6 +146,7 @@ module _ (cell : ℕ → Cell) (profile : Profile) (old p : Paragraph) (u v : Op
       costs = record { each_gave = f.costs.each_gave; but_one = f.costs.but_one; within = f.costs.within };
       agrees = f.agrees;
       notices = f.notices;
+      quiet = λ h. ((f.quiet h).0, (f.quiet h).1, (f.quiet h).2, λ e. cc);
     }
 
     -- what a passage says of the paragraph
@@ -198,6 +205,10 @@ module _ (cell : ℕ → Cell) (profile : Profile) (old p : Paragraph) (u v : Op
         comes = comes_in;
         counted = let first = first_is in
             omega (arith, f.start, ap length of.bytes, first.counted);
+        near = λ next rest e.
+            (let first = first_is in
+            let begins = shows.start in
+            omega (arith, f.start, ap length of.bytes, begins, first.near next rest (sym held_is ∙ e)));
       }
 
       pub After-passage : AfterNext (state_with cell profile old) (state_with cell profile q) u v e e' reads reads' (Ok (Some pg))
@@ -221,4 +232,18 @@ module _ (cell : ℕ → Cell) (profile : Profile) (old p : Paragraph) (u v : Op
             };
             agrees = λ h at_end. f.agrees h (sym ended_is ∙ at_end);
             notices = λ open_end. f.notices (sym ended_is ∙ open_end);
+            quiet = λ h. (all_is ∙ (f.quiet h).0, ended_is ∙ (f.quiet h).1, (f.quiet h).2, λ e. cc);
           }
+
+      some_text : (l : List ℕ) → 0 < length (chars l) → 0 < length l
+      some_text [] h = absurd (let none = ap length chars-nil in omega (arith, h, none))
+      some_text (x ∷ xs) h = omega arith
+
+      pub lent_placed : IsPlaced pg
+      lent_placed =
+          let first = first_is in
+          let text_in = some_text (string_bytes p.text) first.some in
+          (omega (arith, text_in, ap length of.bytes), omega (arith, lends.start, lends.counted))
+
+      pub After-lent : AfterNext (state_with cell profile old) (state_with cell profile q) u v e e' reads reads' (Ok (Some pg)) × IsPlaced pg
+      After-lent = (After-passage, lent_placed)

@@ -98,7 +98,7 @@ option_map-cond f true begins n still = refl
 option_map-cond f false true n still = refl
 option_map-cond f false false n still = refl
 
-answer-snoc : (profile : Profile) (left : List Cell) (cell : Cell) (more : List Cell)
+pub answer-snoc : (profile : Profile) (left : List Cell) (cell : Cell) (more : List Cell)
     → answer_at profile (left ++ cell ∷ []) more
     ≡ cond (is_held profile left (cell ∷ more)) (Some (length left, verdict_between_in profile left (cell ∷ more)))
     (cond (heads (reverse left) cell) None (answer_at profile left (cell ∷ more)))

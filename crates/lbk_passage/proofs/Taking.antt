@@ -103,6 +103,7 @@ Takes-moves cell last old new r lends reaches moves =
         ap length (parts cell last old.feed.ready room r lends.text reaches),
         length-append (encode_utf8_all reaches.taken) (encode_utf8_all reaches.rest),
         lends.few,
+        ap (λ f. length f.ready) moves.feed ∙ ap length (back_alone cell last old.feed.ready room r lends.text reaches),
       );
       was_held = lends.first ∙ ap (λ l. l ++ lends.rest) (parts cell last old.feed.ready room r lends.text reaches)
           ∙ append_assoc (encode_utf8_all reaches.taken) (encode_utf8_all reaches.rest) lends.rest ∙ ap (λ l. encode_utf8_all reaches.taken ++ l) (sym held_is);

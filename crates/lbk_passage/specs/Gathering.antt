@@ -6,7 +6,7 @@ use Rattle.std.specs.Io.KnownBytes.{prepend_known}
 use Rattle.lbk_feed.specs.declared.faults.FeedFault.{FeedFault}
 use Rattle.lbk_feed.specs.View.{View, Steps, Pays, BeginsWith, AfterEach, IsFront, LendsFront}
 use Rattle.lbk_feed.specs.Text.{longest_text}
-use Rattle.lbk_feed.specs.declared.faults.FeedFault.TheVariants.{Spent as feed_spent}
+use Rattle.lbk_feed.specs.declared.faults.FeedFault.TheVariants.{Read as feed_read, Spent as feed_spent}
 use Rattle.lbk_feed.specs.View as feed
 use Rattle.lbk_rules.specs.declared.classes.Class.{Class}
 use Rattle.lbk_rules.specs.declared.cells.Cell.{Cell}
@@ -18,7 +18,7 @@ use Rattle.lbk_passage.specs.Stays.{ends_at, stays, last_class, IsWholeText}
 use Rattle.lbk_passage.specs.State.{State, state_with}
 use Rattle.lbk_passage.specs.Next.{fault_in, ends_run, KeepsAhead, IsDone, ComesFirst, Stops, Costs}
 use Rattle.lbk_passage.specs.declared.faults.PassageFault.{PassageFault}
-use Rattle.lbk_passage.specs.declared.faults.PassageFault.TheVariants.{Spent}
+use Rattle.lbk_passage.specs.declared.faults.PassageFault.TheVariants.{Read, Spent}
 use Rattle.lbk_passage.specs.declared.paragraph.Paragraph.{Paragraph}
 use Rattle.lbk_passage.specs.declared.reach.Reach.{Reach}
 use Rattle.lbk_passage.specs.declared.reach.Stop.{Stop}
@@ -53,7 +53,7 @@ pub record Takes (cell : ℕ → Cell) (last : Option Class) (old new : Paragrap
   pub is_ready : chars new.feed.ready ≡ rest
   pub utf8 : IsUtf8 new.feed.ready
   pub front : new.feed.held ≡ new.feed.ready ++ behind
-  pub few : new.feed.given ≤ longest_text
+  pub few : new.feed.given + length new.feed.ready ≤ longest_text
   pub was_held : old.feed.held ≡ encode_utf8_all taken ++ new.feed.held
   pub is_held : new.feed.held ≡ encode_utf8_all rest ++ behind
   pub text : string_bytes new.text ≡ string_bytes old.text ++ encode_utf8_all taken
@@ -82,6 +82,7 @@ pub record Settles (old new : Paragraph) (unread unread' : Option (List ℕ)) (e
   pub pays : Pays old.feed new.feed reads reads'
   pub agrees : feed.Agrees old.feed ended unread → feed.Agrees new.feed ended' unread'
   pub notices : new.feed.is_ended ≡ false → ended' ≡ ended
+  pub unasked : old.feed.is_ended ≡ true → (reads' ≤ reads) × (¬ (fault ≡ Some feed_read))
   pub stands : IfOk r (λ stands. OnTrue stands (0 < length new.feed.ready))
   pub ends : IfOk r (λ stands. OnFalse stands ((new.feed.held ≡ []) × (new.feed.is_ended ≡ true)))
 
@@ -106,6 +107,7 @@ pub record Gathering (cell : ℕ → Cell) (old now : Paragraph) (last : Option 
   pub few : reads' ≤ reads + (length (string_bytes now.text) + 4)
   pub agrees : feed.Agrees old.feed ended unread → feed.Agrees now.feed ended' unread'
   pub notices : now.feed.is_ended ≡ false → ended' ≡ ended
+  pub quiet : old.feed.is_ended ≡ true → (string_bytes now.text ++ now.feed.held ≡ old.feed.held) × (now.feed.is_ended ≡ true) × (reads' ≤ reads)
   pub none_ends : stays cell None (chars (string_bytes now.text)) ≡ true
   pub last_is : last ≡ last_class cell None (chars (string_bytes now.text))
 
@@ -123,6 +125,8 @@ pub record Gathers (cell : ℕ → Cell) (old new : Paragraph) (unread unread' :
   pub few : reads' ≤ reads + (old.limit + 4)
   pub agrees : feed.Agrees old.feed ended unread → feed.Agrees new.feed ended' unread'
   pub notices : new.feed.is_ended ≡ false → ended' ≡ ended
+  pub quiet : old.feed.is_ended ≡ true
+      → (string_bytes new.text ++ new.feed.held ≡ old.feed.held) × (new.feed.is_ended ≡ true) × (reads' ≤ reads) × (¬ (fault_in r ≡ Some Read))
   pub whole : IfOk r (λ end. IsWholeText cell (string_bytes new.text) new.feed end)
   pub stops : IfErr r (λ fault. (profile : Profile) → Stops (state_with cell profile new) fault)
 
@@ -131,6 +135,7 @@ pub record IsFirst (s : State) (p : Paragraph) (end : Verdict) : Type 0 where
   pub some : 0 < length (chars (string_bytes p.text))
   pub comes : ComesFirst s (ended end (marks s.profile s.cell (chars (string_bytes p.text)))) p.feed.held
   pub counted : s.start + length (string_bytes p.text) ≤ longest_text
+  pub near : (next : ℕ) (rest : List ℕ) → p.feed.held ≡ encode_utf8 next ++ rest → p.feed.given + length (encode_utf8 next) ≤ longest_text
 
 -- what the answer of a call that fills a paragraph says
 abbrev pub FillAnswers : State → Paragraph → Bool → Result (Option Verdict) PassageFault → Type 0
@@ -154,6 +159,8 @@ pub record Fills (cell : ℕ → Cell) (profile : Profile) (old new : Paragraph)
   pub costs : Costs (state_with cell profile old) (state_with cell profile new) (state_with cell profile new).held (ends_run (fault_in r)) reads reads'
   pub agrees : feed.Agrees old.feed ended unread → feed.Agrees new.feed ended' unread'
   pub notices : new.feed.is_ended ≡ false → ended' ≡ ended
+  pub quiet : old.feed.is_ended ≡ true
+      → ((state_with cell profile new).held ≡ (state_with cell profile old).held) × (new.feed.is_ended ≡ true) × (reads' ≤ reads) × (¬ (fault_in r ≡ Some Read))
 
 -- the same paragraph, but for whether it is held, and whether it is spent
 pub record IsSame (old new : Paragraph) (is_held is_spent : Bool) : Type 0 where

@@ -74,6 +74,10 @@ pub record ComesFirst (s : State) (ms : List Marked) (behind : List ℕ) : Type 
   pub within : length (text_of ms) ≤ s.limit
   pub follows : GoesOn s ms behind ⊎ IsLast s ms behind
 
+-- a passage is not empty, and all of it lies within the bytes that a text may have
+abbrev pub IsPlaced : Passage → Type 0
+IsPlaced p = (0 < length p.text.now) × (p.start + length p.text.now ≤ longest_text)
+
 -- an answer lends the first passage of the text still to come
 pub record Lends (old new : State) (p : Passage) : Type 0 where
   pub marks : List Marked
@@ -81,6 +85,8 @@ pub record Lends (old new : State) (p : Passage) : Type 0 where
   pub start : p.start ≡ old.start
   pub comes : ComesFirst new marks new.held
   pub counted : old.start + length p.text.now ≤ longest_text
+  pub near : (next : ℕ) (rest : List ℕ) → new.held ≡ encode_utf8 next ++ rest
+      → old.start + length p.text.now + length (encode_utf8 next) ≤ longest_text
 
 -- nothing is left to give
 pub record IsDone (s : State) : Type 0 where
@@ -176,3 +182,4 @@ pub record AfterNext (old new : State) (unread unread' : Option (List ℕ)) (end
   pub costs : Costs old new (lent_text r ++ new.held) (ends_run (fault_in r)) reads reads'
   pub agrees : Agrees old ended unread → Agrees new ended' unread'
   pub notices : new.is_ended ≡ false → ended' ≡ ended
+  pub quiet : old.is_ended ≡ true → (lent_text r ++ new.held ≡ old.held) × (new.is_ended ≡ true) × (reads' ≤ reads) × (¬ (fault_in r ≡ Some Read))

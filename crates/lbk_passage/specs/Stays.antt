@@ -1,5 +1,5 @@
 -- Where paragraphs end, told by two classes: no machine is asked.
-use Rattle.std.specs.Prelude.{◌≡◌, ℕ, Bool, true, false, ◌&&◌, not, ◌≤◌, List, [], ◌∷◌, ◌++◌, length, drop, Option, Some, None, string_bytes}
+use Rattle.std.specs.Prelude.{◌≡◌, ℕ, ◌+◌, Bool, true, false, ◌&&◌, not, ◌≤◌, List, [], ◌∷◌, ◌++◌, length, drop, Option, Some, None, string_bytes}
 use Rattle.std.specs.Str.{chars, is_utf8}
 use Rattle.lbk_feed.specs.Text.{longest_text}
 use Rattle.lbk_rules.specs.declared.classes.Class.{Class}
@@ -44,7 +44,7 @@ finds_end cell last feed (c ∷ _) = ends_at last (cell c).class
 pub record IsWholeText (cell : ℕ → Cell) (text : List ℕ) (feed : View) (end : Option Verdict) : Type 0 where
   pub utf8 : is_utf8 feed.ready ≡ true
   pub first : feed.ready ++ drop (length feed.ready) feed.held ≡ feed.held
-  pub few : feed.given ≤ longest_text
+  pub few : feed.given + length feed.ready ≤ longest_text
   pub none_ends : stays cell None (chars text) ≡ true
   pub found : finds_end cell (last_class cell None (chars text)) feed (chars feed.ready) ≡ true
   pub end_is : end ≡ end_before (last_class cell None (chars text)) (not (is_nil (chars feed.ready)))

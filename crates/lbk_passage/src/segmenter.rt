@@ -1,6 +1,6 @@
 //! The passages of a text, one after another.
 
-ghost use Rattle.std.specs.Prelude.{◌≡◌, [], ◌≤◌, ◌<◌, ◌+◌, ◌^◌, ◌↔◌, ◌⊎◌, ◌-◌, true, length, string_len, string_bytes, IfOk, IfErr, OnOk, IsErrOf};
+ghost use Rattle.std.specs.Prelude.{◌≡◌, [], ◌≤◌, ◌<◌, ◌+◌, ◌^◌, ◌↔◌, ◌⊎◌, ◌-◌, true, length, string_len, string_bytes, IfOk, IfErr, IfSome, OnOk, IsErrOf};
 ghost use Rattle.std.specs.Borrow.{sem};
 ghost use Rattle.std.specs.Io.BufRead.{Rests};
 ghost use Rattle.std.specs.Str.{chars};
@@ -31,7 +31,7 @@ pub struct Segmenter<'a, C: CellSource> {
 impl<'a, C: CellSource> Segmenter<'a, C> {
     ghost use Rattle.lbk_passage.specs.State.{IsLimit, new_state};
     ghost use Rattle.lbk_passage.specs.Shown.{state_of};
-    ghost use Rattle.lbk_passage.specs.Next.{AfterNext, fault_in, failures_with};
+    ghost use Rattle.lbk_passage.specs.Next.{AfterNext, IsPlaced, fault_in, failures_with};
     ghost use Rattle.lbk_passage.specs.contracts.segmenter.Segmenter.{the_row};
     ghost use mir.Syntax.{named};
 
@@ -74,6 +74,7 @@ impl<'a, C: CellSource> Segmenter<'a, C> {
             (R.has_ended reader.old) (R.has_ended reader.new)
             (R.read_count reader.old) (R.read_count reader.new) result)) }
 
+        ensures lent { IfOk result (λ o. IfSome o IsPlaced) }
         ensures spent { (state_of C.cell_of self.old).is_spent ≡ true → result ≡ Err PassageFault.Spent }
         ensures spent_only { result ≡ Err PassageFault.Spent → (state_of C.cell_of self.old).is_spent ≡ true }
         // Where the answer was seen before, or a fault was answered, no read is made.

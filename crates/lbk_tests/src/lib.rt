@@ -6,6 +6,8 @@ mod agreement;
 #[cfg(test)]
 mod cells;
 #[cfg(test)]
+mod commands;
+#[cfg(test)]
 mod decided;
 #[cfg(test)]
 mod laws;
@@ -17,6 +19,8 @@ mod passages;
 mod replayed;
 #[cfg(test)]
 mod rows;
+#[cfg(test)]
+mod segment_lines;
 #[cfg(test)]
 mod segmented;
 #[cfg(test)]

@@ -1,8 +1,9 @@
 //! What `show` writes and refuses, over devices in memory.
 
-use lbk_cmd::{CmdFault, PassageFault, SAMPLE_FILES, read_cells, show};
+use lbk_cmd::{CmdFault, SAMPLE_FILES, read_cells, show};
 use lbk_feed::devices::{MemorySink, MemorySource};
-use lbk_rules::CellPages;
+use lbk_passage::PassageFault;
+use lbk_rules::{CellPages, Profile};
 use std::alloc::{AllocError, Global};
 use std::process::Abort;
 use std::test::Fail;
@@ -11,133 +12,190 @@ const LIMIT: u32 = 65_536;
 
 const ROOM: usize = 4096;
 
-// What `show` answers to a source, and what went out to a sink that takes `room` bytes and then fails.
+/// What both profiles say of a text.
+const BOTH: [(&str, &str); 14] = [
+    ("ab cd", TWO_WORDS),
+    ("", ""),
+    (
+        "a\r\nb",
+        "× 0061 × 000D × 000A !\t# 2 6 5 5\n× 0062 !\t# 2 3\n",
+    ),
+    ("\n\n", "× 000A !\t# 2 5\n× 000A !\t# 2 3\n"),
+    ("\u{C}a", "× 000C !\t# 2 4\n× 0061 !\t# 2 3\n"),
+    ("a b", "× 0061 × 0020 ÷ 0062 !\t# 2 7 18 3\n"),
+    ("a\n", "× 0061 × 000A !\t# 2 6 3\n"),
+    (" a", "× 0020 ÷ 0061 !\t# 2 18 3\n"),
+    ("  a", "× 0020 × 0020 ÷ 0061 !\t# 2 7 18 3\n"),
+    ("a\r", "× 0061 × 000D !\t# 2 6 3\n"),
+    (
+        "( \u{301}a",
+        "× 0028 × 0020 × 0301 × 0061 !\t# 2 7 14 28 3\n",
+    ),
+    ("\u{1F466}\u{10FFFF}", "× 1F466 ÷ 10FFFF !\t# 2 31 3\n"),
+    (
+        "a \u{2019}\u{301}b",
+        "× 0061 × 0020 ÷ 2019 × 0301 × 0062 !\t# 2 7 18 9 19 3\n",
+    ),
+    (
+        "a \u{2019}a \u{2019}b\nc",
+        "× 0061 × 0020 ÷ 2019 × 0061 × 0020 ÷ 2019 × 0062 × 000A !\t# 2 7 18 19 7 18 19 6 5\n× 0063 !\t# 2 3\n",
+    ),
+];
+
+/// What the first says.
+const FIRST: [(&str, &str); 3] = [
+    (
+        "a \u{2019}\u{301},",
+        "× 0061 × 0020 ÷ 2019 × 0301 × 002C !\t# 2 7 18 9 13 3\n",
+    ),
+    ("a \u{2019}", "× 0061 × 0020 ÷ 2019 !\t# 2 7 18 3\n"),
+    ("\u{2018} a", "× 2018 × 0020 ÷ 0061 !\t# 2 7 18 3\n"),
+];
+
+/// What the second says.
+const SECOND: [(&str, &str); 4] = [
+    (
+        "a \u{2019}\u{301},",
+        "× 0061 × 0020 × 2019 × 0301 × 002C !\t# 2 7 15b 9 13 3\n",
+    ),
+    ("a \u{2019}", "× 0061 × 0020 × 2019 !\t# 2 7 15b 3\n"),
+    ("\u{2018} a", "× 2018 × 0020 × 0061 !\t# 2 7 15a 3\n"),
+    (
+        "a\u{2019}\nb\u{2019}",
+        "× 0061 × 2019 × 000A !\t# 2 15b 6 5\n× 0062 × 2019 !\t# 2 15b 3\n",
+    ),
+];
+
+const TWO_WORDS: &str = "× 0061 × 0062 × 0020 ÷ 0063 × 0064 !\t# 2 28 7 18 28 3\n";
+
+/// What `show` answers to a source, and what went out to a sink that takes `room` bytes and then fails.
 fn shown(
     alloc: Global,
     cells: &CellPages,
     source: &mut MemorySource<'_>,
     room: usize,
     limit: u32,
+    profile: Profile,
 ) -> Result<(Result<(), CmdFault>, MemorySink), AllocError> {
     let mut sink = MemorySink::new(alloc, room)?;
-    let answer = show(alloc, source, &mut sink, cells, limit);
+    let answer = show(alloc, source, &mut sink, cells, limit, profile);
     Ok((answer, sink))
 }
 
+/// Checks the answer to a source, and what went out.
 fn check(
     rt: &impl Abort,
     alloc: Global,
     cells: &CellPages,
     source: &mut MemorySource<'_>,
-    want: Result<&str, CmdFault>,
+    profile: Profile,
+    want: Result<(), PassageFault>,
+    out: &str,
 ) -> Result<(), AllocError> {
-    let (answer, sink) = shown(alloc, cells, source, ROOM, LIMIT)?;
-    match want {
-        Ok(text) => {
-            assert_eq!(rt; answer, Ok(()));
-            assert_eq!(rt; sink.bytes(), text.as_bytes());
-        }
-        Err(fault) => {
-            assert_eq!(rt; answer, Err(fault));
-            assert!(rt; sink.bytes().is_empty());
+    let (answer, sink) = shown(alloc, cells, source, ROOM, LIMIT, profile)?;
+    assert_eq!(rt; answer, want.map_err(CmdFault::Passage));
+    assert_eq!(rt; sink.bytes(), out.as_bytes());
+    Ok(())
+}
+
+/// Checks rows in a profile, in reads of one, two and all bytes.
+fn check_rows(
+    rt: &impl Abort,
+    alloc: Global,
+    rows: &[(&str, &str)],
+    profile: Profile,
+) -> Result<(), Fail> {
+    let cells = read_cells(alloc, SAMPLE_FILES)?;
+    for (text, lines) in rows {
+        for size in [1, 2, ROOM] {
+            let sizes = [size];
+            let mut source = MemorySource::cut(text.as_bytes(), &sizes);
+            check(rt, alloc, &cells, &mut source, profile, Ok(()), lines)?;
         }
     }
     Ok(())
 }
 
-const TWO_WORDS: &str = "× 0061 × 0062 × 0020 ÷ 0063 × 0064 !\t# 2 28 7 18 28 3\n";
-
 #[test]
 fn texts(rt: HostRuntime) -> Result<(), Fail> {
-    let cells = read_cells(rt.alloc(), SAMPLE_FILES)?;
-    for (text, line) in [
-        ("ab cd", TWO_WORDS),
-        ("", ""),
-        ("a b", "× 0061 × 0020 ÷ 0062 !\t# 2 7 18 3\n"),
-        ("a\n", "× 0061 × 000A !\t# 2 6 3\n"),
-        (" a", "× 0020 ÷ 0061 !\t# 2 18 3\n"),
-        ("  a", "× 0020 × 0020 ÷ 0061 !\t# 2 7 18 3\n"),
-        ("a\r", "× 0061 × 000D !\t# 2 6 3\n"),
-        ("\u{1F466}\u{10FFFF}", "× 1F466 ÷ 10FFFF !\t# 2 31 3\n"),
-    ] {
-        check(
-            &rt,
-            rt.alloc(),
-            &cells,
-            &mut MemorySource::new(text.as_bytes()),
-            Ok(line),
-        )?;
-    }
-    Ok(())
+    check_rows(&rt, rt.alloc(), &BOTH, Profile::First)?;
+    check_rows(&rt, rt.alloc(), &BOTH, Profile::Second)?;
+    check_rows(&rt, rt.alloc(), &FIRST, Profile::First)?;
+    check_rows(&rt, rt.alloc(), &SECOND, Profile::Second)
 }
 
 #[test]
 fn refusals(rt: HostRuntime) -> Result<(), Fail> {
     let cells = read_cells(rt.alloc(), SAMPLE_FILES)?;
-    let too_long = CmdFault::Passage(PassageFault::ParagraphTooLong { start: 0 });
-    check(
-        &rt,
-        rt.alloc(),
-        &cells,
-        &mut MemorySource::new(b"a\nb"),
-        Err(too_long),
-    )?;
-    let ill_formed = CmdFault::Passage(PassageFault::NotUtf8 { at: 1 });
-    check(
-        &rt,
-        rt.alloc(),
-        &cells,
-        &mut MemorySource::new(b"a\xFF"),
-        Err(ill_formed),
-    )?;
-    let unread = CmdFault::Passage(PassageFault::Read);
-    check(
-        &rt,
-        rt.alloc(),
-        &cells,
-        &mut MemorySource::cut(b"ab cd", &[2]).failing_at(1),
-        Err(unread),
-    )?;
-
-    for (limit, want) in [
-        (0, Err(CmdFault::Passage(PassageFault::Limit))),
-        (1_048_577, Err(CmdFault::Passage(PassageFault::Limit))),
-        (1_048_576, Ok(())),
-        (5, Ok(())),
-        (4, Err(too_long)),
+    let first = "× 0061 × 000A !\t# 2 6 5\n";
+    for (text, fault, out) in [
+        (b"a\xE2\x82".as_slice(), PassageFault::NotUtf8 { at: 1 }, ""),
+        (b"a\nb\xFF", PassageFault::NotUtf8 { at: 3 }, first),
+        (b"a\n\xFF", PassageFault::NotUtf8 { at: 2 }, ""),
     ] {
-        let (answer, _) = shown(
+        let mut source = MemorySource::new(text);
+        check(
+            &rt,
             rt.alloc(),
             &cells,
-            &mut MemorySource::new(b"ab cd"),
-            ROOM,
-            limit,
+            &mut source,
+            Profile::First,
+            Err(fault),
+            out,
         )?;
+    }
+    for (read, out) in [
+        (0, ""),
+        (1, ""),
+        (2, ""),
+        (3, ""),
+        (4, "× 0061 × 000D × 000A !\t# 2 6 5 5\n"),
+    ] {
+        let mut source = MemorySource::cut(b"a\r\nb", &[1]).failing_at(read);
+        check(
+            &rt,
+            rt.alloc(),
+            &cells,
+            &mut source,
+            Profile::Second,
+            Err(PassageFault::Read),
+            out,
+        )?;
+    }
+    Ok(())
+}
+
+#[test]
+fn limits(rt: HostRuntime) -> Result<(), Fail> {
+    let cells = read_cells(rt.alloc(), SAMPLE_FILES)?;
+    let refused = Err(CmdFault::Passage(PassageFault::Limit));
+    let too_long = |start| Err(CmdFault::Passage(PassageFault::ParagraphTooLong { start }));
+    for (text, limit, want) in [
+        ("ab cd", 0, refused),
+        ("ab cd", 16_777_217, refused),
+        ("ab cd", 16_777_216, Ok(())),
+        ("ab cd", 5, Ok(())),
+        ("ab cd", 4, too_long(0)),
+        ("ab\r\n", 4, Ok(())),
+        ("abc\r\n", 4, too_long(0)),
+        ("\n\u{2019}", 1, too_long(1)),
+    ] {
+        let mut source = MemorySource::new(text.as_bytes());
+        let (answer, _) = shown(rt.alloc(), &cells, &mut source, ROOM, limit, Profile::First)?;
         assert_eq!(rt; answer, want, "limit {limit}");
     }
     Ok(())
 }
 
 #[test]
-fn cuttings_and_a_sink_that_fails(rt: HostRuntime) -> Result<(), Fail> {
+fn a_sink_that_fails(rt: HostRuntime) -> Result<(), Fail> {
     let cells = read_cells(rt.alloc(), SAMPLE_FILES)?;
-    for sizes in [[1], [2], [5]] {
-        check(
-            &rt,
-            rt.alloc(),
-            &cells,
-            &mut MemorySource::cut(b"ab cd", &sizes),
-            Ok(TWO_WORDS),
-        )?;
+    let lines = "× 0061 × 000D × 000A !\t# 2 6 5 5\n× 0062 !\t# 2 3\n".as_bytes();
+    for room in 0..lines.len() {
+        let mut source = MemorySource::new(b"a\r\nb");
+        let (answer, sink) = shown(rt.alloc(), &cells, &mut source, room, LIMIT, Profile::First)?;
+        assert_eq!(rt; answer, Err(CmdFault::Write));
+        assert_eq!(rt; sink.bytes(), &lines[..room]);
     }
-    let (answer, sink) = shown(
-        rt.alloc(),
-        &cells,
-        &mut MemorySource::new(b"ab cd"),
-        5,
-        LIMIT,
-    )?;
-    assert_eq!(rt; answer, Err(CmdFault::Write));
-    assert_eq!(rt; sink.bytes(), b"\xC3\x97 00".as_slice());
     Ok(())
 }

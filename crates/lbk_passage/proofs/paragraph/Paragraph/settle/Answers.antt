@@ -1,5 +1,5 @@
-use Rattle.std.proofs.Common.{◌≡◌, inl, inr, None, Some, Err, ◌&&◌, not, is_err, refl, sym, ap, ◌∙◌}
-use Rattle.lbk_feed.specs.declared.faults.FeedFault.TheVariants.{Spent}
+use Rattle.std.proofs.Common.{◌≡◌, None, Some, Err, ◌&&◌, not, is_err, inl, inr, arith, refl, sym, ap, ◌∙◌}
+use Rattle.lbk_feed.specs.declared.faults.FeedFault.TheVariants.{Read, Spent}
 use Rattle.lbk_feed.specs.View.{fault_of}
 use Rattle.lbk_feed.specs.View as feed
 use Rattle.lbk_passage.specs.Next.{failures_with}
@@ -26,6 +26,8 @@ returns-in-Ok-clause-settles g c = record {
   pays = c.settle-outcome.ensures.pays;
   agrees = c.settle-outcome.ensures.agrees;
   notices = c.settle-outcome.ensures.notices;
+  unasked = λ h.
+      (let same = ap g.R.Source.read_count (c.settle-outcome.ensures.idle (inr (inl h))) in (omega (arith, same), λ e. cc));
   stands = rw c.in-Ok.is at c.settle-outcome.ensures.stands;
   ends = rw c.in-Ok.is at c.settle-outcome.ensures.ends;
 }
@@ -45,6 +47,9 @@ returns-in-Err-clause-settles g c = record {
   pays = c.settle-outcome.ensures.pays;
   agrees = c.settle-outcome.ensures.agrees;
   notices = c.settle-outcome.ensures.notices;
+  unasked = λ h.
+      (let same = ap g.R.Source.read_count (c.settle-outcome.ensures.idle (inr (inl h))) in
+      (omega (arith, same), λ e. let is : c.in-Err.fault ≡ Read = cc in c.settle-outcome.ensures.read (c.in-Err.is ∙ ap Err is) (inr (inl h))));
   stands = tt;
   ends = tt;
 }

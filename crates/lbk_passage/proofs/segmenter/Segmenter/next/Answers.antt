@@ -1,4 +1,4 @@
-use Rattle.std.proofs.Common.{◌≡◌, not, length, chars, Ok, Err, refl, sym, ap, ◌∙◌, ⊎_elim, arith}
+use Rattle.std.proofs.Common.{◌≡◌, not, length, chars, Ok, Err, Some, refl, sym, ap, ◌∙◌, ⊎_elim, arith}
 use Rattle.std.proofs.lemmas.Result.{err_from_is_err_and}
 use Rattle.lbk_passage.specs.Marks.{marks, ended}
 use Rattle.lbk_passage.specs.Segments.{segments_of}
@@ -7,7 +7,7 @@ use Rattle.lbk_passage.specs.declared.faults.PassageFault.{PassageFault}
 use Rattle.lbk_passage.specs.declared.faults.PassageFault.TheVariants.{Spent}
 use Rattle.lbk_passage.specs.Next.{failures_with, fault_in}
 use Rattle.lbk_passage.specs.State.{state_with}
-use Rattle.lbk_passage.proofs.Giving.{or-cases, spent_by, After-fault, After-none, After-memory, After-passage, on_ok}
+use Rattle.lbk_passage.proofs.Giving.{or-cases, spent_by, After-fault, After-none, After-memory, After-lent, on_ok, ok_err}
 use Rattle.lbk_passage.proofs.Taking.{string_len-is}
 use Rattle.lbk_passage.proofs.segmenter.Segmenter.next.Goals as goal
 
@@ -24,6 +24,7 @@ returns-in_err-end g c =
       (refl, (λ _. tt), After-fault cell profile old p _ _ _ _ _ _ exit.0 fills),
       record {
         after_borrow = tt;
+        lent = tt;
         spent = λ spent. let told = sym was ∙ c.fill.ensures.refused spent in
             let same : exit.0 ≡ Spent = cc in ap (λ (f : PassageFault). Err f) same;
         spent_only = λ is. spent_by (state_with cell profile p) p old.is_spent exit.0 fills.answer (let same : exit.0 ≡ Spent = cc in same);
@@ -45,6 +46,7 @@ returns-in_default g c =
       (refl, (λ _. tt), After-none cell profile old p _ _ _ _ _ _ fills),
       record {
         after_borrow = tt;
+        lent = tt;
         spent = λ spent. absurd (let refused = c.fill.ensures.refused spent in cc);
         spent_only = λ is. cc;
         settled = λ seen. ⊎_elim (λ held. c.fill.ensures.quiet held) (λ spent. c.fill.ensures.spent spent) (or-cases old.is_held old.is_spent seen);
@@ -65,6 +67,7 @@ returns-then-is_err g c =
       (refl, (λ _. tt), After-memory cell profile old p _ _ _ _ _ _ c.in-Some.end fills),
       record {
         after_borrow = tt;
+        lent = tt;
         spent = λ spent. absurd (let refused = c.fill.ensures.refused spent in cc);
         spent_only = λ is. cc;
         settled = λ seen. ⊎_elim (λ held. c.fill.ensures.quiet held) (λ spent. c.fill.ensures.spent spent) (or-cases old.is_held old.is_spent seen);
@@ -85,6 +88,7 @@ returns-then-is_err-2 g c =
       (refl, (λ _. tt), After-memory cell profile old p _ _ _ _ _ _ c.in-Some.end fills),
       record {
         after_borrow = tt;
+        lent = tt;
         spent = λ spent. absurd (let refused = c.fill.ensures.refused spent in cc);
         spent_only = λ is. cc;
         settled = λ seen. ⊎_elim (λ held. c.fill.ensures.quiet held) (λ spent. c.fill.ensures.spent spent) (or-cases old.is_held old.is_spent seen);
@@ -107,29 +111,27 @@ returns g c =
     c.cut_lines.result (c.is_err.ensures.negation ∙ ap not c.if-is_err.false) c.cut_lines.ensures in
     let words : c.cut_words.new.pieces.items ≡ pieces_of cell c.text-text.result.now =
     on_ok (c.cut_words.new.pieces.items ≡ pieces_of cell c.text-text.result.now)
-    c.cut_words.result (c.is_err-2.ensures.negation ∙ ap not c.if-is_err-2.false) c.cut_words.ensures in (
-      (
-        refl,
-        (λ _. tt),
-        After-passage cell profile old p _ _ _ _ _ _ c.in-Some.end fills c.release.new.self c.lend.result c.release.ensures (record {
-          start = omega (
-            arith,
-            c.lend.ensures.start,
-            ap (λ f. f.given) c.release.ensures.feed,
-            ap length c.release.ensures.text,
-            string_len-is c.release.new.self.text,
-            string_len-is p.text,
-          );
-          bytes = c.lend.ensures.text ∙ c.release.ensures.text;
-          segments = c.lend.ensures.segments ∙ lines ∙ ap (λ l. segments_of (ended c.in-Some.end (marks profile cell (chars l)))) c.text-text.ensures.text;
-          pieces = c.lend.ensures.pieces ∙ words ∙ ap (pieces_of cell) c.text-text.ensures.text;
-          ends = c.lend.ensures.end;
-        }),
-      ),
+    c.cut_words.result (c.is_err-2.ensures.negation ∙ ap not c.if-is_err-2.false) c.cut_words.ensures in
+    let given = After-lent cell profile old p _ _ _ _ _ _ c.in-Some.end fills c.release.new.self c.lend.result c.release.ensures (record {
+      start = omega (
+        arith,
+        c.lend.ensures.start,
+        ap (λ f. f.given) c.release.ensures.feed,
+        ap length c.release.ensures.text,
+        string_len-is c.release.new.self.text,
+        string_len-is p.text,
+      );
+      bytes = c.lend.ensures.text ∙ c.release.ensures.text;
+      segments = c.lend.ensures.segments ∙ lines ∙ ap (λ l. segments_of (ended c.in-Some.end (marks profile cell (chars l)))) c.text-text.ensures.text;
+      pieces = c.lend.ensures.pieces ∙ words ∙ ap (pieces_of cell) c.text-text.ensures.text;
+      ends = c.lend.ensures.end;
+    }) in (
+      (refl, (λ _. tt), given.0),
       record {
         after_borrow = tt;
-        spent = λ spent. absurd (let refused = c.fill.ensures.refused spent in cc);
-        spent_only = λ is. cc;
+        lent = given.1;
+        spent = λ spent. absurd (ok_err c.fill.result (Some c.in-Some.end) Spent was (c.fill.ensures.refused spent));
+        spent_only = λ is. absurd (ok_err (Ok (Some c.lend.result)) (Some c.lend.result) Spent refl is);
         settled = λ seen. ⊎_elim (λ held. c.fill.ensures.quiet held) (λ spent. c.fill.ensures.spent spent) (or-cases old.is_held old.is_spent seen);
         ended = λ h. c.fill.ensures.ended h;
         reads = omega (arith, c.fill.ensures.reads);

@@ -1,0 +1,124 @@
+//! What a person reads where a run is refused.
+
+use lbk_cmd::{CmdFault, RunFault};
+use lbk_notation::ReplayFault;
+use lbk_passage::PassageFault;
+use lbk_ucd::{UcdCause, UcdFault, Which};
+use lbk_words::{Engine, FileNames, Order};
+use std::fmt;
+
+/// A fault in one line that a person can act on and an editor can jump by.
+#[derive(Clone, Copy)]
+pub struct Message<'a> {
+    pub fault: RunFault,
+    /// What the words asked for, where there were words.
+    pub order: Option<Order<'a>>,
+}
+
+impl<'a> fmt::Display for Message<'a> {
+    fn fmt<W: fmt::Write>(&self, f: &mut fmt::Formatter<W>) -> fmt::Result {
+        match self.fault {
+            RunFault::Load(which) => write!(f, "{}: the file cannot be read", self.name(which)),
+            RunFault::Tables(fault) => self.table_fault(f, fault),
+            RunFault::Cmd(CmdFault::Passage(fault)) => self.passage_fault(f, fault),
+            RunFault::Cmd(CmdFault::Write) | RunFault::Replay(ReplayFault::Write) => {
+                write!(f, "standard output cannot be written")
+            }
+            RunFault::Replay(ReplayFault::Read) => write!(f, "standard input cannot be read"),
+            RunFault::Replay(ReplayFault::StreamTooLong) => {
+                write!(f, "standard input has more than 1073741824 bytes")
+            }
+            RunFault::Cmd(CmdFault::Memory)
+            | RunFault::Replay(ReplayFault::Memory)
+            | RunFault::Memory => write!(f, "out of memory"),
+        }
+    }
+}
+
+impl<'a> Message<'a> {
+    /// The file's name as it was given; without words, that of the sample file.
+    fn name(&self, which: Which) -> &'a str {
+        let Some(order) = self.order else {
+            return sample_name(which);
+        };
+        name_in(order.files, which)
+    }
+
+    /// `FILE:LINE: cause`, or `FILE: cause` where the whole file is meant.
+    fn table_fault<W: fmt::Write>(
+        &self,
+        f: &mut fmt::Formatter<W>,
+        fault: UcdFault,
+    ) -> fmt::Result {
+        let name = self.name(fault.file);
+        let cause = cause_text(fault.cause);
+        if fault.line == 0 {
+            write!(f, "{name}: {cause}")
+        } else {
+            write!(f, "{name}:{}: {cause}", fault.line)
+        }
+    }
+
+    fn passage_fault<W: fmt::Write>(
+        &self,
+        f: &mut fmt::Formatter<W>,
+        fault: PassageFault,
+    ) -> fmt::Result {
+        match fault {
+            PassageFault::Limit => write!(f, "the limit of a paragraph is 1 to 16777216 bytes"),
+            PassageFault::Memory => write!(f, "out of memory"),
+            PassageFault::Read | PassageFault::Spent => write!(f, "standard input cannot be read"),
+            PassageFault::NotUtf8 { at } => {
+                write!(f, "standard input: byte {at}: it is not UTF-8 from here on")
+            }
+            PassageFault::TextTooLong => {
+                write!(f, "standard input has more than 1073741824 bytes")
+            }
+            PassageFault::ParagraphTooLong { start } => write!(
+                f,
+                "standard input: byte {start}: the paragraph from here on has more than {} bytes; \
+                 --limit raises the limit, up to 16777216",
+                self.limit()
+            ),
+        }
+    }
+
+    /// The most bytes of a paragraph.
+    fn limit(&self) -> u32 {
+        match self.order.map(|order| order.engine) {
+            Some(Engine::Show { limit }) | Some(Engine::Segment { limit }) => limit,
+            _ => 65_536,
+        }
+    }
+}
+
+fn name_in<'a>(files: FileNames<'a>, which: Which) -> &'a str {
+    match which {
+        Which::LineBreak => files.line_break,
+        Which::EastAsianWidth => files.east_asian,
+        Which::Category => files.category,
+        Which::Emoji => files.emoji,
+    }
+}
+
+fn sample_name(which: Which) -> &'static str {
+    match which {
+        Which::LineBreak => "sample LineBreak.txt",
+        Which::EastAsianWidth => "sample EastAsianWidth.txt",
+        Which::Category => "sample DerivedGeneralCategory.txt",
+        Which::Emoji => "sample emoji-data.txt",
+    }
+}
+
+fn cause_text(cause: UcdCause) -> &'static str {
+    match cause {
+        UcdCause::FileTooLong => "the file has more than 8388608 bytes",
+        UcdCause::LineTooLong => "the line has more than 1024 bytes",
+        UcdCause::RowSyntax => "the line is neither a row `code; value` nor a comment nor blank",
+        UcdCause::Range => "a range whose first code is past its last, or a code past 10FFFF",
+        UcdCause::UnknownValue => "the property has no value of this name in Unicode 15.0",
+        UcdCause::Overlap => "a row before this one holds a code of this row",
+        UcdCause::TooManyRows => "the file has more than 65536 rows and default lines",
+        UcdCause::Memory => "out of memory",
+    }
+}

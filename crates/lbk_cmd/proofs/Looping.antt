@@ -1,0 +1,241 @@
+-- The loop of an engine: what was read and what was written, from passage to passage.
+use Rattle.std.proofs.Common.{◌≡◌, ℕ, ◌+◌, ◌-◌, ◌<◌, ◌≤◌, Bool, true, false, ◌||◌, ◌⊎◌, List, [], ◌∷◌, ◌++◌, length, take, Option, None, Some, Result, Ok, Err, refl, sym, ap, subst, ◌∙◌, arith, ⊎_elim, length-append, append_assoc, append-nil}
+use Rattle.std.proofs.Math.Seq.{take-append-add, take-append_seam}
+use Rattle.std.proofs.lemmas.Bool.{cases_lt, false≢true}
+use Rattle.std.proofs.lemmas.List.{append_cancel_left}
+use Rattle.std.specs.Io.KnownBytes.{Appends, Consumes, Keeps, IsAtEnd, prepend_known}
+use Rattle.lbk_feed.specs.Devices.{KeepsIfTold}
+use Rattle.lbk_feed.specs.Runs.{Took, Ran, IsStopped}
+use Rattle.lbk_feed.specs.Text.{longest_text}
+use Rattle.lbk_feed.specs.View.{BeginsWith}
+use Rattle.lbk_feed.proofs.Taking.{Consumes-nil, Consumes-trans, Took-then}
+use Rattle.lbk_passage.specs.Marks.{Marked}
+use Rattle.lbk_passage.specs.State.{State, new_state}
+use Rattle.lbk_passage.specs.Next.{AfterNext, Agrees, IsDone, IsPassage, KeepsAhead, ends_run, fault_in, lent_text}
+use Rattle.lbk_passage.specs.declared.faults.PassageFault.{PassageFault}
+use Rattle.lbk_passage.specs.declared.faults.PassageFault.TheVariants as fault
+use Rattle.lbk_passage.specs.declared.passage.Passage.{Passage}
+use Rattle.lbk_cmd.specs.Run.{Engine, IsRun, IsSettled, IsWhole, is_failed_read}
+use Rattle.lbk_cmd.specs.declared.faults.CmdFault.{CmdFault}
+use Rattle.lbk_cmd.specs.declared.faults.CmdFault.TheVariants as cmd
+use Rattle.lbk_cmd.proofs.Running.{Standing, Standing-new, Standing-next, given_now, passage_now, start_now}
+use Rattle.lbk_cmd.proofs.Stopping.{stopped, run_whole, run_fault, settled_none}
+
+Appends-nil : (a : Option (List ℕ)) → Appends a a []
+Appends-nil None = tt
+Appends-nil (Some xs) = sym (append-nil xs)
+
+Appends-trans : (a b c : Option (List ℕ)) (bs cs : List ℕ) → Appends a b bs → Appends b c cs → Appends a c (bs ++ cs)
+Appends-trans None b c bs cs p q = tt
+Appends-trans (Some x) None c bs cs p q = absurd p
+Appends-trans (Some x) (Some y) None bs cs p q = absurd q
+Appends-trans (Some x) (Some y) (Some z) bs cs p q = q ∙ ap (λ l. l ++ cs) p ∙ append_assoc x bs cs
+
+-- bytes that joined those held, where the bytes ahead stayed as they were, came from those unread
+module _ (held held' got : List ℕ) (grown : held' ≡ held ++ got) where
+  behind : (xs ys : List ℕ) → held ++ xs ≡ held' ++ ys → xs ≡ got ++ ys
+  behind xs ys same = append_cancel_left held xs (got ++ ys) (same ∙ ap (λ l. l ++ ys) grown ∙ append_assoc held got ys)
+
+  kept_took : (before after : Option (List ℕ)) → Keeps (prepend_known held before) (prepend_known held' after) → Consumes before after got
+  kept_took None after kept = tt
+  kept_took (Some xs) None kept = absurd kept
+  kept_took (Some xs) (Some ys) kept = behind xs ys (sym kept)
+
+  begun_took : (before : Option (List ℕ)) → BeginsWith held' (prepend_known held before) → BeginsWith got before
+  begun_took None begins = tt
+  begun_took (Some xs) begins = (begins.0, behind xs begins.0 begins.1)
+
+  told_took : (before after : Option (List ℕ)) → KeepsIfTold (prepend_known held before) (prepend_known held' after) → KeepsIfTold before (prepend_known got after)
+  told_took None after told = tt
+  told_took (Some xs) None told = tt
+  told_took (Some xs) (Some ys) told = sym (behind xs ys (sym told))
+
+-- what a call that answered a fault took from its reader
+took_fault : (X : Type 0) (s t : State) (u v : Option (List ℕ)) (e1 e2 : Bool) (r1 r2 : ℕ) (why : PassageFault) (a : AfterNext s t u v e1 e2 r1 r2 (Err why))
+    → Took (is_failed_read {X = X} (Err (cmd.Passage why))) u v a.got
+took_fault X s t u v e1 e2 r1 r2 fault.Limit a = kept_took _ _ _ a.grown u v a.ahead_kept
+took_fault X s t u v e1 e2 r1 r2 fault.Memory a = kept_took _ _ _ a.grown u v a.ahead_kept
+took_fault X s t u v e1 e2 r1 r2 fault.Read a = (begun_took _ _ _ a.grown u a.begins, told_took _ _ _ a.grown u v a.ahead_kept)
+took_fault X s t u v e1 e2 r1 r2 (fault.NotUtf8 at) a = kept_took _ _ _ a.grown u v a.ahead_kept
+took_fault X s t u v e1 e2 r1 r2 fault.TextTooLong a = kept_took _ _ _ a.grown u v a.ahead_kept
+took_fault X s t u v e1 e2 r1 r2 (fault.ParagraphTooLong start) a = kept_took _ _ _ a.grown u v a.ahead_kept
+took_fault X s t u v e1 e2 r1 r2 fault.Spent a = kept_took _ _ _ a.grown u v a.ahead_kept
+
+module _ (e : Engine) (u0 w0 : Option (List ℕ)) (reads0 : ℕ) where
+  -- what the calls so far took from the reader, and what was written
+  pub record Going (s : State) (u w : Option (List ℕ)) (has_ended : Bool) (reads : ℕ) : Type 0 where
+    pub bytes : List ℕ
+    pub out : List ℕ
+    pub took : Consumes u0 u bytes
+    pub put : Appends w0 w out
+    pub standing : Standing e s bytes out
+    pub agrees : Agrees s has_ended u
+    pub paid : s.is_ended ≡ false → reads ≤ reads0 + (s.start + length s.held)
+    pub most : reads ≤ reads0 + (longest_text + 1)
+
+  pub Going-new : (s : State) (has_ended : Bool) → s ≡ new_state e.cell e.profile e.limit → Going s u0 w0 has_ended reads0
+  Going-new s has_ended is = record {
+    bytes = [];
+    out = [];
+    took = Consumes-nil u0;
+    put = Appends-nil w0;
+    standing = Standing-new e s is;
+    agrees = λ at_end. absurd (false≢true (sym (ap (λ t. t.is_ended) is) ∙ at_end));
+    paid = λ _. omega arith;
+    most = omega arith;
+  }
+
+  module _ (s t : State) (u v w : Option (List ℕ)) (e1 e2 : Bool) (r1 r2 : ℕ) (g : Going s u w e1 r1) where
+    -- the reads of a call, where `all` are the bytes held in the end and those given
+    module _ (all : List ℕ) (stops : Bool) (each : (stops || t.is_ended) ≡ false → r2 + length s.held ≤ r1 + length all)
+        (within : r1 < r2 → r2 + (s.start + length s.held) ≤ r1 + (longest_text + 1))
+        (quiet : s.is_ended ≡ true → (all ≡ s.held) × (t.is_ended ≡ true) × (r2 ≤ r1)) where
+      few_reads : r2 ≤ reads0 + (longest_text + 1)
+      few_reads = by s.is_ended refl
+        where
+          by : (b : Bool) → s.is_ended ≡ b → r2 ≤ reads0 + (longest_text + 1)
+          by true is = omega (arith, (quiet is).2, g.most)
+          by false is = ⊎_elim (λ (more : r1 < r2). omega (arith, within more, g.paid is)) (λ (none : r2 ≤ r1). omega (arith, g.most)) (cases_lt r1 r2)
+
+      paid_reads : stops ≡ false → t.is_ended ≡ false → r2 ≤ reads0 + (s.start + length all)
+      paid_reads goes open_end = by s.is_ended refl
+        where
+          by : (b : Bool) → s.is_ended ≡ b → r2 ≤ reads0 + (s.start + length all)
+          by true is = absurd (false≢true (sym open_end ∙ (quiet is).1))
+          by false is = omega (arith, each (ap (λ b. b || t.is_ended) goes ∙ open_end), g.paid is)
+
+    pub most_reads : (r : Result (Option Passage) PassageFault) (a : AfterNext s t u v e1 e2 r1 r2 r) → r2 ≤ reads0 + (longest_text + 1)
+    most_reads r a =
+        few_reads (lent_text r ++ t.held) (ends_run (fault_in r)) a.costs.each_gave a.costs.within
+        (λ h. ((a.quiet h).0, (a.quiet h).1, (a.quiet h).2))
+
+    notices : (r : Result (Option Passage) PassageFault) (a : AfterNext s t u v e1 e2 r1 r2 r) → t.is_ended ≡ true → e2 ≡ true
+    notices r a at_end = (a.agrees g.agrees at_end).0
+
+    module _ (p : Passage) (a : AfterNext s t u v e1 e2 r1 r2 (Ok (Some p))) where
+      took_now : Consumes u0 v (g.bytes ++ a.got)
+      took_now = Consumes-trans u0 u v g.bytes a.got g.took (kept_took _ _ _ a.grown u v a.ahead_kept)
+
+      -- a passage was given, and its lines were not written, or not all of them
+      module _ (line : List ℕ) (is : (ms : List Marked) → s.cell ≡ e.cell → s.profile ≡ e.profile → IsPassage s ms p → line ≡ e.lines p.start ms) where
+        line_is : line ≡ e.lines s.start (given_now e s g.bytes g.out g.standing t u v e1 e2 r1 r2 p a)
+        line_is =
+            is (given_now e s g.bytes g.out g.standing t u v e1 e2 r1 r2 p a) g.standing.cell g.standing.profile
+            (passage_now e s g.bytes g.out g.standing t u v e1 e2 r1 r2 p a)
+            ∙ ap (λ n. e.lines n (given_now e s g.bytes g.out g.standing t u v e1 e2 r1 r2 p a)) (start_now e s g.bytes g.out g.standing t u v e1 e2 r1 r2 p a)
+
+        standing_now : Standing e t (g.bytes ++ a.got) (g.out ++ line)
+        standing_now =
+            subst (λ l. Standing e t (g.bytes ++ a.got) (g.out ++ l)) (sym line_is) (Standing-next e s g.bytes g.out g.standing t u v e1 e2 r1 r2 p a)
+
+        pub Going-next : (w' : Option (List ℕ)) → Appends w w' line → Going t v w' e2 r2
+        Going-next w' wrote = record {
+          bytes = g.bytes ++ a.got;
+          out = g.out ++ line;
+          took = took_now;
+          put = Appends-trans w0 w w' g.out line g.put wrote;
+          standing = standing_now;
+          agrees = a.agrees g.agrees;
+          paid = λ open_end.
+              (let few = paid_reads (p.text.now ++ t.held) false a.costs.each_gave a.costs.within
+              (λ h. ((a.quiet h).0, (a.quiet h).1, (a.quiet h).2)) refl open_end in
+              omega (arith, few, a.start, length-append p.text.now t.held));
+          most = most_reads (Ok (Some p)) a;
+        }
+
+        pub ran_write : (X : Type 0) (w' : Option (List ℕ)) (n : ℕ) → Appends w w' (take n line)
+            → Ran false u0 v w0 w' (IsRun {X = X} e e2 (Err cmd.Write))
+        ran_write X w' n wrote = record {
+          read = g.bytes ++ a.got;
+          out = g.out ++ take n line;
+          took = took_now;
+          put = Appends-trans w0 w w' g.out (take n line) g.put wrote;
+          so = stopped e t (g.bytes ++ a.got) (g.out ++ line) standing_now e2 (notices (Ok (Some p)) a) (g.out ++ take n line) (length g.out + n)
+              (sym (take-append-add g.out line n));
+        }
+
+      -- memory could not grow for its lines
+      pub ran_memory : (X : Type 0) → Ran false u0 v w0 w (IsRun {X = X} e e2 (Err cmd.Memory))
+      ran_memory X =
+          let line = e.lines s.start (given_now e s g.bytes g.out g.standing t u v e1 e2 r1 r2 p a) in
+          record {
+            read = g.bytes ++ a.got;
+            out = g.out;
+            took = took_now;
+            put = g.put;
+            so = stopped e t (g.bytes ++ a.got) (g.out ++ line) (Standing-next e s g.bytes g.out g.standing t u v e1 e2 r1 r2 p a) e2 (notices (Ok (Some p)) a) g.out
+                (length g.out) (sym (take-append_seam g.out line));
+          }
+
+    -- the text was read to its end
+    pub ran_whole : {X : Type 0} (x : X) → AfterNext s t u v e1 e2 r1 r2 (Ok None) → Ran false u0 v w0 w (IsRun e e2 (Ok x))
+    ran_whole x a = record {
+      read = g.bytes ++ a.got;
+      out = g.out;
+      took = Consumes-trans u0 u v g.bytes a.got g.took (kept_took _ _ _ a.grown u v a.ahead_kept);
+      put = g.put;
+      so = run_whole e s g.bytes g.out g.standing t u v e1 e2 r1 r2 a;
+    }
+
+    pub at_the_end : AfterNext s t u v e1 e2 r1 r2 (Ok None) → (e2 ≡ true) × IsAtEnd v
+    at_the_end a = let done : IsDone t = a.answer in a.agrees g.agrees done.at_end
+
+    -- the segmenter answered a fault
+    pub ran_fault : (X : Type 0) (why : PassageFault) → AfterNext s t u v e1 e2 r1 r2 (Err why)
+        → Ran (is_failed_read {X = X} (Err (cmd.Passage why))) u0 v w0 w (IsRun {X = X} e e2 (Err (cmd.Passage why)))
+    ran_fault X why a = record {
+      read = g.bytes ++ a.got;
+      out = g.out;
+      took = Took-then (is_failed_read {X = X} (Err (cmd.Passage why))) u0 u v g.bytes a.got g.took (took_fault X s t u v e1 e2 r1 r2 why a);
+      put = g.put;
+      so = run_fault e s g.bytes g.out g.standing t u v e1 e2 r1 r2 X why a (notices (Err why) a);
+    }
+
+  -- nothing was read, where the segmenter could not be made
+  pub ran_none : (X : Type 0) (has_ended : Bool) → Ran false u0 u0 w0 w0 (IsRun {X = X} e has_ended (Err (cmd.Passage fault.Memory)))
+  ran_none X has_ended = record { read = []; out = []; took = Consumes-nil u0; put = Appends-nil w0; so = settled_none e }
+
+  pub ran_limit : (X : Type 0) (has_ended : Bool) → Ran false u0 u0 w0 w0 (IsRun {X = X} e has_ended (Err (cmd.Passage fault.Limit)))
+  ran_limit X has_ended = record { read = []; out = []; took = Consumes-nil u0; put = Appends-nil w0; so = (refl, refl) }
+
+-- A run by the answers of its calls
+
+module _ (e : Engine) (u0 w0 : Option (List ℕ)) (reads0 : ℕ) (X : Type 0) (answer : Result X CmdFault) where
+  -- the segmenter could not be made
+  pub run_none : (why : PassageFault) (has_ended : Bool) → answer ≡ Err (cmd.Passage why) → (why ≡ fault.Limit) ⊎ (why ≡ fault.Memory)
+      → Ran (is_failed_read answer) u0 u0 w0 w0 (IsRun e has_ended answer)
+  run_none why has_ended is one = ⊎_elim
+      (λ limit. subst (λ r. Ran (is_failed_read r) u0 u0 w0 w0 (IsRun e has_ended r)) (sym (is ∙ ap (λ f. Err (cmd.Passage f)) limit)) (ran_limit e u0 w0 reads0 X has_ended))
+      (λ memory. subst (λ r. Ran (is_failed_read r) u0 u0 w0 w0 (IsRun e has_ended r)) (sym (is ∙ ap (λ f. Err (cmd.Passage f)) memory)) (ran_none e u0 w0 reads0 X has_ended))
+      one
+
+  module _ (s t : State) (u v w : Option (List ℕ)) (e1 e2 : Bool) (r1 r2 : ℕ) (r : Result (Option Passage) PassageFault)
+      (g : Going e u0 w0 reads0 s u w e1 r1) (a : AfterNext s t u v e1 e2 r1 r2 r) where
+    pub run_stopped : (why : PassageFault) → r ≡ Err why → answer ≡ Err (cmd.Passage why)
+        → Ran (is_failed_read answer) u0 v w0 w (IsRun e e2 answer)
+    run_stopped why was is =
+        subst (λ x. Ran (is_failed_read x) u0 v w0 w (IsRun e e2 x)) (sym is)
+        (ran_fault e u0 w0 reads0 s t u v w e1 e2 r1 r2 g X why (subst (AfterNext s t u v e1 e2 r1 r2) was a))
+
+    pub run_ended : (x : X) → r ≡ Ok None → answer ≡ Ok x → Ran (is_failed_read answer) u0 v w0 w (IsRun e e2 answer)
+    run_ended x was is =
+        subst (λ y. Ran (is_failed_read y) u0 v w0 w (IsRun e e2 y)) (sym is)
+        (ran_whole e u0 w0 reads0 s t u v w e1 e2 r1 r2 g x (subst (AfterNext s t u v e1 e2 r1 r2) was a))
+
+    module _ (p : Passage) (was : r ≡ Ok (Some p)) where
+      given : AfterNext s t u v e1 e2 r1 r2 (Ok (Some p))
+      given = subst (AfterNext s t u v e1 e2 r1 r2) was a
+
+      pub run_out_of_memory : answer ≡ Err cmd.Memory → Ran (is_failed_read answer) u0 v w0 w (IsRun e e2 answer)
+      run_out_of_memory is =
+          subst (λ x. Ran (is_failed_read x) u0 v w0 w (IsRun e e2 x)) (sym is) (ran_memory e u0 w0 reads0 s t u v w e1 e2 r1 r2 g p given X)
+
+      module _ (line : List ℕ) (lines : (ms : List Marked) → s.cell ≡ e.cell → s.profile ≡ e.profile → IsPassage s ms p → line ≡ e.lines p.start ms)
+          (w' : Option (List ℕ)) where
+        pub run_unwritten : answer ≡ Err cmd.Write → (n : ℕ) → Appends w w' (take n line) → Ran (is_failed_read answer) u0 v w0 w' (IsRun e e2 answer)
+        run_unwritten is n wrote =
+            subst (λ x. Ran (is_failed_read x) u0 v w0 w' (IsRun e e2 x)) (sym is)
+            (ran_write e u0 w0 reads0 s t u v w e1 e2 r1 r2 g p given line lines X w' n wrote)
+
+        pub run_goes_on : Appends w w' line → Going e u0 w0 reads0 t v w' e2 r2
+        run_goes_on wrote = Going-next e u0 w0 reads0 s t u v w e1 e2 r1 r2 g p given line lines w' wrote

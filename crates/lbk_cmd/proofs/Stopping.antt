@@ -1,0 +1,322 @@
+-- Where a run of an engine ends.
+use Rattle.std.proofs.Common.{◌≡◌, ◌⊎◌, ℕ, ◌+◌, ◌-◌, ◌<◌, ◌≤◌, Bool, true, false, List, [], ◌∷◌, ◌++◌, length, take, min, None, Some, Option, Ok, Err, IsUtf8, encode_utf8, encode_utf8_all, chars, refl, sym, ap, subst, ◌∙◌, arith, inl, inr, ⊎_elim, length-append, length-take, append_assoc, append-nil}
+use Rattle.std.specs.List.{AllByRecursion, flat_map}
+use Rattle.std.proofs.Math.Seq.{take-append-add}
+use Rattle.std.proofs.lemmas.List.{nil_from_length}
+use Rattle.std.proofs.lemmas.Bool.{false≢true}
+use Rattle.std.proofs.lemmas.Str.{IsUtf8-append, IsUtf8-nil, encodes-append, chars_from_encodes}
+use Rattle.lbk_feed.specs.Runs.{IsStopped, midway, at_end}
+use Rattle.lbk_feed.specs.Text.{longest_text, well_formed_prefix, counted, IsNotUtf8At, IsTooLong, IsOpen}
+use Rattle.lbk_feed.proofs.Judged.{prefix-after}
+use Rattle.lbk_passage.specs.Marks.{Marked, scalars_of, text_of}
+use Rattle.lbk_passage.specs.Passages.{passages}
+use Rattle.lbk_passage.specs.State.{State}
+use Rattle.lbk_passage.specs.Next.{AfterNext, BeginsWithAll, IsDone, Stops, Waits}
+use Rattle.lbk_passage.specs.declared.faults.PassageFault.{PassageFault}
+use Rattle.lbk_passage.specs.declared.faults.PassageFault.TheVariants as fault
+use Rattle.lbk_passage.proofs.Marking.{begins_with_all}
+use Rattle.lbk_cmd.specs.Run.{Engine, passages_by, written_by, AreWithin, IsWhole, AreGiven, IsSettled, AreAll, Lies, IsRefused, IsRun}
+use Rattle.lbk_cmd.specs.declared.faults.CmdFault.TheVariants.{Passage}
+use Rattle.lbk_cmd.proofs.Running.{some_bytes, Stands, fresh, goes_on, ended, Standing, onward}
+
+module _ (e : Engine) where
+  no_passages : passages_by e [] ≡ []
+  unfolding passages
+  no_passages = refl
+
+  -- nothing is given of no scalars
+  none_given : AreGiven e [] []
+  none_given = record {
+    behind = [];
+    joined = refl;
+    followed = λ some. absurd (omega (arith, some));
+    first = λ more. refl;
+    in_one = λ some. absurd (omega (arith, some));
+    within = tt;
+  }
+
+  pub settled_none : IsSettled e [] []
+  settled_none = record { scalars = []; rest = []; begins = refl; utf8 = IsUtf8-nil; given = []; are = none_given; is = refl }
+
+  module _ (s : State) (bytes out : List ℕ) (st : Standing e s bytes out) where
+    -- nothing was given
+    settled_fresh : st.given ≡ [] → IsSettled e bytes out
+    settled_fresh no_given = record {
+      scalars = [];
+      rest = bytes;
+      begins = refl;
+      utf8 = IsUtf8-nil;
+      given = [];
+      are = none_given;
+      is = st.is ∙ ap (written_by e) no_given;
+    }
+
+    -- a scalar follows what was given
+    settled_on : (next : ℕ) (rest : List ℕ) → s.held ≡ encode_utf8 next ++ rest → IsUtf8 (encode_utf8 next)
+        → ((more : List ℕ) → passages_by e (st.scalars ++ next ∷ more) ≡ st.given ++ passages_by e (next ∷ more)) → IsSettled e bytes out
+    settled_on next rest held utf8 first =
+        let one : encode_utf8_all (st.scalars ++ next ∷ []) ≡ encode_utf8_all st.scalars ++ encode_utf8 next =
+        encodes-append st.scalars (next ∷ []) ∙ ap (λ l. encode_utf8_all st.scalars ++ l) (append-nil (encode_utf8 next)) in
+        record {
+          scalars = st.scalars ++ next ∷ [];
+          rest = rest;
+          begins = st.bytes_are ∙ ap (λ l. encode_utf8_all st.scalars ++ l) held
+              ∙ sym (append_assoc (encode_utf8_all st.scalars) (encode_utf8 next) rest) ∙ ap (λ l. l ++ rest) (sym one);
+          utf8 = subst IsUtf8 (sym one) (IsUtf8-append (encode_utf8_all st.scalars) (encode_utf8 next) st.utf8 utf8);
+          given = st.given;
+          are = record {
+            behind = next ∷ [];
+            joined = ap (λ l. l ++ next ∷ []) (sym st.joined);
+            followed = λ some. omega arith;
+            first = λ more. ap (passages_by e) (append_assoc st.scalars (next ∷ []) more) ∙ first more;
+            in_one = λ some more. begins_with_all e.profile e.cell (next ∷ []) more some refl;
+            within = st.within;
+          };
+          is = st.is;
+        }
+
+    -- the text ended
+    whole_at : (all : List ℕ) → all ≡ encode_utf8_all st.scalars → passages_by e st.scalars ≡ st.given → IsWhole e all out
+    whole_at all is given =
+        let scalars_are : chars all ≡ st.scalars = sym (chars_from_encodes st.scalars all (subst IsUtf8 (sym is) st.utf8) (sym is)) in
+        record {
+          utf8 = subst IsUtf8 (sym is) st.utf8;
+          few = omega (arith, ap length is, st.start, st.few);
+          within = subst (AreWithin e) (sym (ap (passages_by e) scalars_are ∙ given)) st.within;
+          is = st.is ∙ ap (written_by e) (sym (ap (passages_by e) scalars_are ∙ given));
+        }
+
+    -- the front of what is written of the passages given
+    pub stopped : (has_ended : Bool) → (s.is_ended ≡ true → has_ended ≡ true) → (put : List ℕ) (n : ℕ) → put ≡ take n out
+        → IsStopped (IsSettled e) (IsWhole e) (has_ended ≡ true) bytes put
+    stopped has_ended notices put n front = by st.stands
+      where
+        by : Stands e s st.scalars st.given → IsStopped (IsSettled e) (IsWhole e) (has_ended ≡ true) bytes put
+        by (fresh none no_given) = midway bytes [] out n (sym (append-nil bytes)) (settled_fresh no_given) front
+        by (goes_on next rest held utf8 near first) =
+            midway bytes [] out n (sym (append-nil bytes)) (settled_on next rest held utf8 first) front
+        by (ended held is_at_end given) =
+            at_end out n (notices is_at_end)
+            (whole_at bytes (st.bytes_are ∙ ap (λ l. encode_utf8_all st.scalars ++ l) held ∙ append-nil (encode_utf8_all st.scalars)) given) front
+
+    module _ (t : State) (u v : Option (List ℕ)) (e1 e2 : Bool) (r1 r2 : ℕ) where
+      -- the text was read to its end
+      pub run_whole : (a : AfterNext s t u v e1 e2 r1 r2 (Ok None)) → IsWhole e (bytes ++ a.got) out
+      run_whole a =
+          let done : IsDone t = a.answer in
+          let none : s.held ++ a.got ≡ [] = sym a.grown ∙ done.none in
+          whole_at (bytes ++ a.got)
+          (ap (λ l. l ++ a.got) st.bytes_are ∙ append_assoc (encode_utf8_all st.scalars) s.held a.got
+          ∙ ap (λ l. encode_utf8_all st.scalars ++ l) none ∙ append-nil (encode_utf8_all st.scalars))
+          (by none st.stands)
+        where
+          by : s.held ++ a.got ≡ [] → Stands e s st.scalars st.given → passages_by e st.scalars ≡ st.given
+          by none (fresh no_scalars no_given) = ap (passages_by e) no_scalars ∙ no_passages ∙ sym no_given
+          by none (goes_on next rest held utf8 near first) =
+              let some = some_bytes next in
+              absurd (omega (arith, some, ap length none, length-append s.held a.got, ap length held, length-append (encode_utf8 next) rest))
+          by none (ended held is_at_end given) = given
+
+      -- memory could not grow for a passage
+      pub run_memory : AfterNext s t u v e1 e2 r1 r2 (Err fault.Memory) → IsSettled e bytes out
+      run_memory a = by st.stands
+        where
+          by : Stands e s st.scalars st.given → IsSettled e bytes out
+          by (fresh none no_given) = settled_fresh no_given
+          by (goes_on next rest held utf8 near first) = settled_on next rest held utf8 first
+          by (ended held is_at_end given) =
+              let waits : Waits t = a.answer in
+              let none = ap length (sym waits.bytes ∙ (a.quiet is_at_end).0 ∙ held) in
+              absurd (some_text waits.marks waits.some (omega (arith, none, length-append (text_of waits.marks) waits.behind)))
+            where
+              some_text : (ms : List Marked) → 0 < length ms → length (text_of ms) ≡ 0 → ⊥
+              some_text [] some none = omega (arith, some)
+              some_text (m ∷ ms) some none =
+                  let bytes_of = some_bytes m.scalar in
+                  omega (arith, bytes_of, none, length-append (encode_utf8 m.scalar) (text_of ms))
+
+      -- the reader or the text stopped it
+      module _ (why : PassageFault) (a : AfterNext s t u v e1 e2 r1 r2 (Err why)) (stops : Stops t why) where
+        used : List ℕ
+        used = encode_utf8_all st.scalars
+
+        begin_now : length used ≡ t.start
+        unfolding used
+        begin_now = omega (arith, a.start, st.start)
+
+        all_now : bytes ++ a.got ≡ used ++ t.held
+        unfolding used
+        all_now =
+            ap (λ l. l ++ a.got) st.bytes_are ∙ append_assoc (encode_utf8_all st.scalars) s.held a.got
+            ∙ ap (λ l. encode_utf8_all st.scalars ++ l) (sym a.grown)
+
+        NoneSeen : Type 0
+        NoneSeen = stops.seen ≡ [] → (st.scalars ≡ []) × (st.given ≡ [])
+
+        settled : NoneSeen → IsSettled e (bytes ++ a.got) out
+        unfolding used NoneSeen
+        settled none_seen = record {
+          scalars = st.scalars ++ stops.seen;
+          rest = stops.rest;
+          begins = all_now ∙ ap (λ l. used ++ l) stops.bytes ∙ sym (append_assoc used (encode_utf8_all stops.seen) stops.rest)
+              ∙ ap (λ l. l ++ stops.rest) (sym (encodes-append st.scalars stops.seen));
+          utf8 = subst IsUtf8 (sym (encodes-append st.scalars stops.seen)) (IsUtf8-append used (encode_utf8_all stops.seen) st.utf8 stops.text);
+          given = st.given;
+          are = record {
+            behind = stops.seen;
+            joined = ap (λ l. l ++ stops.seen) (sym st.joined);
+            followed = λ some. seen_behind stops.seen refl some;
+            first = λ more. first stops.seen refl more;
+            in_one = λ some more. in_engine more (stops.unfinished some more);
+            within = st.within;
+          };
+          is = st.is;
+        }
+          where
+            seen_behind : (seen : List ℕ) → stops.seen ≡ seen → 0 < length st.given → 0 < length seen
+            seen_behind [] is some = absurd (let given = ap length (none_seen is).1 in omega (arith, some, given))
+            seen_behind (c ∷ cs) is some = omega arith
+
+            first : (seen : List ℕ) → stops.seen ≡ seen → (more : List ℕ) → passages_by e ((st.scalars ++ seen) ++ more) ≡ st.given ++ passages_by e (seen ++ more)
+            first [] is more =
+                let none = none_seen is in
+                ap (λ l. passages_by e ((l ++ []) ++ more)) none.0 ∙ ap (λ l. l ++ passages_by e more) (sym none.1)
+            first (c ∷ cs) is more =
+                ap (passages_by e) (append_assoc st.scalars (c ∷ cs) more)
+                ∙ onward e s bytes out st t.held a.got a.grown (λ h. (a.quiet h).0) c (encode_utf8_all cs ++ stops.rest) (cs ++ more)
+                (stops.bytes ∙ ap (λ l. encode_utf8_all l ++ stops.rest) is ∙ append_assoc (encode_utf8 c) (encode_utf8_all cs) stops.rest)
+
+            in_engine : (more : List ℕ) → BeginsWithAll stops.seen (passages t.profile t.cell (stops.seen ++ more))
+                → BeginsWithAll stops.seen (passages_by e (stops.seen ++ more))
+            in_engine more b =
+                subst (λ f. BeginsWithAll stops.seen (passages f e.cell (stops.seen ++ more))) (a.alike.profile ∙ st.profile)
+                (subst (λ f. BeginsWithAll stops.seen (passages t.profile f (stops.seen ++ more))) (a.alike.cell ∙ st.cell) b)
+
+        -- where all well-formed bytes were seen
+        module _ (covered : used ++ encode_utf8_all stops.seen ≡ well_formed_prefix (counted (used ++ t.held)))
+            (short : length (encode_utf8_all stops.seen) ≤ t.limit) where
+          all_seen : AreAll e (bytes ++ a.got) (st.scalars ++ stops.seen) stops.seen
+          unfolding used
+          all_seen = (
+            encodes-append st.scalars stops.seen ∙ covered ∙ ap (λ l. well_formed_prefix (counted l)) (sym all_now),
+            omega (arith, short, a.alike.limit, st.limit),
+          )
+
+          -- something was seen behind a passage, unless the text ended there
+          none_seen : (s.is_ended ≡ true → s.held ≡ [] → ⊥) → NoneSeen
+          unfolding used NoneSeen
+          none_seen not_ended none = by st.stands
+            where
+              by : Stands e s st.scalars st.given → (st.scalars ≡ []) × (st.given ≡ [])
+              by (fresh no_scalars no_given) = (no_scalars, no_given)
+              by (goes_on next rest held utf8 near first) =
+                  let front = used ++ encode_utf8 next in
+                  let long : length front ≡ length used + length (encode_utf8 next) = length-append used (encode_utf8 next) in
+                  let n = longest_text - length front in
+                  let many : longest_text ≡ length front + n = omega (arith, near, long) in
+                  let later = take n (rest ++ a.got) in
+                  let held_now : used ++ t.held ≡ front ++ (rest ++ a.got) =
+                  ap (λ l. used ++ l) (a.grown ∙ ap (λ l. l ++ a.got) held ∙ append_assoc (encode_utf8 next) rest a.got)
+                  ∙ sym (append_assoc used (encode_utf8 next) (rest ++ a.got)) in
+                  let count : counted (used ++ t.held) ≡ front ++ later =
+                  ap counted held_now ∙ ap (λ k. take k (front ++ (rest ++ a.got))) many ∙ take-append-add front (rest ++ a.got) n in
+                  let prefix : used ++ encode_utf8_all stops.seen ≡ front ++ well_formed_prefix later =
+                  covered ∙ ap well_formed_prefix count ∙ prefix-after front later (IsUtf8-append used (encode_utf8 next) st.utf8 utf8) in
+                  let some = some_bytes next in
+                  absurd (omega (
+                    arith,
+                    some,
+                    long,
+                    ap length prefix,
+                    length-append used (encode_utf8_all stops.seen),
+                    length-append front (well_formed_prefix later),
+                    ap (λ l. length (encode_utf8_all l)) none,
+                  ))
+              by (ended held is_at_end given) = absurd (not_ended is_at_end held)
+
+      at_its_end : (bs : List ℕ) (b c : Bool) (at : ℕ) → (b ≡ true → c ≡ true) → IsNotUtf8At bs b at → IsNotUtf8At bs c at
+      at_its_end bs b c at notices i = record {
+        place = i.place;
+        follows = i.follows;
+        why = ⊎_elim (λ (no : ¬ (IsOpen (counted bs))). inl no)
+            (λ (yes : IsOpen (counted bs) × (counted bs ≡ bs) × (b ≡ true)). inr (yes.0, yes.1, notices yes.2)) i.why;
+      }
+
+      -- by the fault that a call answered
+      pub run_fault : (X : Type 0) (why : PassageFault) (a : AfterNext s t u v e1 e2 r1 r2 (Err why)) → (t.is_ended ≡ true → e2 ≡ true)
+          → IsRun {X = X} e e2 (Err (Passage why)) (bytes ++ a.got) out
+      unfolding used settled
+      run_fault X fault.Limit a notices = absurd a.answer.lies
+      run_fault X fault.Memory a notices = settled_more (bytes ++ a.got) a.got refl (run_memory a)
+        where
+          settled_more : (all got : List ℕ) → all ≡ bytes ++ got → IsSettled e bytes out → IsSettled e all out
+          settled_more all got is x = record {
+            scalars = x.scalars;
+            rest = x.rest ++ got;
+            begins = is ∙ ap (λ l. l ++ got) x.begins ∙ append_assoc (encode_utf8_all x.scalars) x.rest got;
+            utf8 = x.utf8;
+            given = x.given;
+            are = x.are;
+            is = x.is;
+          }
+      run_fault X fault.Read a notices =
+          let stops : Stops t fault.Read = a.answer in
+          let covered = stops.all_seen (used fault.Read a stops) st.utf8 (begin_now fault.Read a stops) in
+          record {
+            settled = settled fault.Read a stops (none_seen fault.Read a stops covered stops.lies (λ is_at_end held. (a.quiet is_at_end).3 refl));
+            lies = all_seen fault.Read a stops covered stops.lies;
+          }
+      run_fault X (fault.NotUtf8 at) a notices =
+          let stops : Stops t (fault.NotUtf8 at) = a.answer in
+          let us = used (fault.NotUtf8 at) a stops in
+          let begins = begin_now (fault.NotUtf8 at) a stops in
+          let covered = stops.all_seen us st.utf8 begins in
+          let there = stops.lies.1 us st.utf8 begins in
+          let all = all_now (fault.NotUtf8 at) a stops in
+          record {
+            settled = settled (fault.NotUtf8 at) a stops (none_seen (fault.NotUtf8 at) a stops covered stops.lies.0
+                (λ is_at_end held.
+                let none = ap length ((a.quiet is_at_end).0 ∙ held) in
+                let follows = there.follows in
+                omega (
+                  arith,
+                  there.place,
+                  follows,
+                  ap length covered,
+                  length-append us (encode_utf8_all stops.seen),
+                  length-append us t.held,
+                  none,
+                  length-take longest_text (us ++ t.held),
+                )));
+            lies = (
+              all_seen (fault.NotUtf8 at) a stops covered stops.lies.0,
+              subst (λ l. IsNotUtf8At l e2 at) (sym all) (at_its_end (us ++ t.held) t.is_ended e2 at notices there),
+            );
+          }
+      run_fault X fault.TextTooLong a notices =
+          let stops : Stops t fault.TextTooLong = a.answer in
+          let us = used fault.TextTooLong a stops in
+          let begins = begin_now fault.TextTooLong a stops in
+          let covered = stops.all_seen us st.utf8 begins in
+          let over = stops.lies.1 us st.utf8 begins in
+          record {
+            settled = settled fault.TextTooLong a stops (none_seen fault.TextTooLong a stops covered stops.lies.0
+                (λ is_at_end held.
+                let none = ap length ((a.quiet is_at_end).0 ∙ held) in
+                let more = over.over in
+                omega (arith, more, length-append us t.held, none, begins, a.start, st.few)));
+            lies = (all_seen fault.TextTooLong a stops covered stops.lies.0, subst IsTooLong (sym (all_now fault.TextTooLong a stops)) over);
+          }
+      run_fault X (fault.ParagraphTooLong start) a notices =
+          let stops : Stops t (fault.ParagraphTooLong start) = a.answer in
+          let where_it_is = stops.lies in
+          let some = ap length where_it_is.1.2 ∙ length-append where_it_is.1.0 (where_it_is.1.1 ∷ []) in
+          record {
+            settled = settled (fault.ParagraphTooLong start) a stops (λ none. absurd (omega (arith, some, ap length none)));
+            lies = (
+              omega (arith, where_it_is.0, ap length (encodes-append st.scalars stops.seen), length-append (encode_utf8_all st.scalars) (encode_utf8_all stops.seen), a.start, st.start),
+              omega (arith, where_it_is.1.4, a.alike.limit, st.limit),
+              (where_it_is.1.0, where_it_is.1.1, where_it_is.1.2, omega (arith, where_it_is.1.3, a.alike.limit, st.limit)),
+            );
+          }
+      run_fault X fault.Spent a notices = absurd (false≢true (sym st.unspent ∙ a.answer))

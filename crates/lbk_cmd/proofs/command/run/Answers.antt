@@ -1,0 +1,49 @@
+use Rattle.std.proofs.Common.{◌∙◌, inl, sym, refl}
+use Rattle.lbk_cmd.proofs.Runs.{no_first, no_words, ready_performs, some_words}
+use Rattle.lbk_cmd.proofs.command.run.Goals as goal
+
+pub returns-then-is_empty-clause-samples : goal.returns-then-is_empty-clause-samples
+returns-then-is_empty-clause-samples g c none = c.show_samples.ensures
+
+pub returns-then-is_empty-clause-plain : goal.returns-then-is_empty-clause-plain
+returns-then-is_empty-clause-plain g c task plain =
+    absurd (no_first c.args.words.now _ _ (sym c.is_empty.ensures ∙ c.if-is_empty.true) plain.are)
+
+pub returns-then-is_empty-clause-accepted : goal.returns-then-is_empty-clause-accepted
+returns-then-is_empty-clause-accepted g c task some accepted asks =
+    absurd (some (no_words c.args.words.now (sym c.is_empty.ensures ∙ c.if-is_empty.true)))
+
+pub returns-then-is_empty-clause-others : goal.returns-then-is_empty-clause-others
+returns-then-is_empty-clause-others g c some other =
+    absurd (some (no_words c.args.words.now (sym c.is_empty.ensures ∙ c.if-is_empty.true)))
+
+pub returns-in-Ok-clause-samples : goal.returns-in-Ok-clause-samples
+returns-in-Ok-clause-samples g c none =
+    absurd (some_words c.args.words.now (sym c.is_empty.ensures ∙ c.if-is_empty.false) none)
+
+pub returns-in-Ok-clause-plain : goal.returns-in-Ok-clause-plain
+returns-in-Ok-clause-plain g c task plain =
+    ready_performs (g.S.Store.file c.args.store.now) task c.in-Ok.ready _ _ c.perform.result
+    (c.in-Ok.ensures.plain task plain) c.perform.ensures
+
+pub returns-in-Ok-clause-accepted : goal.returns-in-Ok-clause-accepted
+returns-in-Ok-clause-accepted g c task some accepted asks =
+    ready_performs (g.S.Store.file c.args.store.now) task c.in-Ok.ready _ _ c.perform.result
+    (c.in-Ok.ensures.accepted task accepted asks) c.perform.ensures
+
+pub returns-in-Ok-clause-others : goal.returns-in-Ok-clause-others
+returns-in-Ok-clause-others g c some other = absurd (c.in-Ok.ensures.others other)
+
+pub returns-in-Err-clause-samples : goal.returns-in-Err-clause-samples
+returns-in-Err-clause-samples g c none =
+    absurd (some_words c.args.words.now (sym c.is_empty.ensures ∙ c.if-is_empty.false) none)
+
+pub returns-in-Err-clause-plain : goal.returns-in-Err-clause-plain
+returns-in-Err-clause-plain g c task plain = inl (c.in-Err.stop, c.in-Err.ensures.plain task plain, c.from.ensures, refl)
+
+pub returns-in-Err-clause-accepted : goal.returns-in-Err-clause-accepted
+returns-in-Err-clause-accepted g c task some accepted asks =
+    inl (c.in-Err.stop, c.in-Err.ensures.accepted task accepted asks, c.from.ensures, refl)
+
+pub returns-in-Err-clause-others : goal.returns-in-Err-clause-others
+returns-in-Err-clause-others g c some other = (c.in-Err.stop, c.in-Err.ensures.others other, c.from.ensures, refl)

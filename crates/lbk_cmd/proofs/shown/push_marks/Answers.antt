@@ -1,0 +1,23 @@
+use Rattle.std.proofs.Common.{◌≡◌, ◌++◌, ◌∷◌, get_or, refl, ap, ◌∙◌}
+use Rattle.std.specs.Str.Iter.{chars_rest}
+use Rattle.lbk_notation.specs.Grammar.{mark_bytes}
+use Rattle.lbk_notation.specs.Written.{shown, token}
+use Rattle.lbk_notation.specs.declared.marks.Form.TheVariants.{Kinds}
+use Rattle.lbk_rules.specs.declared.verdicts.Verdict.{Verdict}
+use Rattle.lbk_rules.specs.declared.verdicts.Kind.TheVariants.{No}
+use Rattle.lbk_rules.specs.declared.verdicts.Rule.TheVariants.{Lb2}
+use Rattle.lbk_cmd.proofs.LineWriting.{Writes-step, Writes-end}
+use Rattle.lbk_cmd.proofs.shown.push_marks.Goals as goal
+
+pub loop-c-preserved : goal.loop-c-preserved
+loop-c-preserved c =
+    let none : Verdict = record { kind = No; rule = Lb2 } in
+    let l = c.loop-c in
+    Writes-step c.args.verdicts.now l.k c.in-Some.c (get_or c.args.verdicts.now l.k none) none (chars_rest l.c-iterator) (chars_rest c.next.new.self)
+    l.out.items c.push_scalar.new.text.items _ c.in-Some.ensures.steps.0 refl
+    (c.in_ok-push_scalar.ensures
+    ∙ ap (λ m. l.out.items ++ (32 ∷ (token c.in-Some.c ++ (32 ∷ mark_bytes (shown Kinds m))))) c.mark_of-in-loop-c.ensures)
+    l.invariant
+
+pub returns : goal.returns
+returns c = Writes-end c.args.verdicts.now c.loop-c.k (chars_rest c.loop-c.c-iterator) c.loop-c.out.items _ c.in-None.ensures.steps.0.0 c.loop-c.invariant

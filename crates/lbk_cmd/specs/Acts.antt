@@ -1,0 +1,93 @@
+-- What a run of the program does, by its words.
+use Rattle.std.specs.Prelude.{◌≡◌, ◌⊎◌, ◌+◌, ◌<◌, ◌≤◌, ◌↔◌, ℕ, Bool, List, Option, Result, Err, IfOk, IfSome, IsErrOf, IsTrue, IsUtf8, OnOk, if◌then◌else◌}
+use Rattle.std.specs.Str.{chars}
+use Rattle.std.specs.Io.KnownBytes.{Appends, IsAtEnd}
+use Rattle.lbk_feed.specs.Runs.{HasFailed, Ran}
+use Rattle.lbk_passage.specs.Passages.{passages}
+use Rattle.lbk_passage.specs.State.{IsLimit}
+use Rattle.lbk_passage.specs.declared.faults.PassageFault.{PassageFault}
+use Rattle.lbk_notation.specs.Replay.{IsReplay, IsReplayed, is_read_fault}
+use Rattle.lbk_cmd.specs.Engines.{segmenting, showing}
+use Rattle.lbk_cmd.specs.Run.{Engine as TextEngine, IsRun, is_failed_read}
+use Rattle.lbk_cmd.specs.Texts.{segment_text, show_text}
+use Rattle.lbk_rules.specs.declared.cells.Cell.{Cell}
+use Rattle.lbk_rules.specs.declared.verdicts.Profile.{Profile}
+use Rattle.lbk_rules.specs.declared.verdicts.Profile.TheVariants.{First}
+use Rattle.lbk_notation.specs.declared.findings.Report.{Report}
+use Rattle.lbk_notation.specs.declared.findings.ReplayFault.{ReplayFault}
+use Rattle.lbk_notation.specs.declared.marks.Form.{Form}
+use Rattle.lbk_notation.specs.declared.marks.Form.TheVariants.{Plain, Kinds}
+use Rattle.lbk_words.specs.declared.order.Engine.{Engine}
+use Rattle.lbk_words.specs.declared.order.Engine.TheVariants.{Show, Segment, Replay}
+use Rattle.lbk_words.specs.Command.{default_limit}
+use Rattle.lbk_words.specs.Task.{Task}
+use Rattle.lbk_files.specs.declared.faults.CellsFault.{CellsFault}
+use Rattle.lbk_files.specs.declared.faults.Stop.{Stop}
+use Rattle.lbk_files.specs.SomeFiles.{AreCellsOfSomeFiles, IsFaultOfSomeFiles}
+use Rattle.lbk_files.specs.FileFault.{AreCellsFrom}
+use Rattle.lbk_files.specs.Named.{files_of}
+use Rattle.lbk_files.specs.Ready.{IsStoppedAt}
+use Rattle.lbk_cmd.specs.declared.faults.CmdFault.{CmdFault}
+use Rattle.lbk_cmd.specs.declared.ending.Ending.{Ending}
+use Rattle.lbk_cmd.specs.Devices.{Devices}
+use Rattle.lbk_cmd.specs.Ending.{ending_of_files, ending_of_replay, ending_of_stop, ending_of_text}
+
+-- what `show` and `segment` do where they differ only in the text that they write: to the devices, with the answer
+pub record TextRuns (text : List ℕ → List ℕ) (engine : TextEngine) (before after : Devices) (answer : Result (Unit {0}) CmdFault) : Type 0 where
+  pub shown : OnOk answer (IfSome before.unread (λ input. IsUtf8 input × Appends before.written after.written (text input)))
+  pub ended : OnOk answer (IsTrue after.has_ended × IsAtEnd after.unread)
+  pub run : Ran (is_failed_read answer) before.unread after.unread before.written after.written (IsRun engine after.has_ended answer)
+  pub reads : after.reads ≤ before.reads + 1073741825
+  pub limit : IsErrOf answer (CmdFault.Passage PassageFault.Limit) ↔ (¬ (IsLimit engine.limit))
+  pub read : IsErrOf answer (CmdFault.Passage PassageFault.Read) → HasFailed before.failed_reads after.failed_reads
+  pub read_failed : before.failed_reads < after.failed_reads → answer ≡ Err (CmdFault.Passage PassageFault.Read)
+  pub write : IsErrOf answer CmdFault.Write → HasFailed before.failed_writes after.failed_writes
+  pub write_failed : before.failed_writes < after.failed_writes → answer ≡ Err CmdFault.Write
+
+abbrev pub Shows : (ℕ → Cell) → ℕ → Profile → Devices → Devices → Result (Unit {0}) CmdFault → Type 0
+Shows cell limit profile = TextRuns (λ input. show_text (passages profile cell (chars input))) (showing cell profile limit)
+
+abbrev pub Segments : (ℕ → Cell) → ℕ → Profile → Devices → Devices → Result (Unit {0}) CmdFault → Type 0
+Segments cell limit profile = TextRuns (λ input. segment_text cell (passages profile cell (chars input))) (segmenting cell profile limit)
+
+-- what `replay` does
+pub record Replays (cell : ℕ → Cell) (form : Form) (profile : Profile) (before after : Devices) (answer : Result Report ReplayFault) : Type 0 where
+  pub replayed : IfOk answer (λ report. IfSome before.unread (λ input.
+      IsReplayed cell form profile input report before.written after.written))
+  pub run : Ran (is_read_fault answer) before.unread after.unread before.written after.written
+      (IsReplay cell form profile (IsTrue after.has_ended × IsAtEnd after.unread) answer)
+  pub ended : OnOk answer (IsTrue after.has_ended × IsAtEnd after.unread)
+  pub read : IsErrOf answer ReplayFault.Read → HasFailed before.failed_reads after.failed_reads
+  pub read_failed : before.failed_reads < after.failed_reads → answer ≡ Err ReplayFault.Read
+  pub write : IsErrOf answer ReplayFault.Write → HasFailed before.failed_writes after.failed_writes
+  pub write_failed : before.failed_writes < after.failed_writes → answer ≡ Err ReplayFault.Write
+  pub reads : after.reads ≤ before.reads + 1073741825
+
+-- `--kinds`
+abbrev pub form_of : Bool → Form
+form_of kinds = if kinds then Kinds else Plain
+
+-- the run ends before an engine runs: nothing was read or written
+abbrev pub StopsBefore : (Stop → Type 0) → Devices → Devices → Ending → Type 0
+StopsBefore IsStop before after ending = (stop : Stop) × IsStop stop × (ending ≡ ending_of_stop stop) × (after ≡ before)
+
+-- without words: `show` by the cells of four files, or these give none
+abbrev pub ShowsSamples : Devices → Devices → Ending → Type 0
+ShowsSamples before after ending =
+    ((fault : CellsFault) × IsFaultOfSomeFiles fault × (ending ≡ ending_of_files fault) × (after ≡ before))
+    ⊎ ((cell : ℕ → Cell) × AreCellsOfSomeFiles cell
+    × ((answer : Result (Unit {0}) CmdFault) × Shows cell default_limit First before after answer × (ending ≡ ending_of_text answer)))
+
+-- the engine runs with its option, and the run ends as its answer says
+abbrev pub EngineRuns : Engine → Profile → (ℕ → Cell) → Devices → Devices → Ending → Type 0
+EngineRuns (Show limit) profile cell before after ending =
+    (answer : Result (Unit {0}) CmdFault) × Shows cell limit profile before after answer × (ending ≡ ending_of_text answer)
+EngineRuns (Segment limit) profile cell before after ending =
+    (answer : Result (Unit {0}) CmdFault) × Segments cell limit profile before after answer × (ending ≡ ending_of_text answer)
+EngineRuns (Replay kinds) profile cell before after ending =
+    (answer : Result Report ReplayFault) × Replays cell (form_of kinds) profile before after answer × (ending ≡ ending_of_replay answer)
+
+-- a task: its files stop the run, or its engine runs with its option and profile on the cells of the files
+abbrev pub Performs : (List ℕ → Option (Option (List ℕ))) → Task → Devices → Devices → Ending → Type 0
+Performs file task before after ending = StopsBefore (IsStoppedAt file task) before after ending
+    ⊎ ((cell : ℕ → Cell) × AreCellsFrom (files_of file task) cell × EngineRuns task.engine task.profile cell before after ending)

@@ -1,0 +1,10 @@
+-- A list of verdicts that a machine fills.
+use Rattle.std.specs.Prelude.{Option, Some, None}
+use Rattle.lbk_rules.specs.declared.verdicts.Kind.TheVariants.{No}
+use Rattle.lbk_rules.specs.declared.verdicts.Rule.TheVariants.{Lb15b}
+use Rattle.lbk_rules.specs.declared.verdicts.Verdict.{Verdict}
+
+-- a position that is held has a verdict in its place until its answer comes
+abbrev pub placed : Option Verdict → Verdict
+placed None = record { kind = No; rule = Lb15b }
+placed (Some verdict) = verdict

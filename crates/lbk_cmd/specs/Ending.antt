@@ -1,0 +1,46 @@
+-- How a run ends, by the step that ended it, and the exit status of each ending.
+use Rattle.std.specs.Prelude.{ℕ, ◌||◌, Bool, Result, Ok, Err, if◌then◌else◌, nat_lt}
+use Rattle.lbk_notation.specs.declared.findings.Report.{Report}
+use Rattle.lbk_notation.specs.declared.findings.ReplayFault.{ReplayFault}
+use Rattle.lbk_files.specs.declared.faults.CellsFault.{CellsFault}
+use Rattle.lbk_files.specs.declared.faults.CellsFault.TheVariants as cells
+use Rattle.lbk_files.specs.declared.faults.Stop.{Stop}
+use Rattle.lbk_files.specs.declared.faults.Stop.TheVariants as stop
+use Rattle.lbk_cmd.specs.declared.faults.CmdFault.{CmdFault}
+use Rattle.lbk_cmd.specs.declared.ending.Ending.{Ending}
+use Rattle.lbk_cmd.specs.declared.ending.Ending.TheVariants.{Done, Help, Usage, Differs, Refused}
+use Rattle.lbk_cmd.specs.declared.ending.RunFault.TheVariants.{Load, Tables, Cmd, Replay, Memory}
+
+-- 0 done or help, 1 refused, 2 wrong words, 3 a replay with lines that differ or are refused
+abbrev pub status_of : Ending → ℕ
+status_of Done = 0
+status_of (Help text) = 0
+status_of (Usage text) = 2
+status_of (Differs report) = 3
+status_of (Refused fault) = 1
+
+-- files that gave no cells
+abbrev pub ending_of_files : CellsFault → Ending
+ending_of_files (cells.Load which) = Refused (Load which)
+ending_of_files (cells.Tables fault) = Refused (Tables fault)
+ending_of_files cells.Memory = Refused Memory
+
+-- a stop before an engine ran
+abbrev pub ending_of_stop : Stop → Ending
+ending_of_stop (stop.Help text) = Help text
+ending_of_stop (stop.Usage text) = Usage text
+ending_of_stop (stop.Refused fault) = ending_of_files fault
+
+-- `show` and `segment`
+abbrev pub ending_of_text : Result (Unit {0}) CmdFault → Ending
+ending_of_text (Ok _) = Done
+ending_of_text (Err fault) = Refused (Cmd fault)
+
+-- a line of the report differs or was refused
+abbrev pub has_difference : Report → Bool
+has_difference report = nat_lt 0 report.differed || nat_lt 0 report.refused
+
+-- `replay`
+abbrev pub ending_of_replay : Result Report ReplayFault → Ending
+ending_of_replay (Ok report) = if has_difference report then Differs report else Done
+ending_of_replay (Err fault) = Refused (Replay fault)

@@ -1,0 +1,26 @@
+-- The engines, by the lines that they write of a passage.
+use Rattle.std.specs.Prelude.{ℕ, List}
+use Rattle.lbk_rules.specs.declared.cells.Cell.{Cell}
+use Rattle.lbk_rules.specs.declared.verdicts.Profile.{Profile}
+use Rattle.lbk_passage.specs.Marks.{Marked}
+use Rattle.lbk_cmd.specs.Run.{Engine}
+use Rattle.lbk_cmd.specs.Segment.{segmented_passage}
+use Rattle.lbk_cmd.specs.Show.{shown_passage}
+use Rattle.lbk_cmd.specs.declared.engine.Lines.{Lines}
+use Rattle.lbk_cmd.specs.declared.engine.Lines.TheVariants.{Shown, Segmented}
+
+-- that of `show`
+abbrev pub showing : (ℕ → Cell) → Profile → ℕ → Engine
+showing cell profile limit = record { lines = λ start ms. shown_passage ms; cell = cell; profile = profile; limit = limit }
+
+-- that of `segment`
+abbrev pub segmenting : (ℕ → Cell) → Profile → ℕ → Engine
+segmenting cell profile limit = record { lines = segmented_passage cell; cell = cell; profile = profile; limit = limit }
+
+-- the lines that each writes
+abbrev pub lines_of : Lines → (ℕ → Cell) → ℕ → List Marked → List ℕ
+lines_of Shown cell start ms = shown_passage ms
+lines_of Segmented cell start ms = segmented_passage cell start ms
+
+abbrev pub engine_of : Lines → (ℕ → Cell) → Profile → ℕ → Engine
+engine_of lines cell profile limit = record { lines = lines_of lines cell; cell = cell; profile = profile; limit = limit }

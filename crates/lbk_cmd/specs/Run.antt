@@ -1,0 +1,97 @@
+-- What an engine reads and writes.
+use Rattle.std.specs.Prelude.{◌≡◌, ℕ, ◌+◌, ◌<◌, ◌≤◌, Bool, true, false, List, [], ◌∷◌, ◌++◌, length, Result, Ok, Err, IsUtf8, encode_utf8_all}
+use Rattle.std.specs.List.{AllByRecursion, flat_map}
+use Rattle.std.specs.Str.{chars}
+use Rattle.lbk_feed.specs.Runs.{IsStopped}
+use Rattle.lbk_feed.specs.Text.{longest_text, well_formed_prefix, counted, IsNotUtf8At, IsTooLong}
+use Rattle.lbk_rules.specs.declared.cells.Cell.{Cell}
+use Rattle.lbk_rules.specs.declared.verdicts.Profile.{Profile}
+use Rattle.lbk_passage.specs.Marks.{Marked, scalars_of, text_of}
+use Rattle.lbk_passage.specs.Passages.{passages}
+use Rattle.lbk_passage.specs.Next.{BeginsWithAll}
+use Rattle.lbk_passage.specs.declared.faults.PassageFault.{PassageFault}
+use Rattle.lbk_passage.specs.declared.faults.PassageFault.TheVariants as fault
+use Rattle.lbk_cmd.specs.Texts.{lines_from}
+use Rattle.lbk_cmd.specs.declared.faults.CmdFault.{CmdFault}
+use Rattle.lbk_cmd.specs.declared.faults.CmdFault.TheVariants.{Passage, Write, Memory}
+
+-- the lines of a passage that begins at a byte of the text, what passages are cut by, and the limit of a paragraph
+pub record Engine : Type 0 where
+  pub lines : ℕ → List Marked → List ℕ
+  pub cell : ℕ → Cell
+  pub profile : Profile
+  pub limit : ℕ
+
+abbrev pub passages_by : Engine → List ℕ → List (List Marked)
+passages_by e scalars = passages e.profile e.cell scalars
+
+-- what is written of some passages
+abbrev pub written_by : Engine → List (List Marked) → List ℕ
+written_by e given = lines_from e.lines 0 given
+
+abbrev pub AreWithin : Engine → List (List Marked) → Type 0
+AreWithin e given = AllByRecursion (λ ms. length (text_of ms) ≤ e.limit) given
+
+-- `out` is written of a text that is all of the bytes
+pub record IsWhole (e : Engine) (bytes out : List ℕ) : Type 0 where
+  pub utf8 : IsUtf8 bytes
+  pub few : length bytes ≤ longest_text
+  pub within : AreWithin e (passages_by e (chars bytes))
+  pub is : out ≡ written_by e (passages_by e (chars bytes))
+
+-- of a text that begins with these scalars, these are the passages after each of which one of them follows, whatever
+-- comes behind: the scalars that stand behind them are in one passage
+pub record AreGiven (e : Engine) (scalars : List ℕ) (given : List (List Marked)) : Type 0 where
+  pub behind : List ℕ
+  pub joined : scalars ≡ flat_map scalars_of given ++ behind
+  pub followed : 0 < length given → 0 < length behind
+  pub first : (more : List ℕ) → passages_by e (scalars ++ more) ≡ given ++ passages_by e (behind ++ more)
+  pub in_one : 0 < length behind → (more : List ℕ) → BeginsWithAll behind (passages_by e (behind ++ more))
+  pub within : AreWithin e given
+
+-- `out` is written of the passages that some first scalars of the bytes settle
+pub record IsSettled (e : Engine) (bytes out : List ℕ) : Type 0 where
+  pub scalars : List ℕ
+  pub rest : List ℕ
+  pub begins : bytes ≡ encode_utf8_all scalars ++ rest
+  pub utf8 : IsUtf8 (encode_utf8_all scalars)
+  pub given : List (List Marked)
+  pub are : AreGiven e scalars given
+  pub is : out ≡ written_by e given
+
+-- the scalars are all well-formed bytes read, of as many as a text may have, and the last of them are within the limit
+abbrev pub AreAll : Engine → List ℕ → List ℕ → List ℕ → Type 0
+AreAll e bytes scalars behind =
+    (encode_utf8_all scalars ≡ well_formed_prefix (counted bytes)) × (length (encode_utf8_all behind) ≤ e.limit)
+
+-- why a run stops behind these scalars, the last of which are those of the paragraph in progress
+abbrev pub Lies : Engine → PassageFault → Bool → List ℕ → List ℕ → List ℕ → Type 0
+Lies e fault.Limit ended bytes scalars behind = ⊥
+Lies e fault.Memory ended bytes scalars behind = ⊥
+Lies e fault.Read ended bytes scalars behind = AreAll e bytes scalars behind
+Lies e (fault.NotUtf8 at) ended bytes scalars behind = AreAll e bytes scalars behind × IsNotUtf8At bytes ended at
+Lies e fault.TextTooLong ended bytes scalars behind = AreAll e bytes scalars behind × IsTooLong bytes
+Lies e (fault.ParagraphTooLong start) ended bytes scalars behind =
+    (start + length (encode_utf8_all behind) ≡ length (encode_utf8_all scalars))
+    × (e.limit < length (encode_utf8_all behind))
+    × ((front : List ℕ) × (last : ℕ) × (behind ≡ front ++ last ∷ []) × (length (encode_utf8_all front) ≤ e.limit))
+Lies e fault.Spent ended bytes scalars behind = ⊥
+
+-- a fault of the reader or of the text stopped the run: `out` is written of the passages given before it
+pub record IsRefused (e : Engine) (why : PassageFault) (ended : Bool) (bytes out : List ℕ) : Type 0 where
+  pub settled : IsSettled e bytes out
+  pub lies : Lies e why ended bytes settled.scalars settled.are.behind
+
+-- what was read and what was written, by the answer; `ended`: a read has given no byte
+abbrev pub IsRun : {X : Type 0} → Engine → Bool → Result X CmdFault → List ℕ → List ℕ → Type 0
+IsRun e ended (Ok x) bytes out = IsWhole e bytes out
+IsRun e ended (Err Write) bytes out = IsStopped (IsSettled e) (IsWhole e) (ended ≡ true) bytes out
+IsRun e ended (Err Memory) bytes out = IsStopped (IsSettled e) (IsWhole e) (ended ≡ true) bytes out
+IsRun e ended (Err (Passage fault.Limit)) bytes out = (bytes ≡ []) × (out ≡ [])
+IsRun e ended (Err (Passage fault.Memory)) bytes out = IsSettled e bytes out
+IsRun e ended (Err (Passage why)) bytes out = IsRefused e why ended bytes out
+
+-- whether a run ended with a failed read
+abbrev pub is_failed_read : {X : Type 0} → Result X CmdFault → Bool
+is_failed_read (Err (Passage fault.Read)) = true
+is_failed_read _ = false

@@ -1,0 +1,20 @@
+-- What is written of the passages of a text: the lines of each, joined.
+use Rattle.std.specs.Prelude.{ℕ, ◌+◌, List, [], ◌∷◌, ◌++◌, length}
+use Rattle.lbk_rules.specs.declared.cells.Cell.{Cell}
+use Rattle.lbk_passage.specs.Marks.{Marked, text_of}
+use Rattle.lbk_cmd.specs.Show.{shown_passage}
+use Rattle.lbk_cmd.specs.Segment.{segmented_passage}
+
+-- the lines of passages one after another, where `lines` has those of a passage that begins at a byte of the text,
+-- and the first begins at `start`
+abbrev pub lines_from : (ℕ → List Marked → List ℕ) → ℕ → List (List Marked) → List ℕ
+lines_from lines start [] = []
+lines_from lines start (ms ∷ passages) = lines start ms ++ lines_from lines (start + length (text_of ms)) passages
+
+-- what `show` writes of some passages
+abbrev pub show_text : List (List Marked) → List ℕ
+show_text passages = lines_from (λ start ms. shown_passage ms) 0 passages
+
+-- what `segment` writes of some passages
+abbrev pub segment_text : (ℕ → Cell) → List (List Marked) → List ℕ
+segment_text cell passages = lines_from (segmented_passage cell) 0 passages

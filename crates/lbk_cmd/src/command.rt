@@ -1,0 +1,131 @@
+//! A run of the program, from its words to its ending.
+
+ghost use Rattle.std.specs.Prelude.{◌≡◌, ◌≢◌, ◌⊎◌, Bool, [], Some, map};
+ghost use Rattle.lbk_rules.specs.CellPages.{page_cell};
+ghost use Rattle.lbk_words.specs.Command.{AreAccepted};
+ghost use Rattle.lbk_words.specs.Task.{Task, task_by};
+ghost use Rattle.lbk_words.specs.PlainWords.{IsPlainFor};
+ghost use Rattle.lbk_files.specs.Ready.{IsStoppedByWords};
+ghost use Rattle.lbk_cmd.specs.Devices.{devices_of};
+ghost use Rattle.lbk_cmd.specs.Ending.{ending_of_text};
+ghost use Rattle.lbk_cmd.specs.Acts.{EngineRuns, Performs, ShowsSamples, StopsBefore, form_of};
+
+use super::ending::Ending;
+use super::engine::{segment, show};
+use lbk_feed::{Sink, Source};
+use lbk_files::{Ready, Store, prepare, sample_cells};
+use lbk_notation::{Form, replay};
+use lbk_rules::Profile;
+use lbk_words::Engine;
+use std::alloc::Global;
+
+const SAMPLE_LIMIT: u32 = 65_536;
+
+/// Runs the engines by the words behind the program's name. Without words it shows the text by the sample files.
+#[tactic(none)]
+pub fn run<'a, S: Store, R: Source, W: Sink>(
+    alloc: Global,
+    words: &'a [&'a str],
+    store: &S,
+    reader: &mut R,
+    writer: &mut W,
+) -> Ending
+    ensures samples { words.entry.now ≡ [] → ShowsSamples
+        (devices_of (R.unread reader.old) (R.read_count reader.old) (R.failure_count reader.old) (R.has_ended reader.old) (W.written writer.old) (W.failure_count writer.old))
+        (devices_of (R.unread reader.new) (R.read_count reader.new) (R.failure_count reader.new) (R.has_ended reader.new) (W.written writer.new) (W.failure_count writer.new))
+        result }
+    ensures plain { (task : Task) → IsPlainFor task (map (λ w. w.now) words.entry.now)
+        → Performs (S.file store.now) task
+        (devices_of (R.unread reader.old) (R.read_count reader.old) (R.failure_count reader.old) (R.has_ended reader.old) (W.written writer.old) (W.failure_count writer.old))
+        (devices_of (R.unread reader.new) (R.read_count reader.new) (R.failure_count reader.new) (R.has_ended reader.new) (W.written writer.new) (W.failure_count writer.new))
+        result }
+    ensures accepted { (task : Task) → words.entry.now ≢ [] → AreAccepted (map (λ w. w.now) words.entry.now)
+        → task_by (map (λ w. w.now) words.entry.now) ≡ Some task
+        → Performs (S.file store.now) task
+        (devices_of (R.unread reader.old) (R.read_count reader.old) (R.failure_count reader.old) (R.has_ended reader.old) (W.written writer.old) (W.failure_count writer.old))
+        (devices_of (R.unread reader.new) (R.read_count reader.new) (R.failure_count reader.new) (R.has_ended reader.new) (W.written writer.new) (W.failure_count writer.new))
+        result }
+    ensures others { words.entry.now ≢ [] → ¬ (AreAccepted (map (λ w. w.now) words.entry.now))
+        → StopsBefore (IsStoppedByWords (map (λ w. w.now) words.entry.now))
+        (devices_of (R.unread reader.old) (R.read_count reader.old) (R.failure_count reader.old) (R.has_ended reader.old) (W.written writer.old) (W.failure_count writer.old))
+        (devices_of (R.unread reader.new) (R.read_count reader.new) (R.failure_count reader.new) (R.has_ended reader.new) (W.written writer.new) (W.failure_count writer.new))
+        result }
+{
+    if words.is_empty() {
+        return show_samples(alloc, reader, writer);
+    }
+    match prepare(alloc, words, store) {
+        Ok(ready) => perform(alloc, &ready, reader, writer),
+        Err(stop) => Ending::from(stop),
+    }
+}
+
+/// `show` by the sample files.
+#[tactic(none)]
+fn show_samples<R: Source, W: Sink>(alloc: Global, reader: &mut R, writer: &mut W) -> Ending
+    ensures { ShowsSamples
+        (devices_of (R.unread reader.old) (R.read_count reader.old) (R.failure_count reader.old) (R.has_ended reader.old) (W.written writer.old) (W.failure_count writer.old))
+        (devices_of (R.unread reader.new) (R.read_count reader.new) (R.failure_count reader.new) (R.has_ended reader.new) (W.written writer.new) (W.failure_count writer.new))
+        result }
+{
+    match sample_cells(alloc) {
+        Ok(cells) => Ending::of_text(show(
+            alloc,
+            reader,
+            writer,
+            &cells,
+            SAMPLE_LIMIT,
+            Profile::First,
+        )),
+        Err(fault) => Ending::of_files(fault),
+    }
+}
+
+/// Runs the engine that is ready.
+#[tactic(none)]
+fn perform<R: Source, W: Sink>(
+    alloc: Global,
+    ready: &Ready,
+    reader: &mut R,
+    writer: &mut W,
+) -> Ending
+    ensures { EngineRuns ready.now.engine ready.now.profile (page_cell ready.now.cells)
+        (devices_of (R.unread reader.old) (R.read_count reader.old) (R.failure_count reader.old) (R.has_ended reader.old) (W.written writer.old) (W.failure_count writer.old))
+        (devices_of (R.unread reader.new) (R.read_count reader.new) (R.failure_count reader.new) (R.has_ended reader.new) (W.written writer.new) (W.failure_count writer.new))
+        result }
+{
+    let cells = &ready.cells;
+    match ready.engine {
+        Engine::Show { limit } => Ending::of_text(show(
+            alloc,
+            reader,
+            writer,
+            cells,
+            limit,
+            ready.profile,
+        )),
+        Engine::Segment { limit } => Ending::of_text(segment(
+            alloc,
+            reader,
+            writer,
+            cells,
+            limit,
+            ready.profile,
+        )),
+        Engine::Replay { kinds } => Ending::of_replay(replay(
+            alloc,
+            reader,
+            writer,
+            cells,
+            form(kinds),
+            ready.profile,
+        )),
+    }
+}
+
+/// The form of the test notation: with `--kinds` a break that must be has a mark of its own.
+fn form(kinds: bool) -> Form
+    ensures { result ≡ form_of kinds }
+{
+    if kinds { Form::Kinds } else { Form::Plain }
+}

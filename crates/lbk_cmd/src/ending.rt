@@ -1,0 +1,99 @@
+//! How a run of the program ends.
+
+ghost use Rattle.std.specs.Prelude.{◌≡◌};
+ghost use Rattle.lbk_cmd.specs.Ending.{ending_of_files, ending_of_replay, ending_of_text, status_of};
+
+use super::faults::CmdFault;
+use lbk_files::{CellsFault, Stop};
+use lbk_notation::{ReplayFault, Report};
+use lbk_ucd::{UcdFault, Which};
+
+/// Why a run is refused.
+#[derive(Clone, Copy, Debug, PartialEq, Eq)]
+pub enum RunFault {
+    /// A property file cannot be opened or read.
+    Load(Which),
+    /// The property files were refused at their first fault, or at a line where their tables could not grow.
+    Tables(UcdFault),
+    /// `show` or `segment` stopped.
+    Cmd(CmdFault),
+    /// `replay` stopped.
+    Replay(ReplayFault),
+    /// Any other growth of memory was refused.
+    Memory,
+}
+
+/// How a run of the program ends.
+#[derive(Debug, Drop)]
+pub enum Ending {
+    /// Everything was written.
+    Done,
+    /// The words asked for help or for the version, which is the text.
+    Help { text: String },
+    /// The words are no command line of the program; the text says why.
+    Usage { text: String },
+    /// The test file was replayed, and a line of it differs or is refused.
+    Differs(Report),
+    /// A step failed.
+    Refused(RunFault),
+}
+
+impl Ending {
+    /// The exit status: 0 done or help, 1 refused, 2 wrong words, 3 a replay with lines that differ or are refused.
+    pub fn status(&self) -> u8
+        ensures { result ≡ status_of self.now }
+    {
+        match self {
+            Ending::Done | Ending::Help { .. } => 0,
+            Ending::Refused(_) => 1,
+            Ending::Usage { .. } => 2,
+            Ending::Differs(_) => 3,
+        }
+    }
+
+    /// How a run ends whose files gave no cells.
+    pub(crate) fn of_files(fault: CellsFault) -> Ending
+        ensures { result ≡ ending_of_files fault }
+    {
+        match fault {
+            CellsFault::Load(which) => Ending::Refused(RunFault::Load(which)),
+            CellsFault::Tables(fault) => Ending::Refused(RunFault::Tables(fault)),
+            CellsFault::Memory => Ending::Refused(RunFault::Memory),
+        }
+    }
+
+    /// How a run of `show` or `segment` ends.
+    pub(crate) fn of_text(answer: Result<(), CmdFault>) -> Ending
+        ensures { result ≡ ending_of_text answer }
+    {
+        match answer {
+            Ok(()) => Ending::Done,
+            Err(fault) => Ending::Refused(RunFault::Cmd(fault)),
+        }
+    }
+
+    /// How a run of `replay` ends.
+    pub(crate) fn of_replay(answer: Result<Report, ReplayFault>) -> Ending
+        ensures { result ≡ ending_of_replay answer }
+    {
+        match answer {
+            Ok(report) if report.differed > 0 || report.refused > 0 => Ending::Differs(report),
+            Ok(_) => Ending::Done,
+            Err(fault) => Ending::Refused(RunFault::Replay(fault)),
+        }
+    }
+}
+
+impl From<Stop> for Ending {
+    ghost use Rattle.lbk_cmd.specs.Ending.{ending_of_stop};
+
+    ghost from_gives = { λ stop ending. ending ≡ ending_of_stop stop };
+
+    fn from(stop: Stop) -> Ending {
+        match stop {
+            Stop::Help { text } => Ending::Help { text },
+            Stop::Usage { text } => Ending::Usage { text },
+            Stop::Refused(fault) => Ending::of_files(fault),
+        }
+    }
+}

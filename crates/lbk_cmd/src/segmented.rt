@@ -1,0 +1,89 @@
+//! The lines that `segment` writes of a passage.
+
+ghost use Rattle.std.specs.Prelude.{◌≡◌, ◌+◌, ◌<◌, ◌≤◌, ◌^◌, ◌++◌, ◌∷◌, [], length, decimal, OnOk};
+ghost use Rattle.lbk_cmd.specs.Segment.{kind_name, part, passage_lines, segment_line, word_line};
+
+use itoa::Buffer;
+use lbk_passage::{Passage, Piece, Segment};
+use lbk_rules::Kind;
+use std::alloc::AllocError;
+
+/// Puts the lines of a passage at the end of `out`: `P` and its bytes, `S` for each segment with the kind and the rule
+/// at its end, `W` for each word. Offsets count bytes of the whole text. After an error some of them may stand there.
+pub fn push_segmented(out: &mut Vec<u8>, passage: &Passage<'_>) -> Result<(), AllocError>
+    requires start { passage.now.start ≤ 2 ^ 62 }
+    requires few { length passage.now.text.now < 2 ^ 32 }
+    ensures { OnOk result (out.new.items ≡ out.old.items ++ passage_lines passage.now.start
+        (length passage.now.text.now) passage.now.segments.now passage.now.pieces.now) }
+{
+    let start = passage.start;
+    push_part(out, b'P', start, start + passage.text.len() as u64)?;
+    out.push(b'\n')?;
+    for segment in passage.segments {
+        push_segment(out, start, segment)?;
+    }
+    for piece in passage.pieces {
+        push_word(out, start, piece)?;
+    }
+    Ok(())
+}
+
+fn push_segment(out: &mut Vec<u8>, start: u64, segment: &Segment) -> Result<(), AllocError>
+    requires { start ≤ 2 ^ 62 }
+    ensures { OnOk result (out.new.items ≡ out.old.items ++ segment_line start segment.now) }
+{
+    let from = start + u64::from(segment.start);
+    push_part(out, b'S', from, start + u64::from(segment.end))?;
+    push_word_of(out, kind_name(segment.kind))?;
+    push_word_of(out, segment.rule.label())?;
+    out.push(b'\n')?;
+    Ok(())
+}
+
+/// A piece that is no word has no line.
+fn push_word(out: &mut Vec<u8>, start: u64, piece: &Piece) -> Result<(), AllocError>
+    requires { start ≤ 2 ^ 62 }
+    ensures { OnOk result (out.new.items ≡ out.old.items ++ word_line start piece.now) }
+{
+    if !piece.word {
+        return Ok(());
+    }
+    let from = start + u64::from(piece.start);
+    push_part(out, b'W', from, start + u64::from(piece.end))?;
+    out.push(b'\n')?;
+    Ok(())
+}
+
+fn push_part(out: &mut Vec<u8>, letter: u8, start: u64, end: u64) -> Result<(), AllocError>
+    ensures { OnOk result (out.new.items ≡ out.old.items ++ part (letter ∷ []) start end) }
+{
+    out.push(letter)?;
+    push_number(out, start)?;
+    push_number(out, end)
+}
+
+/// A space and a number.
+fn push_number(out: &mut Vec<u8>, number: u64) -> Result<(), AllocError>
+    ensures { OnOk result (out.new.items ≡ out.old.items ++ (32 ∷ decimal number)) }
+{
+    let mut buffer = Buffer::new();
+    push_word_of(out, buffer.format(number))
+}
+
+/// A space and a text.
+fn push_word_of(out: &mut Vec<u8>, text: &str) -> Result<(), AllocError>
+    ensures { OnOk result (out.new.items ≡ out.old.items ++ (32 ∷ text.now)) }
+{
+    out.push(b' ')?;
+    out.extend_from_slice(text.as_bytes())
+}
+
+fn kind_name(kind: Kind) -> &'static str
+    ensures { result.now ≡ kind_name kind }
+{
+    match kind {
+        Kind::No => "No",
+        Kind::May => "May",
+        Kind::Must => "Must",
+    }
+}

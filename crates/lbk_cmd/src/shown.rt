@@ -1,0 +1,113 @@
+//! The line that `show` writes of a passage.
+
+ghost use Rattle.std.specs.Prelude.{◌≡◌, ◌+◌, ◌<◌, ◌≤◌, ◌^◌, ◌++◌, ◌∷◌, [], length, map, OnOk};
+ghost use Rattle.std.specs.Option.{ForSome};
+ghost use Rattle.std.specs.Str.{chars};
+ghost use Rattle.lbk_notation.specs.Marked.{mark_of};
+ghost use Rattle.lbk_notation.specs.Shown.{passage_line, written_labels, passage_marks};
+ghost use Rattle.lbk_notation.specs.Written.{written_line};
+ghost use Rattle.lbk_notation.specs.declared.marks.Form.TheVariants.{Kinds};
+ghost use Rattle.lbk_passage.specs.Marks.{marks, ended};
+ghost use Rattle.lbk_rules.specs.Answers.{written};
+ghost use Rattle.lbk_cmd.specs.Show.{verdicts_of};
+ghost use Rattle.lbk_cmd.specs.Deciding.{placed};
+
+use lbk_notation::{Form, Mark, push_mark, push_scalar};
+use lbk_rules::{CellSource, Kind, LateMachine, Profile, Rule, Verdict};
+use std::alloc::AllocError;
+
+/// Writes the verdicts of all positions of a passage in place of what the list held: those of its text alone, the
+/// last being `end` (UAX #14, section 6). Where memory could not grow the list holds some of them.
+pub fn decide<C: CellSource>(
+    cells: &C,
+    profile: Profile,
+    text: &str,
+    end: Verdict,
+    verdicts: &mut Vec<Verdict>,
+) -> Result<(), AllocError>
+    requires some { 0 < length text.now }
+    requires few { length text.now < 2 ^ 32 }
+    ensures verdicts { OnOk result (verdicts.new.items
+        ≡ verdicts_of (ended end (marks profile (C.cell_of cells.now) (chars text.now)))) }
+    ensures many { OnOk result (length verdicts.new.items ≡ length (chars text.now) + 1) }
+{
+    verdicts.clear();
+    let mut machine = LateMachine::start(profile);
+    for c in text.chars() {
+        let out = machine.step(cells.cell(c));
+        place(verdicts, out.late);
+        verdicts.push(now_or_none(out.now))?;
+    }
+    place(verdicts, machine.finish().late);
+    verdicts.push(end)?;
+    Ok(())
+}
+
+/// Puts the answer of the position that was held in its place, where it comes.
+fn place(verdicts: &mut Vec<Verdict>, late: Option<(u64, Verdict)>)
+    requires { ForSome late (λ answer. answer.0 < length verdicts.old.items) }
+    ensures { verdicts.new.items ≡ written late verdicts.old.items }
+{
+    if let Some((position, verdict)) = late {
+        verdicts[position as usize] = verdict;
+    }
+}
+
+/// The verdict of a position; one that is held has another in its place until its answer comes.
+fn now_or_none(now: Option<Verdict>) -> Verdict
+    ensures { result ≡ placed now }
+{
+    now.unwrap_or(Verdict {
+        kind: Kind::No,
+        rule: Rule::Lb15b,
+    })
+}
+
+/// Puts the line of a passage at the end of `out`, with its line end: the marks of its positions with its scalars
+/// between them, a tab, `#`, and the number of the rule that decided each position. After an error some of it may
+/// stand there.
+pub fn push_shown(out: &mut Vec<u8>, text: &str, verdicts: &[Verdict]) -> Result<(), AllocError>
+    requires { length verdicts.now ≡ length (chars text.now) + 1 }
+    ensures { OnOk result (out.new.items
+        ≡ out.old.items ++ (passage_line (chars text.now) verdicts.now ++ 10 ∷ [])) }
+{
+    push_marks(out, text, verdicts)?;
+    out.extend_from_slice(b"\t#")?;
+    push_labels(out, verdicts)?;
+    out.push(b'\n')?;
+    Ok(())
+}
+
+fn push_marks(out: &mut Vec<u8>, text: &str, verdicts: &[Verdict]) -> Result<(), AllocError>
+    requires { length verdicts.now ≡ length (chars text.now) + 1 }
+    ensures { OnOk result (out.new.items
+        ≡ out.old.items ++ written_line Kinds (passage_marks (chars text.now) verdicts.now)) }
+{
+    push_mark(out, mark_of(verdicts[0].kind), Form::Kinds)?;
+    let mut k = 1;
+    for c in text.chars() {
+        push_scalar(out, c, mark_of(verdicts[k].kind), Form::Kinds)?;
+        k += 1;
+    }
+    Ok(())
+}
+
+fn push_labels(out: &mut Vec<u8>, verdicts: &[Verdict]) -> Result<(), AllocError>
+    ensures { OnOk result (out.new.items ≡ out.old.items ++ written_labels verdicts.now) }
+{
+    for verdict in verdicts {
+        out.push(b' ')?;
+        out.extend_from_slice(verdict.rule.label().as_bytes())?;
+    }
+    Ok(())
+}
+
+fn mark_of(kind: Kind) -> Mark
+    ensures { result ≡ mark_of kind }
+{
+    match kind {
+        Kind::No => Mark::No,
+        Kind::May => Mark::May,
+        Kind::Must => Mark::Must,
+    }
+}

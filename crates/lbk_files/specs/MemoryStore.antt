@@ -1,0 +1,14 @@
+-- What a store over memory holds.
+use Rattle.std.specs.Prelude.{ℕ, List, Option, option_map}
+use Rattle.std.specs.Borrow.{Bor}
+use Rattle.std.specs.List.{find}
+use Rattle.std.specs.Str.{bytes_eq}
+use Rattle.lbk_files.specs.declared.memory_store.MemoryStore.{MemoryStore}
+
+-- the names of the files with what they hold
+abbrev pub named_files : MemoryStore → List (Bor (List ℕ) × Bor (List ℕ))
+named_files store = store.files.now
+
+-- what the first file of a name holds
+abbrev pub contents_of : List (Bor (List ℕ) × Bor (List ℕ)) → List ℕ → Option (List ℕ)
+contents_of files name = option_map (λ file. file.1.now) (find (λ file. bytes_eq file.0.now name) files)

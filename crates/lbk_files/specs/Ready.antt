@@ -1,0 +1,30 @@
+-- What the words of the program come to before an engine runs.
+use Rattle.std.specs.Prelude.{◌≡◌, ℕ, List, Option, ⊤}
+use Rattle.lbk_rules.specs.CellPages.{page_cell}
+use Rattle.lbk_words.specs.Command.{faults_of}
+use Rattle.lbk_words.specs.Refusal.{HasFault, IsCallForHelp, IsMistake}
+use Rattle.lbk_words.specs.Task.{Task}
+use Rattle.lbk_files.specs.FileFault.{AreCellsFrom, IsFileFault}
+use Rattle.lbk_files.specs.Named.{files_of}
+use Rattle.lbk_files.specs.declared.faults.CellsFault.TheVariants.{Memory}
+use Rattle.lbk_files.specs.declared.faults.Stop.{Stop}
+use Rattle.lbk_files.specs.declared.faults.Stop.TheVariants.{Help, Usage, Refused}
+use Rattle.lbk_files.specs.declared.readiness.Ready.{Ready}
+
+-- the task's engine and profile, and the cells of its files
+pub record IsReadyFor (file : List ℕ → Option (Option (List ℕ))) (task : Task) (ready : Ready) : Type 0 where
+  pub engine : ready.engine ≡ task.engine
+  pub profile : ready.profile ≡ task.profile
+  pub cells : AreCellsFrom (files_of file task) (page_cell ready.cells)
+
+-- a task stops at its files alone
+abbrev pub IsStoppedAt : (List ℕ → Option (Option (List ℕ))) → Task → Stop → Type 0
+IsStoppedAt file task (Help text) = ⊥
+IsStoppedAt file task (Usage text) = ⊥
+IsStoppedAt file task (Refused fault) = IsFileFault (files_of file task) fault
+
+-- words that are not accepted: help for a call for it, usage for a mistake, or want of memory
+abbrev pub IsStoppedByWords : List (List ℕ) → Stop → Type 0
+IsStoppedByWords words (Help text) = HasFault IsCallForHelp (faults_of words)
+IsStoppedByWords words (Usage text) = HasFault IsMistake (faults_of words)
+IsStoppedByWords words (Refused fault) = fault ≡ Memory

@@ -1,0 +1,29 @@
+//! Why there are no cells to decide by, and why no engine runs.
+
+use lbk_ucd::{UcdFault, Which};
+use thiserror::Error;
+
+/// Why there are no cells to decide by.
+#[derive(Clone, Copy, Debug, PartialEq, Eq, Error)]
+pub enum CellsFault {
+    /// The file cannot be opened or read.
+    #[error("property file {0:?}: it cannot be read")]
+    Load(Which),
+    /// The property files were refused at their first fault, or at a line where their tables could not grow.
+    #[error("property file {:?}, line {}: {:?}", .0.file, .0.line, .0.cause)]
+    Tables(UcdFault),
+    /// A growth of memory was refused.
+    #[error("out of memory")]
+    Memory,
+}
+
+/// Why no engine runs.
+#[derive(Debug, Drop)]
+pub enum Stop {
+    /// The words ask for help or for the version, which is the text.
+    Help { text: String },
+    /// The words are no command line of the program; the text says why.
+    Usage { text: String },
+    /// There are no cells, or a growth of memory was refused.
+    Refused(CellsFault),
+}

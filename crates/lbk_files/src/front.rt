@@ -1,0 +1,42 @@
+//! The front of a reader's bytes.
+
+ghost use Rattle.std.specs.Prelude.{◌≡◌, ◌+◌, ◌-◌, ◌^◌, ◌<◌, ◌≤◌, take, vec_len, Err, IfOk, IfSome, IsErrOf};
+ghost use Rattle.lbk_feed.specs.Devices.{count_up};
+
+use super::store::LoadFault;
+use lbk_feed::Source;
+use std::alloc::Global;
+
+const BLOCK: usize = 16_384;
+
+/// The first `most + 1` bytes that a reader gives, or all of them if it has fewer, in at most `most + 1` reads.
+///
+/// `Unreadable` comes where a read fails.
+pub fn read_front<R: Source>(
+    alloc: Global,
+    reader: &mut R,
+    most: usize,
+) -> Result<Vec<u8>, LoadFault>
+    requires { most < 2 ^ 64 - 1 }
+    ensures front { IfOk result (λ bytes. IfSome (R.unread reader.old) (λ all. bytes.items ≡ take (most + 1) all)) }
+    ensures within { IfOk result (λ bytes. vec_len bytes ≤ most + 1) }
+    ensures reads { R.read_count reader.new ≤ R.read_count reader.old + (most + 1) }
+    ensures failed { IsErrOf result LoadFault.Unreadable → R.failure_count reader.new ≡ count_up (R.failure_count reader.old) }
+    ensures failure { R.failure_count reader.old < R.failure_count reader.new → result ≡ Err LoadFault.Unreadable }
+{
+    let mut front = Vec::new(alloc);
+    let mut block = [0u8; BLOCK];
+    while front.len() <= most {
+        let room = BLOCK.min(most - front.len() + 1);
+        let Ok(count) = reader.read(&mut block[..room]) else {
+            return Err(LoadFault::Unreadable);
+        };
+        if count == 0 {
+            return Ok(front);
+        }
+        if front.extend_from_slice(&block[..count]).is_err() {
+            return Err(LoadFault::Memory);
+        }
+    }
+    Ok(front)
+}

@@ -1,0 +1,18 @@
+//! What the words of the program name: files out of a store, and the cells that they give.
+#![tactic(auto)]
+
+mod cells;
+mod faults;
+mod front;
+mod loading;
+mod memory_store;
+mod readiness;
+mod store;
+
+pub use cells::{SAMPLE_FILES, read_cells, sample_cells};
+pub use faults::{CellsFault, Stop};
+pub use front::read_front;
+pub use loading::{GREATEST_FILE, load_cells};
+pub use memory_store::MemoryStore;
+pub use readiness::{Ready, prepare};
+pub use store::{LoadFault, Store};

@@ -1,0 +1,45 @@
+//! A store over memory.
+
+ghost use Rattle.std.specs.Prelude.{◌≡◌, Some, option_map};
+ghost use Rattle.lbk_files.specs.MemoryStore.{contents_of, named_files};
+
+use super::store::{LoadFault, Store};
+use std::alloc::Global;
+
+/// Files by their names, the first of a name where there are more.
+#[derive(Clone, Copy)]
+pub struct MemoryStore<'a> {
+    files: &'a [(&'a str, &'a [u8])],
+}
+
+impl<'a> MemoryStore<'a> {
+    pub fn new(files: &'a [(&'a str, &'a [u8])]) -> MemoryStore<'a>
+        ensures { named_files result ≡ files.entry.now }
+    {
+        MemoryStore { files }
+    }
+
+    /// What the file of a name holds.
+    fn contents(&self, name: &str) -> Option<&'a [u8]>
+        ensures { contents_of (named_files self.now) name.now ≡ option_map (λ bytes. bytes.now) result }
+    {
+        for (other, contents) in self.files {
+            if *other == name {
+                return Some(contents);
+            }
+        }
+        None
+    }
+}
+
+impl<'a> Store for MemoryStore<'a> {
+    ghost file = { λ store name. Some (contents_of (named_files store) name) };
+
+    fn load(&self, alloc: Global, name: &str, most: usize) -> Result<Vec<u8>, LoadFault> {
+        let Some(contents) = self.contents(name) else {
+            return Err(LoadFault::Unreadable);
+        };
+        let len = contents.len().min(most + 1);
+        Vec::from_slice(alloc, &contents[..len]).map_err(|_| LoadFault::Memory)
+    }
+}

@@ -1,0 +1,55 @@
+//! From the words to an engine with the cells that it decides by.
+
+ghost use Rattle.std.specs.Prelude.{◌≡◌, Some, MatchResult, map};
+ghost use Rattle.lbk_words.specs.Command.{AreAccepted};
+ghost use Rattle.lbk_words.specs.Task.{Task, task_by, task_of};
+ghost use Rattle.lbk_words.specs.PlainWords.{IsPlainFor};
+ghost use Rattle.lbk_files.specs.Ready.{IsReadyFor, IsStoppedAt, IsStoppedByWords};
+
+use super::faults::{CellsFault, Stop};
+use super::loading::load_cells;
+use super::store::Store;
+use lbk_rules::{CellPages, Profile};
+use lbk_words::{Engine, Order, WordsFault, parse};
+use std::alloc::Global;
+
+/// An engine with its option, the profile and the cells of the files.
+#[derive(Drop)]
+pub struct Ready {
+    pub engine: Engine,
+    pub profile: Profile,
+    pub cells: CellPages,
+}
+
+/// Reads the words, loads the files that they name, and reads these.
+///
+/// `Help` and `Usage` come for words that are no order. `Refused` is the first step that fails.
+pub fn prepare<'a, S: Store>(alloc: Global, words: &'a [&'a str], store: &S) -> Result<Ready, Stop>
+    ensures plain { (task : Task) → IsPlainFor task (map (λ w. w.now) words.entry.now)
+        → MatchResult result (IsReadyFor (S.file store.now) task) (IsStoppedAt (S.file store.now) task) }
+    ensures accepted { (task : Task) → AreAccepted (map (λ w. w.now) words.entry.now)
+        → task_by (map (λ w. w.now) words.entry.now) ≡ Some task
+        → MatchResult result (IsReadyFor (S.file store.now) task) (IsStoppedAt (S.file store.now) task) }
+    ensures others { ¬ (AreAccepted (map (λ w. w.now) words.entry.now))
+        → MatchResult result (λ ready. ⊥) (IsStoppedByWords (map (λ w. w.now) words.entry.now)) }
+{
+    match parse(alloc, words) {
+        Ok(order) => made_ready(alloc, &order, store),
+        Err(WordsFault::Help { text }) => Err(Stop::Help { text }),
+        Err(WordsFault::Usage { text }) => Err(Stop::Usage { text }),
+        Err(WordsFault::Memory) => Err(Stop::Refused(CellsFault::Memory)),
+    }
+}
+
+fn made_ready<S: Store>(alloc: Global, order: &Order<'_>, store: &S) -> Result<Ready, Stop>
+    ensures { MatchResult result (IsReadyFor (S.file store.now) (task_of order.now)) (IsStoppedAt (S.file store.now) (task_of order.now)) }
+{
+    match load_cells(alloc, &order.files, store) {
+        Ok(cells) => Ok(Ready {
+            engine: order.engine,
+            profile: order.profile,
+            cells,
+        }),
+        Err(fault) => Err(Stop::Refused(fault)),
+    }
+}

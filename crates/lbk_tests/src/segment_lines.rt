@@ -1,0 +1,135 @@
+//! What `segment` writes and refuses, over devices in memory.
+
+use lbk_cmd::{CmdFault, SAMPLE_FILES, read_cells, segment};
+use lbk_feed::devices::{MemorySink, MemorySource};
+use lbk_passage::PassageFault;
+use lbk_rules::{CellPages, Profile};
+use std::alloc::{AllocError, Global};
+use std::process::Abort;
+use std::test::Fail;
+
+const LIMIT: u32 = 65_536;
+
+const ROOM: usize = 4096;
+
+/// What both profiles say of a text.
+const BOTH: [(&str, &str); 8] = [
+    ("", ""),
+    ("ab cd", "P 0 5\nS 0 3 May 18\nS 3 5 Must 3\nW 0 2\nW 3 5\n"),
+    ("a\r\nb", RETURN),
+    ("can't", "P 0 5\nS 0 5 Must 3\nW 0 5\n"),
+    ("1,2", "P 0 3\nS 0 3 Must 3\nW 0 3\n"),
+    ("$ !", "P 0 3\nS 0 3 Must 3\n"),
+    (
+        "e\u{301} b",
+        "P 0 5\nS 0 4 May 18\nS 4 5 Must 3\nW 0 3\nW 4 5\n",
+    ),
+    (
+        "a\u{C}(b \u{4E00}",
+        "P 0 2\nS 0 2 Must 4\nW 0 1\nP 2 8\nS 2 5 May 18\nS 5 8 Must 3\nW 3 4\nW 5 8\n",
+    ),
+];
+
+/// What the first says, and what the second.
+const FIRST: [(&str, &str); 1] = [(
+    "a \u{2019}\u{301},",
+    "P 0 8\nS 0 2 May 18\nS 2 8 Must 3\nW 0 1\n",
+)];
+
+const SECOND: [(&str, &str); 1] = [("a \u{2019}\u{301},", "P 0 8\nS 0 8 Must 3\nW 0 1\n")];
+
+const RETURN: &str = "P 0 3\nS 0 3 Must 5\nW 0 1\nP 3 4\nS 3 4 Must 3\nW 3 4\n";
+
+/// What `segment` answers to a source, and what went out to a sink that takes `room` bytes and then fails.
+fn segmented(
+    alloc: Global,
+    cells: &CellPages,
+    source: &mut MemorySource<'_>,
+    room: usize,
+    limit: u32,
+    profile: Profile,
+) -> Result<(Result<(), CmdFault>, MemorySink), AllocError> {
+    let mut sink = MemorySink::new(alloc, room)?;
+    let answer = segment(alloc, source, &mut sink, cells, limit, profile);
+    Ok((answer, sink))
+}
+
+/// Checks rows in a profile, in reads of one, two and all bytes.
+fn check_rows(
+    rt: &impl Abort,
+    alloc: Global,
+    rows: &[(&str, &str)],
+    profile: Profile,
+) -> Result<(), Fail> {
+    let cells = read_cells(alloc, SAMPLE_FILES)?;
+    for (text, lines) in rows {
+        for size in [1, 2, ROOM] {
+            let sizes = [size];
+            let mut source = MemorySource::cut(text.as_bytes(), &sizes);
+            let (answer, sink) = segmented(alloc, &cells, &mut source, ROOM, LIMIT, profile)?;
+            assert_eq!(rt; answer, Ok(()));
+            assert_eq!(rt; sink.bytes(), lines.as_bytes());
+        }
+    }
+    Ok(())
+}
+
+#[test]
+fn texts(rt: HostRuntime) -> Result<(), Fail> {
+    check_rows(&rt, rt.alloc(), &BOTH, Profile::First)?;
+    check_rows(&rt, rt.alloc(), &BOTH, Profile::Second)?;
+    check_rows(&rt, rt.alloc(), &FIRST, Profile::First)?;
+    check_rows(&rt, rt.alloc(), &SECOND, Profile::Second)
+}
+
+#[test]
+fn refusals(rt: HostRuntime) -> Result<(), Fail> {
+    let cells = read_cells(rt.alloc(), SAMPLE_FILES)?;
+    for (text, limit, fault, out) in [
+        (b"a".as_slice(), 0, PassageFault::Limit, ""),
+        (
+            b"a\nb\xFF",
+            4,
+            PassageFault::NotUtf8 { at: 3 },
+            "P 0 2\nS 0 2 Must 5\nW 0 1\n",
+        ),
+        (b"abcde", 4, PassageFault::ParagraphTooLong { start: 0 }, ""),
+    ] {
+        let mut source = MemorySource::new(text);
+        let (answer, sink) = segmented(
+            rt.alloc(),
+            &cells,
+            &mut source,
+            ROOM,
+            limit,
+            Profile::First,
+        )?;
+        assert_eq!(rt; answer, Err(CmdFault::Passage(fault)));
+        assert_eq!(rt; sink.bytes(), out.as_bytes());
+    }
+    let mut source = MemorySource::cut(b"a\nb", &[2]).failing_at(1);
+    let (answer, sink) = segmented(rt.alloc(), &cells, &mut source, ROOM, LIMIT, Profile::First)?;
+    assert_eq!(rt; answer, Err(CmdFault::Passage(PassageFault::Read)));
+    assert!(rt; sink.bytes().is_empty());
+    Ok(())
+}
+
+#[test]
+fn a_sink_that_fails(rt: HostRuntime) -> Result<(), Fail> {
+    let cells = read_cells(rt.alloc(), SAMPLE_FILES)?;
+    let lines = RETURN.as_bytes();
+    for room in 0..lines.len() {
+        let mut source = MemorySource::new(b"a\r\nb");
+        let (answer, sink) = segmented(
+            rt.alloc(),
+            &cells,
+            &mut source,
+            room,
+            LIMIT,
+            Profile::First,
+        )?;
+        assert_eq!(rt; answer, Err(CmdFault::Write));
+        assert_eq!(rt; sink.bytes(), &lines[..room]);
+    }
+    Ok(())
+}

@@ -1,0 +1,5 @@
+pub mod Found
+pub mod Numerals
+pub mod Plain
+pub mod Steps
+pub mod Values

@@ -1,0 +1,67 @@
+-- The command line: the subcommands, and the options that each has.
+use Rattle.std.specs.Prelude.{◌≡◌, ℕ, true, List, [], ◌∷◌, Some, codes}
+use Rattle.clap.specs.Words.{App, Kinds, Rule, Text, fault_of, new_app, new_rule, with_rule, with_subcommand}
+use Rattle.clap.specs.declared.builder.action.ArgAction.TheVariants.{Set, SetTrue}
+use Rattle.clap.specs.declared.builder.value_parser.ValueParser.TheVariants.{Unsigned}
+
+-- the greatest limit of a paragraph, and the one where none is given, in bytes
+abbrev pub greatest_limit : ℕ
+greatest_limit = 16777216
+
+abbrev pub default_limit : ℕ
+default_limit = 65536
+
+-- a required option with the name of a property file
+abbrev pub file_rule : Text → Rule
+file_rule name = record (new_rule name) { long = Some name; action = Some Set; value_names = 1; required = true }
+
+-- an option with a number of a range
+abbrev pub number_rule : Text → ℕ → Text → Rule
+number_rule name most default = record (new_rule name) {
+  long = Some name;
+  action = Some Set;
+  value_names = 1;
+  parser = Some (Unsigned 1 most);
+  defaults = default ∷ [];
+}
+
+-- a flag
+abbrev pub flag_rule : Text → Rule
+flag_rule name = record (new_rule name) { long = Some name; action = Some SetTrue }
+
+-- the options that each subcommand has
+abbrev pub files_app : Text → App
+files_app name = with_rule (with_rule (with_rule (with_rule (new_app name)
+    (file_rule (codes "line-break"))) (file_rule (codes "east-asian")))
+    (file_rule (codes "category"))) (file_rule (codes "emoji"))
+
+abbrev pub profile_rule : Rule
+profile_rule = number_rule (codes "profile") 2 (codes "1")
+
+-- `show` and `segment`
+abbrev pub limited_app : Text → App
+limited_app name = with_rule (with_rule (files_app name)
+    (number_rule (codes "limit") greatest_limit (codes "65536"))) profile_rule
+
+-- `replay`
+abbrev pub replay_app : App
+replay_app = with_rule (with_rule (files_app (codes "replay")) (flag_rule (codes "kinds"))) profile_rule
+
+-- a program that takes only words behind its name, wants a subcommand and tells its version
+abbrev pub bare_app : App
+bare_app = record {
+  top = record (new_app (codes "lbk")).top { no_binary_name = true; has_version = true; subcommand_required = true };
+  subs = [];
+}
+
+abbrev pub lbk_app : App
+lbk_app = with_subcommand (with_subcommand (with_subcommand bare_app
+    (limited_app (codes "show")).top) (limited_app (codes "segment")).top) replay_app.top
+
+-- what is wrong with the words, or what they ask for in place of work, as `clap` sorts it
+abbrev pub faults_of : List Text → Kinds
+faults_of words = fault_of lbk_app words
+
+-- the words are a command line of the program
+abbrev pub AreAccepted : List Text → Type 0
+AreAccepted words = faults_of words ≡ []

@@ -1,0 +1,7 @@
+-- What a reader has to believe.
+pub mod Command
+pub mod Task
+pub mod PlainWords
+pub mod Refusal
+-- What only carries proofs.
+pub mod Local

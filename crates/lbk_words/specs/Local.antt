@@ -1,0 +1,8 @@
+-- What the steps that build the command line keep.
+use Rattle.std.specs.Prelude.{◌≡◌, false}
+use Rattle.clap.specs.declared.builder.command.Command.{Command}
+use Rattle.clap.specs.declared.builder.command.Command.TheViews.{out-Command}
+
+-- no argument of the command is one for its subcommands too
+abbrev pub IsLocal : Command → Type 0
+IsLocal command = (out-Command command).has_globals ≡ false

@@ -1,0 +1,25 @@
+-- What the answer is to words that are no order.
+use Rattle.std.specs.Prelude.{◌≡◌, ◌≢◌, ◌⊎◌, ⊤}
+use Rattle.clap.specs.Words.{IsAmong, Kinds}
+use Rattle.clap.specs.declared.error.kind.ErrorKind.{ErrorKind}
+use Rattle.clap.specs.declared.error.kind.ErrorKind.TheVariants.{DisplayHelp, DisplayVersion, OutOfMemory}
+use Rattle.lbk_words.specs.declared.order.WordsFault.{WordsFault}
+use Rattle.lbk_words.specs.declared.order.WordsFault.TheVariants.{Help, Usage, Memory}
+
+-- a call for help or for the version
+abbrev pub IsCallForHelp : ErrorKind → Type 0
+IsCallForHelp kind = (kind ≡ DisplayHelp) ⊎ (kind ≡ DisplayVersion)
+
+-- a mistake in the words, which want of memory is not
+abbrev pub IsMistake : ErrorKind → Type 0
+IsMistake kind = (kind ≢ DisplayHelp) × (kind ≢ DisplayVersion) × (kind ≢ OutOfMemory)
+
+-- one of the faults is such a one
+abbrev pub HasFault : (ErrorKind → Type 0) → Kinds → Type 0
+HasFault Is faults = (kind : ErrorKind) × IsAmong kind faults × Is kind
+
+-- help is answered to a call for it, and usage to a mistake, among the faults of the words
+abbrev pub IsRefusalBy : Kinds → WordsFault → Type 0
+IsRefusalBy faults (Help text) = HasFault IsCallForHelp faults
+IsRefusalBy faults (Usage text) = HasFault IsMistake faults
+IsRefusalBy faults Memory = ⊤

@@ -1,0 +1,9 @@
+//! The words of the command line: what they ask for, or why they ask for nothing.
+#![tactic(auto)]
+
+mod options;
+mod order;
+mod reading;
+
+pub use order::{Engine, FileNames, Order, WordsFault};
+pub use reading::parse;

@@ -1,0 +1,187 @@
+//! The options and subcommands of the program, with their help.
+
+ghost use Rattle.std.specs.Prelude.{◌≡◌, false, IfOk, codes};
+ghost use Rattle.clap.specs.Words.{app_of, rule_of};
+ghost use Rattle.lbk_words.specs.Local.{IsLocal};
+ghost use Rattle.lbk_words.specs.Command.{file_rule, number_rule, flag_rule, greatest_limit, profile_rule, files_app, limited_app, replay_app, bare_app, lbk_app};
+
+use clap::builder::ValueParser;
+use clap::{Arg, ArgAction, Command};
+use std::alloc::{AllocError, Global};
+
+const GREATEST_LIMIT: u64 = 16_777_216;
+
+const VERSION: &str = "0.1.0 (UAX #14 of Unicode 15.0)";
+
+const ABOUT: &str = "\
+Says where the text on standard input may break and where it must, and which rule of UAX #14 says so.
+Without words it shows the text by four small sample files.";
+
+const EXAMPLES: &str = "\
+FILES are the four property files of the Unicode Character Database, all required:
+  --line-break LineBreak.txt --east-asian EastAsianWidth.txt
+  --category DerivedGeneralCategory.txt --emoji emoji-data.txt
+
+Examples:
+  lbk show FILES < text.txt                        a line for each passage
+  lbk segment FILES --limit 1000000 < text.txt     the breaks as byte offsets
+  lbk replay FILES < LineBreakTest.txt             the lines that do not agree
+
+Exit status: 0 done, 1 a refused file or text, 2 wrong words, 3 a replay with lines that differ or are refused.";
+
+const SHOW_ABOUT: &str =
+    "Writes a line for each passage: its marks and scalars, and the rule of each position";
+
+const SEGMENT_ABOUT: &str =
+    "Writes a line for each passage, segment and word, with its place in bytes";
+
+const REPLAY_ABOUT: &str =
+    "Compares a file of break tests with the rules, and counts what agrees and what differs";
+
+const SHOW_AFTER: &str = "\
+A mark stands before and after each scalar: × no break, ÷ a break may be, ! a break must be. Example:
+  $ printf 'ab cd' | lbk show FILES
+  × 0061 × 0062 × 0020 ÷ 0063 × 0064 !\t# 2 28 7 18 28 3";
+
+const SEGMENT_AFTER: &str = "\
+`P start end` is a passage, `S start end kind rule` a segment of it up to a break that may be (kind May) or must
+be (kind Must), and `W start end` a word. Places count bytes of the whole text. Example:
+  $ printf 'ab cd' | lbk segment FILES
+  P 0 5
+  S 0 3 May 18
+  S 3 5 Must 3
+  W 0 2
+  W 3 5";
+
+const REPLAY_AFTER: &str = "\
+`D line position file rules rule` is the first position of a line that differs, with the mark of the file and that
+of the rules; `R line place` is a line that cannot be read from its byte `place` on, and `R line long` one that is
+too long; `T lines agreed differed refused` stands at the end. Example:
+  $ printf '× 0061 ÷ 0062 ÷\\n' | lbk replay FILES
+  D 1 1 ÷ × 28
+  T 1 0 1 0";
+
+/// A required option that takes the name of a property file.
+fn file_option<'a>(alloc: Global, name: &'a str, help: &'a str) -> Arg<'a>
+    ensures rule { rule_of result ≡ file_rule name.entry.now }
+    ensures local { result.global ≡ false }
+{
+    Arg::new(alloc, name)
+        .long(name)
+        .action(ArgAction::Set)
+        .value_name("FILE")
+        .required(true)
+        .help(help)
+}
+
+/// An option that takes a number from 1 to `most`.
+fn number_option<'a>(alloc: Global, name: &'a str, most: u64, default: &'a str) -> Arg<'a>
+    ensures rule { rule_of result ≡ number_rule name.entry.now most default.entry.now }
+    ensures local { result.global ≡ false }
+{
+    Arg::new(alloc, name)
+        .long(name)
+        .action(ArgAction::Set)
+        .value_name("NUMBER")
+        .value_parser(ValueParser::unsigned(1, most))
+        .default_value(default)
+}
+
+fn limit_option<'a>(alloc: Global) -> Arg<'a>
+    ensures rule { rule_of result ≡ number_rule (codes "limit") greatest_limit (codes "65536") }
+    ensures local { result.global ≡ false }
+{
+    number_option(alloc, "limit", GREATEST_LIMIT, "65536").help(
+        "The most bytes of a paragraph, 1 to 16777216",
+    )
+}
+
+fn profile_option<'a>(alloc: Global) -> Arg<'a>
+    ensures rule { rule_of result ≡ profile_rule }
+    ensures local { result.global ≡ false }
+{
+    number_option(alloc, "profile", 2, "1").help(
+        "1 for the rules of Unicode 15.0, 2 for rules 15a and 15b in the place of 15",
+    )
+}
+
+fn kinds_option<'a>(alloc: Global) -> Arg<'a>
+    ensures rule { rule_of result ≡ flag_rule (codes "kinds") }
+    ensures local { result.global ≡ false }
+{
+    Arg::new(alloc, "kinds")
+        .long("kinds")
+        .action(ArgAction::SetTrue)
+        .help("Marks tell ! from ÷; without it ÷ stands for every break")
+}
+
+/// A subcommand with the options of the four files.
+fn with_files<'a>(alloc: Global, name: &'a str) -> Result<Command<'a>, AllocError>
+    ensures app { IfOk result (λ c. app_of c ≡ files_app name.entry.now) }
+    ensures local { IfOk result IsLocal }
+{
+    Command::new(alloc, name)
+        .arg(file_option(
+            alloc,
+            "line-break",
+            "LineBreak.txt, the classes of characters",
+        ))?
+        .arg(file_option(alloc, "east-asian", "EastAsianWidth.txt, the widths"))?
+        .arg(file_option(
+            alloc,
+            "category",
+            "DerivedGeneralCategory.txt, the general categories",
+        ))?
+        .arg(file_option(alloc, "emoji", "emoji-data.txt, the pictographs"))
+}
+
+/// `show` or `segment`.
+fn limited<'a>(alloc: Global, name: &'a str) -> Result<Command<'a>, AllocError>
+    ensures app { IfOk result (λ c. app_of c ≡ limited_app name.entry.now) }
+    ensures local { IfOk result IsLocal }
+{
+    with_files(alloc, name)?
+        .arg(limit_option(alloc))?
+        .arg(profile_option(alloc))
+}
+
+fn replay<'a>(alloc: Global) -> Result<Command<'a>, AllocError>
+    ensures app { IfOk result (λ c. app_of c ≡ replay_app) }
+    ensures local { IfOk result IsLocal }
+{
+    with_files(alloc, "replay")?
+        .arg(kinds_option(alloc))?
+        .arg(profile_option(alloc))
+}
+
+/// The program with no subcommand yet.
+fn bare<'a>(alloc: Global) -> Result<Command<'a>, AllocError>
+    ensures app { IfOk result (λ c. app_of c ≡ bare_app) }
+    ensures local { IfOk result IsLocal }
+{
+    Command::new(alloc, "lbk")
+        .about(ABOUT)
+        .after_help(EXAMPLES)
+        .version(VERSION)
+        .no_binary_name(true)
+        .subcommand_required(true)
+        .bin_name("lbk")
+}
+
+/// The command line of the program.
+pub fn command<'a>(alloc: Global) -> Result<Command<'a>, AllocError>
+    ensures app { IfOk result (λ c. app_of c ≡ lbk_app) }
+    ensures local { IfOk result IsLocal }
+{
+    let show = limited(alloc, "show")?
+        .about(SHOW_ABOUT)
+        .after_help(SHOW_AFTER);
+    let segment = limited(alloc, "segment")?
+        .about(SEGMENT_ABOUT)
+        .after_help(SEGMENT_AFTER);
+    let replay = replay(alloc)?.about(REPLAY_ABOUT).after_help(REPLAY_AFTER);
+    bare(alloc)?
+        .subcommand(show)?
+        .subcommand(segment)?
+        .subcommand(replay)
+}

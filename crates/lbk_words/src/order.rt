@@ -1,0 +1,42 @@
+//! What a command line asks for.
+
+use lbk_rules::Profile;
+
+/// The names of the four property files (UCD file format), as they stand in the words.
+#[derive(Clone, Copy, Debug)]
+pub struct FileNames<'a> {
+    pub line_break: &'a str,
+    pub east_asian: &'a str,
+    pub category: &'a str,
+    pub emoji: &'a str,
+}
+
+/// Which engine runs, with the options that it alone has.
+#[derive(Clone, Copy, Debug, PartialEq, Eq)]
+pub enum Engine {
+    /// `show`, for paragraphs of at most `limit` bytes.
+    Show { limit: u32 },
+    /// `segment`, for paragraphs of at most `limit` bytes.
+    Segment { limit: u32 },
+    /// `replay`; `kinds` says whether a break that must be has a mark of its own.
+    Replay { kinds: bool },
+}
+
+/// What the words ask for.
+#[derive(Clone, Copy, Debug)]
+pub struct Order<'a> {
+    pub engine: Engine,
+    pub files: FileNames<'a>,
+    pub profile: Profile,
+}
+
+/// Why the words ask for no work.
+#[derive(Debug, Drop)]
+pub enum WordsFault {
+    /// They ask for help or for the version, which is the text.
+    Help { text: String },
+    /// They are no command line of the program; the text says why.
+    Usage { text: String },
+    /// A growth of memory was refused.
+    Memory,
+}
