@@ -34,6 +34,10 @@ fn laws() {
     annex::heads();
     annex::opening_quotation();
     annex::closing_quotation();
+    lbk_passage::laws::behind_an_earlier_text();
+    lbk_passage::laws::run_begins();
+    lbk_passage::laws::run_goes_on();
+    lbk_passage::laws::run_ends();
     lbk_notation::file_laws::lines_make_up_the_file();
     lbk_notation::file_laws::one_replay_text();
     lbk_notation::file_laws::settled_text_stays();
