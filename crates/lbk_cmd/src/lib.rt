@@ -4,6 +4,7 @@
 mod cells;
 mod engine;
 mod faults;
+pub mod laws;
 mod segmented;
 mod shown;
 
