@@ -1,5 +1,5 @@
 -- A run over a reader that tells its bytes.
-use Rattle.std.proofs.Common.{◌≡◌, ℕ, Bool, List, Option, Result, Ok, Err, OnOk, IfSome, IsTrue, IsUtf8, chars, subst}
+use Rattle.std.proofs.Common.{ℕ, Bool, List, Option, Result, Ok, Err, OnOk, IfSome, IsTrue, IsUtf8, chars, subst}
 use Rattle.std.specs.Io.KnownBytes.{Appends, IsAtEnd}
 use Rattle.std.proofs.KnownBytes.{Consumes-whole}
 use Rattle.lbk_feed.specs.Runs.{Ran}

@@ -1,21 +1,21 @@
 -- The loop of an engine: what was read and what was written, from passage to passage.
-use Rattle.std.proofs.Common.{◌≡◌, ℕ, ◌+◌, ◌-◌, ◌<◌, ◌≤◌, Bool, true, false, ◌||◌, ◌⊎◌, List, [], ◌∷◌, ◌++◌, length, take, Option, None, Some, Result, Ok, Err, refl, sym, ap, subst, ◌∙◌, arith, ⊎_elim, length-append, append_assoc, append-nil}
+use Rattle.std.proofs.Common.{◌≡◌, ℕ, ◌+◌, ◌<◌, ◌≤◌, Bool, true, false, ◌||◌, ◌⊎◌, List, [], ◌++◌, length, take, Option, None, Some, Result, Ok, Err, refl, sym, ap, subst, ◌∙◌, arith, ⊎_elim, length-append, append_assoc, append-nil}
 use Rattle.std.proofs.Math.Seq.{take-append-add, take-append_seam}
 use Rattle.std.proofs.lemmas.Bool.{cases_lt, false≢true}
 use Rattle.std.proofs.lemmas.List.{append_cancel_left}
 use Rattle.std.specs.Io.KnownBytes.{Appends, Consumes, Keeps, IsAtEnd, prepend_known}
 use Rattle.lbk_feed.specs.Devices.{KeepsIfTold}
-use Rattle.lbk_feed.specs.Runs.{Took, Ran, IsStopped}
+use Rattle.lbk_feed.specs.Runs.{Took, Ran}
 use Rattle.lbk_feed.specs.Text.{longest_text}
 use Rattle.lbk_feed.specs.View.{BeginsWith}
 use Rattle.lbk_feed.proofs.Taking.{Consumes-nil, Consumes-trans, Took-then}
 use Rattle.lbk_passage.specs.Marks.{Marked}
 use Rattle.lbk_passage.specs.State.{State, new_state}
-use Rattle.lbk_passage.specs.Next.{AfterNext, Agrees, IsDone, IsPassage, KeepsAhead, ends_run, fault_in, lent_text}
+use Rattle.lbk_passage.specs.Next.{AfterNext, Agrees, IsDone, IsPassage, ends_run, fault_in, lent_text}
 use Rattle.lbk_passage.specs.declared.faults.PassageFault.{PassageFault}
 use Rattle.lbk_passage.specs.declared.faults.PassageFault.TheVariants as fault
 use Rattle.lbk_passage.specs.declared.passage.Passage.{Passage}
-use Rattle.lbk_cmd.specs.Run.{Engine, IsRun, IsSettled, IsWhole, is_failed_read}
+use Rattle.lbk_cmd.specs.Run.{Engine, IsRun, is_failed_read}
 use Rattle.lbk_cmd.specs.declared.faults.CmdFault.{CmdFault}
 use Rattle.lbk_cmd.specs.declared.faults.CmdFault.TheVariants as cmd
 use Rattle.lbk_cmd.proofs.Running.{Standing, Standing-new, Standing-next, given_now, passage_now, start_now}

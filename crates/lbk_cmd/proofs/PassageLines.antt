@@ -1,5 +1,5 @@
 -- What is written of a passage is written of its marks.
-use Rattle.std.proofs.Common.{◌≡◌, ℕ, List, [], ◌∷◌, ◌++◌, chars, refl, sym, ap, ap₂, ◌∙◌}
+use Rattle.std.proofs.Common.{◌≡◌, ℕ, List, [], ◌∷◌, ◌++◌, chars, sym, ap, ap₂, ◌∙◌}
 use Rattle.std.proofs.lemmas.Str.{chars_from_encodes}
 use Rattle.lbk_notation.specs.Shown.{passage_line}
 use Rattle.lbk_rules.specs.declared.cells.Cell.{Cell}

@@ -4,8 +4,6 @@ use Rattle.std.specs.List.{AllByRecursion, flat_map}
 use Rattle.std.proofs.lemmas.Grind.{flat_map-append}
 use Rattle.std.proofs.lemmas.Str.{IsUtf8-append, IsUtf8-nil, encodes-append, encode_same, length-encode, len_utf8_bounds}
 use Rattle.lbk_feed.specs.Text.{longest_text}
-use Rattle.lbk_rules.specs.declared.cells.Cell.{Cell}
-use Rattle.lbk_rules.specs.declared.verdicts.Profile.{Profile}
 use Rattle.lbk_passage.specs.Marks.{Marked, scalars_of, text_of}
 use Rattle.lbk_passage.specs.Passages.{passages}
 use Rattle.lbk_passage.specs.State.{State, new_state}

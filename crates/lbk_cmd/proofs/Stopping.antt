@@ -1,21 +1,19 @@
 -- Where a run of an engine ends.
-use Rattle.std.proofs.Common.{◌≡◌, ◌⊎◌, ℕ, ◌+◌, ◌-◌, ◌<◌, ◌≤◌, Bool, true, false, List, [], ◌∷◌, ◌++◌, length, take, min, None, Some, Option, Ok, Err, IsUtf8, encode_utf8, encode_utf8_all, chars, refl, sym, ap, subst, ◌∙◌, arith, inl, inr, ⊎_elim, length-append, length-take, append_assoc, append-nil}
-use Rattle.std.specs.List.{AllByRecursion, flat_map}
+use Rattle.std.proofs.Common.{◌≡◌, ℕ, ◌+◌, ◌-◌, ◌<◌, ◌≤◌, Bool, true, List, [], ◌∷◌, ◌++◌, length, take, None, Option, Ok, Err, IsUtf8, encode_utf8, encode_utf8_all, chars, refl, sym, ap, subst, ◌∙◌, arith, inl, inr, ⊎_elim, length-append, length-take, append_assoc, append-nil}
 use Rattle.std.proofs.Math.Seq.{take-append-add}
-use Rattle.std.proofs.lemmas.List.{nil_from_length}
 use Rattle.std.proofs.lemmas.Bool.{false≢true}
 use Rattle.std.proofs.lemmas.Str.{IsUtf8-append, IsUtf8-nil, encodes-append, chars_from_encodes}
 use Rattle.lbk_feed.specs.Runs.{IsStopped, midway, at_end}
 use Rattle.lbk_feed.specs.Text.{longest_text, well_formed_prefix, counted, IsNotUtf8At, IsTooLong, IsOpen}
 use Rattle.lbk_feed.proofs.Judged.{prefix-after}
-use Rattle.lbk_passage.specs.Marks.{Marked, scalars_of, text_of}
+use Rattle.lbk_passage.specs.Marks.{Marked, text_of}
 use Rattle.lbk_passage.specs.Passages.{passages}
 use Rattle.lbk_passage.specs.State.{State}
 use Rattle.lbk_passage.specs.Next.{AfterNext, BeginsWithAll, IsDone, Stops, Waits}
 use Rattle.lbk_passage.specs.declared.faults.PassageFault.{PassageFault}
 use Rattle.lbk_passage.specs.declared.faults.PassageFault.TheVariants as fault
 use Rattle.lbk_passage.proofs.Marking.{begins_with_all}
-use Rattle.lbk_cmd.specs.Run.{Engine, passages_by, written_by, AreWithin, IsWhole, AreGiven, IsSettled, AreAll, Lies, IsRefused, IsRun}
+use Rattle.lbk_cmd.specs.Run.{Engine, passages_by, written_by, AreWithin, IsWhole, AreGiven, IsSettled, AreAll, IsRun}
 use Rattle.lbk_cmd.specs.declared.faults.CmdFault.TheVariants.{Passage}
 use Rattle.lbk_cmd.proofs.Running.{some_bytes, Stands, fresh, goes_on, ended, Standing, onward}
 

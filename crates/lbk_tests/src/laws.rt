@@ -9,6 +9,7 @@ fn laws() {
     lbk_feed::laws::prefix_is_longest_text();
     lbk_feed::laws::prefix_behind_a_text();
     lbk_feed::laws::faults_exclude_each_other();
+    lbk_cmd::laws::shown_lines();
     lbk_ucd::laws::lines_say_what_the_grammar_has();
     lbk_ucd::laws::lines_make_up_the_file();
     lbk_ucd::laws::shared_codes_are_held::<LineBreak>();

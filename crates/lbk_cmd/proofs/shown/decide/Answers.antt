@@ -1,4 +1,4 @@
-use Rattle.std.proofs.Common.{◌≡◌, ◌∷◌, [], ◌++◌, length, chars, ap, sym, arith, ◌∙◌}
+use Rattle.std.proofs.Common.{◌≡◌, ◌∷◌, [], ◌++◌, length, chars, ap, arith, ◌∙◌}
 use Rattle.std.specs.Str.Iter.{chars_rest}
 use Rattle.lbk_rules.specs.Answers.{written}
 use Rattle.lbk_rules.specs.Held.{answer_at, late_at}

@@ -1,4 +1,4 @@
-use Rattle.std.proofs.Common.{◌≡◌, ◌++◌, ◌∷◌, get_or, refl, ap, ◌∙◌}
+use Rattle.std.proofs.Common.{◌++◌, ◌∷◌, get_or, refl, ap, ◌∙◌}
 use Rattle.std.specs.Str.Iter.{chars_rest}
 use Rattle.lbk_notation.specs.Grammar.{mark_bytes}
 use Rattle.lbk_notation.specs.Written.{shown, token}

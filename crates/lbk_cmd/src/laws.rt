@@ -1,0 +1,19 @@
+//! What the lines of `show` have in common, over the definitions alone, as the contract of a function that does
+//! nothing.
+
+ghost use Rattle.std.specs.Prelude.{ℕ, ◌+◌, ◌*◌, ◌≤◌, List, Some, length};
+ghost use Rattle.std.specs.Char.{IsScalar};
+ghost use Rattle.std.specs.List.{AllByRecursion};
+ghost use Rattle.lbk_notation.specs.declared.marks.Form.TheVariants.{Kinds};
+ghost use Rattle.lbk_notation.specs.Grammar.{IsLine};
+ghost use Rattle.lbk_notation.specs.Shown.{passage_line, passage_marks};
+ghost use Rattle.lbk_passage.specs.Marks.{Marked, scalars_of, text_of};
+ghost use Rattle.lbk_cmd.specs.Show.{shown_passage, verdicts_of};
+
+/// A passage's line has at most 12 bytes per byte of the passage's text and 9 more, its line end among them. Without
+/// its line end it is a line of the notation in form Kinds, which says the passage's scalars and marks.
+pub fn shown_lines()
+    ensures short { (ms : List Marked) → length (shown_passage ms) ≤ 12 * length (text_of ms) + 9 }
+    ensures says { (ms : List Marked) → AllByRecursion (λ scalar. IsScalar scalar) (scalars_of ms)
+        → IsLine Kinds (passage_line (scalars_of ms) (verdicts_of ms)) (Some (passage_marks (scalars_of ms) (verdicts_of ms))) }
+{}
