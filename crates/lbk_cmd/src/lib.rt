@@ -5,6 +5,7 @@ mod command;
 mod ending;
 mod engine;
 mod faults;
+pub mod laws;
 mod segmented;
 mod shown;
 

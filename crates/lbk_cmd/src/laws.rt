@@ -1,0 +1,22 @@
+//! What the calls amount to together, over the definitions alone.
+
+ghost use Rattle.std.specs.Prelude.{◌≡◌, ℕ, List};
+ghost use Rattle.std.specs.Char.{IsScalar};
+ghost use Rattle.std.specs.List.{AllByRecursion};
+ghost use Rattle.lbk_ucd.specs.declared.tables.Files.{Files};
+ghost use Rattle.lbk_rules.specs.declared.cells.Cell.{Cell};
+ghost use Rattle.lbk_rules.specs.declared.verdicts.Profile.{Profile};
+ghost use Rattle.lbk_passage.specs.Passages.{passages};
+ghost use Rattle.lbk_files.specs.Cells.{AreCellsOf};
+ghost use Rattle.lbk_cmd.specs.Headline.{ArePassagesOf};
+
+/// For all property files, every text and either profile: the passages joined are the text, their breaks are the
+/// positions, kinds and rules that the first matching rule gives on the whole text (UAX #14, section 6), and the line written
+/// of each passage is read back as its scalars and marks.
+///
+/// `read_cells` gives such cells of files that it accepts, `show` writes the lines of these passages however the bytes
+/// of the text were cut, and `read_line` accepts exactly the lines of the grammar.
+pub fn headline()
+    ensures { (files : Files) (profile : Profile) (cell : ℕ → Cell) (text : List ℕ) → AreCellsOf files cell
+        → AllByRecursion (λ scalar. IsScalar scalar) text → ArePassagesOf files profile text (passages profile cell text) }
+{}
