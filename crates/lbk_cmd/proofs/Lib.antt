@@ -7,3 +7,4 @@ pub mod Stopping
 pub mod Looping
 pub mod Known
 mod Rows
+pub mod Headlines

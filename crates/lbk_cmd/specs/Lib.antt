@@ -5,7 +5,8 @@ pub mod Texts
 pub mod Run
 pub mod Engines
 pub mod Ending
+pub mod Devices
 pub mod Acts
+pub mod Headline
 -- What only carries proofs.
 pub mod Deciding
-pub mod Devices

@@ -1,3 +1,4 @@
+<<<<<<< HEAD
 //! What the lines of `show` have in common, over the definitions alone, as the contract of a function that does
 //! nothing.
 
@@ -16,4 +17,27 @@ pub fn shown_lines()
     ensures short { (ms : List Marked) → length (shown_passage ms) ≤ 12 * length (text_of ms) + 9 }
     ensures says { (ms : List Marked) → AllByRecursion (λ scalar. IsScalar scalar) (scalars_of ms)
         → IsLine Kinds (passage_line (scalars_of ms) (verdicts_of ms)) (Some (passage_marks (scalars_of ms) (verdicts_of ms))) }
+=======
+//! What the calls amount to together, over the definitions alone.
+
+ghost use Rattle.std.specs.Prelude.{◌≡◌, ℕ, List};
+ghost use Rattle.std.specs.Char.{IsScalar};
+ghost use Rattle.std.specs.List.{AllByRecursion};
+ghost use Rattle.lbk_ucd.specs.declared.tables.Files.{Files};
+ghost use Rattle.lbk_rules.specs.declared.cells.Cell.{Cell};
+ghost use Rattle.lbk_rules.specs.declared.verdicts.Profile.{Profile};
+ghost use Rattle.lbk_passage.specs.Passages.{passages};
+ghost use Rattle.lbk_files.specs.Cells.{AreCellsOf};
+ghost use Rattle.lbk_cmd.specs.Headline.{ArePassagesOf};
+
+/// For all property files, every text and either profile: the passages joined are the text, their breaks are the
+/// positions, kinds and rules that the first matching rule gives on the whole text (UAX #14, section 6), and the line written
+/// of each passage is read back as its scalars and marks.
+///
+/// `read_cells` gives such cells of files that it accepts, `show` writes the lines of these passages however the bytes
+/// of the text were cut, and `read_line` accepts exactly the lines of the grammar.
+pub fn headline()
+    ensures { (files : Files) (profile : Profile) (cell : ℕ → Cell) (text : List ℕ) → AreCellsOf files cell
+        → AllByRecursion (λ scalar. IsScalar scalar) text → ArePassagesOf files profile text (passages profile cell text) }
+>>>>>>> hub/head
 {}

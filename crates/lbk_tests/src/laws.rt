@@ -42,4 +42,5 @@ fn laws() {
     lbk_notation::file_laws::lines_make_up_the_file();
     lbk_notation::file_laws::one_replay_text();
     lbk_notation::file_laws::settled_text_stays();
+    lbk_cmd::laws::headline();
 }
