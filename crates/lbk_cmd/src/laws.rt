@@ -1,8 +1,7 @@
-<<<<<<< HEAD
-//! What the lines of `show` have in common, over the definitions alone, as the contract of a function that does
+//! What the calls amount to together, over the definitions alone. Each law is the contract of a function that does
 //! nothing.
 
-ghost use Rattle.std.specs.Prelude.{ℕ, ◌+◌, ◌*◌, ◌≤◌, List, Some, length};
+ghost use Rattle.std.specs.Prelude.{ℕ, ◌+◌, ◌*◌, ◌≤◌, List, Some, length, ◌≡◌};
 ghost use Rattle.std.specs.Char.{IsScalar};
 ghost use Rattle.std.specs.List.{AllByRecursion};
 ghost use Rattle.lbk_notation.specs.declared.marks.Form.TheVariants.{Kinds};
@@ -10,19 +9,6 @@ ghost use Rattle.lbk_notation.specs.Grammar.{IsLine};
 ghost use Rattle.lbk_notation.specs.Shown.{passage_line, passage_marks};
 ghost use Rattle.lbk_passage.specs.Marks.{Marked, scalars_of, text_of};
 ghost use Rattle.lbk_cmd.specs.Show.{shown_passage, verdicts_of};
-
-/// A passage's line has at most 12 bytes per byte of the passage's text and 9 more, its line end among them. Without
-/// its line end it is a line of the notation in form Kinds, which says the passage's scalars and marks.
-pub fn shown_lines()
-    ensures short { (ms : List Marked) → length (shown_passage ms) ≤ 12 * length (text_of ms) + 9 }
-    ensures says { (ms : List Marked) → AllByRecursion (λ scalar. IsScalar scalar) (scalars_of ms)
-        → IsLine Kinds (passage_line (scalars_of ms) (verdicts_of ms)) (Some (passage_marks (scalars_of ms) (verdicts_of ms))) }
-=======
-//! What the calls amount to together, over the definitions alone.
-
-ghost use Rattle.std.specs.Prelude.{◌≡◌, ℕ, List};
-ghost use Rattle.std.specs.Char.{IsScalar};
-ghost use Rattle.std.specs.List.{AllByRecursion};
 ghost use Rattle.lbk_ucd.specs.declared.tables.Files.{Files};
 ghost use Rattle.lbk_rules.specs.declared.cells.Cell.{Cell};
 ghost use Rattle.lbk_rules.specs.declared.verdicts.Profile.{Profile};
@@ -39,5 +25,12 @@ ghost use Rattle.lbk_cmd.specs.Headline.{ArePassagesOf};
 pub fn headline()
     ensures { (files : Files) (profile : Profile) (cell : ℕ → Cell) (text : List ℕ) → AreCellsOf files cell
         → AllByRecursion (λ scalar. IsScalar scalar) text → ArePassagesOf files profile text (passages profile cell text) }
->>>>>>> hub/head
+{}
+
+/// A passage's line has at most 12 bytes per byte of the passage's text and 9 more, its line end among them. Without
+/// its line end it is a line of the notation in form Kinds, which says the passage's scalars and marks.
+pub fn shown_lines()
+    ensures short { (ms : List Marked) → length (shown_passage ms) ≤ 12 * length (text_of ms) + 9 }
+    ensures says { (ms : List Marked) → AllByRecursion (λ scalar. IsScalar scalar) (scalars_of ms)
+        → IsLine Kinds (passage_line (scalars_of ms) (verdicts_of ms)) (Some (passage_marks (scalars_of ms) (verdicts_of ms))) }
 {}
