@@ -45,7 +45,7 @@ cell_number cell =
 
 -- a digest after one more cell
 abbrev pub digest_with : ℕ → Cell → ℕ
-digest_with digest cell = ((digest * 0x2360_ed05_1fc6_5da4_4385_df64_9fcc_f645) % 2 ^ 128 + cell_number cell) % 2 ^ 128
+digest_with digest cell = ((digest * 0x100_0000_01b3) % 2 ^ 64 + cell_number cell) % 2 ^ 64
 
 -- the digest of a page: pages that are equal have the same
 unfoldable pub digest_of : List Cell → ℕ
