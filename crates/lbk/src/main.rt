@@ -7,7 +7,7 @@ mod message;
 use file_store::FileStore;
 use lbk_cmd::{Ending, run};
 use lbk_feed::Device;
-use lbk_words::parse;
+use lbk_words::{WordsFault, parse};
 use message::Message;
 use std::io::ErrorKind;
 use std::process::ExitCode;
@@ -51,7 +51,7 @@ fn words_given(rt: &HostRuntime) -> io::Result<Vec<String>> {
     Ok(words)
 }
 
-/// Want of memory before the words were read.
+/// Want of memory before the words were read, or where they are read again.
 fn ended(rt: &HostRuntime, status: u8) -> ExitCode {
     let _ = eprintln!(rt; "lbk: out of memory");
     ExitCode::from(status)
@@ -71,9 +71,15 @@ fn told(rt: &HostRuntime, words: &[&str], ending: &Ending) -> ExitCode {
             let _ = eprint!(rt; "{text}");
         }
         Ending::Refused(fault) => {
+            let order = match parse(rt.alloc(), words) {
+                Ok(order) => Some(order),
+                // Without them the message would name another file or limit.
+                Err(WordsFault::Memory) => return ended(rt, REFUSED),
+                Err(_) => None,
+            };
             let message = Message {
                 fault: *fault,
-                order: parse(rt.alloc(), words).ok(),
+                order,
             };
             let _ = eprintln!(rt; "lbk: {message}");
         }

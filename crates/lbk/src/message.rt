@@ -35,13 +35,30 @@ impl<'a> fmt::Display for Message<'a> {
     }
 }
 
+/// A name in one line: a control character, as a line end, is written as `\u` and its code in braces.
+#[derive(Clone, Copy)]
+struct Name<'a>(&'a str);
+
+impl<'a> fmt::Display for Name<'a> {
+    fn fmt<W: fmt::Write>(&self, f: &mut fmt::Formatter<W>) -> fmt::Result {
+        for c in self.0.chars() {
+            if c.is_control() {
+                write!(f, "\\u{{{:x}}}", u32::from(c))?;
+            } else {
+                f.write_char(c)?;
+            }
+        }
+        Ok(())
+    }
+}
+
 impl<'a> Message<'a> {
     /// The file's name as it was given; without words, that of the sample file.
-    fn name(&self, which: Which) -> &'a str {
+    fn name(&self, which: Which) -> Name<'a> {
         let Some(order) = self.order else {
-            return sample_name(which);
+            return Name(sample_name(which));
         };
-        name_in(order.files, which)
+        Name(name_in(order.files, which))
     }
 
     /// `FILE:LINE: cause`, or `FILE: cause` where the whole file is meant.

@@ -1,5 +1,5 @@
 -- The verdicts of a passage, as a machine answers them one after another.
-use Rattle.std.proofs.Common.{◌≡◌, ℕ, ◌+◌, ◌<◌, ◌≤◌, Bool, true, false, cond, Option, Some, None, List, [], ◌∷◌, ◌++◌, map, length, reverse, set, encode_utf8_all, append_assoc, refl, sym, ap, subst, ◌∙◌, arith}
+use Rattle.std.proofs.Common.{◌≡◌, ℕ, ◌+◌, ◌^◌, ◌<◌, ◌≤◌, Bool, true, false, cond, Option, Some, None, List, [], ◌∷◌, ◌++◌, map, length, reverse, set, encode_utf8_all, append_assoc, refl, sym, ap, subst, ◌∙◌, arith}
 use Rattle.std.specs.Char.{encode_utf8}
 use Rattle.std.specs.Option.{ForSome}
 use Rattle.std.specs.Str.{IsUtf8, chars}
@@ -108,12 +108,12 @@ AddsUp-step profile cell end before c cs list all now late now_same late_same ad
           ∙ adds_up.joined;
     }
 
--- The loop: what was decided, where `rest` is left of the text. Fits: what the machine knows of the cells that it has
--- taken
-pub record Decides (Fits : List Cell → Type 0) (profile : Profile) (cell : ℕ → Cell) (end : Verdict) (text : List ℕ) (list : List Verdict) (rest : List ℕ) : Type 0 where
+-- The loop: what was decided, where `rest` is left of the text. Fits: what is known of the scalars that
+-- were taken
+pub record Decides (Fits : List ℕ → Type 0) (profile : Profile) (cell : ℕ → Cell) (end : Verdict) (text : List ℕ) (list : List Verdict) (rest : List ℕ) : Type 0 where
   pub before : List ℕ
-  pub fits : Fits (map cell before)
-  pub few : length (map cell before) + length rest ≤ length text
+  pub fits : Fits before
+  pub few : length before + length rest ≤ length text
   pub utf8 : IsUtf8 rest
   pub adds_up : AddsUp profile cell end before (chars rest) list (verdicts_of (ended end (marks profile cell (chars text))))
 
@@ -121,7 +121,7 @@ some-chars : (text : List ℕ) → IsUtf8 text → 0 < length text → chars tex
 some-chars text utf8 some none =
     let empty : length text ≡ 0 = ap length (sym (encodes-chars text utf8) ∙ ap encode_utf8_all none) in omega (arith, empty)
 
-pub Decides-start : (Fits : List Cell → Type 0) (profile : Profile) (cell : ℕ → Cell) (end : Verdict) (text : List ℕ) (list : List Verdict) (rest : List ℕ)
+pub Decides-start : (Fits : List ℕ → Type 0) (profile : Profile) (cell : ℕ → Cell) (end : Verdict) (text : List ℕ) (list : List Verdict) (rest : List ℕ)
     → IsUtf8 text → 0 < length text → Fits [] → list ≡ [] → rest ≡ text → Decides Fits profile cell end text list rest
 Decides-start Fits profile cell end text list rest utf8 some fits fresh whole =
     let all = verdicts_of (ended end (marks profile cell (chars text))) in
@@ -135,52 +135,50 @@ Decides-start Fits profile cell end text list rest utf8 some fits fresh whole =
       adds_up = subst (λ (r : List ℕ). AddsUp profile cell end [] (chars r) list all) (sym whole) placed_so;
     }
 
-pub Decides-step : (Fits Next : List Cell → Type 0) (profile : Profile) (cell : ℕ → Cell) (end : Verdict) (text : List ℕ) (list list' : List Verdict) (c : ℕ) (rest more : List ℕ)
-    (this : Cell) (now : Option Verdict) (late : Option (ℕ × Verdict))
-    → ((cells others : List Cell) → Fits cells → now ≡ now_at profile cells (this ∷ others))
-    → ((cells others : List Cell) → Fits cells → late ≡ late_at profile cells this others)
-    → ((cells : List Cell) → Fits cells → Next (cells ++ this ∷ []))
-    → this ≡ cell c → rest ≡ encode_utf8 c ++ more → list' ≡ written late list ++ placed now ∷ []
+pub Decides-step : (Fits Next : List ℕ → Type 0) (profile : Profile) (cell : ℕ → Cell) (end : Verdict) (text : List ℕ) (list list' : List Verdict) (c : ℕ) (rest more : List ℕ)
+    (now : Option Verdict) (late : Option (ℕ × Verdict))
+    → ((taken : List ℕ) (others : List Cell) → Fits taken → length taken < 18446744073709551615 → now ≡ now_at profile (map cell taken) (cell c ∷ others))
+    → ((taken : List ℕ) (others : List Cell) → Fits taken → length taken < 18446744073709551615 → late ≡ late_at profile (map cell taken) (cell c) others)
+    → ((taken : List ℕ) → Fits taken → length taken < 18446744073709551615 → Next (taken ++ c ∷ [])) → length text < 2 ^ 32
+    → rest ≡ encode_utf8 c ++ more → list' ≡ written late list ++ placed now ∷ []
     → Decides Fits profile cell end text list rest
     → Decides Next profile cell end text list' more
-Decides-step Fits Next profile cell end text list list' c rest more this now late nows lates fit same splits pushed l =
+Decides-step Fits Next profile cell end text list list' c rest more now late nows lates fit few splits pushed l =
     let all = verdicts_of (ended end (marks profile cell (chars text))) in
-    let left = map cell l.before in
     let on = l.before ++ c ∷ [] in
     let others = map cell (chars more) in
     let begins : chars rest ≡ c ∷ chars more = chars_past_char rest more c l.utf8 splits in
     let held = subst (λ (cs : List ℕ). AddsUp profile cell end l.before cs list all) begins l.adds_up in
-    let now_same = nows left others l.fits ∙ ap (λ x. now_at profile left (x ∷ others)) same in
-    let late_same = lates left others l.fits ∙ ap (λ x. late_at profile left x others) same in
-    let stepped = AddsUp-step profile cell end l.before c (chars more) list all now late now_same late_same held in
+    let short : length l.before < 18446744073709551615 = omega (arith, l.few) in
+    let stepped = AddsUp-step profile cell end l.before c (chars more) list all now late (nows l.before others l.fits short) (lates l.before others l.fits short) held in
     let width : 1 ≤ length (encode_utf8 c) = (let bounds = len_utf8_bounds c in omega (arith, length-encode c, bounds.0)) in
-    let taken : left ++ this ∷ [] ≡ map cell on = ap (λ x. left ++ x ∷ []) same ∙ sym (map-append cell l.before (c ∷ [])) in
     record {
       before = on;
-      fits = subst Next taken (fit left l.fits);
-      few = omega (arith, length-map on cell, length-map l.before cell, length_push l.before c, length-append (encode_utf8 c) more, ap length splits, l.few);
+      fits = fit l.before l.fits short;
+      few = omega (arith, length_push l.before c, length-append (encode_utf8 c) more, ap length splits, l.few);
       utf8 = IsUtf8-past_char rest more c l.utf8 splits;
       adds_up = subst (λ (v : List Verdict). AddsUp profile cell end on (chars more) v all) (sym pushed) stepped;
     }
 
-pub Decides-below : (Fits : List Cell → Type 0) (profile : Profile) (cell : ℕ → Cell) (end : Verdict) (text : List ℕ) (list : List Verdict) (rest : List ℕ)
+pub Decides-below : (Fits : List ℕ → Type 0) (profile : Profile) (cell : ℕ → Cell) (end : Verdict) (text : List ℕ) (list : List Verdict) (rest : List ℕ)
     (left : List Cell → Option (ℕ × Verdict)) (late : Option (ℕ × Verdict))
-    → ((cells : List Cell) → Fits cells → late ≡ left cells) → ((cells : List Cell) → ForSome (left cells) (λ answer. answer.0 < length cells))
+    → ((taken : List ℕ) → Fits taken → length taken < 18446744073709551615 → late ≡ left (map cell taken))
+    → ((cells : List Cell) → ForSome (left cells) (λ answer. answer.0 < length cells)) → length text < 2 ^ 32
     → Decides Fits profile cell end text list rest → ForSome late (λ answer. answer.0 < length list)
-Decides-below Fits profile cell end text list rest left late lates below l = λ answer e.
-    (let under = below (map cell l.before) answer (sym (lates (map cell l.before) l.fits) ∙ e) in
+Decides-below Fits profile cell end text list rest left late lates below few l = λ answer e.
+    (let under = below (map cell l.before) answer (sym (lates l.before l.fits (omega (arith, l.few))) ∙ e) in
     omega (arith, under, length-map l.before cell, l.adds_up.many))
 
-pub Decides-end : (Fits : List Cell → Type 0) (profile : Profile) (cell : ℕ → Cell) (end : Verdict) (text : List ℕ) (list list' : List Verdict) (rest : List ℕ)
+pub Decides-end : (Fits : List ℕ → Type 0) (profile : Profile) (cell : ℕ → Cell) (end : Verdict) (text : List ℕ) (list list' : List Verdict) (rest : List ℕ)
     (late : Option (ℕ × Verdict))
-    → ((cells : List Cell) → Fits cells → late ≡ answer_at profile cells [])
+    → ((taken : List ℕ) → Fits taken → late ≡ answer_at profile (map cell taken) [])
     → length rest ≡ 0 → list' ≡ written late list ++ end ∷ [] → Decides Fits profile cell end text list rest
     → list' ≡ verdicts_of (ended end (marks profile cell (chars text)))
 Decides-end Fits profile cell end text list list' rest late lates none pushed l =
     let all = verdicts_of (ended end (marks profile cell (chars text))) in
     let no_chars : chars rest ≡ [] = ap chars (nil_from_length rest none) ∙ chars-nil in
     let last = subst (λ (cs : List ℕ). AddsUp profile cell end l.before cs list all) no_chars l.adds_up in
-    pushed ∙ ap (λ o. written o list ++ end ∷ []) (lates (map cell l.before) l.fits) ∙ last.joined
+    pushed ∙ ap (λ o. written o list ++ end ∷ []) (lates l.before l.fits) ∙ last.joined
 
 length-ended : (end : Verdict) (ms : List Marked) → length (ended end ms) ≡ length ms
 length-ended end [] = refl

@@ -2,13 +2,10 @@
 use Rattle.std.proofs.Common.{◌≡◌, ℕ, ◌+◌, ◌<◌, ◌≤◌, Bool, true, false, ◌||◌, ◌⊎◌, List, [], ◌++◌, length, take, Option, None, Some, Result, Ok, Err, refl, sym, ap, subst, ◌∙◌, arith, ⊎_elim, length-append, append_assoc, append-nil}
 use Rattle.std.proofs.Math.Seq.{take-append-add, take-append_seam}
 use Rattle.std.proofs.lemmas.Bool.{cases_lt, false≢true}
-use Rattle.std.proofs.lemmas.List.{append_cancel_left}
-use Rattle.std.specs.Io.KnownBytes.{Appends, Consumes, Keeps, IsAtEnd, prepend_known}
-use Rattle.lbk_feed.specs.Devices.{KeepsIfTold}
+use Rattle.std.specs.Io.KnownBytes.{Appends, Consumes, IsAtEnd}
 use Rattle.lbk_feed.specs.Runs.{Took, Ran}
 use Rattle.lbk_feed.specs.Text.{longest_text}
-use Rattle.lbk_feed.specs.View.{BeginsWith}
-use Rattle.lbk_feed.proofs.Taking.{Consumes-nil, Consumes-trans, Took-then}
+use Rattle.lbk_feed.proofs.Taking.{Consumes-nil, Consumes-trans, Took-then, kept_took, begun_took, told_took}
 use Rattle.lbk_passage.specs.Marks.{Marked}
 use Rattle.lbk_passage.specs.State.{State, new_state}
 use Rattle.lbk_passage.specs.Next.{AfterNext, Agrees, IsDone, IsPassage, ends_run, fault_in, lent_text}
@@ -30,25 +27,6 @@ Appends-trans None b c bs cs p q = tt
 Appends-trans (Some x) None c bs cs p q = absurd p
 Appends-trans (Some x) (Some y) None bs cs p q = absurd q
 Appends-trans (Some x) (Some y) (Some z) bs cs p q = q ∙ ap (λ l. l ++ cs) p ∙ append_assoc x bs cs
-
--- bytes that joined those held, where the bytes ahead stayed as they were, came from those unread
-module _ (held held' got : List ℕ) (grown : held' ≡ held ++ got) where
-  behind : (xs ys : List ℕ) → held ++ xs ≡ held' ++ ys → xs ≡ got ++ ys
-  behind xs ys same = append_cancel_left held xs (got ++ ys) (same ∙ ap (λ l. l ++ ys) grown ∙ append_assoc held got ys)
-
-  kept_took : (before after : Option (List ℕ)) → Keeps (prepend_known held before) (prepend_known held' after) → Consumes before after got
-  kept_took None after kept = tt
-  kept_took (Some xs) None kept = absurd kept
-  kept_took (Some xs) (Some ys) kept = behind xs ys (sym kept)
-
-  begun_took : (before : Option (List ℕ)) → BeginsWith held' (prepend_known held before) → BeginsWith got before
-  begun_took None begins = tt
-  begun_took (Some xs) begins = (begins.0, behind xs begins.0 begins.1)
-
-  told_took : (before after : Option (List ℕ)) → KeepsIfTold (prepend_known held before) (prepend_known held' after) → KeepsIfTold before (prepend_known got after)
-  told_took None after told = tt
-  told_took (Some xs) None told = tt
-  told_took (Some xs) (Some ys) told = sym (behind xs ys (sym told))
 
 -- what a call that answered a fault took from its reader
 took_fault : (X : Type 0) (s t : State) (u v : Option (List ℕ)) (e1 e2 : Bool) (r1 r2 : ℕ) (why : PassageFault) (a : AfterNext s t u v e1 e2 r1 r2 (Err why))

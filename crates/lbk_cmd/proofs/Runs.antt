@@ -1,5 +1,5 @@
 -- From what is ready to what a task performs.
-use Rattle.std.proofs.Common.{◌≡◌, ℕ, Bool, true, false, suc, zero, List, [], ◌∷◌, Option, map, length, inr, subst, refl, true≢false, eqb-true, arith}
+use Rattle.std.proofs.Common.{◌≡◌, ℕ, true, false, suc, List, [], ◌∷◌, Option, map, length, inr, subst, refl, true≢false, eqb-true, arith}
 use Rattle.std.specs.Prelude.{◌==◌}
 use Rattle.std.specs.Borrow.{Bor}
 use Rattle.lbk_rules.specs.CellPages.{page_cell}

@@ -23,7 +23,7 @@ use Rattle.lbk_words.specs.Command.{default_limit}
 use Rattle.lbk_words.specs.Task.{Task}
 use Rattle.lbk_files.specs.declared.faults.CellsFault.{CellsFault}
 use Rattle.lbk_files.specs.declared.faults.Stop.{Stop}
-use Rattle.lbk_files.specs.SomeFiles.{AreCellsOfSomeFiles, IsFaultOfSomeFiles}
+use Rattle.lbk_files.specs.SampleFiles.{AreSampleCells, IsSampleFault}
 use Rattle.lbk_files.specs.FileFault.{AreCellsFrom}
 use Rattle.lbk_files.specs.Named.{files_of}
 use Rattle.lbk_files.specs.Ready.{IsStoppedAt}
@@ -71,11 +71,11 @@ form_of kinds = if kinds then Kinds else Plain
 abbrev pub StopsBefore : (Stop → Type 0) → Devices → Devices → Ending → Type 0
 StopsBefore IsStop before after ending = (stop : Stop) × IsStop stop × (ending ≡ ending_of_stop stop) × (after ≡ before)
 
--- without words: `show` by the cells of four files, or these give none
+-- without words: `show` by the cells of the sample files, or want of memory for these, with nothing read or written
 abbrev pub ShowsSamples : Devices → Devices → Ending → Type 0
 ShowsSamples before after ending =
-    ((fault : CellsFault) × IsFaultOfSomeFiles fault × (ending ≡ ending_of_files fault) × (after ≡ before))
-    ⊎ ((cell : ℕ → Cell) × AreCellsOfSomeFiles cell
+    ((fault : CellsFault) × IsSampleFault fault × (ending ≡ ending_of_files fault) × (after ≡ before))
+    ⊎ ((cell : ℕ → Cell) × AreSampleCells cell
     × ((answer : Result (Unit {0}) CmdFault) × Shows cell default_limit First before after answer × (ending ≡ ending_of_text answer)))
 
 -- the engine runs with its option, and the run ends as its answer says

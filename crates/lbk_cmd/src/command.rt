@@ -21,7 +21,8 @@ use std::alloc::Global;
 
 const SAMPLE_LIMIT: u32 = 65_536;
 
-/// Runs the engines by the words behind the program's name. Without words it shows the text by the sample files.
+/// Runs the engines by the words behind the program's name. Without words it shows the text by the
+/// sample files, in the first profile, with paragraphs of at most 65,536 bytes.
 #[tactic(none)]
 pub fn run<'a, S: Store, R: Source, W: Sink>(
     alloc: Global,

@@ -1,6 +1,7 @@
 //! The lines that `segment` writes of a passage.
 
 ghost use Rattle.std.specs.Prelude.{◌≡◌, ◌+◌, ◌<◌, ◌≤◌, ◌^◌, ◌++◌, ◌∷◌, [], length, decimal, OnOk};
+ghost use Rattle.std.specs.List.{flat_map};
 ghost use Rattle.lbk_cmd.specs.Segment.{kind_name, part, passage_lines, segment_line, word_line};
 
 use itoa::Buffer;
@@ -19,10 +20,26 @@ pub fn push_segmented(out: &mut Vec<u8>, passage: &Passage<'_>) -> Result<(), Al
     let start = passage.start;
     push_part(out, b'P', start, start + passage.text.len() as u64)?;
     out.push(b'\n')?;
-    for segment in passage.segments {
+    push_segments(out, start, passage.segments)?;
+    push_words(out, start, passage.pieces)?;
+    Ok(())
+}
+
+fn push_segments(out: &mut Vec<u8>, start: u64, segments: &[Segment]) -> Result<(), AllocError>
+    requires { start ≤ 2 ^ 62 }
+    ensures { OnOk result (out.new.items ≡ out.old.items ++ flat_map (segment_line start) segments.now) }
+{
+    for segment in segments {
         push_segment(out, start, segment)?;
     }
-    for piece in passage.pieces {
+    Ok(())
+}
+
+fn push_words(out: &mut Vec<u8>, start: u64, pieces: &[Piece]) -> Result<(), AllocError>
+    requires { start ≤ 2 ^ 62 }
+    ensures { OnOk result (out.new.items ≡ out.old.items ++ flat_map (word_line start) pieces.now) }
+{
+    for piece in pieces {
         push_word(out, start, piece)?;
     }
     Ok(())

@@ -3,7 +3,6 @@
 ghost use Rattle.std.specs.Prelude.{◌≡◌, ◌+◌, ◌<◌, ◌≤◌, ◌^◌, ◌++◌, ◌∷◌, [], length, map, OnOk};
 ghost use Rattle.std.specs.Option.{ForSome};
 ghost use Rattle.std.specs.Str.{chars};
-ghost use Rattle.lbk_notation.specs.Marked.{mark_of};
 ghost use Rattle.lbk_notation.specs.Shown.{passage_line, written_labels, passage_marks};
 ghost use Rattle.lbk_notation.specs.Written.{written_line};
 ghost use Rattle.lbk_notation.specs.declared.marks.Form.TheVariants.{Kinds};
@@ -12,8 +11,8 @@ ghost use Rattle.lbk_rules.specs.Answers.{written};
 ghost use Rattle.lbk_cmd.specs.Show.{verdicts_of};
 ghost use Rattle.lbk_cmd.specs.Deciding.{placed};
 
-use lbk_notation::{Form, Mark, push_mark, push_scalar};
-use lbk_rules::{CellSource, Kind, LateMachine, Profile, Rule, Verdict};
+use lbk_notation::{Form, mark_of, push_mark, push_scalar};
+use lbk_rules::{CellSource, Kind, Profile, Rule, Stepper, Verdict};
 use std::alloc::AllocError;
 
 /// Writes the verdicts of all positions of a passage in place of what the list held: those of its text alone, the
@@ -32,13 +31,13 @@ pub fn decide<C: CellSource>(
     ensures many { OnOk result (length verdicts.new.items ≡ length (chars text.now) + 1) }
 {
     verdicts.clear();
-    let mut machine = LateMachine::start(profile);
+    let mut stepper = Stepper::start(cells, profile);
     for c in text.chars() {
-        let out = machine.step(cells.cell(c));
+        let out = stepper.step(c);
         place(verdicts, out.late);
         verdicts.push(now_or_none(out.now))?;
     }
-    place(verdicts, machine.finish().late);
+    place(verdicts, stepper.finish().late);
     verdicts.push(end)?;
     Ok(())
 }
@@ -100,14 +99,4 @@ fn push_labels(out: &mut Vec<u8>, verdicts: &[Verdict]) -> Result<(), AllocError
         out.extend_from_slice(verdict.rule.label().as_bytes())?;
     }
     Ok(())
-}
-
-fn mark_of(kind: Kind) -> Mark
-    ensures { result ≡ mark_of kind }
-{
-    match kind {
-        Kind::No => Mark::No,
-        Kind::May => Mark::May,
-        Kind::Must => Mark::Must,
-    }
 }

@@ -59,16 +59,16 @@ module _ (held held' got : List ℕ) (grown : held' ≡ held ++ got) where
   behind : (xs ys : List ℕ) → held ++ xs ≡ held' ++ ys → xs ≡ got ++ ys
   behind xs ys same = append_cancel_left held xs (got ++ ys) (same ∙ ap (λ l. l ++ ys) grown ∙ append_assoc held got ys)
 
-  kept_took : (before after : Option (List ℕ)) → Keeps (prepend_known held before) (prepend_known held' after) → Consumes before after got
+  pub kept_took : (before after : Option (List ℕ)) → Keeps (prepend_known held before) (prepend_known held' after) → Consumes before after got
   kept_took None after kept = tt
   kept_took (Some xs) None kept = absurd kept
   kept_took (Some xs) (Some ys) kept = behind xs ys (sym kept)
 
-  begun_took : (before : Option (List ℕ)) → BeginsWith held' (prepend_known held before) → BeginsWith got before
+  pub begun_took : (before : Option (List ℕ)) → BeginsWith held' (prepend_known held before) → BeginsWith got before
   begun_took None begins = tt
   begun_took (Some xs) begins = (begins.0, behind xs begins.0 begins.1)
 
-  told_took : (before after : Option (List ℕ)) → KeepsIfTold (prepend_known held before) (prepend_known held' after) → KeepsAfter got before after
+  pub told_took : (before after : Option (List ℕ)) → KeepsIfTold (prepend_known held before) (prepend_known held' after) → KeepsAfter got before after
   told_took None after told = tt
   told_took (Some xs) None told = tt
   told_took (Some xs) (Some ys) told = sym (behind xs ys (sym told))

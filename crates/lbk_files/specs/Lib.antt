@@ -1,9 +1,9 @@
 -- What a reader has to believe.
-pub mod Cells
+pub use Rattle.lbk_rules.specs.Cells
 pub mod CellsRefusal
 pub mod Store
 pub mod MemoryStore
 pub mod FileFault
 pub mod Named
-pub mod SomeFiles
+pub mod SampleFiles
 pub mod Ready

@@ -5,7 +5,7 @@ ghost use Rattle.lbk_ucd.specs.Files.{AreLawful};
 ghost use Rattle.lbk_rules.specs.CellPages.{page_cell};
 ghost use Rattle.lbk_files.specs.Cells.{AreCellsOf};
 ghost use Rattle.lbk_files.specs.CellsRefusal.{IsCellsRefusal};
-ghost use Rattle.lbk_files.specs.SomeFiles.{AreCellsOfSomeFiles, IsFaultOfSomeFiles};
+ghost use Rattle.lbk_files.specs.SampleFiles.{AreSampleCells, IsSampleFault};
 
 use super::faults::CellsFault;
 use lbk_rules::CellPages;
@@ -34,9 +34,9 @@ pub fn read_cells(alloc: Global, files: Files<'_>) -> Result<CellPages, CellsFau
     CellPages::build(alloc, &tables).map_err(|_| CellsFault::Memory)
 }
 
-/// The cells of the sample files.
+/// The cells of the sample files. An error comes for want of memory alone.
 pub fn sample_cells(alloc: Global) -> Result<CellPages, CellsFault>
-    ensures { MatchResult result (λ pages. AreCellsOfSomeFiles (page_cell pages)) IsFaultOfSomeFiles }
+    ensures { MatchResult result (λ pages. AreSampleCells (page_cell pages)) IsSampleFault }
 {
     read_cells(alloc, SAMPLE_FILES)
 }

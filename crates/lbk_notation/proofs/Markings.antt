@@ -1,10 +1,10 @@
 -- Marks put at their positions as a machine answers them.
 use Rattle.std.proofs.Common.{◌≡◌, ℕ, ◌+◌, ◌<◌, ◌≤◌, List, [], ◌∷◌, ◌++◌, length, map, get_or, set, take, drop, Option, Some, None, refl, ap, sym, subst, ◌∙◌, arith, inl, inr, get_or-set_other, get_or-set_same, append-nil}
 use Rattle.std.specs.Option.{ForSome}
-use Rattle.std.proofs.Math.ListN.{get_or-append, get_or-map, length-set}
+use Rattle.std.proofs.Math.ListN.{get_or-append, length-set}
 use Rattle.std.proofs.Math.Seq.{get_or-append_seam}
 use Rattle.std.proofs.lemmas.Bool.{cases_eq}
-use Rattle.std.proofs.lemmas.List.{length_push, take_more, take_all, length-take-le, length-map}
+use Rattle.std.proofs.lemmas.List.{drop_more, length_push, map-append, take_more, take-append-drop, length-take-le, length-map}
 use Rattle.std.proofs.lemmas.List.FromFn.{fill_by_all, length-map-range_with_len}
 use Rattle.lbk_notation.specs.declared.marks.Mark.{Mark}
 use Rattle.lbk_notation.specs.declared.marks.Mark.TheVariants.{No}
@@ -16,7 +16,6 @@ use Rattle.lbk_rules.specs.declared.verdicts.Verdict.{Verdict}
 use Rattle.lbk_rules.specs.Held.{late_at, now_at, answer_at}
 use Rattle.lbk_rules.specs.Verdict.{verdict_in}
 use Rattle.lbk_rules.proofs.CoverLemmas.{late_at-below, answer_at-below}
-use Rattle.lbk_rules.proofs.MachineLemmas.{split-at}
 use Rattle.lbk_rules.proofs.StepLemmas.{AllCome, AllCome-turn, AllCome-end, IsTaken, late_at-verdict, answer_at-verdict}
 
 -- the mark of position k is there
@@ -99,29 +98,29 @@ marks_end profile cells late end marks marks' many late_same end_same is come =
     ap length is ∙ (length_push (put late marks) (mark_of end.kind) ∙ ap (λ n. n + 1) (length-put late marks ∙ many)) in
     fill_by_all (mark_at profile cells) marks' (length cells + 1) No count (λ k lt. each k (omega arith))
 
--- the cells of a text, cut at the one that a loop over its scalars is at
-cell_at : (f : ℕ → Cell) (scalars : List ℕ) (k x : ℕ) (cell : Cell) → x ≡ get_or scalars k x → cell ≡ f x → cell ≡ get_or (map f scalars) k cell
-cell_at f scalars k x cell item is =
-    is ∙ ap f item ∙ sym (get_or-map f scalars k x) ∙ ap (get_or (map f scalars) k) (sym is)
+-- a text's scalars around the one at k, at which a loop over them is
+pub record Around (f : ℕ → Cell) (scalars : List ℕ) (k x : ℕ) : Type 0 where
+  pub one_more : take k scalars ++ x ∷ [] ≡ take (k + 1) scalars
+  pub next : map f (take k scalars) ++ f x ∷ [] ≡ map f (take (k + 1) scalars)
+  pub whole : map f (take k scalars) ++ f x ∷ map f (drop (k + 1) scalars) ≡ map f scalars
+  pub count : length (map f (take k scalars)) ≡ k
 
-pub cells_split : (f : ℕ → Cell) (scalars : List ℕ) (k x : ℕ) (cell : Cell) → k < length scalars → x ≡ get_or scalars k x → cell ≡ f x
-    → take k (map f scalars) ++ cell ∷ drop (k + 1) (map f scalars) ≡ map f scalars
-cells_split f scalars k x cell within item is =
-    let inside : k < length (map f scalars) = omega (arith, length-map scalars f) in
-    ap (λ c. take k (map f scalars) ++ c ∷ drop (k + 1) (map f scalars)) (cell_at f scalars k x cell item is)
-    ∙ split-at (map f scalars) k cell inside
+pub length-before : (f : ℕ → Cell) (scalars : List ℕ) (k : ℕ) → k ≤ length scalars → length (map f (take k scalars)) ≡ k
+length-before f scalars k within = length-map (take k scalars) f ∙ length-take-le k scalars within
 
-pub cells_more : (f : ℕ → Cell) (scalars : List ℕ) (k x : ℕ) (cell : Cell) → k < length scalars → x ≡ get_or scalars k x → cell ≡ f x
-    → take k (map f scalars) ++ cell ∷ [] ≡ take (k + 1) (map f scalars)
-cells_more f scalars k x cell within item is =
-    let inside : k < length (map f scalars) = omega (arith, length-map scalars f) in
-    ap (λ c. take k (map f scalars) ++ c ∷ []) (cell_at f scalars k x cell item is) ∙ sym (take_more (map f scalars) k cell inside)
-
-pub cells_taken : (f : ℕ → Cell) (scalars : List ℕ) (k : ℕ) → k ≤ length scalars → length (take k (map f scalars)) ≡ k
-cells_taken f scalars k within = length-take-le k (map f scalars) (omega (arith, length-map scalars f))
-
-pub cells_all : (f : ℕ → Cell) (scalars : List ℕ) (k : ℕ) → length scalars ≤ k → take k (map f scalars) ≡ map f scalars
-cells_all f scalars k past = take_all k (map f scalars) (omega (arith, length-map scalars f))
+pub around : (f : ℕ → Cell) (scalars : List ℕ) (k x : ℕ) → k < length scalars → x ≡ get_or scalars k x → Around f scalars k x
+around f scalars k x within item =
+    let one_more : take k scalars ++ x ∷ [] ≡ take (k + 1) scalars =
+    ap (λ y. take k scalars ++ y ∷ []) item ∙ sym (take_more scalars k x within) in
+    let split : take k scalars ++ x ∷ drop (k + 1) scalars ≡ scalars =
+    ap (λ y. take k scalars ++ y ∷ drop (k + 1) scalars) item ∙ ap (λ r. take k scalars ++ r) (sym (drop_more scalars k x within))
+    ∙ take-append-drop k scalars in
+    record {
+      one_more = one_more;
+      next = sym (map-append f (take k scalars) (x ∷ [])) ∙ ap (map f) one_more;
+      whole = sym (map-append f (take k scalars) (x ∷ drop (k + 1) scalars)) ∙ ap (map f) split;
+      count = length-before f scalars k (omega arith);
+    }
 
 pub length-marks_in : (profile : Profile) (f : ℕ → Cell) (scalars : List ℕ) → length (marks_in profile (map f scalars)) ≡ length scalars + 1
 length-marks_in profile f scalars =

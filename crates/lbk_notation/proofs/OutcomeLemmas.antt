@@ -1,8 +1,8 @@
 -- What the verdict of one position more does to the least difference.
-use Rattle.std.proofs.Common.{◌≡◌, ℕ, ◌≤◌, ◌<◌, true, false, cond, ◌||◌, ◌⊎◌, inl, inr, ⊎_elim, List, [], ◌∷◌, ◌++◌, length, map, take, drop, get_or, ◌+◌, Option, Some, None, MatchOption, refl, sym, ap, subst, ◌∙◌, arith, append-nil}
+use Rattle.std.proofs.Common.{◌≡◌, ℕ, ◌≤◌, ◌<◌, true, false, cond, ◌||◌, ◌⊎◌, inl, inr, ⊎_elim, List, [], ◌∷◌, ◌++◌, length, map, Option, Some, None, MatchOption, refl, sym, ap, subst, ◌∙◌, arith, append-nil}
 use Rattle.std.specs.List.{slice_get}
 use Rattle.std.specs.Option.{ForSome, option_map}
-use Rattle.std.proofs.lemmas.List.{get_or-map, length-map, length-take-le, take_more}
+use Rattle.std.proofs.lemmas.List.{length-map}
 use Rattle.std.proofs.lemmas.Bool.{cases_Bool, false≢true, ltb-false, ltb-true}
 use Rattle.lbk_rules.specs.declared.cells.Cell.{Cell}
 use Rattle.lbk_rules.specs.declared.verdicts.Kind.{Kind}
@@ -10,10 +10,9 @@ use Rattle.lbk_rules.specs.declared.verdicts.Kind.TheVariants as K
 use Rattle.lbk_rules.specs.declared.verdicts.Profile.{Profile}
 use Rattle.lbk_rules.specs.declared.verdicts.Verdict.{Verdict}
 use Rattle.lbk_rules.specs.Held.{answer_at, is_held, late_at, now_at}
-use Rattle.lbk_rules.specs.Units.{letter}
 use Rattle.lbk_rules.specs.Verdict.{verdict_between_in, verdict_in}
 use Rattle.lbk_rules.proofs.CoverLemmas.{answer_at-below, late_at-below}
-use Rattle.lbk_rules.proofs.MachineLemmas.{split-at, verdict_in-append}
+use Rattle.lbk_rules.proofs.MachineLemmas.{verdict_in-append}
 use Rattle.lbk_rules.proofs.StepLemmas.{AllCome, AllCome-end, AllCome-turn, IsTaken, answer_at-verdict, late_at-verdict}
 use Rattle.lbk_notation.specs.declared.findings.Outcome.{Outcome}
 use Rattle.lbk_notation.specs.declared.findings.Outcome.TheVariants.{Agree, Differ}
@@ -257,18 +256,6 @@ Knows-end cell form profile line cells n late end old middle new whole count lat
     IsOutcome-cleared cell form profile line new (λ k within. all k (omega arith))
     (Met-true cell form profile line (at n (Some end)) middle new (at-right cell profile line n (Some end) (omega arith) end_right) second
     (Met-true cell form profile line late old middle late_right first knows.true_of))
-
--- the text's cells around the one of the scalar at k
-pub cells-around : (cell : ℕ → Cell) (scalars : List ℕ) (k d : ℕ) (x : Cell) → k < length scalars → x ≡ cell (get_or scalars k d)
-    → (take k (map cell scalars) ++ x ∷ drop (k + 1) (map cell scalars) ≡ map cell scalars)
-    × (take k (map cell scalars) ++ x ∷ [] ≡ take (k + 1) (map cell scalars)) × (length (take k (map cell scalars)) ≡ k)
-cells-around cell scalars k d x within same =
-    let under : k < length (map cell scalars) = rw length-map within in
-    let here : x ≡ get_or (map cell scalars) k letter = same ∙ sym (get_or-map cell scalars k d letter within) in (
-      ap (λ y. take k (map cell scalars) ++ y ∷ drop (k + 1) (map cell scalars)) here ∙ split-at (map cell scalars) k letter under,
-      ap (λ y. take k (map cell scalars) ++ y ∷ []) here ∙ sym (take_more (map cell scalars) k letter under),
-      length-take-le k (map cell scalars) (omega arith),
-    )
 
 pub Met-at : (form : Form) (line : Line) (n : ℕ) (now : Option Verdict) (old new : Outcome)
     → MatchOption now (new ≡ old) (λ rules. Meets form line.marks n rules old new) → Met form line (at n now) old new

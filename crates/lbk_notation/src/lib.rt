@@ -25,7 +25,7 @@ pub use fault::LineFault;
 pub use files::replay;
 pub use findings::{Outcome, ReplayFault, Report, STREAM_MAX};
 pub use line::TestLine;
-pub use marking::mark_text;
+pub use marking::{mark_of, mark_text};
 pub use marks::{Form, Mark};
 pub use outcome::replay_line;
 pub use passages::push_passage_line;

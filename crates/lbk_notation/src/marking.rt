@@ -6,7 +6,7 @@ ghost use Rattle.lbk_notation.specs.Put.{put, mark_now};
 
 use super::line::TestLine;
 use super::marks::Mark;
-use lbk_rules::{CellSource, Kind, LateMachine, Profile, Verdict};
+use lbk_rules::{CellSource, Kind, Profile, Stepper, Verdict};
 use std::alloc::{AllocError, Global};
 
 /// The scalars of a text, and at each position what the rules say of it (UAX #14, section 6).
@@ -29,7 +29,7 @@ fn scalars_of(alloc: Global, text: &str) -> Result<Vec<char>, AllocError>
     text.chars().collect(alloc)
 }
 
-/// The marks of all positions. The machine keeps what it needs of the cells before.
+/// The marks of all positions. The stepper keeps what it needs of the scalars before.
 fn marks_of<C: CellSource>(
     alloc: Global,
     source: &C,
@@ -40,13 +40,13 @@ fn marks_of<C: CellSource>(
     ensures many { IfOk result (λ marks. length marks.items ≡ length scalars.now + 1) }
 {
     let mut marks = Vec::with_capacity(alloc, scalars.len() + 1)?;
-    let mut machine = LateMachine::start(profile);
+    let mut stepper = Stepper::start(source, profile);
     for scalar in scalars {
-        let out = machine.step(source.cell(*scalar));
+        let out = stepper.step(*scalar);
         put_late(&mut marks, out.late);
         marks.push(mark_now(out.now))?;
     }
-    let end = machine.finish();
+    let end = stepper.finish();
     put_late(&mut marks, end.late);
     marks.push(mark_of(end.end.kind))?;
     Ok(marks)
@@ -72,7 +72,8 @@ fn mark_now(now: Option<Verdict>) -> Mark
     }
 }
 
-pub(crate) fn mark_of(kind: Kind) -> Mark
+/// The mark of a position whose verdict is of this kind.
+pub fn mark_of(kind: Kind) -> Mark
     ensures { result ≡ mark_of kind }
 {
     match kind {

@@ -8,7 +8,7 @@ ghost use Rattle.lbk_notation.specs.Outcome.{IsOutcome};
 use super::findings::Outcome;
 use super::line::TestLine;
 use super::marks::{Form, Mark};
-use lbk_rules::{CellSource, Kind, LateMachine, Profile, Verdict};
+use lbk_rules::{CellSource, Kind, Profile, Stepper, Verdict};
 
 /// Compares the marks of a line with what the rules of the profile say of its scalars (UAX #14, section 6).
 ///
@@ -24,14 +24,14 @@ pub fn replay_line<C: CellSource>(
 {
     let scalars = line.scalars();
     let marks = line.marks();
-    let mut machine = LateMachine::start(profile);
+    let mut stepper = Stepper::start(cells, profile);
     let mut outcome = Outcome::Agree;
     for (position, scalar) in scalars.iter().enumerate() {
-        let out = machine.step(cells.cell(*scalar));
+        let out = stepper.step(*scalar);
         outcome = met_late(outcome, form, marks, out.late);
         outcome = met_now(outcome, form, marks, position, out.now);
     }
-    let end = machine.finish();
+    let end = stepper.finish();
     outcome = met_late(outcome, form, marks, end.late);
     met_now(outcome, form, marks, scalars.len(), Some(end.end))
 }

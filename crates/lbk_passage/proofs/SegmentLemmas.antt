@@ -1,10 +1,10 @@
 -- The segments of a passage, as its positions are decided one after another.
-use Rattle.std.proofs.Common.{◌≡◌, ℕ, ◌+◌, ◌≤◌, Bool, true, false, cond, Option, Some, None, List, [], ◌∷◌, ◌++◌, map, length, reverse, append_assoc, encode_utf8_all, refl, sym, ap, ap₂, subst, ◌∙◌, arith}
+use Rattle.std.proofs.Common.{◌≡◌, ℕ, ◌+◌, ◌^◌, ◌<◌, ◌≤◌, Bool, true, false, cond, Option, Some, None, List, [], ◌∷◌, ◌++◌, map, length, reverse, append_assoc, encode_utf8_all, refl, sym, ap, ap₂, subst, ◌∙◌, arith}
 use Rattle.std.specs.Char.{encode_utf8}
 use Rattle.std.specs.Option.{option_map}
 use Rattle.std.specs.Str.{IsUtf8, chars}
 use Rattle.std.proofs.lemmas.Bool.{false≢true}
-use Rattle.std.proofs.lemmas.List.{append-nil, length-append, length-map, length_push, map-append, nil_from_length}
+use Rattle.std.proofs.lemmas.List.{append-nil, length-append, length_push, map-append, nil_from_length}
 use Rattle.std.proofs.lemmas.Str.{IsUtf8-past_char, chars-nil, chars_past_char, encodes-chars, len_utf8_bounds, length-encode}
 use Rattle.lbk_rules.specs.declared.cells.Cell.{Cell}
 use Rattle.lbk_rules.specs.declared.verdicts.Profile.{Profile}
@@ -165,12 +165,12 @@ AddsUp-end profile cell end before at cut all late late_same adds_up =
     ∙ ap (λ o. cut.segments ++ to_come o cut (λ start. ending start at end (λ _. []))) late_same
     ∙ adds_up.joined
 
--- The loop: what was cut, where `rest` is left of the text and begins at the offset `at`. Fits: what the machine knows
--- of the cells that it has taken
-pub record CutLoop (Fits : List Cell → Type 0) (profile : Profile) (cell : ℕ → Cell) (end : Verdict) (text : List ℕ) (cut : Cut) (at : ℕ) (rest : List ℕ) : Type 0 where
+-- The loop: what was cut, where `rest` is left of the text and begins at the offset `at`. Fits: what is known of
+-- the scalars that were taken
+pub record CutLoop (Fits : List ℕ → Type 0) (profile : Profile) (cell : ℕ → Cell) (end : Verdict) (text : List ℕ) (cut : Cut) (at : ℕ) (rest : List ℕ) : Type 0 where
   pub before : List ℕ
-  pub fits : Fits (map cell before)
-  pub few : length (map cell before) ≤ at
+  pub fits : Fits before
+  pub few : length before ≤ at
   pub within : at + length rest ≡ length text
   pub utf8 : IsUtf8 rest
   pub adds_up : AddsUp profile cell end before at (chars rest) cut (segments_of (ended end (marks profile cell (chars text))))
@@ -178,7 +178,7 @@ pub record CutLoop (Fits : List Cell → Type 0) (profile : Profile) (cell : ℕ
 some-chars : (text : List ℕ) → IsUtf8 text → (length text ≡ 0 → ⊥) → chars text ≡ [] → ⊥
 some-chars text utf8 some none = some (ap length (sym (encodes-chars text utf8)) ∙ ap (λ cs. length (encode_utf8_all cs)) none)
 
-pub CutLoop-start : (Fits : List Cell → Type 0) (profile : Profile) (cell : ℕ → Cell) (end : Verdict) (text : List ℕ) (cut : Cut) (at : ℕ) (rest : List ℕ)
+pub CutLoop-start : (Fits : List ℕ → Type 0) (profile : Profile) (cell : ℕ → Cell) (end : Verdict) (text : List ℕ) (cut : Cut) (at : ℕ) (rest : List ℕ)
     → IsUtf8 text → (length text ≡ 0 → ⊥) → Fits [] → cut ≡ record { segments = []; start = 0; held = 0 }
     → at ≡ 0 → rest ≡ text → CutLoop Fits profile cell end text cut at rest
 CutLoop-start Fits profile cell end text cut at rest utf8 some fits fresh first whole =
@@ -194,38 +194,35 @@ CutLoop-start Fits profile cell end text cut at rest utf8 some fits fresh first 
       adds_up = subst (λ (r : List ℕ). AddsUp profile cell end [] at (chars r) cut all) (sym whole) placed;
     }
 
-pub CutLoop-step : (Fits Next : List Cell → Type 0) (profile : Profile) (cell : ℕ → Cell) (end : Verdict) (text : List ℕ) (cut : Cut) (at place after c : ℕ) (rest more : List ℕ)
-    (this : Cell) (now : Option Verdict) (late : Option (ℕ × Verdict))
-    → ((cells others : List Cell) → Fits cells → now ≡ now_at profile cells (this ∷ others))
-    → ((cells others : List Cell) → Fits cells → late ≡ late_at profile cells this others)
-    → ((cells : List Cell) → Fits cells → Next (cells ++ this ∷ []))
-    → this ≡ cell c → place ≡ at → rest ≡ encode_utf8 c ++ more → after ≡ at + length (encode_utf8 c)
+pub CutLoop-step : (Fits Next : List ℕ → Type 0) (profile : Profile) (cell : ℕ → Cell) (end : Verdict) (text : List ℕ) (cut : Cut) (at place after c : ℕ) (rest more : List ℕ)
+    (now : Option Verdict) (late : Option (ℕ × Verdict))
+    → ((taken : List ℕ) (others : List Cell) → Fits taken → length taken < 18446744073709551615 → now ≡ now_at profile (map cell taken) (cell c ∷ others))
+    → ((taken : List ℕ) (others : List Cell) → Fits taken → length taken < 18446744073709551615 → late ≡ late_at profile (map cell taken) (cell c) others)
+    → ((taken : List ℕ) → Fits taken → length taken < 18446744073709551615 → Next (taken ++ c ∷ [])) → length text < 2 ^ 32
+    → place ≡ at → rest ≡ encode_utf8 c ++ more → after ≡ at + length (encode_utf8 c)
     → CutLoop Fits profile cell end text cut at rest
     → CutLoop Next profile cell end text (met place now (answered late cut)) after more
-CutLoop-step Fits Next profile cell end text cut at place after c rest more this now late nows lates fit same here splits further l =
+CutLoop-step Fits Next profile cell end text cut at place after c rest more now late nows lates fit few here splits further l =
     let all = segments_of (ended end (marks profile cell (chars text))) in
-    let left = map cell l.before in
     let on = l.before ++ c ∷ [] in
     let others = map cell (chars more) in
     let begins : chars rest ≡ c ∷ chars more = chars_past_char rest more c l.utf8 splits in
     let held = subst (λ (cs : List ℕ). AddsUp profile cell end l.before at cs cut all) begins l.adds_up in
-    let now_same = nows left others l.fits ∙ ap (λ x. now_at profile left (x ∷ others)) same in
-    let late_same = lates left others l.fits ∙ ap (λ x. late_at profile left x others) same in
-    let stepped = AddsUp-step profile cell end l.before at c (chars more) cut all now late now_same late_same held in
+    let short : length l.before < 18446744073709551615 = omega (arith, l.few, l.within) in
+    let stepped = AddsUp-step profile cell end l.before at c (chars more) cut all now late (nows l.before others l.fits short) (lates l.before others l.fits short) held in
     let moved = subst (λ (n : ℕ). AddsUp profile cell end on n (chars more) (met at now (answered late cut)) all) (sym further) stepped in
     let width : 1 ≤ length (encode_utf8 c) = (let bounds = len_utf8_bounds c in omega (arith, length-encode c, bounds.0)) in
-    let taken : left ++ this ∷ [] ≡ map cell on = ap (λ x. left ++ x ∷ []) same ∙ sym (map-append cell l.before (c ∷ [])) in
     record {
       before = on;
-      fits = subst Next taken (fit left l.fits);
-      few = omega (arith, length-map on cell, length-map l.before cell, length_push l.before c, l.few);
+      fits = fit l.before l.fits short;
+      few = omega (arith, length_push l.before c, l.few);
       within = omega (arith, length-append (encode_utf8 c) more, ap length splits, l.within);
       utf8 = IsUtf8-past_char rest more c l.utf8 splits;
       adds_up = subst (λ (n : ℕ). AddsUp profile cell end on after (chars more) (met n now (answered late cut)) all) (sym here) moved;
     }
 
-pub CutLoop-end : (Fits : List Cell → Type 0) (profile : Profile) (cell : ℕ → Cell) (end : Verdict) (text : List ℕ) (cut : Cut) (at : ℕ) (rest : List ℕ) (late : Option (ℕ × Verdict))
-    → ((cells : List Cell) → Fits cells → late ≡ answer_at profile cells [])
+pub CutLoop-end : (Fits : List ℕ → Type 0) (profile : Profile) (cell : ℕ → Cell) (end : Verdict) (text : List ℕ) (cut : Cut) (at : ℕ) (rest : List ℕ) (late : Option (ℕ × Verdict))
+    → ((taken : List ℕ) → Fits taken → late ≡ answer_at profile (map cell taken) [])
     → length rest ≡ 0 → CutLoop Fits profile cell end text cut at rest
     → (cut_at (length text) end (answered late cut)).segments ≡ segments_of (ended end (marks profile cell (chars text)))
 CutLoop-end Fits profile cell end text cut at rest late lates none l =
@@ -234,7 +231,7 @@ CutLoop-end Fits profile cell end text cut at rest late lates none l =
     let place : at ≡ length text = omega (arith, l.within) in
     let last = subst (λ (cs : List ℕ). AddsUp profile cell end l.before at cs cut all) no_chars l.adds_up in
     let placed = subst (λ (n : ℕ). AddsUp profile cell end l.before n [] cut all) place last in
-    AddsUp-end profile cell end l.before (length text) cut all late (lates (map cell l.before) l.fits) placed
+    AddsUp-end profile cell end l.before (length text) cut all late (lates l.before l.fits) placed
 
 -- an empty text has none
 pub segments-none : (profile : Profile) (cell : ℕ → Cell) (end : Verdict) (text : List ℕ) → length text ≡ 0

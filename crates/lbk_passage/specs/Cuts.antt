@@ -3,7 +3,7 @@ use Rattle.std.specs.Prelude.{ℕ, if◌then◌else◌, Option, Some, None, List
 use Rattle.lbk_rules.specs.declared.verdicts.Verdict.{Verdict}
 use Rattle.lbk_passage.specs.declared.passage.Segment.{Segment}
 use Rattle.lbk_passage.specs.declared.segments.Pending.{Pending}
-use Rattle.lbk_passage.specs.Breaks.{is_no}
+use Rattle.lbk_rules.specs.Breaks.{is_no}
 use Rattle.lbk_passage.specs.Segments.{segment_by}
 
 -- the segments so far, where the one in progress begins, and the position that was held last

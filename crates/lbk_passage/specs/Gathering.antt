@@ -13,7 +13,7 @@ use Rattle.lbk_rules.specs.declared.cells.Cell.{Cell}
 use Rattle.lbk_rules.specs.declared.verdicts.Profile.{Profile}
 use Rattle.lbk_rules.specs.declared.verdicts.Verdict.{Verdict}
 use Rattle.lbk_passage.specs.Faults.{passage_fault}
-use Rattle.lbk_passage.specs.Marks.{marks, ended}
+use Rattle.lbk_rules.specs.Marks.{marks, ended}
 use Rattle.lbk_passage.specs.Stays.{ends_at, stays, last_class, IsWholeText}
 use Rattle.lbk_passage.specs.State.{State, state_with}
 use Rattle.lbk_passage.specs.Next.{fault_in, ends_run, KeepsAhead, IsDone, ComesFirst, Stops, Costs}

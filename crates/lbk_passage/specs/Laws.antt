@@ -3,7 +3,7 @@ use Rattle.std.specs.Prelude.{◌≡◌, ℕ, List, ◌++◌}
 use Rattle.std.specs.List.{flat_map}
 use Rattle.lbk_rules.specs.declared.cells.Cell.{Cell}
 use Rattle.lbk_rules.specs.declared.verdicts.Profile.{Profile}
-use Rattle.lbk_passage.specs.Marks.{Marked, scalars_of}
+use Rattle.lbk_rules.specs.Marks.{Marked, scalars_of}
 use Rattle.lbk_passage.specs.Passages.{passages}
 
 -- the passages of two texts joined are some of the earlier one, and then those of the later one alone

@@ -1,7 +1,7 @@
 -- What a reader has to believe.
-pub mod Marks
+pub use Rattle.lbk_rules.specs.Marks
 pub mod Passages
-pub mod Breaks
+pub use Rattle.lbk_rules.specs.Breaks
 pub mod Segments
 pub mod Pieces
 pub mod State

@@ -5,7 +5,7 @@ use Rattle.lbk_rules.specs.declared.cells.Cell.{Cell}
 use Rattle.lbk_rules.specs.declared.verdicts.Kind.{Kind}
 use Rattle.lbk_rules.specs.declared.verdicts.Kind.TheVariants.{No, May, Must}
 use Rattle.lbk_rules.specs.declared.verdicts.Profile.{Profile}
-use Rattle.lbk_passage.specs.Marks.{Marked, marks}
+use Rattle.lbk_rules.specs.Marks.{Marked, marks}
 
 abbrev pub is_must : Kind → Bool
 is_must No = false

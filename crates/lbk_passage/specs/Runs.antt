@@ -3,7 +3,7 @@ use Rattle.std.specs.Prelude.{◌≡◌, ℕ, List, [], ◌∷◌, ◌++◌, IsU
 use Rattle.std.specs.List.{flat_map}
 use Rattle.lbk_rules.specs.declared.cells.Cell.{Cell}
 use Rattle.lbk_rules.specs.declared.verdicts.Profile.{Profile}
-use Rattle.lbk_passage.specs.Marks.{Marked, scalars_of}
+use Rattle.lbk_rules.specs.Marks.{Marked, scalars_of}
 use Rattle.lbk_passage.specs.Passages.{passages}
 
 -- the passages given, `before` being their scalars, are the first ones of every text that goes on with the scalar at

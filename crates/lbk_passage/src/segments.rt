@@ -7,7 +7,7 @@ ghost use Rattle.lbk_passage.specs.Marks.{marks, ended};
 ghost use Rattle.lbk_passage.specs.Segments.{segments_of};
 
 use crate::passage::Segment;
-use lbk_rules::{CellSource, Kind, LateMachine, Profile, Verdict};
+use lbk_rules::{CellSource, Kind, Profile, Stepper, Verdict};
 use std::alloc::AllocError;
 
 /// Writes the segments of a passage in place of what the list held: those of its text alone, the last with the
@@ -27,14 +27,14 @@ pub fn cut_lines<C: CellSource>(
     if text.is_empty() {
         return Ok(());
     }
-    let mut machine = LateMachine::start(profile);
+    let mut stepper = Stepper::start(cells, profile);
     let mut pending = Pending { start: 0, held: 0 };
     for (at, c) in text.char_indices() {
-        let out = machine.step(cells.cell(c));
+        let out = stepper.step(c);
         pending.answer(out.late, segments)?;
         pending.decide(at as u32, out.now, segments)?;
     }
-    pending.answer(machine.finish().late, segments)?;
+    pending.answer(stepper.finish().late, segments)?;
     pending.cut(text.len() as u32, end, segments)
 }
 
@@ -49,6 +49,7 @@ struct Pending {
 
 impl Pending {
     /// Takes the answer to the position that was held, where it comes.
+    #[inline]
     fn answer(
         &mut self,
         late: Option<(u64, Verdict)>,
@@ -64,6 +65,7 @@ impl Pending {
     }
 
     /// Takes the verdict of the position `at`, unless it is held.
+    #[inline]
     fn decide(
         &mut self,
         at: u32,
@@ -83,6 +85,7 @@ impl Pending {
     }
 
     /// Ends the segment in progress at `at`, if a line may break there.
+    #[inline]
     fn cut(
         &mut self,
         at: u32,

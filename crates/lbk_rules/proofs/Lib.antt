@@ -5,6 +5,8 @@ pub mod MachineLemmas
 pub mod PagesLemmas
 pub mod PagesOfText
 pub mod ParagraphLemmas
+pub mod KindsLemmas
+pub mod AheadLemmas
 pub mod AnnexLemmas
 pub mod WritingLemmas
 pub mod HeldLemmas
@@ -13,3 +15,8 @@ pub mod CoverLemmas
 pub mod UnansweredLemmas
 pub mod EndLemmas
 pub mod StepLemmas
+pub mod LeftLemmas
+pub mod RowsLemmas
+pub mod NormalLemmas
+pub mod RowMachineLemmas
+pub mod HoldsLemmas

@@ -16,7 +16,7 @@ use Rattle.lbk_rules.specs.declared.classes.Class.{Class}
 use Rattle.lbk_rules.specs.declared.classes.Quote.{Quote}
 use Rattle.lbk_rules.specs.Pages.{AreSame, IsPageOf, cell_in, digest_of, page_at}
 
-class_Decides : (one other : Class) → Decides (sameb class_type one other) (one ≡ other)
+pub class_Decides : (one other : Class) → Decides (sameb class_type one other) (one ≡ other)
 class_Decides one other = (same_true class_type tt one other, true_same class_type one other)
 
 quote_Decides : (one other : Quote) → Decides (sameb quote_type one other) (one ≡ other)
@@ -27,7 +27,7 @@ cell_from_fields : (one other : Cell) → one.class ≡ other.class → one.wide
 cell_from_fields one other class wide pict_cn quote letter = λ i. record { class = class i; wide = wide i; pict_cn = pict_cn i; quote = quote i; letter = letter i }
 
 -- `==` of two cells is true exactly where they are equal
-cell_Decides : (one other : Cell) → Decides (eq-value.it one other) (one ≡ other)
+pub cell_Decides : (one other : Cell) → Decides (eq-value.it one other) (one ≡ other)
 cell_Decides one other =
     Decides-like _
     (λ p. cell_from_fields one other p.0 p.1.0 p.1.1.0 p.1.1.1.0 p.1.1.1.1)
@@ -61,7 +61,7 @@ pub page_at-last : (numbers : List ℕ) (n i : ℕ) (after : List (List Cell)) �
 page_at-last numbers n i after here = ap (λ m. get_or after m []) (get_or_push numbers n 0 i here)
 
 -- a scalar value is below 110000
-scalar_below : (code : ℕ) → IsScalar code → code < 1114112
+pub scalar_below : (code : ℕ) → IsScalar code → code < 1114112
 scalar_below code scalar = elim (scalar_cases code scalar) [ inl low ↦ omega arith | inr high ↦ high.1 ]
 
 -- where each of the 4,352 pages is that of its codes, each scalar value has its cell

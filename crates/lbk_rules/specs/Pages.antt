@@ -1,5 +1,5 @@
 -- Pages of cells: each holds the cells of 256 codes that follow one another.
-use Rattle.std.specs.Prelude.{◌≡◌, ◌≢◌, ℕ, ◌+◌, ◌*◌, ◌/◌, ◌%◌, ◌^◌, ◌<◌, ◌≤◌, List, [], fold, AllPairs, slice_index, slice_index_or}
+use Rattle.std.specs.Prelude.{◌≡◌, ◌≢◌, ℕ, ◌+◌, ◌*◌, ◌/◌, ◌%◌, ◌^◌, ◌<◌, ◌≤◌, List, [], bit_xor, fold, AllPairs, slice_index, slice_index_or}
 use Rattle.std.specs.Int.{from_bool}
 use Rattle.lbk_rules.specs.declared.cells.Cell.{Cell}
 use Rattle.lbk_rules.specs.declared.classes.Quote.{Quote}
@@ -45,7 +45,7 @@ cell_number cell =
 
 -- a digest after one more cell
 abbrev pub digest_with : ℕ → Cell → ℕ
-digest_with digest cell = ((digest * 0x100_0000_01b3) % 2 ^ 64 + cell_number cell) % 2 ^ 64
+digest_with digest cell = ((bit_xor digest (digest / 2 ^ 64) * 0x2360_ed05_1fc6_5da4_4385_df64_9fcc_f645) % 2 ^ 128 + cell_number cell) % 2 ^ 128
 
 -- the digest of a page: pages that are equal have the same
 unfoldable pub digest_of : List Cell → ℕ

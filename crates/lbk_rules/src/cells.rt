@@ -1,9 +1,10 @@
-ghost use Rattle.std.specs.Prelude.{◌≡◌, ℕ, ◌&&◌, not};
+ghost use Rattle.std.specs.Prelude.{◌≡◌, ℕ, ◌&&◌, not, IfSome};
 ghost use Rattle.lbk_rules.specs.Classes.{is};
 ghost use Rattle.lbk_rules.specs.Sides.{opening, closing};
 ghost use Rattle.lbk_rules.specs.Units.{unit};
 
 use crate::classes::{Class, Quote};
+use crate::step_table::StepTable;
 
 /// What the rules see of a scalar value.
 #[derive(Clone, Copy, PartialEq, Eq, Debug)]
@@ -61,10 +62,18 @@ const LETTER: Cell = Cell {
 /// Something that knows the cell of each scalar value.
 pub trait CellSource {
     ghost use Rattle.lbk_rules.specs.declared.cells.Cell.{Cell};
+    ghost use Rattle.lbk_rules.specs.RowMachineFits.{IsTableOf};
 
     ghost cell_of: { Self → ℕ → Cell };
 
     /// The cell of `c`.
     fn cell(&self, c: char) -> Cell
         ensures { result ≡ cell_of self.now c };
+
+    /// The table of steps over these cells, if there is one. A text is decided without it too, only slower.
+    fn step_table(&self) -> Option<&StepTable>
+        ensures { IfSome result (λ table. IsTableOf table.now (cell_of self.now)) }
+    {
+        None
+    }
 }

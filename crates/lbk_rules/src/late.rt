@@ -167,7 +167,7 @@ impl LateMachine {
 }
 
 /// The verdict, unless rule 15b gives it.
-fn unless_held(verdict: Verdict) -> Option<Verdict>
+pub(crate) fn unless_held(verdict: Verdict) -> Option<Verdict>
     ensures { result ≡ (if is_15b verdict.rule then None else Some verdict) }
 {
     if verdict.rule.is_15b() {

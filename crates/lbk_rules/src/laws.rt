@@ -1,6 +1,6 @@
 //! What the verdicts of a text have in common, over the definitions alone. Each law is the contract of a
 //! function that does nothing.
-ghost use Rattle.std.specs.Prelude.{◌≡◌, ℕ, ◌+◌, ◌-◌, ◌<◌, ◌≤◌, ◌⊎◌, false, not, List, [], ◌∷◌, ◌++◌, length, reverse, take, drop, IsSome, IsTrue, Some, None};
+ghost use Rattle.std.specs.Prelude.{◌≡◌, ℕ, ◌+◌, ◌-◌, ◌<◌, ◌≤◌, ◌⊎◌, false, not, List, [], ◌∷◌, ◌++◌, length, map, reverse, take, drop, IsSome, IsTrue, Some, None};
 ghost use Rattle.lbk_rules.specs.declared.cells.Cell.{Cell};
 ghost use Rattle.lbk_rules.specs.declared.late.LateMachine.{LateMachine};
 ghost use Rattle.lbk_rules.specs.declared.verdicts.Kind.TheVariants.{No, Must};
@@ -11,6 +11,7 @@ ghost use Rattle.lbk_rules.specs.Classes.{mark};
 ghost use Rattle.lbk_rules.specs.Ends.{ends_line, ends_between, end_after, end_of_text, joins, joined_after};
 ghost use Rattle.lbk_rules.specs.Held.{is_held, unanswered, answer_at, late_at, now_at};
 ghost use Rattle.lbk_rules.specs.LateFits.{LateFits, held_position};
+ghost use Rattle.lbk_rules.specs.Normal.{normal};
 ghost use Rattle.lbk_rules.specs.Once.{named, came_late, came_now};
 ghost use Rattle.lbk_rules.specs.Units.{heads, next_unit};
 ghost use Rattle.lbk_rules.specs.Verdict.{verdict, verdict_in, verdict_between, verdict_between_in};
@@ -150,4 +151,15 @@ pub fn answered_once()
         → came_late (answer_at profile cells []) ≡ named (unanswered profile cells) }
     ensures first { (cells right : List Cell) → (unanswered First cells ≡ None)
         × (now_at First cells right ≡ Some (verdict_between_in First cells right)) }
+{}
+
+/// What no rule asks of a cell changes no verdict, in either profile, nor which positions are held: a text
+/// may be decided by its normal cells (UAX #14, section 6).
+pub fn normal_cells()
+    ensures between { (profile : Profile) (left right : List Cell)
+        → verdict_between_in profile (map normal left) (map normal right) ≡ verdict_between_in profile left right }
+    ensures at { (profile : Profile) (cells : List Cell) (k : ℕ)
+        → verdict_in profile (map normal cells) k ≡ verdict_in profile cells k }
+    ensures held { (profile : Profile) (left right : List Cell)
+        → is_held profile (map normal left) (map normal right) ≡ is_held profile left right }
 {}

@@ -4,19 +4,30 @@
 //! whether the line may break, must break or must not, and the rule that says so.
 #![tactic(auto)]
 
+mod ahead;
 pub mod annex;
+mod breaks;
 mod cells;
 mod classes;
 mod evaluator;
 mod facts;
 mod forward;
+mod kind_table;
+mod kinds;
 mod late;
 pub mod laws;
 mod pages;
 mod resolution;
+mod row_stepper;
+mod rows;
+mod runs;
+mod step_table;
+mod stepper;
 mod table;
 mod verdicts;
 
+pub use ahead::AheadMachine;
+pub use breaks::Break;
 pub use cells::{Cell, CellSource};
 pub use classes::{Class, Quote};
 pub use evaluator::{decide, decide_in};
@@ -24,6 +35,9 @@ pub use forward::{Machine, decide_all};
 pub use late::{End, LateMachine, Out, decide_all_in};
 pub use pages::CellPages;
 pub use resolution::resolve;
+pub use row_stepper::RowStepper;
+pub use step_table::{RowMachine, StepTable};
+pub use stepper::Stepper;
 pub use verdicts::{Kind, Profile, Rule, Verdict};
 
 #[cfg(test)]

@@ -1,15 +1,19 @@
 //! The cells of all scalar values, in pages of 256 that are kept once where they are equal.
 
-ghost use Rattle.std.specs.Prelude.{◌≡◌, ℕ, ◌+◌, ◌*◌, ◌<◌, ◌≤◌, length, slice_index, IfOk};
+ghost use Rattle.std.specs.Prelude.{◌≡◌, ℕ, ◌+◌, ◌*◌, ◌<◌, ◌≤◌, length, slice_index, Some, IfOk};
 ghost use Rattle.std.specs.Char.{IsScalar};
-ghost use Rattle.lbk_rules.specs.Pages.{AreDistinct, AreSame, IsPageOf};
+ghost use Rattle.lbk_rules.specs.Pages.{AreDistinct, AreSame, IsPageOf, cell_in};
+ghost use Rattle.lbk_rules.specs.declared.step_table.StepTable.{StepTable};
+ghost use Rattle.lbk_rules.specs.Normal.{normal};
+ghost use Rattle.lbk_rules.specs.RowMachineFits.{normal_in};
 
 mod kept;
 
 use crate::cells::{Cell, CellSource};
-use crate::resolution::resolve;
+use crate::runs::{CellRun, CellRuns};
+use crate::step_table::StepTable;
 use kept::Kept;
-use lbk_ucd::Tables;
+use lbk_ucd::{Places, Tables};
 use std::alloc::{AllocError, Global};
 
 /// How many codes have their cells in one page.
@@ -21,58 +25,20 @@ const PAGE_COUNT: u32 = 4352;
 /// The cells of 256 codes that follow one another.
 type Page = [Cell; PAGE_LENGTH];
 
-/// The cell that all codes from `first` to `last` have.
-#[derive(Clone, Copy)]
-struct CellRun {
-    first: u32,
-    last: u32,
-    cell: Cell,
-}
-
-/// Something that knows the cells of ranges of codes.
-trait CellRuns {
-    ghost use Rattle.lbk_rules.specs.declared.cells.Cell.{Cell};
-    ghost use Rattle.lbk_rules.specs.Pages.{AreSame};
-
-    ghost cell_at: { Self → ℕ → Cell };
-
-    /// The cell of a code, and a last code up to which all codes have it.
-    fn cell_run(&self, code: u32) -> CellRun
-        requires { code ≤ 0x10FFFF }
-        ensures ends { (result.first ≡ code) × (code ≤ result.last) × (result.last ≤ 0x10FFFF) }
-        ensures same { AreSame (cell_at self.now) result.first result.last result.cell };
-}
-
-impl CellRuns for Tables {
-    ghost use Rattle.lbk_rules.specs.Resolve.{cell_of_tables};
-
-    ghost cell_at = { cell_of_tables };
-
-    #[tactic(auto, unfolding(crate::specs::Resolve::cell_of_tables))]
-    fn cell_run(&self, code: u32) -> CellRun {
-        let run = self.run(code);
-        CellRun {
-            first: code,
-            last: run.last,
-            cell: resolve(
-                run.line_break,
-                run.east_asian,
-                run.category,
-                run.is_pictographic,
-            ),
-        }
-    }
-}
-
 /// The cells of all scalar values, for a look-up of two reads: the number of a page, and a cell in
-/// it. Equal pages are kept once.
+/// it. Equal pages are kept once. Beside them the table of steps over these cells, by which positions
+/// are decided fast.
 #[derive(Debug, Drop)]
 pub struct CellPages {
     numbers: Vec<u16>,
     pages: Vec<Page>,
+    /// None comes only if there were more rows than a table can name.
+    table: Option<StepTable>,
     ghost complete: { length numbers.items ≡ 4352 },
     ghost numbered: { (k : ℕ) → k < 4352 → slice_index numbers.items k < length pages.items },
     ghost distinct: { AreDistinct pages.items },
+    ghost same: { (t : StepTable) (code : ℕ) → table ≡ Some t → IsScalar code
+        → normal_in t code ≡ normal (cell_in numbers.items pages.items code) },
 }
 
 impl CellPages {
@@ -95,7 +61,7 @@ impl CellPages {
     {
         let mut kept = Kept::new(alloc);
         let mut numbers = Vec::with_capacity(alloc, PAGE_COUNT as usize)?;
-        let mut run = source.cell_run(0);
+        let mut run = source.cell_run(0, Places::START);
         let mut page = [run.cell; PAGE_LENGTH];
         for k in 0..PAGE_COUNT {
             let first = 256 * k;
@@ -108,9 +74,11 @@ impl CellPages {
                 numbers.push(kept.number_of(&page)?)?;
             }
         }
+        let table = StepTable::build(alloc, source)?;
         Ok(CellPages {
             numbers,
             pages: kept.into_pages(),
+            table,
         })
     }
 }
@@ -125,6 +93,14 @@ impl CellSource for CellPages {
         let code = c as usize;
         let number = self.numbers[code / PAGE_LENGTH];
         self.pages[usize::from(number)][code % PAGE_LENGTH]
+    }
+
+    #[tactic(auto, unfolding(crate::specs::CellPages::page_cell, crate::specs::RowFits::AreKindsOf, crate::specs::RowMachineFits::IsTableOf, crate::specs::RowMachineFits::normal_in))]
+    fn step_table(&self) -> Option<&StepTable> {
+        match &self.table {
+            Some(table) => Some(table),
+            None => None,
+        }
     }
 }
 
@@ -142,7 +118,7 @@ fn fill<C: CellRuns>(page: &mut Page, source: &C, run: CellRun, first: u32) -> C
     for (k, cell) in page.iter_mut().enumerate() {
         let code = first + k as u32;
         if run.last < code {
-            run = source.cell_run(code);
+            run = source.cell_run(code, run.places);
         }
         *cell = run.cell;
     }

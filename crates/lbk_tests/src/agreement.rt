@@ -1,6 +1,10 @@
 //! The machines say of every short list of cells what the evaluator says.
 
-use lbk_rules::{Cell, Class, LateMachine, Machine, Profile, Quote, Verdict, decide, decide_in};
+use lbk_rules::{
+    Cell, CellPages, CellSource, Class, LateMachine, Machine, Profile, Quote, Stepper, Verdict,
+    decide, decide_in,
+};
+use lbk_ucd::{Files, Tables};
 use std::alloc::{AllocError, Global};
 use std::process::Abort;
 use std::test::Fail;
@@ -68,7 +72,7 @@ fn mark(quote: Quote) -> Cell {
     cell
 }
 
-/// The classes without flags, and one cell for each flag that a rule asks of.
+/// The classes without flags, and one cell for each flag that a rule asks of, but for quotation marks.
 fn all_cells(alloc: Global) -> Result<Vec<Cell>, AllocError> {
     let mut cells = Vec::new(alloc);
     for class in CLASSES {
@@ -144,17 +148,111 @@ fn check_late_machine(rt: &impl Abort, profile: Profile, cells: &[Cell; 3]) {
     }
 }
 
-#[test]
-fn late_machine(rt: HostRuntime) -> Result<(), Fail> {
-    let mut cells = all_cells(rt.alloc())?;
+/// All these, and the quotation marks that open and close.
+fn all_cells_and_marks(alloc: Global) -> Result<Vec<Cell>, AllocError> {
+    let mut cells = all_cells(alloc)?;
     cells.push(mark(Quote::Initial))?;
     cells.push(mark(Quote::Final))?;
+    Ok(cells)
+}
+
+#[test]
+fn late_machine(rt: HostRuntime) -> Result<(), Fail> {
+    let cells = all_cells_and_marks(rt.alloc())?;
     assert_eq!(rt; cells.len(), 43);
     for first in &cells {
         for second in &cells {
             for third in &cells {
                 check_late_machine(&rt, Profile::First, &[*first, *second, *third]);
                 check_late_machine(&rt, Profile::Second, &[*first, *second, *third]);
+            }
+        }
+    }
+    Ok(())
+}
+
+/// Property files by which the codes from 0100 to 012A have all these cells and marks, in their order.
+const EACH_ONCE: Files<'static> = Files {
+    line_break: b"\
+0100;AL
+0101;B2
+0102;BA
+0103;BB
+0104;BK
+0105;CB
+0106;CL
+0107;CM
+0108;CP
+0109;CR
+010A;EB
+010B;EM
+010C;EX
+010D;GL
+010E;H2
+010F;H3
+0110;HL
+0111;HY
+0112;ID
+0113;IN
+0114;IS
+0115;JL
+0116;JT
+0117;JV
+0118;LF
+0119;NL
+011A;NS
+011B;NU
+011C;OP
+011D;PO
+011E;PR
+011F;QU
+0120;RI
+0121;SP
+0122;SY
+0123;WJ
+0124;ZW
+0125;ZWJ
+0126;OP
+0127;CP
+0128;ID
+0129;QU
+012A;QU
+",
+    east_asian: b"0126..0127;W\n",
+    category: b"0129;Pi\n012A;Pf\n",
+    emoji: b"0128;Extended_Pictographic\n",
+};
+
+fn check_stepper(rt: &impl Abort, pages: &CellPages, profile: Profile, text: &[char; 3]) {
+    let mut stepper = Stepper::start(pages, profile);
+    let mut machine = LateMachine::start(profile);
+    for (k, c) in (0u64..).zip(text) {
+        assert_eq!(rt; machine.steps(), k);
+        let out = machine.step(pages.cell(*c));
+        assert_eq!(rt; stepper.step(*c), out, "{c:?} of {text:?}, {profile:?}");
+    }
+    assert_eq!(rt;
+        stepper.finish(),
+        machine.finish(),
+        "the end of {text:?}, {profile:?}"
+    );
+}
+
+#[test]
+fn stepper_by_rows(rt: HostRuntime) -> Result<(), Fail> {
+    let tables = Tables::read(rt.alloc(), EACH_ONCE)?;
+    let pages = CellPages::build(rt.alloc(), &tables)?;
+    assert!(rt; pages.step_table().is_some());
+    let cells = all_cells_and_marks(rt.alloc())?;
+    for (c, cell) in ('\u{100}'..'\u{12B}').zip(&cells) {
+        assert_eq!(rt; pages.cell(c), *cell, "{c:?}");
+    }
+    for first in '\u{100}'..'\u{12B}' {
+        for second in '\u{100}'..'\u{12B}' {
+            for third in '\u{100}'..'\u{12B}' {
+                let text = [first, second, third];
+                check_stepper(&rt, &pages, Profile::First, &text);
+                check_stepper(&rt, &pages, Profile::Second, &text);
             }
         }
     }

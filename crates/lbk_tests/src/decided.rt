@@ -4,8 +4,8 @@ use crate::cells::cells_of;
 use crate::rows::{FIRST, SECOND, STEPS};
 use lbk_cmd::SAMPLE_FILES;
 use lbk_rules::{
-    Cell, CellPages, CellSource, Class, Kind, LateMachine, Profile, Rule, Verdict, decide,
-    decide_all, decide_all_in, decide_in,
+    Cell, CellPages, CellSource, Class, End, Kind, LateMachine, Out, Profile, Rule, Stepper,
+    Verdict, decide, decide_all, decide_all_in, decide_in,
 };
 use lbk_ucd::{Files, Tables};
 use std::alloc::{AllocError, Global};
@@ -114,15 +114,37 @@ fn steps_of(alloc: Global, profile: Profile, cells: &[Cell]) -> Result<String, A
     let mut steps = String::new(alloc);
     let mut machine = LateMachine::start(profile);
     for cell in cells {
-        let out = machine.step(*cell);
-        steps.push_str(out.now.map_or("-", |verdict| verdict.rule.label()))?;
-        push_late(&mut steps, out.late)?;
-        steps.push(' ')?;
+        push_step(&mut steps, machine.step(*cell))?;
     }
-    let end = machine.finish();
-    steps.push_str(end.end.rule.label())?;
-    push_late(&mut steps, end.late)?;
+    push_end(&mut steps, machine.finish())?;
     Ok(steps)
+}
+
+/// The same by a stepper over the scalars of a text.
+fn steps_over<C: CellSource>(
+    alloc: Global,
+    source: &C,
+    profile: Profile,
+    text: &str,
+) -> Result<String, AllocError> {
+    let mut steps = String::new(alloc);
+    let mut stepper = Stepper::start(source, profile);
+    for c in text.chars() {
+        push_step(&mut steps, stepper.step(c))?;
+    }
+    push_end(&mut steps, stepper.finish())?;
+    Ok(steps)
+}
+
+fn push_step(steps: &mut String, out: Out) -> Result<(), AllocError> {
+    steps.push_str(out.now.map_or("-", |verdict| verdict.rule.label()))?;
+    push_late(steps, out.late)?;
+    steps.push(' ')
+}
+
+fn push_end(steps: &mut String, end: End) -> Result<(), AllocError> {
+    steps.push_str(end.end.rule.label())?;
+    push_late(steps, end.late)
 }
 
 fn push_late(steps: &mut String, late: Option<(u64, Verdict)>) -> Result<(), AllocError> {
@@ -133,7 +155,7 @@ fn push_late(steps: &mut String, late: Option<(u64, Verdict)>) -> Result<(), All
     Ok(())
 }
 
-/// Compares the steps of the late machine over each text with those of its row.
+/// Compares the steps of the late machine and of a stepper over each text with those of its row.
 fn check_steps<C: CellSource>(
     rt: &impl Abort,
     alloc: Global,
@@ -145,6 +167,12 @@ fn check_steps<C: CellSource>(
         let cells = cells_of(alloc, source, text)?;
         let found = steps_of(alloc, profile, &cells)?;
         assert_eq!(rt; found.as_str(), *steps, "{profile:?}: {text:?}");
+        let found = steps_over(alloc, source, profile, text)?;
+        assert_eq!(rt;
+            found.as_str(),
+            *steps,
+            "the stepper, {profile:?}: {text:?}"
+        );
     }
     Ok(())
 }
@@ -162,6 +190,8 @@ fn sample_rows(rt: HostRuntime) -> Result<(), Fail> {
     check(&rt, rt.alloc(), &pages, Profile::First, &FIRST)?;
     check(&rt, rt.alloc(), &pages, Profile::Second, &SECOND)?;
     check_first(&rt, rt.alloc(), &pages, &FIRST)?;
+    check_steps(&rt, rt.alloc(), &pages, Profile::First, &FIRST)?;
+    check_steps(&rt, rt.alloc(), &pages, Profile::Second, &STEPS)?;
     Ok(())
 }
 

@@ -15,6 +15,8 @@ fn laws() {
     lbk_ucd::laws::shared_codes_are_held::<LineBreak>();
     lbk_ucd::laws::files_have_one_fault_or_none::<LineBreak>();
     lbk_ucd::laws::kept_rows_are_apart::<LineBreak>();
+    lbk_ucd::laws::lawful_files_want_memory();
+    lbk_ucd::laws::samples_are_lawful();
     lbk_rules::laws::paragraph();
     lbk_rules::laws::paragraph_between();
     lbk_rules::laws::look_ahead();
@@ -30,6 +32,7 @@ fn laws() {
     lbk_rules::laws::held_or_settled();
     lbk_rules::laws::machine_holds();
     lbk_rules::laws::answered_once();
+    lbk_rules::laws::normal_cells();
     annex::spaces();
     annex::indicators();
     annex::heads();

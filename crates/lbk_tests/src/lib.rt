@@ -4,11 +4,19 @@
 #[cfg(test)]
 mod agreement;
 #[cfg(test)]
+mod breaks;
+#[cfg(test)]
 mod cells;
 #[cfg(test)]
 mod commands;
 #[cfg(test)]
+mod cuts;
+#[cfg(test)]
 mod decided;
+#[cfg(test)]
+mod guide;
+#[cfg(test)]
+mod hostile;
 #[cfg(test)]
 mod laws;
 #[cfg(test)]
@@ -25,3 +33,7 @@ mod segment_lines;
 mod segmented;
 #[cfg(test)]
 mod shown;
+#[cfg(test)]
+mod stopped_writers;
+#[cfg(test)]
+mod tasks;

@@ -3,8 +3,8 @@
 use crate::cells::cells_of;
 use lbk_cmd::{SAMPLE_FILES, read_cells};
 use lbk_notation::{
-    Form, LineFault, Mark, TestLine, laws, mark_text, push_line, push_mark, push_passage_line,
-    push_scalar, read_back, read_line, read_passage_line, write_line,
+    Form, LineFault, Mark, TestLine, laws, mark_of, mark_text, push_line, push_mark,
+    push_passage_line, push_scalar, read_back, read_line, read_passage_line, write_line,
 };
 use lbk_rules::{Kind, Profile, Rule, Verdict, decide_all_in};
 use std::alloc::Global;
@@ -177,6 +177,9 @@ fn marking(rt: HostRuntime) -> Result<(), Fail> {
     let plain = write_line(rt.alloc(), &line, Form::Plain)?;
     let want = "× 0061 × 0062 × 0020 ÷ 0063 × 0064 ÷";
     assert_eq!(rt; plain.as_slice(), want.as_bytes());
+    assert_eq!(rt; mark_of(Kind::No), Mark::No);
+    assert_eq!(rt; mark_of(Kind::May), Mark::May);
+    assert_eq!(rt; mark_of(Kind::Must), Mark::Must);
     Ok(())
 }
 

@@ -1,10 +1,12 @@
 //! The passages that a segmenter gives up to its limit and before a fault, in both profiles and however the reads are
 //! cut, and what it answers then.
 
+use crate::rows::{FIRST, SECOND};
 use lbk_cmd::{SAMPLE_FILES, read_cells};
 use lbk_feed::devices::MemorySource;
 use lbk_passage::{PassageFault, Segmenter};
-use lbk_rules::{CellPages, Profile};
+use lbk_rules::{CellPages, CellSource, Profile};
+use lbk_ucd::Tables;
 use std::alloc::Global;
 use std::process::Abort;
 use std::test::Fail;
@@ -74,7 +76,7 @@ fn check(
         Err(fault) => assert_eq!(rt; fault, row.3),
         other => assert!(rt; false, "{other:?} in {row:?}"),
     }
-    for _ in 0..2 {
+    for _ in 0..3 {
         let again = segmenter.next(&mut source);
         assert!(rt;
             matches!(again, Err(PassageFault::Spent)),
@@ -84,17 +86,32 @@ fn check(
     Ok(())
 }
 
-const CUTTINGS: [&[usize]; 6] = [&[1], &[2], &[3], &[7], &[4096], &[]];
+/// Compares in both profiles, in reads of these sizes, the last of them for all that follow.
+fn check_cut(
+    rt: &impl Abort,
+    alloc: Global,
+    cells: &CellPages,
+    sizes: &[usize],
+    row: &Row,
+) -> Result<(), Fail> {
+    for profile in [Profile::First, Profile::Second] {
+        let source = MemorySource::cut(row.0, sizes);
+        check(rt, alloc, cells, profile, source, row)?;
+    }
+    Ok(())
+}
 
+// Two and three reads of each length, and reads of one byte.
 #[test]
 fn faults(rt: HostRuntime) -> Result<(), Fail> {
     let cells = read_cells(rt.alloc(), SAMPLE_FILES)?;
-    for sizes in CUTTINGS {
-        for row in &FAULTS {
-            let first = MemorySource::cut(row.0, sizes);
-            check(&rt, rt.alloc(), &cells, Profile::First, first, row)?;
-            let second = MemorySource::cut(row.0, sizes);
-            check(&rt, rt.alloc(), &cells, Profile::Second, second, row)?;
+    for row in &FAULTS {
+        check_cut(&rt, rt.alloc(), &cells, &[1], row)?;
+        for first in 1..=row.0.len() {
+            for second in 1..=row.0.len() {
+                let sizes = [first, second, usize::MAX];
+                check_cut(&rt, rt.alloc(), &cells, &sizes, row)?;
+            }
         }
     }
     Ok(())
@@ -130,5 +147,50 @@ fn limits(rt: HostRuntime) -> Result<(), Fail> {
         assert_eq!(&rt; passage.text, want);
     }
     assert!(&rt; segmenter.next(&mut source)?.is_none());
+    Ok(())
+}
+
+/// The passages of a text by two sources of the same cells.
+fn check_same<A: CellSource, B: CellSource>(
+    rt: &impl Abort,
+    alloc: Global,
+    one: &A,
+    other: &B,
+    profile: Profile,
+    text: &str,
+) -> Result<(), Fail> {
+    let mut first_source = MemorySource::new(text.as_bytes());
+    let mut second_source = MemorySource::new(text.as_bytes());
+    let mut first = Segmenter::new(alloc, one, 65_536, profile)?;
+    let mut second = Segmenter::new(alloc, other, 65_536, profile)?;
+    for _ in 0..text.len() {
+        let Some(want) = first.next(&mut first_source)? else {
+            break;
+        };
+        let found = second.next(&mut second_source)?.ok_or("no passage")?;
+        assert_eq!(rt;
+            (found.start, found.text),
+            (want.start, want.text),
+            "{text:?}"
+        );
+        assert_eq!(rt; found.segments, want.segments, "{profile:?}: {text:?}");
+        assert_eq!(rt; found.pieces, want.pieces, "{text:?}");
+        assert_eq!(rt; found.end, want.end, "{text:?}");
+    }
+    assert!(rt; second.next(&mut second_source)?.is_none());
+    Ok(())
+}
+
+/// The tables have no table of steps, and the pages have one.
+#[test]
+fn without_a_table_of_steps(rt: HostRuntime) -> Result<(), Fail> {
+    let tables = Tables::read(rt.alloc(), SAMPLE_FILES)?;
+    let pages = CellPages::build(rt.alloc(), &tables)?;
+    assert!(rt; tables.step_table().is_none());
+    assert!(rt; pages.step_table().is_some());
+    for (text, _) in FIRST.iter().chain(&SECOND) {
+        check_same(&rt, rt.alloc(), &tables, &pages, Profile::First, text)?;
+        check_same(&rt, rt.alloc(), &tables, &pages, Profile::Second, text)?;
+    }
     Ok(())
 }

@@ -1,8 +1,8 @@
 //! What a replay of test files writes and answers, over devices in memory.
 
 use lbk_cmd::{SAMPLE_FILES, read_cells};
+use lbk_feed::Source;
 use lbk_feed::devices::{MemorySink, MemorySource, RepeatedSource};
-use lbk_feed::{Sink, Source};
 use lbk_notation::{Form, Mark, Outcome, ReplayFault, Report, read_line, replay, replay_line};
 use lbk_rules::{CellPages, Kind, Profile, Rule, Verdict};
 use std::alloc::{AllocError, Global};
@@ -12,14 +12,14 @@ use std::test::Fail;
 const ROOM: usize = 4096;
 
 /// A file, what is written of it, and how many lines are counted, agree, differ and are refused.
-type Row = (&'static str, &'static str, [u32; 4]);
+pub type Row = (&'static str, &'static str, [u32; 4]);
 
-const FOUR_LINES: &str = "× 0061 × 0062 ÷\n× 0061 ÷ 0062 ÷\n× D800 ÷\n# done\n";
+pub const FOUR_LINES: &str = "× 0061 × 0062 ÷\n× 0061 ÷ 0062 ÷\n× D800 ÷\n# done\n";
 
-const FOUR_LINES_TEXT: &str = "D 2 1 ÷ × 28\nR 3 7\nT 3 1 1 1\n";
+pub const FOUR_LINES_TEXT: &str = "D 2 1 ÷ × 28\nR 3 7\nT 3 1 1 1\n";
 
 /// In form Plain, alike in both profiles.
-const PLAIN: [Row; 11] = [
+pub const PLAIN: [Row; 11] = [
     (FOUR_LINES, FOUR_LINES_TEXT, [3, 1, 1, 1]),
     ("", "T 0 0 0 0\n", [0, 0, 0, 0]),
     ("\n \n#\n\r\n", "T 0 0 0 0\n", [0, 0, 0, 0]),
@@ -49,7 +49,7 @@ const PLAIN: [Row; 11] = [
 const QUOTED: &str = "× 0061 × 0020 × 2019 ÷ 0301 × 002C ÷\n";
 
 /// In form Kinds.
-const KINDS: [Row; 3] = [
+pub const KINDS: [Row; 3] = [
     (
         "× 0061 × 0062 × 0020 ÷ 0063 × 0064 !",
         "T 1 1 0 0\n",
@@ -77,16 +77,15 @@ fn report_of(counts: [u32; 4]) -> Report {
     }
 }
 
-// What `replay` answers to a source, and what went out to a sink that takes `room` bytes and then fails.
+// What `replay` answers to a source, and the sink that it wrote to.
 fn replayed<R: Source>(
     alloc: Global,
     cells: &CellPages,
     source: &mut R,
-    room: usize,
     form: Form,
     profile: Profile,
 ) -> Result<(Result<Report, ReplayFault>, MemorySink), AllocError> {
-    let mut sink = MemorySink::new(alloc, room)?;
+    let mut sink = MemorySink::new(alloc, ROOM)?;
     let answer = replay(alloc, source, &mut sink, cells, form, profile);
     Ok((answer, sink))
 }
@@ -103,7 +102,7 @@ fn check(
     let (written, counts) = want;
     for sizes in [[1].as_slice(), &[2], &[3], &[7], &[]] {
         let mut source = MemorySource::cut(file, sizes);
-        let (answer, sink) = replayed(alloc, cells, &mut source, ROOM, form, profile)?;
+        let (answer, sink) = replayed(alloc, cells, &mut source, form, profile)?;
         assert_eq!(rt; answer, Ok(report_of(counts)), "of {file:?}");
         assert_eq!(rt; sink.bytes(), written.as_bytes(), "of {file:?}");
         assert!(rt; source.ended());
@@ -203,37 +202,12 @@ fn failing_reads(rt: HostRuntime) -> Result<(), Fail> {
             rt.alloc(),
             &cells,
             &mut source,
-            ROOM,
             Form::Plain,
             Profile::First,
         )?;
         assert_eq!(rt; answer, Err(ReplayFault::Read));
         assert_eq!(rt; sink.bytes(), written.as_bytes());
         assert_eq!(rt; source.reads(), failing + 1);
-    }
-    Ok(())
-}
-
-#[test]
-fn failing_writes(rt: HostRuntime) -> Result<(), Fail> {
-    let cells = read_cells(rt.alloc(), SAMPLE_FILES)?;
-    let text = FOUR_LINES_TEXT.as_bytes();
-    for most in [1, ROOM] {
-        for room in 0..text.len() {
-            let mut source = MemorySource::new(FOUR_LINES.as_bytes());
-            let mut sink = MemorySink::new(rt.alloc(), room)?.at_most(most);
-            let answer = replay(
-                rt.alloc(),
-                &mut source,
-                &mut sink,
-                &cells,
-                Form::Plain,
-                Profile::First,
-            );
-            assert_eq!(rt; answer, Err(ReplayFault::Write));
-            assert_eq!(rt; sink.bytes(), &text[..room]);
-            assert_eq!(rt; sink.failures(), 1);
-        }
     }
     Ok(())
 }
@@ -250,7 +224,6 @@ fn longest_line(rt: HostRuntime) -> Result<(), Fail> {
             rt.alloc(),
             &cells,
             &mut source,
-            ROOM,
             Form::Plain,
             Profile::First,
         )?;
@@ -264,14 +237,7 @@ fn longest_line(rt: HostRuntime) -> Result<(), Fail> {
 fn longest_stream(rt: HostRuntime) -> Result<(), Fail> {
     let cells = read_cells(rt.alloc(), SAMPLE_FILES)?;
     let mut source = RepeatedSource::new(b'\n', 1_073_741_825);
-    let (answer, sink) = replayed(
-        rt.alloc(),
-        &cells,
-        &mut source,
-        ROOM,
-        Form::Plain,
-        Profile::First,
-    )?;
+    let (answer, sink) = replayed(rt.alloc(), &cells, &mut source, Form::Plain, Profile::First)?;
     assert_eq!(rt; answer, Err(ReplayFault::StreamTooLong));
     assert!(rt; sink.bytes().is_empty());
     Ok(())

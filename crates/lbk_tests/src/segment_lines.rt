@@ -40,16 +40,15 @@ const SECOND: [(&str, &str); 1] = [("a \u{2019}\u{301},", "P 0 8\nS 0 8 Must 3\n
 
 const RETURN: &str = "P 0 3\nS 0 3 Must 5\nW 0 1\nP 3 4\nS 3 4 Must 3\nW 3 4\n";
 
-/// What `segment` answers to a source, and what went out to a sink that takes `room` bytes and then fails.
+/// What `segment` answers to a source, and the sink that it wrote to.
 fn segmented(
     alloc: Global,
     cells: &CellPages,
     source: &mut MemorySource<'_>,
-    room: usize,
     limit: u32,
     profile: Profile,
 ) -> Result<(Result<(), CmdFault>, MemorySink), AllocError> {
-    let mut sink = MemorySink::new(alloc, room)?;
+    let mut sink = MemorySink::new(alloc, ROOM)?;
     let answer = segment(alloc, source, &mut sink, cells, limit, profile);
     Ok((answer, sink))
 }
@@ -66,7 +65,7 @@ fn check_rows(
         for size in [1, 2, ROOM] {
             let sizes = [size];
             let mut source = MemorySource::cut(text.as_bytes(), &sizes);
-            let (answer, sink) = segmented(alloc, &cells, &mut source, ROOM, LIMIT, profile)?;
+            let (answer, sink) = segmented(alloc, &cells, &mut source, LIMIT, profile)?;
             assert_eq!(rt; answer, Ok(()));
             assert_eq!(rt; sink.bytes(), lines.as_bytes());
         }
@@ -96,40 +95,13 @@ fn refusals(rt: HostRuntime) -> Result<(), Fail> {
         (b"abcde", 4, PassageFault::ParagraphTooLong { start: 0 }, ""),
     ] {
         let mut source = MemorySource::new(text);
-        let (answer, sink) = segmented(
-            rt.alloc(),
-            &cells,
-            &mut source,
-            ROOM,
-            limit,
-            Profile::First,
-        )?;
+        let (answer, sink) = segmented(rt.alloc(), &cells, &mut source, limit, Profile::First)?;
         assert_eq!(rt; answer, Err(CmdFault::Passage(fault)));
         assert_eq!(rt; sink.bytes(), out.as_bytes());
     }
     let mut source = MemorySource::cut(b"a\nb", &[2]).failing_at(1);
-    let (answer, sink) = segmented(rt.alloc(), &cells, &mut source, ROOM, LIMIT, Profile::First)?;
+    let (answer, sink) = segmented(rt.alloc(), &cells, &mut source, LIMIT, Profile::First)?;
     assert_eq!(rt; answer, Err(CmdFault::Passage(PassageFault::Read)));
     assert!(rt; sink.bytes().is_empty());
-    Ok(())
-}
-
-#[test]
-fn a_sink_that_fails(rt: HostRuntime) -> Result<(), Fail> {
-    let cells = read_cells(rt.alloc(), SAMPLE_FILES)?;
-    let lines = RETURN.as_bytes();
-    for room in 0..lines.len() {
-        let mut source = MemorySource::new(b"a\r\nb");
-        let (answer, sink) = segmented(
-            rt.alloc(),
-            &cells,
-            &mut source,
-            room,
-            LIMIT,
-            Profile::First,
-        )?;
-        assert_eq!(rt; answer, Err(CmdFault::Write));
-        assert_eq!(rt; sink.bytes(), &lines[..room]);
-    }
     Ok(())
 }

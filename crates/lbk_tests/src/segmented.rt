@@ -14,10 +14,10 @@ const LIMIT: u32 = 65_536;
 
 /// A text, and of each of its passages: `P`, its start, its length and the rule at its end; `S`, start, end, kind and
 /// rule of a segment; `W`, start and end of a word; `p`, those of another piece.
-type Row = (&'static str, &'static [&'static str]);
+pub type Row = (&'static str, &'static [&'static str]);
 
 /// What both profiles say.
-const BOTH: [Row; 10] = [
+pub const BOTH: [Row; 10] = [
     ("", &[]),
     (
         "ab cd",
@@ -96,7 +96,7 @@ const SECOND: [Row; 6] = [
 ];
 
 /// What is told of a passage.
-fn told(alloc: Global, passage: &Passage<'_>) -> Result<String, AllocError> {
+pub fn told(alloc: Global, passage: &Passage<'_>) -> Result<String, AllocError> {
     let mut line = String::new(alloc);
     let end = passage.end.rule.label();
     write!(line, "P {} {} {}", passage.start, passage.text.len(), end)?;

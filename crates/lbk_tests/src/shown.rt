@@ -13,7 +13,7 @@ const LIMIT: u32 = 65_536;
 const ROOM: usize = 4096;
 
 /// What both profiles say of a text.
-const BOTH: [(&str, &str); 14] = [
+pub const BOTH: [(&str, &str); 14] = [
     ("ab cd", TWO_WORDS),
     ("", ""),
     (
@@ -53,7 +53,7 @@ const FIRST: [(&str, &str); 3] = [
 ];
 
 /// What the second says.
-const SECOND: [(&str, &str); 4] = [
+pub const SECOND: [(&str, &str); 4] = [
     (
         "a \u{2019}\u{301},",
         "× 0061 × 0020 × 2019 × 0301 × 002C !\t# 2 7 15b 9 13 3\n",
@@ -68,16 +68,15 @@ const SECOND: [(&str, &str); 4] = [
 
 const TWO_WORDS: &str = "× 0061 × 0062 × 0020 ÷ 0063 × 0064 !\t# 2 28 7 18 28 3\n";
 
-/// What `show` answers to a source, and what went out to a sink that takes `room` bytes and then fails.
+/// What `show` answers to a source, and the sink that it wrote to.
 fn shown(
     alloc: Global,
     cells: &CellPages,
     source: &mut MemorySource<'_>,
-    room: usize,
     limit: u32,
     profile: Profile,
 ) -> Result<(Result<(), CmdFault>, MemorySink), AllocError> {
-    let mut sink = MemorySink::new(alloc, room)?;
+    let mut sink = MemorySink::new(alloc, ROOM)?;
     let answer = show(alloc, source, &mut sink, cells, limit, profile);
     Ok((answer, sink))
 }
@@ -92,7 +91,7 @@ fn check(
     want: Result<(), PassageFault>,
     out: &str,
 ) -> Result<(), AllocError> {
-    let (answer, sink) = shown(alloc, cells, source, ROOM, LIMIT, profile)?;
+    let (answer, sink) = shown(alloc, cells, source, LIMIT, profile)?;
     assert_eq!(rt; answer, want.map_err(CmdFault::Passage));
     assert_eq!(rt; sink.bytes(), out.as_bytes());
     Ok(())
@@ -181,21 +180,8 @@ fn limits(rt: HostRuntime) -> Result<(), Fail> {
         ("\n\u{2019}", 1, too_long(1)),
     ] {
         let mut source = MemorySource::new(text.as_bytes());
-        let (answer, _) = shown(rt.alloc(), &cells, &mut source, ROOM, limit, Profile::First)?;
+        let (answer, _) = shown(rt.alloc(), &cells, &mut source, limit, Profile::First)?;
         assert_eq!(rt; answer, want, "limit {limit}");
-    }
-    Ok(())
-}
-
-#[test]
-fn a_sink_that_fails(rt: HostRuntime) -> Result<(), Fail> {
-    let cells = read_cells(rt.alloc(), SAMPLE_FILES)?;
-    let lines = "× 0061 × 000D × 000A !\t# 2 6 5 5\n× 0062 !\t# 2 3\n".as_bytes();
-    for room in 0..lines.len() {
-        let mut source = MemorySource::new(b"a\r\nb");
-        let (answer, sink) = shown(rt.alloc(), &cells, &mut source, room, LIMIT, Profile::First)?;
-        assert_eq!(rt; answer, Err(CmdFault::Write));
-        assert_eq!(rt; sink.bytes(), &lines[..room]);
     }
     Ok(())
 }

@@ -3,4 +3,5 @@ pub mod GrammarLemmas
 pub mod LawLemmas
 pub mod OverlayLemmas
 pub mod RowLemmas
+pub mod SampleLemmas
 pub mod Worked

@@ -4,6 +4,7 @@ pub mod Rows
 pub mod File
 pub mod Names
 pub mod Files
+pub mod Samples
 pub mod Tables
 pub mod Grammar
 -- What only carries proofs.

@@ -3,6 +3,10 @@ ghost use Rattle.std.specs.Prelude.{◌≡◌, ◌==◌, ◌≤◌, ◌↔◌, �
 ghost use Rattle.std.specs.List.{AllPairs, list_any, list_all, join_with_byte};
 ghost use Rattle.lbk_ucd.specs.declared.rows.Row.{Row};
 ghost use Rattle.lbk_ucd.specs.declared.fault.UcdCause.{UcdCause};
+ghost use Rattle.lbk_ucd.specs.declared.tables.Files.{Files};
+ghost use Rattle.lbk_ucd.specs.declared.fault.UcdFault.{UcdFault};
+ghost use Rattle.lbk_ucd.specs.Files.{AreLawful, IsRefused};
+ghost use Rattle.lbk_ucd.specs.Samples.{AreSamples};
 ghost use Rattle.lbk_ucd.specs.File.{Format, lines_of, rows_in, without_mark, IsLawful, IsFault};
 ghost use Rattle.lbk_ucd.specs.Grammar.{IsSaid};
 ghost use Rattle.lbk_ucd.specs.Line.{Meaning, meaning_of};
@@ -36,4 +40,14 @@ pub fn files_have_one_fault_or_none<V: Copy>()
 /// No code is in two kept rows of a lawful file, so the row that holds a code is one.
 pub fn kept_rows_are_apart<V: Copy>()
     ensures { (format : Format V) (bytes : List ℕ) → IsLawful format bytes → AllPairs AreApart (rows_in format (lines_of bytes)) }
+{}
+
+/// Files without a fault are refused for want of memory alone.
+pub fn lawful_files_want_memory()
+    ensures { (files : Files) (fault : UcdFault) → AreLawful files → IsRefused files fault → fault.cause ≡ UcdCause.Memory }
+{}
+
+/// The sample files have no fault.
+pub fn samples_are_lawful()
+    ensures { (files : Files) → AreSamples files → AreLawful files }
 {}

@@ -1,10 +1,10 @@
 //! Ranges of codes that may share codes, made into ranges that share none.
-ghost use Rattle.std.specs.Prelude.{◌≡◌, ◌≤◌, ◌<◌, ℕ, true, false, length, reverse, IfOk};
-ghost use Rattle.std.specs.List.{All, AllWithin};
+ghost use Rattle.std.specs.Prelude.{◌≡◌, ◌≤◌, ℕ, true, false, length, reverse, IfOk};
+ghost use Rattle.std.specs.List.{All};
 ghost use Rattle.lbk_ucd.specs.Ranges.{IsInOrder, IsOverlay, IsRange};
 ghost use Rattle.lbk_ucd.specs.Rows.{first_value};
 
-use crate::rows::{LAST_CODE, Row, stretch_from};
+use crate::rows::{LAST_CODE, Row, next_from, stretch_from};
 use std::alloc::{AllocError, Global};
 
 /// Rows that share no code, sorted by their codes, in which a code has the value of the last of these rows that holds it.
@@ -53,22 +53,6 @@ pub(crate) fn overlay<V: Copy>(
         from = last + 1;
     }
     Ok(rows)
-}
-
-/// The place of the first row that doesn't end before a code, where those before `at` do.
-fn next_from<V: Copy>(rows: &[Row<V>], at: usize, code: u32) -> usize
-    requires ordered { IsInOrder rows.now }
-    requires within { at ≤ length rows.now }
-    requires before { AllWithin (λ row. row.last < code) rows.now 0 at }
-    ensures within { result ≤ length rows.now }
-    ensures before { AllWithin (λ row. row.last < code) rows.now 0 result }
-    ensures after { AllWithin (λ row. code ≤ row.last) rows.now result (length rows.now) }
-{
-    let mut next = at;
-    while next < rows.len() && rows[next].last < code {
-        next += 1;
-    }
-    next
 }
 
 /// Whether each row ends before the next begins.

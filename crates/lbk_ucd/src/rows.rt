@@ -14,11 +14,13 @@ pub(crate) struct Row<V> {
     pub(crate) value: V,
 }
 
-/// A value, and the last code up to which all codes have it.
+/// A value, the last code up to which all codes have it, and the place of the first row that doesn't end before the
+/// first of them.
 #[derive(Clone, Copy)]
 pub(crate) struct Stretch<V> {
     pub(crate) value: V,
     pub(crate) last: u32,
+    pub(crate) at: usize,
 }
 
 /// What one file assigns to codes: rows that share no code, sorted by their codes, and the value of the other codes.
@@ -39,16 +41,18 @@ impl<V: Copy> Assigned<V> {
         row_value(&self.rows, code).unwrap_or(self.unlisted)
     }
 
-    /// The value of a code, and the last code up to which all codes have it.
-    pub(crate) fn stretch(&self, code: u32) -> Stretch<V>
+    /// The value of a code, and the last code up to which all codes have it. It is found soon where `near` is the
+    /// place of a stretch that ends a little before the code.
+    pub(crate) fn stretch(&self, code: u32, near: usize) -> Stretch<V>
         requires { code ≤ 0x10FFFF }
         ensures last { (code ≤ result.last) × (result.last ≤ 0x10FFFF) }
         ensures same { (k : ℕ) → code ≤ k → k ≤ result.last → value_of self.now k ≡ result.value }
     {
-        let found = stretch_from(&self.rows, first_from(&self.rows, code), code);
+        let found = stretch_from(&self.rows, first_near(&self.rows, code, near), code);
         Stretch {
             value: found.value.unwrap_or(self.unlisted),
             last: found.last,
+            at: found.at,
         }
     }
 }
@@ -81,6 +85,7 @@ pub(crate) fn stretch_from<V: Copy>(rows: &[Row<V>], at: usize, code: u32) -> St
         return Stretch {
             value: None,
             last: LAST_CODE,
+            at,
         };
     }
     let row = rows[at];
@@ -88,11 +93,13 @@ pub(crate) fn stretch_from<V: Copy>(rows: &[Row<V>], at: usize, code: u32) -> St
         Stretch {
             value: None,
             last: row.first - 1,
+            at,
         }
     } else {
         Stretch {
             value: Some(row.value),
             last: row.last,
+            at,
         }
     }
 }
@@ -105,4 +112,34 @@ fn first_from<V: Copy>(rows: &[Row<V>], code: u32) -> usize
     ensures after { AllWithin (λ row. code ≤ row.last) rows.now result (length rows.now) }
 {
     rows.partition_point(|row| row.last < code)
+}
+
+/// The same, looked for from a place on where the rows before it end before the code.
+fn first_near<V: Copy>(rows: &[Row<V>], code: u32, near: usize) -> usize
+    requires { IsInOrder rows.now }
+    ensures within { result ≤ length rows.now }
+    ensures before { AllWithin (λ row. row.last < code) rows.now 0 result }
+    ensures after { AllWithin (λ row. code ≤ row.last) rows.now result (length rows.now) }
+{
+    if 0 < near && near <= rows.len() && rows[near - 1].last < code {
+        next_from(rows, near, code)
+    } else {
+        first_from(rows, code)
+    }
+}
+
+/// The place of the first row that doesn't end before a code, where those before `at` do.
+pub(crate) fn next_from<V: Copy>(rows: &[Row<V>], at: usize, code: u32) -> usize
+    requires ordered { IsInOrder rows.now }
+    requires within { at ≤ length rows.now }
+    requires before { AllWithin (λ row. row.last < code) rows.now 0 at }
+    ensures within { result ≤ length rows.now }
+    ensures before { AllWithin (λ row. row.last < code) rows.now 0 result }
+    ensures after { AllWithin (λ row. code ≤ row.last) rows.now result (length rows.now) }
+{
+    let mut next = at;
+    while next < rows.len() && rows[next].last < code {
+        next += 1;
+    }
+    next
 }

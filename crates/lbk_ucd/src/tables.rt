@@ -41,6 +41,28 @@ pub struct Run {
     pub is_pictographic: bool,
     /// The last code that is known to have them, at most 10FFFF.
     pub last: u32,
+    /// Where they were found.
+    pub places: Places,
+}
+
+/// Where the properties of a code were found in the tables, by which those of the next codes are found sooner. No
+/// answer depends on it.
+#[derive(Clone, Copy, PartialEq, Eq, Debug)]
+pub struct Places {
+    line_break: usize,
+    east_asian: usize,
+    category: usize,
+    pictographic: usize,
+}
+
+impl Places {
+    /// Before all codes.
+    pub const START: Places = Places {
+        line_break: 0,
+        east_asian: 0,
+        category: 0,
+        pictographic: 0,
+    };
 }
 
 impl Tables {
@@ -109,9 +131,9 @@ impl Tables {
     }
 
     /// The four properties of a code, and a last code up to which all codes have them. So all codes are gone through
-    /// range by range: from 0, and each time from the code after `last`, until `last` is 10FFFF.
+    /// range by range: from 0, and each time from the code after `last` and near the places found, until `last` is 10FFFF.
     #[tactic(auto, unfolding(crate::specs::Tables::line_break_of, crate::specs::Tables::east_asian_of, crate::specs::Tables::category_of, crate::specs::Tables::is_pictographic_of))]
-    pub fn run(&self, code: u32) -> Run
+    pub fn run(&self, code: u32, near: Places) -> Run
         requires { code ≤ 0x10FFFF }
         ensures last { (code ≤ result.last) × (result.last ≤ 0x10FFFF) }
         ensures line_break { (k : ℕ) → code ≤ k → k ≤ result.last → line_break_of self.now k ≡ result.line_break }
@@ -119,10 +141,10 @@ impl Tables {
         ensures category { (k : ℕ) → code ≤ k → k ≤ result.last → category_of self.now k ≡ result.category }
         ensures pictographic { (k : ℕ) → code ≤ k → k ≤ result.last → is_pictographic_of self.now k ≡ result.is_pictographic }
     {
-        let line_break = self.line_break.stretch(code);
-        let east_asian = self.east_asian.stretch(code);
-        let category = self.category.stretch(code);
-        let pictographic = self.pictographic.stretch(code);
+        let line_break = self.line_break.stretch(code, near.line_break);
+        let east_asian = self.east_asian.stretch(code, near.east_asian);
+        let category = self.category.stretch(code, near.category);
+        let pictographic = self.pictographic.stretch(code, near.pictographic);
         Run {
             line_break: line_break.value,
             east_asian: east_asian.value,
@@ -133,6 +155,12 @@ impl Tables {
                 .min(east_asian.last)
                 .min(category.last)
                 .min(pictographic.last),
+            places: Places {
+                line_break: line_break.at,
+                east_asian: east_asian.at,
+                category: category.at,
+                pictographic: pictographic.at,
+            },
         }
     }
 }

@@ -66,10 +66,9 @@ fn any_marked(marks: &[bool], first: usize, last: usize) -> bool
     ensures yes { result ≡ true → (k : ℕ) × (first ≤ k) × (k ≤ last) × (slice_index_or marks.now k false ≡ true) }
     ensures no { result ≡ false → (k : ℕ) → first ≤ k → k ≤ last → slice_index_or marks.now k false ≡ false }
 {
+    let mut any = false;
     for code in first..last + 1 {
-        if marks[code] {
-            return true;
-        }
+        any |= marks[code];
     }
-    false
+    any
 }

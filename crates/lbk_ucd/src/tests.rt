@@ -1,6 +1,6 @@
 use crate::{
-    Category, EastAsian, Files, LineBreak, SAMPLE_CATEGORY, SAMPLE_EAST_ASIAN, SAMPLE_EMOJI,
-    SAMPLE_LINE_BREAK, Tables, UcdCause, UcdFault, Which,
+    Category, EastAsian, Files, LineBreak, Places, SAMPLE_CATEGORY, SAMPLE_EAST_ASIAN,
+    SAMPLE_EMOJI, SAMPLE_LINE_BREAK, Tables, UcdCause, UcdFault, Which,
 };
 use std::alloc::{AllocError, Global};
 use std::test::Fail;
@@ -268,6 +268,7 @@ fn defaults_over_one_another(rt: HostRuntime) -> Result<(), Fail> {
             ..NO_FILES
         },
     )?;
+    let mut near = Places::START;
     for (code, line_break, last) in [
         (0, LineBreak::Alphabetic, 0),
         (1, LineBreak::Ideographic, 1),
@@ -279,9 +280,10 @@ fn defaults_over_one_another(rt: HostRuntime) -> Result<(), Fail> {
     ] {
         assert!(rt; code <= 0x10FFFF);
         assert_eq!(rt; tables.line_break(code), line_break, "at {code:x}");
-        let run = tables.run(code);
+        let run = tables.run(code, near);
         assert_eq!(rt; run.line_break, line_break, "at {code:x}");
         assert_eq!(rt; run.last, last, "at {code:x}");
+        near = run.places;
     }
     Ok(())
 }
@@ -304,15 +306,17 @@ fn rows_in_falling_order(rt: HostRuntime) -> Result<(), Fail> {
 #[test]
 fn runs_of_the_samples(rt: HostRuntime) -> Result<(), Fail> {
     let tables = Tables::read(rt.alloc(), SAMPLES)?;
+    let mut near = Places::START;
     for (code, line_break, east_asian, category, is_pictographic) in SAMPLE_ROWS {
         assert!(rt; code <= 0x10FFFF);
-        let run = tables.run(code);
+        let run = tables.run(code, near);
         assert_eq!(rt; run.line_break, line_break, "at {code:x}");
         assert_eq!(rt; run.east_asian, east_asian, "at {code:x}");
         assert_eq!(rt; run.category, category, "at {code:x}");
         assert_eq!(rt; run.is_pictographic, is_pictographic, "at {code:x}");
+        near = run.places;
     }
-    let end = tables.run(0x10_FFFF);
+    let end = tables.run(0x10_FFFF, near);
     assert_eq!(rt; end.last, 0x10_FFFF);
     Ok(())
 }

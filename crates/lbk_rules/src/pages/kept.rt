@@ -11,7 +11,7 @@ use std::alloc::{AllocError, Global};
 #[derive(Drop)]
 pub(super) struct Kept {
     pages: Vec<Page>,
-    digests: Vec<u64>,
+    digests: Vec<u128>,
     ghost digested: { digests.items ≡ map digest_of pages.items },
     ghost distinct: { AreDistinct pages.items },
 }
@@ -46,7 +46,7 @@ impl Kept {
     }
 
     /// The number of the kept page that equals this one.
-    fn find(&self, page: &Page, digest: u64) -> Option<usize>
+    fn find(&self, page: &Page, digest: u128) -> Option<usize>
         requires { digest ≡ digest_of page.now }
         ensures { MatchOption result (All (λ other. other ≢ page.now) self.now.pages.items)
             (λ n. (n < length self.now.pages.items)
@@ -61,7 +61,7 @@ impl Kept {
     }
 
     /// Keeps a page that is not among those kept.
-    fn add(&mut self, page: &Page, digest: u64) -> Result<(), AllocError>
+    fn add(&mut self, page: &Page, digest: u128) -> Result<(), AllocError>
         requires digested { digest ≡ digest_of page.now }
         requires fresh { All (λ other. other ≢ page.now) self.old.pages.items }
         ensures { IfOk result (λ _. self.new.pages.items ≡ self.old.pages.items ++ page.now ∷ []) }
@@ -86,23 +86,26 @@ impl Kept {
     }
 }
 
-/// The prime by which the FNV hash of 64 bits multiplies.
-const MULTIPLIER: u64 = 0x100_0000_01b3;
+/// A multiplier of good spectral quality for 128 bits (PCG's).
+const MULTIPLIER: u128 = 0x2360_ed05_1fc6_5da4_4385_df64_9fcc_f645;
 
 /// A number of the page, the same for equal pages, so that pages are seldom compared cell by cell.
 #[tactic(auto, unfolding(crate::specs::Pages::digest_of))]
-fn digest(page: &Page) -> u64
+fn digest(page: &Page) -> u128
     ensures { result ≡ digest_of page.now }
 {
     page.iter()
         .fold(0, |digest, cell| digest_with(digest, *cell))
 }
 
-/// The digest after one more cell.
-fn digest_with(digest: u64, cell: Cell) -> u64
+/// The digest after one more cell. The upper half goes into the lower, since a sum of multiples alone can be made to come
+/// out the same for thousands of pages.
+fn digest_with(digest: u128, cell: Cell) -> u128
     ensures { result ≡ digest_with digest cell }
 {
-    digest.wrapping_mul(MULTIPLIER).wrapping_add(number(cell))
+    (digest ^ (digest >> 64))
+        .wrapping_mul(MULTIPLIER)
+        .wrapping_add(u128::from(number(cell)))
 }
 
 /// A number of its own for each cell.

@@ -15,25 +15,28 @@ struct Spot {
 impl CellRuns for Spot {
     ghost cell_at = { λ s code. if code == s.code then s.there else s.elsewhere };
 
-    fn cell_run(&self, code: u32) -> CellRun {
+    fn cell_run(&self, code: u32, near: Places) -> CellRun {
         let spot = u32::from(self.code);
         if code < spot {
             CellRun {
                 first: code,
                 last: spot - 1,
                 cell: self.elsewhere,
+                places: near,
             }
         } else if code == spot {
             CellRun {
                 first: code,
                 last: spot,
                 cell: self.there,
+                places: near,
             }
         } else {
             CellRun {
                 first: code,
                 last: 0x10_FFFF,
                 cell: self.elsewhere,
+                places: near,
             }
         }
     }
@@ -51,7 +54,7 @@ impl CellRuns for Stripes {
         then s.there
         else (if code % 256 == code / 65536 then s.there else s.elsewhere) };
 
-    fn cell_run(&self, code: u32) -> CellRun {
+    fn cell_run(&self, code: u32, near: Places) -> CellRun {
         let cell = if code % 256 == code / 256 % 256 {
             self.there
         } else if code % 256 == code / 65_536 {
@@ -63,6 +66,7 @@ impl CellRuns for Stripes {
             first: code,
             last: code,
             cell,
+            places: near,
         }
     }
 }

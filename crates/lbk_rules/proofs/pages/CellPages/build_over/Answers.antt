@@ -1,6 +1,11 @@
-use Rattle.std.proofs.Common.{◌≡◌, ◌-◌, ◌∙◌, [], get_or, refl, arith}
+use Rattle.std.proofs.Common.{◌≡◌, ℕ, ◌-◌, ◌∙◌, [], Some, IfSome, get_or, ap, refl, subst, sym, arith}
 use Rattle.std.proofs.lemmas.List.{get_or_default}
+use Rattle.std.specs.Char.{IsScalar}
 use Rattle.lbk_rules.specs.CellPages.{page_cell}
+use Rattle.lbk_rules.specs.Normal.{normal}
+use Rattle.lbk_rules.specs.Pages.{cell_in}
+use Rattle.lbk_rules.specs.RowFits.{AreKindsOf}
+use Rattle.lbk_rules.specs.RowMachineFits.{IsTableOf, normal_in}
 use Rattle.lbk_rules.proofs.PagesLemmas.{cell_in-filled, filled_more, next_page-same}
 use Rattle.lbk_rules.proofs.pages.CellPages.build_over.Goals as goal
 use Rattle.lbk_rules.proofs.pages.CellPages.build_over.Goals.{then-run-first+then-first-run+in_ok-push, else-run-first+in_ok-number_of+in_ok-push-2}
@@ -36,6 +41,23 @@ loop-k-preserved g c =
           (rw number.1 w.fill-run.ensures.page)
           (let begins = w.fill-run.ensures.begins in omega arith) w.fill-run.ensures.run.0 w.fill-run.ensures.run.1)
     ]
+
+pub invariant_of-result-clause-numbered : goal.invariant_of-result-clause-numbered
+invariant_of-result-clause-numbered g c = λ k below.
+    rw c.into_pages.ensures.kept (c.loop-k.invariant.numbered k (omega arith))
+
+pub invariant_of-result-clause-same : goal.invariant_of-result-clause-same
+unfolding IsTableOf AreKindsOf normal_in
+invariant_of-result-clause-same g c =
+    let numbers = c.loop-k.numbers.items in
+    let pages = c.into_pages.result.items in
+    let cell_of = g.C.CellRuns.cell_at c.args.source.now in
+    let filled : (code : ℕ) → IsScalar code → cell_in numbers pages code ≡ cell_of code = λ code scalar.
+    rw c.into_pages.ensures.kept
+    (cell_in-filled cell_of numbers c.loop-k.kept.pages.items c.loop-k.k (omega arith) c.loop-k.invariant.filled code scalar) in
+    λ table code is scalar.
+    let built : IfSome (Some table) (λ t. IsTableOf t cell_of) = subst (λ o. IfSome o (λ t. IsTableOf t cell_of)) is c.in_ok-table.ensures in
+    built code scalar ∙ ap normal (sym (filled code scalar))
 
 pub returns : goal.returns
 unfolding page_cell

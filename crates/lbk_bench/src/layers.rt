@@ -1,0 +1,325 @@
+//! The layers, each as one run over the whole text.
+
+use crate::dropped::Dropped;
+use crate::material::{LIMIT, Material};
+use anyhow::{Result, bail};
+use lbk_breaks::Breaks;
+use lbk_cmd::{segment, show};
+use lbk_feed::devices::MemorySource;
+use lbk_notation::{Form, replay};
+use lbk_passage::Segmenter;
+use lbk_rules::{
+    Break, CellPages, CellSource, Class, Kind, LateMachine, Machine, Profile, Rule, Stepper,
+    Verdict,
+};
+use lbk_ucd::Tables;
+use std::alloc::Global;
+use unicode_segmentation::UnicodeSegmentation;
+
+/// A part of the work.
+#[derive(Clone, Copy)]
+pub enum Layer {
+    /// The scalars of the text.
+    Decoding,
+    /// Their cells.
+    LookUp,
+    /// The verdicts of the first profile, one after another.
+    Machine,
+    /// Those of a profile by the machine that may hold a position.
+    LateMachine(Profile),
+    /// The same by the table of steps, or what steps in its place.
+    Stepper(Profile),
+    /// The breaks in blocks.
+    Breaks(Profile),
+    /// The word boundaries of the text.
+    Words,
+    /// The segments of each passage, the passages being known.
+    Segments,
+    /// The passages of the text from a device in memory.
+    Next,
+    /// What the command's engines write of the text.
+    Show,
+    Segment,
+    /// The lines that `show` writes, compared with the rules.
+    Replay,
+    /// The property files read.
+    Tables,
+    /// The cells of all scalars.
+    Pages,
+}
+
+/// The layers in the order in which they are run.
+pub const LAYERS: [Layer; 17] = [
+    Layer::Decoding,
+    Layer::LookUp,
+    Layer::Machine,
+    Layer::LateMachine(Profile::First),
+    Layer::LateMachine(Profile::Second),
+    Layer::Stepper(Profile::First),
+    Layer::Stepper(Profile::Second),
+    Layer::Breaks(Profile::First),
+    Layer::Breaks(Profile::Second),
+    Layer::Words,
+    Layer::Segments,
+    Layer::Next,
+    Layer::Show,
+    Layer::Segment,
+    Layer::Replay,
+    Layer::Tables,
+    Layer::Pages,
+];
+
+/// The verdict at a passage's end, where only its place counts.
+const END: Verdict = Verdict {
+    kind: Kind::Must,
+    rule: Rule::Lb3,
+};
+
+/// How many breaks a block holds.
+const BLOCK: usize = 1024;
+
+const NO_BREAK: Break = Break {
+    at: 0,
+    kind: Kind::No,
+    rule: Rule::Lb31,
+};
+
+impl Layer {
+    pub fn name(self) -> &'static str {
+        match self {
+            Layer::Decoding => "decoding",
+            Layer::LookUp => "look-up",
+            Layer::Machine => "Machine",
+            Layer::LateMachine(Profile::First) => "LateMachine, profile 1",
+            Layer::LateMachine(Profile::Second) => "LateMachine, profile 2",
+            Layer::Stepper(Profile::First) => "Stepper, profile 1",
+            Layer::Stepper(Profile::Second) => "Stepper, profile 2",
+            Layer::Breaks(Profile::First) => "Breaks, profile 1",
+            Layer::Breaks(Profile::Second) => "Breaks, profile 2",
+            Layer::Words => "words",
+            Layer::Segments => "segments of passages",
+            Layer::Next => "next",
+            Layer::Show => "show",
+            Layer::Segment => "segment",
+            Layer::Replay => "replay",
+            Layer::Tables => "Tables::read",
+            Layer::Pages => "CellPages::build",
+        }
+    }
+
+    /// How many bytes a run goes over; none where it is part of the start-up.
+    pub fn bytes(self, material: &Material) -> Option<usize> {
+        match self {
+            Layer::Tables | Layer::Pages => None,
+            Layer::Replay => Some(material.shown.len()),
+            _ => Some(material.text.len()),
+        }
+    }
+
+    /// One run. What it counts depends on all that it does.
+    pub fn run(self, alloc: Global, material: &Material) -> Result<u64> {
+        let text = material.text.as_str();
+        let cells = &material.cells;
+        match self {
+            Layer::Decoding => Ok(decoding(text)),
+            Layer::LookUp => Ok(look_up(cells, text)),
+            Layer::Machine => Ok(by_machine(cells, text)),
+            Layer::LateMachine(profile) => Ok(by_late_machine(cells, profile, text)),
+            Layer::Stepper(profile) => Ok(by_stepper(cells, profile, text)),
+            Layer::Breaks(profile) => Ok(by_breaks(cells, profile, text)),
+            Layer::Words => Ok(text.split_word_bounds().count() as u64),
+            Layer::Segments => segments(alloc, material),
+            Layer::Next => passages(alloc, cells, text),
+            Layer::Show => shown(alloc, cells, text),
+            Layer::Segment => segmented(alloc, cells, text),
+            Layer::Replay => replayed(alloc, cells, &material.shown),
+            Layer::Tables => tables(alloc, material),
+            Layer::Pages => pages(alloc, &material.tables),
+        }
+    }
+}
+
+fn decoding(text: &str) -> u64 {
+    let mut sum = 0u64;
+    for c in text.chars() {
+        sum = sum.wrapping_add(c as u64);
+    }
+    sum
+}
+
+fn look_up(cells: &CellPages, text: &str) -> u64 {
+    let mut spaces = 0u64;
+    for c in text.chars() {
+        spaces = spaces.wrapping_add(u64::from(cells.cell(c).class == Class::Space));
+    }
+    spaces
+}
+
+fn breaks_at(verdict: Verdict) -> u64 {
+    u64::from(verdict.kind != Kind::No)
+}
+
+fn by_machine(cells: &CellPages, text: &str) -> u64 {
+    let mut machine = Machine::start();
+    let mut breaks = 0u64;
+    for c in text.chars() {
+        breaks = breaks.wrapping_add(breaks_at(machine.step(cells.cell(c))));
+    }
+    breaks.wrapping_add(breaks_at(machine.finish()))
+}
+
+/// How many breaks the answers of a step or of the end are.
+fn breaks_in(late: Option<(u64, Verdict)>, now: Option<Verdict>) -> u64 {
+    let late = late.map_or(0, |(_, verdict)| breaks_at(verdict));
+    late.wrapping_add(now.map_or(0, breaks_at))
+}
+
+fn by_late_machine(cells: &CellPages, profile: Profile, text: &str) -> u64 {
+    let mut machine = LateMachine::start(profile);
+    let mut breaks = 0u64;
+    for c in text.chars() {
+        if machine.steps() == u64::MAX {
+            break;
+        }
+        let out = machine.step(cells.cell(c));
+        breaks = breaks.wrapping_add(breaks_in(out.late, out.now));
+    }
+    let end = machine.finish();
+    breaks.wrapping_add(breaks_in(end.late, Some(end.end)))
+}
+
+fn by_stepper(cells: &CellPages, profile: Profile, text: &str) -> u64 {
+    let mut stepper = Stepper::start(cells, profile);
+    let mut breaks = 0u64;
+    for c in text.chars() {
+        let out = stepper.step(c);
+        breaks = breaks.wrapping_add(breaks_in(out.late, out.now));
+    }
+    let end = stepper.finish();
+    breaks.wrapping_add(breaks_in(end.late, Some(end.end)))
+}
+
+fn by_breaks(cells: &CellPages, profile: Profile, text: &str) -> u64 {
+    let mut breaks = Breaks::new(cells, text, profile);
+    let mut block = [NO_BREAK; BLOCK];
+    let mut count = 0u64;
+    for _ in 0..u64::MAX {
+        let some = breaks.fill(&mut block);
+        if some == 0 {
+            break;
+        }
+        for found in &block[..some] {
+            count = count.wrapping_add(u64::from(found.kind != Kind::No));
+        }
+    }
+    count
+}
+
+/// A segment, as places of bytes, and why it ends.
+type Cut = (usize, usize, Verdict);
+
+/// The loop of the segmenter, over each passage.
+fn segments(alloc: Global, material: &Material) -> Result<u64> {
+    let mut cuts = Vec::new(alloc);
+    let mut count = 0u64;
+    for (start, end) in &material.passages {
+        let Some(text) = material.text.get(*start..*end) else {
+            bail!("a passage that is not of the text");
+        };
+        cuts.clear();
+        cut(&material.cells, text, &mut cuts)?;
+        count = count.wrapping_add(cuts.len() as u64);
+    }
+    Ok(count)
+}
+
+fn cut(cells: &CellPages, text: &str, cuts: &mut Vec<Cut>) -> Result<()> {
+    let mut stepper = Stepper::start(cells, Profile::First);
+    let mut start = 0;
+    let mut held = 0;
+    for (at, c) in text.char_indices() {
+        let out = stepper.step(c);
+        if let Some((_, verdict)) = out.late {
+            start = end_at(cuts, start, held, verdict)?;
+        }
+        match out.now {
+            Some(verdict) => start = end_at(cuts, start, at, verdict)?,
+            None => held = at,
+        }
+    }
+    end_at(cuts, start, text.len(), END)?;
+    Ok(())
+}
+
+/// Ends the segment in progress, if a line may break there. Where the one in progress then begins.
+fn end_at(cuts: &mut Vec<Cut>, start: usize, at: usize, verdict: Verdict) -> Result<usize> {
+    if verdict.kind == Kind::No {
+        return Ok(start);
+    }
+    cuts.push((start, at, verdict))?;
+    Ok(at)
+}
+
+fn passages(alloc: Global, cells: &CellPages, text: &str) -> Result<u64> {
+    let mut source = MemorySource::new(text.as_bytes());
+    let Ok(mut segmenter) = Segmenter::new(alloc, cells, LIMIT, Profile::First) else {
+        bail!("no room for a paragraph");
+    };
+    let mut count = 0u64;
+    for _ in 0..u64::MAX {
+        match segmenter.next(&mut source) {
+            Ok(Some(passage)) => count = count.wrapping_add(passage.segments.len() as u64),
+            Ok(None) => break,
+            Err(_) => bail!("the text is refused"),
+        }
+    }
+    Ok(count)
+}
+
+fn shown(alloc: Global, cells: &CellPages, text: &str) -> Result<u64> {
+    let mut source = MemorySource::new(text.as_bytes());
+    let mut sink = Dropped;
+    match show(alloc, &mut source, &mut sink, cells, LIMIT, Profile::First) {
+        Ok(()) => Ok(0),
+        Err(_) => bail!("the text cannot be shown"),
+    }
+}
+
+fn segmented(alloc: Global, cells: &CellPages, text: &str) -> Result<u64> {
+    let mut source = MemorySource::new(text.as_bytes());
+    let mut sink = Dropped;
+    match segment(alloc, &mut source, &mut sink, cells, LIMIT, Profile::First) {
+        Ok(()) => Ok(0),
+        Err(_) => bail!("the text cannot be cut"),
+    }
+}
+
+/// All lines agree.
+fn replayed(alloc: Global, cells: &CellPages, shown: &[u8]) -> Result<u64> {
+    let mut source = MemorySource::new(shown);
+    let mut sink = Dropped;
+    match replay(
+        alloc,
+        &mut source,
+        &mut sink,
+        cells,
+        Form::Kinds,
+        Profile::First,
+    ) {
+        Ok(report) if report.agreed == report.lines => Ok(u64::from(report.lines)),
+        Ok(_) => bail!("a line differs"),
+        Err(_) => bail!("the lines cannot be read"),
+    }
+}
+
+fn tables(alloc: Global, material: &Material) -> Result<u64> {
+    match Tables::read(alloc, material.files.files()) {
+        Ok(_tables) => Ok(0),
+        Err(_) => bail!("a property file is refused"),
+    }
+}
+
+fn pages(alloc: Global, tables: &Tables) -> Result<u64> {
+    let pages = CellPages::build(alloc, tables)?;
+    Ok(u64::from(pages.cell('a').letter))
+}

@@ -1,0 +1,92 @@
+//! The layers timed, and what is printed of them.
+
+use crate::layers::{LAYERS, Layer};
+use crate::material::{Material, Names};
+use anyhow::Result;
+use std::time::{Duration, Instant};
+
+/// How often each layer is run. The runs of all layers take turns, so that what else the machine does slows all
+/// alike, and the best of each counts.
+const ROUNDS: u32 = 9;
+
+/// The best run of a layer.
+#[derive(Clone, Copy)]
+struct Best {
+    time: Duration,
+    /// What the run counted.
+    count: u64,
+}
+
+/// Prints for each layer how many millions of bytes it takes in a second, how that compares with `Machine`, and what
+/// it counts, or the milliseconds of a part of the start-up.
+pub fn print(rt: &HostRuntime, names: &Names<'_>) -> Result<()> {
+    let material = Material::read(rt, names)?;
+    let best = best_of(rt, &material)?;
+    println!(rt;
+        "{}: {} bytes, {} passages, the best of {ROUNDS} runs each",
+        names.text,
+        material.text.len(),
+        material.passages.len()
+    )?;
+    let mut machine = 0;
+    for (layer, best) in LAYERS.iter().zip(best.iter()) {
+        if matches!(layer, Layer::Machine) {
+            machine = rate(material.text.len(), best.time);
+        }
+    }
+    for (layer, best) in LAYERS.iter().zip(best.iter()) {
+        match layer.bytes(&material) {
+            Some(bytes) => print_rate(
+                rt,
+                layer.name(),
+                rate(bytes, best.time),
+                machine,
+                best.count,
+            )?,
+            None => print_time(rt, layer.name(), best.time)?,
+        }
+    }
+    Ok(())
+}
+
+fn print_rate(rt: &HostRuntime, name: &str, rate: u128, machine: u128, count: u64) -> Result<()> {
+    let times = rate.saturating_mul(100) / machine.max(1);
+    println!(rt;
+        "{name:<24}{:>8}.{} MB/s{:>6}.{:02}{count:>14}",
+        rate / 10,
+        rate % 10,
+        times / 100,
+        times % 100
+    )?;
+    Ok(())
+}
+
+fn print_time(rt: &HostRuntime, name: &str, time: Duration) -> Result<()> {
+    let micros = time.as_micros();
+    println!(rt; "{name:<24}{:>8}.{:03} ms", micros / 1000, micros % 1000)?;
+    Ok(())
+}
+
+/// The best run of each layer.
+fn best_of(rt: &HostRuntime, material: &Material) -> Result<[Best; LAYERS.len()]> {
+    let mut best = [Best {
+        time: Duration::MAX,
+        count: 0,
+    }; LAYERS.len()];
+    for _ in 0..ROUNDS {
+        for (k, layer) in LAYERS.iter().enumerate() {
+            let start = Instant::now(rt)?;
+            let count = layer.run(rt.alloc(), material)?;
+            let time = start.elapsed(rt)?;
+            if time < best[k].time {
+                best[k] = Best { time, count };
+            }
+        }
+    }
+    Ok(best)
+}
+
+/// Tenths of millions of bytes a second.
+fn rate(bytes: usize, time: Duration) -> u128 {
+    (bytes as u128) * 10_000 / time.as_nanos().max(1)
+}

@@ -1,0 +1,51 @@
+-- The breaks from a position on, as the positions are decided one after another.
+use Rattle.std.specs.Prelude.{◌≡◌, ℕ, ◌+◌, ◌-◌, ◌^◌, ◌<◌, ◌≤◌, Bool, true, false, List, [], ◌∷◌, ◌++◌, length, drop, map, encode_utf8, if◌then◌else◌}
+use Rattle.std.specs.Str.{IsUtf8, chars}
+use Rattle.lbk_rules.specs.declared.breaks.Break.{Break}
+use Rattle.lbk_rules.specs.declared.cells.Cell.{Cell}
+use Rattle.lbk_rules.specs.declared.verdicts.Profile.{Profile}
+use Rattle.lbk_rules.specs.declared.verdicts.Verdict.{Verdict}
+use Rattle.lbk_rules.specs.Breaks.{break_by, breaks, is_no}
+use Rattle.lbk_rules.specs.Verdict.{verdict_between_in}
+
+-- the break at a position, if there is one, and those that follow
+abbrev pub with_break : ℕ → Verdict → List Break → List Break
+with_break at verdict more = if is_no verdict.kind then more else break_by at verdict ∷ more
+
+-- those from the byte `at` on, which stands between the scalars before it and these
+abbrev pub onward : Profile → (ℕ → Cell) → List ℕ → ℕ → List ℕ → List Break
+onward profile cell before at [] = with_break at (verdict_between_in profile (map cell before) []) []
+onward profile cell before at (c ∷ cs) =
+    with_break at (verdict_between_in profile (map cell before) (map cell (c ∷ cs)))
+    (onward profile cell (before ++ c ∷ []) (at + length (encode_utf8 c)) cs)
+
+-- those from where the rest of a text of `end` bytes begins
+abbrev pub onward_in : Profile → (ℕ → Cell) → ℕ → List ℕ → List ℕ → List Break
+onward_in profile cell end before rest = onward profile cell before (end - length rest) (chars rest)
+
+-- of the breaks from where the rest `old` of a text begins these were given, and the others come from where the rest
+-- `new` begins
+pub record Filled (Fits : List ℕ → Type 0) (profile : Profile) (cell : ℕ → Cell) (end : ℕ) (before : List ℕ) (old new : List ℕ) (given : List Break) : Type 0 where
+  pub taken : List ℕ
+  pub fits : Fits (before ++ taken)
+  pub joined : onward_in profile cell end before old ≡ given ++ onward_in profile cell end (before ++ taken) new
+
+-- as many of the breaks from there as a block holds were given; ended: that at the text's end too
+abbrev pub FillsTo : Bool → (List ℕ → Type 0) → Profile → (ℕ → Cell) → ℕ → List ℕ → List ℕ → List ℕ → List Break → Type 0
+FillsTo true Fits profile cell end before old new given = onward_in profile cell end before old ≡ given
+FillsTo false Fits profile cell end before old new given = Filled Fits profile cell end before old new given
+
+-- until the end is given: what was taken of the text, and that the breaks from there on are to come
+pub record Comes (Fits : List ℕ → Type 0) (profile : Profile) (cell : ℕ → Cell) (text rest : List ℕ) (given : ℕ) : Type 0 where
+  pub taken : List ℕ
+  pub fits : Fits taken
+  pub to_come : drop given (breaks profile cell (chars text)) ≡ onward_in profile cell (length text) taken rest
+
+-- what stays so: what comes until the end is given, and that nothing comes from then on
+pub record IsKept (Fits : Profile → (ℕ → Cell) → List ℕ → Type 0) (profile : Profile) (cell : ℕ → Cell) (text rest : List ℕ) (given : ℕ) (ended : Bool) : Type 0 where
+  pub few : length text < 2 ^ 64
+  pub left : length rest ≤ length text
+  pub within : given ≤ length (breaks profile cell (chars text))
+  pub most : length (breaks profile cell (chars text)) ≤ length text
+  pub comes : ended ≡ false → Comes (Fits profile cell) profile cell text rest given
+  pub none_come : ended ≡ true → drop given (breaks profile cell (chars text)) ≡ []

@@ -1,0 +1,24 @@
+-- What the sample files come to: their cells, or want of memory.
+use Rattle.std.specs.Prelude.{◌≡◌, ℕ, ⊤}
+use Rattle.lbk_ucd.specs.declared.tables.Files.{Files}
+use Rattle.lbk_ucd.specs.declared.fault.UcdCause.TheVariants as cause
+use Rattle.lbk_ucd.specs.Samples.{AreSamples}
+use Rattle.lbk_rules.specs.declared.cells.Cell.{Cell}
+use Rattle.lbk_files.specs.declared.faults.CellsFault.{CellsFault}
+use Rattle.lbk_files.specs.declared.faults.CellsFault.TheVariants.{Load, Tables, Memory}
+use Rattle.lbk_files.specs.Cells.{AreCellsOf}
+use Rattle.lbk_files.specs.CellsRefusal.{IsCellsRefusal}
+
+-- each scalar value has the cell that the sample files give it
+abbrev pub AreSampleCells : (ℕ → Cell) → Type 0
+AreSampleCells cell = (files : Files) × AreSamples files × AreCellsOf files cell
+
+-- memory could not grow, for the tables or for the pages
+abbrev pub IsWantOfMemory : CellsFault → Type 0
+IsWantOfMemory (Tables fault) = fault.cause ≡ cause.Memory
+IsWantOfMemory Memory = ⊤
+IsWantOfMemory (Load which) = ⊥
+
+-- the sample files give no cells, for want of memory alone
+abbrev pub IsSampleFault : CellsFault → Type 0
+IsSampleFault fault = (files : Files) × AreSamples files × IsCellsRefusal files fault × IsWantOfMemory fault

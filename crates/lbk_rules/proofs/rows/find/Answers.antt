@@ -1,0 +1,23 @@
+use Rattle.std.proofs.Common.{[], get_or, sym, ◌∙◌}
+use Rattle.std.proofs.lemmas.List.{get_or_default}
+use Rattle.lbk_rules.specs.Facts.{facts}
+use Rattle.lbk_rules.proofs.LeftLemmas.{left_Decides, unread}
+use Rattle.lbk_rules.proofs.rows.find.Goals as goal
+
+pub returns-then-eq : goal.returns-then-eq
+returns-then-eq c =
+    let lefts = c.args.lefts.now in
+    let here = c.if-hint-lefts.true in (
+      here,
+      get_or_default lefts c.args.hint (facts []) unread here
+          ∙ (left_Decides (get_or lefts c.args.hint unread) c.args.left).0 (sym c.eq.ensures ∙ c.if-eq.true),
+    )
+
+pub returns-then-eq-2 : goal.returns-then-eq-2
+returns-then-eq-2 c =
+    let lefts = c.args.lefts.now in
+    let here = c.loop-row-test.true in (
+      here,
+      get_or_default lefts c.loop-row.row (facts []) unread here
+          ∙ (left_Decides (get_or lefts c.loop-row.row unread) c.args.left).0 (sym c.eq-in-loop-row.ensures ∙ c.if-eq-2.true),
+    )

@@ -1,0 +1,23 @@
+use Rattle.std.proofs.Common.{◌≡◌, ℕ, ◌∷◌, map, reverse, sym, ap, ◌∙◌}
+use Rattle.std.specs.Str.{chars}
+use Rattle.lbk_rules.specs.declared.cells.Cell.{Cell}
+use Rattle.lbk_rules.specs.declared.verdicts.Profile.{Profile}
+use Rattle.lbk_rules.specs.Chain.{from_cells}
+use Rattle.lbk_rules.specs.Kinds.{kind_cell}
+use Rattle.lbk_rules.specs.KindTable.{kind_at}
+use Rattle.lbk_rules.specs.Normal.{normal}
+use Rattle.lbk_rules.specs.RowMachineFits.{normals}
+use Rattle.lbk_rules.proofs.AheadLemmas.{ahead-normal, kinds_of_text}
+use Rattle.lbk_rules.proofs.step_table.RowMachine.look_ahead.Goals as goal
+
+pub returns : goal.returns
+returns c = λ profile cell taken fits.
+    let side = reverse (normals cell taken) in
+    let rest = c.args.rest.now in
+    let machine = c.args.self.now in
+    let see : ℕ → Cell = λ code. kind_cell (kind_at machine.kinds.now code) in
+    c.verdict_ahead.ensures side (c.left.ensures profile cell taken fits)
+    ∙ ap (λ (p : Profile). from_cells p side (c.cell.result ∷ map see (chars rest))) (c.profile.ensures profile cell taken fits)
+    ∙ ap (λ (x : Cell). from_cells profile side (x ∷ map see (chars rest))) (c.cell.ensures profile cell taken fits)
+    ∙ ap (λ l. from_cells profile side (normal (cell c.args.c) ∷ l)) (kinds_of_text machine.kinds.now cell rest fits.kinds_same c.utf8.rest)
+    ∙ ahead-normal profile cell taken (cell c.args.c ∷ map cell (chars rest))

@@ -1,0 +1,84 @@
+//! The positions of a text, decided scalar by scalar.
+
+ghost use Rattle.std.specs.Prelude.{◌≡◌, ℕ, ◌<◌, List, [], ◌∷◌, ◌++◌, length, map};
+ghost use Rattle.lbk_rules.specs.Held.{answer_at, late_at, now_at};
+ghost use Rattle.lbk_rules.specs.Verdict.{verdict_in};
+
+use crate::cells::CellSource;
+use crate::late::{End, LateMachine, Out};
+use crate::row_stepper::RowStepper;
+use crate::verdicts::Profile;
+
+/// Decides the positions of a text one after another in either profile, scalar by scalar and without looking back,
+/// by the cells of a source: by its table of steps, if it has one. In the second profile it may hold a position
+/// open until the unit after a closing quotation mark begins. Positions count scalars from 0.
+#[derive(Drop)]
+pub struct Stepper<'a, C: CellSource> {
+    cells: &'a C,
+    way: Way<'a>,
+}
+
+/// How the positions are decided.
+#[derive(Clone, Copy)]
+enum Way<'a> {
+    ByRows(RowStepper<'a>),
+    ByRules(LateMachine),
+}
+
+impl<'a, C: CellSource> Stepper<'a, C> {
+    ghost use Rattle.lbk_rules.specs.StepperFits.{StepperFits};
+    ghost use Rattle.lbk_rules.specs.declared.cells.Cell.{Cell};
+    ghost use Rattle.lbk_rules.specs.declared.verdicts.Profile.{Profile};
+
+    /// A stepper of this profile that has taken no scalar.
+    pub fn start(cells: &'a C, profile: Profile) -> Stepper<'a, C>
+        ensures { StepperFits C.cell_of result profile (C.cell_of cells.now) [] }
+    {
+        let way = match cells.step_table() {
+            Some(table) => Way::ByRows(RowStepper::new(table.machine(profile), 0)),
+            None => Way::ByRules(LateMachine::start(profile)),
+        };
+        Stepper { cells, way }
+    }
+
+    /// Takes the next scalar: the verdict of the position before it, unless that is held, and that of the position
+    /// that was held until now, where the scalar heads the unit after its quotation mark. It answers so for the first
+    /// 18,446,744,073,709,551,615 scalars of a text.
+    #[inline]
+    pub fn step(&mut self, c: char) -> Out
+        ensures now { (profile : Profile) (cell : ℕ → Cell) (taken : List ℕ) (more : List Cell)
+            → StepperFits C.cell_of self.old profile cell taken → length taken < 18446744073709551615
+            → result.now ≡ now_at profile (map cell taken) (cell c ∷ more) }
+        ensures late { (profile : Profile) (cell : ℕ → Cell) (taken : List ℕ) (more : List Cell)
+            → StepperFits C.cell_of self.old profile cell taken → length taken < 18446744073709551615
+            → result.late ≡ late_at profile (map cell taken) (cell c) more }
+        ensures fits { (profile : Profile) (cell : ℕ → Cell) (taken : List ℕ)
+            → StepperFits C.cell_of self.old profile cell taken → length taken < 18446744073709551615
+            → StepperFits C.cell_of self.new profile cell (taken ++ c ∷ []) }
+    {
+        match &mut self.way {
+            Way::ByRows(stepper) => stepper.step(c),
+            Way::ByRules(machine) if machine.steps() == u64::MAX => Out {
+                now: None,
+                late: None,
+            },
+            Way::ByRules(machine) => machine.step(self.cells.cell(c)),
+        }
+    }
+
+    /// The verdict of the position after all scalars taken, where the text ends, and that of the position that was
+    /// held until now.
+    pub fn finish(&self) -> End
+        ensures late { (profile : Profile) (cell : ℕ → Cell) (taken : List ℕ)
+            → StepperFits C.cell_of self.now profile cell taken
+            → result.late ≡ answer_at profile (map cell taken) [] }
+        ensures end { (profile : Profile) (cell : ℕ → Cell) (taken : List ℕ)
+            → StepperFits C.cell_of self.now profile cell taken
+            → result.end ≡ verdict_in profile (map cell taken) (length taken) }
+    {
+        match &self.way {
+            Way::ByRows(stepper) => stepper.finish(),
+            Way::ByRules(machine) => machine.finish(),
+        }
+    }
+}

@@ -1,0 +1,21 @@
+//! Where growths of memory are counted.
+//!
+//! A library that is loaded before the program, `scripts/refuse.c`, refuses growths. It is told by requests for room
+//! of two sizes, which nothing else here asks for, where to begin to count and where to stop. Without the library
+//! they are plain requests.
+
+use std::alloc::Global;
+
+const BEGIN: usize = 1_000_003;
+
+const END: usize = 1_000_033;
+
+/// From here on growths are counted.
+pub fn begin(alloc: Global) {
+    let _ = Vec::<u8>::with_capacity(alloc, BEGIN);
+}
+
+/// From here on growths are not counted.
+pub fn end(alloc: Global) {
+    let _ = Vec::<u8>::with_capacity(alloc, END);
+}

@@ -1,0 +1,88 @@
+//! `lbk_trials`: each call that can want memory, and each that takes none, run once on an input of its own.
+//!
+//! `lbk_trials ROW PROFILE` runs a row of the table and writes what the call answered. Without words it runs all
+//! rows, and heads each with its name. It is run by `scripts/refuse-each-growth`, which refuses the growths of
+//! memory in turn and compares.
+#![tactic(auto)]
+
+mod commands;
+mod counting;
+mod digest;
+mod engines;
+mod inputs;
+mod lines;
+mod passages;
+mod property_files;
+mod pushes;
+mod quiet;
+mod rows;
+mod tables;
+mod trial;
+
+use anyhow::Result;
+use lbk_rules::Profile;
+use rows::{ROWS, Row};
+use std::env;
+use std::process::ExitCode;
+
+const USAGE: u8 = 2;
+
+/// What is shown of an answer where all rows are run.
+const SHOWN: usize = 400;
+
+fn main(rt: HostRuntime) -> Result<ExitCode> {
+    let words: Vec<String> = env::args(&rt)?.skip(1).collect(rt.alloc())?;
+    match words.as_slice() {
+        [] => run_all(&rt),
+        [name] => run_one(&rt, name.as_str(), Profile::First),
+        [name, profile] if profile.as_str() == "2" => {
+            run_one(&rt, name.as_str(), Profile::Second)
+        }
+        _ => usage(&rt),
+    }
+}
+
+fn usage(rt: &HostRuntime) -> Result<ExitCode> {
+    eprintln!(rt; "usage: lbk_trials [ROW [2]]")?;
+    Ok(ExitCode::from(USAGE))
+}
+
+/// Runs the row of this name, and writes the whole answer.
+fn run_one(rt: &HostRuntime, name: &str, profile: Profile) -> Result<ExitCode> {
+    for (row, trial) in ROWS {
+        if *row == name {
+            let told = trial.run(rt.alloc(), profile)?;
+            print!(rt; "{told}")?;
+            return Ok(ExitCode::SUCCESS);
+        }
+    }
+    usage(rt)
+}
+
+/// Runs all rows, those that have a profile in both, and writes the answers that are short, the sum of the others.
+fn run_all(rt: &HostRuntime) -> Result<ExitCode> {
+    for row in ROWS {
+        run_shortly(rt, row, Profile::First)?;
+        if row.1.has_profile() {
+            run_shortly(rt, row, Profile::Second)?;
+        }
+    }
+    Ok(ExitCode::SUCCESS)
+}
+
+fn run_shortly(rt: &HostRuntime, row: &Row, profile: Profile) -> Result<()> {
+    let (name, trial) = row;
+    let told = trial.run(rt.alloc(), profile)?;
+    match profile {
+        Profile::First => println!(rt; "row {name}")?,
+        Profile::Second => println!(rt; "row {name} 2")?,
+    }
+    if told.len() <= SHOWN {
+        print!(rt; "{told}")?;
+    } else {
+        let digest = digest::of(told.as_bytes());
+        let count = told.len();
+        println!(rt; "{count} bytes, digest {digest:016x}")?;
+    }
+    Ok(())
+}

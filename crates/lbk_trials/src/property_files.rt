@@ -1,0 +1,147 @@
+//! The property files of the rows, small and large.
+
+use lbk_files::SAMPLE_FILES;
+use lbk_ucd::Files;
+use std::alloc::{AllocError, Global};
+
+/// Which property files a row reads.
+#[derive(Clone, Copy)]
+pub enum PropertyFiles {
+    /// The sample files.
+    Samples,
+    /// A row that shares a code with the row before it.
+    Overlap,
+    /// An unknown value behind rows and defaults.
+    UnknownValue,
+    /// Forty defaults in each file that has them, laid over one another.
+    ManyDefaults,
+    /// Three thousand rows in each file.
+    ManyRows,
+    /// Eleven hundred pages of 256 codes, each unlike the others.
+    ManyPages,
+}
+
+/// The bytes of four property files.
+#[derive(Drop)]
+pub struct Made {
+    line_break: Vec<u8>,
+    east_asian: Vec<u8>,
+    category: Vec<u8>,
+    emoji: Vec<u8>,
+}
+
+impl Made {
+    /// The files, lent.
+    pub fn files(&self) -> Files<'_> {
+        Files {
+            line_break: &self.line_break,
+            east_asian: &self.east_asian,
+            category: &self.category,
+            emoji: &self.emoji,
+        }
+    }
+
+    fn of(alloc: Global, files: Files<'_>) -> Result<Made, AllocError> {
+        Ok(Made {
+            line_break: Vec::from_slice(alloc, files.line_break)?,
+            east_asian: Vec::from_slice(alloc, files.east_asian)?,
+            category: Vec::from_slice(alloc, files.category)?,
+            emoji: Vec::from_slice(alloc, files.emoji)?,
+        })
+    }
+
+    fn of_line_break(alloc: Global, line_break: Vec<u8>) -> Made {
+        Made {
+            line_break,
+            east_asian: Vec::new(alloc),
+            category: Vec::new(alloc),
+            emoji: Vec::new(alloc),
+        }
+    }
+}
+
+impl PropertyFiles {
+    pub fn make(self, alloc: Global) -> Result<Made, AllocError> {
+        match self {
+            PropertyFiles::Samples => Made::of(alloc, SAMPLE_FILES),
+            PropertyFiles::Overlap => Ok(Made::of_line_break(
+                alloc,
+                Vec::from_slice(alloc, b"0041;AL\n0041..0042;ID\n")?,
+            )),
+            PropertyFiles::UnknownValue => Ok(Made::of_line_break(
+                alloc,
+                Vec::from_slice(
+                    alloc,
+                    b"# @missing: 0000..10FFFF; ID\n0041;AL\n0043;AL\n0045;AK\n",
+                )?,
+            )),
+            PropertyFiles::ManyDefaults => many_defaults(alloc),
+            PropertyFiles::ManyRows => many_rows(alloc),
+            PropertyFiles::ManyPages => Ok(Made::of_line_break(alloc, many_pages(alloc)?)),
+        }
+    }
+}
+
+const DEFAULTS: u32 = 40;
+
+const ROWS: u32 = 3000;
+
+const PAGES: u32 = 1100;
+
+fn many_defaults(alloc: Global) -> Result<Made, AllocError> {
+    Ok(Made {
+        line_break: defaults(alloc, ["ID", "AL", "CB", "XX"])?,
+        east_asian: defaults(alloc, ["W", "N", "F", "A"])?,
+        category: Vec::new(alloc),
+        emoji: Vec::new(alloc),
+    })
+}
+
+/// Defaults, each within the one before it but for every fourth, and the values in turn.
+fn defaults(alloc: Global, values: [&str; 4]) -> Result<Vec<u8>, AllocError> {
+    let mut file = Vec::new(alloc);
+    for k in 0..DEFAULTS {
+        let first = 100 * (k % 4) + 1000 * (k / 4);
+        let last = 50_000 - 300 * k;
+        let value = values[k as usize % 4];
+        let line = format!(in alloc; "# @missing: {first:04X}..{last:04X}; {value}\n")?;
+        file.extend_from_slice(line.as_bytes())?;
+    }
+    Ok(file)
+}
+
+fn many_rows(alloc: Global) -> Result<Made, AllocError> {
+    Ok(Made {
+        line_break: rows(alloc, ["AL", "ID"])?,
+        east_asian: rows(alloc, ["W", "Na"])?,
+        category: rows(alloc, ["Ll", "Pi"])?,
+        emoji: rows(alloc, ["Extended_Pictographic", "Emoji"])?,
+    })
+}
+
+/// A row for every third code, and the values in turn.
+fn rows(alloc: Global, values: [&str; 2]) -> Result<Vec<u8>, AllocError> {
+    let mut file = Vec::new(alloc);
+    for k in 0..ROWS {
+        let code = 3 * k;
+        let value = values[k as usize % 2];
+        let line = format!(in alloc; "{code:04X};{value}\n")?;
+        file.extend_from_slice(line.as_bytes())?;
+    }
+    Ok(file)
+}
+
+/// A row for each bit of a page's number, so that no two pages are alike.
+fn many_pages(alloc: Global) -> Result<Vec<u8>, AllocError> {
+    let mut file = Vec::new(alloc);
+    for page in 0..PAGES {
+        for bit in 0..11 {
+            if page >> bit & 1 == 1 {
+                let code = 256 * page + bit;
+                let line = format!(in alloc; "{code:04X};ID\n")?;
+                file.extend_from_slice(line.as_bytes())?;
+            }
+        }
+    }
+    Ok(file)
+}

@@ -1,0 +1,292 @@
+//! Calls that take no memory. What they are run on is made before growths are counted, and none may be counted.
+
+use crate::counting::{begin, end};
+use crate::digest::Digest;
+use crate::inputs::{Text, cells, cells_of, line_of, text_of, verdicts_of};
+use anyhow::{Result, anyhow, ensure};
+use lbk_cmd::Ending;
+use lbk_feed::devices::MemorySource;
+use lbk_feed::{Device, Feed, Sink, Source, write_all};
+use lbk_files::SAMPLE_FILES;
+use lbk_notation::{Form, Mark, Report, TestLine, replay_line};
+use lbk_rules::{
+    Cell, CellSource, LateMachine, Machine, Profile, Verdict, decide, decide_all, decide_all_in,
+    decide_in, resolve,
+};
+use lbk_ucd::{Places, Tables};
+use std::alloc::Global;
+
+/// Which calls are made.
+#[derive(Clone, Copy)]
+pub enum Quiet {
+    /// `Feed::new`, `ready`, `piece`, `settle`, `advance`, `given`.
+    Feed(Text),
+    /// `Device::new`, its `read` and `write`, `reads`, `failures`, `ended`; `write_all`.
+    Device,
+    /// `line_break`, `east_asian`, `category`, `is_pictographic` and `run` of `Tables`.
+    LookUps,
+    /// `resolve`, and `cell` of `Tables` and of `CellPages`.
+    Cells,
+    /// `decide`, `decide_in`, `decide_all`, `decide_all_in`.
+    Decide(Text),
+    /// Each call of `Machine` and `LateMachine`, and `label`.
+    Machines(Text),
+    /// `TestLine::new`, `scalars`, `marks`.
+    TestLine,
+    /// `replay_line` of the line of one text against the rules' marks of a text, in both forms.
+    ReplayLine(Text),
+    /// `Ending::status`.
+    Status,
+}
+
+impl Quiet {
+    pub fn has_profile(self) -> bool {
+        matches!(
+            self,
+            Quiet::Decide(_) | Quiet::Machines(_) | Quiet::ReplayLine(_)
+        )
+    }
+
+    pub fn run(self, alloc: Global, profile: Profile) -> Result<String> {
+        match self {
+            Quiet::Feed(text) => feed(alloc, text),
+            Quiet::Device => device(alloc),
+            Quiet::LookUps => look_ups(alloc),
+            Quiet::Cells => both_cells(alloc),
+            Quiet::Decide(text) => decided(alloc, text, profile),
+            Quiet::Machines(text) => machines(alloc, text, profile),
+            Quiet::TestLine => test_line(alloc),
+            Quiet::ReplayLine(text) => replayed(alloc, text, profile),
+            Quiet::Status => status(alloc),
+        }
+    }
+}
+
+/// More pieces than a row has.
+const PIECES: usize = 100_000;
+
+fn feed(alloc: Global, text: Text) -> Result<String> {
+    let bytes = text.bytes(alloc)?;
+    let mut source = MemorySource::cut(&bytes, &[1, 2, 3, 4096]);
+    let mut digest = Digest::new();
+    let mut fault = None;
+    begin(alloc);
+    let mut feed = Feed::new();
+    for _ in 0..PIECES {
+        match feed.piece(&mut source) {
+            Ok(Some(piece)) => digest.add_bytes(piece.as_bytes()),
+            Ok(None) => break,
+            Err(met) => {
+                fault = Some(met);
+                break;
+            }
+        }
+        let ready = feed.ready().len();
+        feed.advance(ready);
+    }
+    let settled = feed.settle(&mut source);
+    let given = feed.given();
+    end(alloc);
+    let digest = digest.value();
+    let reads = source.reads();
+    Ok(format!(in alloc;
+        "{given} bytes, {reads} reads, {fault:?}, {settled:?}, digest {digest:016x}\n"
+    )?)
+}
+
+fn device(alloc: Global) -> Result<String> {
+    let mut block = [0u8; 16];
+    let written: Vec<u8> = Vec::with_capacity(alloc, 64)?;
+    begin(alloc);
+    let mut reader = Device::new(b"bytes of a reader".as_slice());
+    let first = reader.read(&mut block);
+    let second = reader.read(&mut block);
+    let third = reader.read(&mut block);
+    let reads = reader.reads();
+    let ended = reader.ended();
+    let mut writer = Device::new(written);
+    let took = writer.write(b"bytes of ");
+    let all = write_all(&mut writer, b"a writer");
+    let failures = (reader.failures(), Sink::failures(&writer));
+    end(alloc);
+    Ok(format!(in alloc;
+        "{first:?} {second:?} {third:?} {reads} {ended} {took:?} {all:?} {failures:?}\n"
+    )?)
+}
+
+const LAST_CODE: u32 = 0x10FFFF;
+
+fn look_ups(alloc: Global) -> Result<String> {
+    let tables = tables(alloc)?;
+    let mut digest = Digest::new();
+    begin(alloc);
+    for code in 0..=LAST_CODE {
+        digest.add(tables.line_break(code) as u64);
+        digest.add(tables.east_asian(code) as u64);
+        digest.add(tables.category(code) as u64);
+        digest.add(u64::from(tables.is_pictographic(code)));
+        digest.add(u64::from(tables.run(code, Places::START).last));
+    }
+    end(alloc);
+    let digest = digest.value();
+    Ok(format!(in alloc; "digest {digest:016x}\n")?)
+}
+
+fn tables(alloc: Global) -> Result<Tables> {
+    Tables::read(alloc, SAMPLE_FILES).map_err(|_| anyhow!("the sample files are refused"))
+}
+
+/// How many scalar values have the same cell by the properties, by the tables and by the pages.
+fn both_cells(alloc: Global) -> Result<String> {
+    let tables = tables(alloc)?;
+    let pages = cells(alloc)?;
+    let mut same = 0u32;
+    begin(alloc);
+    for c in '\0'..=char::MAX {
+        let code = u32::from(c);
+        let resolved = resolve(
+            tables.line_break(code),
+            tables.east_asian(code),
+            tables.category(code),
+            tables.is_pictographic(code),
+        );
+        if resolved == tables.cell(c) && resolved == pages.cell(c) {
+            same = same.saturating_add(1);
+        }
+    }
+    end(alloc);
+    Ok(format!(in alloc; "{same}\n")?)
+}
+
+fn decided(alloc: Global, text: Text, profile: Profile) -> Result<String> {
+    let bytes = text.bytes(alloc)?;
+    let text = text_of(&bytes)?;
+    let list = cells_of(alloc, text)?;
+    let mut first = verdicts_of(alloc, text, profile)?;
+    let mut chosen = verdicts_of(alloc, text, profile)?;
+    ensure!(
+        first.len() == list.len() + 1 && chosen.len() == list.len() + 1,
+        "a verdict at each position"
+    );
+    let mut digest = Digest::new();
+    begin(alloc);
+    for k in 0..list.len() + 1 {
+        add_verdict(&mut digest, decide(&list, k));
+        add_verdict(&mut digest, decide_in(profile, &list, k));
+    }
+    decide_all(&list, &mut first);
+    let answers = decide_all_in(profile, &list, &mut chosen);
+    end(alloc);
+    for verdict in first.iter().chain(chosen.iter()) {
+        add_verdict(&mut digest, *verdict);
+    }
+    let digest = digest.value();
+    Ok(format!(in alloc; "{answers} answers, digest {digest:016x}\n")?)
+}
+
+fn add_verdict(digest: &mut Digest, verdict: Verdict) {
+    digest.add(verdict.kind as u64);
+    digest.add_bytes(verdict.rule.label().as_bytes());
+}
+
+fn machines(alloc: Global, text: Text, profile: Profile) -> Result<String> {
+    let bytes = text.bytes(alloc)?;
+    let list = cells_of(alloc, text_of(&bytes)?)?;
+    let mut digest = Digest::new();
+    begin(alloc);
+    step_machine(&mut digest, &list);
+    step_late_machine(&mut digest, &list, profile);
+    end(alloc);
+    let digest = digest.value();
+    Ok(format!(in alloc; "digest {digest:016x}\n")?)
+}
+
+fn step_machine(digest: &mut Digest, list: &[Cell]) {
+    let mut machine = Machine::start();
+    for cell in list {
+        add_verdict(digest, machine.step(*cell));
+    }
+    add_verdict(digest, machine.finish());
+}
+
+fn step_late_machine(digest: &mut Digest, list: &[Cell], profile: Profile) {
+    let mut machine = LateMachine::start(profile);
+    for cell in list {
+        if machine.steps() == u64::MAX {
+            break;
+        }
+        let out = machine.step(*cell);
+        add_late(digest, out.late);
+        if let Some(verdict) = out.now {
+            add_verdict(digest, verdict);
+        }
+    }
+    let ended = machine.finish();
+    add_late(digest, ended.late);
+    add_verdict(digest, ended.end);
+    digest.add(machine.steps());
+}
+
+fn add_late(digest: &mut Digest, late: Option<(u64, Verdict)>) {
+    if let Some((position, verdict)) = late {
+        digest.add(position);
+        add_verdict(digest, verdict);
+    }
+}
+
+fn test_line(alloc: Global) -> Result<String> {
+    let scalars = vec![in alloc; 'a', '\u{1F466}']?;
+    let marks = vec![in alloc; Mark::No, Mark::May, Mark::Must]?;
+    let few_scalars = vec![in alloc; 'a']?;
+    let few_marks = vec![in alloc; Mark::No]?;
+    begin(alloc);
+    let line = TestLine::new(scalars, marks);
+    let none = TestLine::new(few_scalars, few_marks);
+    let has_none = none.is_none();
+    end(alloc);
+    let Some(line) = line else {
+        return Err(anyhow!("the line of this row is refused"));
+    };
+    begin(alloc);
+    let shown = (line.scalars(), line.marks());
+    end(alloc);
+    Ok(format!(in alloc; "{shown:?} {has_none}\n")?)
+}
+
+/// The text's line agrees in form Kinds; the line that breaks nowhere differs, in both forms.
+fn replayed(alloc: Global, text: Text, profile: Profile) -> Result<String> {
+    let source = cells(alloc)?;
+    let line = line_of(alloc, text, profile)?;
+    let mut scalars = Vec::new(alloc);
+    let mut marks = vec![in alloc; Mark::No]?;
+    for c in line.scalars() {
+        scalars.push(*c)?;
+        marks.push(Mark::No)?;
+    }
+    let Some(other) = TestLine::new(scalars, marks) else {
+        return Err(anyhow!("the line of this row is refused"));
+    };
+    begin(alloc);
+    let agrees = replay_line(&source, &line, Form::Kinds, profile);
+    let kinds = replay_line(&source, &other, Form::Kinds, profile);
+    let plain = replay_line(&source, &other, Form::Plain, profile);
+    end(alloc);
+    Ok(format!(in alloc; "{agrees:?}\n{kinds:?}\n{plain:?}\n")?)
+}
+
+fn status(alloc: Global) -> Result<String> {
+    let report = Report {
+        lines: 1,
+        agreed: 0,
+        differed: 1,
+        refused: 0,
+    };
+    let help = Ending::Help {
+        text: String::from_str(alloc, "help")?,
+    };
+    let differs = Ending::Differs(report);
+    begin(alloc);
+    let statuses = [Ending::Done.status(), help.status(), differs.status()];
+    end(alloc);
+    Ok(format!(in alloc; "{statuses:?}\n")?)
+}
