@@ -7,7 +7,7 @@ use lbk_breaks::Breaks;
 use lbk_cmd::{segment, show};
 use lbk_feed::devices::MemorySource;
 use lbk_notation::{Form, replay};
-use lbk_passage::Segmenter;
+use lbk_passage::{Segment, Segmenter};
 use lbk_rules::{
     Break, CellPages, CellSource, Class, Kind, LateMachine, Machine, Profile, Rule, Stepper,
     Verdict,
@@ -69,14 +69,11 @@ pub const LAYERS: [Layer; 17] = [
     Layer::Pages,
 ];
 
-/// The verdict at a passage's end, where only its place counts.
-const END: Verdict = Verdict {
-    kind: Kind::Must,
-    rule: Rule::Lb3,
-};
-
 /// How many breaks a block holds.
 const BLOCK: usize = 1024;
+
+/// How many it holds in the segmenter.
+const SEGMENTS: usize = 64;
 
 const NO_BREAK: Break = Break {
     at: 0,
@@ -215,49 +212,42 @@ fn by_breaks(cells: &CellPages, profile: Profile, text: &str) -> u64 {
     count
 }
 
-/// A segment, as places of bytes, and why it ends.
-type Cut = (usize, usize, Verdict);
-
 /// The loop of the segmenter, over each passage.
 fn segments(alloc: Global, material: &Material) -> Result<u64> {
-    let mut cuts = Vec::new(alloc);
+    let mut segments = Vec::new(alloc);
     let mut count = 0u64;
     for (start, end) in &material.passages {
         let Some(text) = material.text.get(*start..*end) else {
             bail!("a passage that is not of the text");
         };
-        cuts.clear();
-        cut(&material.cells, text, &mut cuts)?;
-        count = count.wrapping_add(cuts.len() as u64);
+        segments.clear();
+        cut(&material.cells, text, &mut segments)?;
+        count = count.wrapping_add(segments.len() as u64);
     }
     Ok(count)
 }
 
-fn cut(cells: &CellPages, text: &str, cuts: &mut Vec<Cut>) -> Result<()> {
-    let mut stepper = Stepper::start(cells, Profile::First);
+fn cut(cells: &CellPages, text: &str, segments: &mut Vec<Segment>) -> Result<()> {
+    let mut breaks = Breaks::new(cells, text, Profile::First);
+    let mut block = [NO_BREAK; SEGMENTS];
     let mut start = 0;
-    let mut held = 0;
-    for (at, c) in text.char_indices() {
-        let out = stepper.step(c);
-        if let Some((_, verdict)) = out.late {
-            start = end_at(cuts, start, held, verdict)?;
+    for _ in 0..u64::MAX {
+        let some = breaks.fill(&mut block);
+        if some == 0 {
+            break;
         }
-        match out.now {
-            Some(verdict) => start = end_at(cuts, start, at, verdict)?,
-            None => held = at,
+        for found in &block[..some] {
+            let end = u32::try_from(found.at)?;
+            segments.push(Segment {
+                start,
+                end,
+                kind: found.kind,
+                rule: found.rule,
+            })?;
+            start = end;
         }
     }
-    end_at(cuts, start, text.len(), END)?;
     Ok(())
-}
-
-/// Ends the segment in progress, if a line may break there. Where the one in progress then begins.
-fn end_at(cuts: &mut Vec<Cut>, start: usize, at: usize, verdict: Verdict) -> Result<usize> {
-    if verdict.kind == Kind::No {
-        return Ok(start);
-    }
-    cuts.push((start, at, verdict))?;
-    Ok(at)
 }
 
 fn passages(alloc: Global, cells: &CellPages, text: &str) -> Result<u64> {

@@ -14,10 +14,9 @@ use Rattle.lbk_rules.specs.Answers.{written}
 use Rattle.lbk_rules.specs.Facts.{heads}
 use Rattle.lbk_rules.specs.Held.{is_held, unanswered_before, answer_at, late_at, now_at}
 use Rattle.lbk_rules.specs.Verdict.{verdict_between_in}
-use Rattle.lbk_rules.proofs.CoverLemmas.{held-heads, answer_at-below}
+use Rattle.lbk_rules.proofs.CoverLemmas.{answer-snoc, answer_at-below, held-heads}
 use Rattle.lbk_rules.proofs.EndLemmas.{start_of_text}
 use Rattle.lbk_passage.specs.Marks.{Marked, ended, marks, marks_behind}
-use Rattle.lbk_passage.proofs.SegmentLemmas.{answer-snoc}
 use Rattle.lbk_cmd.specs.Deciding.{placed}
 use Rattle.lbk_cmd.specs.Show.{at_start, verdicts_of}
 

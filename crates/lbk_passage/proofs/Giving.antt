@@ -1,5 +1,5 @@
 -- What a call of `next` leaves, by the answer of the call that fills a paragraph.
-use Rattle.std.proofs.Common.{◌≡◌, ◌⊎◌, ℕ, ◌+◌, ◌-◌, ◌<◌, ◌≤◌, Bool, true, false, ◌||◌, not, List, [], ◌∷◌, ◌++◌, length, Option, None, Some, Result, Ok, Err, is_ok, OnOk, string_bytes, string_len, encode_utf8_all, chars, IsUtf8, if◌then◌else◌, refl, sym, ap, subst, ◌∙◌, arith, inl, inr, ⊎_elim, append-nil}
+use Rattle.std.proofs.Common.{◌≡◌, ◌⊎◌, ℕ, ◌-◌, ◌<◌, Bool, true, false, ◌||◌, List, [], ◌∷◌, ◌++◌, length, Option, None, Some, Result, Ok, Err, is_ok, OnOk, string_bytes, string_len, encode_utf8_all, chars, IsUtf8, if◌then◌else◌, refl, sym, ap, subst, ◌∙◌, arith, inl, inr, ⊎_elim}
 use Rattle.std.proofs.lemmas.Bool.{false≢true}
 use Rattle.std.proofs.lemmas.Str.{chars-nil, encodes-chars, IsUtf8-string_bytes}
 use Rattle.std.specs.Io.KnownBytes.{prepend_known}
@@ -11,7 +11,7 @@ use Rattle.lbk_passage.specs.Marks.{Marked, marks, ended, scalars_of, text_of}
 use Rattle.lbk_passage.specs.Segments.{segments_of}
 use Rattle.lbk_passage.specs.Pieces.{pieces_of}
 use Rattle.lbk_passage.specs.State.{State, state_with, text_held}
-use Rattle.lbk_passage.specs.Next.{Answers, AfterNext, IsPlaced, Lends, IsPassage, ComesFirst, GoesOn, IsLast, Stops, KeepsAhead, ends_run}
+use Rattle.lbk_passage.specs.Next.{Answers, AfterNext, IsPlaced, Lends, ComesFirst, GoesOn, IsLast, Stops, KeepsAhead}
 use Rattle.lbk_passage.specs.Gathering.{Fills, FillAnswers, IsFirst, IsSame}
 use Rattle.lbk_passage.specs.declared.faults.PassageFault.{PassageFault}
 use Rattle.lbk_passage.specs.declared.faults.PassageFault.TheVariants.{Limit, Memory, Read, NotUtf8, TextTooLong, ParagraphTooLong, Spent}

@@ -1,241 +1,146 @@
--- The segments of a passage, as its positions are decided one after another.
-use Rattle.std.proofs.Common.{◌≡◌, ℕ, ◌+◌, ◌^◌, ◌<◌, ◌≤◌, Bool, true, false, cond, Option, Some, None, List, [], ◌∷◌, ◌++◌, map, length, reverse, append_assoc, encode_utf8_all, refl, sym, ap, ap₂, subst, ◌∙◌, arith}
+-- The segments of a passage, by the breaks of its text alone.
+use Rattle.std.proofs.Common.{◌≡◌, ℕ, ◌+◌, ◌<◌, Bool, true, false, cond, All, List, [], ◌∷◌, ◌++◌, map, length, take, encode_utf8_all, refl, sym, ap, ◌∙◌, arith}
 use Rattle.std.specs.Char.{encode_utf8}
-use Rattle.std.specs.Option.{option_map}
 use Rattle.std.specs.Str.{IsUtf8, chars}
-use Rattle.std.proofs.lemmas.Bool.{false≢true}
-use Rattle.std.proofs.lemmas.List.{append-nil, length-append, length_push, map-append, nil_from_length}
-use Rattle.std.proofs.lemmas.Str.{IsUtf8-past_char, chars-nil, chars_past_char, encodes-chars, len_utf8_bounds, length-encode}
+use Rattle.std.proofs.lemmas.List.{append_cancel_left, length-append, length_push, map-append, take_at}
+use Rattle.std.proofs.lemmas.List.Elements.{All-cons, All-nil}
+use Rattle.std.proofs.lemmas.Str.{encodes-chars}
 use Rattle.lbk_rules.specs.declared.cells.Cell.{Cell}
 use Rattle.lbk_rules.specs.declared.verdicts.Profile.{Profile}
 use Rattle.lbk_rules.specs.declared.verdicts.Verdict.{Verdict}
-use Rattle.lbk_rules.specs.Facts.{heads}
-use Rattle.lbk_rules.specs.Held.{is_held, unanswered, unanswered_before, answer_at, late_at, now_at}
-use Rattle.lbk_rules.specs.Verdict.{verdict_in, verdict_between_in}
-use Rattle.lbk_rules.proofs.CoverLemmas.{held-heads, unanswered-snoc}
-use Rattle.lbk_rules.proofs.EndLemmas.{joins_no_break, start_of_text}
-use Rattle.lbk_rules.proofs.MachineLemmas.{verdict_in-append}
+use Rattle.lbk_rules.specs.Verdict.{verdict_between_in}
+use Rattle.lbk_rules.proofs.EndLemmas.{must_at_end}
 use Rattle.lbk_passage.specs.declared.passage.Segment.{Segment}
-use Rattle.lbk_passage.specs.Breaks.{is_no}
-use Rattle.lbk_passage.specs.Cuts.{Cut, answered, cut_at, met}
-use Rattle.lbk_passage.specs.Marks.{ended, marks, marks_behind}
+use Rattle.lbk_passage.specs.Breaks.{break_by, breaks, breaks_from, is_no}
+use Rattle.lbk_passage.specs.Cuts.{cut_at, ending_by}
+use Rattle.lbk_passage.specs.Marks.{Marked, ended, marks, marks_behind, scalars_of}
 use Rattle.lbk_passage.specs.Segments.{segment_by, segments_from, segments_of}
+use Rattle.lbk_passage.proofs.Marking.{scalars-behind}
 
--- The segments from a position on
+-- The segments of some marks end at their breaks
 
--- the segment that ends here, if a line may break, and those that follow
-abbrev ending : ℕ → ℕ → Verdict → (ℕ → List Segment) → List Segment
-ending start at verdict more = cond (is_no verdict.kind) (more start) (segment_by start at verdict ∷ more at)
+segments-cut : (start at : ℕ) (ms : List Marked) → segments_from start at ms ≡ cut_at start (breaks_from at ms)
+segments-cut start at [] = refl
+segments-cut start at (m ∷ ms) =
+    let end = at + length (encode_utf8 m.scalar) in
+    elim (is_no m.after.kind)
+    as (λ k. cond k (segments_from start end ms) (segment_by start end m.after ∷ segments_from end end ms)
+    ≡ cut_at start (cond k (breaks_from end ms) (break_by end m.after ∷ breaks_from end ms)))
+    [ true ↦ segments-cut start end ms | false ↦ ap (λ l. segment_by start end m.after ∷ l) (segments-cut end end ms) ]
 
--- those from the position `at` on, between the scalars before it and these; the segment in progress begins at `start`
-abbrev pub onward : Profile → (ℕ → Cell) → Verdict → List ℕ → ℕ → List ℕ → ℕ → List Segment
-onward profile cell end before at [] start = ending start at end (λ _. [])
-onward profile cell end before at (c ∷ cs) start =
-    ending start at (verdict_between_in profile (map cell before) (map cell (c ∷ cs)))
-    (onward profile cell end (before ++ c ∷ []) (at + length (encode_utf8 c)) cs)
+-- The last one, which ends where the text does
 
-onward-marks : (profile : Profile) (cell : ℕ → Cell) (end : Verdict) (before : List ℕ) (at : ℕ) (c : ℕ) (cs : List ℕ) (start : ℕ)
-    → segments_from start at (ended end (marks_behind profile cell before (c ∷ cs)))
-    ≡ onward profile cell end (before ++ c ∷ []) (at + length (encode_utf8 c)) cs start
-onward-marks profile cell end before at c [] start = refl
-onward-marks profile cell end before at c (d ∷ ds) start =
-    let next = at + length (encode_utf8 c) in
-    let on = before ++ c ∷ [] in
-    let verdict = verdict_between_in profile (map cell on) (map cell (d ∷ ds)) in
-    ap₂ (λ a b. cond (is_no verdict.kind) a (segment_by start next verdict ∷ b))
-    (onward-marks profile cell end on next d ds start) (onward-marks profile cell end on next d ds next)
+abbrev EndsByBreak : List Marked → Type 0
+EndsByBreak [] = ⊥
+EndsByBreak (m ∷ []) = is_no m.after.kind ≡ false
+EndsByBreak (m ∷ n ∷ ms) = EndsByBreak (n ∷ ms)
 
--- at the start of a text that is not empty
-onward-start : (profile : Profile) (cell : ℕ → Cell) (end : Verdict) (c : ℕ) (cs : List ℕ)
-    → onward profile cell end [] 0 (c ∷ cs) 0 ≡ segments_of (ended end (marks profile cell (c ∷ cs)))
+marks-end : (profile : Profile) (cell : ℕ → Cell) (before : List ℕ) (c : ℕ) (cs : List ℕ) → EndsByBreak (marks_behind profile cell before (c ∷ cs))
+marks-end profile cell before c [] =
+    ap (λ v. is_no v.kind)
+    (ap (λ l. verdict_between_in profile l []) (map-append cell before (c ∷ [])) ∙ must_at_end profile (map cell before) (cell c))
+marks-end profile cell before c (d ∷ ds) = marks-end profile cell (before ++ c ∷ []) d ds
+
+record Last (start at : ℕ) (ms : List Marked) : Type 0 where
+  front : List Segment
+  last : Segment
+  is : segments_from start at ms ≡ front ++ last ∷ []
+  other : (end : Verdict) → segments_from start at (ended end ms) ≡ front ++ ending_by end last
+
+segments-last : (start at : ℕ) (m : Marked) (ms : List Marked) → EndsByBreak (m ∷ ms) → Last start at (m ∷ ms)
+segments-last start at m [] ends =
+    let end = at + length (encode_utf8 m.scalar) in
+    record {
+      front = [];
+      last = segment_by start end m.after;
+      is = ap (λ k. cond k [] (segment_by start end m.after ∷ [])) ends;
+      other = λ v. refl;
+    }
+segments-last start at m (n ∷ ms) ends =
+    let end = at + length (encode_utf8 m.scalar) in
+    by (segments-last start end n ms ends) (segments-last end end n ms ends) (is_no m.after.kind) refl
+  where
+    end : ℕ
+    end = at + length (encode_utf8 m.scalar)
+
+    step : (k : Bool) → is_no m.after.kind ≡ k → (l : List Marked)
+        → cond (is_no m.after.kind) (segments_from start end l) (segment_by start end m.after ∷ segments_from end end l)
+        ≡ cond k (segments_from start end l) (segment_by start end m.after ∷ segments_from end end l)
+    step k is l = ap (λ k. cond k (segments_from start end l) (segment_by start end m.after ∷ segments_from end end l)) is
+
+    by : Last start end (n ∷ ms) → Last end end (n ∷ ms) → (k : Bool) → is_no m.after.kind ≡ k → Last start at (m ∷ n ∷ ms)
+    by quiet broken true is = record {
+      front = quiet.front;
+      last = quiet.last;
+      is = step true is (n ∷ ms) ∙ quiet.is;
+      other = λ v. step true is (ended v (n ∷ ms)) ∙ quiet.other v;
+    }
+    by quiet broken false is = record {
+      front = segment_by start end m.after ∷ broken.front;
+      last = broken.last;
+      is = step false is (n ∷ ms) ∙ ap (λ l. segment_by start end m.after ∷ l) broken.is;
+      other = λ v. step false is (ended v (n ∷ ms)) ∙ ap (λ l. segment_by start end m.after ∷ l) (broken.other v);
+    }
+
+-- the same in two lists that end by one element each
+
+abbrev first_or : Segment → List Segment → Segment
+first_or d [] = d
+first_or d (x ∷ xs) = x
+
+record SameEnds (xs ys : List Segment) (x y : Segment) : Type 0 where
+  front : xs ≡ ys
+  last : x ≡ y
+
+same_ends : (xs ys : List Segment) (x y : Segment) → xs ++ x ∷ [] ≡ ys ++ y ∷ [] → SameEnds xs ys x y
+same_ends xs ys x y same =
+    let long = ap length same in
+    let many : length xs ≡ length ys = omega (arith, length_push xs x, length_push ys y) in
+    let front : xs ≡ ys = sym (take_at xs (x ∷ []) (length ys) many) ∙ ap (take (length ys)) same ∙ take_at ys (y ∷ []) (length ys) refl in
+    record { front = front; last = ap (first_or x) (append_cancel_left ys (x ∷ []) (y ∷ []) (ap (λ l. l ++ x ∷ []) (sym front) ∙ same)) }
+
+-- the segments of a passage, from those of its text alone, whose last was taken off
+pub segments-replaced : (profile : Profile) (cell : ℕ → Cell) (cs : List ℕ) (end : Verdict) (front : List Segment) (x : Segment)
+    → front ++ x ∷ [] ≡ cut_at 0 (breaks profile cell cs)
+    → front ++ ending_by end x ≡ segments_of (ended end (marks profile cell cs))
 unfolding segments_of
-onward-start profile cell end c cs =
-    ap (λ v. ending 0 0 v (onward profile cell end (c ∷ []) (0 + length (encode_utf8 c)) cs)) (start_of_text profile (map cell (c ∷ cs)))
-    ∙ sym (onward-marks profile cell end [] 0 c cs 0)
+segments-replaced profile cell [] end front x cut =
+    let long = ap length cut in
+    absurd (omega (arith, length_push front x))
+segments-replaced profile cell (c ∷ cs) end front x cut =
+    let all = marks_behind profile cell [] (c ∷ cs) in
+    let l : Last 0 0 all = segments-last 0 0 _ _ (marks-end profile cell [] c cs) in
+    let same = same_ends front l.front x l.last (cut ∙ sym (segments-cut 0 0 all) ∙ l.is) in
+    ap (λ f. f ++ ending_by end x) same.front ∙ ap (λ s. l.front ++ ending_by end s) same.last ∙ sym (l.other end)
 
--- A step
-
--- the segments to come: by the answer that the held position waits for, and those onward
-abbrev pub to_come : Option (ℕ × Verdict) → Cut → (ℕ → List Segment) → List Segment
-to_come None cut more = more cut.start
-to_come (Some answer) cut more = ending cut.start cut.held answer.1 more
-
-cut_at-ending : (at : ℕ) (verdict : Verdict) (cut : Cut) (more : ℕ → List Segment)
-    → (cut_at at verdict cut).segments ++ more (cut_at at verdict cut).start ≡ cut.segments ++ ending cut.start at verdict more
-cut_at-ending at verdict cut more =
-    let segment : Segment = segment_by cut.start at verdict in
-    let next : Cut = record { segments = cut.segments ++ segment ∷ []; start = at; held = cut.held } in
-    elim (is_no verdict.kind)
-    as (λ k. (cond k cut next).segments ++ more (cond k cut next).start ≡ cut.segments ++ cond k (more cut.start) (segment ∷ more at))
-    [ true ↦ refl | false ↦ append_assoc cut.segments (segment ∷ []) (more at) ]
-
-answered-to_come : (late : Option (ℕ × Verdict)) (cut : Cut) (more : ℕ → List Segment)
-    → (answered late cut).segments ++ more (answered late cut).start ≡ cut.segments ++ to_come late cut more
-answered-to_come None cut more = refl
-answered-to_come (Some answer) cut more = cut_at-ending cut.held answer.1 cut more
-
--- begins: the cell heads a unit; holds: the position before it is held
-step : (begins holds : Bool) (still : Option (ℕ × Verdict)) (verdict : Verdict) (n at : ℕ) (more : ℕ → List Segment) (cut : Cut)
-    → (holds ≡ true → begins ≡ true) → (begins ≡ false → is_no verdict.kind ≡ true)
-    → let next = met at (cond holds None (Some verdict)) (answered (cond begins still None) cut) in
-    next.segments ++ to_come (cond holds (Some (n, verdict)) (cond begins None still)) next more
-    ≡ cut.segments ++ to_come still cut (λ start. ending start at verdict more)
-step true true still verdict n at more cut begun quiet = answered-to_come still cut (λ start. ending start at verdict more)
-step true false still verdict n at more cut begun quiet =
-    cut_at-ending at verdict (answered still cut) more ∙ answered-to_come still cut (λ start. ending start at verdict more)
-step false true still verdict n at more cut begun quiet = absurd (false≢true (begun refl))
-step false false still verdict n at more cut begun quiet =
-    let next : Bool → Cut = λ k. cond k cut (record { segments = cut.segments ++ segment_by cut.start at verdict ∷ []; start = at; held = cut.held }) in
-    subst (λ (k : Bool). (next k).segments ++ to_come still (next k) more
-    ≡ cut.segments ++ to_come still cut (λ start. cond k (more start) (segment_by start at verdict ∷ more at)))
-    (sym (quiet refl)) refl
-
--- The position that waits, after one more cell
-
-option_map-cond : (f : ℕ → ℕ × Verdict) (holds begins : Bool) (n : ℕ) (still : Option ℕ)
-    → option_map f (cond holds (Some n) (cond begins None still)) ≡ cond holds (Some (f n)) (cond begins None (option_map f still))
-option_map-cond f true begins n still = refl
-option_map-cond f false true n still = refl
-option_map-cond f false false n still = refl
-
-pub answer-snoc : (profile : Profile) (left : List Cell) (cell : Cell) (more : List Cell)
-    → answer_at profile (left ++ cell ∷ []) more
-    ≡ cond (is_held profile left (cell ∷ more)) (Some (length left, verdict_between_in profile left (cell ∷ more)))
-    (cond (heads (reverse left) cell) None (answer_at profile left (cell ∷ more)))
-answer-snoc profile left cell more =
-    let f : List Cell → ℕ → ℕ × Verdict = λ cells p. (p, verdict_in profile cells p) in
-    let holds = is_held profile left (cell ∷ more) in
-    let begins = heads (reverse left) cell in
-    let whole = left ++ cell ∷ more in
-    ap (option_map (f ((left ++ cell ∷ []) ++ more))) (unanswered-snoc profile left cell more)
-    ∙ ap (λ cells. option_map (f cells) (cond holds (Some (length left)) (cond begins None (unanswered profile left)))) (append_assoc left (cell ∷ []) more)
-    ∙ option_map-cond (f whole) holds begins (length left) (unanswered profile left)
-    ∙ ap (λ v. cond holds (Some (length left, v)) (cond begins None (option_map (f whole) (unanswered profile left)))) (verdict_in-append profile left (cell ∷ more))
-
--- Segments so far, and those to come, are all
-pub record AddsUp (profile : Profile) (cell : ℕ → Cell) (end : Verdict) (before : List ℕ) (at : ℕ) (rest : List ℕ) (cut : Cut) (all : List Segment) : Type 0 where
-  pub joined : cut.segments ++ to_come (answer_at profile (map cell before) (map cell rest)) cut (onward profile cell end before at rest) ≡ all
-
-AddsUp-start : (profile : Profile) (cell : ℕ → Cell) (end : Verdict) (cs : List ℕ) (cut : Cut)
-    → (cs ≡ [] → ⊥) → cut ≡ record { segments = []; start = 0; held = 0 }
-    → AddsUp profile cell end [] 0 cs cut (segments_of (ended end (marks profile cell cs)))
-unfolding unanswered_before
-AddsUp-start profile cell end [] cut some fresh = absurd (some refl)
-AddsUp-start profile cell end (c ∷ cs) cut some fresh = record {
-  joined =
-      ap (λ (n : Cut). n.segments ++ to_come (answer_at profile [] (map cell (c ∷ cs))) n (onward profile cell end [] 0 (c ∷ cs))) fresh
-      ∙ onward-start profile cell end c cs;
-}
-
-AddsUp-step : (profile : Profile) (cell : ℕ → Cell) (end : Verdict) (before : List ℕ) (at : ℕ) (c : ℕ) (cs : List ℕ) (cut : Cut) (all : List Segment)
-    (now : Option Verdict) (late : Option (ℕ × Verdict))
-    → now ≡ now_at profile (map cell before) (cell c ∷ map cell cs) → late ≡ late_at profile (map cell before) (cell c) (map cell cs)
-    → AddsUp profile cell end before at (c ∷ cs) cut all
-    → AddsUp profile cell end (before ++ c ∷ []) (at + length (encode_utf8 c)) cs (met at now (answered late cut)) all
-AddsUp-step profile cell end before at c cs cut all now late now_same late_same adds_up =
-    let left = map cell before in
-    let more = map cell cs in
-    let holds = is_held profile left (cell c ∷ more) in
-    let begins = heads (reverse left) (cell c) in
-    let verdict = verdict_between_in profile left (cell c ∷ more) in
-    let still = answer_at profile left (cell c ∷ more) in
-    let further = onward profile cell end (before ++ c ∷ []) (at + length (encode_utf8 c)) cs in
-    let next : Cut = met at (cond holds None (Some verdict)) (answered (cond begins still None) cut) in
-    let same : met at now (answered late cut) ≡ next =
-    ap (λ o. met at o (answered late cut)) now_same ∙ ap (λ o. met at (cond holds None (Some verdict)) (answered o cut)) late_same in
-    let waits : answer_at profile (map cell (before ++ c ∷ [])) more ≡ cond holds (Some (length left, verdict)) (cond begins None still) =
-    ap (λ cells. answer_at profile cells more) (map-append cell before (c ∷ [])) ∙ answer-snoc profile left (cell c) more in
-    record {
-      joined =
-          ap (λ (n : Cut). n.segments ++ to_come (answer_at profile (map cell (before ++ c ∷ [])) more) n further) same
-          ∙ ap (λ o. next.segments ++ to_come o next further) waits
-          ∙ step begins holds still verdict (length left) at further cut (held-heads profile left (cell c) more)
-          (λ headless. ap is_no (joins_no_break profile left (cell c) more headless))
-          ∙ adds_up.joined;
-    }
-
-AddsUp-end : (profile : Profile) (cell : ℕ → Cell) (end : Verdict) (before : List ℕ) (at : ℕ) (cut : Cut) (all : List Segment) (late : Option (ℕ × Verdict))
-    → late ≡ answer_at profile (map cell before) []
-    → AddsUp profile cell end before at [] cut all
-    → (cut_at at end (answered late cut)).segments ≡ all
-AddsUp-end profile cell end before at cut all late late_same adds_up =
-    sym (append-nil (cut_at at end (answered late cut)).segments)
-    ∙ cut_at-ending at end (answered late cut) (λ _. [])
-    ∙ answered-to_come late cut (λ start. ending start at end (λ _. []))
-    ∙ ap (λ o. cut.segments ++ to_come o cut (λ start. ending start at end (λ _. []))) late_same
-    ∙ adds_up.joined
-
--- The loop: what was cut, where `rest` is left of the text and begins at the offset `at`. Fits: what is known of
--- the scalars that were taken
-pub record CutLoop (Fits : List ℕ → Type 0) (profile : Profile) (cell : ℕ → Cell) (end : Verdict) (text : List ℕ) (cut : Cut) (at : ℕ) (rest : List ℕ) : Type 0 where
-  pub before : List ℕ
-  pub fits : Fits before
-  pub few : length before ≤ at
-  pub within : at + length rest ≡ length text
-  pub utf8 : IsUtf8 rest
-  pub adds_up : AddsUp profile cell end before at (chars rest) cut (segments_of (ended end (marks profile cell (chars text))))
-
-some-chars : (text : List ℕ) → IsUtf8 text → (length text ≡ 0 → ⊥) → chars text ≡ [] → ⊥
-some-chars text utf8 some none = some (ap length (sym (encodes-chars text utf8)) ∙ ap (λ cs. length (encode_utf8_all cs)) none)
-
-pub CutLoop-start : (Fits : List ℕ → Type 0) (profile : Profile) (cell : ℕ → Cell) (end : Verdict) (text : List ℕ) (cut : Cut) (at : ℕ) (rest : List ℕ)
-    → IsUtf8 text → (length text ≡ 0 → ⊥) → Fits [] → cut ≡ record { segments = []; start = 0; held = 0 }
-    → at ≡ 0 → rest ≡ text → CutLoop Fits profile cell end text cut at rest
-CutLoop-start Fits profile cell end text cut at rest utf8 some fits fresh first whole =
-    let all = segments_of (ended end (marks profile cell (chars text))) in
-    let begun = AddsUp-start profile cell end (chars text) cut (some-chars text utf8 some) fresh in
-    let placed = subst (λ (n : ℕ). AddsUp profile cell end [] n (chars text) cut all) (sym first) begun in
-    record {
-      before = [];
-      fits = fits;
-      few = omega arith;
-      within = let same : length rest ≡ length text = ap length whole in omega arith;
-      utf8 = subst IsUtf8 (sym whole) utf8;
-      adds_up = subst (λ (r : List ℕ). AddsUp profile cell end [] at (chars r) cut all) (sym whole) placed;
-    }
-
-pub CutLoop-step : (Fits Next : List ℕ → Type 0) (profile : Profile) (cell : ℕ → Cell) (end : Verdict) (text : List ℕ) (cut : Cut) (at place after c : ℕ) (rest more : List ℕ)
-    (now : Option Verdict) (late : Option (ℕ × Verdict))
-    → ((taken : List ℕ) (others : List Cell) → Fits taken → length taken < 18446744073709551615 → now ≡ now_at profile (map cell taken) (cell c ∷ others))
-    → ((taken : List ℕ) (others : List Cell) → Fits taken → length taken < 18446744073709551615 → late ≡ late_at profile (map cell taken) (cell c) others)
-    → ((taken : List ℕ) → Fits taken → length taken < 18446744073709551615 → Next (taken ++ c ∷ [])) → length text < 2 ^ 32
-    → place ≡ at → rest ≡ encode_utf8 c ++ more → after ≡ at + length (encode_utf8 c)
-    → CutLoop Fits profile cell end text cut at rest
-    → CutLoop Next profile cell end text (met place now (answered late cut)) after more
-CutLoop-step Fits Next profile cell end text cut at place after c rest more now late nows lates fit few here splits further l =
-    let all = segments_of (ended end (marks profile cell (chars text))) in
-    let on = l.before ++ c ∷ [] in
-    let others = map cell (chars more) in
-    let begins : chars rest ≡ c ∷ chars more = chars_past_char rest more c l.utf8 splits in
-    let held = subst (λ (cs : List ℕ). AddsUp profile cell end l.before at cs cut all) begins l.adds_up in
-    let short : length l.before < 18446744073709551615 = omega (arith, l.few, l.within) in
-    let stepped = AddsUp-step profile cell end l.before at c (chars more) cut all now late (nows l.before others l.fits short) (lates l.before others l.fits short) held in
-    let moved = subst (λ (n : ℕ). AddsUp profile cell end on n (chars more) (met at now (answered late cut)) all) (sym further) stepped in
-    let width : 1 ≤ length (encode_utf8 c) = (let bounds = len_utf8_bounds c in omega (arith, length-encode c, bounds.0)) in
-    record {
-      before = on;
-      fits = fit l.before l.fits short;
-      few = omega (arith, length_push l.before c, l.few);
-      within = omega (arith, length-append (encode_utf8 c) more, ap length splits, l.within);
-      utf8 = IsUtf8-past_char rest more c l.utf8 splits;
-      adds_up = subst (λ (n : ℕ). AddsUp profile cell end on after (chars more) (met n now (answered late cut)) all) (sym here) moved;
-    }
-
-pub CutLoop-end : (Fits : List ℕ → Type 0) (profile : Profile) (cell : ℕ → Cell) (end : Verdict) (text : List ℕ) (cut : Cut) (at : ℕ) (rest : List ℕ) (late : Option (ℕ × Verdict))
-    → ((taken : List ℕ) → Fits taken → late ≡ answer_at profile (map cell taken) [])
-    → length rest ≡ 0 → CutLoop Fits profile cell end text cut at rest
-    → (cut_at (length text) end (answered late cut)).segments ≡ segments_of (ended end (marks profile cell (chars text)))
-CutLoop-end Fits profile cell end text cut at rest late lates none l =
-    let all = segments_of (ended end (marks profile cell (chars text))) in
-    let no_chars : chars rest ≡ [] = ap chars (nil_from_length rest none) ∙ chars-nil in
-    let place : at ≡ length text = omega (arith, l.within) in
-    let last = subst (λ (cs : List ℕ). AddsUp profile cell end l.before at cs cut all) no_chars l.adds_up in
-    let placed = subst (λ (n : ℕ). AddsUp profile cell end l.before n [] cut all) place last in
-    AddsUp-end profile cell end l.before (length text) cut all late (lates l.before l.fits) placed
-
--- an empty text has none
-pub segments-none : (profile : Profile) (cell : ℕ → Cell) (end : Verdict) (text : List ℕ) → length text ≡ 0
-    → segments_of (ended end (marks profile cell (chars text))) ≡ []
+-- none of none
+pub segments-none : (profile : Profile) (cell : ℕ → Cell) (cs : List ℕ) (end : Verdict) (segments : List Segment) → length segments ≡ 0
+    → segments ≡ cut_at 0 (breaks profile cell cs) → segments ≡ segments_of (ended end (marks profile cell cs))
 unfolding segments_of
-segments-none profile cell end text none =
-    ap (λ cs. segments_of (ended end (marks profile cell cs))) (ap chars (nil_from_length text none) ∙ chars-nil)
+segments-none profile cell [] end segments none cut = cut
+segments-none profile cell (c ∷ cs) end segments none cut =
+    let all = marks_behind profile cell [] (c ∷ cs) in
+    let l : Last 0 0 all = segments-last 0 0 _ _ (marks-end profile cell [] c cs) in
+    let long = ap length (cut ∙ sym (segments-cut 0 0 all) ∙ l.is) in
+    absurd (omega (arith, length_push l.front l.last))
+
+-- The breaks of a text lie within it
+
+breaks-below : (limit at : ℕ) (ms : List Marked) → at + length (encode_utf8_all (scalars_of ms)) < limit → All (λ one. one.at < limit) (breaks_from at ms)
+breaks-below limit at [] below = All-nil (λ one. one.at < limit)
+breaks-below limit at (m ∷ ms) below =
+    let end = at + length (encode_utf8 m.scalar) in
+    let sum = length-append (encode_utf8 m.scalar) (encode_utf8_all (scalars_of ms)) in
+    let rest = breaks-below limit end ms (omega arith) in
+    let here : end < limit = omega arith in
+    elim (is_no m.after.kind)
+    as (λ k. All (λ one. one.at < limit) (cond k (breaks_from end ms) (break_by end m.after ∷ breaks_from end ms)))
+    [ true ↦ rest | false ↦ All-cons (λ one. one.at < limit) (break_by end m.after) (breaks_from end ms) here rest ]
+
+pub breaks-within : (limit : ℕ) (profile : Profile) (cell : ℕ → Cell) (text : List ℕ) → IsUtf8 text → length text < limit
+    → All (λ one. one.at < limit) (breaks profile cell (chars text))
+breaks-within limit profile cell text utf8 below =
+    let all = marks_behind profile cell [] (chars text) in
+    let same : length (encode_utf8_all (scalars_of all)) ≡ length text =
+    ap (λ cs. length (encode_utf8_all cs)) (scalars-behind profile cell [] (chars text)) ∙ ap length (encodes-chars text utf8) in
+    breaks-below limit 0 all (omega arith)

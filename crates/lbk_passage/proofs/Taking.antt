@@ -1,5 +1,5 @@
 -- What the text and the feed are once scalars went from the one to the other.
-use Rattle.std.proofs.Common.{◌≡◌, ℕ, ◌+◌, ◌-◌, ◌<◌, Bool, true, false, ◌&&◌, List, [], ◌∷◌, ◌++◌, length, take, drop, Option, Result, is_ok, if◌then◌else◌, encode_utf8, encode_utf8_all, string_bytes, string_len, String, IsUtf8, IsCharBoundary, chars, refl, sym, ap, subst, ◌∙◌, arith, length-append, append_assoc}
+use Rattle.std.proofs.Common.{◌≡◌, ℕ, ◌+◌, ◌-◌, ◌<◌, true, ◌&&◌, List, [], ◌∷◌, ◌++◌, length, take, drop, Option, Result, is_ok, if◌then◌else◌, encode_utf8, encode_utf8_all, string_bytes, string_len, String, IsUtf8, IsCharBoundary, chars, refl, sym, ap, subst, ◌∙◌, arith, length-append, append_assoc}
 use Rattle.std.specs.List.{slice_range}
 use Rattle.std.proofs.Math.Utf8.{scalars}
 use Rattle.std.proofs.Math.Seq.{take-append_seam, drop-append_seam}

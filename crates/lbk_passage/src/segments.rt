@@ -1,14 +1,26 @@
 //! The segments of a passage.
 
-ghost use Rattle.std.specs.Prelude.{◌≡◌, ℕ, ◌<◌, ◌^◌, length, OnOk};
+ghost use Rattle.std.specs.Prelude.{◌≡◌, ◌<◌, ◌^◌, ◌++◌, List, length, All, IfOk, OnOk};
 ghost use Rattle.std.specs.Str.{chars};
-ghost use Rattle.lbk_passage.specs.Cuts.{answered, cut_at, cut_with, met};
+ghost use Rattle.lbk_rules.specs.declared.breaks.Break.{Break};
+ghost use Rattle.lbk_passage.specs.Breaks.{breaks};
+ghost use Rattle.lbk_passage.specs.Cuts.{cut_at, ending_by};
 ghost use Rattle.lbk_passage.specs.Marks.{marks, ended};
 ghost use Rattle.lbk_passage.specs.Segments.{segments_of};
 
 use crate::passage::Segment;
-use lbk_rules::{CellSource, Kind, Profile, Stepper, Verdict};
+use lbk_breaks::{Break, Breaks};
+use lbk_rules::{CellSource, Kind, Profile, Rule, Verdict};
 use std::alloc::AllocError;
+
+/// How many breaks are found at a time.
+const BLOCK: usize = 64;
+
+const NO_BREAK: Break = Break {
+    at: 0,
+    kind: Kind::No,
+    rule: Rule::Lb31,
+};
 
 /// Writes the segments of a passage in place of what the list held: those of its text alone, the last with the
 /// verdict `end` (UAX #14, section 6). Where memory could not grow the list holds some of them.
@@ -24,87 +36,67 @@ pub fn cut_lines<C: CellSource>(
         ≡ segments_of (ended end (marks profile (C.cell_of cells.now) (chars text.now)))) }
 {
     segments.clear();
-    if text.is_empty() {
-        return Ok(());
+    cut_alone(cells, profile, text, segments)?;
+    match segments.pop() {
+        None => Ok(()),
+        Some(last) => push_ended(segments, last, end),
     }
-    let mut stepper = Stepper::start(cells, profile);
-    let mut pending = Pending { start: 0, held: 0 };
-    for (at, c) in text.char_indices() {
-        let out = stepper.step(c);
-        pending.answer(out.late, segments)?;
-        pending.decide(at as u32, out.now, segments)?;
-    }
-    pending.answer(stepper.finish().late, segments)?;
-    pending.cut(text.len() as u32, end, segments)
 }
 
-/// What is not cut yet, as the positions of a passage are decided one after another.
-#[derive(Clone, Copy)]
-struct Pending {
-    /// Where the segment in progress begins.
-    start: u32,
-    /// The position that was held last.
-    held: u32,
+/// Puts a segment behind those in the list, with this verdict at its end, if a line may break there.
+fn push_ended(segments: &mut Vec<Segment>, segment: Segment, end: Verdict) -> Result<(), AllocError>
+    ensures { OnOk result (segments.new.items ≡ segments.old.items ++ ending_by end segment) }
+{
+    if !matches!(end.kind, Kind::No) {
+        segments.push(Segment {
+            kind: end.kind,
+            rule: end.rule,
+            ..segment
+        })?;
+    }
+    Ok(())
 }
 
-impl Pending {
-    /// Takes the answer to the position that was held, where it comes.
-    #[inline]
-    fn answer(
-        &mut self,
-        late: Option<(u64, Verdict)>,
-        segments: &mut Vec<Segment>,
-    ) -> Result<(), AllocError>
-        ensures { OnOk result (cut_with segments.new.items self.new
-            ≡ answered late (cut_with segments.old.items self.old)) }
-    {
-        match late {
-            None => Ok(()),
-            Some((_, verdict)) => self.cut(self.held, verdict, segments),
-        }
-    }
-
-    /// Takes the verdict of the position `at`, unless it is held.
-    #[inline]
-    fn decide(
-        &mut self,
-        at: u32,
-        now: Option<Verdict>,
-        segments: &mut Vec<Segment>,
-    ) -> Result<(), AllocError>
-        ensures { OnOk result (cut_with segments.new.items self.new
-            ≡ met at now (cut_with segments.old.items self.old)) }
-    {
-        match now {
-            None => {
-                self.held = at;
-                Ok(())
-            }
-            Some(verdict) => self.cut(at, verdict, segments),
-        }
-    }
-
-    /// Ends the segment in progress at `at`, if a line may break there.
-    #[inline]
-    fn cut(
-        &mut self,
-        at: u32,
-        verdict: Verdict,
-        segments: &mut Vec<Segment>,
-    ) -> Result<(), AllocError>
-        ensures { OnOk result (cut_with segments.new.items self.new
-            ≡ cut_at at verdict (cut_with segments.old.items self.old)) }
-    {
-        if matches!(verdict.kind, Kind::No) {
+/// Puts the segments of a text that stands alone, the last with the verdict at its end, behind those in the list.
+fn cut_alone<C: CellSource>(
+    cells: &C,
+    profile: Profile,
+    text: &str,
+    segments: &mut Vec<Segment>,
+) -> Result<(), AllocError>
+    requires { length text.now < 2 ^ 32 }
+    ensures { OnOk result (segments.new.items
+        ≡ segments.old.items ++ cut_at 0 (breaks profile (C.cell_of cells.now) (chars text.now))) }
+{
+    let mut breaks = Breaks::new(cells, text, profile);
+    let mut block = [NO_BREAK; BLOCK];
+    let mut start = 0;
+    loop {
+        let count = breaks.fill(&mut block);
+        if count == 0 {
             return Ok(());
         }
-        segments.push(Segment {
-            start: self.start,
-            end: at,
-            kind: verdict.kind,
-            rule: verdict.rule,
-        })?;
-        self.start = at;
-        Ok(())
+        start = cut_block(&block[..count], start, segments)?;
     }
+}
+
+/// Puts the segments that end at these breaks behind those in the list, the first from `start` on. Where the next
+/// begins.
+fn cut_block(block: &[Break], start: u32, segments: &mut Vec<Segment>) -> Result<u32, AllocError>
+    requires { All (λ one. one.at < 2 ^ 32) block.now }
+    ensures { IfOk result (λ next. (more : List Break)
+        → segments.new.items ++ cut_at next more ≡ segments.old.items ++ cut_at start (block.now ++ more)) }
+{
+    let mut start = start;
+    for one in block {
+        let end = one.at as u32;
+        segments.push(Segment {
+            start,
+            end,
+            kind: one.kind,
+            rule: one.rule,
+        })?;
+        start = end;
+    }
+    Ok(start)
 }

@@ -1,5 +1,5 @@
 -- All positions so far have their verdict, but for one that waits.
-use Rattle.std.proofs.Common.{◌≡◌, ◌≢◌, ℕ, suc, ◌+◌, ◌<◌, ◌≤◌, Bool, true, false, cond, ◌&&◌, ◌||◌, not, Option, Some, None, List, [], ◌∷◌, ◌++◌, length, set, reverse, refl, sym, ap, subst, ◌∙◌, inl, inr, arith}
+use Rattle.std.proofs.Common.{◌≡◌, ◌≢◌, ℕ, suc, ◌+◌, ◌<◌, ◌≤◌, Bool, true, false, cond, ◌&&◌, ◌||◌, not, Option, Some, None, List, [], ◌∷◌, ◌++◌, length, set, reverse, append_assoc, refl, sym, ap, subst, ◌∙◌, inl, inr, arith}
 use Rattle.std.specs.List.{slice_get}
 use Rattle.std.specs.Option.{option_map, ForSome}
 use Rattle.std.proofs.lemmas.Bool.{cases_eq, false≢true}
@@ -16,7 +16,7 @@ use Rattle.lbk_rules.specs.Units.{heads, nearest}
 use Rattle.lbk_rules.specs.Held.{any_matches, before_15b, is_held, answer_at, late_at, now_at, unanswered, unanswered_before}
 use Rattle.lbk_rules.specs.Rules.{rule_list}
 use Rattle.lbk_rules.specs.Sides.{Side, closing, is_final}
-use Rattle.lbk_rules.specs.Verdict.{verdict_in}
+use Rattle.lbk_rules.specs.Verdict.{verdict_between_in, verdict_in}
 use Rattle.lbk_rules.proofs.HeldLemmas.{is_held-chain}
 use Rattle.lbk_rules.proofs.MachineLemmas.{reverse-snoc, verdict_in-append}
 use Rattle.lbk_rules.proofs.WritingLemmas.{slice_get-set_same, slice_get-set_other}
@@ -151,6 +151,27 @@ unanswered-snoc profile left cell more =
     (ap (λ l. is_held profile l (cell ∷ [])) (reverse-reverse left) ∙ is_held-chain profile left cell [] ∙ sym (is_held-chain profile left cell more))
     ∙ ap (λ n. cond (is_held profile left (cell ∷ more)) (Some n) (cond (heads (reverse left) cell) None (unanswered_before profile (reverse left))))
     (length-reverse left)
+
+-- and its answer
+option_map-cond : (f : ℕ → ℕ × Verdict) (holds begins : Bool) (n : ℕ) (still : Option ℕ)
+    → option_map f (cond holds (Some n) (cond begins None still)) ≡ cond holds (Some (f n)) (cond begins None (option_map f still))
+option_map-cond f true begins n still = refl
+option_map-cond f false true n still = refl
+option_map-cond f false false n still = refl
+
+pub answer-snoc : (profile : Profile) (left : List Cell) (cell : Cell) (more : List Cell)
+    → answer_at profile (left ++ cell ∷ []) more
+    ≡ cond (is_held profile left (cell ∷ more)) (Some (length left, verdict_between_in profile left (cell ∷ more)))
+    (cond (heads (reverse left) cell) None (answer_at profile left (cell ∷ more)))
+answer-snoc profile left cell more =
+    let f : List Cell → ℕ → ℕ × Verdict = λ cells p. (p, verdict_in profile cells p) in
+    let holds = is_held profile left (cell ∷ more) in
+    let begins = heads (reverse left) cell in
+    let whole = left ++ cell ∷ more in
+    ap (option_map (f ((left ++ cell ∷ []) ++ more))) (unanswered-snoc profile left cell more)
+    ∙ ap (λ cells. option_map (f cells) (cond holds (Some (length left)) (cond begins None (unanswered profile left)))) (append_assoc left (cell ∷ []) more)
+    ∙ option_map-cond (f whole) holds begins (length left) (unanswered profile left)
+    ∙ ap (λ v. cond holds (Some (length left, v)) (cond begins None (option_map (f whole) (unanswered profile left)))) (verdict_in-append profile left (cell ∷ more))
 
 -- a machine's step over some cells
 pub Covers-taken : (profile : Profile) (left : List Cell) (cell : Cell) (more : List Cell) (list : List Verdict) (count : ℕ)

@@ -1,0 +1,9 @@
+use Rattle.std.proofs.Common.{◌≡◌, List, ◌++◌, drop}
+use Rattle.lbk_rules.specs.declared.breaks.Break.{Break}
+use Rattle.lbk_passage.specs.Cuts.{cut_at}
+use Rattle.lbk_passage.proofs.segments.cut_block.Given as goal
+
+abbrev pub invariant-loop-one : goal.invariant-loop-one
+invariant-loop-one l =
+    (more : List Break) → l.segments.items ++ cut_at l.start (drop l.one-index l.block ++ more)
+    ≡ l.fn.segments.items ++ cut_at l.fn.start (l.block ++ more)
