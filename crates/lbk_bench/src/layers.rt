@@ -73,7 +73,7 @@ pub const LAYERS: [Layer; 17] = [
 const BLOCK: usize = 1024;
 
 /// How many it holds in the segmenter.
-const SEGMENTS: usize = 64;
+const SEGMENTS: usize = 16;
 
 const NO_BREAK: Break = Break {
     at: 0,

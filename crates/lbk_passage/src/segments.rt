@@ -14,7 +14,7 @@ use lbk_rules::{CellSource, Kind, Profile, Rule, Verdict};
 use std::alloc::AllocError;
 
 /// How many breaks are found at a time.
-const BLOCK: usize = 64;
+const BLOCK: usize = 16;
 
 const NO_BREAK: Break = Break {
     at: 0,
