@@ -1,4 +1,4 @@
-//! Tests that cross crates, each a table of rows with answers from outside.
+//! The tests of all crates, most of them tables of rows with answers from outside.
 #![tactic(auto)]
 
 #[cfg(test)]
@@ -13,6 +13,10 @@ mod commands;
 mod cuts;
 #[cfg(test)]
 mod decided;
+#[cfg(test)]
+mod devices;
+#[cfg(test)]
+mod feeds;
 #[cfg(test)]
 mod guide;
 #[cfg(test)]
