@@ -28,6 +28,8 @@ mod lines;
 #[cfg(test)]
 mod passages;
 #[cfg(test)]
+mod property_files;
+#[cfg(test)]
 mod replayed;
 #[cfg(test)]
 mod rows;
@@ -39,5 +41,7 @@ mod segmented;
 mod shown;
 #[cfg(test)]
 mod stopped_writers;
+#[cfg(test)]
+mod tables;
 #[cfg(test)]
 mod tasks;
