@@ -14,6 +14,8 @@ mod cuts;
 #[cfg(test)]
 mod decided;
 #[cfg(test)]
+mod deciding;
+#[cfg(test)]
 mod devices;
 #[cfg(test)]
 mod feeds;
@@ -25,6 +27,8 @@ mod hostile;
 mod laws;
 #[cfg(test)]
 mod lines;
+#[cfg(test)]
+mod pages;
 #[cfg(test)]
 mod passages;
 #[cfg(test)]
