@@ -3,12 +3,8 @@
 
 mod adapter;
 mod block;
-#[cfg(test)]
-mod device_tests;
 pub mod devices;
 mod faults;
-#[cfg(test)]
-mod feed_tests;
 mod intake;
 mod judge;
 pub mod laws;

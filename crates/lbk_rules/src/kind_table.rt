@@ -63,6 +63,3 @@ impl CellSource for KindTable {
         cell_of_kind(self.of(c))
     }
 }
-
-#[cfg(test)]
-mod tests;

@@ -39,6 +39,3 @@ pub use row_stepper::RowStepper;
 pub use step_table::{RowMachine, StepTable};
 pub use stepper::Stepper;
 pub use verdicts::{Kind, Profile, Rule, Verdict};
-
-#[cfg(test)]
-mod tests;

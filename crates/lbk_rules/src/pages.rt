@@ -124,6 +124,3 @@ fn fill<C: CellRuns>(page: &mut Page, source: &C, run: CellRun, first: u32) -> C
     }
     run
 }
-
-#[cfg(test)]
-mod tests;

@@ -186,6 +186,3 @@ impl<'a> RowStepper<'a> {
         }
     }
 }
-
-#[cfg(test)]
-mod tests;

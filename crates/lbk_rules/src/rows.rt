@@ -163,6 +163,3 @@ fn find(lefts: &[Left], left: Left, hint: usize) -> Option<usize>
     }
     None
 }
-
-#[cfg(test)]
-mod tests;

@@ -1,5 +1,7 @@
 //! The machines say of every short list of cells what the evaluator says.
 
+use crate::cells::{mark, pictograph, plain, wide};
+use lbk_cmd::{SAMPLE_FILES, read_cells};
 use lbk_rules::{
     Cell, CellPages, CellSource, Class, LateMachine, Machine, Profile, Quote, Stepper, Verdict,
     decide, decide_in,
@@ -50,39 +52,15 @@ const CLASSES: [Class; 38] = [
     Class::ZWJ,
 ];
 
-fn plain(class: Class) -> Cell {
-    Cell {
-        class,
-        wide: false,
-        pict_cn: false,
-        quote: Quote::Neither,
-        letter: false,
-    }
-}
-
-fn wide(class: Class) -> Cell {
-    let mut cell = plain(class);
-    cell.wide = true;
-    cell
-}
-
-fn mark(quote: Quote) -> Cell {
-    let mut cell = plain(Class::Quotation);
-    cell.quote = quote;
-    cell
-}
-
 /// The classes without flags, and one cell for each flag that a rule asks of, but for quotation marks.
 fn all_cells(alloc: Global) -> Result<Vec<Cell>, AllocError> {
     let mut cells = Vec::new(alloc);
     for class in CLASSES {
         cells.push(plain(class))?;
     }
-    let mut pictograph = plain(Class::Ideographic);
-    pictograph.pict_cn = true;
     cells.push(wide(Class::OpenPunctuation))?;
     cells.push(wide(Class::CloseParenthesis))?;
-    cells.push(pictograph)?;
+    cells.push(pictograph())?;
     Ok(cells)
 }
 
@@ -223,12 +201,13 @@ const EACH_ONCE: Files<'static> = Files {
     emoji: b"0128;Extended_Pictographic\n",
 };
 
-fn check_stepper(rt: &impl Abort, pages: &CellPages, profile: Profile, text: &[char; 3]) {
+/// Steps over the scalars of a text by pages and over its cells by the rules, and compares.
+fn check_stepper(rt: &impl Abort, pages: &CellPages, profile: Profile, text: &[(char, Cell); 3]) {
     let mut stepper = Stepper::start(pages, profile);
     let mut machine = LateMachine::start(profile);
-    for (k, c) in (0u64..).zip(text) {
+    for (k, (c, cell)) in (0u64..).zip(text) {
         assert_eq!(rt; machine.steps(), k);
-        let out = machine.step(pages.cell(*c));
+        let out = machine.step(*cell);
         assert_eq!(rt; stepper.step(*c), out, "{c:?} of {text:?}, {profile:?}");
     }
     assert_eq!(rt;
@@ -238,23 +217,63 @@ fn check_stepper(rt: &impl Abort, pages: &CellPages, profile: Profile, text: &[c
     );
 }
 
+/// All texts of three of these scalars, in both profiles.
+fn check_steppers(rt: &impl Abort, pages: &CellPages, scalars: &[(char, Cell)]) {
+    for first in scalars {
+        for second in scalars {
+            for third in scalars {
+                let text = [*first, *second, *third];
+                check_stepper(rt, pages, Profile::First, &text);
+                check_stepper(rt, pages, Profile::Second, &text);
+            }
+        }
+    }
+}
+
 #[test]
 fn stepper_by_rows(rt: HostRuntime) -> Result<(), Fail> {
     let tables = Tables::read(rt.alloc(), EACH_ONCE)?;
     let pages = CellPages::build(rt.alloc(), &tables)?;
     assert!(rt; pages.step_table().is_some());
     let cells = all_cells_and_marks(rt.alloc())?;
+    let mut scalars = Vec::new(rt.alloc());
     for (c, cell) in ('\u{100}'..'\u{12B}').zip(&cells) {
         assert_eq!(rt; pages.cell(c), *cell, "{c:?}");
+        scalars.push((c, *cell))?;
     }
-    for first in '\u{100}'..'\u{12B}' {
-        for second in '\u{100}'..'\u{12B}' {
-            for third in '\u{100}'..'\u{12B}' {
-                let text = [first, second, third];
-                check_stepper(&rt, &pages, Profile::First, &text);
-                check_stepper(&rt, &pages, Profile::Second, &text);
-            }
-        }
-    }
+    assert_eq!(rt; scalars.len(), 43);
+    check_steppers(&rt, &pages, &scalars);
+    Ok(())
+}
+
+/// Scalars of the sample files, with cells that have nothing that no rule asks of them.
+fn sample_scalars() -> [(char, Cell); 15] {
+    [
+        ('\0', plain(Class::Alphabetic)),
+        ('a', plain(Class::Alphabetic)),
+        (' ', plain(Class::Space)),
+        (',', plain(Class::InfixNumeric)),
+        ('(', plain(Class::OpenPunctuation)),
+        ('\u{FF08}', wide(Class::OpenPunctuation)),
+        ('"', plain(Class::Quotation)),
+        ('\u{2018}', mark(Quote::Initial)),
+        ('\u{2019}', mark(Quote::Final)),
+        ('\u{4E00}', plain(Class::Ideographic)),
+        ('\u{1F3FB}', plain(Class::EModifier)),
+        ('\u{1F466}', plain(Class::EBase)),
+        ('\u{1FAFF}', pictograph()),
+        ('\u{1FB00}', plain(Class::Alphabetic)),
+        ('\u{10FFFF}', plain(Class::Alphabetic)),
+    ]
+}
+
+// What no rule asks of a cell, as whether a letter is one or an ideograph is wide, changes no answer.
+#[test]
+fn stepper_asks_what_rules_ask(rt: HostRuntime) -> Result<(), Fail> {
+    let pages = read_cells(rt.alloc(), SAMPLE_FILES)?;
+    assert!(rt; pages.step_table().is_some());
+    let scalars = sample_scalars();
+    assert!(rt; pages.cell('a') != plain(Class::Alphabetic));
+    check_steppers(&rt, &pages, &scalars);
     Ok(())
 }

@@ -1,6 +1,6 @@
-//! The cells that a source gives a text.
+//! Cells: those that a source gives a text, and those of a class with and without flags.
 
-use lbk_rules::{Cell, CellSource};
+use lbk_rules::{Cell, CellSource, Class, Quote};
 use std::alloc::{AllocError, Global};
 
 pub fn cells_of<C: CellSource>(
@@ -13,4 +13,35 @@ pub fn cells_of<C: CellSource>(
         cells.push(source.cell(c))?;
     }
     Ok(cells)
+}
+
+/// A cell without flags.
+pub fn plain(class: Class) -> Cell {
+    Cell {
+        class,
+        wide: false,
+        pict_cn: false,
+        quote: Quote::Neither,
+        letter: false,
+    }
+}
+
+pub fn wide(class: Class) -> Cell {
+    let mut cell = plain(class);
+    cell.wide = true;
+    cell
+}
+
+/// An unassigned pictograph.
+pub fn pictograph() -> Cell {
+    let mut cell = plain(Class::Ideographic);
+    cell.pict_cn = true;
+    cell
+}
+
+/// A quotation mark.
+pub fn mark(quote: Quote) -> Cell {
+    let mut cell = plain(Class::Quotation);
+    cell.quote = quote;
+    cell
 }

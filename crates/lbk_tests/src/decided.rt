@@ -1,13 +1,14 @@
 //! What the rules say of the positions of texts over the sample files: the evaluator in both profiles, and the machines.
 
 use crate::cells::cells_of;
+use crate::property_files::line_break_alone;
 use crate::rows::{FIRST, SECOND, STEPS};
 use lbk_cmd::SAMPLE_FILES;
 use lbk_rules::{
     Cell, CellPages, CellSource, Class, End, Kind, LateMachine, Out, Profile, Rule, Stepper,
     Verdict, decide, decide_all, decide_all_in, decide_in,
 };
-use lbk_ucd::{Files, Tables};
+use lbk_ucd::Tables;
 use std::alloc::{AllocError, Global};
 use std::fmt::Write;
 use std::process::Abort;
@@ -193,16 +194,6 @@ fn sample_rows(rt: HostRuntime) -> Result<(), Fail> {
     check_steps(&rt, rt.alloc(), &pages, Profile::First, &FIRST)?;
     check_steps(&rt, rt.alloc(), &pages, Profile::Second, &STEPS)?;
     Ok(())
-}
-
-/// Property files of which only the first says something.
-fn line_break_alone(line_break: &[u8]) -> Files<'_> {
-    Files {
-        line_break,
-        east_asian: b"",
-        category: b"",
-        emoji: b"",
-    }
 }
 
 #[test]

@@ -176,7 +176,8 @@ fn check_one(
     Ok(())
 }
 
-const SIZES: [usize; 5] = [1, 2, 3, 4096, usize::MAX];
+/// Sizes of reads.
+pub const SIZES: [usize; 5] = [1, 2, 3, 4096, usize::MAX];
 
 // A scalar of three bytes at each place round the end of a block, whole and cut off.
 #[test]

@@ -1,4 +1,4 @@
-//! Tests that cross crates, each a table of rows with answers from outside.
+//! The tests of all crates, most of them tables of rows with answers from outside.
 #![tactic(auto)]
 
 #[cfg(test)]
@@ -14,6 +14,12 @@ mod cuts;
 #[cfg(test)]
 mod decided;
 #[cfg(test)]
+mod deciding;
+#[cfg(test)]
+mod devices;
+#[cfg(test)]
+mod feeds;
+#[cfg(test)]
 mod guide;
 #[cfg(test)]
 mod hostile;
@@ -22,7 +28,11 @@ mod laws;
 #[cfg(test)]
 mod lines;
 #[cfg(test)]
+mod pages;
+#[cfg(test)]
 mod passages;
+#[cfg(test)]
+mod property_files;
 #[cfg(test)]
 mod replayed;
 #[cfg(test)]
@@ -35,5 +45,7 @@ mod segmented;
 mod shown;
 #[cfg(test)]
 mod stopped_writers;
+#[cfg(test)]
+mod tables;
 #[cfg(test)]
 mod tasks;

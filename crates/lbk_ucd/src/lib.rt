@@ -19,6 +19,3 @@ pub use fault::{UcdCause, UcdFault};
 pub use samples::{SAMPLE_CATEGORY, SAMPLE_EAST_ASIAN, SAMPLE_EMOJI, SAMPLE_LINE_BREAK};
 pub use tables::{Files, Places, Run, Tables};
 pub use values::{Category, EastAsian, LineBreak, Which};
-
-#[cfg(test)]
-mod tests;

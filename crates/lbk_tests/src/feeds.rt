@@ -1,7 +1,8 @@
 //! The feed over reads that are cut, that fail and that end, with the pieces, counts and places that must come.
 
-use crate::devices::{MemorySource, RepeatedSource};
-use crate::{Feed, FeedFault, Source};
+use crate::hostile::SIZES;
+use lbk_feed::devices::{MemorySource, RepeatedSource};
+use lbk_feed::{Feed, FeedFault, Source};
 use std::process::Abort;
 use std::test::Fail;
 
@@ -47,6 +48,21 @@ fn pieces(rt: HostRuntime) {
         &mut MemorySource::cut(b"\xF0\x9F\x91\xA6", &[1]),
         &[Row(Ok(Some(b"\xF0\x9F\x91\xA6")), 4), Row(Ok(None), 1)],
     );
+    check_pieces(
+        &rt,
+        &mut MemorySource::cut(euro, &[2]).failing_at(1),
+        &[
+            Row(Ok(Some(b"a")), 1),
+            Row(Err(FeedFault::Read), 1),
+            Row(Err(FeedFault::Spent), 0),
+            Row(Err(FeedFault::Spent), 0),
+            Row(Err(FeedFault::Spent), 0),
+        ],
+    );
+}
+
+#[test]
+fn ill_formed_bytes(rt: HostRuntime) {
     let spent = || Row(Err(FeedFault::Spent), 0);
     check_pieces(
         &rt,
@@ -72,17 +88,6 @@ fn pieces(rt: HostRuntime) {
             ],
         );
     }
-    check_pieces(
-        &rt,
-        &mut MemorySource::cut(euro, &[2]).failing_at(1),
-        &[
-            Row(Ok(Some(b"a")), 1),
-            Row(Err(FeedFault::Read), 1),
-            spent(),
-            spent(),
-            spent(),
-        ],
-    );
 }
 
 // Where bytes are ill-formed no read follows, so one that would fail changes no answer.
@@ -190,7 +195,7 @@ fn block_edges(rt: HostRuntime) -> Result<(), Fail> {
     for n in 4090..=4100 {
         let mut text = vec![in rt.alloc(); b'a'; n]?;
         text.extend_from_slice("€".as_bytes())?;
-        for size in [1, 2, 3, 4096, usize::MAX] {
+        for size in SIZES {
             check_text(&rt, text.as_slice(), &[size], Ok(()));
             for len in [n + 1, n + 2] {
                 let cut = text.get(..len).unwrap_or(&[]);
@@ -224,7 +229,11 @@ fn longest_text(rt: HostRuntime) {
     assert!(rt; feed.ready().is_empty());
     assert_eq!(rt; feed.piece(&mut reader), Err(FeedFault::Spent));
     assert_eq!(rt; reader.reads(), 262_145);
+}
 
+// A block is filled whole where the reader gives as much.
+#[test]
+fn full_blocks(rt: HostRuntime) {
     let mut whole = RepeatedSource::new(b'a', 5000);
     let mut feed = Feed::new();
     for len in [4096, 904] {

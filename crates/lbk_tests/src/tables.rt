@@ -1,33 +1,15 @@
-use crate::{
-    Category, EastAsian, Files, LineBreak, Places, SAMPLE_CATEGORY, SAMPLE_EAST_ASIAN,
-    SAMPLE_EMOJI, SAMPLE_LINE_BREAK, Tables, UcdCause, UcdFault, Which,
-};
+//! What tables say of codes, and how files are refused.
+
+use crate::property_files::{NO_FILES, line_break_alone};
+use lbk_cmd::SAMPLE_FILES;
+use lbk_ucd::{Category, EastAsian, Files, LineBreak, Places, Tables, UcdCause, UcdFault, Which};
 use std::alloc::{AllocError, Global};
+use std::fmt::Write;
 use std::test::Fail;
-
-const NO_FILES: Files<'static> = Files {
-    line_break: b"",
-    east_asian: b"",
-    category: b"",
-    emoji: b"",
-};
-
-const SAMPLES: Files<'static> = Files {
-    line_break: SAMPLE_LINE_BREAK,
-    east_asian: SAMPLE_EAST_ASIAN,
-    category: SAMPLE_CATEGORY,
-    emoji: SAMPLE_EMOJI,
-};
 
 /// The fault of a LineBreak file beside empty files, as its line and cause.
 fn line_break_fault(alloc: Global, bytes: &[u8]) -> Option<(u32, UcdCause)> {
-    let files = Files {
-        line_break: bytes,
-        east_asian: b"",
-        category: b"",
-        emoji: b"",
-    };
-    match Tables::read(alloc, files) {
+    match Tables::read(alloc, line_break_alone(bytes)) {
         Ok(_) => None,
         Err(fault) => Some((fault.line, fault.cause)),
     }
@@ -109,7 +91,7 @@ const SAMPLE_ROWS: [(u32, LineBreak, EastAsian, Category, bool); 10] = [
 
 #[test]
 fn samples_answer(rt: HostRuntime) -> Result<(), Fail> {
-    let tables = Tables::read(rt.alloc(), SAMPLES)?;
+    let tables = Tables::read(rt.alloc(), SAMPLE_FILES)?;
     for (code, line_break, east_asian, category, is_pictographic) in SAMPLE_ROWS {
         assert!(rt; code <= 0x10FFFF);
         assert_eq!(rt; tables.line_break(code), line_break, "at {code:x}");
@@ -196,7 +178,7 @@ fn rows_for_each_code(rt: HostRuntime) -> Result<(), Fail> {
 }
 
 #[test]
-fn defaults_and_other_files(rt: HostRuntime) -> Result<(), Fail> {
+fn defaults(rt: HostRuntime) -> Result<(), Fail> {
     let empty = Tables::read(rt.alloc(), NO_FILES)?;
     assert_eq!(rt; empty.line_break(0x61), LineBreak::Unknown);
     assert_eq!(rt; empty.category(0x61), Category::Cn);
@@ -211,35 +193,43 @@ fn defaults_and_other_files(rt: HostRuntime) -> Result<(), Fail> {
     assert_eq!(rt; tables.line_break(0x42), LineBreak::Ideographic);
     assert_eq!(rt; tables.is_pictographic(0xA9), true);
     assert_eq!(rt; tables.is_pictographic(0x61), false);
-    for (category, emoji, fault) in [
-        (
-            b"0061;Lowercase_Letter".as_slice(),
-            b"".as_slice(),
-            UcdFault {
-                file: Which::Category,
-                line: 1,
-                cause: UcdCause::UnknownValue,
-            },
-        ),
-        (
-            b"",
-            b"0062..0061;Zorg",
-            UcdFault {
-                file: Which::Emoji,
-                line: 1,
-                cause: UcdCause::Range,
-            },
-        ),
-        (
-            b"",
-            b"00A9;Extended_Pictographic\n00A9;Extended_Pictographic",
-            UcdFault {
-                file: Which::Emoji,
-                line: 2,
-                cause: UcdCause::Overlap,
-            },
-        ),
-    ] {
+    Ok(())
+}
+
+/// A category file and an emoji file, and the fault of one of them.
+const OTHER_FILES: [(&[u8], &[u8], UcdFault); 3] = [
+    (
+        b"0061;Lowercase_Letter",
+        b"",
+        UcdFault {
+            file: Which::Category,
+            line: 1,
+            cause: UcdCause::UnknownValue,
+        },
+    ),
+    (
+        b"",
+        b"0062..0061;Zorg",
+        UcdFault {
+            file: Which::Emoji,
+            line: 1,
+            cause: UcdCause::Range,
+        },
+    ),
+    (
+        b"",
+        b"00A9;Extended_Pictographic\n00A9;Extended_Pictographic",
+        UcdFault {
+            file: Which::Emoji,
+            line: 2,
+            cause: UcdCause::Overlap,
+        },
+    ),
+];
+
+#[test]
+fn other_files(rt: HostRuntime) {
+    for (category, emoji, fault) in OTHER_FILES {
         let files = Files {
             category,
             emoji,
@@ -250,7 +240,6 @@ fn defaults_and_other_files(rt: HostRuntime) -> Result<(), Fail> {
             Err(found) => assert_eq!(rt; found, fault),
         }
     }
-    Ok(())
 }
 
 #[test]
@@ -261,13 +250,7 @@ fn defaults_over_one_another(rt: HostRuntime) -> Result<(), Fail> {
         writeln!(text, "# @missing: {code:04X}..10FFFF; {name}")?;
     }
     text.push_str("07CF;QU\n")?;
-    let tables = Tables::read(
-        rt.alloc(),
-        Files {
-            line_break: text.as_bytes(),
-            ..NO_FILES
-        },
-    )?;
+    let tables = Tables::read(rt.alloc(), line_break_alone(text.as_bytes()))?;
     let mut near = Places::START;
     for (code, line_break, last) in [
         (0, LineBreak::Alphabetic, 0),
@@ -305,7 +288,7 @@ fn rows_in_falling_order(rt: HostRuntime) -> Result<(), Fail> {
 
 #[test]
 fn runs_of_the_samples(rt: HostRuntime) -> Result<(), Fail> {
-    let tables = Tables::read(rt.alloc(), SAMPLES)?;
+    let tables = Tables::read(rt.alloc(), SAMPLE_FILES)?;
     let mut near = Places::START;
     for (code, line_break, east_asian, category, is_pictographic) in SAMPLE_ROWS {
         assert!(rt; code <= 0x10FFFF);
@@ -319,14 +302,4 @@ fn runs_of_the_samples(rt: HostRuntime) -> Result<(), Fail> {
     let end = tables.run(0x10_FFFF, near);
     assert_eq!(rt; end.last, 0x10_FFFF);
     Ok(())
-}
-
-/// The generic laws stand at a concrete type.
-#[test]
-fn laws_stand() {
-    crate::laws::lines_say_what_the_grammar_has();
-    crate::laws::lines_make_up_the_file();
-    crate::laws::shared_codes_are_held::<LineBreak>();
-    crate::laws::files_have_one_fault_or_none::<LineBreak>();
-    crate::laws::kept_rows_are_apart::<LineBreak>();
 }

@@ -1,7 +1,7 @@
 //! What no clause says of the devices: when they fail, and that they give and take what they should.
 
-use crate::devices::{MemorySink, MemorySource, RepeatedSource};
-use crate::{Device, Failed, Sink, Source, write_all};
+use lbk_feed::devices::{MemorySink, MemorySource, RepeatedSource};
+use lbk_feed::{Device, Failed, Sink, Source, write_all};
 use std::io;
 use std::io::{ErrorKind, Read, Write};
 use std::process::Abort;
