@@ -48,6 +48,7 @@ pub(crate) fn fill<'t, M: Decider>(
 }
 
 /// The same without the text's end.
+#[inline(never)]
 fn fill_by<'t, M: Decider>(
     machine: &mut M,
     rest: &'t str,
