@@ -5,11 +5,12 @@ use crate::replayed::FOUR_LINES;
 use crate::tasks::{LIMIT, Setting, Task};
 use lbk_cmd::{SAMPLE_FILES, read_cells};
 use lbk_feed::devices::{MemorySource, RepeatedSource};
-use lbk_feed::{Feed, FeedFault, Source};
+use lbk_feed::{Device, Feed, FeedFault, Source};
 use lbk_notation::Form;
 use lbk_passage::{PassageFault, Segmenter};
 use lbk_rules::{CellPages, Profile, Rule};
 use std::alloc::Global;
+use std::io::{self, Read};
 use std::process::Abort;
 use std::test::Fail;
 
@@ -151,6 +152,31 @@ fn spent_segmenters(rt: HostRuntime) -> Result<(), Fail> {
     let mut long = MemorySource::cut(b"a\nbcdef\ng", &[1]);
     let fault = PassageFault::ParagraphTooLong { start: 2 };
     check_spent_segmenter(&rt, alloc, &cells, &mut long, 4, fault)
+}
+
+/// A reader without an end: lines of 65,535 letters.
+#[derive(Drop)]
+struct Lines {
+    column: u16,
+}
+
+impl Read for Lines {
+    fn read(&mut self, buf: &mut [u8]) -> io::Result<usize> {
+        for place in buf.iter_mut() {
+            *place = if self.column == u16::MAX { b'\n' } else { b'a' };
+            self.column = self.column.wrapping_add(1);
+        }
+        Ok(buf.len())
+    }
+}
+
+/// It takes more than a thousand million bytes, and so some seconds.
+#[test]
+fn segmenter_spent_by_too_long_a_text(rt: HostRuntime) -> Result<(), Fail> {
+    let cells = read_cells(rt.alloc(), SAMPLE_FILES)?;
+    let mut lines = Device::new(Lines { column: 0 });
+    let fault = PassageFault::TextTooLong;
+    check_spent_segmenter(&rt, rt.alloc(), &cells, &mut lines, LIMIT, fault)
 }
 
 /// The one passage of a text in reads of a size, or the fault in its place.
