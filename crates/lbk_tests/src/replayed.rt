@@ -112,58 +112,36 @@ fn check(
 
 #[test]
 fn files(rt: HostRuntime) -> Result<(), Fail> {
-    let cells = read_cells(rt.alloc(), SAMPLE_FILES)?;
+    let alloc = rt.alloc();
+    let cells = read_cells(alloc, SAMPLE_FILES)?;
     for profile in [Profile::First, Profile::Second] {
-        for (file, text, counts) in PLAIN {
-            let want = (text, counts);
-            check(
-                &rt,
-                rt.alloc(),
-                &cells,
-                file.as_bytes(),
-                Form::Plain,
-                profile,
-                want,
-            )?;
-        }
-        for (file, text, counts) in KINDS {
-            let want = (text, counts);
-            check(
-                &rt,
-                rt.alloc(),
-                &cells,
-                file.as_bytes(),
-                Form::Kinds,
-                profile,
-                want,
-            )?;
+        for (form, rows) in [
+            (Form::Plain, PLAIN.as_slice()),
+            (Form::Kinds, KINDS.as_slice()),
+        ] {
+            for (file, text, counts) in rows {
+                let want = (*text, *counts);
+                check(&rt, alloc, &cells, file.as_bytes(), form, profile, want)?;
+            }
         }
         // The front of a byte order mark is a line, and a bad one.
         let want = ("R 1 0\nT 1 0 0 1\n", [1, 0, 0, 1]);
-        check(
-            &rt,
-            rt.alloc(),
-            &cells,
-            b"\xEF\xBB",
-            Form::Plain,
-            profile,
-            want,
-        )?;
+        check(&rt, alloc, &cells, b"\xEF\xBB", Form::Plain, profile, want)?;
     }
+    Ok(())
+}
+
+#[test]
+fn file_that_profiles_tell_apart(rt: HostRuntime) -> Result<(), Fail> {
+    let alloc = rt.alloc();
+    let cells = read_cells(alloc, SAMPLE_FILES)?;
+    let file = QUOTED.as_bytes();
     for (profile, text) in [
         (Profile::First, "D 1 2 × ÷ 18\nT 1 0 1 0\n"),
         (Profile::Second, "D 1 3 ÷ × 9\nT 1 0 1 0\n"),
     ] {
         let want = (text, [1, 0, 1, 0]);
-        check(
-            &rt,
-            rt.alloc(),
-            &cells,
-            QUOTED.as_bytes(),
-            Form::Plain,
-            profile,
-            want,
-        )?;
+        check(&rt, alloc, &cells, file, Form::Plain, profile, want)?;
     }
     Ok(())
 }
