@@ -3,7 +3,7 @@
 ghost use Rattle.std.specs.Prelude.{◌≡◌, ◌*◌, ◌<◌, ◌≤◌, ◌+◌, max, List, [], ◌∷◌, ◌++◌, length, reverse, slice_index_or, IfOk, IfSome};
 ghost use Rattle.lbk_rules.specs.declared.kinds.TheConstants.{KINDS};
 ghost use Rattle.lbk_rules.specs.Facts.{facts};
-ghost use Rattle.lbk_rules.specs.Steps.{AreSteps, Extends, IsStart, left_at};
+ghost use Rattle.lbk_rules.specs.Steps.{AreSteps, Extends, IsStart, left_at, no_step};
 
 use crate::facts::Left;
 use crate::kinds::{KINDS, cell_of_kind};
@@ -81,7 +81,7 @@ impl Rows {
     /// What happens at a cell of this kind in this row.
     #[inline]
     #[tactic(auto, unfolding(crate::specs::RowFits::RowFits, crate::specs::RowFits::profile_of))]
-    pub(crate) fn step(&self, row: u16, kind: u8) -> &Step
+    pub(crate) fn step(&self, row: usize, kind: u8) -> &Step
         requires row { IsRowOf self.now row }
         requires kind { kind < KINDS }
         ensures row { IsRowOf self.now result.now.next }
@@ -91,7 +91,7 @@ impl Rows {
             → closes_in (profile_of self.now) (units_after (hard (kind_cell kind).class) more) ≡ closes_in (profile_of self.now) []
             → result.now.verdict ≡ from_cells (profile_of self.now) (reverse cells) (kind_cell kind ∷ more) }
     {
-        &self.steps[row as usize + kind as usize]
+        step_of(&self.steps, row, kind as usize)
     }
 
     /// The profile whose verdicts it has.
@@ -105,12 +105,21 @@ impl Rows {
     /// What the row knows of the cells.
     #[inline]
     #[tactic(auto, unfolding(crate::specs::RowFits::RowFits))]
-    pub(crate) fn left(&self, row: u16) -> Left
+    pub(crate) fn left(&self, row: usize) -> Left
         requires { IsRowOf self.now row }
         ensures { (cells : List Cell) → RowFits self.now row cells → facts (reverse cells) ≡ result }
     {
-        self.lefts[row as usize / KINDS]
+        self.lefts[row / KINDS]
     }
+}
+
+/// The step of a kind in a row. The kind is counted first, so that only the read itself waits for the row.
+#[inline(always)]
+fn step_of(steps: &[Step], row: usize, kind: usize) -> &Step
+    requires { row + kind < length steps.now }
+    ensures { result.now ≡ slice_index_or steps.now (row + kind) no_step }
+{
+    &steps[kind..][row]
 }
 
 /// The place of a hint on where the row is that knows this, mostly its own.

@@ -28,7 +28,7 @@ pub struct StepTable {
 pub struct RowMachine<'a> {
     pub(crate) kinds: &'a KindTable,
     rows: &'a Rows,
-    row: u16,
+    row: usize,
     ghost in_rows: { IsRowOf rows.now row },
 }
 
@@ -110,7 +110,7 @@ impl<'a> RowMachine<'a> {
             → RowMachineFits self.new profile cell (taken ++ c ∷ []) }
     {
         let step = self.rows.step(self.row, self.kinds.of(c));
-        self.row = step.next;
+        self.row = step.next as usize;
         step.verdict
     }
 

@@ -1,5 +1,4 @@
-use Rattle.std.proofs.Common.{◌+◌, ◌<◌, length, reverse, sym, ap, ◌∙◌, arith}
-use Rattle.std.proofs.lemmas.List.{get_or_read}
+use Rattle.std.proofs.Common.{◌≡◌, ◌+◌, ◌<◌, length, get_or, reverse, subst, sym, ap, ◌∙◌, arith}
 use Rattle.lbk_rules.specs.Facts.{facts}
 use Rattle.lbk_rules.specs.RowFits.{RowFits, profile_of}
 use Rattle.lbk_rules.specs.Steps.{no_step}
@@ -18,8 +17,8 @@ returns-clause-fits c = λ cells fits.
     let aligned = starts.0 in
     let there = starts.1 in
     let within : c.args.row + c.args.kind < length rows.steps.items = omega arith in
-    let read = get_or_read rows.steps.items _ _ within c.index.ensures no_step in
-    let known = step_at rows.profile rows.lefts.items rows.steps.items c.args.row c.args.kind c.index.result.now rows.decided whole starts few read in
+    let read = subst (λ s. c.step_of.result.now ≡ get_or s (c.args.row + c.args.kind) no_step) c.deref.ensures.value c.step_of.ensures in
+    let known = step_at rows.profile rows.lefts.items rows.steps.items c.args.row c.args.kind c.step_of.result.now rows.decided whole starts few read in
     sym (known.leads (reverse cells) (sym fits)) ∙ sym (ap facts (reverse-snoc cells (kind_cell c.args.kind)))
 
 pub returns-clause-decides : goal.returns-clause-decides
@@ -32,6 +31,6 @@ returns-clause-decides c = λ cells more fits closes.
     let aligned = starts.0 in
     let there = starts.1 in
     let within : c.args.row + c.args.kind < length rows.steps.items = omega arith in
-    let read = get_or_read rows.steps.items _ _ within c.index.ensures no_step in
-    let known = step_at rows.profile rows.lefts.items rows.steps.items c.args.row c.args.kind c.index.result.now rows.decided whole starts few read in
+    let read = subst (λ s. c.step_of.result.now ≡ get_or s (c.args.row + c.args.kind) no_step) c.deref.ensures.value c.step_of.ensures in
+    let known = step_at rows.profile rows.lefts.items rows.steps.items c.args.row c.args.kind c.step_of.result.now rows.decided whole starts few read in
     known.decides (reverse cells) more (sym fits) closes
