@@ -96,8 +96,8 @@ impl<'a> RowMachine<'a> {
     ghost use Rattle.lbk_rules.specs.RowMachineFits.{RowMachineFits, normals};
     ghost use Rattle.lbk_rules.specs.Verdict.{verdict_in};
 
-    /// Takes the next scalar: the verdict of the position before it, whatever follows. Only where that
-    /// is by rule 15b is the position held, and the verdict the one that comes if the text ends here.
+    /// Takes the next scalar: the verdict of the position before it, whatever follows, unless it is by rule 15b. Exactly
+    /// then the position is held, and what follows decides it.
     #[inline]
     pub fn step(&mut self, c: char) -> Verdict
         ensures held { (profile : Profile) (cell : ℕ → Cell) (taken : List ℕ) (more : List Cell)
