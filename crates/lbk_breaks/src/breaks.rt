@@ -10,7 +10,8 @@ use lbk_rules::{Break, CellSource, Kind, Profile, Rule};
 use std::marker::Model;
 
 /// The breaks of a text: its positions after the first where a line may or must end (UAX #14, section 3), the last
-/// being its end. The text is one, whatever its paragraphs. No memory is taken.
+/// being its end; an empty text has none. The text is one, whatever its paragraphs. No memory is taken, and time grows
+/// with the length of the text.
 #[derive(Drop)]
 pub struct Breaks<'a, C: CellSource> {
     cells: &'a C,
@@ -42,7 +43,8 @@ impl<'a, C: CellSource> Model for Breaks<'a, C> {
 }
 
 impl<'a, C: CellSource> Breaks<'a, C> {
-    /// The breaks of a text by these cells, none of which was given yet.
+    /// The breaks of a text by these cells and the rules of the profile (UAX #14, section 6), none of which was given
+    /// yet.
     pub fn new(cells: &'a C, text: &'a str, profile: Profile) -> Breaks<'a, C>
         ensures { result ≡ breaks profile (C.cell_of cells.now) (chars text.now) }
     {
@@ -58,7 +60,7 @@ impl<'a, C: CellSource> Breaks<'a, C> {
     }
 
     /// Puts the next breaks into the front of the block, as many as it holds or all that are left, and answers how
-    /// many: 0 at the end. What stands in the block behind them is of no account.
+    /// many: 0 at the end, or where the block has no room. What stands in the block behind them is of no account.
     pub fn fill(&mut self, block: &mut [Break]) -> usize
         ensures count { result ≡ min (length block.old) (length self.old) }
         ensures front { take result block.new ≡ take result self.old }
@@ -82,7 +84,7 @@ impl<'a, C: CellSource> Iterator for Breaks<'a, C> {
 
     ghost remaining = { item_count (λ to_come. to_come) };
 
-    /// The next break, or none at the end.
+    /// The next break, or none at the end. Many are found faster by `fill`.
     fn next(&mut self) -> Option<Break> {
         let mut block = [Break {
             at: 0,

@@ -21,8 +21,12 @@ use std::alloc::Global;
 
 const SAMPLE_LIMIT: u32 = 65_536;
 
-/// Runs the engines by the words behind the program's name. Without words it shows the text by the
-/// sample files, in the first profile, with paragraphs of at most 65,536 bytes.
+/// Runs the engine that the words behind the program's name ask for, by the files that they name, from the reader to
+/// the writer. Without words it shows the text by the sample files, in the first profile, with paragraphs of at most
+/// 65,536 bytes.
+///
+/// The answer says how the run ended. `Help` and `Usage` come for words that ask for no engine, and `Refused` has the
+/// fault of the step that failed: nothing was read or written where that was a file.
 #[tactic(none)]
 pub fn run<'a, S: Store, R: Source, W: Sink>(
     alloc: Global,

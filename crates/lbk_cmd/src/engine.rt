@@ -61,7 +61,7 @@ pub fn show<R: Source, W: Sink, C: CellSource>(
 /// last, then a line `S` for each segment, with the kind and the rule of the line break at its end (UAX #14,
 /// section 6), then a line `W` for each word (UAX #29, section 4). Offsets count bytes of the whole text.
 ///
-/// The lines of a passage are written as a whole, and refused, as by `show`.
+/// The lines of a passage are written as a whole. `limit` and the faults are those of `show`.
 pub fn segment<R: Source, W: Sink, C: CellSource>(
     alloc: Global,
     reader: &mut R,

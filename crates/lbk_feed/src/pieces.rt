@@ -14,7 +14,8 @@ use crate::intake::Intake;
 use crate::traits::Source;
 use std::marker::Model;
 
-/// Makes well-formed pieces of UTF-8 of the bytes that a reader gives, however its reads are cut.
+/// Makes well-formed pieces of UTF-8 of the bytes that a reader gives, however its reads are cut (Unicode Standard,
+/// Table 3-7).
 ///
 /// One reader serves all calls of a feed. No call takes memory.
 #[derive(Drop)]
@@ -59,7 +60,7 @@ impl Feed {
         self.intake.ready()
     }
 
-    /// Uses up the first n bytes of `ready`.
+    /// Uses up the first `n` bytes of `ready`, of which none ends inside a scalar.
     pub fn advance(&mut self, n: usize)
         requires { IsCharBoundary self.old.ready n }
         ensures used { self.new ≡ record self.old { held = drop n self.old.held; ready = drop n self.old.ready; given = self.old.given + n } }
@@ -99,6 +100,9 @@ impl Feed {
     }
 
     /// The next piece, which is all that is ready and never empty, or `None` at the end of the text.
+    ///
+    /// What `advance` does not use up is lent again. `NotUtf8` and `TextTooLong` come once all well-formed bytes before
+    /// them were used up, `Read` where a read failed, and `Spent` after any of these. At most four reads are made.
     pub fn piece<R: Source>(&mut self, reader: &mut R) -> Result<Option<&str>, FeedFault>
         ensures* after_borrow { sem 𝓛 (Rests the_row self.entry (λ new.
             AfterPiece self.old new (R.unread reader.old) (R.unread reader.new)

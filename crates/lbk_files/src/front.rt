@@ -11,7 +11,7 @@ const BLOCK: usize = 16_384;
 
 /// The first `most + 1` bytes that a reader gives, or all of them if it has fewer, in at most `most + 1` reads.
 ///
-/// `Unreadable` comes where a read fails.
+/// `Unreadable` comes where a read fails, `Memory` where memory could not grow.
 pub fn read_front<R: Source>(
     alloc: Global,
     reader: &mut R,

@@ -13,6 +13,7 @@ pub struct MemoryStore<'a> {
 }
 
 impl<'a> MemoryStore<'a> {
+    /// The files of these names, each with its bytes. Any other name cannot be read.
     pub fn new(files: &'a [(&'a str, &'a [u8])]) -> MemoryStore<'a>
         ensures { named_files result ≡ files.entry.now }
     {

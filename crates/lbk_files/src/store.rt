@@ -20,6 +20,8 @@ pub trait Store {
     ghost file: { Self → List ℕ → Option (Option (List ℕ)) };
 
     /// The first `most + 1` bytes of a file, or all of them if it has fewer.
+    ///
+    /// `Unreadable` comes where it cannot be opened or read, `Memory` where memory could not grow.
     fn load(&self, alloc: Global, name: &str, most: usize) -> Result<Vec<u8>, LoadFault>
         requires { most < 2 ^ 64 - 1 }
         ensures loaded { MatchResult result (λ bytes. IsFront (file self.now name.now) most bytes.items) (IsLoadFault (file self.now name.now)) }

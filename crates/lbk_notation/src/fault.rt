@@ -1,3 +1,5 @@
+//! Why a line of the notation could not be read.
+
 ghost use Rattle.std.specs.Prelude.{◌≡◌};
 ghost use Rattle.lbk_notation.specs.declared.fault.LineFault.TheVariants.{Memory};
 

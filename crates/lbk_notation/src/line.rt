@@ -1,3 +1,5 @@
+//! A line of the notation: scalars, and a mark at each position.
+
 ghost use Rattle.std.specs.Prelude.{◌≡◌, ◌+◌, length};
 ghost use Rattle.lbk_notation.specs.Line.{made};
 

@@ -1,3 +1,5 @@
+//! What the rules say of a text, as a line of the notation.
+
 ghost use Rattle.std.specs.Prelude.{◌≡◌, ◌+◌, ◌<◌, ℕ, length, map, IfOk};
 ghost use Rattle.std.specs.Option.{ForSome};
 ghost use Rattle.std.specs.Str.{chars};
@@ -9,7 +11,8 @@ use super::marks::Mark;
 use lbk_rules::{CellSource, Kind, Profile, Stepper, Verdict};
 use std::alloc::{AllocError, Global};
 
-/// The scalars of a text, and at each position what the rules say of it (UAX #14, section 6).
+/// The scalars of a text, and at each position what the rules say of it (UAX #14, section 6). An error comes where memory
+/// could not grow.
 pub fn mark_text<C: CellSource>(
     alloc: Global,
     cells: &C,

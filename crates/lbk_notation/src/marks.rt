@@ -1,3 +1,5 @@
+//! Marks of positions, and which of them a line may have.
+
 /// What a line of the notation says of a position.
 #[derive(Clone, Copy, PartialEq, Eq, Debug)]
 pub enum Mark {

@@ -1,3 +1,5 @@
+//! The line that is written of a passage.
+
 ghost use Rattle.std.specs.Prelude.{◌≡◌, ◌+◌, ◌++◌, length, map, OnOk};
 ghost use Rattle.lbk_notation.specs.declared.marks.Form.TheVariants.{Kinds};
 ghost use Rattle.lbk_notation.specs.Marked.{mark_of};
@@ -13,7 +15,8 @@ use std::alloc::AllocError;
 
 /// Puts the line of a passage at the end of the text, without a line end: its marks and scalars in form
 /// Kinds, a tab, `#`, and the numbers of the rules that decided, each after a space. The verdicts are those
-/// of all its positions, one more than its scalars. After an error some of it may stand there.
+/// of all its positions, one more than its scalars. An error comes where memory could not grow; some of the line may
+/// stand there then.
 pub fn push_passage_line(
     text: &mut Vec<u8>,
     scalars: &[char],

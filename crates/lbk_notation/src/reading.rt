@@ -1,3 +1,5 @@
+//! Reading a line of the notation.
+
 ghost use Rattle.std.specs.Prelude.{◌≡◌, ◌<◌, ◌≤◌, ◌↔◌, Option, Ok, length, IfOk, IfErr, IsErrOf};
 ghost use Rattle.lbk_notation.specs.Fault.{IsFault, longest};
 ghost use Rattle.lbk_notation.specs.Grammar.{IsLine};

@@ -1,3 +1,5 @@
+//! Writing a line of the notation.
+
 ghost use Rattle.std.specs.Prelude.{◌≡◌, ◌+◌, ◌<◌, ◌++◌, ◌∷◌, Option, Some, length, IfOk, OnOk, EachIndex, slice_index};
 ghost use Rattle.std.specs.Char.{IsScalar};
 ghost use Rattle.lbk_notation.specs.Grammar.{IsLine, digit_byte, mark_bytes};
@@ -9,7 +11,8 @@ use super::marks::{Form, Mark};
 use std::alloc::{AllocError, Global};
 
 /// The line as bytes, without a line end: marks and hex tokens with one space between them, each token
-/// with the fewest digits that are four or more. Form Plain has `÷` for every break.
+/// with the fewest digits that are four or more. Form Plain has `÷` for every break. An error comes where memory could
+/// not grow.
 pub fn write_line(alloc: Global, line: &TestLine, form: Form) -> Result<Vec<u8>, AllocError>
     ensures text { IfOk result (λ bytes. bytes.items ≡ written_line form line.now) }
     // What is written is a line of the grammar that says the marks shown and the scalars, and nothing else.
@@ -22,7 +25,8 @@ pub fn write_line(alloc: Global, line: &TestLine, form: Form) -> Result<Vec<u8>,
     Ok(text)
 }
 
-/// Puts the written line of these at the end of the text. After an error some of it may stand there.
+/// Puts the written line of these, the marks being one more than the scalars, at the end of the text. An error comes
+/// where memory could not grow; some of the line may stand there then.
 pub fn push_line(
     text: &mut Vec<u8>,
     scalars: &[char],
@@ -40,8 +44,8 @@ pub fn push_line(
     Ok(())
 }
 
-/// Puts a space, a scalar's token, a space and the mark behind it at the end of the text. After an error
-/// some of it may stand there.
+/// Puts a space, a scalar's token, a space and the mark behind it at the end of the text. An error comes where memory
+/// could not grow; some of these may stand there then.
 pub fn push_scalar(
     text: &mut Vec<u8>,
     scalar: char,
@@ -57,7 +61,7 @@ pub fn push_scalar(
     push_mark(text, mark, form)
 }
 
-/// Puts a mark at the end of the text, in the form's writing.
+/// Puts a mark at the end of the text, in the form's writing. An error comes where memory could not grow.
 pub fn push_mark(text: &mut Vec<u8>, mark: Mark, form: Form) -> Result<(), AllocError>
     ensures { OnOk result (text.new.items ≡ text.old.items ++ mark_bytes (shown form mark)) }
 {

@@ -1,5 +1,7 @@
 //! Passages of a text: paragraphs, their segments at line breaks (Unicode Standard Annex #14) and their words
 //! (Unicode Standard Annex #29), while only one paragraph is held.
+//!
+//! A [`Segmenter`] gives them one after another, of the bytes that a reader gives.
 #![tactic(auto)]
 
 mod ends;

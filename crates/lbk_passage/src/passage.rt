@@ -8,6 +8,7 @@ use lbk_rules::{Kind, Rule, Verdict};
 pub struct Passage<'a> {
     /// How many bytes of the whole text stand before it.
     pub start: u64,
+    /// Its text.
     pub text: &'a str,
     /// Its cutting at the positions where a line may or must end.
     pub segments: &'a [Segment],
@@ -17,10 +18,12 @@ pub struct Passage<'a> {
     pub end: Verdict,
 }
 
-/// A part of a passage that ends at a line break. Offsets count bytes of the passage's text.
+/// A part of a passage that ends at a line break (UAX #14, section 3). Offsets count bytes of the passage's text.
 #[derive(Clone, Copy, PartialEq, Eq, Debug)]
 pub struct Segment {
+    /// Where it begins.
     pub start: u32,
+    /// Where the break stands.
     pub end: u32,
     /// The kind of the break at its end.
     pub kind: Kind,
@@ -28,10 +31,12 @@ pub struct Segment {
     pub rule: Rule,
 }
 
-/// A part of a passage between two word boundaries. Offsets count bytes of the passage's text.
+/// A part of a passage between two word boundaries (UAX #29, section 4). Offsets count bytes of the passage's text.
 #[derive(Clone, Copy, PartialEq, Eq, Debug)]
 pub struct Piece {
+    /// Where it begins.
     pub start: u32,
+    /// Where it ends, and the next one begins.
     pub end: u32,
     /// Whether it holds a letter or a number: a scalar whose cell has `letter`.
     pub word: bool,

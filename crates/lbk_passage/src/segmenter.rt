@@ -66,8 +66,9 @@ impl<'a, C: CellSource> Segmenter<'a, C> {
     /// The next passage, or `None` at the end of the text and from then on.
     ///
     /// It is given once the scalar after it, or the end of the text, was seen, after at most `limit + 8` reads. A
-    /// fault of the reader or of the text comes at its place, and `Spent` from then on. After `Memory`, which comes
-    /// where segments or pieces could not grow, the passage stays, and the same call reads nothing.
+    /// fault of the reader or of the text (`Read`, `NotUtf8`, `TextTooLong`, `ParagraphTooLong`) comes at its place, once
+    /// the passages before it were given, and `Spent` from then on. After `Memory`, which comes where segments or pieces
+    /// could not grow, the passage stays, and the same call made again reads nothing.
     pub fn next<R: Source>(&mut self, reader: &mut R) -> Result<Option<Passage<'_>>, PassageFault>
         ensures* after_borrow { sem 𝓛 (Rests (the_row (record { mir = named 1; lft = [] }) C.row C.CellSource) self.entry (λ new.
             AfterNext (state_of C.cell_of self.old) (state_of C.cell_of new) (R.unread reader.old) (R.unread reader.new)

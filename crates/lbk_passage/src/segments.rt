@@ -80,8 +80,8 @@ fn cut_alone<C: CellSource>(
     }
 }
 
-/// Puts the segments that end at these breaks behind those in the list, the first from `start` on. Where the next
-/// begins.
+/// Puts the segments that end at these breaks behind those in the list, the first from `start` on, and answers where
+/// the next begins.
 fn cut_block(block: &[Break], start: u32, segments: &mut Vec<Segment>) -> Result<u32, AllocError>
     requires { All (λ one. one.at < 2 ^ 32) block.now }
     ensures { IfOk result (λ next. (more : List Break)

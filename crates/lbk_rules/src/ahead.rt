@@ -18,7 +18,7 @@ use crate::verdicts::{Profile, Verdict};
 use std::alloc::AllocError;
 
 /// Decides the positions of a text that is at hand one after another in either profile, by the cells of a source and
-/// the plain rules.
+/// the plain rules (UAX #14, section 6). No position is held.
 pub struct AheadMachine<'a, C: CellSource> {
     cells: &'a C,
     profile: Profile,

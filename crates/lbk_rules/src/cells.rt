@@ -1,3 +1,5 @@
+//! What the rules see of a scalar value, and sources of it.
+
 ghost use Rattle.std.specs.Prelude.{◌≡◌, ℕ, ◌&&◌, not, IfSome};
 ghost use Rattle.lbk_rules.specs.Classes.{is};
 ghost use Rattle.lbk_rules.specs.Sides.{opening, closing};
@@ -66,7 +68,7 @@ pub trait CellSource {
 
     ghost cell_of: { Self → ℕ → Cell };
 
-    /// The cell of `c`.
+    /// The cell of `c` (UAX #14, section 6.1, rule LB1).
     fn cell(&self, c: char) -> Cell
         ensures { result ≡ cell_of self.now c };
 

@@ -1,3 +1,5 @@
+//! Line breaking classes, and the sets of them that the rules ask for (UAX #14, section 5.1).
+
 ghost use Rattle.std.specs.Prelude.{◌≡◌};
 ghost use Rattle.lbk_rules.specs.Classes.{is, hard, mark, closes_before, opens_after, ◌or◌, AL, BA, BK, CL, CP, CR, EB, EM, EX, GL, isH2, isH3, HL, HY, ID, IS, isJL, isJT, isJV, LF, NL, NS, NU, OP, PO, PR, QU, SP, SY, WJ, ZW};
 

@@ -1,3 +1,5 @@
+//! The verdict of any one position of a list of cells.
+
 ghost use Rattle.std.specs.Prelude.{◌≡◌, ◌≤◌, length};
 ghost use Rattle.lbk_rules.specs.Facts.{closes_in};
 ghost use Rattle.lbk_rules.specs.Sides.{leaves_closed};

@@ -1,3 +1,5 @@
+//! The few facts of the cells on the left of a position that the rules ask for.
+
 ghost use Rattle.std.specs.Prelude.{◌≡◌, [], ◌∷◌, reverse};
 ghost use Rattle.lbk_rules.specs.Facts.{facts, facts_of_units};
 ghost use Rattle.lbk_rules.specs.Units.{heads};

@@ -1,3 +1,5 @@
+//! The machine of the first profile, which decides position after position.
+
 ghost use Rattle.std.specs.Prelude.{◌≡◌, ◌+◌, ◌≤◌, ℕ, List, [], ◌∷◌, ◌++◌, length, Option, Some, slice_get};
 ghost use Rattle.lbk_rules.specs.Verdict.{verdict};
 
@@ -6,7 +8,7 @@ use crate::facts::Left;
 use crate::verdicts::{Profile, Verdict};
 
 /// Decides the positions of a text one after another in the first profile, without looking back: a
-/// few facts of the cells so far suffice.
+/// few facts of the cells so far suffice (UAX #14, section 6).
 #[derive(Clone, Copy, PartialEq, Eq, Debug)]
 pub struct Machine {
     left: Left,
@@ -46,8 +48,8 @@ impl Machine {
     }
 }
 
-/// Writes the verdict of every position of a text, all its paragraphs, by one machine: one step a cell, and
-/// the end.
+/// Writes the verdict of every position of a text, all its paragraphs, in the first profile by one machine:
+/// one step a cell, and the end (UAX #14, section 6). There is room for one verdict more than there are cells.
 pub fn decide_all(cells: &[Cell], verdicts: &mut [Verdict])
     requires { length verdicts.old ≡ length cells.now + 1 }
     ensures { (k : ℕ) → k ≤ length cells.now → slice_get verdicts.new k ≡ Some (verdict cells.now k) }

@@ -1,3 +1,5 @@
+//! The machine of either profile, which answers a position late where what follows decides it.
+
 ghost use Rattle.std.specs.Prelude.{◌≡◌, ◌+◌, ◌<◌, ◌≤◌, ℕ, List, [], ◌∷◌, ◌++◌, length, reverse, Some, None, if◌then◌else◌, slice_get, option_map};
 ghost use Rattle.std.specs.Option.{ForSome};
 ghost use Rattle.lbk_rules.specs.Answers.{count_of, written};
@@ -16,8 +18,8 @@ struct Held {
     quotation: Cell,
 }
 
-/// Decides the positions of a text one after another in either profile, without looking back. In the
-/// second one it may hold a position open until the unit after a closing quotation mark begins.
+/// Decides the positions of a text one after another in either profile, without looking back (UAX #14, section 6).
+/// In the second one it may hold a position open until the unit after a closing quotation mark begins (rule LB15b).
 #[derive(Clone, Copy, PartialEq, Eq, Debug)]
 pub struct LateMachine {
     profile: Profile,
@@ -74,9 +76,10 @@ impl LateMachine {
         self.steps
     }
 
-    #[tactic(auto, unfolding(crate::specs::LateFits::steps_of))]
     /// Takes the next cell: the verdict of the position before it, unless that is held, and that of the
-    /// position that was held until now, where the cell heads the unit after its quotation mark.
+    /// position that was held until now, where the cell heads the unit after its quotation mark. It takes at most
+    /// 18,446,744,073,709,551,615 cells.
+    #[tactic(auto, unfolding(crate::specs::LateFits::steps_of))]
     pub fn step(&mut self, cell: Cell) -> Out
         requires { steps_of self.old < 18446744073709551615 }
         ensures now { (profile : Profile) (cells more : List Cell) → LateFits self.old profile cells
@@ -178,7 +181,8 @@ pub(crate) fn unless_held(verdict: Verdict) -> Option<Verdict>
 }
 
 /// Writes the verdict of every position of a text, all its paragraphs, by one late machine, and tells how
-/// many answers came: as many as positions, so that each position's came once.
+/// many answers came: as many as positions, so that each position's came once (UAX #14, section 6). There is room
+/// for one verdict more than there are cells.
 pub fn decide_all_in(profile: Profile, cells: &[Cell], verdicts: &mut [Verdict]) -> usize
     requires { length verdicts.old ≡ length cells.now + 1 }
     ensures each { (k : ℕ) → k ≤ length cells.now

@@ -2,6 +2,10 @@
 //!
 //! A text is seen as a list of [`Cell`]s, one a scalar. [`decide`] answers for a position in it
 //! whether the line may break, must break or must not, and the rule that says so.
+//!
+//! A [`CellSource`] knows the cells of all scalars: the tables of the property files, or [`CellPages`] made of them,
+//! which is fast. [`Stepper`] decides a text scalar by scalar by such a source; the crate `lbk_breaks` finds the breaks of
+//! a text in memory, and is faster.
 #![tactic(auto)]
 
 mod ahead;

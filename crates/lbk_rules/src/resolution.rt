@@ -1,3 +1,5 @@
+//! The cell of a scalar value, by its properties (UAX #14, section 6.1, rule LB1).
+
 ghost use Rattle.std.specs.Prelude.{◌≡◌};
 ghost use Rattle.lbk_rules.specs.Resolve.{cell_of_properties, class_of, is_letter_or_number, is_wide, quote_of};
 

@@ -19,7 +19,7 @@ const HINTS: usize = 1021;
 /// What happens at a cell of some kind after some cells.
 #[derive(Clone, Copy, PartialEq, Eq, Debug)]
 pub(crate) struct Step {
-    /// The verdict before the cell. Where the second profile asks for the unit after it, there is none.
+    /// The verdict before the cell. Where the second profile asks for the unit after it, that of a text without one.
     pub(crate) verdict: Verdict,
     /// The place at which the next row begins.
     pub(crate) next: u16,

@@ -13,7 +13,8 @@ use crate::runs::CellRuns;
 use crate::verdicts::{Profile, Verdict};
 use std::alloc::{AllocError, Global};
 
-/// The kinds of all scalar values, and for both profiles what happens at a cell of each kind.
+/// The kinds of all scalar values, and for both profiles what happens at a cell of each kind. A `CellSource` may have
+/// one, as `CellPages` does.
 #[derive(Debug, Drop)]
 pub struct StepTable {
     kinds: KindTable,
@@ -22,8 +23,8 @@ pub struct StepTable {
     ghost profiles: { (profile_of first ≡ First) × (profile_of second ≡ Second) },
 }
 
-/// Decides the positions of a text one after another by a table of steps: two reads a scalar. It is
-/// what hot loops step by, and holds no position.
+/// Decides the positions of a text one after another by a table of steps: two reads a scalar (UAX #14, section 6). It
+/// is what hot loops step by. It holds no position: where rule 15b may decide, the caller looks ahead or waits.
 #[derive(Clone, Copy, Debug)]
 pub struct RowMachine<'a> {
     pub(crate) kinds: &'a KindTable,
@@ -95,8 +96,8 @@ impl<'a> RowMachine<'a> {
     ghost use Rattle.lbk_rules.specs.RowMachineFits.{RowMachineFits, normals};
     ghost use Rattle.lbk_rules.specs.Verdict.{verdict_in};
 
-    /// Takes the next scalar: the verdict of the position before it, whatever follows. Only where that
-    /// is by rule 15b is the position held, and the verdict the one that comes if the text ends here.
+    /// Takes the next scalar: the verdict of the position before it, whatever follows, unless it is by rule 15b. Exactly
+    /// then the position is held, and what follows decides it.
     #[inline]
     pub fn step(&mut self, c: char) -> Verdict
         ensures held { (profile : Profile) (cell : ℕ → Cell) (taken : List ℕ) (more : List Cell)

@@ -10,8 +10,9 @@ use crate::row_stepper::RowStepper;
 use crate::verdicts::Profile;
 
 /// Decides the positions of a text one after another in either profile, scalar by scalar and without looking back,
-/// by the cells of a source: by its table of steps, if it has one. In the second profile it may hold a position
-/// open until the unit after a closing quotation mark begins. Positions count scalars from 0.
+/// by the cells of a source (UAX #14, section 6): by its table of steps, if it has one, and else by the plain rules. In
+/// the second profile it may hold a position open until the unit after a closing quotation mark begins. Positions count
+/// scalars from 0.
 #[derive(Drop)]
 pub struct Stepper<'a, C: CellSource> {
     cells: &'a C,

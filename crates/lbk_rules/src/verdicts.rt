@@ -1,3 +1,5 @@
+//! What is decided at a position, by which rule, and in which profile.
+
 ghost use Rattle.std.specs.Prelude.{◌≡◌, []};
 ghost use Rattle.lbk_rules.specs.Facts.{closes_in};
 ghost use Rattle.lbk_rules.specs.Held.{is_15b};

@@ -1,3 +1,5 @@
+//! Why a property file is refused.
+
 use crate::values::Which;
 
 /// What is wrong with a file, or with one of its lines.

@@ -1,3 +1,5 @@
+//! The reader of one property file, line by line.
+
 ghost use Rattle.std.specs.Prelude.{◌≡◌, ◌≤◌, ◌==◌, ℕ, [], ◌∷◌, None, Some, IfOk, IfErr, OnOk, cond};
 ghost use Rattle.lbk_ucd.specs.File.{cause_of_room, cause_of_kept, cause_of_entry, cause_beside, valued, row_in, default_in, IsLawful, IsRefusal, property_of, without_mark};
 ghost use Rattle.std.specs.List.{slice_split};

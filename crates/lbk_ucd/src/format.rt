@@ -1,3 +1,5 @@
+//! What tells the four property files apart.
+
 ghost use Rattle.std.specs.Prelude.{◌≡◌};
 ghost use Rattle.lbk_ucd.specs.File.{named};
 ghost use Rattle.lbk_ucd.specs.Shown.{shown_names};

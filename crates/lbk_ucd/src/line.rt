@@ -1,3 +1,5 @@
+//! What a line of a property file says (UAX #44, section 4.2).
+
 ghost use Rattle.std.specs.Prelude.{◌≡◌, ◌==◌, ◌-◌, ◌≤◌, length};
 ghost use Rattle.std.specs.List.{prefix_len, suffix_len, position_or_len, before_first, after_first, list_all};
 ghost use Rattle.std.specs.Option.{option_map};

@@ -1,3 +1,5 @@
+//! Ranges of codes with a value, and look-ups in them.
+
 ghost use Rattle.std.specs.Prelude.{◌≡◌, ◌≤◌, ◌<◌, ℕ, length, unwrap_or};
 ghost use Rattle.std.specs.List.{AllWithin};
 ghost use Rattle.lbk_ucd.specs.Ranges.{IsInOrder};

@@ -1,3 +1,5 @@
+//! The four properties of every code, out of the property files.
+
 ghost use Rattle.std.specs.Prelude.{◌≡◌, ◌≤◌, ℕ, IfOk, IfErr, OnOk};
 
 use crate::fault::UcdFault;
@@ -94,7 +96,7 @@ impl Tables {
         })
     }
 
-    /// Line_Break of a code (UAX #14, section 5).
+    /// Line_Break of a code, which is at most 10FFFF (UAX #14, section 5).
     #[tactic(auto, unfolding(crate::specs::Tables::line_break_of))]
     pub fn line_break(&self, code: u32) -> LineBreak
         requires { code ≤ 0x10FFFF }
@@ -103,7 +105,7 @@ impl Tables {
         self.line_break.value(code)
     }
 
-    /// East_Asian_Width of a code (UAX #11).
+    /// East_Asian_Width of a code, which is at most 10FFFF (UAX #11).
     #[tactic(auto, unfolding(crate::specs::Tables::east_asian_of))]
     pub fn east_asian(&self, code: u32) -> EastAsian
         requires { code ≤ 0x10FFFF }
@@ -112,7 +114,7 @@ impl Tables {
         self.east_asian.value(code)
     }
 
-    /// General_Category of a code (Unicode Standard, section 4.5).
+    /// General_Category of a code, which is at most 10FFFF (Unicode Standard, section 4.5).
     #[tactic(auto, unfolding(crate::specs::Tables::category_of))]
     pub fn category(&self, code: u32) -> Category
         requires { code ≤ 0x10FFFF }
@@ -121,7 +123,7 @@ impl Tables {
         self.category.value(code)
     }
 
-    /// Extended_Pictographic of a code (UTS #51, Annex A).
+    /// Extended_Pictographic of a code, which is at most 10FFFF (UTS #51, Annex A).
     #[tactic(auto, unfolding(crate::specs::Tables::is_pictographic_of))]
     pub fn is_pictographic(&self, code: u32) -> bool
         requires { code ≤ 0x10FFFF }
@@ -130,8 +132,9 @@ impl Tables {
         self.pictographic.value(code)
     }
 
-    /// The four properties of a code, and a last code up to which all codes have them. So all codes are gone through
-    /// range by range: from 0, and each time from the code after `last` and near the places found, until `last` is 10FFFF.
+    /// The four properties of a code, which is at most 10FFFF, and a last code up to which all codes have them. So all
+    /// codes are gone through range by range: from 0, and each time from the code after `last` and near the places found,
+    /// until `last` is 10FFFF.
     #[tactic(auto, unfolding(crate::specs::Tables::line_break_of, crate::specs::Tables::east_asian_of, crate::specs::Tables::category_of, crate::specs::Tables::is_pictographic_of))]
     pub fn run(&self, code: u32, near: Places) -> Run
         requires { code ≤ 0x10FFFF }

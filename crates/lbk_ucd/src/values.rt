@@ -1,3 +1,5 @@
+//! The values of the properties, and the files that have them.
+
 /// A value of the property Line_Break (UAX #14, section 5), under its long name.
 #[derive(Clone, Copy, PartialEq, Eq, Debug)]
 pub enum LineBreak {

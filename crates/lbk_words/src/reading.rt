@@ -18,7 +18,8 @@ const DEFAULT_LIMIT: u32 = 65_536;
 
 /// Reads the words behind the program's name.
 ///
-/// `Help` and `Usage` hold a text for a person. `Memory` comes where a growth was refused.
+/// `Help` comes for a call for help or for the version, `Usage` for words that are no command line of the program; both
+/// hold a text for a person. `Memory` comes where a growth was refused.
 pub fn parse<'a>(alloc: Global, words: &'a [&'a str]) -> Result<Order<'a>, WordsFault>
     ensures accepted { IfOk result (λ order. AreAccepted (map (λ w. w.now) words.entry.now)) }
     ensures task { IfOk result (λ order. task_by (map (λ w. w.now) words.entry.now) ≡ Some (task_of order)) }
