@@ -108,7 +108,8 @@ fn long_lines(rt: HostRuntime) -> Result<(), Fail> {
     assert!(rt; read_line(rt.alloc(), &line, Form::Plain)?.is_none());
     let mut longer = vec![in rt.alloc(); b'x'; 268_435_457]?;
     longer[0] = b'#';
-    assert!(rt; read_line(rt.alloc(), &longer[..268_435_456], Form::Plain)?.is_none());
+    let longest = longer.get(..268_435_456).ok_or("no line")?;
+    assert!(rt; read_line(rt.alloc(), longest, Form::Plain)?.is_none());
     let too_long = read_line(rt.alloc(), &longer, Form::Plain).err();
     assert_eq!(rt; too_long, Some(LineFault::LineTooLong));
     Ok(())
