@@ -7,7 +7,7 @@
  *   REFUSE=n           the n-th growth that is counted is refused; 0 or nothing: none is
  *   REFUSE_LATER=1     all later ones are refused too
  *   REFUSE_FROM_START=1  growths are counted from the start of the program on, whatever it asks for
- *   REFUSE_TOLD=FILE   a byte is written to the file for each growth that is refused
+ *   REFUSE_TOLD=FILE   a byte is written to the file for each growth that is refused, `x`, and where counting begins, `b`
  */
 #include <errno.h>
 #include <fcntl.h>
@@ -35,12 +35,20 @@ __attribute__((constructor)) static void get_ready(void)
     is_ready = 1;
 }
 
+static void tell(const char *what)
+{
+    if (told >= 0 && write(told, what, 1) != 1)
+        abort();
+}
+
 /* Whether a growth to this many bytes is refused. */
 static int is_refused(size_t size)
 {
     if (!is_ready)
         return 0;
     if (size == BEGIN || size == END) {
+        if (size == BEGIN)
+            tell("b");
         is_counting = size == BEGIN || getenv("REFUSE_FROM_START") != NULL;
         return 0;
     }
@@ -49,8 +57,7 @@ static int is_refused(size_t size)
     count++;
     if (refused_number == 0 || count < refused_number || (count > refused_number && !refuses_later))
         return 0;
-    if (told >= 0 && write(told, "x", 1) != 1)
-        abort();
+    tell("x");
     errno = ENOMEM;
     return 1;
 }

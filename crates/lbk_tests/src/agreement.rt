@@ -1,10 +1,11 @@
-//! The machines say of every short list of cells what the evaluator says.
+//! The machines and the breaks of texts say of every short list of cells what the evaluator says.
 
 use crate::cells::{mark, pictograph, plain, wide};
+use lbk_breaks::{Break, Breaks};
 use lbk_cmd::{SAMPLE_FILES, read_cells};
 use lbk_rules::{
-    Cell, CellPages, CellSource, Class, LateMachine, Machine, Profile, Quote, Stepper, Verdict,
-    decide, decide_in,
+    Cell, CellPages, CellSource, Class, Kind, LateMachine, Machine, Profile, Quote, Stepper,
+    Verdict, decide, decide_in,
 };
 use lbk_ucd::{Files, Tables};
 use std::alloc::{AllocError, Global};
@@ -230,19 +231,78 @@ fn check_steppers(rt: &impl Abort, pages: &CellPages, scalars: &[(char, Cell)]) 
     }
 }
 
-#[test]
-fn stepper_by_rows(rt: HostRuntime) -> Result<(), Fail> {
-    let tables = Tables::read(rt.alloc(), EACH_ONCE)?;
-    let pages = CellPages::build(rt.alloc(), &tables)?;
-    assert!(rt; pages.step_table().is_some());
-    let cells = all_cells_and_marks(rt.alloc())?;
-    let mut scalars = Vec::new(rt.alloc());
+/// The scalars of these files, with their cells, which the pages have.
+fn each_once(
+    rt: &impl Abort,
+    alloc: Global,
+    pages: &CellPages,
+) -> Result<Vec<(char, Cell)>, AllocError> {
+    let cells = all_cells_and_marks(alloc)?;
+    let mut scalars = Vec::new(alloc);
     for (c, cell) in ('\u{100}'..'\u{12B}').zip(&cells) {
         assert_eq!(rt; pages.cell(c), *cell, "{c:?}");
         scalars.push((c, *cell))?;
     }
     assert_eq!(rt; scalars.len(), 43);
+    Ok(scalars)
+}
+
+#[test]
+fn stepper_by_rows(rt: HostRuntime) -> Result<(), Fail> {
+    let tables = Tables::read(rt.alloc(), EACH_ONCE)?;
+    let pages = CellPages::build(rt.alloc(), &tables)?;
+    assert!(rt; pages.step_table().is_some());
+    let scalars = each_once(&rt, rt.alloc(), &pages)?;
     check_steppers(&rt, &pages, &scalars);
+    Ok(())
+}
+
+/// Finds the breaks of a text of three scalars of two bytes each, and compares them with what the rules say of its
+/// cells.
+fn check_breaks(
+    rt: &impl Abort,
+    alloc: Global,
+    pages: &CellPages,
+    profile: Profile,
+    scalars: &[(char, Cell); 3],
+) -> Result<(), AllocError> {
+    let [(a, first), (b, second), (c, third)] = *scalars;
+    let cells = [first, second, third];
+    let mut text = String::new(alloc);
+    text.push(a)?;
+    text.push(b)?;
+    text.push(c)?;
+    let mut breaks = Breaks::new(pages, text.as_str(), profile);
+    for k in 1..=3 {
+        let Verdict { kind, rule } = decide_in(profile, &cells, k);
+        if kind != Kind::No {
+            let want = Break {
+                at: 2 * k,
+                kind,
+                rule,
+            };
+            assert_eq!(rt; breaks.next(), Some(want), "{scalars:?}, {profile:?}");
+        }
+    }
+    assert_eq!(rt; breaks.next(), None, "{scalars:?}, {profile:?}");
+    Ok(())
+}
+
+#[test]
+fn breaks_by_rows(rt: HostRuntime) -> Result<(), Fail> {
+    let tables = Tables::read(rt.alloc(), EACH_ONCE)?;
+    let pages = CellPages::build(rt.alloc(), &tables)?;
+    assert!(rt; pages.step_table().is_some());
+    let scalars = each_once(&rt, rt.alloc(), &pages)?;
+    for first in &scalars {
+        for second in &scalars {
+            for third in &scalars {
+                let text = [*first, *second, *third];
+                check_breaks(&rt, rt.alloc(), &pages, Profile::First, &text)?;
+                check_breaks(&rt, rt.alloc(), &pages, Profile::Second, &text)?;
+            }
+        }
+    }
     Ok(())
 }
 

@@ -163,8 +163,10 @@ fn check_source<C: CellSource>(
     check(rt, alloc, source, Profile::First, &IN_FIRST)?;
     check(rt, alloc, source, Profile::Second, &BOTH)?;
     check(rt, alloc, source, Profile::Second, &IN_SECOND)?;
-    check_agreement(rt, alloc, source, Profile::First, &FIRST)?;
-    check_agreement(rt, alloc, source, Profile::Second, &SECOND)?;
+    for profile in [Profile::First, Profile::Second] {
+        check_agreement(rt, alloc, source, profile, &FIRST)?;
+        check_agreement(rt, alloc, source, profile, &SECOND)?;
+    }
     Ok(())
 }
 

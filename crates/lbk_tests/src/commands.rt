@@ -9,12 +9,13 @@ use std::alloc::Global;
 use std::process::Abort;
 use std::test::Fail;
 
-const ROOM: usize = 65_536;
+/// Room for all that a run here writes.
+pub const ROOM: usize = 65_536;
 
 const BAD_ROW: &[u8] = b"0061;AK\n";
 
 /// The words of the four files, with `more` behind them.
-fn words(
+pub fn words(
     alloc: Global,
     engine: &'static str,
     more: &[&'static str],
@@ -35,8 +36,13 @@ fn words(
     Ok(words)
 }
 
-/// How a run ends over the sample files and one bad file `B`, and what it wrote.
-fn ended(alloc: Global, words: &[&'static str], input: &str) -> Result<(Ending, MemorySink), Fail> {
+/// How a run ends over the sample files and one bad file `B`, and what it wrote into so much room.
+pub fn ended(
+    alloc: Global,
+    words: &[&'static str],
+    reader: &mut MemorySource<'_>,
+    room: usize,
+) -> Result<(Ending, MemorySink), Fail> {
     let files = [
         ("L", SAMPLE_FILES.line_break),
         ("E", SAMPLE_FILES.east_asian),
@@ -45,14 +51,13 @@ fn ended(alloc: Global, words: &[&'static str], input: &str) -> Result<(Ending, 
         ("B", BAD_ROW),
     ];
     let store = MemoryStore::new(files.as_slice());
-    let mut reader = MemorySource::new(input.as_bytes());
-    let mut writer = MemorySink::new(alloc, ROOM)?;
-    let ending = run(alloc, words, &store, &mut reader, &mut writer);
+    let mut writer = MemorySink::new(alloc, room)?;
+    let ending = run(alloc, words, &store, reader, &mut writer);
     Ok((ending, writer))
 }
 
 /// A run that writes `text` and ends with this status.
-fn check(
+pub fn check(
     rt: &impl Abort,
     alloc: Global,
     words: &[&'static str],
@@ -60,7 +65,8 @@ fn check(
     text: &str,
     status: u8,
 ) -> Result<Ending, Fail> {
-    let (ending, writer) = ended(alloc, words, input)?;
+    let mut reader = MemorySource::new(input.as_bytes());
+    let (ending, writer) = ended(alloc, words, &mut reader, ROOM)?;
     assert_eq!(rt; writer.bytes(), text.as_bytes());
     assert_eq!(rt; ending.status(), status);
     Ok(ending)
@@ -211,39 +217,72 @@ fn refused(rt: HostRuntime) -> Result<(), Fail> {
     Ok(())
 }
 
+/// Words behind an engine and its files that no command line has.
+const WRONG: [(&str, &[&str]); 15] = [
+    ("show", &["--limit", "0"]),
+    ("show", &["--limit", "16777217"]),
+    ("show", &["--limit", "many"]),
+    ("show", &["--profile", "3"]),
+    ("show", &["--kinds"]),
+    ("show", &["more"]),
+    ("segment", &["--limit", "0"]),
+    ("segment", &["--limit", "16777217"]),
+    ("segment", &["--profile", "0"]),
+    ("segment", &["--kinds"]),
+    ("segment", &["--line-break", "L"]),
+    ("replay", &["--limit", "4"]),
+    ("replay", &["--profile", "3"]),
+    ("replay", &["--profile", "first"]),
+    ("replay", &["--bogus"]),
+];
+
 #[test]
 fn help_and_usage(rt: HostRuntime) -> Result<(), Fail> {
     let alloc = rt.alloc();
-    assert!(rt;
-        matches!(
-            check(&rt, alloc, &["--help"], "ab", "", 0)?,
-            Ending::Help { .. }
-        )
-    );
-    assert!(rt;
-        matches!(
-            check(&rt, alloc, &["--version"], "ab", "", 0)?,
-            Ending::Help { .. }
-        )
-    );
-    for wrong in [
-        ["--limit", "0"],
-        ["--limit", "16777217"],
-        ["--profile", "3"],
+    for help in [
+        ["--help"].as_slice(),
+        &["--version"],
+        &["show", "--help"],
+        &["segment", "--help"],
+        &["replay", "--help"],
     ] {
-        let wrong = words(alloc, "show", wrong.as_slice())?;
-        assert!(rt;
-            matches!(
-                check(&rt, alloc, &wrong, "ab", "", 2)?,
-                Ending::Usage { .. }
-            )
-        );
+        let ending = check(&rt, alloc, help, "ab", "", 0)?;
+        assert!(rt; matches!(ending, Ending::Help { .. }), "{help:?}");
     }
-    assert!(rt;
-        matches!(
-            check(&rt, alloc, &["bogus"], "ab", "", 2)?,
-            Ending::Usage { .. }
-        )
-    );
+    for (engine, more) in WRONG {
+        let wrong = words(alloc, engine, more)?;
+        let ending = check(&rt, alloc, &wrong, "ab", "", 2)?;
+        assert!(rt; matches!(ending, Ending::Usage { .. }), "{wrong:?}");
+    }
+    for wrong in [["bogus"].as_slice(), &["show"], &["--limit", "4"]] {
+        let ending = check(&rt, alloc, wrong, "ab", "", 2)?;
+        assert!(rt; matches!(ending, Ending::Usage { .. }), "{wrong:?}");
+    }
+    Ok(())
+}
+
+// Each of the four files has to be named.
+#[test]
+fn file_left_out(rt: HostRuntime) -> Result<(), Fail> {
+    let alloc = rt.alloc();
+    for engine in ["show", "segment", "replay"] {
+        let all = words(alloc, engine, &[])?;
+        for option in ["--line-break", "--east-asian", "--category", "--emoji"] {
+            let mut fewer = Vec::new(alloc);
+            let mut is_name = false;
+            for word in &all {
+                if *word == option {
+                    is_name = true;
+                } else if is_name {
+                    is_name = false;
+                } else {
+                    fewer.push(*word)?;
+                }
+            }
+            assert_eq!(rt; fewer.len(), 7);
+            let ending = check(&rt, alloc, &fewer, "ab", "", 2)?;
+            assert!(rt; matches!(ending, Ending::Usage { .. }), "{fewer:?}");
+        }
+    }
     Ok(())
 }

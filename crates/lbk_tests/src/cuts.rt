@@ -130,6 +130,7 @@ fn files(rt: HostRuntime) -> Result<(), Fail> {
         for file in FILES {
             check(&rt, setting, &OF_FILES, file)?;
         }
+        check(&rt, setting, &OF_FILES, replayed::QUOTED.as_bytes())?;
         for (file, _, _) in replayed::PLAIN {
             check(&rt, setting, &OF_FILES, file.as_bytes())?;
         }

@@ -8,6 +8,8 @@ mod breaks;
 #[cfg(test)]
 mod cells;
 #[cfg(test)]
+mod command_rows;
+#[cfg(test)]
 mod commands;
 #[cfg(test)]
 mod cuts;

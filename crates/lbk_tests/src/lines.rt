@@ -106,7 +106,10 @@ fn long_lines(rt: HostRuntime) -> Result<(), Fail> {
     let mut line = vec![in rt.alloc(); b'x'; 16_777_217]?;
     line[0] = b'#';
     assert!(rt; read_line(rt.alloc(), &line, Form::Plain)?.is_none());
-    let longer = vec![in rt.alloc(); b'x'; 268_435_457]?;
+    let mut longer = vec![in rt.alloc(); b'x'; 268_435_457]?;
+    longer[0] = b'#';
+    let longest = longer.get(..268_435_456).ok_or("no line")?;
+    assert!(rt; read_line(rt.alloc(), longest, Form::Plain)?.is_none());
     let too_long = read_line(rt.alloc(), &longer, Form::Plain).err();
     assert_eq!(rt; too_long, Some(LineFault::LineTooLong));
     Ok(())

@@ -5,7 +5,7 @@ use crate::rows::{FIRST, SECOND};
 use lbk_cmd::{SAMPLE_FILES, read_cells};
 use lbk_feed::devices::MemorySource;
 use lbk_passage::{PassageFault, Segmenter};
-use lbk_rules::{CellPages, CellSource, Profile};
+use lbk_rules::{CellPages, CellSource, Profile, Rule};
 use lbk_ucd::Tables;
 use std::alloc::Global;
 use std::process::Abort;
@@ -142,9 +142,13 @@ fn limits(rt: HostRuntime) -> Result<(), Fail> {
     }
     let mut source = MemorySource::new(b"ab\r\nabc\rb");
     let mut segmenter = Segmenter::new(rt.alloc(), &cells, 4, Profile::First)?;
-    for want in ["ab\r\n", "abc\r", "b"] {
+    for (want, end) in [
+        ("ab\r\n", Rule::Lb5),
+        ("abc\r", Rule::Lb5),
+        ("b", Rule::Lb3),
+    ] {
         let passage = segmenter.next(&mut source)?.ok_or("no passage")?;
-        assert_eq!(&rt; passage.text, want);
+        assert_eq!(&rt; (passage.text, passage.end.rule), (want, end));
     }
     assert!(&rt; segmenter.next(&mut source)?.is_none());
     Ok(())

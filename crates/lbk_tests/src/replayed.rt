@@ -46,7 +46,7 @@ pub const PLAIN: [Row; 11] = [
 ];
 
 /// A line of which the second profile makes something else.
-const QUOTED: &str = "× 0061 × 0020 × 2019 ÷ 0301 × 002C ÷\n";
+pub const QUOTED: &str = "× 0061 × 0020 × 2019 ÷ 0301 × 002C ÷\n";
 
 /// In form Kinds.
 pub const KINDS: [Row; 3] = [

@@ -17,7 +17,7 @@ const LIMIT: u32 = 65_536;
 pub type Row = (&'static str, &'static [&'static str]);
 
 /// What both profiles say.
-pub const BOTH: [Row; 10] = [
+pub const BOTH: [Row; 11] = [
     ("", &[]),
     (
         "ab cd",
@@ -33,6 +33,13 @@ pub const BOTH: [Row; 10] = [
     (
         "\n\n",
         &["P 0 1 5 S 0 1 Must 5 p 0 1", "P 1 1 3 S 0 1 Must 3 p 0 1"],
+    ),
+    (
+        "abc\rb",
+        &[
+            "P 0 4 5 S 0 4 Must 5 W 0 3 p 3 4",
+            "P 4 1 3 S 0 1 Must 3 W 0 1",
+        ],
     ),
     ("can't", &["P 0 5 3 S 0 5 Must 3 W 0 5"]),
     ("1,2", &["P 0 3 3 S 0 3 Must 3 W 0 3"]),

@@ -43,7 +43,7 @@ pub const BOTH: [(&str, &str); 14] = [
 ];
 
 /// What the first says.
-const FIRST: [(&str, &str); 3] = [
+pub const FIRST: [(&str, &str); 3] = [
     (
         "a \u{2019}\u{301},",
         "× 0061 × 0020 ÷ 2019 × 0301 × 002C !\t# 2 7 18 9 13 3\n",

@@ -78,7 +78,8 @@ fn run_shortly(rt: &HostRuntime, row: &Row, profile: Profile) -> Result<()> {
         Profile::Second => println!(rt; "row {name} 2")?,
     }
     if told.len() <= SHOWN {
-        print!(rt; "{told}")?;
+        let text = told.as_str();
+        println!(rt; "{}", text.strip_suffix('\n').unwrap_or(text))?;
     } else {
         let digest = digest::of(told.as_bytes());
         let count = told.len();

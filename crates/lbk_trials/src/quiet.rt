@@ -4,14 +4,15 @@ use crate::counting::{begin, end};
 use crate::digest::Digest;
 use crate::inputs::{Text, cells, cells_of, line_of, text_of, verdicts_of};
 use anyhow::{Result, anyhow, ensure};
+use lbk_breaks::{Break, Breaks};
 use lbk_cmd::Ending;
 use lbk_feed::devices::MemorySource;
 use lbk_feed::{Device, Feed, Sink, Source, write_all};
 use lbk_files::SAMPLE_FILES;
 use lbk_notation::{Form, Mark, Report, TestLine, replay_line};
 use lbk_rules::{
-    Cell, CellSource, LateMachine, Machine, Profile, Verdict, decide, decide_all, decide_all_in,
-    decide_in, resolve,
+    Cell, CellSource, Kind, LateMachine, Machine, Profile, Rule, Stepper, Verdict, decide,
+    decide_all, decide_all_in, decide_in, resolve,
 };
 use lbk_ucd::{Places, Tables};
 use std::alloc::Global;
@@ -31,6 +32,8 @@ pub enum Quiet {
     Decide(Text),
     /// Each call of `Machine` and `LateMachine`, and `label`.
     Machines(Text),
+    /// `Breaks`, in blocks and one by one, and `Stepper`, over pages and over tables.
+    Breaks(Text),
     /// `TestLine::new`, `scalars`, `marks`.
     TestLine,
     /// `replay_line` of the line of one text against the rules' marks of a text, in both forms.
@@ -43,7 +46,7 @@ impl Quiet {
     pub fn has_profile(self) -> bool {
         matches!(
             self,
-            Quiet::Decide(_) | Quiet::Machines(_) | Quiet::ReplayLine(_)
+            Quiet::Decide(_) | Quiet::Machines(_) | Quiet::Breaks(_) | Quiet::ReplayLine(_)
         )
     }
 
@@ -55,6 +58,7 @@ impl Quiet {
             Quiet::Cells => both_cells(alloc),
             Quiet::Decide(text) => decided(alloc, text, profile),
             Quiet::Machines(text) => machines(alloc, text, profile),
+            Quiet::Breaks(text) => breaks(alloc, text, profile),
             Quiet::TestLine => test_line(alloc),
             Quiet::ReplayLine(text) => replayed(alloc, text, profile),
             Quiet::Status => status(alloc),
@@ -232,6 +236,72 @@ fn add_late(digest: &mut Digest, late: Option<(u64, Verdict)>) {
         digest.add(position);
         add_verdict(digest, verdict);
     }
+}
+
+fn breaks(alloc: Global, text: Text, profile: Profile) -> Result<String> {
+    let bytes = text.bytes(alloc)?;
+    let text = text_of(&bytes)?;
+    let tables = tables(alloc)?;
+    let pages = cells(alloc)?;
+    let mut digest = Digest::new();
+    begin(alloc);
+    let in_pages = add_breaks(&mut digest, &pages, text, profile);
+    let in_tables = add_breaks(&mut digest, &tables, text, profile);
+    step_stepper(&mut digest, &pages, text, profile);
+    step_stepper(&mut digest, &tables, text, profile);
+    end(alloc);
+    let digest = digest.value();
+    Ok(format!(in alloc; "{in_pages} and {in_tables} breaks, digest {digest:016x}\n")?)
+}
+
+const NO_BREAK: Break = Break {
+    at: 0,
+    kind: Kind::No,
+    rule: Rule::Lb31,
+};
+
+/// Adds the breaks of a text in blocks of three, and again one by one; how many there are.
+fn add_breaks<C: CellSource>(
+    digest: &mut Digest,
+    cells: &C,
+    text: &str,
+    profile: Profile,
+) -> usize {
+    let mut block = [NO_BREAK; 3];
+    let mut breaks = Breaks::new(cells, text, profile);
+    let mut count = breaks.fill(&mut block);
+    let mut all = count;
+    for _ in text.chars() {
+        for one in block.iter().take(count) {
+            add_break(digest, *one);
+        }
+        count = breaks.fill(&mut block);
+        all = all.saturating_add(count);
+    }
+    for one in Breaks::new(cells, text, profile) {
+        add_break(digest, one);
+    }
+    all
+}
+
+fn add_break(digest: &mut Digest, one: Break) {
+    digest.add(one.at as u64);
+    digest.add(one.kind as u64);
+    digest.add_bytes(one.rule.label().as_bytes());
+}
+
+fn step_stepper<C: CellSource>(digest: &mut Digest, cells: &C, text: &str, profile: Profile) {
+    let mut stepper = Stepper::start(cells, profile);
+    for c in text.chars() {
+        let out = stepper.step(c);
+        add_late(digest, out.late);
+        if let Some(verdict) = out.now {
+            add_verdict(digest, verdict);
+        }
+    }
+    let ended = stepper.finish();
+    add_late(digest, ended.late);
+    add_verdict(digest, ended.end);
 }
 
 fn test_line(alloc: Global) -> Result<String> {

@@ -380,6 +380,8 @@ pub const ROWS: &[Row] = &[
     ("quiet/cells", Trial::Quiet(Quiet::Cells)),
     ("quiet/decide", Trial::Quiet(Quiet::Decide(LONG))),
     ("quiet/machines", Trial::Quiet(Quiet::Machines(LONG))),
+    ("quiet/breaks", Trial::Quiet(Quiet::Breaks(LONG))),
+    ("quiet/breaks-quoted", Trial::Quiet(Quiet::Breaks(QUOTED))),
     ("quiet/test-line", Trial::Quiet(Quiet::TestLine)),
     ("quiet/replay-line", Trial::Quiet(Quiet::ReplayLine(LONG))),
     (
