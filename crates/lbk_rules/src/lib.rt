@@ -9,6 +9,7 @@ pub mod annex;
 mod breaks;
 mod cells;
 mod classes;
+mod codes;
 mod evaluator;
 mod facts;
 mod forward;
