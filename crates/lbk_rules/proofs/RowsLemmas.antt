@@ -9,6 +9,7 @@ use Rattle.lbk_rules.specs.declared.verdicts.Profile.{Profile}
 use Rattle.lbk_rules.specs.declared.verdicts.Verdict.{Verdict}
 use Rattle.lbk_rules.specs.Chain.{from_cells}
 use Rattle.lbk_rules.specs.Classes.{hard}
+use Rattle.lbk_rules.specs.Codes.{IsCode, verdict_coded}
 use Rattle.lbk_rules.specs.Facts.{closes_in, facts}
 use Rattle.lbk_rules.specs.Kinds.{kind_cell}
 use Rattle.lbk_rules.specs.Sides.{Side}
@@ -39,6 +40,7 @@ IsStep-more profile before after left cell step extends here =
     let starts = here.starts in
     record {
       starts = (starts.0, omega (arith, starts.1));
+      coded = here.coded;
       leads = λ side known. here.leads side known ∙ sym (extends.kept (step.next / KINDS) starts.1);
       decides = here.decides;
     }
@@ -62,7 +64,7 @@ AreSteps-push profile before after steps step decided within extends here place 
 
 -- the step that is made of what follows and of the verdict is put behind the others
 pub AreSteps-made : (profile : Profile) (before after : List Left) (steps : List Step) (left next : Left) (cell : Cell)
-    (closes : Bool) (verdict : Verdict) (row : ℕ)
+    (closes : Bool) (verdict : Verdict) (code row : ℕ)
     → AreSteps profile before steps → length steps < KINDS * length before → Extends before after
     → left ≡ get_or before (length steps / KINDS) left → cell ≡ kind_cell (length steps % KINDS)
     → row < length after → get_or after row (facts []) ≡ next
@@ -70,15 +72,17 @@ pub AreSteps-made : (profile : Profile) (before after : List Left) (steps : List
     → closes ≡ closes_in profile []
     → ((side more : Side) → facts side ≡ left → closes_in profile (units_after (hard cell.class) more) ≡ closes
     → verdict ≡ from_cells profile side (cell ∷ more))
-    → AreSteps profile after (steps ++ record { verdict = verdict; next = KINDS * row } ∷ [])
-AreSteps-made profile before after steps left next cell closes verdict row decided within extends known kind there found leads ends decides =
+    → IsCode code → verdict_coded code ≡ verdict
+    → AreSteps profile after (steps ++ record { code = code; next = KINDS * row } ∷ [])
+AreSteps-made profile before after steps left next cell closes verdict code row decided within extends known kind there found leads ends decides coded same_verdict =
     let left_same : left ≡ left_at before (length steps) = get_or_read before _ left (omega arith) known (facts []) in
     let row_same : KINDS * row / KINDS ≡ row = omega arith in
-    let step : Step = record { verdict = verdict; next = KINDS * row } in
+    let step : Step = record { code = code; next = KINDS * row } in
     let made : IsStep profile after left cell step = record {
       starts = (omega arith, omega arith);
+      coded = coded;
       leads = λ side same. sym (leads side same) ∙ sym found ∙ sym (ap (λ k. get_or after k (facts [])) row_same);
-      decides = λ side more same closed. decides side more same (closed ∙ sym ends);
+      decides = λ side more same closed. same_verdict ∙ decides side more same (closed ∙ sym ends);
     } in
     AreSteps-push profile before after steps step decided within extends
     (subst (λ l. IsStep profile after l (kind_cell (length steps % KINDS)) step) left_same

@@ -19,6 +19,7 @@ pub mod AheadFits
 pub mod Answers
 pub mod CellPages
 pub mod Chain
+pub mod Codes
 pub mod Facts
 pub mod Fits
 pub mod KindTable

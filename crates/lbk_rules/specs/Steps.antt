@@ -4,11 +4,10 @@ use Rattle.lbk_rules.specs.declared.cells.Cell.{Cell}
 use Rattle.lbk_rules.specs.declared.facts.Left.{Left}
 use Rattle.lbk_rules.specs.declared.kinds.TheConstants.{KINDS}
 use Rattle.lbk_rules.specs.declared.rows.Step.{Step}
-use Rattle.lbk_rules.specs.declared.verdicts.Kind.TheVariants.{No}
 use Rattle.lbk_rules.specs.declared.verdicts.Profile.{Profile}
-use Rattle.lbk_rules.specs.declared.verdicts.Rule.TheVariants.{Lb2}
 use Rattle.lbk_rules.specs.Chain.{from_cells}
 use Rattle.lbk_rules.specs.Classes.{hard}
+use Rattle.lbk_rules.specs.Codes.{IsCode, verdict_coded}
 use Rattle.lbk_rules.specs.Facts.{closes_in, facts}
 use Rattle.lbk_rules.specs.Kinds.{kind_cell}
 use Rattle.lbk_rules.specs.Sides.{Side}
@@ -26,14 +25,15 @@ IsStart lefts place = (place % KINDS ≡ 0) × (place / KINDS < length lefts)
 -- the cell. Where the profile asks for what comes after it, that is as at the end of a text
 pub record IsStep (profile : Profile) (lefts : List Left) (left : Left) (cell : Cell) (step : Step) : Type 0 where
   pub starts : IsStart lefts step.next
+  pub coded : IsCode step.code
   pub leads : (side : Side) → facts side ≡ left → facts (cell ∷ side) ≡ left_at lefts step.next
   pub decides : (side more : Side) → facts side ≡ left
       → closes_in profile (units_after (hard cell.class) more) ≡ closes_in profile []
-      → step.verdict ≡ from_cells profile side (cell ∷ more)
+      → verdict_coded step.code ≡ from_cells profile side (cell ∷ more)
 
 -- a step that stands nowhere
 abbrev pub no_step : Step
-no_step = record { verdict = record { kind = No; rule = Lb2 }; next = 0 }
+no_step = record { code = 0; next = 0 }
 
 -- at each place is the step of its row and of its kind
 abbrev pub AreSteps : Profile → List Left → List Step → Type 0

@@ -13,6 +13,7 @@ pub mod annex;
 mod breaks;
 mod cells;
 mod classes;
+mod codes;
 mod evaluator;
 mod facts;
 mod forward;

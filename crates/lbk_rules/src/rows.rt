@@ -2,12 +2,14 @@
 
 ghost use Rattle.std.specs.Prelude.{◌≡◌, ◌*◌, ◌<◌, ◌≤◌, ◌+◌, max, List, [], ◌∷◌, ◌++◌, length, reverse, slice_index_or, IfOk, IfSome};
 ghost use Rattle.lbk_rules.specs.declared.kinds.TheConstants.{KINDS};
+ghost use Rattle.lbk_rules.specs.Codes.{IsCode, verdict_coded};
 ghost use Rattle.lbk_rules.specs.Facts.{facts};
 ghost use Rattle.lbk_rules.specs.Steps.{AreSteps, Extends, IsStart, left_at, no_step};
 
+use crate::codes::code_of;
 use crate::facts::Left;
 use crate::kinds::{KINDS, cell_of_kind};
-use crate::verdicts::{Profile, Verdict};
+use crate::verdicts::Profile;
 use std::alloc::{AllocError, Global};
 
 /// How many rows a table may have at most, so that the place of each fits a `u16`.
@@ -19,8 +21,9 @@ const HINTS: usize = 1021;
 /// What happens at a cell of some kind after some cells.
 #[derive(Clone, Copy, PartialEq, Eq, Debug)]
 pub(crate) struct Step {
-    /// The verdict before the cell. Where the second profile asks for the unit after it, that of a text without one.
-    pub(crate) verdict: Verdict,
+    /// The number of the verdict before the cell. Where the second profile asks for the unit after it, that of a text
+    /// without one.
+    pub(crate) code: u16,
     /// The place at which the next row begins.
     pub(crate) next: u16,
 }
@@ -68,8 +71,9 @@ impl Rows {
             }
             hints[slot] = row as u16;
             let verdict = left.verdict(profile, cell, profile.is_second());
+            let code = code_of(verdict);
             let next = (KINDS * row) as u16;
-            steps.push(Step { verdict, next })?;
+            steps.push(Step { code, next })?;
         }
         Ok(Some(Rows {
             profile,
@@ -85,11 +89,12 @@ impl Rows {
         requires row { IsRowOf self.now row }
         requires kind { kind < KINDS }
         ensures row { IsRowOf self.now result.now.next }
+        ensures coded { IsCode result.now.code }
         ensures fits { (cells : List Cell) → RowFits self.now row cells
             → RowFits self.now result.now.next (cells ++ kind_cell kind ∷ []) }
         ensures decides { (cells more : List Cell) → RowFits self.now row cells
             → closes_in (profile_of self.now) (units_after (hard (kind_cell kind).class) more) ≡ closes_in (profile_of self.now) []
-            → result.now.verdict ≡ from_cells (profile_of self.now) (reverse cells) (kind_cell kind ∷ more) }
+            → verdict_coded result.now.code ≡ from_cells (profile_of self.now) (reverse cells) (kind_cell kind ∷ more) }
     {
         step_of(&self.steps, row, kind as usize)
     }

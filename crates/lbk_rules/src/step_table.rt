@@ -5,6 +5,7 @@ ghost use Rattle.lbk_rules.specs.declared.verdicts.Profile.TheVariants.{First, S
 ghost use Rattle.lbk_rules.specs.RowFits.{IsRowOf, profile_of};
 
 use crate::cells::Cell;
+use crate::codes::verdict_of;
 use crate::facts::Left;
 use crate::kind_table::KindTable;
 use crate::kinds::cell_of_kind;
@@ -112,7 +113,7 @@ impl<'a> RowMachine<'a> {
     {
         let step = self.rows.step(self.row, self.kinds.of(c));
         self.row = step.next as usize;
-        step.verdict
+        verdict_of(step.code)
     }
 
     /// What it knows of the cells that it has taken.

@@ -1,4 +1,4 @@
-use Rattle.std.proofs.Common.{◌≡◌, ◌<◌, ◌≤◌, ◌+◌, ◌≢◌, length, arith, length-set, get_or-set_other, get_or-set_same, below_more, sym}
+use Rattle.std.proofs.Common.{◌<◌, ◌≤◌, ◌+◌, ◌≢◌, length, arith, length-set, get_or-set_other, get_or-set_same, below_more, sym}
 use Rattle.lbk_rules.specs.Pages.{AreSame}
 use Rattle.lbk_rules.proofs.pages.fill.Goals as goal
 use Rattle.lbk_rules.proofs.pages.fill.Goals.{then-run-code, else-run-code}

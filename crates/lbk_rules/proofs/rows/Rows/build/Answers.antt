@@ -33,9 +33,10 @@ places-preserved c =
       begins = (begins.0, omega (arith, begins.1));
       start = extends.kept 0 begins.1 ∙ inv.start;
       decided = subst (λ s. AreSteps profile after s) (sym pushed)
-          (AreSteps-made profile before after steps left c.then-then.result cell c.is_second.result c.verdict-verdict.result row
+          (AreSteps-made profile before after steps left c.then-then.result cell c.is_second.result c.verdict-verdict.result c.code_of-code.result row
           inv.decided within extends known kind found.0 found.1 c.then-then.ensures c.is_second.ensures
-          (λ side more same closed. c.verdict-verdict.ensures side more same closed));
+          (λ side more same closed. c.verdict-verdict.ensures side more same closed)
+          c.code_of-code.ensures.coded c.code_of-code.ensures.verdict);
       within = rw (pushed, length_push) (omega arith);
       few = omega arith;
     }

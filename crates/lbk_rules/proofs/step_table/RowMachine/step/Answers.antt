@@ -9,22 +9,24 @@ use Rattle.lbk_rules.proofs.step_table.RowMachine.step.Goals as goal
 
 pub returns-clause-held : goal.returns-clause-held
 returns-clause-held c = λ profile cell taken more fits.
-    let verdict = c.step-step.result.now.verdict in
+    let verdict = c.verdict_of.result in
     let cells = normals cell taken in
     let same = kind_same c.args.self.now.kinds.now cell c.args.c c.of.result fits.kinds_same c.ranges.c.0 c.of.ensures.kind in
     let so_far : verdict ≡ from_cells profile (reverse cells) (normal (cell c.args.c) ∷ []) =
-    c.step-step.ensures.decides cells [] fits.row_same refl
+    c.verdict_of.ensures
+    ∙ c.step-step.ensures.decides cells [] fits.row_same refl
     ∙ ap (λ p. from_cells p (reverse cells) (kind_cell c.of.result ∷ [])) fits.profile_same
     ∙ ap (λ n. from_cells profile (reverse cells) (n ∷ [])) same in
     so_far-held profile cell taken c.args.c more verdict (so_far-normal profile cell taken c.args.c verdict so_far)
 
 pub returns-clause-decides : goal.returns-clause-decides
 returns-clause-decides c = λ profile cell taken more fits.
-    let verdict = c.step-step.result.now.verdict in
+    let verdict = c.verdict_of.result in
     let cells = normals cell taken in
     let same = kind_same c.args.self.now.kinds.now cell c.args.c c.of.result fits.kinds_same c.ranges.c.0 c.of.ensures.kind in
     let so_far : verdict ≡ from_cells profile (reverse cells) (normal (cell c.args.c) ∷ []) =
-    c.step-step.ensures.decides cells [] fits.row_same refl
+    c.verdict_of.ensures
+    ∙ c.step-step.ensures.decides cells [] fits.row_same refl
     ∙ ap (λ p. from_cells p (reverse cells) (kind_cell c.of.result ∷ [])) fits.profile_same
     ∙ ap (λ n. from_cells profile (reverse cells) (n ∷ [])) same in
     so_far-decides profile cell taken c.args.c more verdict (so_far-normal profile cell taken c.args.c verdict so_far)
