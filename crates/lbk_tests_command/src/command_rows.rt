@@ -1,12 +1,12 @@
 //! The worked texts and test files through the program's words, in both profiles, and what refuses them.
 
 use crate::commands::{ROOM, check, ended, words};
-use crate::replayed::{FOUR_LINES, QUOTED, Row};
-use crate::{replayed, segment_lines, shown};
 use lbk_cmd::{CmdFault, Ending, RunFault};
 use lbk_feed::devices::MemorySource;
 use lbk_notation::ReplayFault;
 use lbk_passage::PassageFault;
+use lbk_tests_rows::replayed::{FOUR_LINES, QUOTED, Row};
+use lbk_tests_rows::{replayed, segment_lines, shown};
 use std::alloc::Global;
 use std::process::Abort;
 use std::test::Fail;

@@ -1,13 +1,14 @@
 //! However the reads cut a worked text or test file, the passages, the output and the report are those of a single
 //! read: in two reads and in three at every place, and in one byte a read.
 
+use crate::segmented;
 use crate::tasks::{Ran, Setting, Task};
-use crate::{replayed, rows, segmented, shown};
 use lbk_cmd::{SAMPLE_FILES, read_cells};
 use lbk_feed::Sink;
 use lbk_feed::devices::MemorySource;
 use lbk_notation::Form;
 use lbk_rules::{CellPages, Profile};
+use lbk_tests_rows::{replayed, shown, texts};
 use std::alloc::{AllocError, Global};
 use std::process::Abort;
 use std::test::Fail;
@@ -91,8 +92,8 @@ const ILL_FORMED: [&[u8]; 6] = [
 fn texts(rt: HostRuntime) -> Result<(), Fail> {
     let alloc = rt.alloc();
     let cells = read_cells(alloc, SAMPLE_FILES)?;
-    check_texts(&rt, alloc, &cells, &rows::FIRST)?;
-    check_texts(&rt, alloc, &cells, &rows::SECOND)?;
+    check_texts(&rt, alloc, &cells, &texts::FIRST)?;
+    check_texts(&rt, alloc, &cells, &texts::SECOND)?;
     check_texts(&rt, alloc, &cells, &shown::BOTH)?;
     check_texts(&rt, alloc, &cells, &shown::SECOND)?;
     check_texts(&rt, alloc, &cells, &segmented::BOTH)?;

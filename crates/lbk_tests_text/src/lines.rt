@@ -1,12 +1,12 @@
 //! Lines of the notation: what is read, refused, written and marked.
 
-use crate::cells::cells_of;
 use lbk_cmd::{SAMPLE_FILES, read_cells};
 use lbk_notation::{
     Form, LineFault, Mark, TestLine, laws, mark_of, mark_text, push_line, push_mark,
     push_passage_line, push_scalar, read_back, read_line, read_passage_line, write_line,
 };
 use lbk_rules::{Kind, Profile, Rule, Verdict, decide_all_in};
+use lbk_tests_rows::cells::cells_of;
 use std::alloc::Global;
 use std::process::Abort;
 use std::test::Fail;

@@ -1,11 +1,11 @@
 //! The breaks of texts in memory over the sample files, in both profiles, from sources with and without a table of
 //! steps and in blocks of all sizes.
 
-use crate::cells::cells_of;
-use crate::rows::{FIRST, SECOND};
 use lbk_breaks::{Break, Breaks};
-use lbk_cmd::SAMPLE_FILES;
 use lbk_rules::{AheadMachine, CellPages, CellSource, Kind, Profile, Rule, decide_in};
+use lbk_tests_rows::cells::cells_of;
+use lbk_tests_rows::property_files::SAMPLES;
+use lbk_tests_rows::texts::{FIRST, SECOND};
 use lbk_ucd::Tables;
 use std::alloc::{AllocError, Global};
 use std::fmt::Write;
@@ -172,7 +172,7 @@ fn check_source<C: CellSource>(
 
 #[test]
 fn breaks_of_texts(rt: HostRuntime) -> Result<(), Fail> {
-    let tables = Tables::read(rt.alloc(), SAMPLE_FILES)?;
+    let tables = Tables::read(rt.alloc(), SAMPLES)?;
     check_source(&rt, rt.alloc(), &tables)?;
     let pages = CellPages::build(rt.alloc(), &tables)?;
     assert!(&rt; pages.step_table().is_some());
@@ -249,7 +249,7 @@ fn check_machines(
 
 #[test]
 fn machines_that_look_ahead(rt: HostRuntime) -> Result<(), Fail> {
-    let tables = Tables::read(rt.alloc(), SAMPLE_FILES)?;
+    let tables = Tables::read(rt.alloc(), SAMPLES)?;
     let pages = CellPages::build(rt.alloc(), &tables)?;
     check_machines(&rt, rt.alloc(), &pages, Profile::First, &FIRST)?;
     check_machines(&rt, rt.alloc(), &pages, Profile::Second, &SECOND)?;

@@ -1,11 +1,11 @@
 //! The passages that a segmenter gives up to its limit and before a fault, in both profiles and however the reads are
 //! cut, and what it answers then.
 
-use crate::rows::{FIRST, SECOND};
 use lbk_cmd::{SAMPLE_FILES, read_cells};
 use lbk_feed::devices::MemorySource;
 use lbk_passage::{PassageFault, Segmenter};
 use lbk_rules::{CellPages, CellSource, Profile, Rule};
+use lbk_tests_rows::texts::{FIRST, SECOND};
 use lbk_ucd::Tables;
 use std::alloc::Global;
 use std::process::Abort;

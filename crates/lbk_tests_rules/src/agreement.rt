@@ -1,12 +1,12 @@
 //! The machines and the breaks of texts say of every short list of cells what the evaluator says.
 
-use crate::cells::{mark, pictograph, plain, wide};
 use lbk_breaks::{Break, Breaks};
-use lbk_cmd::{SAMPLE_FILES, read_cells};
 use lbk_rules::{
     Cell, CellPages, CellSource, Class, Kind, LateMachine, Machine, Profile, Quote, Stepper,
     Verdict, decide, decide_in,
 };
+use lbk_tests_rows::cells::{mark, pictograph, plain, wide};
+use lbk_tests_rows::property_files::SAMPLES;
 use lbk_ucd::{Files, Tables};
 use std::alloc::{AllocError, Global};
 use std::process::Abort;
@@ -330,7 +330,8 @@ fn sample_scalars() -> [(char, Cell); 15] {
 // What no rule asks of a cell, as whether a letter is one or an ideograph is wide, changes no answer.
 #[test]
 fn stepper_asks_what_rules_ask(rt: HostRuntime) -> Result<(), Fail> {
-    let pages = read_cells(rt.alloc(), SAMPLE_FILES)?;
+    let tables = Tables::read(rt.alloc(), SAMPLES)?;
+    let pages = CellPages::build(rt.alloc(), &tables)?;
     assert!(rt; pages.step_table().is_some());
     let scalars = sample_scalars();
     assert!(rt; pages.cell('a') != plain(Class::Alphabetic));

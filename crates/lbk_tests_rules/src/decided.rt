@@ -1,13 +1,12 @@
 //! What the rules say of the positions of texts over the sample files: the evaluator in both profiles, and the machines.
 
-use crate::cells::cells_of;
-use crate::property_files::line_break_alone;
-use crate::rows::{FIRST, SECOND, STEPS};
-use lbk_cmd::SAMPLE_FILES;
 use lbk_rules::{
     Cell, CellPages, CellSource, Class, End, Kind, LateMachine, Out, Profile, Rule, Stepper,
     Verdict, decide, decide_all, decide_all_in, decide_in,
 };
+use lbk_tests_rows::cells::cells_of;
+use lbk_tests_rows::property_files::{SAMPLES, line_break_alone};
+use lbk_tests_rows::texts::{FIRST, SECOND, STEPS};
 use lbk_ucd::Tables;
 use std::alloc::{AllocError, Global};
 use std::fmt::Write;
@@ -180,7 +179,7 @@ fn check_steps<C: CellSource>(
 
 #[test]
 fn sample_rows(rt: HostRuntime) -> Result<(), Fail> {
-    let tables = Tables::read(rt.alloc(), SAMPLE_FILES)?;
+    let tables = Tables::read(rt.alloc(), SAMPLES)?;
     check(&rt, rt.alloc(), &tables, Profile::First, &FIRST)?;
     check(&rt, rt.alloc(), &tables, Profile::Second, &SECOND)?;
     check_first(&rt, rt.alloc(), &tables, &FIRST)?;

@@ -1,9 +1,9 @@
 //! Pages give each scalar the cell of the tables that they are built of: at the edges of pages, and where pages are
 //! equal and where they differ.
 
-use crate::cells::plain;
-use crate::property_files::line_break_alone;
 use lbk_rules::{CellPages, CellSource, Class};
+use lbk_tests_rows::cells::plain;
+use lbk_tests_rows::property_files::line_break_alone;
 use lbk_ucd::Tables;
 use std::alloc::{AllocError, Global};
 use std::fmt::Write;

@@ -1,7 +1,6 @@
 //! Readers that fail at each place, faults after which nothing comes any more, scalars over the edges of blocks, and the
 //! greatest sizes.
 
-use crate::replayed::FOUR_LINES;
 use crate::tasks::{LIMIT, Setting, Task};
 use lbk_cmd::{SAMPLE_FILES, read_cells};
 use lbk_feed::devices::{MemorySource, RepeatedSource};
@@ -9,6 +8,8 @@ use lbk_feed::{Device, Feed, FeedFault, Source};
 use lbk_notation::Form;
 use lbk_passage::{PassageFault, Segmenter};
 use lbk_rules::{CellPages, Profile, Rule};
+use lbk_tests_rows::reads::SIZES;
+use lbk_tests_rows::replayed::FOUR_LINES;
 use std::alloc::Global;
 use std::io::{self, Read};
 use std::process::Abort;
@@ -201,9 +202,6 @@ fn check_one(
     assert!(rt; segmenter.next(&mut source)?.is_none());
     Ok(())
 }
-
-/// Sizes of reads.
-pub const SIZES: [usize; 5] = [1, 2, 3, 4096, usize::MAX];
 
 // A scalar of three bytes at each place round the end of a block, whole and cut off.
 #[test]

@@ -1,13 +1,13 @@
 //! A writer that stops: for each n below the length of the output exactly the first n bytes went out, and the answer is
 //! a failed write.
 
-use crate::replayed::{FOUR_LINES, FOUR_LINES_TEXT};
 use crate::tasks::{Setting, Task};
 use lbk_cmd::{SAMPLE_FILES, read_cells};
 use lbk_feed::devices::{MemorySink, MemorySource};
 use lbk_feed::{Device, Sink};
 use lbk_notation::Form;
 use lbk_rules::Profile;
+use lbk_tests_rows::replayed::{FOUR_LINES, FOUR_LINES_TEXT};
 use std::test::Fail;
 
 /// What is run, its input, and what it writes.

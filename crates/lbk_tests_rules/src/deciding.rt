@@ -1,10 +1,10 @@
 //! What the evaluator and the machines answer, kinds and all, over a list of cells, and the cell that properties come to.
 
-use crate::cells::{mark, plain};
 use lbk_rules::{
     Cell, Class, End, Kind, LateMachine, Machine, Out, Profile, Quote, Rule, Verdict, decide,
     decide_all, decide_all_in, decide_in, resolve,
 };
+use lbk_tests_rows::cells::{mark, plain};
 use lbk_ucd::{Category, EastAsian, LineBreak};
 
 /// A letter, a space, a quotation mark that closes with a mark on it, and a comma.

@@ -4,6 +4,7 @@ use lbk_cmd::{CmdFault, SAMPLE_FILES, read_cells, show};
 use lbk_feed::devices::{MemorySink, MemorySource};
 use lbk_passage::PassageFault;
 use lbk_rules::{CellPages, Profile};
+use lbk_tests_rows::shown::{BOTH, FIRST, SECOND};
 use std::alloc::{AllocError, Global};
 use std::process::Abort;
 use std::test::Fail;
@@ -11,62 +12,6 @@ use std::test::Fail;
 const LIMIT: u32 = 65_536;
 
 const ROOM: usize = 4096;
-
-/// What both profiles say of a text.
-pub const BOTH: [(&str, &str); 14] = [
-    ("ab cd", TWO_WORDS),
-    ("", ""),
-    (
-        "a\r\nb",
-        "× 0061 × 000D × 000A !\t# 2 6 5 5\n× 0062 !\t# 2 3\n",
-    ),
-    ("\n\n", "× 000A !\t# 2 5\n× 000A !\t# 2 3\n"),
-    ("\u{C}a", "× 000C !\t# 2 4\n× 0061 !\t# 2 3\n"),
-    ("a b", "× 0061 × 0020 ÷ 0062 !\t# 2 7 18 3\n"),
-    ("a\n", "× 0061 × 000A !\t# 2 6 3\n"),
-    (" a", "× 0020 ÷ 0061 !\t# 2 18 3\n"),
-    ("  a", "× 0020 × 0020 ÷ 0061 !\t# 2 7 18 3\n"),
-    ("a\r", "× 0061 × 000D !\t# 2 6 3\n"),
-    (
-        "( \u{301}a",
-        "× 0028 × 0020 × 0301 × 0061 !\t# 2 7 14 28 3\n",
-    ),
-    ("\u{1F466}\u{10FFFF}", "× 1F466 ÷ 10FFFF !\t# 2 31 3\n"),
-    (
-        "a \u{2019}\u{301}b",
-        "× 0061 × 0020 ÷ 2019 × 0301 × 0062 !\t# 2 7 18 9 19 3\n",
-    ),
-    (
-        "a \u{2019}a \u{2019}b\nc",
-        "× 0061 × 0020 ÷ 2019 × 0061 × 0020 ÷ 2019 × 0062 × 000A !\t# 2 7 18 19 7 18 19 6 5\n× 0063 !\t# 2 3\n",
-    ),
-];
-
-/// What the first says.
-pub const FIRST: [(&str, &str); 3] = [
-    (
-        "a \u{2019}\u{301},",
-        "× 0061 × 0020 ÷ 2019 × 0301 × 002C !\t# 2 7 18 9 13 3\n",
-    ),
-    ("a \u{2019}", "× 0061 × 0020 ÷ 2019 !\t# 2 7 18 3\n"),
-    ("\u{2018} a", "× 2018 × 0020 ÷ 0061 !\t# 2 7 18 3\n"),
-];
-
-/// What the second says.
-pub const SECOND: [(&str, &str); 4] = [
-    (
-        "a \u{2019}\u{301},",
-        "× 0061 × 0020 × 2019 × 0301 × 002C !\t# 2 7 15b 9 13 3\n",
-    ),
-    ("a \u{2019}", "× 0061 × 0020 × 2019 !\t# 2 7 15b 3\n"),
-    ("\u{2018} a", "× 2018 × 0020 × 0061 !\t# 2 7 15a 3\n"),
-    (
-        "a\u{2019}\nb\u{2019}",
-        "× 0061 × 2019 × 000A !\t# 2 15b 6 5\n× 0062 × 2019 !\t# 2 15b 3\n",
-    ),
-];
-
-const TWO_WORDS: &str = "× 0061 × 0062 × 0020 ÷ 0063 × 0064 !\t# 2 28 7 18 28 3\n";
 
 /// What `show` answers to a source, and the sink that it wrote to.
 fn shown(
