@@ -6,6 +6,8 @@ mod cuts;
 #[cfg(test)]
 mod hostile;
 #[cfg(test)]
+mod laws;
+#[cfg(test)]
 mod lines;
 #[cfg(test)]
 mod passages;

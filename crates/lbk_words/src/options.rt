@@ -3,7 +3,7 @@
 ghost use Rattle.std.specs.Prelude.{◌≡◌, false, IfOk, codes};
 ghost use Rattle.clap.specs.Words.{app_of, rule_of};
 ghost use Rattle.lbk_words.specs.Local.{IsLocal};
-ghost use Rattle.lbk_words.specs.Command.{file_rule, number_rule, flag_rule, greatest_limit, profile_rule, files_app, limited_app, replay_app, bare_app, lbk_app};
+ghost use Rattle.lbk_words.specs.Command.{option_rule, value_rule, file_rule, number_rule, flag_rule, greatest_limit, profile_rule, files_app, limited_app, replay_app, bare_app, lbk_app};
 
 use clap::builder::ValueParser;
 use clap::{Arg, ArgAction, Command};
@@ -61,17 +61,28 @@ too long; `T lines agreed differed refused` stands at the end. Example:
   D 1 1 ÷ × 28
   T 1 0 1 0";
 
+/// An option of this name.
+fn option<'a>(alloc: Global, name: &'a str) -> Arg<'a>
+    ensures rule { rule_of result ≡ option_rule name.entry.now }
+    ensures local { result.global ≡ false }
+{
+    Arg::new(alloc, name).long(name)
+}
+
+/// An option of this name that takes a value.
+fn value_option<'a>(alloc: Global, name: &'a str, value: &'a str) -> Arg<'a>
+    ensures rule { rule_of result ≡ value_rule name.entry.now }
+    ensures local { result.global ≡ false }
+{
+    option(alloc, name).action(ArgAction::Set).value_name(value)
+}
+
 /// A required option that takes the name of a property file.
 fn file_option<'a>(alloc: Global, name: &'a str, help: &'a str) -> Arg<'a>
     ensures rule { rule_of result ≡ file_rule name.entry.now }
     ensures local { result.global ≡ false }
 {
-    Arg::new(alloc, name)
-        .long(name)
-        .action(ArgAction::Set)
-        .value_name("FILE")
-        .required(true)
-        .help(help)
+    value_option(alloc, name, "FILE").required(true).help(help)
 }
 
 /// An option that takes a number from 1 to `most`.
@@ -79,10 +90,7 @@ fn number_option<'a>(alloc: Global, name: &'a str, most: u64, default: &'a str) 
     ensures rule { rule_of result ≡ number_rule name.entry.now most default.entry.now }
     ensures local { result.global ≡ false }
 {
-    Arg::new(alloc, name)
-        .long(name)
-        .action(ArgAction::Set)
-        .value_name("NUMBER")
+    value_option(alloc, name, "NUMBER")
         .value_parser(ValueParser::unsigned(1, most))
         .default_value(default)
 }
@@ -109,8 +117,7 @@ fn kinds_option<'a>(alloc: Global) -> Arg<'a>
     ensures rule { rule_of result ≡ flag_rule (codes "kinds") }
     ensures local { result.global ≡ false }
 {
-    Arg::new(alloc, "kinds")
-        .long("kinds")
+    option(alloc, "kinds")
         .action(ArgAction::SetTrue)
         .help("Marks tell ! from ÷; without it ÷ stands for every break")
 }
@@ -168,18 +175,22 @@ fn bare<'a>(alloc: Global) -> Result<Command<'a>, AllocError>
         .bin_name("lbk")
 }
 
+/// The command with what its help says.
+fn described<'a>(command: Command<'a>, about: &'a str, after: &'a str) -> Command<'a>
+    ensures app { app_of result ≡ app_of command.entry }
+    ensures local { IsLocal command.entry → IsLocal result }
+{
+    command.about(about).after_help(after)
+}
+
 /// The command line of the program.
 pub fn command<'a>(alloc: Global) -> Result<Command<'a>, AllocError>
     ensures app { IfOk result (λ c. app_of c ≡ lbk_app) }
     ensures local { IfOk result IsLocal }
 {
-    let show = limited(alloc, "show")?
-        .about(SHOW_ABOUT)
-        .after_help(SHOW_AFTER);
-    let segment = limited(alloc, "segment")?
-        .about(SEGMENT_ABOUT)
-        .after_help(SEGMENT_AFTER);
-    let replay = replay(alloc)?.about(REPLAY_ABOUT).after_help(REPLAY_AFTER);
+    let show = described(limited(alloc, "show")?, SHOW_ABOUT, SHOW_AFTER);
+    let segment = described(limited(alloc, "segment")?, SEGMENT_ABOUT, SEGMENT_AFTER);
+    let replay = described(replay(alloc)?, REPLAY_ABOUT, REPLAY_AFTER);
     bare(alloc)?
         .subcommand(show)?
         .subcommand(segment)?
