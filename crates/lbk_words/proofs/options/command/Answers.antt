@@ -11,9 +11,9 @@ returns-clause-app c =
     let show : app_of c.described-show.result ≡ limited_app (codes "show") = search rules in
     let segment : app_of c.described-segment.result ≡ limited_app (codes "segment") = search rules in
     let replay : app_of c.described-replay.result ≡ replay_app = search rules in
-    let show_local : IsLocal c.described-show.result = search rules in
-    let segment_local : IsLocal c.described-segment.result = search rules in
-    let replay_local : IsLocal c.described-replay.result = search rules in
+    let show_local : IsLocal c.described-show.result = c.described-show.ensures.local (search rules) in
+    let segment_local : IsLocal c.described-segment.result = c.described-segment.ensures.local (search rules) in
+    let replay_local : IsLocal c.described-replay.result = c.described-replay.ensures.local (search rules) in
     let bare : app_of c.in_ok-bare.field-0 ≡ bare_app = search rules in
     IfOk-weaker c.subcommand-3.result _ _ (λ x added. added.shape replay_local ∙ ap₂ with_subcommand
     (c.in_ok-subcommand-2.ensures.shape segment_local ∙ ap₂ with_subcommand
@@ -25,9 +25,9 @@ or_false a b e f = rw (e, f) refl
 
 pub returns-clause-local : goal.returns-clause-local
 returns-clause-local c =
-    let show_local : IsLocal c.described-show.result = search rules in
-    let segment_local : IsLocal c.described-segment.result = search rules in
-    let replay_local : IsLocal c.described-replay.result = search rules in
+    let show_local : IsLocal c.described-show.result = c.described-show.ensures.local (search rules) in
+    let segment_local : IsLocal c.described-segment.result = c.described-segment.ensures.local (search rules) in
+    let replay_local : IsLocal c.described-replay.result = c.described-replay.ensures.local (search rules) in
     let bare_local : IsLocal c.in_ok-bare.field-0 = search rules in
     IfOk-weaker c.subcommand-3.result _ _ (λ x added. added.globals ∙ or_false _ _
     (c.in_ok-subcommand-2.ensures.globals ∙ or_false _ _
