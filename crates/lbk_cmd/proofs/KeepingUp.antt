@@ -18,6 +18,7 @@ use Rattle.lbk_cmd.proofs.Stopping.{settled_by, settled_none}
 
 -- nothing was read
 pub keeps_none : (e : Engine) (reads : ℕ) → KeepsUp e reads reads [] []
+unfolding settled_none
 keeps_none e reads = record {
   before = [];
   last = [];
@@ -114,7 +115,7 @@ module _ (e : Engine) (from : ℕ) (s : State) (bytes out : List ℕ) (st : Stan
         (subst (λ f. BeginsWithAll due.seen (passages s.profile f (due.seen ++ more))) st.cell b)
 
     keeps_due : KeepsUp e from r2 (bytes ++ a.got) out
-    unfolding used
+    unfolding used settled_by
     keeps_due =
         let before = used ++ (encode_utf8_all due.seen ++ due.rest) in
         let place : s.start + length (encode_utf8_all due.seen) ≡ length (encode_utf8_all (st.scalars ++ due.seen)) =

@@ -25,7 +25,7 @@ module _ (e : Engine) where
   no_passages = refl
 
   -- nothing is given of no scalars
-  none_given : AreGiven e [] []
+  pub none_given : AreGiven e [] []
   none_given = record {
     behind = [];
     joined = refl;
@@ -35,7 +35,7 @@ module _ (e : Engine) where
     within = tt;
   }
 
-  pub settled_none : IsSettled e [] []
+  unfoldable pub settled_none : IsSettled e [] []
   settled_none = record { scalars = []; rest = []; begins = refl; utf8 = IsUtf8-nil; few = omega arith; given = []; are = none_given; is = refl }
 
   module _ (s : State) (bytes out : List ℕ) (st : Standing e s bytes out) where
@@ -84,7 +84,7 @@ module _ (e : Engine) where
         (few : length (encode_utf8_all st.scalars) + length (encode_utf8_all seen) ≤ longest_text)
         (in_one : 0 < length seen → (more : List ℕ) → BeginsWithAll seen (passages_by e (seen ++ more)))
         (none_seen : seen ≡ [] → (st.scalars ≡ []) × (st.given ≡ [])) where
-      pub settled_by : (read rest : List ℕ) → read ≡ encode_utf8_all st.scalars ++ (encode_utf8_all seen ++ rest) → IsSettled e read out
+      unfoldable pub settled_by : (read rest : List ℕ) → read ≡ encode_utf8_all st.scalars ++ (encode_utf8_all seen ++ rest) → IsSettled e read out
       settled_by read rest read_is = record {
         scalars = st.scalars ++ seen;
         rest = rest;
@@ -220,7 +220,7 @@ module _ (e : Engine) where
         }
 
         pub run_memory : IsHeldUp e e2 (bytes ++ a.got) out
-        unfolding waits
+        unfolding waits settled_more settled_fresh settled_on
         run_memory = by st.stands
           where
             by : Stands e s st.scalars st.given → IsHeldUp e e2 (bytes ++ a.got) out
@@ -320,7 +320,7 @@ module _ (e : Engine) where
       -- by the fault that a call answered
       pub run_fault : (X : Type 0) (why : PassageFault) (a : AfterNext s t u v e1 e2 r1 r2 (Err why)) → (t.is_ended ≡ true → e2 ≡ true)
           → ComesTo {X = X} e e2 (Err (Passage why)) (bytes ++ a.got) out
-      unfolding used settled
+      unfolding used settled settled_by
       run_fault X fault.Limit a notices = absurd a.answer.lies
       run_fault X fault.Memory a notices = inr (run_memory a notices)
       run_fault X fault.Read a notices =
