@@ -1,5 +1,5 @@
 -- The breaks of a text from its start on, and some of them given.
-use Rattle.std.proofs.Common.{◌≡◌, ℕ, ◌+◌, ◌-◌, ◌<◌, ◌≤◌, min, true, ◌⊎◌, inl, inr, ⊎_elim, Some, List, [], ◌∷◌, ◌++◌, length, map, drop, take, refl, sym, ap, subst, ◌∙◌, arith}
+use Rattle.std.proofs.Common.{◌≡◌, ℕ, zero, suc, ◌+◌, ◌-◌, ◌<◌, ◌≤◌, min, true, ◌⊎◌, inl, inr, ⊎_elim, Some, List, [], ◌∷◌, ◌++◌, length, map, drop, take, refl, sym, ap, subst, ◌∙◌, arith}
 use Rattle.std.specs.Char.{encode_utf8}
 use Rattle.std.specs.Str.{IsUtf8, chars, encode_utf8_all}
 use Rattle.std.proofs.lemmas.Bool.{and_parts}
@@ -20,14 +20,16 @@ use Rattle.lbk_rules.specs.declared.verdicts.Profile.TheVariants.{First, Second}
 use Rattle.lbk_rules.specs.declared.verdicts.Verdict.{Verdict}
 use Rattle.lbk_rules.specs.Breaks.{break_by, breaks, breaks_from}
 use Rattle.lbk_rules.specs.Ends.{end_of_text}
-use Rattle.lbk_rules.specs.FlatTable.{IsFlatBy}
+use Rattle.lbk_rules.specs.FlatTable.{IsFlatBy, IsFlatOf, KnowsTaken}
 use Rattle.lbk_rules.specs.Marks.{marks, marks_behind}
 use Rattle.lbk_rules.specs.Verdict.{verdict_between_in}
 use Rattle.lbk_rules.proofs.EndLemmas.{must_at_length, start_of_text}
+use Rattle.lbk_c.specs.declared.interface.Found.{Found}
 use Rattle.lbk_c.specs.declared.interface.State.{State}
 use Rattle.lbk_c.specs.declared.progress.Progress.{Progress}
 use Rattle.lbk_c.specs.Bytes.{breaks_after, breaks_of_bytes, with_break}
-use Rattle.lbk_c.specs.Reached.{Comes, Reached, onward, scalars_of}
+use Rattle.lbk_c.specs.Reached.{Comes, Goes, IsGoing, IsSpent, Onto, Reached, from_state, onward, scalars_of}
+use Rattle.lbk_c.specs.Shown.{given_in, shown}
 use Rattle.lbk_c.specs.State.{profile_numbered, profile_number, start_in}
 
 -- From the start on
@@ -50,23 +52,26 @@ profile-same : (profile : Profile) → profile_numbered (profile_number profile)
 profile-same First = refl
 profile-same Second = refl
 
-pub Comes-start : (cell : ℕ → Cell) (table : FlatTable) (text : List ℕ) (profile : Profile) (lefts : List Left) → IsFlatBy lefts table cell
-    → Comes cell table text (start_in profile) (breaks_of_bytes profile cell text)
-Comes-start cell table text profile lefts flat = record {
-  profile = profile;
-  named = profile-same profile;
-  lefts = lefts;
-  flat = flat;
-  within = omega arith;
-  goes_on = λ _. record {
-    taken = [];
-    knows = (flat.begins, flat.start);
-    none = λ _. refl;
-    some = λ more. absurd (omega arith);
-    joined = onward-start profile cell (pieces text);
-  };
-  none_come = λ more. absurd (omega arith);
-}
+pub Comes-start : (cell : ℕ → Cell) (table : FlatTable) (text : List ℕ) (profile : Profile) (state : State) → IsFlatOf table cell → state ≡ start_in profile
+    → Comes cell table text state (breaks_of_bytes profile cell text)
+Comes-start cell table text profile state flat starts =
+    subst (λ s. Comes cell table text s (breaks_of_bytes profile cell text)) (sym starts) (record {
+      profile = profile;
+      named = profile-same profile;
+      lefts = flat.0;
+      flat = flat.1;
+      onto = record {
+        within = omega arith;
+        goes_on = λ _. record {
+          taken = [];
+          knows = (flat.1.begins, flat.1.start);
+          none = λ _. refl;
+          some = λ more. absurd (omega arith);
+          joined = onward-start profile cell (pieces text);
+        };
+        none_come = λ more. absurd (omega arith);
+      };
+    })
 
 -- Well-formed text
 
@@ -81,10 +86,10 @@ pieces-encode : (cs : List ℕ) → scalars cs ≡ true → pieces (encode_utf8_
 unfolding good_of
 pieces-encode [] all = pieces-nil
 pieces-encode (c ∷ cs) all =
-    let both = and_parts _ _ all in
     let first = encode_utf8 c in
     let rest = encode_utf8_all cs in
     let some : 0 < length (first ++ rest) = omega (arith, encode-some c, length-append first rest) in
+    let both = and_parts _ _ all in
     let read = decoded-encode c rest both.0 in
     pieces-step (first ++ rest) some
     ∙ ap (λ (p : Decoded). p ∷ pieces (drop p.size (first ++ rest))) read
@@ -130,27 +135,31 @@ Reached-end profile cell lefts text all here given ends r =
     let last : all ≡ given ++ with_break at (verdict_between_in profile (map cell r.taken) []) [] =
     r.joined ∙ ap (λ ps. given ++ onward profile cell r.taken at ps) none_left in (
       (λ empty.
-      let at_start : at ≡ 0 = ends ∙ empty in
-      last ∙ ap (λ taken. given ++ with_break at (verdict_between_in profile (map cell taken) []) []) (r.none at_start)
-      ∙ ap (λ (v : Verdict). given ++ with_break at v []) (start_of_text profile []) ∙ append-nil given),
+          let at_start : at ≡ 0 = ends ∙ empty in
+          last ∙ ap (λ taken. given ++ with_break at (verdict_between_in profile (map cell taken) []) []) (r.none at_start)
+          ∙ ap (λ (v : Verdict). given ++ with_break at v []) (start_of_text profile []) ∙ append-nil given),
       (λ more.
-      let cells = map cell r.taken in
-      let some : 0 < length cells = (let taken = r.some (omega arith) in omega (arith, length-map r.taken cell)) in
-      let must : verdict_between_in profile cells [] ≡ end_of_text =
-      ap (λ l. verdict_between_in profile l []) (sym (take-length cells))
-      ∙ ap (λ l. verdict_between_in profile (take (length cells) cells) l) (sym (drop-length cells))
-      ∙ must_at_length profile cells some in
-      last ∙ ap (λ (v : Verdict). given ++ with_break at v []) must ∙ ap (λ n. given ++ break_by n end_of_text ∷ []) ends),
+          let cells = map cell r.taken in
+          let some : 0 < length cells = (let taken = r.some (omega arith) in omega (arith, length-map r.taken cell)) in
+          let must : verdict_between_in profile cells [] ≡ end_of_text =
+          ap (λ l. verdict_between_in profile l []) (sym (take-length cells))
+          ∙ ap (λ l. verdict_between_in profile (take (length cells) cells) l) (sym (drop-length cells))
+          ∙ must_at_length profile cells some in
+          last ∙ ap (λ (v : Verdict). given ++ with_break at v []) must ∙ ap (λ n. given ++ break_by n end_of_text ∷ []) ends),
     )
 
 -- Some more given
 
-pub record Gives (to_come front : List Break) (count room : ℕ) (rest : List Break) : Type 0 where
-  pub counted : count ≡ min room (length to_come)
-  pub same : front ≡ take count to_come
-  pub left : drop count to_come ≡ rest
+zero_or : (n : ℕ) → (n ≡ 0) ⊎ (0 < n)
+zero_or zero = inl refl
+zero_or (suc n) = inr (omega arith)
 
-pub gives : (to_come front more : List Break) (count room : ℕ) → to_come ≡ front ++ more → length front ≡ count → count ≤ room
+record Gives (to_come front : List Break) (count room : ℕ) (rest : List Break) : Type 0 where
+  counted : count ≡ min room (length to_come)
+  same : front ≡ take count to_come
+  left : drop count to_come ≡ rest
+
+gives : (to_come front more : List Break) (count room : ℕ) → to_come ≡ front ++ more → length front ≡ count → count ≤ room
     → (count ≡ room) ⊎ (more ≡ []) → Gives to_come front count room more
 gives to_come front more count room joined many within full = record {
   counted =
@@ -159,4 +168,93 @@ gives to_come front more count room joined many within full = record {
       ⊎_elim (λ (same : count ≡ room). omega arith) (λ (none : more ≡ []). (let no = ap length none in omega arith)) full;
   same = sym (ap (take count) joined ∙ take_at front more count many);
   left = ap (drop count) joined ∙ ap (λ n. drop n (front ++ more)) (sym many) ∙ drop-append_seam front more;
+}
+
+-- how many are in the front of a block
+given-many : (block : List Found) (count : ℕ) → count ≤ length block → length (given_in block count) ≡ count
+given-many block count within = length-map (take count block) shown ∙ length-take-le count block within
+
+-- the block is full
+pub Goes-full : (profile : Profile) (cell : ℕ → Cell) (lefts : List Left) (text : List ℕ) (to_come : List Break) (here : Progress) (state : State) (block : List Found) (room : ℕ)
+    → Reached profile cell lefts text to_come here (given_in block here.count) → here.at ≤ length text → state.at ≡ here.at → state.row ≡ here.row → state.ended ≡ 0
+    → here.count ≤ length block → here.count ≡ room
+    → Goes profile cell lefts text to_come state (given_in block here.count) here.count room
+Goes-full profile cell lefts text to_come here state block room r within at_same row_same unended few full =
+    let more = onward profile cell r.taken here.at (pieces (drop here.at text)) in
+    let g = gives to_come (given_in block here.count) more here.count room r.joined (given-many block here.count few) (omega arith) (inl full) in
+    record {
+      counted = g.counted;
+      front = g.same;
+      onto = record {
+        within = omega arith;
+        goes_on = λ _. record {
+          taken = r.taken;
+          knows = subst (λ n. KnowsTaken cell lefts n r.taken) (sym row_same) r.knows;
+          none = λ zero. r.none (sym at_same ∙ zero);
+          some = λ more. r.some (omega arith);
+          joined = g.left ∙ ap (λ n. onward profile cell r.taken n (pieces (drop n text))) (sym at_same);
+        };
+        none_come = λ ended. absurd (omega arith);
+      };
+    }
+
+-- all were given, the text's end too
+pub Goes-ended : (profile : Profile) (cell : ℕ → Cell) (lefts : List Left) (text : List ℕ) (to_come : List Break) (here : Progress) (state : State) (before block : List Found)
+    (count room : ℕ)
+    → Reached profile cell lefts text to_come here (given_in before here.count) → here.at ≡ length text → state.at ≡ here.at → state.ended ≡ 1
+    → (0 < length text → given_in block count ≡ given_in before here.count ++ break_by (length text) end_of_text ∷ [])
+    → (length text ≡ 0 → given_in block count ≡ given_in before here.count)
+    → count ≤ length block → length block ≡ room
+    → Goes profile cell lefts text to_come state (given_in block count) count room
+Goes-ended profile cell lefts text to_come here state before block count room r ends at_same ended some none few same_room =
+    let last = Reached-end profile cell lefts text to_come here (given_in before here.count) ends r in
+    let joined : to_come ≡ given_in block count ++ [] =
+    ⊎_elim (λ (empty : length text ≡ 0). last.0 empty ∙ sym (none empty)) (λ (more : 0 < length text). last.1 more ∙ sym (some more)) (zero_or (length text))
+    ∙ sym (append-nil (given_in block count)) in
+    let g = gives to_come (given_in block count) [] count room joined (given-many block count few) (omega arith) (inr refl) in
+    record {
+      counted = g.counted;
+      front = g.same;
+      onto = record {
+        within = omega arith;
+        goes_on = λ unended. absurd (omega arith);
+        none_come = λ _. g.left;
+      };
+    }
+
+-- Between the calls
+
+same-profile : (p q : Profile) (state : State) → profile_numbered state.profile ≡ Some p → profile_numbered state.profile ≡ Some q → p ≡ q
+same-profile p q state is also = cc
+
+-- from a spent state nothing comes
+pub spent-none : (cell : ℕ → Cell) (table : FlatTable) (text : List ℕ) (state : State) (to_come : List Break)
+    → IsSpent state (length text) → Comes cell table text state to_come → to_come ≡ []
+spent-none cell table text state to_come (inl unnamed) c = absurd (let no : ⊥ = (let named = c.named in cc) in no)
+spent-none cell table text state to_come (inr (inl ended)) c = c.onto.none_come ended
+spent-none cell table text state to_come (inr (inr past)) c = absurd (let within = c.onto.within in omega arith)
+
+-- what a call gives of the breaks to come
+pub Comes-goes : (profile : Profile) (cell : ℕ → Cell) (table : FlatTable) (text : List ℕ) (old new : State) (to_come given : List Break) (count room : ℕ)
+    → ((cell : ℕ → Cell) (lefts : List Left) (to_come : List Break) → IsFlatBy lefts table cell
+    → Reached profile cell lefts text to_come (from_state old) []
+    → Goes profile cell lefts text to_come new given count room)
+    → IsGoing profile old (length text) → (c : Comes cell table text old to_come)
+    → Goes profile cell c.lefts text to_come new given count room
+Comes-goes profile cell table text old new to_come given count room goes going c =
+    let same = same-profile c.profile profile old c.named going.named in
+    goes cell c.lefts to_come c.flat
+    (subst (λ p. Reached p cell c.lefts text to_come (from_state old) []) same (c.onto.goes_on going.unended))
+
+-- and the others come from the next state on
+pub Comes-next : (profile : Profile) (cell : ℕ → Cell) (table : FlatTable) (text : List ℕ) (old new : State) (to_come given : List Break) (count room : ℕ)
+    → IsGoing profile old (length text) → new.profile ≡ old.profile → (c : Comes cell table text old to_come)
+    → Goes profile cell c.lefts text to_come new given count room
+    → Comes cell table text new (drop count to_come)
+Comes-next profile cell table text old new to_come given count room going kept c goes = record {
+  profile = profile;
+  named = ap profile_numbered kept ∙ going.named;
+  lefts = c.lefts;
+  flat = c.flat;
+  onto = goes.onto;
 }

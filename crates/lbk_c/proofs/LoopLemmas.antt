@@ -20,7 +20,8 @@ use Rattle.lbk_rules.specs.Steps.{IsStart, left_at}
 use Rattle.lbk_rules.specs.Verdict.{verdict_between_in}
 use Rattle.lbk_c.specs.declared.interface.Found.{Found}
 use Rattle.lbk_c.specs.Bytes.{with_break}
-use Rattle.lbk_c.specs.Reached.{AreSwift, IsSwiftStep, Reached, given_in}
+use Rattle.lbk_c.specs.Reached.{AreSwift, IsSwiftStep, Reached}
+use Rattle.lbk_c.specs.Shown.{given_in}
 use Rattle.lbk_c.proofs.PieceLemmas.{Reads}
 use Rattle.lbk_c.proofs.ReachedLemmas.{Reached-step}
 use Rattle.lbk_c.proofs.StepLemmas.{decides-text, flat_step_at, knows-more}

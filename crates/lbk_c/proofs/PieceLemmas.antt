@@ -1,9 +1,9 @@
 -- The pieces of a text from a byte on.
-use Rattle.std.proofs.Common.{◌≡◌, ℕ, ◌+◌, ◌-◌, ◌<◌, ◌≤◌, List, ◌∷◌, length, drop, take, sym, ap, ◌∙◌, ⊎_elim, arith}
+use Rattle.std.proofs.Common.{◌≡◌, ℕ, ◌+◌, ◌-◌, ◌<◌, ◌≤◌, Option, Some, None, List, ◌∷◌, length, drop, take, refl, sym, ap, ◌∙◌, ⊎_elim, arith}
 use Rattle.std.specs.Char.{IsScalar}
 use Rattle.std.proofs.lemmas.List.{length-drop, take_all}
 use Rattle.std.proofs.Math.Seq.{drop-drop}
-use Rattle.bstr.specs.Utf8.{Decoded, decoded, good, pieces}
+use Rattle.bstr.specs.Utf8.{Decoded, decoded, good, or_replacement, pieces}
 use Rattle.bstr.proofs.lemmas.PieceLemmas.{piece-bounds, pieces-step}
 use Rattle.bstr.proofs.lemmas.SoundLemmas.{SpellsChar-decoded}
 use lib.Utf8.{scalar_cases}
@@ -62,3 +62,11 @@ pub rest-behind : (text : List ℕ) (at size : ℕ) → at < length text → siz
     → take (length (take (length text - at) (drop at text)) - size) (drop size (take (length text - at) (drop at text))) ≡ drop (at + size) text
 rest-behind text at size inside is_size =
     ap (λ bs. take (length bs - size) (drop size bs)) (rest-of text at) ∙ rest-of (drop at text) size ∙ drop-drop size at text
+
+-- what any bytes are read as at their front is a scalar
+pub read-scalar : (bs : List ℕ) → IsScalar (or_replacement (decoded bs).char)
+read-scalar bs =
+    (elim (decoded bs).char as (λ (o : Option ℕ). (decoded bs).char ≡ o → IsScalar (or_replacement o)) [
+      | None ↦ λ _. refl
+      | Some y ↦ λ found. (SpellsChar-decoded bs y found).scalar
+    ]) refl

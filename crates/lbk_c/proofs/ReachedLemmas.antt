@@ -16,8 +16,8 @@ use Rattle.lbk_rules.specs.Verdict.{verdict_between_in}
 use Rattle.lbk_c.specs.declared.interface.Found.{Found}
 use Rattle.lbk_c.specs.declared.progress.Progress.{Progress}
 use Rattle.lbk_c.specs.Bytes.{with_break}
-use Rattle.lbk_c.specs.Reached.{Reached, given_in, onward, scalars_of}
-use Rattle.lbk_c.specs.Shown.{shown}
+use Rattle.lbk_c.specs.Reached.{Reached, onward, scalars_of}
+use Rattle.lbk_c.specs.Shown.{given_in, shown}
 use Rattle.lbk_c.proofs.PieceLemmas.{piece-within, pieces-on}
 
 with_break-more : (at : ℕ) (verdict : Verdict) (more : List Break) → with_break at verdict more ≡ with_break at verdict [] ++ more

@@ -82,7 +82,6 @@ flat-swift Second lefts table cell flat = λ row kind starts few.
       decides = decides-second lefts (left_at lefts row) (kind_cell kind) (get_or table.first (row + kind) no_flat_step) (get_or table.second (row + kind) no_flat_step) step;
     }
 
-
 -- the steps of a scalar
 pub steps-here : (lefts : List Left) (table : FlatTable) (cell : ℕ → Cell) (row c : ℕ) (one other : FlatStep) → IsFlatBy lefts table cell → IsScalar c → IsStart lefts row
     → one ≡ get_or table.first (row + get_or table.kinds c 0) no_flat_step → other ≡ get_or table.second (row + get_or table.kinds c 0) no_flat_step

@@ -2,6 +2,6 @@
 pub mod Bytes
 pub mod Shown
 pub mod State
-
+pub mod Faults
 -- What only carries proofs.
 pub mod Reached

@@ -1,5 +1,5 @@
 -- How far a call has come with a text, and what is to come from a state on.
-use Rattle.std.specs.Prelude.{◌≡◌, ℕ, ◌+◌, ◌<◌, ◌≤◌, List, [], ◌∷◌, ◌++◌, length, map, drop, take, slice_index_or, Some}
+use Rattle.std.specs.Prelude.{◌≡◌, ℕ, ◌+◌, ◌<◌, ◌≤◌, List, [], ◌∷◌, ◌++◌, length, map, drop, take, min, slice_index_or, ◌⊎◌, Some, None}
 use Rattle.bstr.specs.Utf8.{Decoded, or_replacement, pieces}
 use Rattle.lbk_rules.specs.declared.breaks.Break.{Break}
 use Rattle.lbk_rules.specs.declared.cells.Cell.{Cell}
@@ -61,16 +61,36 @@ pub record Reached (profile : Profile) (cell : ℕ → Cell) (lefts : List Left)
   pub some : 0 < here.at → 0 < length taken
   pub joined : all ≡ given ++ onward profile cell taken here.at (pieces (drop here.at text))
 
--- those in the front of a block
-abbrev pub given_in : List Found → ℕ → List Break
-given_in block count = map shown (take count block)
+-- where a state stands in a text
+abbrev pub from_state : State → Progress
+from_state state = record { count = 0; row = state.row; at = state.at }
 
--- The breaks to come from a state on, which came of the start of this text
+-- from the state on these breaks come of this text, if it has not given all
+pub record Onto (profile : Profile) (cell : ℕ → Cell) (lefts : List Left) (text : List ℕ) (state : State) (to_come : List Break) : Type 0 where
+  pub within : state.at ≤ length text
+  pub goes_on : state.ended ≡ 0 → Reached profile cell lefts text to_come (from_state state) []
+  pub none_come : 0 < state.ended → to_come ≡ []
+
+-- the state came of the start of this text, and these breaks are to come
 pub record Comes (cell : ℕ → Cell) (table : FlatTable) (text : List ℕ) (state : State) (to_come : List Break) : Type 0 where
   pub profile : Profile
   pub named : profile_numbered state.profile ≡ Some profile
   pub lefts : List Left
   pub flat : IsFlatBy lefts table cell
-  pub within : state.at ≤ length text
-  pub goes_on : state.ended ≡ 0 → Reached profile cell lefts text to_come (record { count = 0; row = state.row; at = state.at }) []
-  pub none_come : 0 < state.ended → to_come ≡ []
+  pub onto : Onto profile cell lefts text state to_come
+
+-- no break comes from the state on: it names no profile, has given all, or is past the text
+abbrev pub IsSpent : State → ℕ → Type 0
+IsSpent state len = (profile_numbered state.profile ≡ None) ⊎ ((0 < state.ended) ⊎ (len < state.at))
+
+-- breaks may come from it on, in this profile
+pub record IsGoing (profile : Profile) (state : State) (len : ℕ) : Type 0 where
+  pub named : profile_numbered state.profile ≡ Some profile
+  pub unended : state.ended ≡ 0
+  pub within : state.at ≤ len
+
+-- of the breaks to come as many were given as there was room for, and the others come from the state on
+pub record Goes (profile : Profile) (cell : ℕ → Cell) (lefts : List Left) (text : List ℕ) (to_come : List Break) (state : State) (given : List Break) (count room : ℕ) : Type 0 where
+  pub counted : count ≡ min room (length to_come)
+  pub front : given ≡ take count to_come
+  pub onto : Onto profile cell lefts text state (drop count to_come)

@@ -1,15 +1,17 @@
 //! The breaks of a text, a block at a time.
 
-ghost use Rattle.std.specs.Prelude.{◌≡◌, ℕ, ◌<◌, ◌≤◌, ◌++◌, [], ◌∷◌, List, drop, length, map, min, take};
+ghost use Rattle.std.specs.Prelude.{◌≡◌, ℕ, ◌<◌, ◌≤◌, ◌++◌, [], ◌∷◌, List, MatchOption, drop, length, min, take};
 ghost use Rattle.std.specs.Str.{IsUtf8, chars};
 ghost use Rattle.lbk_rules.specs.declared.breaks.Break.{Break};
 ghost use Rattle.lbk_rules.specs.declared.cells.Cell.{Cell};
+ghost use Rattle.lbk_rules.specs.declared.facts.Left.{Left};
 ghost use Rattle.lbk_rules.specs.declared.verdicts.Profile.{Profile};
 ghost use Rattle.lbk_rules.specs.Breaks.{break_by, breaks};
 ghost use Rattle.lbk_rules.specs.Ends.{end_of_text};
-ghost use Rattle.lbk_rules.specs.FlatTable.{IsFlatOf};
+ghost use Rattle.lbk_rules.specs.FlatTable.{IsFlatBy, IsFlatOf};
 ghost use Rattle.lbk_c.specs.Bytes.{breaks_of_bytes};
-ghost use Rattle.lbk_c.specs.Reached.{Comes, given_in};
+ghost use Rattle.lbk_c.specs.Reached.{Comes, Goes, IsGoing, IsSpent, Reached, from_state};
+ghost use Rattle.lbk_c.specs.Shown.{given_in};
 ghost use Rattle.lbk_c.specs.State.{profile_numbered, start_in};
 
 use crate::filling::{fill, put};
@@ -49,15 +51,42 @@ pub extern "C" fn lbk_breaks(
     ensures past { length text.now < state.old.at → (result ≡ 0) × (state.new ≡ state.old) }
     ensures unknown { 1 < state.old.profile → (result ≡ 0) × (state.new ≡ state.old) }
 {
-    let Some(profile) = profile_numbered(state.profile) else {
+    let Some(profile) = going_profile(state, text.len()) else {
         return 0;
     };
+    go_on(table, profile, state, text, out)
+}
+
+/// The profile of a state from which breaks may come of a text of this length: none where the state names no profile, has
+/// given all, or is past the text.
+fn going_profile(state: &State, len: usize) -> Option<Profile>
+    ensures { MatchOption result (IsSpent state.now len) (λ profile. IsGoing profile state.now len) }
+{
+    let profile = profile_numbered(state.profile)?;
     if state.ended != 0 {
-        return 0;
+        return None;
     }
-    if text.len() < state.at {
-        return 0;
+    if len < state.at {
+        return None;
     }
+    Some(profile)
+}
+
+/// Puts the next breaks into the front of the block, and answers how many.
+fn go_on(
+    table: &FlatTable,
+    profile: Profile,
+    state: &mut State,
+    text: &[u8],
+    out: &mut [Found],
+) -> usize
+    requires { IsGoing profile state.old (length text.now) }
+    ensures within { result ≤ length out.old }
+    ensures profile_same { state.new.profile ≡ state.old.profile }
+    ensures goes { (cell : ℕ → Cell) (lefts : List Left) (to_come : List Break) → IsFlatBy lefts table.now cell
+        → Reached profile cell lefts text.now to_come (from_state state.old) []
+        → Goes profile cell lefts text.now to_come state.new (given_in out.new result) result (length out.old) }
+{
     let start = Progress {
         count: 0,
         row: state.row as usize,

@@ -8,7 +8,8 @@ ghost use Rattle.lbk_rules.specs.declared.verdicts.Profile.{Profile};
 ghost use Rattle.lbk_rules.specs.Codes.{IsCode, verdict_coded};
 ghost use Rattle.lbk_rules.specs.FlatTable.{AreFlatKinds, IsFlatBy};
 ghost use Rattle.lbk_c.specs.Bytes.{with_break};
-ghost use Rattle.lbk_c.specs.Reached.{AreSwift, Reached, given_in};
+ghost use Rattle.lbk_c.specs.Reached.{AreSwift, Reached};
+ghost use Rattle.lbk_c.specs.Shown.{given_in};
 
 use crate::ahead::code_ahead;
 use crate::decoding::quick_scalar;

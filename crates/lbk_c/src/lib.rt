@@ -8,12 +8,15 @@
 mod ahead;
 mod breaking;
 mod decoding;
+mod faults;
 mod filling;
 mod interface;
 mod labels;
 mod progress;
+mod reading;
 mod steps;
 
 pub use breaking::lbk_breaks;
 pub use interface::{Fault, Found, RuleLabel, State};
 pub use labels::lbk_label;
+pub use reading::{lbk_check, lbk_read};

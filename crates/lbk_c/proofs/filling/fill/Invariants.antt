@@ -3,7 +3,8 @@ use Rattle.lbk_rules.specs.declared.breaks.Break.{Break}
 use Rattle.lbk_rules.specs.declared.cells.Cell.{Cell}
 use Rattle.lbk_rules.specs.declared.facts.Left.{Left}
 use Rattle.lbk_rules.specs.FlatTable.{IsFlatBy}
-use Rattle.lbk_c.specs.Reached.{Reached, given_in}
+use Rattle.lbk_c.specs.Reached.{Reached}
+use Rattle.lbk_c.specs.Shown.{given_in}
 use Rattle.lbk_c.proofs.filling.fill.Given as goal
 
 abbrev pub invariant-loop-here : goal.invariant-loop-here

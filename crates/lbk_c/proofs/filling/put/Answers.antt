@@ -4,7 +4,7 @@ use Rattle.std.proofs.Math.ListN.{set}
 use Rattle.lbk_rules.specs.Breaks.{is_no}
 use Rattle.lbk_rules.specs.Codes.{verdict_coded}
 use Rattle.lbk_c.specs.declared.interface.Found.{Found}
-use Rattle.lbk_c.specs.Reached.{given_in}
+use Rattle.lbk_c.specs.Shown.{given_in}
 use Rattle.lbk_c.proofs.ReachedLemmas.{no-zero, written-more}
 use Rattle.lbk_c.proofs.filling.put.Goals as goal
 

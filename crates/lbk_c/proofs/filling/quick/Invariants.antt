@@ -4,7 +4,8 @@ use Rattle.lbk_rules.specs.declared.cells.Cell.{Cell}
 use Rattle.lbk_rules.specs.declared.facts.Left.{Left}
 use Rattle.lbk_rules.specs.declared.verdicts.Profile.{Profile}
 use Rattle.lbk_rules.specs.FlatTable.{AreFlatKinds}
-use Rattle.lbk_c.specs.Reached.{AreSwift, Reached, given_in}
+use Rattle.lbk_c.specs.Reached.{AreSwift, Reached}
+use Rattle.lbk_c.specs.Shown.{given_in}
 use Rattle.lbk_c.proofs.filling.quick.Given as goal
 
 abbrev pub invariant-loop-count : goal.invariant-loop-count
