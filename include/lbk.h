@@ -109,7 +109,7 @@ enum {
     LBK_RULES = 38 /* how many there are */
 };
 
-/* lbk_state.profile: which rules stand for quotation marks. Any other number is read as LBK_FIRST. */
+/* lbk_state.profile: which rules stand for quotation marks. With any other number lbk_breaks answers 0. */
 enum {
     LBK_FIRST = 0, /* rule 15 of Unicode 15.0 */
     LBK_SECOND = 1 /* rules 15a and 15b in its place, which look at both sides of a quotation mark */
@@ -117,23 +117,26 @@ enum {
 
 /* lbk_fault.file: the files of the Unicode Character Database, in the order in which lbk_read takes them. */
 enum {
-    LBK_LINE_BREAK = 0, /* LineBreak.txt */
-    LBK_EAST_ASIAN = 1, /* EastAsianWidth.txt */
-    LBK_CATEGORY = 2,   /* extracted/DerivedGeneralCategory.txt */
-    LBK_EMOJI = 3       /* emoji/emoji-data.txt */
+    LBK_NO_FILE = 0,    /* no fault, or one that came when all files were read */
+    LBK_LINE_BREAK = 1, /* LineBreak.txt */
+    LBK_EAST_ASIAN = 2, /* EastAsianWidth.txt */
+    LBK_CATEGORY = 3,   /* extracted/DerivedGeneralCategory.txt */
+    LBK_EMOJI = 4       /* emoji/emoji-data.txt */
 };
 
 /* lbk_fault.cause */
 enum {
-    LBK_CAUSE_NONE = 0,           /* no fault: the table is filled */
-    LBK_CAUSE_FILE_TOO_LONG = 1,  /* the file has more than 8,388,608 bytes; line is 0 */
-    LBK_CAUSE_LINE_TOO_LONG = 2,  /* the line has more than 1,024 bytes, its LF not counted */
-    LBK_CAUSE_ROW_SYNTAX = 3,     /* the line is no blank line, no comment and no row */
-    LBK_CAUSE_RANGE = 4,          /* the first code is above the last, or a code is above 10FFFF */
-    LBK_CAUSE_UNKNOWN_VALUE = 5,  /* the name is none of the property's values */
-    LBK_CAUSE_OVERLAP = 6,        /* the row shares a code with an earlier row of the file */
-    LBK_CAUSE_TOO_MANY_ROWS = 7,  /* the line would be the 65,537th row or default of the file */
-    LBK_CAUSE_OUT_OF_MEMORY = 8   /* the heap refused memory that was asked for */
+    LBK_CAUSE_NONE = 0,          /* no fault: the table is filled */
+    LBK_CAUSE_FILE_TOO_LONG = 1, /* the file has more than 8,388,608 bytes; line is 0 */
+    LBK_CAUSE_LINE_TOO_LONG = 2, /* the line has more than 1,024 bytes, its LF not counted */
+    LBK_CAUSE_ROW_SYNTAX = 3,    /* the line is no blank line, no comment and no row */
+    LBK_CAUSE_RANGE = 4,         /* the first code is above the last, or a code is above 10FFFF */
+    LBK_CAUSE_UNKNOWN_VALUE = 5, /* the name is none of the property's values */
+    LBK_CAUSE_OVERLAP = 6,       /* the row shares a code with an earlier row of the file */
+    LBK_CAUSE_TOO_MANY_ROWS = 7, /* the line would be the 65,537th row or default of the file */
+    LBK_CAUSE_OUT_OF_MEMORY = 8, /* the heap refused memory, at this line, or when all files were read (file and line are 0) */
+    LBK_CAUSE_TABLE_TOO_LARGE = 9 /* the rules need more steps than a table has. Those of this version do not, whatever the files;
+                                     that is tested and not proved. File and line are 0 */
 };
 
 /* One step of a table: numbers of the library's own. */
@@ -146,9 +149,8 @@ typedef struct lbk_step {
  *
  * Only layout has a meaning to callers; what the other fields hold differs between layouts. */
 typedef struct lbk_table {
-    uint32_t layout;    /* LBK_LAYOUT, where lbk_read filled the table */
-    uint32_t reserved;
-    uint64_t digest[2]; /* of all that follows, for lbk_check */
+    uint64_t layout; /* LBK_LAYOUT, where lbk_read filled the table */
+    uint64_t digest; /* of all that follows, for lbk_check */
     lbk_step first[LBK_STEPS], second[LBK_STEPS];
     uint8_t kinds[LBK_CODES];
 } lbk_table;
@@ -160,7 +162,7 @@ typedef struct lbk_state {
     size_t at;       /* up to this byte of the text, not counting it, scalars were taken */
     uint16_t row;    /* what is known of them: a number of the table's */
     uint8_t profile; /* LBK_FIRST or LBK_SECOND; no call changes it */
-    uint8_t ended;   /* 0, or else nothing more is to come */
+    uint8_t ended;   /* 0, or else nothing more is to come, and lbk_breaks answers 0 */
 } lbk_state;
 
 /* A place of a text where a line may or must end. */
@@ -172,8 +174,8 @@ typedef struct lbk_break {
 
 /* Why four files are refused: the first fault that they have, in the order of the files and of their lines. */
 typedef struct lbk_fault {
-    uint32_t file;  /* LBK_LINE_BREAK to LBK_EMOJI */
-    uint32_t line;  /* from 1; 0 where the whole file is refused */
+    uint32_t file;  /* LBK_LINE_BREAK to LBK_EMOJI, or LBK_NO_FILE */
+    uint32_t line;  /* from 1; 0 where the fault is in no line */
     uint32_t cause; /* LBK_CAUSE_NONE: no fault, and then file and line are 0 */
 } lbk_fault;
 
@@ -199,8 +201,9 @@ lbk_fault lbk_read(lbk_table *table, const void *line_break, size_t line_break_s
  * bytes are ill-formed, each longest piece that could have begun a scalar, or else each byte, is read as one U+FFFD at its
  * place (Unicode Standard, section 3.9, "U+FFFD Substitution of Maximal Subparts"), so each `at` counts the text's own bytes.
  *
- * Answers 0 and changes nothing but `ended` where the state is past the end of the text. What the block has behind the breaks
- * answered is not specified: bytes up to its end may be written. Takes no memory from the heap. */
+ * Answers 0 and leaves the state as it is: where `room` is 0, where the state's profile is none of the two, where its `at` is
+ * behind the text's end, and where it has ended. What the block has behind the breaks that are answered is not specified: any of
+ * its places may be written. Takes no memory from the heap. */
 size_t lbk_breaks(const lbk_table *table, lbk_state *state, const char *text, size_t size, lbk_break *block, size_t room);
 
 /* The name of a rule by its number; an empty name for a number that no rule has. */
@@ -225,9 +228,9 @@ LBK_ASSERT(a_state_has_16_bytes, sizeof(lbk_state) == 16);
 LBK_ASSERT(a_break_has_16_bytes, sizeof(lbk_break) == 16);
 LBK_ASSERT(a_fault_has_12_bytes, sizeof(lbk_fault) == 12);
 LBK_ASSERT(a_label_has_4_bytes, sizeof(lbk_rule_label) == 4);
-LBK_ASSERT(a_table_has_no_gaps, sizeof(lbk_table) == 24 + 8 * LBK_STEPS + LBK_CODES);
-LBK_ASSERT(steps_stand_where_they_should, offsetof(lbk_table, first) == 24);
-LBK_ASSERT(kinds_stand_where_they_should, offsetof(lbk_table, kinds) == 24 + 8 * LBK_STEPS);
+LBK_ASSERT(a_table_has_no_gaps, sizeof(lbk_table) == 16 + 8 * LBK_STEPS + LBK_CODES);
+LBK_ASSERT(steps_stand_where_they_should, offsetof(lbk_table, first) == 16);
+LBK_ASSERT(kinds_stand_where_they_should, offsetof(lbk_table, kinds) == 16 + 8 * LBK_STEPS);
 
 #undef LBK_ASSERT
 

@@ -35,8 +35,9 @@ private:
 
     static std::string told(lbk_fault fault)
     {
-        static const char *const files[] = {"LineBreak.txt", "EastAsianWidth.txt", "DerivedGeneralCategory.txt", "emoji-data.txt"};
-        std::string file = fault.file < 4 ? files[fault.file] : "?";
+        static const char *const files[] = {"no file", "LineBreak.txt", "EastAsianWidth.txt", "DerivedGeneralCategory.txt",
+                                            "emoji-data.txt"};
+        std::string file = files[fault.file < 5 ? fault.file : 0];
         return file + ":" + std::to_string(fault.line) + ": cause " + std::to_string(fault.cause);
     }
 };
