@@ -1,6 +1,6 @@
 /* This library beside others that a program of C can link: ICU, libunibreak, and by a shim xi-unicode and unicode-linebreak.
  *
- *     peers speed FILES.. TEXT..   millions of bytes a second over the first million bytes of each text
+ *     peers speed FILES.. TEXT..   millions of bytes a second of processor time, over the first million bytes of each text
  *     peers first FILES.. TABLE    microseconds of the first use in this process; TABLE is a file for a saved table
  *     peers answers PEER SIZES     each break that a peer finds in standard input, as `at kind`. The text is cut into pieces
  *                                  of the sizes that the file SIZES has, a number a line, and each is a text of its own
@@ -34,7 +34,7 @@ typedef struct cut_text {
     const size_t *ends, *wide_ends;
 } cut_text;
 
-enum { ROOM = 256, RUNS = 9, MILLION = 1000000 };
+enum { ROOM = 256, RUNS = 25, MILLION = 1000000 };
 
 static lbk_table table;
 static UBreakIterator *iterator;
@@ -139,10 +139,10 @@ static const struct {
 
 enum { PEERS = sizeof peers / sizeof *peers, XI = 2 };
 
-static double seconds(void)
+static double seconds(clockid_t clock)
 {
     struct timespec now;
-    clock_gettime(CLOCK_MONOTONIC, &now);
+    clock_gettime(clock, &now);
     return (double)now.tv_sec + (double)now.tv_nsec * 1e-9;
 }
 
@@ -199,11 +199,11 @@ static void compare(const char *name, cut_text text)
     size_t found_by[PEERS];
     for (int run = 0; run < RUNS; run++)
         for (int k = 0; k < PEERS; k++) {
-            double start = seconds();
+            double start = seconds(CLOCK_PROCESS_CPUTIME_ID);
             size_t sum = 0;
             for (size_t piece = 0; piece < text.pieces; piece++)
                 sum += peers[k].count(&text, piece);
-            double took = seconds() - start;
+            double took = seconds(CLOCK_PROCESS_CPUTIME_ID) - start;
             best[k] = run == 0 || took < best[k] ? took : best[k];
             found_by[k] = sum;
         }
@@ -244,9 +244,9 @@ static double last;
 
 static void step(const char *what)
 {
-    double now = seconds();
+    double now = seconds(CLOCK_MONOTONIC);
     printf("%s\t%.0f microseconds\n", what, (now - last) * 1e6);
-    last = seconds();
+    last = seconds(CLOCK_MONOTONIC);
 }
 
 static void first(char **files, const char *name)
@@ -260,7 +260,7 @@ static void first(char **files, const char *name)
         property[k] = load(files[k]);
     marks = room_for(sizeof line, 1);
     u_strFromUTF8(wide, 100, &length, line, sizeof line - 1, &status);
-    last = seconds();
+    last = seconds(CLOCK_MONOTONIC);
     for (int run = 0; run < 3; run++) {
         lbk_fault fault = lbk_read(&table, property[0].at, property[0].size, property[1].at, property[1].size, property[2].at,
                                    property[2].size, property[3].at, property[3].size);
@@ -269,7 +269,7 @@ static void first(char **files, const char *name)
     }
     FILE *file = fopen(name, "wb");
     must(file != NULL && fwrite(&table, sizeof table, 1, file) == 1 && fclose(file) == 0, "no table can be saved");
-    last = seconds();
+    last = seconds(CLOCK_MONOTONIC);
     int opened = open(name, O_RDONLY);
     const lbk_table *mapped = mmap(NULL, sizeof table, PROT_READ, MAP_SHARED, opened, 0);
     must(mapped != MAP_FAILED, "the table cannot be mapped");
