@@ -7,3 +7,11 @@ mod command_rows;
 mod commands;
 #[cfg(test)]
 mod guide;
+#[cfg(test)]
+mod passages_of_a_reader;
+#[cfg(test)]
+mod test_lines;
+#[cfg(test)]
+mod text_breaks;
+#[cfg(test)]
+mod text_breaks_proved;
