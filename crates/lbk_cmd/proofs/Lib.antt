@@ -4,6 +4,7 @@ pub mod PassageLines
 pub mod Running
 pub mod Runs
 pub mod Stopping
+pub mod KeepingUp
 pub mod Looping
 pub mod Known
 mod Rows

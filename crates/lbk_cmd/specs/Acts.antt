@@ -36,7 +36,7 @@ use Rattle.lbk_cmd.specs.Ending.{ending_of_files, ending_of_replay, ending_of_st
 pub record TextRuns (text : List ℕ → List ℕ) (engine : TextEngine) (before after : Devices) (answer : Result (Unit {0}) CmdFault) : Type 0 where
   pub shown : OnOk answer (IfSome before.unread (λ input. IsUtf8 input × Appends before.written after.written (text input)))
   pub ended : OnOk answer (IsTrue after.has_ended × IsAtEnd after.unread)
-  pub run : Ran (is_failed_read answer) before.unread after.unread before.written after.written (IsRun engine after.has_ended answer)
+  pub run : Ran (is_failed_read answer) before.unread after.unread before.written after.written (IsRun engine before.reads after.reads after.has_ended answer)
   pub reads : after.reads ≤ before.reads + 1073741825
   pub limit : IsErrOf answer (CmdFault.Passage PassageFault.Limit) ↔ (¬ (IsLimit engine.limit))
   pub read : IsErrOf answer (CmdFault.Passage PassageFault.Read) → HasFailed before.failed_reads after.failed_reads

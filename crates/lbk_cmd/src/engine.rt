@@ -41,7 +41,8 @@ pub fn show<R: Source, W: Sink, C: CellSource>(
 
     // What was read and what was written, whatever the answer.
     ensures run { Ran (is_failed_read result) (R.unread reader.old) (R.unread reader.new) (W.written writer.old)
-        (W.written writer.new) (IsRun (showing (C.cell_of cells.now) profile limit) (R.has_ended reader.new) result) }
+        (W.written writer.new) (IsRun (showing (C.cell_of cells.now) profile limit) (R.read_count reader.old)
+        (R.read_count reader.new) (R.has_ended reader.new) result) }
     ensures reads { R.read_count reader.new ≤ R.read_count reader.old + 1073741825 }
 
     // When each refusal comes that the bytes do not tell.
@@ -78,7 +79,8 @@ pub fn segment<R: Source, W: Sink, C: CellSource>(
 
     // What was read and what was written, whatever the answer.
     ensures run { Ran (is_failed_read result) (R.unread reader.old) (R.unread reader.new) (W.written writer.old)
-        (W.written writer.new) (IsRun (segmenting (C.cell_of cells.now) profile limit) (R.has_ended reader.new) result) }
+        (W.written writer.new) (IsRun (segmenting (C.cell_of cells.now) profile limit) (R.read_count reader.old)
+        (R.read_count reader.new) (R.has_ended reader.new) result) }
     ensures reads { R.read_count reader.new ≤ R.read_count reader.old + 1073741825 }
 
     // When each refusal comes that the bytes do not tell.
@@ -123,7 +125,8 @@ fn write_lines<R: Source, W: Sink, C: CellSource>(
 ) -> Result<(), CmdFault>
     ensures ended { OnOk result (IsTrue (R.has_ended reader.new) × IsAtEnd (R.unread reader.new)) }
     ensures run { Ran (is_failed_read result) (R.unread reader.old) (R.unread reader.new) (W.written writer.old)
-        (W.written writer.new) (IsRun (engine_of lines (C.cell_of cells.now) profile limit) (R.has_ended reader.new) result) }
+        (W.written writer.new) (IsRun (engine_of lines (C.cell_of cells.now) profile limit) (R.read_count reader.old)
+        (R.read_count reader.new) (R.has_ended reader.new) result) }
     ensures reads { R.read_count reader.new ≤ R.read_count reader.old + 1073741825 }
     ensures limit { IsErrOf result (CmdFault.Passage PassageFault.Limit) ↔ (¬ (IsLimit limit)) }
     ensures read { IsErrOf result (CmdFault.Passage PassageFault.Read)

@@ -1,0 +1,231 @@
+/* Tries the calls at their edges: null with length 0, rooms of 0 and 1, states that are spent, past the end or of no profile,
+ * ill-formed and cut bytes, files with faults, and tables that are not whole. It needs no files, and writes what did not hold.
+ * The last line is `N passed, M failed`.
+ */
+#include <lbk.h>
+#include <stdint.h>
+#include <stdio.h>
+#include <string.h>
+
+enum { ROOM = 64 };
+
+static unsigned passed, failed;
+
+static void told(const char *what, int holds)
+{
+    if (holds) {
+        passed++;
+    } else {
+        failed++;
+        printf("FAILED  %s\n", what);
+    }
+}
+
+/* Small files: a and b are letters, U+FFFD is an ideograph, with a break on either side. */
+static const char LINE_BREAKS[] = "000A;LF\n0020;SP\n0022;QU\n0028;OP\n0061..0062;AL\n00AB;QU\n00BB;QU\n0301;CM\n4E00;ID\n1F600;ID\nFFFD;ID\n";
+static const char CATEGORIES[] = "00AB;Pi\n00BB;Pf\n0301;Mn\n";
+
+static lbk_table table, before;
+
+static lbk_fault read_lines(lbk_table *to, const char *line_break, const char *category)
+{
+    return lbk_read(to, line_break, strlen(line_break), NULL, 0, category, strlen(category), NULL, 0);
+}
+
+static int same(lbk_state a, lbk_state b)
+{
+    return a.at == b.at && a.row == b.row && a.profile == b.profile && a.ended == b.ended;
+}
+
+/* Whether the text has its breaks at just these bytes, in the order of `places`, which 0 ends. */
+static int has_breaks(uint8_t profile, const char *text, size_t size, const size_t *places)
+{
+    lbk_state state = {0};
+    lbk_break block[ROOM];
+    state.profile = profile;
+    size_t count = lbk_breaks(&table, &state, text, size, block, ROOM);
+    for (size_t k = 0; k < count; k++)
+        if (places[k] == 0 || block[k].at != places[k])
+            return 0;
+    return places[count] == 0;
+}
+
+#define PLACES(...) (const size_t[]){__VA_ARGS__, 0}
+
+static void try_nothing(void)
+{
+    lbk_state state = {0}, start = {0};
+    lbk_break block[1];
+    lbk_fault fault = lbk_read(&before, NULL, 0, NULL, 0, NULL, 0, NULL, 0);
+    told("four empty files have no fault", fault.cause == LBK_CAUSE_NONE && fault.file == LBK_NO_FILE && fault.line == 0);
+    told("the table of four empty files is whole", lbk_check(&before));
+    told("an empty text has no break", lbk_breaks(&table, &state, NULL, 0, block, 1) == 0);
+    state = start;
+    told("an empty text, no room", lbk_breaks(&table, &state, NULL, 0, NULL, 0) == 0);
+    state = start;
+    told("an empty text that is not null", lbk_breaks(&table, &state, "", 0, block, 1) == 0);
+}
+
+static void try_rooms(void)
+{
+    const char text[] = "a b (a) \xE4\xB8\x80\n\"b\" a";
+    size_t size = sizeof text - 1;
+    lbk_state state = {0}, start = {0};
+    lbk_break whole[ROOM], one;
+    size_t all = lbk_breaks(&table, &state, text, size, whole, ROOM);
+    told("a text with breaks", all == 6);
+    told("the last break is the end, by rule 3",
+         all > 0 && whole[all - 1].at == size && whole[all - 1].kind == LBK_MUST && whole[all - 1].rule == LBK_RULE_3);
+    lbk_state spent = state;
+    told("a spent state answers 0", lbk_breaks(&table, &state, text, size, whole + all, ROOM - all) == 0);
+    told("a spent state stays", same(state, spent));
+
+    state = start;
+    told("no room: 0", lbk_breaks(&table, &state, text, size, NULL, 0) == 0);
+    told("no room: the state stays", same(state, start));
+    for (size_t k = 0; k < all; k++) {
+        lbk_state back = state;
+        size_t count = lbk_breaks(&table, &state, text, size, &one, 1);
+        told("room for one: the next break", count == 1 && one.at == whole[k].at && one.kind == whole[k].kind && one.rule == whole[k].rule);
+        count = lbk_breaks(&table, &back, text, size, &one, 1);
+        told("a copy of a state answers the same", count == 1 && one.at == whole[k].at && same(back, state));
+    }
+    told("room for one: no more", lbk_breaks(&table, &state, text, size, &one, 1) == 0);
+
+    state = start;
+    told("a full block", lbk_breaks(&table, &state, text, size, whole, all) == all);
+    told("a full block: no more", lbk_breaks(&table, &state, text, size, &one, 1) == 0);
+}
+
+static void try_states(void)
+{
+    lbk_break one;
+    lbk_state state = {4, 0, LBK_FIRST, 0}, kept = state;
+    told("past the end: 0", lbk_breaks(&table, &state, "a b", 3, &one, 1) == 0);
+    told("past the end: the state stays", same(state, kept));
+    state.at = SIZE_MAX;
+    kept = state;
+    told("far past the end: 0", lbk_breaks(&table, &state, "a b", 3, &one, 1) == 0);
+    told("far past the end: the state stays", same(state, kept));
+    for (unsigned profile = 2; profile <= UINT8_MAX; profile++) {
+        state = (lbk_state){0, 0, (uint8_t)profile, 0};
+        kept = state;
+        told("no such profile: 0", lbk_breaks(&table, &state, "a b", 3, &one, 1) == 0);
+        told("no such profile: the state stays", same(state, kept));
+    }
+    for (unsigned ended = 1; ended <= UINT8_MAX; ended++) {
+        state = (lbk_state){0, 0, LBK_SECOND, (uint8_t)ended};
+        kept = state;
+        told("a state that has ended: 0", lbk_breaks(&table, &state, "a b", 3, &one, 1) == 0);
+        told("a state that has ended: it stays", same(state, kept));
+    }
+}
+
+static void try_profiles(void)
+{
+    const char text[] = "a \xC2\xAB b \xC2\xBB a";
+    told("quotation marks, first profile", has_breaks(LBK_FIRST, text, 11, PLACES(2, 5, 7, 10, 11)));
+    told("quotation marks, second profile", has_breaks(LBK_SECOND, text, 11, PLACES(2, 10, 11)));
+    told("a closing mark that stays open", has_breaks(LBK_SECOND, "b \xC2\xBB" "a", 5, PLACES(2, 5)));
+    told("a closing mark at the end", has_breaks(LBK_SECOND, "b \xC2\xBB\xCC\x81", 6, PLACES(6)));
+}
+
+/* The examples of the Unicode Standard, section 3.9, tables 3-8 to 3-11, and what they leave out. */
+static void try_ill_formed(void)
+{
+    told("non-shortest forms", has_breaks(0, "\xC0\xAF\xE0\x80\xBF\xF0\x81\x82\x41", 9, PLACES(1, 2, 3, 4, 5, 6, 7, 8, 9)));
+    told("surrogates", has_breaks(0, "\xED\xA0\x80\xED\xBF\xBF\xED\xAF\x41", 9, PLACES(1, 2, 3, 4, 5, 6, 7, 8, 9)));
+    told("other ill-formed bytes", has_breaks(0, "\xF4\x91\x92\x93\xFF\x61\x80\xBF\x62", 9, PLACES(1, 2, 3, 4, 5, 6, 7, 8, 9)));
+    told("cut scalars", has_breaks(0, "\xE1\x80\xE2\xF0\x91\x92\xF1\xBF\x61", 9, PLACES(2, 3, 6, 8, 9)));
+    told("a cut scalar of two bytes", has_breaks(0, "a\xC3", 2, PLACES(1, 2)));
+    told("a cut scalar of three bytes, one there", has_breaks(0, "a\xE4", 2, PLACES(1, 2)));
+    told("a cut scalar of three bytes, two there", has_breaks(0, "a\xE4\xB8", 3, PLACES(1, 3)));
+    told("a cut scalar of four bytes, one there", has_breaks(0, "a\xF0", 2, PLACES(1, 2)));
+    told("a cut scalar of four bytes, two there", has_breaks(0, "a\xF0\x9F", 3, PLACES(1, 3)));
+    told("a cut scalar of four bytes, three there", has_breaks(0, "a\xF0\x9F\x98", 4, PLACES(1, 4)));
+    told("the whole scalar", has_breaks(0, "a\xF0\x9F\x98\x80", 5, PLACES(1, 5)));
+    told("a byte of continuation", has_breaks(0, "\x80", 1, PLACES(1)));
+    told("a zero byte is a scalar", has_breaks(0, "a\0 a", 4, PLACES(3, 4)));
+    for (unsigned byte = 0x80; byte <= UINT8_MAX; byte++) {
+        char text[] = {(char)byte, 'a'};
+        told("a byte of no scalar", has_breaks(0, text, 2, PLACES(1, 2)));
+    }
+}
+
+static void try_faults(void)
+{
+    static char long_line[1100];
+    memset(long_line, '#', sizeof long_line - 1);
+    memset(&before, 0x5A, sizeof before);
+    static lbk_table read;
+    read = before;
+    const struct {
+        const char *line_break, *category;
+        uint32_t file, line, cause;
+    } rows[] = {
+        {"0061;AL\nno row\n", "", LBK_LINE_BREAK, 2, LBK_CAUSE_ROW_SYNTAX},
+        {"", "0061;Ll\n0062;Xx\n", LBK_CATEGORY, 2, LBK_CAUSE_UNKNOWN_VALUE},
+        {"0061..0060;AL\n", "no row\n", LBK_LINE_BREAK, 1, LBK_CAUSE_RANGE},
+        {"110000;AL\n", "", LBK_LINE_BREAK, 1, LBK_CAUSE_RANGE},
+        {"0061..0065;AL\n\n0063;SP\n", "", LBK_LINE_BREAK, 3, LBK_CAUSE_OVERLAP},
+        {"\n", long_line, LBK_CATEGORY, 1, LBK_CAUSE_LINE_TOO_LONG},
+    };
+    for (size_t k = 0; k < sizeof rows / sizeof *rows; k++) {
+        lbk_fault fault = read_lines(&read, rows[k].line_break, rows[k].category);
+        told("the first fault", fault.file == rows[k].file && fault.line == rows[k].line && fault.cause == rows[k].cause);
+        told("at a fault the table is as it was", memcmp(&read, &before, sizeof read) == 0);
+    }
+}
+
+static void try_tables(void)
+{
+    static lbk_table copy;
+    copy = table;
+    told("a table that was read is whole", lbk_check(&table));
+    told("its layout is the header's", table.layout == LBK_LAYOUT);
+    told("a copy is whole", lbk_check(&copy));
+    told("a table can be read again", read_lines(&copy, LINE_BREAKS, CATEGORIES).cause == LBK_CAUSE_NONE && memcmp(&copy, &table, sizeof table) == 0);
+    unsigned char *bytes = (unsigned char *)&copy;
+    size_t wrong = 0;
+    for (size_t k = 0; k < sizeof copy; k += k < 4096 ? 1 : 40009) {
+        bytes[k] ^= 1;
+        wrong += lbk_check(&copy);
+        bytes[k] ^= 1;
+    }
+    bytes[sizeof copy - 1] ^= 0x80;
+    wrong += lbk_check(&copy);
+    told("a table with one other bit is not whole", wrong == 0);
+    memset(&copy, 0, sizeof copy);
+    told("zeros are no table", !lbk_check(&copy));
+    memset(&copy, 0xFF, sizeof copy);
+    told("ones are no table", !lbk_check(&copy));
+}
+
+static void try_labels(void)
+{
+    static const char *const labels[LBK_RULES] = {"2", "3", "4", "5", "6", "7", "8", "8a", "9", "11", "12", "12a", "13",
+        "14", "15", "15a", "15b", "16", "17", "18", "19", "20", "21", "21a", "21b", "22", "23", "23a", "24", "25", "26", "27",
+        "28", "29", "30", "30a", "30b", "31"};
+    static const char none[4];
+    for (unsigned rule = 0; rule <= UINT8_MAX; rule++) {
+        lbk_rule_label label = lbk_label((uint8_t)rule), wanted = {{0}};
+        if (rule < LBK_RULES)
+            strcpy(wanted.text, labels[rule]);
+        told("a rule's label", memcmp(label.text, rule < LBK_RULES ? wanted.text : none, 4) == 0);
+    }
+}
+
+int main(void)
+{
+    told("the small files are read", read_lines(&table, LINE_BREAKS, CATEGORIES).cause == LBK_CAUSE_NONE);
+    try_nothing();
+    try_rooms();
+    try_states();
+    try_profiles();
+    try_ill_formed();
+    try_faults();
+    try_tables();
+    try_labels();
+    printf("%u passed, %u failed\n", passed, failed);
+    return failed != 0;
+}

@@ -1,0 +1,236 @@
+/* Calls the library with random bytes as files, table, state and text, many times over.
+ *
+ *     hurt ROUNDS SEED LINE_BREAK EAST_ASIAN CATEGORY EMOJI
+ *
+ * What a call is given ends where memory ends that may be read or written, or begins where it begins, so that a byte too far
+ * ends the program by a signal, also where no checker has seen the library's code. The last line is `N passed, M failed`.
+ */
+#define _DEFAULT_SOURCE
+#include "example.h"
+
+#include <string.h>
+#include <sys/mman.h>
+#include <unistd.h>
+
+enum { MOST_TEXT = 200, MOST_ROOM = 40 };
+
+static unsigned long passed, failed;
+static uint64_t seed;
+
+static void told(const char *what, int holds)
+{
+    if (holds) {
+        passed++;
+    } else if (failed++ < 20) {
+        printf("FAILED  %s\n", what);
+    }
+}
+
+/* A number below `most` (xorshift64*, which is enough for trying). */
+static uint64_t below(uint64_t most)
+{
+    seed ^= seed >> 12;
+    seed ^= seed << 25;
+    seed ^= seed >> 27;
+    return most == 0 ? 0 : (seed * 0x2545F4914F6CDD1DULL >> 11) % most;
+}
+
+static void fill_random(void *to, size_t size)
+{
+    unsigned char *byte = to;
+    for (size_t k = 0; k < size; k++)
+        byte[k] = (unsigned char)below(256);
+}
+
+/* Pages that may be used, between two that may not. */
+typedef struct fenced {
+    unsigned char *from, *to;
+} fenced;
+
+static fenced fence(size_t size)
+{
+    size_t page = (size_t)sysconf(_SC_PAGESIZE), whole = (size + page - 1) / page * page;
+    unsigned char *all = mmap(NULL, whole + 2 * page, PROT_NONE, MAP_PRIVATE | MAP_ANONYMOUS, -1, 0);
+    if (all == MAP_FAILED || mprotect(all + page, whole, PROT_READ | PROT_WRITE) != 0)
+        abort();
+    return (fenced){all + page, all + page + whole};
+}
+
+/* A place of so many bytes in the pages, that ends where they end or begins where they begin. */
+static void *place(fenced pages, size_t size)
+{
+    return below(2) == 0 ? (void *)pages.from : (void *)(pages.to - size);
+}
+
+/* Bytes that look like text more or less: random ones, scalars of each size, and cut ones. */
+static size_t random_text(char *to)
+{
+    static const char *const parts[] = {"a", " ", "\n", "\r\n", "(", "\"", "\xC2\xAB", "\xC2\xBB", "\xCC\x81", "\xE2\x80\x8D",
+        "\xE4\xB8\x80", "\xEA\xB0\x80", "\xF0\x9F\x87\xA6", "\xF0\x9F\x98\x80", "\xF0\x9F\x8F\xBB", "\xE2\x80\x8B", "1", ",", "%",
+        "-", "\xD7\x90", "\xE0", "\xF0\x9F", "\xC3", "\xED\xA0\x80", "\xF4\x90", "\xEF\xBF\xBD", "\xC2\xA0"};
+    size_t size = 0, most = below(MOST_TEXT + 1);
+    unsigned mix = (unsigned)below(3);
+    while (size < most) {
+        const char *part = parts[below(sizeof parts / sizeof *parts)];
+        size_t length = strlen(part);
+        if (mix == 0 || (mix == 1 && below(4) == 0) || size + length > most)
+            to[size++] = (char)below(256);
+        else {
+            memcpy(to + size, part, length);
+            size += length;
+        }
+    }
+    return size;
+}
+
+static uint64_t digest(const void *of, size_t size)
+{
+    const unsigned char *byte = of;
+    uint64_t sum = 14695981039346656037ULL;
+    for (size_t k = 0; k < size; k++)
+        sum = (sum ^ byte[k]) * 1099511628211ULL;
+    return sum;
+}
+
+/* Asks for breaks until none comes, with rooms of all sizes. What holds of any table, state and text holds here. */
+static void go_over(const lbk_table *table, fenced texts, fenced states, fenced blocks, lbk_state from)
+{
+    char made[MOST_TEXT];
+    size_t size = random_text(made);
+    char *text = place(texts, size);
+    memcpy(text, made, size);
+    lbk_state *state = place(states, sizeof *state);
+    *state = from;
+    size_t sum = 0;
+    for (unsigned calls = 0; calls < 4 * MOST_TEXT; calls++) {
+        size_t room = below(MOST_ROOM + 1);
+        lbk_break *block = place(blocks, room * sizeof *block);
+        lbk_state old = *state;
+        size_t count = lbk_breaks(table, state, text, size, block, room);
+        told("no more than there is room for", count <= room);
+        told("the profile stays", state->profile == from.profile);
+        told("the place is in the text", state->at <= size || state->at == old.at);
+        told("the place does not go back", state->at >= old.at);
+        sum += count;
+        if (count < room)
+            break;
+    }
+    told("no more breaks than places", sum <= size + 1);
+    told("the text is as it was", memcmp(text, made, size) == 0);
+}
+
+static lbk_state random_state(void)
+{
+    lbk_state state = {0};
+    switch (below(4)) {
+    case 0:
+        fill_random(&state, sizeof state);
+        break;
+    case 1:
+        state.at = below(MOST_TEXT + 2);
+        state.row = (uint16_t)below(65536);
+        state.profile = (uint8_t)below(3);
+        break;
+    default:
+        state.profile = (uint8_t)below(2);
+    }
+    return state;
+}
+
+/* By the real table: blocks of any rooms have the breaks that one great block has. */
+static void compare_rooms(const lbk_table *table)
+{
+    char text[MOST_TEXT];
+    lbk_break whole[MOST_TEXT + 1], part[MOST_TEXT + 1];
+    size_t size = random_text(text);
+    lbk_state start = {0}, state;
+    start.profile = (uint8_t)below(2);
+    state = start;
+    size_t all = lbk_breaks(table, &state, text, size, whole, MOST_TEXT + 1), got = 0, count, room;
+    state = start;
+    do {
+        room = 1 + below(4);
+        count = lbk_breaks(table, &state, text, size, part + got, got + room > MOST_TEXT + 1 ? MOST_TEXT + 1 - got : room);
+        got += count;
+    } while (count == room && got <= MOST_TEXT);
+    int same = got == all && (size == 0 || (all > 0 && whole[all - 1].at == size));
+    for (size_t k = 0; same && k < all; k++)
+        same = whole[k].at == part[k].at && whole[k].kind == part[k].kind && whole[k].rule == part[k].rule
+            && (whole[k].kind == LBK_MAY || whole[k].kind == LBK_MUST) && whole[k].rule < LBK_RULES
+            && (k == 0 || whole[k - 1].at < whole[k].at);
+    told("blocks of any rooms have the same breaks", same);
+}
+
+/* Files with a few bytes changed: a fault leaves the table, and names a file, a line of it and a cause. */
+static void read_changed(lbk_table *table, const bytes *files)
+{
+    bytes changed[4];
+    for (int k = 0; k < 4; k++) {
+        changed[k].size = below(8) == 0 ? below(files[k].size + 1) : files[k].size;
+        changed[k].at = malloc(changed[k].size + 1);
+        if (changed[k].at == NULL)
+            abort();
+        memcpy(changed[k].at, files[k].at, changed[k].size);
+        for (uint64_t times = below(4); times > 0 && changed[k].size > 0; times--)
+            changed[k].at[below(changed[k].size)] = (char)below(256);
+    }
+    uint64_t old = digest(table, sizeof *table);
+    lbk_fault fault = lbk_read(table, changed[0].at, changed[0].size, changed[1].at, changed[1].size, changed[2].at,
+                               changed[2].size, changed[3].at, changed[3].size);
+    if (fault.cause == LBK_CAUSE_NONE) {
+        told("no fault: a whole table", lbk_check(table) && fault.file == LBK_NO_FILE && fault.line == 0);
+    } else {
+        told("a fault: the table is as it was", digest(table, sizeof *table) == old);
+        told("a fault: one of a file", fault.cause <= LBK_CAUSE_TOO_MANY_ROWS && fault.file >= LBK_LINE_BREAK && fault.file <= LBK_EMOJI);
+    }
+    for (int k = 0; k < 4; k++)
+        free(changed[k].at);
+}
+
+/* A table of random bytes, the real one with some bytes changed, or the real one. */
+static lbk_table *random_table(fenced tables, const lbk_table *real)
+{
+    lbk_table *table = place(tables, sizeof *table);
+    unsigned kind = (unsigned)below(3);
+    memcpy(table, real, sizeof *table);
+    if (kind == 0)
+        fill_random(table, sizeof *table);
+    else if (kind == 1)
+        for (uint64_t times = 1 + below(1000); times > 0; times--)
+            ((unsigned char *)table)[below(sizeof *table)] = (unsigned char)below(256);
+    told("a table is whole where it is the real one", lbk_check(table) == (memcmp(table, real, sizeof *table) == 0));
+    return table;
+}
+
+int main(int words, char **word)
+{
+    enum { ROUNDS_WITH_A_TABLE = 500 };
+    static lbk_table real;
+    if (words != 7) {
+        fprintf(stderr, "usage: hurt ROUNDS SEED LINE_BREAK EAST_ASIAN CATEGORY EMOJI\n");
+        return 2;
+    }
+    unsigned long rounds = strtoul(word[1], NULL, 10);
+    seed = strtoul(word[2], NULL, 10) * 2 + 1;
+    read_table(&real, word + 3);
+    bytes files[4];
+    for (int k = 0; k < 4; k++)
+        files[k] = load(word[3 + k]);
+
+    fenced tables = fence(sizeof(lbk_table)), texts = fence(MOST_TEXT), states = fence(sizeof(lbk_state));
+    fenced blocks = fence(MOST_ROOM * sizeof(lbk_break));
+    for (unsigned long round = 0; round < rounds; round += ROUNDS_WITH_A_TABLE) {
+        lbk_table *table = random_table(tables, &real);
+        uint64_t old = digest(table, sizeof *table);
+        for (unsigned times = 0; times < ROUNDS_WITH_A_TABLE; times++) {
+            go_over(table, texts, states, blocks, random_state());
+            compare_rooms(&real);
+        }
+        told("the table is as it was", digest(table, sizeof *table) == old);
+        read_changed(table, files);
+    }
+    for (int k = 0; k < 4; k++)
+        free(files[k].at);
+    printf("%lu passed, %lu failed\n", passed, failed);
+    return failed != 0;
+}

@@ -1,0 +1,241 @@
+/* lbk.h: where a line of text may break, and where it must, by the Unicode Line Breaking Algorithm
+ * (UAX #14, Unicode 15.0, rules LB2 to LB31, no tailorings).
+ *
+ *     static lbk_table table;                                  1.6 MB: static, on the heap or mapped, not on a small stack
+ *     lbk_fault fault = lbk_read(&table, line_break, line_break_size, ..);
+ *     if (fault.cause != LBK_CAUSE_NONE) ..                    once, from four files of the Unicode Character Database
+ *
+ *     lbk_state state = {0};                                   the start of a text
+ *     lbk_break block[64];
+ *     size_t count;
+ *     do {
+ *         count = lbk_breaks(&table, &state, text, size, block, 64);
+ *         for (size_t k = 0; k < count; k++)
+ *             .. block[k].at, block[k].kind, block[k].rule ..
+ *     } while (count == 64);
+ *
+ * Memory. The caller owns all of it. No call keeps a pointer that it was given, and there is nothing to free. No call but
+ * lbk_read takes memory from the heap, and lbk_read gives back what it took.
+ *
+ * Threads. The library has no variables. Any number of calls may use one table at the same time, as long as none of them
+ * writes it; only lbk_read writes a table, and lbk_breaks writes only its state and its block.
+ *
+ * What a caller owes, and all that a caller owes:
+ *   - A pointer that comes with a length has at least as many bytes (as many breaks, for a block) behind it. Where the
+ *     length is 0 the pointer may be null. No length is over PTRDIFF_MAX bytes, as no object of C is.
+ *   - A table and a state are not null, and are aligned as C aligns objects of their types.
+ *   - What a call writes (the table of lbk_read; the state and the block of lbk_breaks) overlaps nothing else that the call
+ *     is given, and nobody else uses it during the call.
+ * Nothing else can hurt: whatever bytes the files, the text, the table and the state have, each call returns, and reads and
+ * writes nothing but what it was given. A table or a state with made-up bytes gives made-up breaks, and no more.
+ *
+ * C99 and later, and C++. 64-bit targets alone.
+ */
+#ifndef LBK_H
+#define LBK_H
+
+#include <stdbool.h>
+#include <stddef.h>
+#include <stdint.h>
+
+#ifdef __cplusplus
+extern "C" {
+#endif
+
+/* The version of this header. Versions of the same major number and, as long as that is 0, of the same minor number have
+ * the same types and calls; the shared library's name (liblbk.so.0) has the major number. */
+#define LBK_VERSION_MAJOR 0
+#define LBK_VERSION_MINOR 1
+#define LBK_VERSION_PATCH 0
+#define LBK_VERSION "0.1.0"
+
+/* The version of Unicode whose rules these are. The files that lbk_read is given should be of the same one. */
+#define LBK_UNICODE_VERSION "15.0"
+
+/* The layout of a table that this version fills and uses: what lbk_table.layout is then. */
+#define LBK_LAYOUT 1
+
+/* How many codes Unicode has, 0 to 10FFFF, and how many steps stand in each array of a table. */
+#define LBK_CODES 0x110000
+#define LBK_STEPS 65792
+
+/* lbk_break.kind, and what stands for it in the notation of UAX #14. lbk_breaks gives breaks alone, so never LBK_NO. */
+enum {
+    LBK_NO = 0,  /* a line does not break here */
+    LBK_MAY = 1, /* a line may break here */
+    LBK_MUST = 2 /* a line ends here: behind a paragraph separator, and at the end of the text */
+};
+
+/* lbk_break.rule: the rules of UAX #14, section 6, in their order. lbk_label has their names. */
+enum {
+    LBK_RULE_2 = 0,
+    LBK_RULE_3 = 1,
+    LBK_RULE_4 = 2,
+    LBK_RULE_5 = 3,
+    LBK_RULE_6 = 4,
+    LBK_RULE_7 = 5,
+    LBK_RULE_8 = 6,
+    LBK_RULE_8A = 7,
+    LBK_RULE_9 = 8,
+    LBK_RULE_11 = 9,
+    LBK_RULE_12 = 10,
+    LBK_RULE_12A = 11,
+    LBK_RULE_13 = 12,
+    LBK_RULE_14 = 13,
+    LBK_RULE_15 = 14,  /* in the first profile alone */
+    LBK_RULE_15A = 15, /* in the second profile alone */
+    LBK_RULE_15B = 16, /* in the second profile alone */
+    LBK_RULE_16 = 17,
+    LBK_RULE_17 = 18,
+    LBK_RULE_18 = 19,
+    LBK_RULE_19 = 20,
+    LBK_RULE_20 = 21,
+    LBK_RULE_21 = 22,
+    LBK_RULE_21A = 23,
+    LBK_RULE_21B = 24,
+    LBK_RULE_22 = 25,
+    LBK_RULE_23 = 26,
+    LBK_RULE_23A = 27,
+    LBK_RULE_24 = 28,
+    LBK_RULE_25 = 29,
+    LBK_RULE_26 = 30,
+    LBK_RULE_27 = 31,
+    LBK_RULE_28 = 32,
+    LBK_RULE_29 = 33,
+    LBK_RULE_30 = 34,
+    LBK_RULE_30A = 35,
+    LBK_RULE_30B = 36,
+    LBK_RULE_31 = 37,
+    LBK_RULES = 38 /* how many there are */
+};
+
+/* lbk_state.profile: which rules stand for quotation marks. With any other number lbk_breaks answers 0. */
+enum {
+    LBK_FIRST = 0, /* rule 15 of Unicode 15.0 */
+    LBK_SECOND = 1 /* rules 15a and 15b in its place, which look at both sides of a quotation mark */
+};
+
+/* lbk_fault.file: the files of the Unicode Character Database, in the order in which lbk_read takes them. */
+enum {
+    LBK_NO_FILE = 0,    /* no fault, or one that came when all files were read */
+    LBK_LINE_BREAK = 1, /* LineBreak.txt */
+    LBK_EAST_ASIAN = 2, /* EastAsianWidth.txt */
+    LBK_CATEGORY = 3,   /* extracted/DerivedGeneralCategory.txt */
+    LBK_EMOJI = 4       /* emoji/emoji-data.txt */
+};
+
+/* lbk_fault.cause */
+enum {
+    LBK_CAUSE_NONE = 0,          /* no fault: the table is filled */
+    LBK_CAUSE_FILE_TOO_LONG = 1, /* the file has more than 8,388,608 bytes; line is 0 */
+    LBK_CAUSE_LINE_TOO_LONG = 2, /* the line has more than 1,024 bytes, its LF not counted */
+    LBK_CAUSE_ROW_SYNTAX = 3,    /* the line is no blank line, no comment and no row */
+    LBK_CAUSE_RANGE = 4,         /* the first code is above the last, or a code is above 10FFFF */
+    LBK_CAUSE_UNKNOWN_VALUE = 5, /* the name is none of the property's values */
+    LBK_CAUSE_OVERLAP = 6,       /* the row shares a code with an earlier row of the file */
+    LBK_CAUSE_TOO_MANY_ROWS = 7, /* the line would be the 65,537th row or default of the file */
+    LBK_CAUSE_OUT_OF_MEMORY = 8, /* the heap refused memory, at this line, or when all files were read (file and line are 0) */
+    LBK_CAUSE_TABLE_TOO_LARGE = 9 /* the rules need more steps than a table has. Those of this version do not, whatever the files;
+                                     that is tested and not proved. File and line are 0 */
+};
+
+/* One step of a table: numbers of the library's own. */
+typedef struct lbk_step {
+    uint16_t code, next;
+} lbk_step;
+
+/* What lbk_read makes of the four files, and what lbk_breaks decides by: plain numbers and no pointers, in the order of bytes
+ * of the machine. So a table can be copied, be kept in a file, be mapped from there by other processes, and be shared.
+ *
+ * Only layout has a meaning to callers; what the other fields hold differs between layouts. */
+typedef struct lbk_table {
+    uint64_t layout; /* LBK_LAYOUT, where lbk_read filled the table */
+    uint64_t digest; /* of all that follows, for lbk_check */
+    lbk_step first[LBK_STEPS], second[LBK_STEPS];
+    uint8_t kinds[LBK_CODES];
+} lbk_table;
+
+/* How far the breaks of a text were asked for. All zeros are the start of a text in the first profile; set profile for the
+ * second. A state is a value: it may be copied, be kept, and be gone back to. It holds of the text that it was used with, and
+ * of each that has the same bytes. */
+typedef struct lbk_state {
+    size_t at;       /* up to this byte of the text, not counting it, scalars were taken */
+    uint16_t row;    /* what is known of them: a number of the table's */
+    uint8_t profile; /* LBK_FIRST or LBK_SECOND; no call changes it */
+    uint8_t ended;   /* 0, or else nothing more is to come, and lbk_breaks answers 0 */
+} lbk_state;
+
+/* A place of a text where a line may or must end. */
+typedef struct lbk_break {
+    size_t at;    /* it stands before this byte of the text, counted from 0; at its end, before none: the text's size */
+    uint8_t kind; /* LBK_MAY or LBK_MUST */
+    uint8_t rule; /* the rule that decided, as LBK_RULE_18 */
+} lbk_break;
+
+/* Why four files are refused: the first fault that they have, in the order of the files and of their lines. */
+typedef struct lbk_fault {
+    uint32_t file;  /* LBK_LINE_BREAK to LBK_EMOJI, or LBK_NO_FILE */
+    uint32_t line;  /* from 1; 0 where the fault is in no line */
+    uint32_t cause; /* LBK_CAUSE_NONE: no fault, and then file and line are 0 */
+} lbk_fault;
+
+/* The name of a rule without `LB`, as "8a": ASCII, and zeros up to the end. The last byte is always zero. */
+typedef struct lbk_rule_label {
+    char text[4];
+} lbk_rule_label;
+
+/* Fills a table from the bytes of four files of the Unicode Character Database: LineBreak.txt, EastAsianWidth.txt,
+ * DerivedGeneralCategory.txt and emoji-data.txt. Sizes are in bytes.
+ *
+ * Answers the first fault of the files, and LBK_CAUSE_NONE where they have none and memory sufficed; the table is filled then
+ * and only then. At a fault the table is as it was before the call. An empty file has no fault: all codes have the
+ * property's fixed value. The call takes some 10 ms and some megabytes of the heap for files of Unicode 15.0. */
+lbk_fault lbk_read(lbk_table *table, const void *line_break, size_t line_break_size, const void *east_asian,
+                   size_t east_asian_size, const void *category, size_t category_size, const void *emoji, size_t emoji_size);
+
+/* Puts the next breaks of a text, in the order of the text, into the front of a block with room for `room` breaks, and answers
+ * how many. Fewer than `room` says that these were all; later calls with the state then answer 0. Each break of the text
+ * comes once. The last one of a text that is not empty is its end: LBK_MUST by rule 3. An empty text has none.
+ *
+ * `text` is UTF-8, and is the whole text at each call, not the rest of it; `state` tells how far earlier calls came. Where
+ * bytes are ill-formed, each longest piece that could have begun a scalar, or else each byte, is read as one U+FFFD at its
+ * place (Unicode Standard, section 3.9, "U+FFFD Substitution of Maximal Subparts"), so each `at` counts the text's own bytes.
+ *
+ * Answers 0 and leaves the state as it is: where `room` is 0, where the state's profile is none of the two, where its `at` is
+ * behind the text's end, and where it has ended. What the block has behind the breaks that are answered is not specified: any of
+ * its places may be written. Takes no memory from the heap. */
+size_t lbk_breaks(const lbk_table *table, lbk_state *state, const char *text, size_t size, lbk_break *block, size_t room);
+
+/* The name of a rule by its number; an empty name for a number that no rule has. */
+lbk_rule_label lbk_label(uint8_t rule);
+
+/* Whether a table is whole: its layout is LBK_LAYOUT, and its digest is that of its other bytes. True of each table that
+ * lbk_read of this version filled, and of each copy of one. Bytes that changed by accident are told in all but rare cases; the
+ * digest is no defence against bytes that someone chose. A table need not be whole to be safe to use. */
+bool lbk_check(const lbk_table *table);
+
+#if defined(__cplusplus)
+#define LBK_ASSERT(name, holds) static_assert(holds, #name)
+#elif defined(__STDC_VERSION__) && __STDC_VERSION__ >= 201112L
+#define LBK_ASSERT(name, holds) _Static_assert(holds, #name)
+#else
+#define LBK_ASSERT(name, holds) typedef char lbk_assert_##name[(holds) ? 1 : -1]
+#endif
+
+LBK_ASSERT(a_size_has_64_bits, sizeof(size_t) == 8);
+LBK_ASSERT(a_step_has_4_bytes, sizeof(lbk_step) == 4);
+LBK_ASSERT(a_state_has_16_bytes, sizeof(lbk_state) == 16);
+LBK_ASSERT(a_break_has_16_bytes, sizeof(lbk_break) == 16);
+LBK_ASSERT(a_fault_has_12_bytes, sizeof(lbk_fault) == 12);
+LBK_ASSERT(a_label_has_4_bytes, sizeof(lbk_rule_label) == 4);
+LBK_ASSERT(a_table_has_no_gaps, sizeof(lbk_table) == 16 + 8 * LBK_STEPS + LBK_CODES);
+LBK_ASSERT(steps_stand_where_they_should, offsetof(lbk_table, first) == 16);
+LBK_ASSERT(kinds_stand_where_they_should, offsetof(lbk_table, kinds) == 16 + 8 * LBK_STEPS);
+
+#undef LBK_ASSERT
+
+#ifdef __cplusplus
+}
+#endif
+
+#endif

@@ -1,0 +1,85 @@
+//! The types and calls of `lbk.h`, as C has them.
+
+use core::mem::{align_of, size_of};
+
+const STEPS: usize = 65_792;
+const CODES: usize = 0x11_0000;
+
+/// `LBK_MUST`
+pub const MUST: u8 = 2;
+
+#[repr(C)]
+#[derive(Clone, Copy)]
+pub struct Step {
+    code: u16,
+    next: u16,
+}
+
+#[repr(C)]
+pub struct Table {
+    layout: u64,
+    digest: u64,
+    first: [Step; STEPS],
+    second: [Step; STEPS],
+    kinds: [u8; CODES],
+}
+
+#[repr(C)]
+#[derive(Clone, Copy)]
+pub struct State {
+    pub at: usize,
+    pub row: u16,
+    pub profile: u8,
+    pub ended: u8,
+}
+
+#[repr(C)]
+#[derive(Clone, Copy, Default)]
+pub struct Break {
+    pub at: usize,
+    pub kind: u8,
+    pub rule: u8,
+}
+
+#[repr(C)]
+pub struct Fault {
+    pub file: u32,
+    pub line: u32,
+    pub cause: u32,
+}
+
+#[repr(C)]
+pub struct RuleLabel {
+    pub text: [u8; 4],
+}
+
+const _: () = assert!(size_of::<Table>() == 16 + 8 * STEPS + CODES);
+const _: () = assert!(align_of::<Table>() == 8);
+const _: () = assert!(size_of::<State>() == 16);
+const _: () = assert!(size_of::<Break>() == 16);
+const _: () = assert!(size_of::<Fault>() == 12);
+const _: () = assert!(size_of::<RuleLabel>() == 4);
+
+extern "C" {
+    pub fn lbk_read(
+        table: *mut Table,
+        line_break: *const u8,
+        line_break_size: usize,
+        east_asian: *const u8,
+        east_asian_size: usize,
+        category: *const u8,
+        category_size: usize,
+        emoji: *const u8,
+        emoji_size: usize,
+    ) -> Fault;
+    pub fn lbk_breaks(
+        table: *const Table,
+        state: *mut State,
+        text: *const u8,
+        size: usize,
+        block: *mut Break,
+        room: usize,
+    ) -> usize;
+    pub fn lbk_label(rule: u8) -> RuleLabel;
+    pub fn lbk_check(table: *const Table) -> bool;
+}

@@ -1,0 +1,152 @@
+//! The crate over small files of its own.
+
+use lbk::{Break, Cause, Fault, File, Files, Kind, Profile, Table};
+use std::thread;
+
+const FILES: Files = Files {
+    line_break: b"000A;LF\n0020;SP\n0061..007A;AL\n00AB;QU\n00BB;QU\n4E00;ID\nFFFD;ID\n",
+    east_asian: b"",
+    category: b"00AB;Pi\n00BB;Pf\n",
+    emoji: b"",
+};
+
+fn table() -> Box<Table> {
+    Table::read(FILES).expect("the small files have no fault")
+}
+
+fn places(table: &Table, profile: Profile, text: &[u8]) -> Vec<usize> {
+    table
+        .breaks_in(profile, text)
+        .map(|found| found.at)
+        .collect()
+}
+
+/// Each break as `at kind rule`.
+fn shown(breaks: impl Iterator<Item = Break>) -> Vec<String> {
+    breaks
+        .map(|found| format!("{} {:?} {}", found.at, found.kind, found.rule))
+        .collect()
+}
+
+#[test]
+fn breaks_of_a_text() {
+    assert_eq!(
+        shown(table().breaks("ab cd\n一e")),
+        ["3 May 18", "6 Must 5", "9 May 31", "10 Must 3"]
+    );
+    assert_eq!(table().breaks("").count(), 0);
+}
+
+#[test]
+fn more_breaks_than_one_block_has() {
+    let table = table();
+    let text = "a ".repeat(1000);
+    let found = places(&table, Profile::First, text.as_bytes());
+    assert_eq!(found, (1..=1000).map(|word| 2 * word).collect::<Vec<_>>());
+}
+
+#[test]
+fn profiles_differ_at_quotation_marks() {
+    let text = "a « b » c".as_bytes();
+    assert_eq!(places(&table(), Profile::First, text), [2, 5, 7, 10, 11]);
+    assert_eq!(places(&table(), Profile::Second, text), [2, 10, 11]);
+}
+
+#[test]
+fn ill_formed_bytes_are_replaced_as_std_does() {
+    for text in [
+        &b"a\xE4\xB8b"[..],
+        b"\xF0\x9F\x98a\xFF",
+        b"\xED\xA0\x80",
+        b"\xE1\x80\xE2\xF0\x91\x92\xF1\xBF\x61",
+    ] {
+        let replaced = String::from_utf8_lossy(text);
+        assert_eq!(
+            table().breaks_in(Profile::First, text).count(),
+            table().breaks(&replaced).count()
+        );
+    }
+}
+
+#[test]
+fn a_copy_goes_on_by_itself_and_the_end_stays() {
+    let table = table();
+    let mut breaks = table.breaks("a b c");
+    breaks.next();
+    let copy = breaks.clone();
+    assert_eq!(shown(&mut breaks), ["4 May 18", "5 Must 3"]);
+    assert_eq!(breaks.next(), None);
+    assert_eq!(breaks.next(), None);
+    assert_eq!(
+        copy.map(|found| found.kind).collect::<Vec<_>>(),
+        [Kind::May, Kind::Must]
+    );
+}
+
+#[test]
+fn the_first_fault_is_named() {
+    let refused = |files| Table::read(files).map(|_| ()).unwrap_err();
+    let fault = refused(Files {
+        line_break: b"0061;AL\nno row\n",
+        ..FILES
+    });
+    assert_eq!(
+        fault,
+        Fault {
+            file: Some(File::LineBreak),
+            line: 2,
+            cause: Cause::RowSyntax
+        }
+    );
+    let fault = refused(Files {
+        category: b"\n\n0061;Xx\n",
+        ..FILES
+    });
+    assert_eq!(
+        fault,
+        Fault {
+            file: Some(File::Category),
+            line: 3,
+            cause: Cause::UnknownValue
+        }
+    );
+    assert_eq!(
+        fault.to_string(),
+        "DerivedGeneralCategory.txt:3: the value is unknown"
+    );
+}
+
+#[test]
+fn a_table_can_be_kept_as_bytes() {
+    let table = table();
+    let again = Table::of_bytes(table.as_bytes()).expect("the bytes are a whole table");
+    assert_eq!(shown(again.breaks("ab cd")), shown(table.breaks("ab cd")));
+    assert!(Table::of_bytes(&table.as_bytes()[1..]).is_none());
+
+    let mut words = vec![0u64; (table.as_bytes().len() + 7) / 8];
+    // SAFETY: the bytes of numbers may be any.
+    let bytes = unsafe {
+        std::slice::from_raw_parts_mut(words.as_mut_ptr() as *mut u8, table.as_bytes().len())
+    };
+    bytes.copy_from_slice(table.as_bytes());
+    assert!(Table::of_bytes(bytes).is_some());
+    bytes[1000] ^= 1;
+    assert!(Table::of_bytes(bytes).is_none());
+}
+
+#[test]
+fn threads_share_a_table() {
+    let table = table();
+    let texts = ["a b", "a\nb", "ab", "a 一"];
+    thread::scope(|scope| {
+        for text in texts {
+            let table = &table;
+            scope.spawn(move || {
+                assert_eq!(
+                    table.breaks(text).last().map(|found| found.at),
+                    Some(text.len())
+                )
+            });
+        }
+    });
+}
