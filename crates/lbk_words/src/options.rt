@@ -29,6 +29,8 @@ Examples:
 
 Exit status: 0 done, 1 a refused file or text, 2 wrong words, 3 a replay with lines that differ or are refused.";
 
+const MARK_ABOUT: &str = "Writes the text with ÷ at each position where a line may end";
+
 const SHOW_ABOUT: &str =
     "Writes a line for each passage: its marks and scalars, and the rule of each position";
 
@@ -37,6 +39,12 @@ const SEGMENT_ABOUT: &str =
 
 const REPLAY_ABOUT: &str =
     "Compares a file of break tests with the rules, and counts what agrees and what differs";
+
+const MARK_AFTER: &str = "\
+Nothing else is changed: where a line must end, the line end of the text shows it. A text that ends without a line
+end gets one. Example:
+  $ printf 'ab cd' | lbk mark FILES
+  ab ÷cd";
 
 const SHOW_AFTER: &str = "\
 A mark stands before and after each scalar: × no break, ÷ a break may be, ! a break must be. Example:
@@ -135,7 +143,7 @@ fn with_files<'a>(alloc: Global, name: &'a str) -> Result<Command<'a>, AllocErro
         .arg(file_option(alloc, "emoji", "emoji-data.txt, the pictographs"))
 }
 
-/// `show` or `segment`.
+/// `mark`, `show` or `segment`.
 fn limited<'a>(alloc: Global, name: &'a str) -> Result<Command<'a>, AllocError>
     ensures app { IfOk result (λ c. app_of c ≡ limited_app name.entry.now) }
     ensures local { IfOk result IsLocal }
@@ -173,6 +181,9 @@ pub fn command<'a>(alloc: Global) -> Result<Command<'a>, AllocError>
     ensures app { IfOk result (λ c. app_of c ≡ lbk_app) }
     ensures local { IfOk result IsLocal }
 {
+    let mark = limited(alloc, "mark")?
+        .about(MARK_ABOUT)
+        .after_help(MARK_AFTER);
     let show = limited(alloc, "show")?
         .about(SHOW_ABOUT)
         .after_help(SHOW_AFTER);
@@ -181,6 +192,7 @@ pub fn command<'a>(alloc: Global) -> Result<Command<'a>, AllocError>
         .after_help(SEGMENT_AFTER);
     let replay = replay(alloc)?.about(REPLAY_ABOUT).after_help(REPLAY_AFTER);
     bare(alloc)?
+        .subcommand(mark)?
         .subcommand(show)?
         .subcommand(segment)?
         .subcommand(replay)
