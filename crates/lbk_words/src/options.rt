@@ -153,13 +153,38 @@ fn limited<'a>(alloc: Global, name: &'a str) -> Result<Command<'a>, AllocError>
         .arg(profile_option(alloc))
 }
 
+fn mark<'a>(alloc: Global) -> Result<Command<'a>, AllocError>
+    ensures app { IfOk result (λ c. app_of c ≡ limited_app (codes "mark")) }
+    ensures local { IfOk result IsLocal }
+{
+    let bare = limited(alloc, "mark")?;
+    Ok(bare.about(MARK_ABOUT).after_help(MARK_AFTER))
+}
+
+fn show<'a>(alloc: Global) -> Result<Command<'a>, AllocError>
+    ensures app { IfOk result (λ c. app_of c ≡ limited_app (codes "show")) }
+    ensures local { IfOk result IsLocal }
+{
+    let bare = limited(alloc, "show")?;
+    Ok(bare.about(SHOW_ABOUT).after_help(SHOW_AFTER))
+}
+
+fn segment<'a>(alloc: Global) -> Result<Command<'a>, AllocError>
+    ensures app { IfOk result (λ c. app_of c ≡ limited_app (codes "segment")) }
+    ensures local { IfOk result IsLocal }
+{
+    let bare = limited(alloc, "segment")?;
+    Ok(bare.about(SEGMENT_ABOUT).after_help(SEGMENT_AFTER))
+}
+
 fn replay<'a>(alloc: Global) -> Result<Command<'a>, AllocError>
     ensures app { IfOk result (λ c. app_of c ≡ replay_app) }
     ensures local { IfOk result IsLocal }
 {
-    with_files(alloc, "replay")?
+    let bare = with_files(alloc, "replay")?
         .arg(kinds_option(alloc))?
-        .arg(profile_option(alloc))
+        .arg(profile_option(alloc))?;
+    Ok(bare.about(REPLAY_ABOUT).after_help(REPLAY_AFTER))
 }
 
 /// The program with no subcommand yet.
@@ -181,16 +206,10 @@ pub fn command<'a>(alloc: Global) -> Result<Command<'a>, AllocError>
     ensures app { IfOk result (λ c. app_of c ≡ lbk_app) }
     ensures local { IfOk result IsLocal }
 {
-    let mark = limited(alloc, "mark")?
-        .about(MARK_ABOUT)
-        .after_help(MARK_AFTER);
-    let show = limited(alloc, "show")?
-        .about(SHOW_ABOUT)
-        .after_help(SHOW_AFTER);
-    let segment = limited(alloc, "segment")?
-        .about(SEGMENT_ABOUT)
-        .after_help(SEGMENT_AFTER);
-    let replay = replay(alloc)?.about(REPLAY_ABOUT).after_help(REPLAY_AFTER);
+    let mark = mark(alloc)?;
+    let show = show(alloc)?;
+    let segment = segment(alloc)?;
+    let replay = replay(alloc)?;
     bare(alloc)?
         .subcommand(mark)?
         .subcommand(show)?
