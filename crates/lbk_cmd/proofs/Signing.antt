@@ -1,5 +1,5 @@
 -- A passage's text with its signs, segment by segment, is that of its marks.
-use Rattle.std.proofs.Common.{◌≡◌, ℕ, ◌+◌, ◌-◌, ◌≤◌, List, [], ◌∷◌, ◌++◌, length, drop, take, None, Some, Option, append_assoc, append-nil, refl, sym, ap, ap₂, subst, ◌∙◌, arith, length-append, encode_utf8, encode_utf8_all, chars}
+use Rattle.std.proofs.Common.{◌≡◌, ℕ, ◌+◌, ◌-◌, ◌≤◌, List, [], ◌∷◌, ◌++◌, length, drop, take, None, Some, Option, Result, Ok, Bool, append_assoc, append-nil, refl, sym, ap, ap₂, subst, ◌∙◌, arith, length-append, encode_utf8, encode_utf8_all, chars}
 use Rattle.std.specs.Prelude.{slice_range, if◌then◌else◌}
 use Rattle.std.specs.List.{flat_map, last_or}
 use Rattle.std.specs.Str.{IsUtf8}
@@ -12,7 +12,8 @@ use Rattle.lbk_rules.specs.Breaks.{is_no}
 use Rattle.lbk_passage.specs.Marks.{Marked, scalars_of, text_of}
 use Rattle.lbk_passage.specs.Segments.{segment_by, segments_from, segments_of}
 use Rattle.lbk_passage.specs.State.{State}
-use Rattle.lbk_passage.specs.Next.{IsPassage}
+use Rattle.lbk_passage.specs.Next.{AfterNext, IsPassage}
+use Rattle.lbk_passage.specs.declared.faults.PassageFault.{PassageFault}
 use Rattle.lbk_passage.specs.declared.passage.Passage.{Passage}
 use Rattle.lbk_passage.specs.declared.passage.Segment.{Segment}
 use Rattle.lbk_cmd.specs.Mark.{missing_line_end, sign, signed, signed_passage}
@@ -85,3 +86,10 @@ module _ (s : State) (ms : List Marked) (p : Passage) (of : IsPassage s ms p) wh
       ap₂ (λ l cs. l ++ missing_line_end cell cs)
       (ap (signed_from p.text.now 0) of.segments ∙ signed-is ms [] [] p.text.now 0 0 of.text refl refl)
       (sym (chars_from_encodes (scalars_of ms) p.text.now of.utf8 (sym of.text)))
+
+-- so do those of a passage that a segmenter lent
+pub lent_cut : (s t : State) (u v : Option (List ℕ)) (e1 e2 : Bool) (r1 r2 : ℕ) (r : Result (Option Passage) PassageFault) (p : Passage)
+    → r ≡ Ok (Some p) → AfterNext s t u v e1 e2 r1 r2 r → IsCut 0 (length p.text.now) p.segments.now
+lent_cut s t u v e1 e2 r1 r2 r p was after =
+    let lent = (subst (λ (a : Result (Option Passage) PassageFault). AfterNext s t u v e1 e2 r1 r2 a) was after).answer in
+    passage_cut s lent.marks p lent.passage

@@ -57,7 +57,7 @@ fn sign(kind: Kind) -> &'static str
 fn ends_in_line_end<C: CellSource>(cells: &C, text: &str) -> bool
     ensures { result ≡ option_map_or (λ c. is_line_end (C.cell_of cells.now c)) (last_or None (chars text.now)) false }
 {
-    match text.chars().next_back() {
+    match text.chars().last() {
         Some(last) => is_line_end(cells.cell(last)),
         None => false,
     }
