@@ -1,0 +1,9 @@
+//! Tests of the command, and the file that the guide shows. Most are tables of rows with answers from outside.
+#![tactic(auto)]
+
+#[cfg(test)]
+mod command_rows;
+#[cfg(test)]
+mod commands;
+#[cfg(test)]
+mod guide;
