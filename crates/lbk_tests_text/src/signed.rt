@@ -86,7 +86,7 @@ fn refusals(rt: HostRuntime) -> Result<(), Fail> {
         ),
         (b"a\n\xFF", 9, PassageFault::NotUtf8 { at: 2 }, ""),
         (
-            b"a b\nabcd",
+            b"a b\nabcde",
             4,
             PassageFault::ParagraphTooLong { start: 4 },
             "a ÷b\n",
@@ -99,7 +99,7 @@ fn refusals(rt: HostRuntime) -> Result<(), Fail> {
         assert_eq!(rt; answer, Err(CmdFault::Passage(fault)), "{text:?}");
         assert_eq!(rt; sink.bytes(), out.as_bytes(), "{text:?}");
     }
-    for (read, out) in [(0, ""), (3, ""), (5, "a ÷b\n"), (6, "a ÷b\n")] {
+    for (read, out) in [(0, ""), (3, ""), (4, ""), (5, "a ÷b\n")] {
         let mut source = MemorySource::cut(b"a b\nc", &[1]).failing_at(read);
         let mut sink = MemorySink::new(alloc, ROOM)?;
         let answer = mark(alloc, &mut source, &mut sink, &cells, 9, Profile::First);
