@@ -177,6 +177,28 @@ static void try_faults(void)
     }
 }
 
+/* Files at their greatest sizes, and past them. */
+static void try_sizes(void)
+{
+    enum { MOST_BYTES = 8388608, MOST_ROWS = 65536 };
+    static char file[MOST_BYTES + 1];
+    static lbk_table read;
+    memset(file, '\n', sizeof file);
+    lbk_fault fault = lbk_read(&read, NULL, 0, NULL, 0, NULL, 0, file, MOST_BYTES);
+    told("a file of the greatest size", fault.cause == LBK_CAUSE_NONE);
+    fault = lbk_read(&read, NULL, 0, NULL, 0, NULL, 0, file, MOST_BYTES + 1);
+    told("a file past it", fault.file == LBK_EMOJI && fault.line == 0 && fault.cause == LBK_CAUSE_FILE_TOO_LONG);
+    size_t size = 0, most = 0;
+    for (unsigned code = 0; code <= MOST_ROWS; code++) {
+        most = size;
+        size += (size_t)snprintf(file + size, sizeof file - size, "%04X;W\n", code);
+    }
+    fault = lbk_read(&read, NULL, 0, file, most, NULL, 0, NULL, 0);
+    told("the greatest number of rows", fault.cause == LBK_CAUSE_NONE);
+    fault = lbk_read(&read, NULL, 0, file, size, NULL, 0, NULL, 0);
+    told("a row past it", fault.file == LBK_EAST_ASIAN && fault.line == MOST_ROWS + 1 && fault.cause == LBK_CAUSE_TOO_MANY_ROWS);
+}
+
 static void try_tables(void)
 {
     static lbk_table copy;
@@ -203,9 +225,16 @@ static void try_tables(void)
 
 static void try_labels(void)
 {
-    static const char *const labels[LBK_RULES] = {"2", "3", "4", "5", "6", "7", "8", "8a", "9", "11", "12", "12a", "13",
-        "14", "15", "15a", "15b", "16", "17", "18", "19", "20", "21", "21a", "21b", "22", "23", "23a", "24", "25", "26", "27",
-        "28", "29", "30", "30a", "30b", "31"};
+    static const char *const labels[LBK_RULES] = {
+        [LBK_RULE_2] = "2", [LBK_RULE_3] = "3", [LBK_RULE_4] = "4", [LBK_RULE_5] = "5", [LBK_RULE_6] = "6",
+        [LBK_RULE_7] = "7", [LBK_RULE_8] = "8", [LBK_RULE_8A] = "8a", [LBK_RULE_9] = "9", [LBK_RULE_11] = "11",
+        [LBK_RULE_12] = "12", [LBK_RULE_12A] = "12a", [LBK_RULE_13] = "13", [LBK_RULE_14] = "14", [LBK_RULE_15] = "15",
+        [LBK_RULE_15A] = "15a", [LBK_RULE_15B] = "15b", [LBK_RULE_16] = "16", [LBK_RULE_17] = "17", [LBK_RULE_18] = "18",
+        [LBK_RULE_19] = "19", [LBK_RULE_20] = "20", [LBK_RULE_21] = "21", [LBK_RULE_21A] = "21a", [LBK_RULE_21B] = "21b",
+        [LBK_RULE_22] = "22", [LBK_RULE_23] = "23", [LBK_RULE_23A] = "23a", [LBK_RULE_24] = "24", [LBK_RULE_25] = "25",
+        [LBK_RULE_26] = "26", [LBK_RULE_27] = "27", [LBK_RULE_28] = "28", [LBK_RULE_29] = "29", [LBK_RULE_30] = "30",
+        [LBK_RULE_30A] = "30a", [LBK_RULE_30B] = "30b", [LBK_RULE_31] = "31"
+    };
     static const char none[4];
     for (unsigned rule = 0; rule <= UINT8_MAX; rule++) {
         lbk_rule_label label = lbk_label((uint8_t)rule), wanted = {{0}};
@@ -224,6 +253,7 @@ int main(void)
     try_profiles();
     try_ill_formed();
     try_faults();
+    try_sizes();
     try_tables();
     try_labels();
     printf("%u passed, %u failed\n", passed, failed);

@@ -1,94 +1,131 @@
 //! The machines and the breaks of texts say of every short list of cells what the evaluator says.
 
-use lbk_breaks::{Break, Breaks};
-use lbk_rules::{
-    Cell, CellPages, CellSource, Class, Kind, LateMachine, Machine, Profile, Quote, Stepper,
-    Verdict, decide, decide_in,
+use crate::calls::{
+    cell_of, decided, decided_in, has_step_table, late_step, pages_of, start_late, step, step_over,
+    stepper, tables_of,
 };
+use lbk_breaks::{Break, Breaks};
+use lbk_rules::{Cell, CellPages, Class, Kind, Machine, Out, Profile, Quote, Verdict};
 use lbk_tests_rows::cells::{mark, pictograph, plain, wide};
 use lbk_tests_rows::property_files::SAMPLES;
-use lbk_ucd::{Files, Tables};
+use lbk_ucd::Files;
 use std::alloc::{AllocError, Global};
 use std::process::Abort;
 use std::test::Fail;
 
-const CLASSES: [Class; 38] = [
-    Class::Alphabetic,
-    Class::BreakBoth,
-    Class::BreakAfter,
-    Class::BreakBefore,
-    Class::MandatoryBreak,
-    Class::ContingentBreak,
-    Class::ClosePunctuation,
-    Class::CombiningMark,
-    Class::CloseParenthesis,
-    Class::CarriageReturn,
-    Class::EBase,
-    Class::EModifier,
-    Class::Exclamation,
-    Class::Glue,
-    Class::H2,
-    Class::H3,
-    Class::HebrewLetter,
-    Class::Hyphen,
-    Class::Ideographic,
-    Class::Inseparable,
-    Class::InfixNumeric,
-    Class::JL,
-    Class::JT,
-    Class::JV,
-    Class::LineFeed,
-    Class::NextLine,
-    Class::Nonstarter,
-    Class::Numeric,
-    Class::OpenPunctuation,
-    Class::PostfixNumeric,
-    Class::PrefixNumeric,
-    Class::Quotation,
-    Class::RegionalIndicator,
-    Class::Space,
-    Class::BreakSymbols,
-    Class::WordJoiner,
-    Class::ZWSpace,
-    Class::ZWJ,
+/// A scalar and its cell.
+type Scalar = (char, Cell);
+
+/// A scalar of each class, without flags.
+const CLASSES: [(char, Class); 38] = [
+    ('\u{100}', Class::Alphabetic),
+    ('\u{101}', Class::BreakBoth),
+    ('\u{102}', Class::BreakAfter),
+    ('\u{103}', Class::BreakBefore),
+    ('\u{104}', Class::MandatoryBreak),
+    ('\u{105}', Class::ContingentBreak),
+    ('\u{106}', Class::ClosePunctuation),
+    ('\u{107}', Class::CombiningMark),
+    ('\u{108}', Class::CloseParenthesis),
+    ('\u{109}', Class::CarriageReturn),
+    ('\u{10A}', Class::EBase),
+    ('\u{10B}', Class::EModifier),
+    ('\u{10C}', Class::Exclamation),
+    ('\u{10D}', Class::Glue),
+    ('\u{10E}', Class::H2),
+    ('\u{10F}', Class::H3),
+    ('\u{110}', Class::HebrewLetter),
+    ('\u{111}', Class::Hyphen),
+    ('\u{112}', Class::Ideographic),
+    ('\u{113}', Class::Inseparable),
+    ('\u{114}', Class::InfixNumeric),
+    ('\u{115}', Class::JL),
+    ('\u{116}', Class::JT),
+    ('\u{117}', Class::JV),
+    ('\u{118}', Class::LineFeed),
+    ('\u{119}', Class::NextLine),
+    ('\u{11A}', Class::Nonstarter),
+    ('\u{11B}', Class::Numeric),
+    ('\u{11C}', Class::OpenPunctuation),
+    ('\u{11D}', Class::PostfixNumeric),
+    ('\u{11E}', Class::PrefixNumeric),
+    ('\u{11F}', Class::Quotation),
+    ('\u{120}', Class::RegionalIndicator),
+    ('\u{121}', Class::Space),
+    ('\u{122}', Class::BreakSymbols),
+    ('\u{123}', Class::WordJoiner),
+    ('\u{124}', Class::ZWSpace),
+    ('\u{125}', Class::ZWJ),
 ];
 
-/// The classes without flags, and one cell for each flag that a rule asks of, but for quotation marks.
-fn all_cells(alloc: Global) -> Result<Vec<Cell>, AllocError> {
-    let mut cells = Vec::new(alloc);
-    for class in CLASSES {
-        cells.push(plain(class))?;
+/// One cell for each flag that a rule asks of.
+fn flagged() -> [Scalar; 5] {
+    [
+        ('\u{126}', wide(Class::OpenPunctuation)),
+        ('\u{127}', wide(Class::CloseParenthesis)),
+        ('\u{128}', pictograph()),
+        ('\u{129}', mark(Quote::Initial)),
+        ('\u{12A}', mark(Quote::Final)),
+    ]
+}
+
+/// All these.
+fn each_once(alloc: Global) -> Result<Vec<Scalar>, AllocError> {
+    let mut scalars = Vec::new(alloc);
+    for (c, class) in CLASSES {
+        scalars.push((c, plain(class)))?;
     }
-    cells.push(wide(Class::OpenPunctuation))?;
-    cells.push(wide(Class::CloseParenthesis))?;
-    cells.push(pictograph())?;
-    Ok(cells)
+    scalars.extend_from_slice(&flagged())?;
+    Ok(scalars)
+}
+
+/// All texts of three of these scalars.
+fn triples(alloc: Global, scalars: &[Scalar]) -> Result<Vec<[Scalar; 3]>, AllocError> {
+    let mut texts = Vec::new(alloc);
+    for first in scalars {
+        for second in scalars {
+            for third in scalars {
+                texts.push([*first, *second, *third])?;
+            }
+        }
+    }
+    Ok(texts)
+}
+
+/// All texts of three of all these.
+fn texts_of_three(rt: &impl Abort, alloc: Global) -> Result<Vec<[Scalar; 3]>, AllocError> {
+    let texts = triples(alloc, &each_once(alloc)?)?;
+    assert!(rt; texts.len() == 79_507, "43 scalars, and no less");
+    Ok(texts)
+}
+
+fn cells_of_three(text: &[Scalar; 3]) -> [Cell; 3] {
+    [text[0].1, text[1].1, text[2].1]
+}
+
+fn same(rt: &impl Abort, found: Option<Verdict>, want: Verdict, k: usize, cells: &[Cell; 3]) {
+    assert!(rt; found == Some(want), "{found:?} at {k} of {cells:?}");
 }
 
 fn check_machine(rt: &impl Abort, cells: &[Cell; 3]) {
     let mut machine = Machine::start();
-    for (k, cell) in cells.iter().enumerate() {
-        assert_eq!(rt; machine.step(*cell), decide(cells, k), "{k} of {cells:?}");
+    for k in 0..3 {
+        let found = step(&mut machine, cells[k]);
+        same(rt, Some(found), decided(rt, cells, k), k, cells);
     }
-    assert_eq!(rt; machine.finish(), decide(cells, 3), "the end of {cells:?}");
+    same(rt, Some(machine.finish()), decided(rt, cells, 3), 3, cells);
 }
 
 #[test]
 fn machine(rt: HostRuntime) -> Result<(), Fail> {
-    let cells = all_cells(rt.alloc())?;
-    assert_eq!(rt; cells.len(), 41);
-    for first in &cells {
-        for second in &cells {
-            for third in &cells {
-                check_machine(&rt, &[*first, *second, *third]);
-            }
-        }
+    for text in &texts_of_three(&rt, rt.alloc())? {
+        check_machine(&rt, &cells_of_three(text));
     }
     Ok(())
 }
 
 /// The verdicts that have come, by their positions.
-#[derive(Clone, Copy)]
+#[derive(Drop)]
 struct Answers([Option<Verdict>; 4]);
 
 impl Answers {
@@ -98,54 +135,54 @@ impl Answers {
         assert!(rt; slot.is_none(), "twice at position {position}");
         *slot = Some(verdict);
     }
+
+    fn add_late(&mut self, rt: &impl Abort, late: Option<(u64, Verdict)>) {
+        if let Some((position, verdict)) = late {
+            self.add(rt, position, verdict);
+        }
+    }
+
+    fn add_step(&mut self, rt: &impl Abort, position: u64, out: Out) {
+        self.add_late(rt, out.late);
+        if let Some(verdict) = out.now {
+            self.add(rt, position, verdict);
+        }
+    }
+}
+
+/// What the late machine answers, of each position once.
+fn late_answers(rt: &impl Abort, profile: Profile, cells: &[Cell; 3]) -> Answers {
+    let mut machine = start_late(profile);
+    let mut answers = Answers([None; 4]);
+    for k in 0..3u64 {
+        let out = late_step(rt, &mut machine, k, cells[k as usize]);
+        answers.add_step(rt, k, out);
+    }
+    let end = machine.finish();
+    answers.add_late(rt, end.late);
+    answers.add(rt, 3, end.end);
+    answers
 }
 
 fn check_late_machine(rt: &impl Abort, profile: Profile, cells: &[Cell; 3]) {
-    let mut machine = LateMachine::start(profile);
-    let mut answers = Answers([None; 4]);
-    for (k, cell) in (0u64..).zip(cells) {
-        assert_eq!(rt; machine.steps(), k);
-        let out = machine.step(*cell);
-        if let Some((position, verdict)) = out.late {
-            answers.add(rt, position, verdict);
-        }
-        if let Some(verdict) = out.now {
-            answers.add(rt, k, verdict);
-        }
-    }
-    let end = machine.finish();
-    if let Some((position, verdict)) = end.late {
-        answers.add(rt, position, verdict);
-    }
-    answers.add(rt, 3, end.end);
-    for (k, answer) in answers.0.iter().enumerate() {
-        assert_eq!(rt;
-            *answer,
-            Some(decide_in(profile, cells, k)),
-            "{k} of {cells:?}"
+    let answers = late_answers(rt, profile, cells);
+    for k in 0..4 {
+        same(
+            rt,
+            answers.0[k],
+            decided_in(rt, profile, cells, k),
+            k,
+            cells,
         );
     }
 }
 
-/// All these, and the quotation marks that open and close.
-fn all_cells_and_marks(alloc: Global) -> Result<Vec<Cell>, AllocError> {
-    let mut cells = all_cells(alloc)?;
-    cells.push(mark(Quote::Initial))?;
-    cells.push(mark(Quote::Final))?;
-    Ok(cells)
-}
-
 #[test]
 fn late_machine(rt: HostRuntime) -> Result<(), Fail> {
-    let cells = all_cells_and_marks(rt.alloc())?;
-    assert_eq!(rt; cells.len(), 43);
-    for first in &cells {
-        for second in &cells {
-            for third in &cells {
-                check_late_machine(&rt, Profile::First, &[*first, *second, *third]);
-                check_late_machine(&rt, Profile::Second, &[*first, *second, *third]);
-            }
-        }
+    for text in &texts_of_three(&rt, rt.alloc())? {
+        let cells = cells_of_three(text);
+        check_late_machine(&rt, Profile::First, &cells);
+        check_late_machine(&rt, Profile::Second, &cells);
     }
     Ok(())
 }
@@ -202,59 +239,73 @@ const EACH_ONCE: Files<'static> = Files {
     emoji: b"0128;Extended_Pictographic\n",
 };
 
+/// Compares answers of a stepper and of the late machine.
+fn same_out(rt: &impl Abort, found: Out, want: Out, k: u64, text: &[Scalar; 3]) {
+    assert!(rt; found == want, "{found:?} at {k} of {text:?}");
+}
+
 /// Steps over the scalars of a text by pages and over its cells by the rules, and compares.
-fn check_stepper(rt: &impl Abort, pages: &CellPages, profile: Profile, text: &[(char, Cell); 3]) {
-    let mut stepper = Stepper::start(pages, profile);
-    let mut machine = LateMachine::start(profile);
-    for (k, (c, cell)) in (0u64..).zip(text) {
-        assert_eq!(rt; machine.steps(), k);
-        let out = machine.step(*cell);
-        assert_eq!(rt; stepper.step(*c), out, "{c:?} of {text:?}, {profile:?}");
+fn check_stepper(rt: &impl Abort, pages: &CellPages, profile: Profile, text: &[Scalar; 3]) {
+    let mut stepper = stepper(pages, profile);
+    let mut machine = start_late(profile);
+    for k in 0..3u64 {
+        let (c, cell) = text[k as usize];
+        let want = late_step(rt, &mut machine, k, cell);
+        same_out(rt, step_over(&mut stepper, c), want, k, text);
     }
-    assert_eq!(rt;
-        stepper.finish(),
-        machine.finish(),
-        "the end of {text:?}, {profile:?}"
-    );
+    assert!(rt; stepper.finish() == machine.finish(), "the end of {text:?}");
 }
 
-/// All texts of three of these scalars, in both profiles.
-fn check_steppers(rt: &impl Abort, pages: &CellPages, scalars: &[(char, Cell)]) {
-    for first in scalars {
-        for second in scalars {
-            for third in scalars {
-                let text = [*first, *second, *third];
-                check_stepper(rt, pages, Profile::First, &text);
-                check_stepper(rt, pages, Profile::Second, &text);
-            }
-        }
+/// Texts in both profiles.
+fn check_steppers(rt: &impl Abort, pages: &CellPages, texts: &[[Scalar; 3]]) {
+    for text in texts {
+        check_stepper(rt, pages, Profile::First, text);
+        check_stepper(rt, pages, Profile::Second, text);
     }
 }
 
-/// The scalars of these files, with their cells, which the pages have.
-fn each_once(
+/// The pages of these files, which have the cells of these scalars, and a table of steps.
+fn pages_with(
     rt: &impl Abort,
     alloc: Global,
-    pages: &CellPages,
-) -> Result<Vec<(char, Cell)>, AllocError> {
-    let cells = all_cells_and_marks(alloc)?;
-    let mut scalars = Vec::new(alloc);
-    for (c, cell) in ('\u{100}'..'\u{12B}').zip(&cells) {
-        assert_eq!(rt; pages.cell(c), *cell, "{c:?}");
-        scalars.push((c, *cell))?;
+    files: Files<'_>,
+    scalars: &[Scalar],
+) -> Result<CellPages, Fail> {
+    let tables = tables_of(alloc, files)?;
+    let pages = pages_of(alloc, &tables)?;
+    assert!(rt; has_step_table(&pages));
+    for (c, cell) in scalars {
+        assert!(rt; cell_of(&pages, *c) == *cell, "{c:?}");
     }
-    assert_eq!(rt; scalars.len(), 43);
-    Ok(scalars)
+    Ok(pages)
 }
 
 #[test]
 fn stepper_by_rows(rt: HostRuntime) -> Result<(), Fail> {
-    let tables = Tables::read(rt.alloc(), EACH_ONCE)?;
-    let pages = CellPages::build(rt.alloc(), &tables)?;
-    assert!(rt; pages.step_table().is_some());
-    let scalars = each_once(&rt, rt.alloc(), &pages)?;
-    check_steppers(&rt, &pages, &scalars);
+    let pages = pages_with(&rt, rt.alloc(), EACH_ONCE, &each_once(rt.alloc())?)?;
+    let texts = texts_of_three(&rt, rt.alloc())?;
+    check_steppers(&rt, &pages, &texts);
     Ok(())
+}
+
+/// A text of three scalars.
+fn text_of_three(alloc: Global, text: &[Scalar; 3]) -> Result<String, AllocError> {
+    let mut three = String::new(alloc);
+    for (c, _) in text {
+        three.push(*c)?;
+    }
+    Ok(three)
+}
+
+/// The next break is this.
+fn check_next(
+    rt: &impl Abort,
+    breaks: &mut Breaks<'_, CellPages>,
+    want: Option<Break>,
+    text: &[Scalar; 3],
+) {
+    let found = breaks.next();
+    assert!(rt; found == want, "{found:?} of {text:?}");
 }
 
 /// Finds the breaks of a text of three scalars of two bytes each, and compares them with what the rules say of its
@@ -264,50 +315,34 @@ fn check_breaks(
     alloc: Global,
     pages: &CellPages,
     profile: Profile,
-    scalars: &[(char, Cell); 3],
+    scalars: &[Scalar; 3],
 ) -> Result<(), AllocError> {
-    let [(a, first), (b, second), (c, third)] = *scalars;
-    let cells = [first, second, third];
-    let mut text = String::new(alloc);
-    text.push(a)?;
-    text.push(b)?;
-    text.push(c)?;
+    let cells = cells_of_three(scalars);
+    let text = text_of_three(alloc, scalars)?;
     let mut breaks = Breaks::new(pages, text.as_str(), profile);
-    for k in 1..=3 {
-        let Verdict { kind, rule } = decide_in(profile, &cells, k);
+    for k in 1..4 {
+        let Verdict { kind, rule } = decided_in(rt, profile, &cells, k);
         if kind != Kind::No {
-            let want = Break {
-                at: 2 * k,
-                kind,
-                rule,
-            };
-            assert_eq!(rt; breaks.next(), Some(want), "{scalars:?}, {profile:?}");
+            let at = 2 * k;
+            check_next(rt, &mut breaks, Some(Break { at, kind, rule }), scalars);
         }
     }
-    assert_eq!(rt; breaks.next(), None, "{scalars:?}, {profile:?}");
+    check_next(rt, &mut breaks, None, scalars);
     Ok(())
 }
 
 #[test]
 fn breaks_by_rows(rt: HostRuntime) -> Result<(), Fail> {
-    let tables = Tables::read(rt.alloc(), EACH_ONCE)?;
-    let pages = CellPages::build(rt.alloc(), &tables)?;
-    assert!(rt; pages.step_table().is_some());
-    let scalars = each_once(&rt, rt.alloc(), &pages)?;
-    for first in &scalars {
-        for second in &scalars {
-            for third in &scalars {
-                let text = [*first, *second, *third];
-                check_breaks(&rt, rt.alloc(), &pages, Profile::First, &text)?;
-                check_breaks(&rt, rt.alloc(), &pages, Profile::Second, &text)?;
-            }
-        }
+    let pages = pages_with(&rt, rt.alloc(), EACH_ONCE, &each_once(rt.alloc())?)?;
+    for text in &texts_of_three(&rt, rt.alloc())? {
+        check_breaks(&rt, rt.alloc(), &pages, Profile::First, text)?;
+        check_breaks(&rt, rt.alloc(), &pages, Profile::Second, text)?;
     }
     Ok(())
 }
 
 /// Scalars of the sample files, with cells that have nothing that no rule asks of them.
-fn sample_scalars() -> [(char, Cell); 15] {
+fn sample_scalars() -> [Scalar; 15] {
     [
         ('\0', plain(Class::Alphabetic)),
         ('a', plain(Class::Alphabetic)),
@@ -330,11 +365,9 @@ fn sample_scalars() -> [(char, Cell); 15] {
 // What no rule asks of a cell, as whether a letter is one or an ideograph is wide, changes no answer.
 #[test]
 fn stepper_asks_what_rules_ask(rt: HostRuntime) -> Result<(), Fail> {
-    let tables = Tables::read(rt.alloc(), SAMPLES)?;
-    let pages = CellPages::build(rt.alloc(), &tables)?;
-    assert!(rt; pages.step_table().is_some());
-    let scalars = sample_scalars();
-    assert!(rt; pages.cell('a') != plain(Class::Alphabetic));
-    check_steppers(&rt, &pages, &scalars);
+    let pages = pages_with(&rt, rt.alloc(), SAMPLES, &[])?;
+    assert!(rt; cell_of(&pages, 'a') != plain(Class::Alphabetic));
+    let texts = triples(rt.alloc(), &sample_scalars())?;
+    check_steppers(&rt, &pages, &texts);
     Ok(())
 }

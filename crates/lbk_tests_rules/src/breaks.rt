@@ -1,12 +1,12 @@
 //! The breaks of texts in memory over the sample files, in both profiles, from sources with and without a table of
 //! steps and in blocks of all sizes.
 
+use crate::calls::{decided_in, has_step_table, pages_of, same, tables_of};
 use lbk_breaks::{Break, Breaks};
-use lbk_rules::{AheadMachine, CellPages, CellSource, Kind, Profile, Rule, decide_in};
+use lbk_rules::{CellSource, Kind, Profile, Rule, Verdict};
 use lbk_tests_rows::cells::cells_of;
 use lbk_tests_rows::property_files::SAMPLES;
 use lbk_tests_rows::texts::{FIRST, SECOND};
-use lbk_ucd::Tables;
 use std::alloc::{AllocError, Global};
 use std::fmt::Write;
 use std::process::Abort;
@@ -51,9 +51,17 @@ const NO_BREAK: Break = Break {
 /// The sizes of blocks.
 const SIZES: [usize; 4] = [1, 2, 3, 1024];
 
+/// The breaks of the next block, of which there are none after the last.
+fn next_block<'b, C: CellSource>(
+    breaks: &mut Breaks<'_, C>,
+    block: &'b mut [Break],
+) -> &'b [Break] {
+    let count = breaks.fill(block);
+    block.get(..count).unwrap_or(&[])
+}
+
 /// All breaks, by blocks of this size. A call after the last gives none.
 fn by_blocks<C: CellSource>(
-    rt: &impl Abort,
     alloc: Global,
     source: &C,
     profile: Profile,
@@ -64,20 +72,43 @@ fn by_blocks<C: CellSource>(
     let mut block = vec![in alloc; NO_BREAK; size]?;
     let mut found = Vec::new(alloc);
     for _ in 0..text.len() + 1 {
-        let count = breaks.fill(&mut block);
-        if count == 0 {
-            break;
-        }
-        for one in block.iter().take(count) {
-            found.push(*one)?;
-        }
+        found.extend_from_slice(next_block(&mut breaks, &mut block))?;
     }
-    assert_eq!(rt; breaks.fill(&mut block), 0);
     Ok(found)
+}
+
+fn one_by_one<C: CellSource>(
+    alloc: Global,
+    source: &C,
+    profile: Profile,
+    text: &str,
+) -> Result<Vec<Break>, AllocError> {
+    Breaks::new(source, text, profile).collect(alloc)
+}
+
+/// The bytes behind each scalar of a text.
+fn lengths_left(alloc: Global, text: &str) -> Result<Vec<usize>, AllocError> {
+    let mut lengths = Vec::new(alloc);
+    let mut rest = text.chars();
+    for _ in text.chars() {
+        let _ = rest.next();
+        lengths.push(rest.as_str().len())?;
+    }
+    Ok(lengths)
+}
+
+/// Adds the break at this byte, unless the verdict is No.
+fn push_break(found: &mut Vec<Break>, at: usize, verdict: Verdict) -> Result<(), AllocError> {
+    let Verdict { kind, rule } = verdict;
+    if kind != Kind::No {
+        found.push(Break { at, kind, rule })?;
+    }
+    Ok(())
 }
 
 /// The positions after the first that are not No, by the plain rules.
 fn by_rules<C: CellSource>(
+    rt: &impl Abort,
     alloc: Global,
     source: &C,
     profile: Profile,
@@ -85,17 +116,11 @@ fn by_rules<C: CellSource>(
 ) -> Result<Vec<Break>, AllocError> {
     let cells = cells_of(alloc, source, text)?;
     let mut found = Vec::new(alloc);
-    let mut rest = text.chars();
-    for k in 1..cells.len() + 1 {
-        let _ = rest.next();
-        let verdict = decide_in(profile, &cells, k);
-        if verdict.kind != Kind::No {
-            found.push(Break {
-                at: text.len().saturating_sub(rest.as_str().len()),
-                kind: verdict.kind,
-                rule: verdict.rule,
-            })?;
-        }
+    let mut k = 0usize;
+    for left in &lengths_left(alloc, text)? {
+        k = k.saturating_add(1);
+        let at = text.len().saturating_sub(*left);
+        push_break(&mut found, at, decided_in(rt, profile, &cells, k))?;
     }
     Ok(found)
 }
@@ -109,6 +134,28 @@ fn shown(alloc: Global, breaks: &[Break]) -> Result<String, AllocError> {
     Ok(shown)
 }
 
+fn same_breaks(rt: &impl Abort, found: &[Break], want: &[Break], size: usize, text: &str) {
+    assert!(rt; found == want, "by {size}: {text:?}");
+}
+
+/// The breaks of a text by the rules, with which those in blocks of all sizes are compared, and those one by one.
+fn agreed<C: CellSource>(
+    rt: &impl Abort,
+    alloc: Global,
+    source: &C,
+    profile: Profile,
+    text: &str,
+) -> Result<Vec<Break>, AllocError> {
+    let want = by_rules(rt, alloc, source, profile, text)?;
+    for size in SIZES {
+        let found = by_blocks(alloc, source, profile, text, size)?;
+        same_breaks(rt, &found, &want, size, text);
+    }
+    let found = one_by_one(alloc, source, profile, text)?;
+    same_breaks(rt, &found, &want, 0, text);
+    Ok(want)
+}
+
 fn check<C: CellSource>(
     rt: &impl Abort,
     alloc: Global,
@@ -117,14 +164,9 @@ fn check<C: CellSource>(
     rows: &[Row],
 ) -> Result<(), AllocError> {
     for (text, want) in rows {
-        for size in SIZES {
-            let found = by_blocks(rt, alloc, source, profile, text, size)?;
-            let found = shown(alloc, &found)?;
-            assert_eq!(rt; found.as_str(), *want, "{profile:?}, {size}: {text:?}");
-        }
-        let one_by_one: Vec<Break> = Breaks::new(source, text, profile).collect(alloc)?;
-        let found = shown(alloc, &one_by_one)?;
-        assert_eq!(rt; found.as_str(), *want, "{profile:?}, one by one: {text:?}");
+        let found = agreed(rt, alloc, source, profile, text)?;
+        let found = shown(alloc, &found)?;
+        same(rt, found.as_str(), want, "breaks", text);
     }
     Ok(())
 }
@@ -135,23 +177,29 @@ fn check_agreement<C: CellSource>(
     alloc: Global,
     source: &C,
     profile: Profile,
-    rows: &[(&str, &str)],
+    rows: &[Row],
 ) -> Result<(), AllocError> {
     let mut joined = String::new(alloc);
     for (text, _) in rows {
         joined.push_str(text)?;
-        let want = by_rules(alloc, source, profile, text)?;
-        for size in SIZES {
-            let found = by_blocks(rt, alloc, source, profile, text, size)?;
-            assert_eq!(rt; found, want, "{profile:?}, {size}: {text:?}");
-        }
+        let _ = agreed(rt, alloc, source, profile, text)?;
     }
-    let want = by_rules(alloc, source, profile, joined.as_str())?;
-    for size in SIZES {
-        let found = by_blocks(rt, alloc, source, profile, joined.as_str(), size)?;
-        assert_eq!(rt; found, want, "{profile:?}, {size}: the texts joined");
-    }
+    let _ = agreed(rt, alloc, source, profile, joined.as_str())?;
     Ok(())
+}
+
+/// The rows of both profiles, and those of one.
+fn check_profile<C: CellSource>(
+    rt: &impl Abort,
+    alloc: Global,
+    source: &C,
+    profile: Profile,
+    rows: &[Row],
+) -> Result<(), AllocError> {
+    check(rt, alloc, source, profile, &BOTH)?;
+    check(rt, alloc, source, profile, rows)?;
+    check_agreement(rt, alloc, source, profile, &FIRST)?;
+    check_agreement(rt, alloc, source, profile, &SECOND)
 }
 
 fn check_source<C: CellSource>(
@@ -159,99 +207,16 @@ fn check_source<C: CellSource>(
     alloc: Global,
     source: &C,
 ) -> Result<(), AllocError> {
-    check(rt, alloc, source, Profile::First, &BOTH)?;
-    check(rt, alloc, source, Profile::First, &IN_FIRST)?;
-    check(rt, alloc, source, Profile::Second, &BOTH)?;
-    check(rt, alloc, source, Profile::Second, &IN_SECOND)?;
-    for profile in [Profile::First, Profile::Second] {
-        check_agreement(rt, alloc, source, profile, &FIRST)?;
-        check_agreement(rt, alloc, source, profile, &SECOND)?;
-    }
-    Ok(())
+    check_profile(rt, alloc, source, Profile::First, &IN_FIRST)?;
+    check_profile(rt, alloc, source, Profile::Second, &IN_SECOND)
 }
 
 #[test]
 fn breaks_of_texts(rt: HostRuntime) -> Result<(), Fail> {
-    let tables = Tables::read(rt.alloc(), SAMPLES)?;
+    let tables = tables_of(rt.alloc(), SAMPLES)?;
     check_source(&rt, rt.alloc(), &tables)?;
-    let pages = CellPages::build(rt.alloc(), &tables)?;
-    assert!(&rt; pages.step_table().is_some());
+    let pages = pages_of(rt.alloc(), &tables)?;
+    assert!(&rt; has_step_table(&pages));
     check_source(&rt, rt.alloc(), &pages)?;
-    Ok(())
-}
-
-/// The labels of a text's positions by a machine that looks ahead.
-fn by_ahead_machine<C: CellSource>(
-    alloc: Global,
-    source: &C,
-    profile: Profile,
-    text: &str,
-) -> Result<String, AllocError> {
-    let mut machine = AheadMachine::start(source, profile);
-    let mut labels = String::new(alloc);
-    let mut rest = text.chars();
-    for c in text.chars() {
-        let _ = rest.next();
-        labels.push_str(machine.step(c, rest.as_str()).rule.label())?;
-        labels.push(' ')?;
-    }
-    labels.push_str(machine.finish().rule.label())?;
-    Ok(labels)
-}
-
-/// The same by rows, which look ahead where rule 15b may not stand.
-fn by_row_machine(
-    alloc: Global,
-    pages: &CellPages,
-    profile: Profile,
-    text: &str,
-) -> Result<Option<String>, AllocError> {
-    let Some(table) = pages.step_table() else {
-        return Ok(None);
-    };
-    let mut machine = table.machine(profile);
-    let mut labels = String::new(alloc);
-    let mut rest = text.chars();
-    for c in text.chars() {
-        let _ = rest.next();
-        let before = machine;
-        let mut verdict = machine.step(c);
-        if verdict.rule == Rule::Lb15b {
-            verdict = before.look_ahead(c, rest.as_str());
-        }
-        labels.push_str(verdict.rule.label())?;
-        labels.push(' ')?;
-    }
-    labels.push_str(machine.finish().rule.label())?;
-    Ok(Some(labels))
-}
-
-fn check_machines(
-    rt: &impl Abort,
-    alloc: Global,
-    pages: &CellPages,
-    profile: Profile,
-    rows: &[(&str, &str)],
-) -> Result<(), AllocError> {
-    for (text, labels) in rows {
-        let found = by_ahead_machine(alloc, pages, profile, text)?;
-        assert_eq!(rt; found.as_str(), *labels, "{profile:?}: {text:?}");
-        let found = by_row_machine(alloc, pages, profile, text)?;
-        assert!(rt;
-            found
-                .as_ref()
-                .is_some_and(|found| found.as_str() == *labels),
-            "by rows, {profile:?}: {text:?}"
-        );
-    }
-    Ok(())
-}
-
-#[test]
-fn machines_that_look_ahead(rt: HostRuntime) -> Result<(), Fail> {
-    let tables = Tables::read(rt.alloc(), SAMPLES)?;
-    let pages = CellPages::build(rt.alloc(), &tables)?;
-    check_machines(&rt, rt.alloc(), &pages, Profile::First, &FIRST)?;
-    check_machines(&rt, rt.alloc(), &pages, Profile::Second, &SECOND)?;
     Ok(())
 }

@@ -1,11 +1,13 @@
 //! What the evaluator and the machines answer, kinds and all, over a list of cells, and the cell that properties come to.
 
+use crate::calls::{decided, decided_in, late_step, start_late, step};
 use lbk_rules::{
-    Cell, Class, End, Kind, LateMachine, Machine, Out, Profile, Quote, Rule, Verdict, decide,
-    decide_all, decide_all_in, decide_in, resolve,
+    Cell, Class, End, Kind, Machine, Out, Profile, Quote, Rule, Verdict, decide_all, decide_all_in,
+    resolve,
 };
 use lbk_tests_rows::cells::{mark, plain};
 use lbk_ucd::{Category, EastAsian, LineBreak};
+use std::process::Abort;
 
 /// A letter, a space, a quotation mark that closes with a mark on it, and a comma.
 fn quoted() -> [Cell; 5] {
@@ -51,11 +53,24 @@ fn first_profile(rt: HostRuntime) {
     });
     let mut machine = Machine::start();
     for k in 0..5 {
-        assert_eq!(rt; decide(&cells, k), want[k], "at {k}");
-        assert_eq!(rt; machine.step(cells[k]), want[k], "at {k}");
+        same(&rt, decided(&rt, &cells, k), want[k], k);
+        same(&rt, step(&mut machine, cells[k]), want[k], k);
     }
-    assert_eq!(rt; decide(&cells, 5), END);
-    assert_eq!(rt; machine.finish(), END);
+    same(&rt, decided(&rt, &cells, 5), END, 5);
+    same(&rt, machine.finish(), END, 5);
+}
+
+fn same(rt: &impl Abort, found: Verdict, want: Verdict, k: usize) {
+    assert_eq!(rt; found, want, "at {k}");
+}
+
+#[test]
+fn first_profile_at_once(rt: HostRuntime) {
+    let cells = quoted();
+    let want = verdicts_of_quoted(Verdict {
+        kind: Kind::May,
+        rule: Rule::Lb18,
+    });
 
     let mut verdicts = [END; 6];
     decide_all(&cells, &mut verdicts);
@@ -67,8 +82,14 @@ fn second_profile(rt: HostRuntime) {
     let cells = quoted();
     let want = verdicts_of_quoted(no(Rule::Lb15b));
     for k in 0..6 {
-        assert_eq!(rt; decide_in(Profile::Second, &cells, k), want[k], "at {k}");
+        same(&rt, decided_in(&rt, Profile::Second, &cells, k), want[k], k);
     }
+}
+
+#[test]
+fn second_profile_at_once(rt: HostRuntime) {
+    let cells = quoted();
+    let want = verdicts_of_quoted(no(Rule::Lb15b));
     let mut verdicts = [END; 6];
     assert_eq!(rt; decide_all_in(Profile::Second, &cells, &mut verdicts), 6);
     assert_eq!(rt; verdicts, want);
@@ -100,10 +121,11 @@ fn held_position(rt: HostRuntime) {
         at_once(Rule::Lb9),
         answered,
     ];
-    let mut machine = LateMachine::start(Profile::Second);
-    for (k, (cell, out)) in (0u64..).zip(quoted().iter().zip(&outs)) {
-        assert_eq!(rt; machine.steps(), k);
-        assert_eq!(rt; machine.step(*cell), *out, "at {k}");
+    let cells = quoted();
+    let mut machine = start_late(Profile::Second);
+    for k in 0..5u64 {
+        let out = late_step(&rt, &mut machine, k, cells[k as usize]);
+        assert_eq!(rt; out, outs[k as usize], "at {k}");
     }
     assert_eq!(rt; machine.steps(), 5);
     let end = End {

@@ -6,8 +6,12 @@ mod agreement;
 #[cfg(test)]
 mod breaks;
 #[cfg(test)]
+mod calls;
+#[cfg(test)]
 mod decided;
 #[cfg(test)]
 mod deciding;
+#[cfg(test)]
+mod looking_ahead;
 #[cfg(test)]
 mod pages;

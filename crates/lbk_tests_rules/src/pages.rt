@@ -1,7 +1,8 @@
 //! Pages give each scalar the cell of the tables that they are built of: at the edges of pages, and where pages are
 //! equal and where they differ.
 
-use lbk_rules::{CellPages, CellSource, Class};
+use crate::calls::{cell_of, pages_of, tables_of};
+use lbk_rules::{Cell, CellPages, Class};
 use lbk_tests_rows::cells::plain;
 use lbk_tests_rows::property_files::line_break_alone;
 use lbk_ucd::Tables;
@@ -10,6 +11,17 @@ use std::fmt::Write;
 use std::process::Abort;
 use std::test::Fail;
 
+fn check_cell(rt: &impl Abort, pages: &CellPages, c: char, want: Cell) {
+    assert!(rt; cell_of(pages, c) == want, "{c:?}");
+}
+
+/// Compares the cells of all scalars.
+fn check_all(rt: &impl Abort, pages: &CellPages, tables: &Tables) {
+    for c in '\0'..=char::MAX {
+        check_cell(rt, pages, c, cell_of(tables, c));
+    }
+}
+
 /// Compares the cells of the scalars named, and of all scalars.
 fn check(
     rt: &impl Abort,
@@ -17,14 +29,12 @@ fn check(
     line_break: &[u8],
     rows: &[(char, Class)],
 ) -> Result<(), Fail> {
-    let tables = Tables::read(alloc, line_break_alone(line_break))?;
-    let pages = CellPages::build(alloc, &tables)?;
+    let tables = tables_of(alloc, line_break_alone(line_break))?;
+    let pages = pages_of(alloc, &tables)?;
     for (c, class) in rows {
-        assert_eq!(rt; pages.cell(*c), plain(*class), "{c:?}");
+        check_cell(rt, &pages, *c, plain(*class));
     }
-    for c in '\0'..=char::MAX {
-        assert_eq!(rt; pages.cell(c), tables.cell(c), "{c:?}");
-    }
+    check_all(rt, &pages, &tables);
     Ok(())
 }
 
@@ -36,13 +46,19 @@ const EDGES: [(char, [char; 3]); 4] = [
     ('\u{10FFFF}', ['\u{10FFFE}', '\u{10FEFF}', '\u{FF}']),
 ];
 
+/// A file by which one code is ideographic, and all others are contingent breaks.
+fn one_ideograph(alloc: Global, code: char) -> Result<String, AllocError> {
+    let mut file = String::new(alloc);
+    file.push_str("# @missing: 0000..10FFFF; CB\n")?;
+    writeln!(file, "{:04X};ID", u32::from(code))?;
+    Ok(file)
+}
+
 // One code is ideographic, and all others are contingent breaks.
 #[test]
 fn page_edges(rt: HostRuntime) -> Result<(), Fail> {
     for (code, [first, second, third]) in EDGES {
-        let mut file = String::new(rt.alloc());
-        writeln!(file, "# @missing: 0000..10FFFF; CB")?;
-        writeln!(file, "{:04X};ID", u32::from(code))?;
+        let file = one_ideograph(rt.alloc(), code)?;
         let rows = [
             (code, Class::Ideographic),
             (first, Class::ContingentBreak),
