@@ -2,16 +2,15 @@
 use Rattle.std.proofs.Common.{◌≡◌, ℕ, suc, add-one, List, [], ◌∷◌, ◌++◌, length, map, refl, sym, ap, subst, ◌∙◌}
 use Rattle.std.specs.Char.{IsScalar}
 use Rattle.std.specs.List.{AllByRecursion, flat_map}
-use Rattle.std.proofs.lemmas.List.{map-id, length-map}
+use Rattle.std.proofs.lemmas.List.{length-map}
 use Rattle.lbk_ucd.specs.declared.tables.Files.{Files}
 use Rattle.lbk_rules.specs.declared.cells.Cell.{Cell}
 use Rattle.lbk_rules.specs.declared.verdicts.Profile.{Profile}
 use Rattle.lbk_rules.specs.Verdict.{verdict_between_in}
 use Rattle.lbk_passage.specs.Breaks.{breaks_from}
-use Rattle.lbk_passage.specs.Marks.{Marked, marks, marks_behind, scalars_of}
-use Rattle.lbk_passage.specs.Passages.{passages, ends_passage}
-use Rattle.lbk_passage.proofs.Cutting.{cut_after-joined}
-use Rattle.lbk_passage.proofs.Marking.{scalars-behind}
+use Rattle.lbk_passage.specs.Marks.{Marked, marks_behind, scalars_of}
+use Rattle.lbk_passage.specs.Passages.{passages}
+use Rattle.lbk_passage.proofs.Together.{passages-breaks, passages-end, passages-marks, passages-only, passages-scalars}
 use Rattle.lbk_notation.proofs.Lengths.{says}
 use Rattle.lbk_files.specs.Cells.{AreCellsOf, cell_of_files}
 use Rattle.lbk_cmd.specs.Headline.{ArePassagesOf, IsReadBack}
@@ -61,25 +60,20 @@ all_read_back (ms ∷ ps) all =
     let parts = both (λ scalar. IsScalar scalar) (scalars_of ms) (flat_map scalars_of ps) all in
     (read_back ms parts.0, all_read_back ps parts.1)
 
--- parts joined, their elements as they are
-
-joined-same : {A : Type 0} → (parts : List (List A)) → flat_map (map (λ x. x)) parts ≡ flat_map (λ part. part) parts
-joined-same [] = refl
-joined-same (part ∷ parts) = ap (λ l. l ++ flat_map (map (λ x. x)) parts) (map-id part) ∙ ap (λ l. part ++ l) (joined-same parts)
-
 pub headline : (files : Files) (profile : Profile) (cell : ℕ → Cell) (text : List ℕ) → AreCellsOf files cell
     → AllScalars text → ArePassagesOf files profile text (passages profile cell text)
-unfolding passages
 headline files profile cell text cells all =
-    let ms = marks profile cell text in
-    let joined : flat_map scalars_of (passages profile cell text) ≡ text =
-    cut_after-joined ends_passage (λ m. m.scalar) ms ∙ scalars-behind profile cell [] text in
-    let marked : flat_map (λ ms. ms) (passages profile cell text) ≡ marks profile (cell_of_files files) text =
-    sym (joined-same (passages profile cell text)) ∙ cut_after-joined ends_passage (λ m. m) ms ∙ map-id ms
-    ∙ marks-same profile cell (cell_of_files files) [] text cells tt all in
+    let same = marks-same profile cell (cell_of_files files) [] text cells tt all in
+    let joined = passages-scalars profile cell text in
     record {
       joined = joined;
-      marked = marked;
-      broken = ap (breaks_from 0) marked;
+      marked = passages-marks profile cell text ∙ same;
+      cut = passages-end profile cell text;
+      broken = passages-breaks profile cell text ∙ ap (breaks_from 0) same;
       lines = all_read_back (passages profile cell text) (subst AllScalars (sym joined) all);
     }
+
+pub headline_only : (files : Files) (profile : Profile) (cell : ℕ → Cell) (text : List ℕ) (other : List (List Marked))
+    → AreCellsOf files cell → AllScalars text → ArePassagesOf files profile text other → other ≡ passages profile cell text
+headline_only files profile cell text other cells all are =
+    passages-only profile cell text other (are.marked ∙ sym (marks-same profile cell (cell_of_files files) [] text cells tt all)) are.cut

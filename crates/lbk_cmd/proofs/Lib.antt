@@ -1,9 +1,11 @@
 pub mod Deciding
 pub mod LineWriting
 pub mod PassageLines
+pub mod Signing
 pub mod Running
 pub mod Runs
 pub mod Stopping
+pub mod KeepingUp
 pub mod Looping
 pub mod Known
 mod Rows

@@ -1,5 +1,5 @@
 -- The loop of an engine: what was read and what was written, from passage to passage.
-use Rattle.std.proofs.Common.{◌≡◌, ℕ, ◌+◌, ◌<◌, ◌≤◌, Bool, true, false, ◌||◌, ◌⊎◌, List, [], ◌++◌, length, take, Option, None, Some, Result, Ok, Err, refl, sym, ap, subst, ◌∙◌, arith, ⊎_elim, length-append, append_assoc, append-nil}
+use Rattle.std.proofs.Common.{◌≡◌, ℕ, ◌+◌, ◌<◌, ◌≤◌, Bool, true, false, ◌||◌, ◌⊎◌, List, [], ◌++◌, length, take, Option, None, Some, Result, Ok, Err, refl, sym, ap, subst, ◌∙◌, arith, inl, ⊎_elim, length-append, append_assoc, append-nil}
 use Rattle.std.proofs.Math.Seq.{take-append-add, take-append_seam}
 use Rattle.std.proofs.lemmas.Bool.{cases_lt, false≢true}
 use Rattle.std.specs.Io.KnownBytes.{Appends, Consumes, IsAtEnd}
@@ -12,11 +12,12 @@ use Rattle.lbk_passage.specs.Next.{AfterNext, Agrees, IsDone, IsPassage, ends_ru
 use Rattle.lbk_passage.specs.declared.faults.PassageFault.{PassageFault}
 use Rattle.lbk_passage.specs.declared.faults.PassageFault.TheVariants as fault
 use Rattle.lbk_passage.specs.declared.passage.Passage.{Passage}
-use Rattle.lbk_cmd.specs.Run.{Engine, IsRun, is_failed_read}
+use Rattle.lbk_cmd.specs.Run.{Engine, IsRun, KeepsUp, is_failed_read}
 use Rattle.lbk_cmd.specs.declared.faults.CmdFault.{CmdFault}
 use Rattle.lbk_cmd.specs.declared.faults.CmdFault.TheVariants as cmd
 use Rattle.lbk_cmd.proofs.Running.{Standing, Standing-new, Standing-next, given_now, passage_now, start_now}
-use Rattle.lbk_cmd.proofs.Stopping.{stopped, run_whole, run_fault, settled_none}
+use Rattle.lbk_cmd.proofs.KeepingUp.{keeps_none, keeps_written, keeps_next}
+use Rattle.lbk_cmd.proofs.Stopping.{stopped, run_whole, run_fault}
 
 Appends-nil : (a : Option (List ℕ)) → Appends a a []
 Appends-nil None = tt
@@ -50,6 +51,7 @@ module _ (e : Engine) (u0 w0 : Option (List ℕ)) (reads0 : ℕ) where
     pub agrees : Agrees s has_ended u
     pub paid : s.is_ended ≡ false → reads ≤ reads0 + (s.start + length s.held)
     pub most : reads ≤ reads0 + (longest_text + 1)
+    pub keeps_up : KeepsUp e reads0 reads bytes out
 
   pub Going-new : (s : State) (has_ended : Bool) → s ≡ new_state e.cell e.profile e.limit → Going s u0 w0 has_ended reads0
   Going-new s has_ended is = record {
@@ -61,6 +63,7 @@ module _ (e : Engine) (u0 w0 : Option (List ℕ)) (reads0 : ℕ) where
     agrees = λ at_end. absurd (false≢true (sym (ap (λ t. t.is_ended) is) ∙ at_end));
     paid = λ _. omega arith;
     most = omega arith;
+    keeps_up = keeps_none e reads0;
   }
 
   module _ (s t : State) (u v w : Option (List ℕ)) (e1 e2 : Bool) (r1 r2 : ℕ) (g : Going s u w e1 r1) where
@@ -86,6 +89,9 @@ module _ (e : Engine) (u0 w0 : Option (List ℕ)) (reads0 : ℕ) where
     most_reads r a =
         few_reads (lent_text r ++ t.held) (ends_run (fault_in r)) a.costs.each_gave a.costs.within
         (λ h. ((a.quiet h).0, (a.quiet h).1, (a.quiet h).2))
+
+    keeps_now : (r : Result (Option Passage) PassageFault) (a : AfterNext s t u v e1 e2 r1 r2 r) → KeepsUp e reads0 r2 (g.bytes ++ a.got) g.out
+    keeps_now r a = keeps_next e reads0 s g.bytes g.out g.standing t u v e1 e2 r1 r2 r a g.paid g.keeps_up
 
     notices : (r : Result (Option Passage) PassageFault) (a : AfterNext s t u v e1 e2 r1 r2 r) → t.is_ended ≡ true → e2 ≡ true
     notices r a at_end = (a.agrees g.agrees at_end).0
@@ -119,21 +125,25 @@ module _ (e : Engine) (u0 w0 : Option (List ℕ)) (reads0 : ℕ) where
               (λ h. ((a.quiet h).0, (a.quiet h).1, (a.quiet h).2)) refl open_end in
               omega (arith, few, a.start, length-append p.text.now t.held));
           most = most_reads (Ok (Some p)) a;
+          keeps_up = keeps_written e reads0 r2 (g.bytes ++ a.got) g.out line (keeps_now (Ok (Some p)) a);
         }
 
         pub ran_write : (X : Type 0) (w' : Option (List ℕ)) (n : ℕ) → Appends w w' (take n line)
-            → Ran false u0 v w0 w' (IsRun {X = X} e e2 (Err cmd.Write))
+            → Ran false u0 v w0 w' (IsRun {X = X} e reads0 r2 e2 (Err cmd.Write))
         ran_write X w' n wrote = record {
           read = g.bytes ++ a.got;
           out = g.out ++ take n line;
           took = took_now;
           put = Appends-trans w0 w w' g.out (take n line) g.put wrote;
-          so = stopped e t (g.bytes ++ a.got) (g.out ++ line) standing_now e2 (notices (Ok (Some p)) a) (g.out ++ take n line) (length g.out + n)
-              (sym (take-append-add g.out line n));
+          so = record {
+            comes = stopped e t (g.bytes ++ a.got) (g.out ++ line) standing_now e2 (notices (Ok (Some p)) a) (g.out ++ take n line) (length g.out + n)
+                (sym (take-append-add g.out line n));
+            keeps_up = keeps_written e reads0 r2 (g.bytes ++ a.got) g.out (take n line) (keeps_now (Ok (Some p)) a);
+          };
         }
 
       -- memory could not grow for its lines
-      pub ran_memory : (X : Type 0) → Ran false u0 v w0 w (IsRun {X = X} e e2 (Err cmd.Memory))
+      pub ran_memory : (X : Type 0) → Ran false u0 v w0 w (IsRun {X = X} e reads0 r2 e2 (Err cmd.Memory))
       ran_memory X =
           let line = e.lines s.start (given_now e s g.bytes g.out g.standing t u v e1 e2 r1 r2 p a) in
           record {
@@ -141,18 +151,21 @@ module _ (e : Engine) (u0 w0 : Option (List ℕ)) (reads0 : ℕ) where
             out = g.out;
             took = took_now;
             put = g.put;
-            so = stopped e t (g.bytes ++ a.got) (g.out ++ line) (Standing-next e s g.bytes g.out g.standing t u v e1 e2 r1 r2 p a) e2 (notices (Ok (Some p)) a) g.out
-                (length g.out) (sym (take-append_seam g.out line));
+            so = record {
+              comes = stopped e t (g.bytes ++ a.got) (g.out ++ line) (Standing-next e s g.bytes g.out g.standing t u v e1 e2 r1 r2 p a) e2 (notices (Ok (Some p)) a)
+                  g.out (length g.out) (sym (take-append_seam g.out line));
+              keeps_up = keeps_now (Ok (Some p)) a;
+            };
           }
 
     -- the text was read to its end
-    pub ran_whole : {X : Type 0} (x : X) → AfterNext s t u v e1 e2 r1 r2 (Ok None) → Ran false u0 v w0 w (IsRun e e2 (Ok x))
+    pub ran_whole : {X : Type 0} (x : X) → AfterNext s t u v e1 e2 r1 r2 (Ok None) → Ran false u0 v w0 w (IsRun e reads0 r2 e2 (Ok x))
     ran_whole x a = record {
       read = g.bytes ++ a.got;
       out = g.out;
       took = Consumes-trans u0 u v g.bytes a.got g.took (kept_took _ _ _ a.grown u v a.ahead_kept);
       put = g.put;
-      so = run_whole e s g.bytes g.out g.standing t u v e1 e2 r1 r2 a;
+      so = record { comes = run_whole e s g.bytes g.out g.standing t u v e1 e2 r1 r2 a; keeps_up = keeps_now (Ok None) a };
     }
 
     pub at_the_end : AfterNext s t u v e1 e2 r1 r2 (Ok None) → (e2 ≡ true) × IsAtEnd v
@@ -160,59 +173,62 @@ module _ (e : Engine) (u0 w0 : Option (List ℕ)) (reads0 : ℕ) where
 
     -- the segmenter answered a fault
     pub ran_fault : (X : Type 0) (why : PassageFault) → AfterNext s t u v e1 e2 r1 r2 (Err why)
-        → Ran (is_failed_read {X = X} (Err (cmd.Passage why))) u0 v w0 w (IsRun {X = X} e e2 (Err (cmd.Passage why)))
+        → Ran (is_failed_read {X = X} (Err (cmd.Passage why))) u0 v w0 w (IsRun {X = X} e reads0 r2 e2 (Err (cmd.Passage why)))
     ran_fault X why a = record {
       read = g.bytes ++ a.got;
       out = g.out;
       took = Took-then (is_failed_read {X = X} (Err (cmd.Passage why))) u0 u v g.bytes a.got g.took (took_fault X s t u v e1 e2 r1 r2 why a);
       put = g.put;
-      so = run_fault e s g.bytes g.out g.standing t u v e1 e2 r1 r2 X why a (notices (Err why) a);
+      so = record {
+        comes = run_fault e s g.bytes g.out g.standing t u v e1 e2 r1 r2 X why a (notices (Err why) a);
+        keeps_up = keeps_now (Err why) a;
+      };
     }
 
   -- nothing was read, where the segmenter could not be made
-  pub ran_none : (X : Type 0) (has_ended : Bool) → Ran false u0 u0 w0 w0 (IsRun {X = X} e has_ended (Err (cmd.Passage fault.Memory)))
-  ran_none X has_ended = record { read = []; out = []; took = Consumes-nil u0; put = Appends-nil w0; so = settled_none e }
+  pub ran_none : (X : Type 0) (has_ended : Bool) → Ran false u0 u0 w0 w0 (IsRun {X = X} e reads0 reads0 has_ended (Err (cmd.Passage fault.Memory)))
+  ran_none X has_ended = record { read = []; out = []; took = Consumes-nil u0; put = Appends-nil w0; so = record { comes = inl (refl, refl); keeps_up = keeps_none e reads0 } }
 
-  pub ran_limit : (X : Type 0) (has_ended : Bool) → Ran false u0 u0 w0 w0 (IsRun {X = X} e has_ended (Err (cmd.Passage fault.Limit)))
-  ran_limit X has_ended = record { read = []; out = []; took = Consumes-nil u0; put = Appends-nil w0; so = (refl, refl) }
+  pub ran_limit : (X : Type 0) (has_ended : Bool) → Ran false u0 u0 w0 w0 (IsRun {X = X} e reads0 reads0 has_ended (Err (cmd.Passage fault.Limit)))
+  ran_limit X has_ended = record { read = []; out = []; took = Consumes-nil u0; put = Appends-nil w0; so = record { comes = (refl, refl); keeps_up = keeps_none e reads0 } }
 
 -- A run by the answers of its calls
 
 module _ (e : Engine) (u0 w0 : Option (List ℕ)) (reads0 : ℕ) (X : Type 0) (answer : Result X CmdFault) where
   -- the segmenter could not be made
   pub run_none : (why : PassageFault) (has_ended : Bool) → answer ≡ Err (cmd.Passage why) → (why ≡ fault.Limit) ⊎ (why ≡ fault.Memory)
-      → Ran (is_failed_read answer) u0 u0 w0 w0 (IsRun e has_ended answer)
+      → Ran (is_failed_read answer) u0 u0 w0 w0 (IsRun e reads0 reads0 has_ended answer)
   run_none why has_ended is one = ⊎_elim
-      (λ limit. subst (λ r. Ran (is_failed_read r) u0 u0 w0 w0 (IsRun e has_ended r)) (sym (is ∙ ap (λ f. Err (cmd.Passage f)) limit)) (ran_limit e u0 w0 reads0 X has_ended))
-      (λ memory. subst (λ r. Ran (is_failed_read r) u0 u0 w0 w0 (IsRun e has_ended r)) (sym (is ∙ ap (λ f. Err (cmd.Passage f)) memory)) (ran_none e u0 w0 reads0 X has_ended))
+      (λ limit. subst (λ r. Ran (is_failed_read r) u0 u0 w0 w0 (IsRun e reads0 reads0 has_ended r)) (sym (is ∙ ap (λ f. Err (cmd.Passage f)) limit)) (ran_limit e u0 w0 reads0 X has_ended))
+      (λ memory. subst (λ r. Ran (is_failed_read r) u0 u0 w0 w0 (IsRun e reads0 reads0 has_ended r)) (sym (is ∙ ap (λ f. Err (cmd.Passage f)) memory)) (ran_none e u0 w0 reads0 X has_ended))
       one
 
   module _ (s t : State) (u v w : Option (List ℕ)) (e1 e2 : Bool) (r1 r2 : ℕ) (r : Result (Option Passage) PassageFault)
       (g : Going e u0 w0 reads0 s u w e1 r1) (a : AfterNext s t u v e1 e2 r1 r2 r) where
     pub run_stopped : (why : PassageFault) → r ≡ Err why → answer ≡ Err (cmd.Passage why)
-        → Ran (is_failed_read answer) u0 v w0 w (IsRun e e2 answer)
+        → Ran (is_failed_read answer) u0 v w0 w (IsRun e reads0 r2 e2 answer)
     run_stopped why was is =
-        subst (λ x. Ran (is_failed_read x) u0 v w0 w (IsRun e e2 x)) (sym is)
+        subst (λ x. Ran (is_failed_read x) u0 v w0 w (IsRun e reads0 r2 e2 x)) (sym is)
         (ran_fault e u0 w0 reads0 s t u v w e1 e2 r1 r2 g X why (subst (AfterNext s t u v e1 e2 r1 r2) was a))
 
-    pub run_ended : (x : X) → r ≡ Ok None → answer ≡ Ok x → Ran (is_failed_read answer) u0 v w0 w (IsRun e e2 answer)
+    pub run_ended : (x : X) → r ≡ Ok None → answer ≡ Ok x → Ran (is_failed_read answer) u0 v w0 w (IsRun e reads0 r2 e2 answer)
     run_ended x was is =
-        subst (λ y. Ran (is_failed_read y) u0 v w0 w (IsRun e e2 y)) (sym is)
+        subst (λ y. Ran (is_failed_read y) u0 v w0 w (IsRun e reads0 r2 e2 y)) (sym is)
         (ran_whole e u0 w0 reads0 s t u v w e1 e2 r1 r2 g x (subst (AfterNext s t u v e1 e2 r1 r2) was a))
 
     module _ (p : Passage) (was : r ≡ Ok (Some p)) where
       given : AfterNext s t u v e1 e2 r1 r2 (Ok (Some p))
       given = subst (AfterNext s t u v e1 e2 r1 r2) was a
 
-      pub run_out_of_memory : answer ≡ Err cmd.Memory → Ran (is_failed_read answer) u0 v w0 w (IsRun e e2 answer)
+      pub run_out_of_memory : answer ≡ Err cmd.Memory → Ran (is_failed_read answer) u0 v w0 w (IsRun e reads0 r2 e2 answer)
       run_out_of_memory is =
-          subst (λ x. Ran (is_failed_read x) u0 v w0 w (IsRun e e2 x)) (sym is) (ran_memory e u0 w0 reads0 s t u v w e1 e2 r1 r2 g p given X)
+          subst (λ x. Ran (is_failed_read x) u0 v w0 w (IsRun e reads0 r2 e2 x)) (sym is) (ran_memory e u0 w0 reads0 s t u v w e1 e2 r1 r2 g p given X)
 
       module _ (line : List ℕ) (lines : (ms : List Marked) → s.cell ≡ e.cell → s.profile ≡ e.profile → IsPassage s ms p → line ≡ e.lines p.start ms)
           (w' : Option (List ℕ)) where
-        pub run_unwritten : answer ≡ Err cmd.Write → (n : ℕ) → Appends w w' (take n line) → Ran (is_failed_read answer) u0 v w0 w' (IsRun e e2 answer)
+        pub run_unwritten : answer ≡ Err cmd.Write → (n : ℕ) → Appends w w' (take n line) → Ran (is_failed_read answer) u0 v w0 w' (IsRun e reads0 r2 e2 answer)
         run_unwritten is n wrote =
-            subst (λ x. Ran (is_failed_read x) u0 v w0 w' (IsRun e e2 x)) (sym is)
+            subst (λ x. Ran (is_failed_read x) u0 v w0 w' (IsRun e reads0 r2 e2 x)) (sym is)
             (ran_write e u0 w0 reads0 s t u v w e1 e2 r1 r2 g p given line lines X w' n wrote)
 
         pub run_goes_on : Appends w w' line → Going e u0 w0 reads0 t v w' e2 r2

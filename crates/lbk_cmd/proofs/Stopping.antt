@@ -1,19 +1,21 @@
 -- Where a run of an engine ends.
 use Rattle.std.proofs.Common.{◌≡◌, ℕ, ◌+◌, ◌-◌, ◌<◌, ◌≤◌, Bool, true, List, [], ◌∷◌, ◌++◌, length, take, None, Option, Ok, Err, IsUtf8, encode_utf8, encode_utf8_all, chars, refl, sym, ap, subst, ◌∙◌, arith, inl, inr, ⊎_elim, length-append, length-take, append_assoc, append-nil}
+use Rattle.std.specs.List.{flat_map}
 use Rattle.std.proofs.Math.Seq.{take-append-add}
 use Rattle.std.proofs.lemmas.Bool.{false≢true}
 use Rattle.std.proofs.lemmas.Str.{IsUtf8-append, IsUtf8-nil, encodes-append, chars_from_encodes}
 use Rattle.lbk_feed.specs.Runs.{IsStopped, midway, at_end}
 use Rattle.lbk_feed.specs.Text.{longest_text, well_formed_prefix, counted, IsNotUtf8At, IsTooLong, IsOpen}
+use Rattle.lbk_feed.specs.View.{CanGoOn}
 use Rattle.lbk_feed.proofs.Judged.{prefix-after}
-use Rattle.lbk_passage.specs.Marks.{Marked, text_of}
+use Rattle.lbk_passage.specs.Marks.{Marked, scalars_of, text_of}
 use Rattle.lbk_passage.specs.Passages.{passages}
 use Rattle.lbk_passage.specs.State.{State}
-use Rattle.lbk_passage.specs.Next.{AfterNext, BeginsWithAll, IsDone, Stops, Waits}
+use Rattle.lbk_passage.specs.Next.{AfterNext, BeginsWithAll, ComesFirst, GoesOn, IsLast, IsDone, Stops, Waits}
 use Rattle.lbk_passage.specs.declared.faults.PassageFault.{PassageFault}
 use Rattle.lbk_passage.specs.declared.faults.PassageFault.TheVariants as fault
 use Rattle.lbk_passage.proofs.Marking.{begins_with_all}
-use Rattle.lbk_cmd.specs.Run.{Engine, passages_by, written_by, AreWithin, IsWhole, AreGiven, IsSettled, AreAll, IsRun}
+use Rattle.lbk_cmd.specs.Run.{Engine, passages_by, written_by, AreWithin, IsWhole, AreGiven, IsSettled, IsHeldUp, AreAll, ComesTo, segmenter_of}
 use Rattle.lbk_cmd.specs.declared.faults.CmdFault.TheVariants.{Passage}
 use Rattle.lbk_cmd.proofs.Running.{some_bytes, Stands, fresh, goes_on, ended, Standing, onward}
 
@@ -23,7 +25,7 @@ module _ (e : Engine) where
   no_passages = refl
 
   -- nothing is given of no scalars
-  none_given : AreGiven e [] []
+  pub none_given : AreGiven e [] []
   none_given = record {
     behind = [];
     joined = refl;
@@ -33,8 +35,8 @@ module _ (e : Engine) where
     within = tt;
   }
 
-  pub settled_none : IsSettled e [] []
-  settled_none = record { scalars = []; rest = []; begins = refl; utf8 = IsUtf8-nil; given = []; are = none_given; is = refl }
+  unfoldable pub settled_none : IsSettled e [] []
+  settled_none = record { scalars = []; rest = []; begins = refl; utf8 = IsUtf8-nil; few = omega arith; given = []; are = none_given; is = refl }
 
   module _ (s : State) (bytes out : List ℕ) (st : Standing e s bytes out) where
     -- nothing was given
@@ -44,6 +46,7 @@ module _ (e : Engine) where
       rest = bytes;
       begins = refl;
       utf8 = IsUtf8-nil;
+      few = omega arith;
       given = [];
       are = none_given;
       is = st.is ∙ ap (written_by e) no_given;
@@ -51,8 +54,9 @@ module _ (e : Engine) where
 
     -- a scalar follows what was given
     settled_on : (next : ℕ) (rest : List ℕ) → s.held ≡ encode_utf8 next ++ rest → IsUtf8 (encode_utf8 next)
+        → length (encode_utf8_all st.scalars) + length (encode_utf8 next) ≤ longest_text
         → ((more : List ℕ) → passages_by e (st.scalars ++ next ∷ more) ≡ st.given ++ passages_by e (next ∷ more)) → IsSettled e bytes out
-    settled_on next rest held utf8 first =
+    settled_on next rest held utf8 near first =
         let one : encode_utf8_all (st.scalars ++ next ∷ []) ≡ encode_utf8_all st.scalars ++ encode_utf8 next =
         encodes-append st.scalars (next ∷ []) ∙ ap (λ l. encode_utf8_all st.scalars ++ l) (append-nil (encode_utf8 next)) in
         record {
@@ -61,6 +65,7 @@ module _ (e : Engine) where
           begins = st.bytes_are ∙ ap (λ l. encode_utf8_all st.scalars ++ l) held
               ∙ sym (append_assoc (encode_utf8_all st.scalars) (encode_utf8 next) rest) ∙ ap (λ l. l ++ rest) (sym one);
           utf8 = subst IsUtf8 (sym one) (IsUtf8-append (encode_utf8_all st.scalars) (encode_utf8 next) st.utf8 utf8);
+          few = omega (arith, near, ap length one, length-append (encode_utf8_all st.scalars) (encode_utf8 next));
           given = st.given;
           are = record {
             behind = next ∷ [];
@@ -72,6 +77,45 @@ module _ (e : Engine) where
           };
           is = st.is;
         }
+
+    -- scalars of one passage were seen behind those given, in `all`, which are the bytes held and those that came
+    module _ (all got seen behind : List ℕ) (grown : all ≡ s.held ++ got) (quiet : s.is_ended ≡ true → all ≡ s.held)
+        (are : all ≡ encode_utf8_all seen ++ behind) (text : IsUtf8 (encode_utf8_all seen))
+        (few : length (encode_utf8_all st.scalars) + length (encode_utf8_all seen) ≤ longest_text)
+        (in_one : 0 < length seen → (more : List ℕ) → BeginsWithAll seen (passages_by e (seen ++ more)))
+        (none_seen : seen ≡ [] → (st.scalars ≡ []) × (st.given ≡ [])) where
+      unfoldable pub settled_by : (read rest : List ℕ) → read ≡ encode_utf8_all st.scalars ++ (encode_utf8_all seen ++ rest) → IsSettled e read out
+      settled_by read rest read_is = record {
+        scalars = st.scalars ++ seen;
+        rest = rest;
+        begins = read_is ∙ sym (append_assoc (encode_utf8_all st.scalars) (encode_utf8_all seen) rest)
+            ∙ ap (λ l. l ++ rest) (sym (encodes-append st.scalars seen));
+        utf8 = subst IsUtf8 (sym (encodes-append st.scalars seen)) (IsUtf8-append (encode_utf8_all st.scalars) (encode_utf8_all seen) st.utf8 text);
+        few = omega (arith, few, ap length (encodes-append st.scalars seen), length-append (encode_utf8_all st.scalars) (encode_utf8_all seen));
+        given = st.given;
+        are = record {
+          behind = seen;
+          joined = ap (λ l. l ++ seen) (sym st.joined);
+          followed = λ some. seen_behind seen refl some;
+          first = λ more. first seen refl more;
+          in_one = in_one;
+          within = st.within;
+        };
+        is = st.is;
+      }
+        where
+          seen_behind : (cs : List ℕ) → seen ≡ cs → 0 < length st.given → 0 < length cs
+          seen_behind [] is some = absurd (let given = ap length (none_seen is).1 in omega (arith, some, given))
+          seen_behind (c ∷ cs) is some = omega arith
+
+          first : (cs : List ℕ) → seen ≡ cs → (more : List ℕ) → passages_by e ((st.scalars ++ cs) ++ more) ≡ st.given ++ passages_by e (cs ++ more)
+          first [] is more =
+              let none = none_seen is in
+              ap (λ l. passages_by e ((l ++ []) ++ more)) none.0 ∙ ap (λ l. l ++ passages_by e more) (sym none.1)
+          first (c ∷ cs) is more =
+              ap (passages_by e) (append_assoc st.scalars (c ∷ cs) more)
+              ∙ onward e s bytes out st all got grown quiet c (encode_utf8_all cs ++ behind) (cs ++ more)
+              (are ∙ ap (λ l. encode_utf8_all l ++ behind) is ∙ append_assoc (encode_utf8 c) (encode_utf8_all cs) behind)
 
     -- the text ended
     whole_at : (all : List ℕ) → all ≡ encode_utf8_all st.scalars → passages_by e st.scalars ≡ st.given → IsWhole e all out
@@ -92,7 +136,7 @@ module _ (e : Engine) where
         by : Stands e s st.scalars st.given → IsStopped (IsSettled e) (IsWhole e) (has_ended ≡ true) bytes put
         by (fresh none no_given) = midway bytes [] out n (sym (append-nil bytes)) (settled_fresh no_given) front
         by (goes_on next rest held utf8 near first) =
-            midway bytes [] out n (sym (append-nil bytes)) (settled_on next rest held utf8 first) front
+            midway bytes [] out n (sym (append-nil bytes)) (settled_on next rest held utf8 near first) front
         by (ended held is_at_end given) =
             at_end out n (notices is_at_end)
             (whole_at bytes (st.bytes_are ∙ ap (λ l. encode_utf8_all st.scalars ++ l) held ∙ append-nil (encode_utf8_all st.scalars)) given) front
@@ -116,22 +160,81 @@ module _ (e : Engine) where
           by none (ended held is_at_end given) = given
 
       -- memory could not grow for a passage
-      pub run_memory : AfterNext s t u v e1 e2 r1 r2 (Err fault.Memory) → IsSettled e bytes out
-      run_memory a = by st.stands
-        where
-          by : Stands e s st.scalars st.given → IsSettled e bytes out
-          by (fresh none no_given) = settled_fresh no_given
-          by (goes_on next rest held utf8 near first) = settled_on next rest held utf8 first
-          by (ended held is_at_end given) =
-              let waits : Waits t = a.answer in
-              let none = ap length (sym waits.bytes ∙ (a.quiet is_at_end).0 ∙ held) in
-              absurd (some_text waits.marks waits.some (omega (arith, none, length-append (text_of waits.marks) waits.behind)))
-            where
-              some_text : (ms : List Marked) → 0 < length ms → length (text_of ms) ≡ 0 → ⊥
-              some_text [] some none = omega (arith, some)
-              some_text (m ∷ ms) some none =
-                  let bytes_of = some_bytes m.scalar in
-                  omega (arith, bytes_of, none, length-append (encode_utf8 m.scalar) (text_of ms))
+      module _ (a : AfterNext s t u v e1 e2 r1 r2 (Err fault.Memory)) (notices : t.is_ended ≡ true → e2 ≡ true) where
+        waits : Waits t
+        waits = a.answer
+
+        waiting : List Marked
+        unfolding waits
+        waiting = waits.marks
+
+        -- the engine decides as the segmenter does
+        comes_in : ComesFirst (segmenter_of e e2) waits.marks waits.behind
+        unfolding waits
+        comes_in = record {
+          within = let short = waits.comes.within in omega (arith, short, a.alike.limit, st.limit);
+          follows = ⊎_elim
+              (λ (h : GoesOn t waits.marks waits.behind).
+              inl (record { next = h.next; rest = h.rest; bytes = h.bytes; scalar = h.scalar; first = λ more. by_engine (λ f. FirstBefore f h.next more) (h.first more) }))
+              (λ (h : IsLast t waits.marks waits.behind).
+              inr (record { none = h.none; at_end = notices h.at_end; first = by_engine (λ f. f (scalars_of waits.marks) ≡ waits.marks ∷ []) h.first }))
+              waits.comes.follows;
+        }
+          where
+            FirstBefore : (List ℕ → List (List Marked)) → ℕ → List ℕ → Type 0
+            FirstBefore f next more = f (scalars_of waits.marks ++ next ∷ more) ≡ waits.marks ∷ f (next ∷ more)
+
+            by_engine : (P : (List ℕ → List (List Marked)) → Type 0) → P (passages t.profile t.cell) → P (passages e.profile e.cell)
+            by_engine P is =
+                subst (λ profile. P (passages profile e.cell)) (a.alike.profile ∙ st.profile)
+                (subst (λ cell. P (passages t.profile cell)) (a.alike.cell ∙ st.cell) is)
+
+        -- where it stands behind those given
+        place : bytes ++ a.got ≡ encode_utf8_all st.scalars ++ (text_of waits.marks ++ waits.behind)
+        unfolding waits
+        place = ap (λ l. l ++ a.got) st.bytes_are ∙ append_assoc (encode_utf8_all st.scalars) s.held a.got
+            ∙ ap (λ l. encode_utf8_all st.scalars ++ l) (sym a.grown ∙ waits.bytes)
+
+        held_up : (given : List (List Marked)) → flat_map scalars_of given ≡ st.scalars → (is : IsSettled e (bytes ++ a.got) out) → is.given ≡ given
+            → IsHeldUp e e2 (bytes ++ a.got) out
+        unfolding waits
+        held_up given joined is same = record {
+          settled = is;
+          passage = waits.marks;
+          some = waits.some;
+          behind = waits.behind;
+          next = place ∙ ap (λ l. encode_utf8_all l ++ (text_of waits.marks ++ waits.behind)) (sym (ap (flat_map scalars_of) same ∙ joined));
+          comes = comes_in;
+        }
+
+        settled_more : IsSettled e bytes out → IsSettled e (bytes ++ a.got) out
+        settled_more x = record {
+          scalars = x.scalars;
+          rest = x.rest ++ a.got;
+          begins = ap (λ l. l ++ a.got) x.begins ∙ append_assoc (encode_utf8_all x.scalars) x.rest a.got;
+          utf8 = x.utf8;
+          few = x.few;
+          given = x.given;
+          are = x.are;
+          is = x.is;
+        }
+
+        pub run_memory : IsHeldUp e e2 (bytes ++ a.got) out
+        unfolding waits settled_more settled_fresh settled_on
+        run_memory = by st.stands
+          where
+            by : Stands e s st.scalars st.given → IsHeldUp e e2 (bytes ++ a.got) out
+            by (fresh none no_given) = held_up [] (sym none) (settled_more (settled_fresh no_given)) refl
+            by (goes_on next rest held utf8 near first) = held_up st.given st.joined (settled_more (settled_on next rest held utf8 near first)) refl
+            by (ended held is_at_end given) =
+                let none = ap length (sym waits.bytes ∙ (a.quiet is_at_end).0 ∙ held) in
+                absurd (some_text waits.marks waits.some (omega (arith, none, length-append (text_of waits.marks) waits.behind)))
+              where
+                some_text : (ms : List Marked) → 0 < length ms → length (text_of ms) ≡ 0 → ⊥
+                some_text [] some none = omega (arith, some)
+                some_text (m ∷ ms) some none =
+                    let bytes_of = some_bytes m.scalar in
+                    omega (arith, bytes_of, none, length-append (encode_utf8 m.scalar) (text_of ms))
 
       -- the reader or the text stopped it
       module _ (why : PassageFault) (a : AfterNext s t u v e1 e2 r1 r2 (Err why)) (stops : Stops t why) where
@@ -153,37 +256,11 @@ module _ (e : Engine) where
 
         settled : NoneSeen → IsSettled e (bytes ++ a.got) out
         unfolding used NoneSeen
-        settled none_seen = record {
-          scalars = st.scalars ++ stops.seen;
-          rest = stops.rest;
-          begins = all_now ∙ ap (λ l. used ++ l) stops.bytes ∙ sym (append_assoc used (encode_utf8_all stops.seen) stops.rest)
-              ∙ ap (λ l. l ++ stops.rest) (sym (encodes-append st.scalars stops.seen));
-          utf8 = subst IsUtf8 (sym (encodes-append st.scalars stops.seen)) (IsUtf8-append used (encode_utf8_all stops.seen) st.utf8 stops.text);
-          given = st.given;
-          are = record {
-            behind = stops.seen;
-            joined = ap (λ l. l ++ stops.seen) (sym st.joined);
-            followed = λ some. seen_behind stops.seen refl some;
-            first = λ more. first stops.seen refl more;
-            in_one = λ some more. in_engine more (stops.unfinished some more);
-            within = st.within;
-          };
-          is = st.is;
-        }
+        settled none_seen =
+            settled_by t.held a.got stops.seen stops.rest a.grown (λ h. (a.quiet h).0) stops.bytes stops.text (omega (arith, begin_now, stops.counted))
+            (λ some more. in_engine more (stops.unfinished some more)) none_seen (bytes ++ a.got) stops.rest
+            (all_now ∙ ap (λ l. used ++ l) stops.bytes)
           where
-            seen_behind : (seen : List ℕ) → stops.seen ≡ seen → 0 < length st.given → 0 < length seen
-            seen_behind [] is some = absurd (let given = ap length (none_seen is).1 in omega (arith, some, given))
-            seen_behind (c ∷ cs) is some = omega arith
-
-            first : (seen : List ℕ) → stops.seen ≡ seen → (more : List ℕ) → passages_by e ((st.scalars ++ seen) ++ more) ≡ st.given ++ passages_by e (seen ++ more)
-            first [] is more =
-                let none = none_seen is in
-                ap (λ l. passages_by e ((l ++ []) ++ more)) none.0 ∙ ap (λ l. l ++ passages_by e more) (sym none.1)
-            first (c ∷ cs) is more =
-                ap (passages_by e) (append_assoc st.scalars (c ∷ cs) more)
-                ∙ onward e s bytes out st t.held a.got a.grown (λ h. (a.quiet h).0) c (encode_utf8_all cs ++ stops.rest) (cs ++ more)
-                (stops.bytes ∙ ap (λ l. encode_utf8_all l ++ stops.rest) is ∙ append_assoc (encode_utf8 c) (encode_utf8_all cs) stops.rest)
-
             in_engine : (more : List ℕ) → BeginsWithAll stops.seen (passages t.profile t.cell (stops.seen ++ more))
                 → BeginsWithAll stops.seen (passages_by e (stops.seen ++ more))
             in_engine more b =
@@ -242,27 +319,22 @@ module _ (e : Engine) where
 
       -- by the fault that a call answered
       pub run_fault : (X : Type 0) (why : PassageFault) (a : AfterNext s t u v e1 e2 r1 r2 (Err why)) → (t.is_ended ≡ true → e2 ≡ true)
-          → IsRun {X = X} e e2 (Err (Passage why)) (bytes ++ a.got) out
-      unfolding used settled
+          → ComesTo {X = X} e e2 (Err (Passage why)) (bytes ++ a.got) out
+      unfolding used settled settled_by
       run_fault X fault.Limit a notices = absurd a.answer.lies
-      run_fault X fault.Memory a notices = settled_more (bytes ++ a.got) a.got refl (run_memory a)
-        where
-          settled_more : (all got : List ℕ) → all ≡ bytes ++ got → IsSettled e bytes out → IsSettled e all out
-          settled_more all got is x = record {
-            scalars = x.scalars;
-            rest = x.rest ++ got;
-            begins = is ∙ ap (λ l. l ++ got) x.begins ∙ append_assoc (encode_utf8_all x.scalars) x.rest got;
-            utf8 = x.utf8;
-            given = x.given;
-            are = x.are;
-            is = x.is;
-          }
+      run_fault X fault.Memory a notices = inr (run_memory a notices)
       run_fault X fault.Read a notices =
           let stops : Stops t fault.Read = a.answer in
           let covered = stops.all_seen (used fault.Read a stops) st.utf8 (begin_now fault.Read a stops) in
           record {
-            settled = settled fault.Read a stops (none_seen fault.Read a stops covered stops.lies (λ is_at_end held. (a.quiet is_at_end).3 refl));
-            lies = all_seen fault.Read a stops covered stops.lies;
+            settled = settled fault.Read a stops (none_seen fault.Read a stops covered stops.lies.0 (λ is_at_end held. (a.quiet is_at_end).3 refl));
+            lies = (
+              all_seen fault.Read a stops covered stops.lies.0,
+              subst (λ n. CanGoOn n stops.rest)
+                  (let long = ap length (encodes-append st.scalars stops.seen) ∙ length-append (encode_utf8_all st.scalars) (encode_utf8_all stops.seen) in
+                  let e0 : t.start + length (encode_utf8_all stops.seen) ≡ length (encode_utf8_all (st.scalars ++ stops.seen)) =
+                  omega (arith, begin_now fault.Read a stops, long) in e0) stops.lies.1,
+            );
           }
       run_fault X (fault.NotUtf8 at) a notices =
           let stops : Stops t (fault.NotUtf8 at) = a.answer in

@@ -3,7 +3,8 @@ use Rattle.std.specs.Prelude.{◌≡◌, ℕ, List, Some}
 use Rattle.std.specs.List.{AllByRecursion, flat_map}
 use Rattle.lbk_ucd.specs.declared.tables.Files.{Files}
 use Rattle.lbk_rules.specs.declared.verdicts.Profile.{Profile}
-use Rattle.lbk_passage.specs.Breaks.{breaks, breaks_from}
+use Rattle.lbk_passage.specs.Breaks.{breaks}
+use Rattle.lbk_passage.specs.Laws.{EndsOnce, segment_breaks}
 use Rattle.lbk_passage.specs.Marks.{Marked, marks, scalars_of}
 use Rattle.lbk_notation.specs.declared.marks.Form.TheVariants.{Kinds}
 use Rattle.lbk_notation.specs.Grammar.{IsLine}
@@ -16,9 +17,11 @@ abbrev pub IsReadBack : List Marked → Type 0
 IsReadBack ms = IsLine Kinds (passage_line (scalars_of ms) (verdicts_of ms)) (Some (passage_marks (scalars_of ms) (verdicts_of ms)))
 
 -- some passages, joined, are the text; their marks, joined, are those that the rule list gives on the whole text, by the cells of
--- four property files; so are their breaks; and the line written of each says its scalars and marks
+-- four property files; a line must end after the last mark of each, and after no other; their segments end at the breaks of
+-- the whole text; and the line written of each says its scalars and marks
 pub record ArePassagesOf (files : Files) (profile : Profile) (text : List ℕ) (passages : List (List Marked)) : Type 0 where
   pub joined : flat_map scalars_of passages ≡ text
   pub marked : flat_map (λ ms. ms) passages ≡ marks profile (cell_of_files files) text
-  pub broken : breaks_from 0 (flat_map (λ ms. ms) passages) ≡ breaks profile (cell_of_files files) text
+  pub cut : AllByRecursion EndsOnce passages
+  pub broken : segment_breaks 0 passages ≡ breaks profile (cell_of_files files) text
   pub lines : AllByRecursion IsReadBack passages

@@ -1,14 +1,16 @@
 -- What an engine reads and writes.
-use Rattle.std.specs.Prelude.{◌≡◌, ℕ, ◌+◌, ◌<◌, ◌≤◌, Bool, true, false, List, [], ◌∷◌, ◌++◌, length, Result, Ok, Err, IsUtf8, encode_utf8_all}
+use Rattle.std.specs.Prelude.{◌≡◌, ◌⊎◌, ℕ, ◌+◌, ◌<◌, ◌≤◌, Bool, true, false, List, [], ◌∷◌, ◌++◌, length, Result, Ok, Err, IsUtf8, encode_utf8_all}
 use Rattle.std.specs.List.{AllByRecursion, flat_map}
 use Rattle.std.specs.Str.{chars}
 use Rattle.lbk_feed.specs.Runs.{IsStopped}
 use Rattle.lbk_feed.specs.Text.{longest_text, well_formed_prefix, counted, IsNotUtf8At, IsTooLong}
+use Rattle.lbk_feed.specs.View.{CanGoOn}
 use Rattle.lbk_rules.specs.declared.cells.Cell.{Cell}
 use Rattle.lbk_rules.specs.declared.verdicts.Profile.{Profile}
 use Rattle.lbk_passage.specs.Marks.{Marked, scalars_of, text_of}
 use Rattle.lbk_passage.specs.Passages.{passages}
-use Rattle.lbk_passage.specs.Next.{BeginsWithAll}
+use Rattle.lbk_passage.specs.Next.{BeginsWithAll, ComesFirst}
+use Rattle.lbk_passage.specs.State.{State, new_state}
 use Rattle.lbk_passage.specs.declared.faults.PassageFault.{PassageFault}
 use Rattle.lbk_passage.specs.declared.faults.PassageFault.TheVariants as fault
 use Rattle.lbk_cmd.specs.Texts.{lines_from}
@@ -49,12 +51,13 @@ pub record AreGiven (e : Engine) (scalars : List ℕ) (given : List (List Marked
   pub in_one : 0 < length behind → (more : List ℕ) → BeginsWithAll behind (passages_by e (behind ++ more))
   pub within : AreWithin e given
 
--- `out` is written of the passages that some first scalars of the bytes settle
+-- `out` is written of the passages that some first scalars of the bytes settle, of as many as a text may have
 pub record IsSettled (e : Engine) (bytes out : List ℕ) : Type 0 where
   pub scalars : List ℕ
   pub rest : List ℕ
   pub begins : bytes ≡ encode_utf8_all scalars ++ rest
   pub utf8 : IsUtf8 (encode_utf8_all scalars)
+  pub few : length (encode_utf8_all scalars) ≤ longest_text
   pub given : List (List Marked)
   pub are : AreGiven e scalars given
   pub is : out ≡ written_by e given
@@ -64,32 +67,66 @@ abbrev pub AreAll : Engine → List ℕ → List ℕ → List ℕ → Type 0
 AreAll e bytes scalars behind =
     (encode_utf8_all scalars ≡ well_formed_prefix (counted bytes)) × (length (encode_utf8_all behind) ≤ e.limit)
 
--- why a run stops behind these scalars, the last of which are those of the paragraph in progress
-abbrev pub Lies : Engine → PassageFault → Bool → List ℕ → List ℕ → List ℕ → Type 0
-Lies e fault.Limit ended bytes scalars behind = ⊥
-Lies e fault.Memory ended bytes scalars behind = ⊥
-Lies e fault.Read ended bytes scalars behind = AreAll e bytes scalars behind
-Lies e (fault.NotUtf8 at) ended bytes scalars behind = AreAll e bytes scalars behind × IsNotUtf8At bytes ended at
-Lies e fault.TextTooLong ended bytes scalars behind = AreAll e bytes scalars behind × IsTooLong bytes
-Lies e (fault.ParagraphTooLong start) ended bytes scalars behind =
+-- why a run stops behind these scalars, the last of which are those of the paragraph in progress; `rest` are the bytes read
+-- behind them. A failed read is the answer only where these may still go on to a scalar
+abbrev pub Lies : Engine → PassageFault → Bool → List ℕ → List ℕ → List ℕ → List ℕ → Type 0
+Lies e fault.Limit ended bytes scalars behind rest = ⊥
+Lies e fault.Memory ended bytes scalars behind rest = ⊥
+Lies e fault.Read ended bytes scalars behind rest =
+    AreAll e bytes scalars behind × CanGoOn (length (encode_utf8_all scalars)) rest
+Lies e (fault.NotUtf8 at) ended bytes scalars behind rest = AreAll e bytes scalars behind × IsNotUtf8At bytes ended at
+Lies e fault.TextTooLong ended bytes scalars behind rest = AreAll e bytes scalars behind × IsTooLong bytes
+Lies e (fault.ParagraphTooLong start) ended bytes scalars behind rest =
     (start + length (encode_utf8_all behind) ≡ length (encode_utf8_all scalars))
     × (e.limit < length (encode_utf8_all behind))
     × ((front : List ℕ) × (last : ℕ) × (behind ≡ front ++ last ∷ []) × (length (encode_utf8_all front) ≤ e.limit))
-Lies e fault.Spent ended bytes scalars behind = ⊥
+Lies e fault.Spent ended bytes scalars behind rest = ⊥
 
 -- a fault of the reader or of the text stopped the run: `out` is written of the passages given before it
 pub record IsRefused (e : Engine) (why : PassageFault) (ended : Bool) (bytes out : List ℕ) : Type 0 where
   pub settled : IsSettled e bytes out
-  pub lies : Lies e why ended bytes settled.scalars settled.are.behind
+  pub lies : Lies e why ended bytes settled.scalars settled.are.behind settled.rest
+
+-- a segmenter that decides as the engine does
+abbrev pub segmenter_of : Engine → Bool → State
+segmenter_of e ended = record (new_state e.cell e.profile e.limit) { is_ended = ended }
+
+-- memory could not grow for a passage that was read whole: `out` is written of all passages before it
+pub record IsHeldUp (e : Engine) (ended : Bool) (bytes out : List ℕ) : Type 0 where
+  pub settled : IsSettled e bytes out
+  pub passage : List Marked
+  pub some : 0 < length passage
+  pub behind : List ℕ
+  pub next : bytes ≡ encode_utf8_all (flat_map scalars_of settled.given) ++ (text_of passage ++ behind)
+  pub comes : ComesFirst (segmenter_of e ended) passage behind
 
 -- what was read and what was written, by the answer; `ended`: a read has given no byte
-abbrev pub IsRun : {X : Type 0} → Engine → Bool → Result X CmdFault → List ℕ → List ℕ → Type 0
-IsRun e ended (Ok x) bytes out = IsWhole e bytes out
-IsRun e ended (Err Write) bytes out = IsStopped (IsSettled e) (IsWhole e) (ended ≡ true) bytes out
-IsRun e ended (Err Memory) bytes out = IsStopped (IsSettled e) (IsWhole e) (ended ≡ true) bytes out
-IsRun e ended (Err (Passage fault.Limit)) bytes out = (bytes ≡ []) × (out ≡ [])
-IsRun e ended (Err (Passage fault.Memory)) bytes out = IsSettled e bytes out
-IsRun e ended (Err (Passage why)) bytes out = IsRefused e why ended bytes out
+abbrev pub ComesTo : {X : Type 0} → Engine → Bool → Result X CmdFault → List ℕ → List ℕ → Type 0
+ComesTo e ended (Ok x) bytes out = IsWhole e bytes out
+ComesTo e ended (Err Write) bytes out = IsStopped (IsSettled e) (IsWhole e) (ended ≡ true) bytes out
+ComesTo e ended (Err Memory) bytes out = IsStopped (IsSettled e) (IsWhole e) (ended ≡ true) bytes out
+ComesTo e ended (Err (Passage fault.Limit)) bytes out = (bytes ≡ []) × (out ≡ [])
+ComesTo e ended (Err (Passage fault.Memory)) bytes out = ((bytes ≡ []) × (out ≡ [])) ⊎ IsHeldUp e ended bytes out
+ComesTo e ended (Err (Passage why)) bytes out = IsRefused e why ended bytes out
+
+-- nothing is kept back: the lines of all passages that the bytes read before the last read settle were written. Behind
+-- the scalars that settle them stood nothing, or the first bytes of a scalar. Each read before the last gave a byte;
+-- `from` and `to` are the counts of reads before the run and after it
+pub record KeepsUp (e : Engine) (from to : ℕ) (bytes out : List ℕ) : Type 0 where
+  pub before : List ℕ
+  pub last : List ℕ
+  pub read : bytes ≡ before ++ last
+  pub each_gave : to ≤ from + (length before + 1)
+  pub written : List ℕ
+  pub later : List ℕ
+  pub is : out ≡ written ++ later
+  pub settled : IsSettled e before written
+  pub goes_on : CanGoOn (length (encode_utf8_all settled.scalars)) settled.rest
+
+-- what a run reads and writes, whatever the answer
+pub record IsRun {X : Type 0} (e : Engine) (from to : ℕ) (ended : Bool) (answer : Result X CmdFault) (bytes out : List ℕ) : Type 0 where
+  pub comes : ComesTo e ended answer bytes out
+  pub keeps_up : KeepsUp e from to bytes out
 
 -- whether a run ended with a failed read
 abbrev pub is_failed_read : {X : Type 0} → Result X CmdFault → Bool

@@ -23,8 +23,12 @@ ghost use Rattle.lbk_cmd.specs.Headline.{ArePassagesOf};
 /// `read_cells` gives such cells of files that it accepts, `show` writes the lines of these passages however the bytes
 /// of the text were cut, and `read_line` accepts exactly the lines of the grammar.
 pub fn headline()
-    ensures { (files : Files) (profile : Profile) (cell : ℕ → Cell) (text : List ℕ) → AreCellsOf files cell
+    ensures holds { (files : Files) (profile : Profile) (cell : ℕ → Cell) (text : List ℕ) → AreCellsOf files cell
         → AllByRecursion (λ scalar. IsScalar scalar) text → ArePassagesOf files profile text (passages profile cell text) }
+    // No other cutting of the text is like that.
+    ensures only { (files : Files) (profile : Profile) (cell : ℕ → Cell) (text : List ℕ) (other : List (List Marked))
+        → AreCellsOf files cell → AllByRecursion (λ scalar. IsScalar scalar) text → ArePassagesOf files profile text other
+        → other ≡ passages profile cell text }
 {}
 
 /// A passage's line has at most 12 bytes per byte of the passage's text and 9 more, its line end among them. Without

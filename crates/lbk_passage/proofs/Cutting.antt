@@ -1,14 +1,11 @@
 -- A list that is cut after each element that ends a part.
-use Rattle.std.proofs.Common.{◌≡◌, Bool, true, false, cond, List, [], ◌∷◌, ◌++◌, map, refl, sym, ap, ◌∙◌}
-use Rattle.std.specs.List.{flat_map}
+use Rattle.std.proofs.Common.{◌≡◌, Bool, true, false, cond, List, [], ◌∷◌, ◌++◌, map, refl, sym, ap, subst, ◌∙◌}
+use Rattle.std.specs.List.{AllByRecursion, flat_map}
+use Rattle.std.proofs.lemmas.List.{map-id}
+use Rattle.lbk_passage.specs.Laws.{IsPart}
 use Rattle.lbk_passage.specs.Passages.{cut_after, join_first}
 
--- of these elements the last alone ends a part · perhaps the last, and no other · the last, and perhaps others
-abbrev pub IsPart : {A : Type 0} → (A → Bool) → List A → Type 0
-IsPart ends [] = ⊥
-IsPart ends (x ∷ []) = ends x ≡ true
-IsPart ends (x ∷ y ∷ xs) = (ends x ≡ false) × IsPart ends (y ∷ xs)
-
+-- of these elements perhaps the last ends a part, and no other · the last ends one, and perhaps others
 abbrev pub IsOpenPart : {A : Type 0} → (A → Bool) → List A → Type 0
 IsOpenPart ends [] = Unit {0}
 IsOpenPart ends (x ∷ []) = Unit {0}
@@ -113,3 +110,35 @@ module _ {A : Type 0} (ends : A → Bool) where
       by : flat_map (map f) (cut_after ends xs) ≡ map f xs → (b : Bool) → ends x ≡ b → flat_map (map f) (cut_after ends (x ∷ xs)) ≡ f x ∷ map f xs
       by rest true is = ap (flat_map (map f)) (step x xs true is) ∙ ap (λ l. f x ∷ l) rest
       by rest false is = ap (flat_map (map f)) (step x xs false is) ∙ put_first (cut_after ends xs) ∙ ap (λ l. f x ∷ l) rest
+
+  -- and as they are
+  pub cut_after-whole : (xs : List A) → flat_map (λ part. part) (cut_after ends xs) ≡ xs
+  cut_after-whole xs = sym (same (cut_after ends xs)) ∙ cut_after-joined (λ x. x) xs ∙ map-id xs
+    where
+      same : (parts : List (List A)) → flat_map (map (λ x. x)) parts ≡ flat_map (λ part. part) parts
+      same [] = refl
+      same (part ∷ parts) = ap (λ l. l ++ flat_map (map (λ x. x)) parts) (map-id part) ∙ ap (λ l. part ++ l) (same parts)
+
+  -- each part ends, where the list does
+  pub cut_after-ends : (xs : List A) → IsClosed ends xs → AllByRecursion (IsPart ends) (cut_after ends xs)
+  cut_after-ends [] closed = tt
+  cut_after-ends (x ∷ []) closed = subst (AllByRecursion (IsPart ends)) (sym (step x [] true closed)) (closed, tt)
+  cut_after-ends (x ∷ y ∷ xs) closed = by (cut_after-ends (y ∷ xs) closed) (ends x) refl
+    where
+      put : (first : List A) (others : List (List A)) → ends x ≡ false → AllByRecursion (IsPart ends) (first ∷ others)
+          → AllByRecursion (IsPart ends) (join_first x (first ∷ others))
+      put [] others is all = absurd all.0
+      put (f ∷ fs) others is all = ((is, all.0), all.1)
+
+      by : AllByRecursion (IsPart ends) (cut_after ends (y ∷ xs)) → (b : Bool) → ends x ≡ b → AllByRecursion (IsPart ends) (cut_after ends (x ∷ y ∷ xs))
+      by rest true is = subst (AllByRecursion (IsPart ends)) (sym (step x (y ∷ xs) true is)) (is, rest)
+      by rest false is =
+          let s = some y xs in
+          subst (AllByRecursion (IsPart ends)) (sym (step x (y ∷ xs) false is ∙ ap (join_first x) s.is))
+          (put s.first s.others is (subst (AllByRecursion (IsPart ends)) s.is rest))
+
+  -- parts that end so are the cutting of what they are, joined
+  pub cut_after-only : (parts : List (List A)) → AllByRecursion (IsPart ends) parts → cut_after ends (flat_map (λ part. part) parts) ≡ parts
+  cut_after-only [] all = refl
+  cut_after-only (part ∷ parts) all =
+      cut_after-part part (flat_map (λ p. p) parts) all.0 ∙ ap (λ l. part ∷ l) (cut_after-only parts all.1)

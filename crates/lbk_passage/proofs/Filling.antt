@@ -1,21 +1,34 @@
 -- What filling a paragraph leaves, as its callers see it.
-use Rattle.std.proofs.Common.{◌≡◌, ℕ, Bool, true, false, ◌||◌, List, [], ◌++◌, length, Option, Some, Result, Ok, Err, string_bytes, if◌then◌else◌, refl, sym, ap, subst, ◌∙◌, arith, inl, append-nil}
+use Rattle.std.proofs.Common.{◌≡◌, ℕ, ◌+◌, Bool, true, false, ◌||◌, not, List, [], ◌++◌, length, Option, None, Some, Result, Ok, Err, string_bytes, encode_utf8_all, chars, IsUtf8, if◌then◌else◌, refl, sym, ap, subst, ◌∙◌, arith, inl, append-nil}
 use Rattle.std.specs.Io.KnownBytes.{prepend_known}
-use Rattle.lbk_feed.specs.View.{BeginsWith}
+use Rattle.std.proofs.lemmas.Str.{chars-nil, encodes-chars}
+use Rattle.lbk_feed.specs.View.{BeginsWith, CanGoOn}
 use Rattle.lbk_rules.specs.declared.cells.Cell.{Cell}
 use Rattle.lbk_rules.specs.declared.verdicts.Profile.{Profile}
 use Rattle.lbk_rules.specs.declared.verdicts.Verdict.{Verdict}
 use Rattle.lbk_passage.specs.State.{State, state_with, text_held}
-use Rattle.lbk_passage.specs.Stays.{IsWhole, IsWholeText}
-use Rattle.lbk_passage.specs.Next.{fault_in, ends_run, KeepsAhead, Stops}
-use Rattle.lbk_passage.specs.Gathering.{HasRead, Gathers, Fills, FillAnswers}
+use Rattle.lbk_passage.specs.Stays.{IsWhole, IsWholeText, end_before, is_nil, last_class}
+use Rattle.lbk_passage.specs.Next.{fault_in, ends_run, IsDone, KeepsAhead, Stops, WereDue}
+use Rattle.lbk_passage.specs.Gathering.{HasRead, WasOpen, Gathers, Fills, FillAnswers}
 use Rattle.lbk_passage.specs.declared.faults.PassageFault.{PassageFault}
 use Rattle.lbk_passage.specs.declared.faults.PassageFault.TheVariants.{Limit, Memory, Read, NotUtf8, TextTooLong, ParagraphTooLong, Spent}
 use Rattle.lbk_passage.specs.declared.paragraph.Paragraph.{Paragraph}
 use Rattle.lbk_passage.proofs.Reading.{Keeps-refl, BeginsWith-held}
 use Rattle.lbk_passage.proofs.Finding.{found}
-use Rattle.lbk_passage.proofs.Gathered.{Shows-of}
+use Rattle.lbk_passage.proofs.Marking.{few_passages, begins_with_all}
+use Rattle.lbk_passage.proofs.Gathered.{ready_nil, Shows-of}
 use Rattle.lbk_passage.proofs.Booleans.{or-false, or-true}
+
+-- where nothing is left, a paragraph that is held has no end, and the feed holds nothing
+module _ (cell : ℕ → Cell) (profile : Profile) (p : Paragraph) where
+  pub held_done : (p.is_held || p.is_spent) ≡ false → IsDone (state_with cell profile p) → p.feed.held ≡ []
+  held_done fresh done = ap (λ b. (if b then string_bytes p.text else []) ++ p.feed.held) (sym fresh) ∙ done.none
+
+  pub whole_done : (p.is_held || p.is_spent) ≡ true → IsWhole cell p → IsDone (state_with cell profile p) → p.end ≡ None
+  whole_done in_hand whole done =
+      let none : string_bytes p.text ≡ [] =
+      ready_nil (string_bytes p.text) p.feed.held (ap (λ b. (if b then string_bytes p.text else []) ++ p.feed.held) (sym in_hand) ∙ done.none) in
+      whole.end_is ∙ ap (λ k. end_before k (not (is_nil (chars p.feed.ready)))) (ap (last_class cell None) (ap chars none ∙ chars-nil))
 
 module _ (cell : ℕ → Cell) (profile : Profile) (old : Paragraph) (u : Option (List ℕ)) (e : Bool) (reads : ℕ) where
   state : State
@@ -34,7 +47,7 @@ module _ (cell : ℕ → Cell) (profile : Profile) (old : Paragraph) (u : Option
     grown = sym (append-nil (state_with cell profile old).held);
     ahead_kept = Keeps-refl (prepend_known (state_with cell profile old).held u);
     begins = BeginsWith-held (state_with cell profile old).held u;
-    costs = record { each_gave = λ open_end. cc; but_one = omega arith; within = λ less. absurd (omega arith) };
+    costs = record { each_gave = λ open_end. cc; but_one = omega arith; within = λ less. absurd (omega arith); due = λ less. absurd (omega arith) };
     agrees = λ h. h;
     notices = λ h. refl;
     quiet = λ h. (refl, h, omega arith, λ e. cc);
@@ -53,7 +66,7 @@ module _ (cell : ℕ → Cell) (profile : Profile) (old : Paragraph) (u : Option
     grown = sym (append-nil (state_with cell profile old).held);
     ahead_kept = Keeps-refl (prepend_known (state_with cell profile old).held u);
     begins = BeginsWith-held (state_with cell profile old).held u;
-    costs = record { each_gave = λ open_end. omega arith; but_one = omega arith; within = λ less. absurd (omega arith) };
+    costs = record { each_gave = λ open_end. omega arith; but_one = omega arith; within = λ less. absurd (omega arith); due = λ less. absurd (omega arith) };
     agrees = λ h. h;
     notices = λ h. refl;
     quiet = λ h. (refl, h, omega arith, λ e. cc);
@@ -76,16 +89,37 @@ module _ (cell : ℕ → Cell) (profile : Profile) (old : Paragraph) (u : Option
     new_held : (state_with cell profile p).held ≡ string_bytes new.text ++ new.feed.held
     new_held = ap (λ l. l ++ p.feed.held) text_is ∙ ap (λ f. string_bytes new.text ++ f.held) feed_same
 
-    read : HasRead mid.feed (string_bytes new.text ++ new.feed.held) u v reads reads' (fault_in r)
+    read : HasRead cell mid.limit mid.feed (string_bytes new.text ++ new.feed.held) u v reads reads' (fault_in r)
     read = g.read
+
+    before : (state_with cell profile old).start ≡ mid.feed.given
+    before = omega (arith, ap length none_held, ap (λ f. f.given) feed_is)
+
+    due : WasOpen cell mid.limit mid.feed (string_bytes new.text ++ new.feed.held) reads reads'
+        → WereDue (state_with cell profile old) (state_with cell profile p).held reads reads'
+    due o =
+        let spelt : encode_utf8_all (chars o.text) ≡ o.text = encodes-chars o.text o.utf8 in
+        let long = ap length spelt in
+        let place : mid.feed.given + length o.text ≡ (state_with cell profile old).start + length (encode_utf8_all (chars o.text)) =
+        omega (arith, before, long) in
+        record {
+          seen = chars o.text;
+          rest = o.rest;
+          last = o.last;
+          bytes = new_held ∙ o.bytes ∙ ap (λ l. l ++ (o.rest ++ o.last)) (sym spelt);
+          text = subst IsUtf8 (sym spelt) o.utf8;
+          few = few_passages profile cell (chars o.text) o.none_ends;
+          unfinished = λ some more. begins_with_all profile cell (chars o.text) more some o.none_ends;
+          within = omega (arith, long, o.within, limit_is);
+          goes_on = subst (λ n. CanGoOn n o.rest) place o.goes_on;
+          each_gave = omega (arith, long, ap length old_held, o.each_gave);
+        }
 
     pub Fills-gathered : old.is_spent ≡ false → FillAnswers (state_with cell profile p) p old.is_spent r → Fills cell profile old p u v e e' reads reads' r
     Fills-gathered unspent answer =
         let long_old = ap length old_held in
         let long_new = ap length new_held in
-        let given = ap (λ f. f.given) feed_is in
         let given_new = ap (λ f. f.given) feed_same in
-        let before : (state_with cell profile old).start ≡ mid.feed.given = omega (arith, ap length none_held, given) in
         record {
           limit = limit_same ∙ g.limit ∙ limit_is;
           answer = answer;
@@ -103,6 +137,7 @@ module _ (cell : ℕ → Cell) (profile : Profile) (old : Paragraph) (u : Option
             each_gave = λ open_end. omega (arith, long_old, long_new, g.each_gave (ap (λ f. ends_run (fault_in r) || f.is_ended) (sym feed_same) ∙ open_end));
             but_one = omega (arith, long_old, long_new, read.but_one);
             within = λ less. omega (arith, long_old, before, read.within less);
+            due = λ less. due (read.due less);
           };
           agrees = λ h at_end. g.agrees (λ k. h (ap (λ f. f.is_ended) (sym feed_is) ∙ k)) (ap (λ f. f.is_ended) (sym feed_same) ∙ at_end);
           notices = λ open_end. g.notices (ap (λ f. f.is_ended) (sym feed_same) ∙ open_end);

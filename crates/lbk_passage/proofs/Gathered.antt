@@ -1,5 +1,5 @@
 -- The turns of the loop that gathers a paragraph.
-use Rattle.std.proofs.Common.{◌≡◌, ℕ, ◌+◌, ◌-◌, ◌<◌, ◌≤◌, Bool, true, false, ◌&&◌, ◌||◌, not, List, [], ◌∷◌, ◌++◌, length, drop, Option, None, Some, Result, Ok, Err, IfOk, IfSome, option_map, is_some, encode_utf8_all, string_bytes, string_len, chars, if◌then◌else◌, refl, sym, ap, subst, ◌∙◌, arith, inl, inr, length-append, append_assoc, append-nil}
+use Rattle.std.proofs.Common.{◌≡◌, ℕ, ◌+◌, ◌-◌, ◌<◌, ◌≤◌, Bool, true, false, ◌&&◌, ◌||◌, not, List, [], ◌∷◌, ◌++◌, length, drop, Option, None, Some, Result, Ok, Err, IfOk, IfSome, option_map, is_some, encode_utf8, encode_utf8_all, string_bytes, string_len, chars, if◌then◌else◌, refl, sym, ap, subst, ◌∙◌, arith, inl, inr, length-append, append_assoc, append-nil}
 use Rattle.std.specs.Bool.{OnTrue, OnFalse}
 use Rattle.std.proofs.Math.Utf8.{scalars}
 use Rattle.std.proofs.Math.Seq.{drop-append_seam}
@@ -38,7 +38,7 @@ read_by (Some feed_fault.TextTooLong) e = cc
 read_by (Some feed_fault.Spent) e = cc
 
 -- a feed that has nothing held has nothing ready
-ready_nil : (ready rest : List ℕ) → ready ++ rest ≡ [] → ready ≡ []
+pub ready_nil : (ready rest : List ℕ) → ready ++ rest ≡ [] → ready ≡ []
 ready_nil [] rest e = refl
 ready_nil (x ∷ xs) rest e = cc
 
@@ -69,7 +69,7 @@ module _ (cell : ℕ → Cell) (old : Paragraph) (unread : Option (List ℕ)) (e
         open_end = open_end;
         unspent = unspent;
         given = omega (arith, ap length none);
-        read = subst (λ l. HasRead old.feed l unread unread reads reads None) (sym all) (HasRead-none old.feed unread reads);
+        read = subst (λ l. HasRead cell old.limit old.feed l unread unread reads reads None) (sym all) (HasRead-none cell old.limit old.feed unread reads);
         each_gave = omega (arith, ap length all);
         few = omega arith;
         agrees = λ h. h;
@@ -79,12 +79,23 @@ module _ (cell : ℕ → Cell) (old : Paragraph) (unread : Option (List ℕ)) (e
         last_is = sym (ap (last_class cell None) scalars_are);
       }
 
+  -- where nothing was left at first, nothing is gathered
+  pub still_done : (now : Paragraph) (last : Option Class) (u : Option (List ℕ)) (e : Bool) (r1 : ℕ) → Gathering cell old now last unread u ended e reads r1
+      → old.feed.is_ended ≡ true → old.feed.held ≡ [] → (now.feed.is_ended ≡ true) × (now.feed.held ≡ []) × (last ≡ None)
+  still_done now last u e r1 g at_end none =
+      let was = g.quiet at_end in
+      let all = ready_nil (string_bytes now.text) now.feed.held (was.0 ∙ none) in (
+        was.1,
+        ap (λ l. l ++ now.feed.held) (sym all) ∙ was.0 ∙ none,
+        g.last_is ∙ ap (last_class cell None) (ap chars all ∙ chars-nil),
+      )
+
   -- after a step of the feed
   pub record Settled (p : Paragraph) (last : Option Class) (unread' : Option (List ℕ)) (ended' : Bool) (reads' : ℕ) (fault : Option PassageFault) : Type 0 where
     pub limit : p.limit ≡ old.limit
     pub open_end : p.is_held ≡ false
     pub given : p.feed.given ≡ old.feed.given + length (string_bytes p.text)
-    pub read : HasRead old.feed (string_bytes p.text ++ p.feed.held) unread unread' reads reads' fault
+    pub read : HasRead cell old.limit old.feed (string_bytes p.text ++ p.feed.held) unread unread' reads reads' fault
     pub each_gave : 0 < length p.feed.ready → reads' + length old.feed.held ≤ reads + length (string_bytes p.text ++ p.feed.held)
     pub few : reads' ≤ reads + (length (string_bytes p.text) + 4)
     pub agrees : feed.Agrees old.feed ended unread → feed.Agrees p.feed ended' unread'
@@ -98,21 +109,24 @@ module _ (cell : ℕ → Cell) (old : Paragraph) (unread : Option (List ℕ)) (e
       → Gathering cell old now last unread u ended e reads r1 → Settles now p u v e e' r1 r2 r → Settled p last v e' r2 (fault_in r)
   Settled-of now p last u v e e' r1 r2 r g s =
       let text : string_bytes p.text ≡ string_bytes now.text = s.text in
+      let within : length (string_bytes now.text) ≤ old.limit =
+      (let len = string_len-is now.text in let kept = now.within in omega (arith, len, kept, g.limit)) in
       record {
         limit = s.limit ∙ g.limit;
         open_end = s.same_held ∙ g.open_end;
         given = s.steps.given ∙ g.given ∙ ap (λ l. old.feed.given + length l) (sym text);
-        read = subst (λ f. HasRead old.feed (string_bytes p.text ++ p.feed.held) unread v reads r2 f) (sym s.fault_is)
-            (subst (λ l. HasRead old.feed (l ++ p.feed.held) unread v reads r2 (option_map passage_fault s.fault)) (sym text)
-            (HasRead-step old.feed (string_bytes now.text) now.feed p.feed unread u v reads r1 r2 s.fault g.read g.each_gave g.given s.steps s.pays));
+        read = subst (λ f. HasRead cell old.limit old.feed (string_bytes p.text ++ p.feed.held) unread v reads r2 f) (sym s.fault_is)
+            (subst (λ l. HasRead cell old.limit old.feed (l ++ p.feed.held) unread v reads r2 (option_map passage_fault s.fault)) (sym text)
+            (HasRead-step cell old.limit old.feed (string_bytes now.text) now.feed p.feed unread u v reads r1 r2 s.fault
+            (IsUtf8-string_bytes now.text) g.none_ends within g.read g.each_gave g.given s.steps s.pays));
         each_gave = λ some. omega (
           arith,
           ap length text,
           length-append (string_bytes p.text) p.feed.held,
           length-append (string_bytes now.text) p.feed.held,
-          each-step old.feed (string_bytes now.text) now.feed p.feed unread u v reads r1 r2 s.fault g.each_gave some s.pays,
+          each-step cell old.limit old.feed (string_bytes now.text) now.feed p.feed unread u v reads r1 r2 s.fault g.each_gave some s.pays,
         );
-        few = omega (arith, ap length text, few-step old.feed (string_bytes now.text) now.feed p.feed unread u v reads r1 r2 s.fault g.few g.each_gave s.pays);
+        few = omega (arith, ap length text, few-step cell old.limit old.feed (string_bytes now.text) now.feed p.feed unread u v reads r1 r2 s.fault g.few g.each_gave s.pays);
         agrees = λ h. s.agrees (g.agrees h);
         notices = λ open_end. s.notices open_end ∙ g.notices (not_sooner now.feed p.feed u v s.fault open_end s.steps);
         quiet = λ h.
@@ -176,8 +190,8 @@ module _ (cell : ℕ → Cell) (old : Paragraph) (unread : Option (List ℕ)) (e
 
     -- the feed stops
     pub Gathers-fault : (e : FeedFault) → Settled p last v e' r2 (Some (passage_fault e)) → p.is_spent ≡ true → ¬ (Some e ≡ Some feed_fault.Spent)
-        → p.feed.ready ≡ [] → IsFront p.feed → LiesIn e p.feed → Gathers cell old p unread v ended e' reads r2 (Err (passage_fault e))
-    Gathers-fault e s spent unspent ready front lies =
+        → p.feed.ready ≡ [] → IsFront p.feed → LendsFront p.feed → LiesIn e p.feed → Gathers cell old p unread v ended e' reads r2 (Err (passage_fault e))
+    Gathers-fault e s spent unspent ready front lends lies =
         let kept = short in
         record {
           limit = s.limit;
@@ -191,7 +205,8 @@ module _ (cell : ℕ → Cell) (old : Paragraph) (unread : Option (List ℕ)) (e
           notices = s.notices;
           quiet = s.quiet;
           whole = tt;
-          stops = λ profile. Stops-feed (state_with cell profile p) p (Shows-of cell profile p (ap (λ b. p.is_held || b) spent ∙ or-true p.is_held)) s.none_ends e unspent ready front lies;
+          stops = λ profile. Stops-feed (state_with cell profile p) p (Shows-of cell profile p (ap (λ b. p.is_held || b) spent ∙ or-true p.is_held)) s.none_ends e unspent ready front
+              (omega (arith, lends.few)) lies;
         }
 
     -- scalars of the piece that is ready went to the text
@@ -206,9 +221,9 @@ module _ (cell : ℕ → Cell) (old : Paragraph) (unread : Option (List ℕ)) (e
       given : n.feed.given ≡ old.feed.given + length (string_bytes n.text)
       given = omega (arith, t.given, s.given, longer)
 
-      read : (fault : Option PassageFault) → HasRead old.feed (string_bytes p.text ++ p.feed.held) unread v reads r2 fault
-          → HasRead old.feed (string_bytes n.text ++ n.feed.held) unread v reads r2 fault
-      read fault h = subst (λ l. HasRead old.feed l unread v reads r2 fault) (sym all_same) h
+      read : (fault : Option PassageFault) → HasRead cell old.limit old.feed (string_bytes p.text ++ p.feed.held) unread v reads r2 fault
+          → HasRead cell old.limit old.feed (string_bytes n.text ++ n.feed.held) unread v reads r2 fault
+      read fault h = subst (λ l. HasRead cell old.limit old.feed l unread v reads r2 fault) (sym all_same) h
 
       gave : r2 + length old.feed.held ≤ reads + length (string_bytes n.text ++ n.feed.held)
       gave = omega (arith, ap length all_same, s.each_gave some)
@@ -310,7 +325,7 @@ module _ (cell : ℕ → Cell) (old : Paragraph) (unread : Option (List ℕ)) (e
             open_end = same.held ∙ t.same_held ∙ s.open_end;
             spent = same.spent ∙ ap (λ f. ends_run (Some f)) (sym fault_is);
             given = ap (λ f. f.given) same.feed ∙ given ∙ ap (λ l. old.feed.given + length l) (sym same.text);
-            read = subst (λ l. HasRead old.feed l unread v reads r2 (Some fault)) (sym text_same) (read (Some fault) (read_fault fault fault_is s.read));
+            read = subst (λ l. HasRead cell old.limit old.feed l unread v reads r2 (Some fault)) (sym text_same) (read (Some fault) (read_fault fault fault_is s.read));
             each_gave = λ open_end. let ends : (ends_run (Some fault) || m.feed.is_ended) ≡ true = ap (λ f. ends_run (Some f) || m.feed.is_ended) fault_is in cc;
             few = omega (arith, few, t.limit, s.limit, kept);
             agrees = λ h at_end. s.agrees h (sym t.ended ∙ sym (ap (λ f. f.is_ended) same.feed) ∙ at_end);
@@ -322,18 +337,26 @@ module _ (cell : ℕ → Cell) (old : Paragraph) (unread : Option (List ℕ)) (e
                 (Stops-long (state_with cell profile m) m (shows profile) none next.0 next.1 t.behind (n.feed.given - string_len n.text) held (both-left _ (scalars next.1) all)
                 (ap (λ l. ends_at (last_class cell None (chars l)) (cell next.0).class) same.text ∙ ap (λ k. ends_at k (cell next.0).class) (sym last_is) ∙ next.3)
                 (omega (arith, ap length same.text, len, same.limit, t.limit, next.4))
+                (omega (
+                  arith,
+                  ap (λ f. f.given) same.feed,
+                  t.few,
+                  ap length (sym (encodes-chars n.feed.ready t.utf8) ∙ ap encode_utf8_all (t.is_ready ∙ next.2)),
+                  length-append (encode_utf8 next.0) (encode_utf8_all next.1),
+                ))
                 (let st = (shows profile).start in omega (arith, st, ap length same.text, len, ap (λ f. f.given) same.feed)));
           }
         where
           read_fault : (fault : PassageFault) → fault ≡ ParagraphTooLong (n.feed.given - string_len n.text)
-              → HasRead old.feed (string_bytes p.text ++ p.feed.held) unread v reads r2 None → HasRead old.feed (string_bytes p.text ++ p.feed.held) unread v reads r2 (Some fault)
-          read_fault fault is h = subst (λ f. HasRead old.feed (string_bytes p.text ++ p.feed.held) unread v reads r2 (Some f)) (sym is) (record {
+              → HasRead cell old.limit old.feed (string_bytes p.text ++ p.feed.held) unread v reads r2 None → HasRead cell old.limit old.feed (string_bytes p.text ++ p.feed.held) unread v reads r2 (Some fault)
+          read_fault fault is h = subst (λ f. HasRead cell old.limit old.feed (string_bytes p.text ++ p.feed.held) unread v reads r2 (Some f)) (sym is) (record {
             got = h.got;
             grown = h.grown;
             ahead_kept = h.ahead_kept;
             begins = h.begins;
             but_one = h.but_one;
             within = h.within;
+            due = h.due;
           })
 
 -- what a step of the feed answered, where it did not stop
@@ -396,4 +419,4 @@ module _ (cell : ℕ → Cell) (old : Paragraph) (unread : Option (List ℕ)) (e
           subst (λ k. Gathers cell old p unread v ended e' reads r2 (Err k)) same
           (Gathers-fault cell old unread ended reads p last v e' r2 f
           (subst (λ k. Settled cell old unread ended reads p last v e' r2 k) (ap fault_in was ∙ ap Some (sym same)) settled)
-          (s.spent ∙ ap is_some is) (λ k. s.unspent (is ∙ k)) lies.0 s.steps.front lies.1)
+          (s.spent ∙ ap is_some is) (λ k. s.unspent (is ∙ k)) lies.0 s.steps.front s.steps.lends lies.1)

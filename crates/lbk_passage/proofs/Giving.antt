@@ -11,7 +11,7 @@ use Rattle.lbk_passage.specs.Marks.{Marked, marks, ended, scalars_of, text_of}
 use Rattle.lbk_passage.specs.Segments.{segments_of}
 use Rattle.lbk_passage.specs.Pieces.{pieces_of}
 use Rattle.lbk_passage.specs.State.{State, state_with, text_held}
-use Rattle.lbk_passage.specs.Next.{Answers, AfterNext, IsPlaced, Lends, ComesFirst, GoesOn, IsLast, Stops, KeepsAhead}
+use Rattle.lbk_passage.specs.Next.{Answers, AfterNext, IsPlaced, Lends, ComesFirst, GoesOn, IsLast, Stops, KeepsAhead, WereDue}
 use Rattle.lbk_passage.specs.Gathering.{Fills, FillAnswers, IsFirst, IsSame}
 use Rattle.lbk_passage.specs.declared.faults.PassageFault.{PassageFault}
 use Rattle.lbk_passage.specs.declared.faults.PassageFault.TheVariants.{Limit, Memory, Read, NotUtf8, TextTooLong, ParagraphTooLong, Spent}
@@ -31,9 +31,6 @@ length-scalars [] = refl
 length-scalars (m ∷ l) = let rest = length-scalars l in omega (arith, rest)
 
 -- what an `Ok` says
-pub ok_err : {T E : Type 0} (r : Result T E) (x : T) (e : E) → r ≡ Ok x → r ≡ Err e → ⊥
-ok_err r x e ok err = false≢true (sym (ap is_ok (sym ok ∙ err)))
-
 pub on_ok : {T E : Type 0} (P : Type 0) (r : Result T E) → is_ok r ≡ true → OnOk r P → P
 on_ok P (Ok x) is h = h
 on_ok P (Err e) is h = cc
@@ -135,6 +132,11 @@ module _ (cell : ℕ → Cell) (profile : Profile) (old p : Paragraph) (u v : Op
         behind = p.feed.held;
         bytes = shows.held ∙ ap (λ l. l ++ p.feed.held) (sym text_is);
         comes = comes;
+        counted = (let first = first_is in omega (arith, ap length text_is, first.counted));
+        near = λ next rest e.
+            (let first = first_is in
+            let begins = shows.start in
+            omega (arith, ap length text_is, begins, first.near next rest e));
       };
       start = omega (arith, f.start);
       spent = f.spent;
@@ -143,7 +145,7 @@ module _ (cell : ℕ → Cell) (profile : Profile) (old p : Paragraph) (u v : Op
       grown = f.grown;
       ahead_kept = f.ahead_kept;
       begins = f.begins;
-      costs = record { each_gave = f.costs.each_gave; but_one = f.costs.but_one; within = f.costs.within };
+      costs = record { each_gave = f.costs.each_gave; but_one = f.costs.but_one; within = f.costs.within; due = f.costs.due };
       agrees = f.agrees;
       notices = f.notices;
       quiet = λ h. ((f.quiet h).0, (f.quiet h).1, (f.quiet h).2, λ e. cc);
@@ -229,6 +231,7 @@ module _ (cell : ℕ → Cell) (profile : Profile) (old p : Paragraph) (u v : Op
               each_gave = λ open_end. omega (arith, long, f.costs.each_gave (sym ended_is ∙ open_end));
               but_one = omega (arith, long, f.costs.but_one);
               within = f.costs.within;
+              due = λ less. subst (λ l. WereDue (state_with cell profile old) l reads reads') (sym all_is) (f.costs.due less);
             };
             agrees = λ h at_end. f.agrees h (sym ended_is ∙ at_end);
             notices = λ open_end. f.notices (sym ended_is ∙ open_end);

@@ -13,3 +13,4 @@ pub mod Finding
 pub mod Staying
 pub mod Taking
 pub mod SegmentLemmas
+pub mod Together

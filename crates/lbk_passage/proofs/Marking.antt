@@ -13,10 +13,10 @@ use Rattle.lbk_rules.proofs.EndLemmas.{must_between, no_must_between, must_at_en
 use Rattle.lbk_rules.proofs.ParagraphLemmas.{paragraph_between}
 use Rattle.lbk_passage.specs.Marks.{Marked, marks_behind, marks, scalars_of, ended}
 use Rattle.lbk_passage.specs.Passages.{passages, cut_after, ends_passage, is_must}
-use Rattle.lbk_passage.specs.Laws.{IsBehind}
+use Rattle.lbk_passage.specs.Laws.{IsBehind, IsPart}
 use Rattle.lbk_passage.specs.Next.{BeginsWithAll}
 use Rattle.lbk_passage.specs.Stays.{stays, last_class}
-use Rattle.lbk_passage.proofs.Cutting.{IsPart, IsOpenPart, IsClosed, cut_after-part, cut_after-open, cut_after-few, cut_after-append, cut_after-joined}
+use Rattle.lbk_passage.proofs.Cutting.{IsOpenPart, IsClosed, cut_after-part, cut_after-open, cut_after-few, cut_after-append, cut_after-joined}
 use Rattle.lbk_passage.proofs.Booleans.{both-left, both-right}
 
 not-true : (b : Bool) → not b ≡ true → b ≡ false
@@ -132,6 +132,12 @@ module _ (profile : Profile) (cell : ℕ → Cell) where
   must_after_all : (before : List ℕ) (c : ℕ) → verdict_between_in profile (map cell (before ++ c ∷ [])) [] ≡ end_of_text
   must_after_all before c =
       ap (λ l. verdict_between_in profile l []) (map-append cell before (c ∷ [])) ∙ must_at_end profile (map cell before) (cell c)
+
+  -- a line must end after the last of a text
+  pub marks-closed : (before cs : List ℕ) → IsClosed ends_passage (marks_behind profile cell before cs)
+  marks-closed before [] = tt
+  marks-closed before (c ∷ []) = ap (λ v. is_must v.kind) (must_after_all before c)
+  marks-closed before (c ∷ d ∷ ds) = marks-closed (before ++ c ∷ []) (d ∷ ds)
 
   -- the marks of a paragraph before more text, and at the end of the text
   module _ (y : ℕ) (more : List ℕ) where

@@ -1,15 +1,17 @@
 -- What was read while a paragraph is gathered: one step of the feed more.
-use Rattle.std.proofs.Common.{◌≡◌, ℕ, ◌+◌, ◌<◌, ◌≤◌, List, [], ◌++◌, length, Option, None, Some, option_map, refl, sym, ap, ◌∙◌, arith, ⊎_elim, length-append, append_assoc, append-nil}
+use Rattle.std.proofs.Common.{◌≡◌, ℕ, ◌+◌, ◌<◌, ◌≤◌, true, List, [], ◌++◌, length, Option, None, Some, option_map, chars, IsUtf8, refl, sym, ap, subst, ◌∙◌, arith, ⊎_elim, length-append, append_assoc, append-nil}
 use Rattle.std.proofs.lemmas.Bool.{cases_lt}
 use Rattle.std.specs.Io.KnownBytes.{prepend_known, Keeps}
 use Rattle.lbk_feed.specs.declared.faults.FeedFault.{FeedFault}
 use Rattle.lbk_feed.specs.declared.faults.FeedFault.TheVariants as feed_fault
 use Rattle.lbk_feed.specs.Devices.{KeepsIfTold}
-use Rattle.lbk_feed.specs.View.{View, BeginsWith, Steps, Pays}
+use Rattle.lbk_feed.specs.View.{View, BeginsWith, CanGoOn, Steps, Pays}
 use Rattle.lbk_feed.specs.View as feed
+use Rattle.lbk_rules.specs.declared.cells.Cell.{Cell}
 use Rattle.lbk_passage.specs.Faults.{passage_fault}
+use Rattle.lbk_passage.specs.Stays.{stays}
 use Rattle.lbk_passage.specs.Next.{KeepsAhead}
-use Rattle.lbk_passage.specs.Gathering.{HasRead}
+use Rattle.lbk_passage.specs.Gathering.{HasRead, WasOpen}
 
 pub Keeps-refl : (a : Option (List ℕ)) → Keeps a a
 Keeps-refl None = tt
@@ -20,14 +22,16 @@ BeginsWith-held held None = tt
 BeginsWith-held held (Some xs) = (xs, refl)
 
 -- nothing was read
-pub HasRead-none : (old : View) (unread : Option (List ℕ)) (reads : ℕ) → HasRead old old.held unread unread reads reads None
-HasRead-none old unread reads = record {
+pub HasRead-none : (cell : ℕ → Cell) (limit : ℕ) (old : View) (unread : Option (List ℕ)) (reads : ℕ)
+    → HasRead cell limit old old.held unread unread reads reads None
+HasRead-none cell limit old unread reads = record {
   got = [];
   grown = sym (append-nil old.held);
   ahead_kept = Keeps-refl (prepend_known old.held unread);
   begins = BeginsWith-held old.held unread;
   but_one = omega arith;
   within = λ less. absurd (omega arith);
+  due = λ less. absurd (omega arith);
 }
 
 -- what is kept behind a text that the feed gave up
@@ -63,26 +67,67 @@ begun (Some xs) text a b None k l = absurd k
 begun (Some xs) text a b (Some ys) k l =
     (l.0, sym k ∙ append_assoc text a ys ∙ ap (λ r. text ++ r) l.1 ∙ sym (append_assoc text b l.0))
 
-module _ (old : View) (text : List ℕ) (now next : View) (unread u v : Option (List ℕ)) (from reads reads' : ℕ) (fault : Option FeedFault) where
-  -- a step of the feed more
-  pub HasRead-step : HasRead old (text ++ now.held) unread u from reads None → reads + length old.held ≤ from + length (text ++ now.held)
-      → now.given ≡ old.given + length text → Steps now next u v fault → Pays now next reads reads'
-      → HasRead old (text ++ next.held) unread v from reads' (option_map passage_fault fault)
-  HasRead-step read each given steps pays =
-      let long = length-append text now.held in
-      let longer = length-append text next.held in
-      record {
-        got = read.got ++ steps.got;
-        grown = ap (λ l. text ++ l) steps.grown ∙ sym (append_assoc text now.held steps.got) ∙ ap (λ l. l ++ steps.got) read.grown
-            ∙ append_assoc old.held read.got steps.got;
-        ahead_kept = kept_ahead fault (prepend_known old.held unread) text now.held next.held u v read.ahead_kept steps.ahead_kept;
-        begins = begun (prepend_known old.held unread) text now.held next.held u read.ahead_kept steps.begins;
-        but_one = omega (arith, long, longer, each, pays.but_one);
-        within = λ less. ⊎_elim
-            (λ (more : reads < reads'). omega (arith, long, each, given, pays.within more))
-            (λ (none : reads' ≤ reads). let before : from < reads = omega arith in omega (arith, read.within before))
-            (cases_lt reads reads');
-      }
+-- what was open before the last read still was, where more bytes came and no read was made
+WasOpen-more : (cell : ℕ → Cell) (limit : ℕ) (old : View) (all got : List ℕ) (from reads reads' : ℕ) → reads' ≤ reads
+    → WasOpen cell limit old all from reads → WasOpen cell limit old (all ++ got) from reads'
+WasOpen-more cell limit old all got from reads reads' none o = record {
+  text = o.text;
+  utf8 = o.utf8;
+  none_ends = o.none_ends;
+  within = o.within;
+  rest = o.rest;
+  last = o.last ++ got;
+  bytes = ap (λ l. l ++ got) o.bytes ∙ append_assoc o.text (o.rest ++ o.last) got ∙ ap (λ l. o.text ++ l) (append_assoc o.rest o.last got);
+  goes_on = o.goes_on;
+  each_gave = omega (arith, o.each_gave);
+}
+
+module _ (cell : ℕ → Cell) (limit : ℕ) (old : View) (text : List ℕ) (now next : View) (unread u v : Option (List ℕ)) (from reads reads' : ℕ)
+    (fault : Option FeedFault) where
+  module _ (utf8 : IsUtf8 text) (none_ends : stays cell None (chars text) ≡ true) (short : length text ≤ limit)
+      (read : HasRead cell limit old (text ++ now.held) unread u from reads None) (each : reads + length old.held ≤ from + length (text ++ now.held))
+      (given : now.given ≡ old.given + length text) (steps : Steps now next u v fault) (pays : Pays now next reads reads') where
+    grown : text ++ next.held ≡ (text ++ now.held) ++ steps.got
+    grown = ap (λ l. text ++ l) steps.grown ∙ sym (append_assoc text now.held steps.got)
+
+    open_before : reads < reads' → WasOpen cell limit old (text ++ next.held) from reads'
+    open_before more =
+        let due = pays.due more in
+        record {
+          text = text;
+          utf8 = utf8;
+          none_ends = none_ends;
+          within = short;
+          rest = now.held ++ due.seen;
+          last = due.last;
+          bytes = ap (λ l. text ++ l) due.grown;
+          goes_on = subst (λ n. CanGoOn n (now.held ++ due.seen)) given due.went_on;
+          each_gave = omega (arith, length-append text now.held, length-append now.held due.seen, each, due.each_gave);
+        }
+
+    -- a step of the feed more
+    pub HasRead-step : HasRead cell limit old (text ++ next.held) unread v from reads' (option_map passage_fault fault)
+    HasRead-step =
+        let long = length-append text now.held in
+        let longer = length-append text next.held in
+        record {
+          got = read.got ++ steps.got;
+          grown = grown ∙ ap (λ l. l ++ steps.got) read.grown ∙ append_assoc old.held read.got steps.got;
+          ahead_kept = kept_ahead fault (prepend_known old.held unread) text now.held next.held u v read.ahead_kept steps.ahead_kept;
+          begins = begun (prepend_known old.held unread) text now.held next.held u read.ahead_kept steps.begins;
+          but_one = omega (arith, long, longer, each, pays.but_one);
+          within = λ less. ⊎_elim
+              (λ (more : reads < reads'). omega (arith, long, each, given, pays.within more))
+              (λ (none : reads' ≤ reads). let before : from < reads = omega arith in omega (arith, read.within before))
+              (cases_lt reads reads');
+          due = λ less. ⊎_elim
+              (λ (more : reads < reads'). open_before more)
+              (λ (none : reads' ≤ reads).
+              let before : from < reads = omega arith in
+              subst (λ l. WasOpen cell limit old l from reads') (sym grown)
+              (WasOpen-more cell limit old (text ++ now.held) steps.got from reads reads' none (read.due before)))
+              (cases_lt reads reads');
+        }
 
   pub few-step : reads ≤ from + (length text + 4) → reads + length old.held ≤ from + length (text ++ now.held) → Pays now next reads reads'
       → reads' ≤ from + (length text + 4)

@@ -4,8 +4,8 @@ use Rattle.std.proofs.Math.Utf8.{scalar}
 use Rattle.std.proofs.lemmas.Str.{encodes-chars, encodes-append, IsUtf8-append}
 use Rattle.lbk_feed.specs.declared.faults.FeedFault.{FeedFault}
 use Rattle.lbk_feed.specs.declared.faults.FeedFault.TheVariants as feed_fault
-use Rattle.lbk_feed.specs.Text.{well_formed_prefix, counted, IsNotUtf8At, IsTooLong}
-use Rattle.lbk_feed.specs.View.{AfterEach, IsFront, LiesIn}
+use Rattle.lbk_feed.specs.Text.{longest_text, well_formed_prefix, counted, IsNotUtf8At, IsTooLong}
+use Rattle.lbk_feed.specs.View.{AfterEach, CanGoOn, IsFront, LiesIn}
 use Rattle.lbk_passage.specs.Faults.{passage_fault}
 use Rattle.lbk_passage.specs.Stays.{ends_at, stays, last_class}
 use Rattle.lbk_passage.specs.State.{State}
@@ -44,24 +44,31 @@ module _ (s : State) (p : Paragraph) (shows : Shows s p) (none : stays s.cell No
   bytes : s.held ≡ encode_utf8_all (chars (string_bytes p.text)) ++ p.feed.held
   bytes = shows.held ∙ ap (λ l. l ++ p.feed.held) (sym text_is)
 
-  pub Stops-feed : (e : FeedFault) → ¬ (Some e ≡ Some feed_fault.Spent) → p.feed.ready ≡ [] → IsFront p.feed → LiesIn e p.feed → Stops s (passage_fault e)
-  Stops-feed feed_fault.Read unspent ready front lies = record {
+  -- how many bytes stand before those that the feed holds
+  before : s.start + length (encode_utf8_all (chars (string_bytes p.text))) ≡ p.feed.given
+  before = ap (λ l. s.start + length l) text_is ∙ shows.start
+
+  pub Stops-feed : (e : FeedFault) → ¬ (Some e ≡ Some feed_fault.Spent) → p.feed.ready ≡ [] → IsFront p.feed → p.feed.given ≤ longest_text → LiesIn e p.feed
+      → Stops s (passage_fault e)
+  Stops-feed feed_fault.Read unspent ready front few lies = record {
     seen = chars (string_bytes p.text);
     rest = p.feed.held;
     bytes = bytes;
     text = subst IsUtf8 (sym text_is) shows.text;
     few = few_passages s.profile s.cell (chars (string_bytes p.text)) none;
     unfinished = λ some more. begins_with_all s.profile s.cell (chars (string_bytes p.text)) more some none;
+    counted = omega (arith, before, few);
     all_seen = all_seen ready front;
-    lies = short;
+    lies = (short, subst (λ n. CanGoOn n p.feed.held) (sym before) lies);
   }
-  Stops-feed (feed_fault.NotUtf8 at) unspent ready front lies = record {
+  Stops-feed (feed_fault.NotUtf8 at) unspent ready front few lies = record {
     seen = chars (string_bytes p.text);
     rest = p.feed.held;
     bytes = bytes;
     text = subst IsUtf8 (sym text_is) shows.text;
     few = few_passages s.profile s.cell (chars (string_bytes p.text)) none;
     unfinished = λ some more. begins_with_all s.profile s.cell (chars (string_bytes p.text)) more some none;
+    counted = omega (arith, before, few);
     all_seen = all_seen ready front;
     lies = (
       short,
@@ -69,13 +76,14 @@ module _ (s : State) (p : Paragraph) (shows : Shows s p) (none : stays s.cell No
           (λ used h. subst (λ l. IsNotUtf8At l s.is_ended at) (joined used) (subst (λ b. IsNotUtf8At ((used ++ string_bytes p.text) ++ p.feed.held) b at) (sym shows.is_ended) h)) lies,
     );
   }
-  Stops-feed feed_fault.TextTooLong unspent ready front lies = record {
+  Stops-feed feed_fault.TextTooLong unspent ready front few lies = record {
     seen = chars (string_bytes p.text);
     rest = p.feed.held;
     bytes = bytes;
     text = subst IsUtf8 (sym text_is) shows.text;
     few = few_passages s.profile s.cell (chars (string_bytes p.text)) none;
     unfinished = λ some more. begins_with_all s.profile s.cell (chars (string_bytes p.text)) more some none;
+    counted = omega (arith, before, few);
     all_seen = all_seen ready front;
     lies = (
       short,
@@ -83,13 +91,14 @@ module _ (s : State) (p : Paragraph) (shows : Shows s p) (none : stays s.cell No
           (λ used h. subst IsTooLong (joined used) h) lies,
     );
   }
-  Stops-feed feed_fault.Spent unspent ready front lies = absurd (unspent refl)
+  Stops-feed feed_fault.Spent unspent ready front few lies = absurd (unspent refl)
 
   -- the next scalar goes past the limit
   pub Stops-long : (c : ℕ) (cs behind : List ℕ) (start : ℕ) → p.feed.held ≡ encode_utf8_all (c ∷ cs) ++ behind → scalar c ≡ true
       → ends_at (last_class s.cell None (chars (string_bytes p.text))) (s.cell c).class ≡ false
-      → s.limit < length (string_bytes p.text) + length (encode_utf8 c) → start ≡ s.start → Stops s (ParagraphTooLong start)
-  Stops-long c cs behind start held is ends over start_is =
+      → s.limit < length (string_bytes p.text) + length (encode_utf8 c) → p.feed.given + length (encode_utf8 c) ≤ longest_text → start ≡ s.start
+      → Stops s (ParagraphTooLong start)
+  Stops-long c cs behind start held is ends over near start_is =
       let text = string_bytes p.text in
       let seen = chars text ++ c ∷ [] in
       let stay = stays-snoc s.cell None (chars text) c none ends in
@@ -104,6 +113,7 @@ module _ (s : State) (p : Paragraph) (shows : Shows s p) (none : stays s.cell No
         text = subst IsUtf8 (sym spelt) (IsUtf8-append text (encode_utf8 c) shows.text (IsUtf8-scalar c is));
         few = few_passages s.profile s.cell seen stay;
         unfinished = λ some more. begins_with_all s.profile s.cell seen more some stay;
+        counted = omega (arith, shows.start, near, ap length spelt, length-append text (encode_utf8 c));
         all_seen = tt;
         lies = (start_is, (chars text, c, refl, short, omega (arith, ap length text_is, long, over)));
       }

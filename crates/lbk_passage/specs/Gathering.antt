@@ -4,7 +4,7 @@ use Rattle.std.specs.Str.{chars}
 use Rattle.std.specs.Bool.{OnTrue, OnFalse}
 use Rattle.std.specs.Io.KnownBytes.{prepend_known}
 use Rattle.lbk_feed.specs.declared.faults.FeedFault.{FeedFault}
-use Rattle.lbk_feed.specs.View.{View, Steps, Pays, BeginsWith, AfterEach, IsFront, LendsFront}
+use Rattle.lbk_feed.specs.View.{View, Steps, Pays, BeginsWith, AfterEach, CanGoOn, IsFront, LendsFront}
 use Rattle.lbk_feed.specs.Text.{longest_text}
 use Rattle.lbk_feed.specs.declared.faults.FeedFault.TheVariants.{Read as feed_read, Spent as feed_spent}
 use Rattle.lbk_feed.specs.View as feed
@@ -86,14 +86,29 @@ pub record Settles (old new : Paragraph) (unread unread' : Option (List ℕ)) (e
   pub stands : IfOk r (λ stands. OnTrue stands (0 < length new.feed.ready))
   pub ends : IfOk r (λ stands. OnFalse stands ((new.feed.held ≡ []) × (new.feed.is_ended ≡ true)))
 
+-- before the last of some reads, from when nothing was gathered, no line must end in what was gathered, and behind it was
+-- what may go on
+pub record WasOpen (cell : ℕ → Cell) (limit : ℕ) (old : View) (all : List ℕ) (reads reads' : ℕ) : Type 0 where
+  pub text : List ℕ
+  pub utf8 : IsUtf8 text
+  pub none_ends : stays cell None (chars text) ≡ true
+  pub within : length text ≤ limit
+  pub rest : List ℕ
+  pub last : List ℕ
+  pub bytes : all ≡ text ++ (rest ++ last)
+  pub goes_on : CanGoOn (old.given + length text) rest
+  pub each_gave : reads' + length old.held ≤ reads + (length text + length rest + 1)
+
 -- what was read from when nothing was gathered, where `all` are the bytes gathered and held
-pub record HasRead (old : View) (all : List ℕ) (unread unread' : Option (List ℕ)) (reads reads' : ℕ) (fault : Option PassageFault) : Type 0 where
+pub record HasRead (cell : ℕ → Cell) (limit : ℕ) (old : View) (all : List ℕ) (unread unread' : Option (List ℕ)) (reads reads' : ℕ)
+    (fault : Option PassageFault) : Type 0 where
   pub got : List ℕ
   pub grown : all ≡ old.held ++ got
   pub ahead_kept : KeepsAhead fault (prepend_known old.held unread) (prepend_known all unread')
   pub begins : BeginsWith all (prepend_known old.held unread)
   pub but_one : reads' + length old.held ≤ reads + length all + 1
   pub within : reads < reads' → reads' + (old.given + length old.held) ≤ reads + (longest_text + 1)
+  pub due : reads < reads' → WasOpen cell limit old all reads reads'
 
 -- a paragraph that is being gathered, from when nothing was
 pub record Gathering (cell : ℕ → Cell) (old now : Paragraph) (last : Option Class) (unread unread' : Option (List ℕ))
@@ -102,7 +117,7 @@ pub record Gathering (cell : ℕ → Cell) (old now : Paragraph) (last : Option 
   pub open_end : now.is_held ≡ false
   pub unspent : now.is_spent ≡ false
   pub given : now.feed.given ≡ old.feed.given + length (string_bytes now.text)
-  pub read : HasRead old.feed (string_bytes now.text ++ now.feed.held) unread unread' reads reads' None
+  pub read : HasRead cell old.limit old.feed (string_bytes now.text ++ now.feed.held) unread unread' reads reads' None
   pub each_gave : reads' + length old.feed.held ≤ reads + length (string_bytes now.text ++ now.feed.held)
   pub few : reads' ≤ reads + (length (string_bytes now.text) + 4)
   pub agrees : feed.Agrees old.feed ended unread → feed.Agrees now.feed ended' unread'
@@ -119,7 +134,7 @@ pub record Gathers (cell : ℕ → Cell) (old new : Paragraph) (unread unread' :
   pub open_end : new.is_held ≡ false
   pub spent : new.is_spent ≡ ends_run (fault_in r)
   pub given : new.feed.given ≡ old.feed.given + length (string_bytes new.text)
-  pub read : HasRead old.feed (string_bytes new.text ++ new.feed.held) unread unread' reads reads' (fault_in r)
+  pub read : HasRead cell old.limit old.feed (string_bytes new.text ++ new.feed.held) unread unread' reads reads' (fault_in r)
   pub each_gave : (ends_run (fault_in r) || new.feed.is_ended) ≡ false
       → reads' + length old.feed.held ≤ reads + length (string_bytes new.text ++ new.feed.held)
   pub few : reads' ≤ reads + (old.limit + 4)

@@ -3,7 +3,7 @@ use Rattle.std.specs.Prelude.{◌≡◌, ◌⊎◌, ℕ, ◌+◌, ◌<◌, ◌�
 use Rattle.std.specs.Io.KnownBytes.{prepend_known, Keeps, IsAtEnd}
 use Rattle.lbk_feed.specs.Devices.{KeepsIfTold, count_up}
 use Rattle.lbk_feed.specs.Text.{longest_text, well_formed_prefix, counted, IsNotUtf8At, IsTooLong}
-use Rattle.lbk_feed.specs.View.{AfterEach, BeginsWith}
+use Rattle.lbk_feed.specs.View.{AfterEach, BeginsWith, CanGoOn}
 use Rattle.lbk_rules.specs.Marks.{Marked, marks, ended, scalars_of, text_of}
 use Rattle.lbk_passage.specs.Passages.{passages}
 use Rattle.lbk_passage.specs.Segments.{segments_of}
@@ -93,13 +93,17 @@ pub record IsDone (s : State) : Type 0 where
   pub none : s.held ≡ []
   pub at_end : s.is_ended ≡ true
 
--- memory could not grow: the passage is held whole, and was not given
+-- memory could not grow: the passage is held whole, and was not given. It and the scalar behind it lie within the bytes
+-- that a text may have
 pub record Waits (s : State) : Type 0 where
   pub marks : List Marked
   pub some : 0 < length marks
   pub behind : List ℕ
   pub bytes : s.held ≡ text_of marks ++ behind
   pub comes : ComesFirst s marks behind
+  pub counted : s.start + length (text_of marks) ≤ longest_text
+  pub near : (next : ℕ) (rest : List ℕ) → behind ≡ encode_utf8 next ++ rest
+      → s.start + length (text_of marks) + length (encode_utf8 next) ≤ longest_text
 
 -- some passages begin with one that holds all these scalars, if there are any
 pub record BeginsWithAll (scalars : List ℕ) (ps : List (List Marked)) : Type 0 where
@@ -109,19 +113,21 @@ pub record BeginsWithAll (scalars : List ℕ) (ps : List (List Marked)) : Type 0
   pub is : ps ≡ first ∷ others
   pub holds : scalars_of first ≡ scalars ++ behind
 
--- where a fault of the text lies: behind the scalars seen, and for too long a paragraph, in their last
-abbrev pub LiesBehind : PassageFault → State → List ℕ → Type 0
-LiesBehind Limit s seen = ⊥
-LiesBehind Memory s seen = ⊥
-LiesBehind Read s seen = length (encode_utf8_all seen) ≤ s.limit
-LiesBehind (NotUtf8 at) s seen = (length (encode_utf8_all seen) ≤ s.limit)
+-- where a fault of the text lies: behind the scalars seen, and for too long a paragraph, in their last. A failed read is
+-- the answer only where the bytes behind them may still go on to a scalar
+abbrev pub LiesBehind : PassageFault → State → List ℕ → List ℕ → Type 0
+LiesBehind Limit s seen rest = ⊥
+LiesBehind Memory s seen rest = ⊥
+LiesBehind Read s seen rest = (length (encode_utf8_all seen) ≤ s.limit)
+    × CanGoOn (s.start + length (encode_utf8_all seen)) rest
+LiesBehind (NotUtf8 at) s seen rest = (length (encode_utf8_all seen) ≤ s.limit)
     × AfterEach s.start (λ used. IsNotUtf8At (used ++ s.held) s.is_ended at)
-LiesBehind TextTooLong s seen = (length (encode_utf8_all seen) ≤ s.limit)
+LiesBehind TextTooLong s seen rest = (length (encode_utf8_all seen) ≤ s.limit)
     × AfterEach s.start (λ used. IsTooLong (used ++ s.held))
-LiesBehind (ParagraphTooLong start) s seen = (start ≡ s.start)
+LiesBehind (ParagraphTooLong start) s seen rest = (start ≡ s.start)
     × ((front : List ℕ) × (last : ℕ) × (seen ≡ front ++ last ∷ []) × (length (encode_utf8_all front) ≤ s.limit)
     × (s.limit < length (encode_utf8_all seen)))
-LiesBehind Spent s seen = ⊥
+LiesBehind Spent s seen rest = ⊥
 
 -- the scalars seen are all well-formed bytes held, but where the paragraph is too long, which is known sooner
 abbrev pub IsAllSeen : PassageFault → State → List ℕ → Type 0
@@ -129,7 +135,8 @@ IsAllSeen (ParagraphTooLong start) s seen = Unit {0}
 IsAllSeen _ s seen = AfterEach s.start (λ used. used ++ encode_utf8_all seen ≡ well_formed_prefix (counted (used ++ s.held)))
 
 -- the segmenter stops by a fault of its reader or its text. The scalars seen, which begin the bytes held, are at most
--- one passage, and begin the first passage of every text that goes on from them
+-- one passage, and begin the first passage of every text that goes on from them. All of them lie within the bytes that a
+-- text may have
 pub record Stops (s : State) (fault : PassageFault) : Type 0 where
   pub seen : List ℕ
   pub rest : List ℕ
@@ -137,8 +144,9 @@ pub record Stops (s : State) (fault : PassageFault) : Type 0 where
   pub text : IsUtf8 (encode_utf8_all seen)
   pub few : length (passages s.profile s.cell seen) ≤ 1
   pub unfinished : 0 < length seen → (more : List ℕ) → BeginsWithAll seen (passages s.profile s.cell (seen ++ more))
+  pub counted : s.start + length (encode_utf8_all seen) ≤ longest_text
   pub all_seen : IsAllSeen fault s seen
-  pub lies : LiesBehind fault s seen
+  pub lies : LiesBehind fault s seen rest
 
 -- what an answer says
 abbrev pub Answers : State → State → Result (Option Passage) PassageFault → Type 0
@@ -154,13 +162,30 @@ pub record DecidesAlike (old new : State) : Type 0 where
   pub profile : new.profile ≡ old.profile
   pub limit : new.limit ≡ old.limit
 
+-- reads are made only while no passage and no fault is certain. Before the last of some reads the bytes held were the
+-- front of those held in the end and those given, which are `all`: scalars within the limit that are at most one passage,
+-- and begin the first passage of every text that goes on from them, and behind them nothing, or the first bytes of a
+-- scalar. Each read before the last gave a byte
+pub record WereDue (s : State) (all : List ℕ) (from to : ℕ) : Type 0 where
+  pub seen : List ℕ
+  pub rest : List ℕ
+  pub last : List ℕ
+  pub bytes : all ≡ encode_utf8_all seen ++ (rest ++ last)
+  pub text : IsUtf8 (encode_utf8_all seen)
+  pub few : length (passages s.profile s.cell seen) ≤ 1
+  pub unfinished : 0 < length seen → (more : List ℕ) → BeginsWithAll seen (passages s.profile s.cell (seen ++ more))
+  pub within : length (encode_utf8_all seen) ≤ s.limit
+  pub goes_on : CanGoOn (s.start + length (encode_utf8_all seen)) rest
+  pub each_gave : to + length s.held ≤ from + (length (encode_utf8_all seen) + length rest + 1)
+
 -- what the reads of a call cost, from the count before it to the count after, where `all` are the bytes held in the
--- end and those given: each read gives a byte, but perhaps the last, where the end was met or the run stops; and
--- none is made once more bytes were read than a text may have
+-- end and those given: each read gives a byte, but perhaps the last, where the end was met or the run stops; none is
+-- made once more bytes were read than a text may have, nor where a passage or a fault is certain
 pub record Costs (old new : State) (all : List ℕ) (stops : Bool) (from to : ℕ) : Type 0 where
   pub each_gave : (stops || new.is_ended) ≡ false → to + length old.held ≤ from + length all
   pub but_one : to + length old.held ≤ from + length all + 1
   pub within : from < to → to + (old.start + length old.held) ≤ from + (longest_text + 1)
+  pub due : from < to → WereDue old all from to
 
 -- the segmenter has met the end only where its reader has: one reader serves all its calls
 abbrev pub Agrees : State → Bool → Option (List ℕ) → Type 0

@@ -32,14 +32,15 @@ impl Paragraph {
     ghost use Rattle.lbk_passage.specs.State.{state_with, new_state};
     ghost use Rattle.lbk_passage.specs.Stays.{IsWhole};
     ghost use Rattle.lbk_passage.specs.Gathering.{Takes, Settles, Gathering, Gathers, Fills, IsSame};
-    ghost use Rattle.lbk_passage.specs.Next.{failures_with, fault_in};
+    ghost use Rattle.lbk_passage.specs.Next.{IsDone, failures_with, fault_in};
     ghost use Rattle.lbk_rules.specs.declared.cells.Cell.{Cell};
     ghost use Rattle.lbk_rules.specs.declared.verdicts.Profile.{Profile};
 
     /// A paragraph of at most `limit` bytes, for which room is reserved.
     pub fn new(alloc: Global, limit: u32) -> Result<Paragraph, AllocError>
         requires { limit ≤ 16777216 }
-        ensures { IfOk result (λ p. (cell : ℕ → Cell) (profile : Profile) → state_with cell profile p ≡ new_state cell profile limit) }
+        ensures state { IfOk result (λ p. (cell : ℕ → Cell) (profile : Profile) → state_with cell profile p ≡ new_state cell profile limit) }
+        ensures room { IfOk result (λ p. string_capacity p.text ≡ limit) }
     {
         Ok(Paragraph {
             feed: Feed::new(),
@@ -93,6 +94,8 @@ impl Paragraph {
         ensures spent { self.old.is_spent ≡ true → reader.new ≡ reader.old }
         ensures ended { self.old.feed.is_ended ≡ true → reader.new ≡ reader.old }
         ensures refused { self.old.is_spent ≡ true → result ≡ Err PassageFault.Spent }
+        ensures again { (profile : Profile) → IsDone (state_with (C.cell_of cells.now) profile self.old)
+            → self.old.is_spent ≡ false → result ≡ Ok None }
     {
         if self.is_spent {
             return Err(PassageFault::Spent);
@@ -121,6 +124,7 @@ impl Paragraph {
             (R.read_count reader.old) (R.read_count reader.new) result }
         ensures failures { R.failure_count reader.new ≡ failures_with (R.failure_count reader.old) (fault_in result) }
         ensures quiet { self.old.feed.is_ended ≡ true → reader.new ≡ reader.old }
+        ensures again { self.old.feed.is_ended ≡ true → self.old.feed.held ≡ [] → result ≡ Ok None }
     {
         let mut last = None;
         while self.settle(reader)? {
@@ -143,6 +147,7 @@ impl Paragraph {
             (R.read_count reader.old) (R.read_count reader.new) result }
         ensures failures { R.failure_count reader.new ≡ failures_with (R.failure_count reader.old) (fault_in result) }
         ensures quiet { self.old.feed.is_ended ≡ true → reader.new ≡ reader.old }
+        ensures again { self.old.feed.is_ended ≡ true → self.old.feed.held ≡ [] → result ≡ Ok false }
     {
         let outcome = self.feed.settle(reader);
         self.is_spent = outcome.is_err();

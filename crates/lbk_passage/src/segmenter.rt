@@ -1,6 +1,6 @@
 //! The passages of a text, one after another.
 
-ghost use Rattle.std.specs.Prelude.{◌≡◌, [], ◌≤◌, ◌<◌, ◌+◌, ◌^◌, ◌↔◌, ◌⊎◌, ◌-◌, true, length, string_len, string_bytes, IfOk, IfErr, IfSome, OnOk, IsErrOf};
+ghost use Rattle.std.specs.Prelude.{◌≡◌, [], ◌≤◌, ◌<◌, ◌+◌, ◌^◌, ◌↔◌, ◌⊎◌, ◌-◌, true, false, length, string_len, string_bytes, IfOk, IfErr, IfSome, OnOk, IsErrOf};
 ghost use Rattle.std.specs.Borrow.{sem};
 ghost use Rattle.std.specs.Io.BufRead.{Rests};
 ghost use Rattle.std.specs.Str.{chars};
@@ -30,8 +30,8 @@ pub struct Segmenter<'a, C: CellSource> {
 
 impl<'a, C: CellSource> Segmenter<'a, C> {
     ghost use Rattle.lbk_passage.specs.State.{IsLimit, new_state};
-    ghost use Rattle.lbk_passage.specs.Shown.{state_of};
-    ghost use Rattle.lbk_passage.specs.Next.{AfterNext, IsPlaced, fault_in, failures_with};
+    ghost use Rattle.lbk_passage.specs.Shown.{HasRoom, state_of};
+    ghost use Rattle.lbk_passage.specs.Next.{AfterNext, IsDone, IsPlaced, fault_in, failures_with};
     ghost use Rattle.lbk_passage.specs.contracts.segmenter.Segmenter.{the_row};
     ghost use mir.Syntax.{named};
 
@@ -47,6 +47,7 @@ impl<'a, C: CellSource> Segmenter<'a, C> {
         ensures limit { IsErrOf result PassageFault.Limit ↔ (¬ (IsLimit limit)) }
         ensures only { IfErr result (λ fault. (fault ≡ PassageFault.Limit) ⊎ (fault ≡ PassageFault.Memory)) }
         ensures state { IfOk result (λ s. state_of C.cell_of s ≡ new_state (C.cell_of cells.now) profile limit) }
+        ensures room { IfOk result (λ s. HasRoom s limit) }
     {
         if limit == 0 || limit > LIMIT_MAX {
             return Err(PassageFault::Limit);
@@ -78,6 +79,8 @@ impl<'a, C: CellSource> Segmenter<'a, C> {
         ensures lent { IfOk result (λ o. IfSome o IsPlaced) }
         ensures spent { (state_of C.cell_of self.old).is_spent ≡ true → result ≡ Err PassageFault.Spent }
         ensures spent_only { result ≡ Err PassageFault.Spent → (state_of C.cell_of self.old).is_spent ≡ true }
+        // `None` stays: it leaves nothing held and the end met.
+        ensures again { IsDone (state_of C.cell_of self.old) → (state_of C.cell_of self.old).is_spent ≡ false → result ≡ Ok None }
         // Where the answer was seen before, or a fault was answered, no read is made.
         ensures settled { (state_of C.cell_of self.old).is_settled ≡ true → reader.new ≡ reader.old }
         ensures ended { (state_of C.cell_of self.old).is_ended ≡ true → reader.new ≡ reader.old }

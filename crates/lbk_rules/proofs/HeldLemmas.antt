@@ -2,15 +2,15 @@
 use Rattle.std.proofs.Common.{◌≡◌, Bool, true, false, cond, ◌||◌, ◌&&◌, not, List, [], ◌∷◌, ◌++◌, map, reverse, refl, sym, ap, ◌∙◌}
 use Rattle.std.proofs.lemmas.Bool.{false≢true}
 use Rattle.lbk_rules.specs.declared.classes.Class.{Class}
-use Rattle.lbk_rules.specs.declared.classes.Class.TheVariants.{CombiningMark, ZWJ}
+use Rattle.lbk_rules.specs.declared.classes.Class.TheVariants.{CombiningMark, Quotation, ZWJ}
 use Rattle.lbk_rules.specs.declared.cells.Cell.{Cell}
 use Rattle.lbk_rules.specs.declared.verdicts.Kind.TheVariants.{No, May}
 use Rattle.lbk_rules.specs.declared.verdicts.Profile.{Profile}
 use Rattle.lbk_rules.specs.declared.verdicts.Profile.TheVariants.{First, Second}
-use Rattle.lbk_rules.specs.declared.verdicts.Rule.TheVariants.{Lb15a, Lb15b, Lb31}
+use Rattle.lbk_rules.specs.declared.verdicts.Rule.TheVariants.{Lb15, Lb15a, Lb15b, Lb31}
 use Rattle.lbk_rules.specs.declared.verdicts.Verdict.{Verdict}
-use Rattle.lbk_rules.specs.Classes.{is, hard, mark, QU}
-use Rattle.lbk_rules.specs.Sides.{Side, closing, leaves_closed, opens_quotation}
+use Rattle.lbk_rules.specs.Classes.{is, hard, mark, OP, QU}
+use Rattle.lbk_rules.specs.Sides.{Side, closing, is_final, leaves_closed, opens_quotation, past_spaces}
 use Rattle.lbk_rules.specs.Units.{letter, unit, units, units_after}
 use Rattle.lbk_rules.specs.Facts.{units_before}
 use Rattle.lbk_rules.specs.Held.{is_15b, before_15b, any_matches, is_held}
@@ -248,3 +248,97 @@ unfolding is_held
 is_held-chain First left cell more = sym (from_cells-first (reverse left) (cell ∷ []))
 is_held-chain Second left cell more =
     ap (λ v. closing cell && not v) (any_matches-first left cell more) ∙ sym (from_cells-held (reverse left) cell)
+
+-- Positions that rule 15b decides
+
+-- only what comes after these lines counts there
+choose-held : (lines : List Line) (left right : Side) (w x y : Verdict) → (is_15b y.rule ≡ true → w ≡ x)
+    → is_15b (choose lines left right y).rule ≡ true → choose lines left right w ≡ choose lines left right x
+choose-held [] left right w x y same = same
+choose-held (line ∷ lines) left right w x y same =
+    elim (line.holds left right)
+    as (λ v. is_15b (cond v line.answer (choose lines left right y)).rule ≡ true
+    → cond v line.answer (choose lines left right w) ≡ cond v line.answer (choose lines left right x))
+    [ true ↦ λ _. refl | false ↦ choose-held lines left right w x y same ]
+
+choose-15b : (lines : List Line) (left right : Side) (y z : Verdict) → never_15b lines ≡ true → (is_15b y.rule ≡ true → y ≡ z)
+    → is_15b (choose lines left right y).rule ≡ true → choose lines left right y ≡ z
+choose-15b [] left right y z never same = same
+choose-15b (line ∷ lines) left right y z never same =
+    elim (line.holds left right)
+    as (λ v. is_15b (cond v line.answer (choose lines left right y)).rule ≡ true → cond v line.answer (choose lines left right y) ≡ z) [
+      | true ↦ λ h. absurd (false≢true (sym (both-left (is_15b line.answer.rule) (never_15b lines) never) ∙ h))
+      | false ↦ choose-15b lines left right y z (both-right (is_15b line.answer.rule) (never_15b lines) never) same
+    ]
+
+QU-not_OP : (class : Class) → QU class ≡ true → OP class ≡ false
+unfolding is
+QU-not_OP Quotation _ = refl
+QU-not_OP _ h = absurd (false≢true h)
+
+and-left : (a b : Bool) → (a && b) ≡ true → a ≡ true
+and-left true b h = refl
+and-left false b h = absurd (false≢true h)
+
+from_15-open : (left : Side) (right : Cell) (more : Side) → leaves_closed more ≡ false → is_15b (from_15 Second left (right ∷ [])).rule ≡ true
+    → from_15 First left (right ∷ more) ≡ from_15 Second left (right ∷ more)
+unfolding from_15 quotation_rules
+from_15-open left right more opens held =
+    let test = sym (from_15-held left right) ∙ held in
+    let unopened = both-left (opens_quotation left) (closing right) test in
+    let closes = both-right (opens_quotation left) (closing right) test in
+    let rest = from_16 left (right ∷ more) in
+    let not_op = QU-not_OP right.class (and-left (QU right.class) (is_final right.quote) closes) in
+    ap (λ v. cond (past_spaces QU left && v) (record { kind = No; rule = Lb15 }) rest) not_op
+    ∙ ap (λ v. cond v (record { kind = No; rule = Lb15 }) rest) (and-false (past_spaces QU left))
+    ∙ sym (ap (λ v. cond v (record { kind = No; rule = Lb15a }) (cond (closing right && leaves_closed more) (record { kind = No; rule = Lb15b }) rest)) unopened
+    ∙ ap (λ v. cond (closing right && v) (record { kind = No; rule = Lb15b }) rest) opens
+    ∙ ap (λ v. cond v (record { kind = No; rule = Lb15b }) rest) (and-false (closing right)))
+
+from_14-open : (left : Side) (right : Cell) (more : Side) → leaves_closed more ≡ false → is_15b (from_14 Second left (right ∷ [])).rule ≡ true
+    → from_14 First left (right ∷ more) ≡ from_14 Second left (right ∷ more)
+unfolding from_14 opening_rules
+from_14-open left right more opens =
+    choose-held opening_rules left (right ∷ []) (from_15 First left (right ∷ more)) (from_15 Second left (right ∷ more)) (from_15 Second left (right ∷ []))
+    (from_15-open left right more opens)
+
+from_11-open : (left : Side) (right : Cell) (more : Side) → leaves_closed more ≡ false → is_15b (from_11 Second left (right ∷ [])).rule ≡ true
+    → from_11 First left (right ∷ more) ≡ from_11 Second left (right ∷ more)
+unfolding from_11 joining_rules
+from_11-open left right more opens =
+    choose-held joining_rules left (right ∷ []) (from_14 First left (right ∷ more)) (from_14 Second left (right ∷ more)) (from_14 Second left (right ∷ []))
+    (from_14-open left right more opens)
+
+-- where the unit after it leaves the quotation open, both profiles decide it alike
+pub from_cells-open : (left : Side) (right : Cell) (more : List Cell) → leaves_closed (units_after (hard right.class) more) ≡ false
+    → is_15b (from_cells Second left (right ∷ [])).rule ≡ true
+    → from_cells First left (right ∷ more) ≡ from_cells Second left (right ∷ more)
+unfolding from_cells cell_rules
+from_cells-open left right more opens =
+    choose-held cell_rules left (right ∷ []) (from_11 First (units_before left) (units (right ∷ more)))
+    (from_11 Second (units_before left) (units (right ∷ more))) (from_11 Second (units_before left) (units (right ∷ [])))
+    (from_11-open (units_before left) (unit right) (units_after (hard right.class) more) opens)
+
+from_15-15b : (left : Side) (right : Cell) → is_15b (from_15 Second left (right ∷ [])).rule ≡ true
+    → from_15 Second left (right ∷ []) ≡ record { kind = No; rule = Lb15b }
+unfolding from_15 quotation_rules
+from_15-15b left right held =
+    let test = sym (from_15-held left right) ∙ held in
+    let unopened = both-left (opens_quotation left) (closing right) test in
+    let closes = both-right (opens_quotation left) (closing right) test in
+    let rest = from_16 left (right ∷ []) in
+    ap (λ v. cond v (record { kind = No; rule = Lb15a }) (cond (closing right && true) (record { kind = No; rule = Lb15b }) rest)) unopened
+    ∙ ap (λ v. cond (v && true) (record { kind = No; rule = Lb15b }) rest) closes
+
+-- rule 15b forbids a break
+pub from_cells-15b : (left : Side) (right : Cell) → is_15b (from_cells Second left (right ∷ [])).rule ≡ true
+    → from_cells Second left (right ∷ []) ≡ record { kind = No; rule = Lb15b }
+unfolding from_cells from_11 from_14 cell_rules joining_rules opening_rules
+from_cells-15b left right =
+    let u = units_before left in
+    let r = unit right ∷ [] in
+    let no_break : Verdict = record { kind = No; rule = Lb15b } in
+    choose-15b cell_rules left (right ∷ []) (from_11 Second u r) no_break refl
+    (choose-15b joining_rules u r (from_14 Second u r) no_break refl
+    (choose-15b opening_rules u r (from_15 Second u r) no_break refl
+    (from_15-15b u (unit right))))

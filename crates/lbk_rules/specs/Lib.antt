@@ -22,6 +22,7 @@ pub mod Chain
 pub mod Codes
 pub mod Facts
 pub mod Fits
+pub mod FlatTable
 pub mod KindTable
 pub mod Kinds
 pub mod LateFits

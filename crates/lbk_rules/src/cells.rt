@@ -1,7 +1,7 @@
 //! What the rules see of a scalar value, and sources of it.
 
-ghost use Rattle.std.specs.Prelude.{◌≡◌, ℕ, ◌&&◌, not, IfSome};
-ghost use Rattle.lbk_rules.specs.Classes.{is};
+ghost use Rattle.std.specs.Prelude.{◌≡◌, ℕ, ◌&&◌, ◌||◌, not, Some, None, IfSome, if◌then◌else◌};
+ghost use Rattle.lbk_rules.specs.Classes.{closes_before, hard, is, mark, none_of};
 ghost use Rattle.lbk_rules.specs.Sides.{opening, closing};
 ghost use Rattle.lbk_rules.specs.Units.{unit};
 
@@ -43,6 +43,24 @@ impl Cell {
         ensures { result ≡ closing self }
     {
         self.class.is(Class::Quotation) && matches!(self.quote, Quote::Final)
+    }
+
+    /// Whether the unit that it heads leaves a closing quotation mark before it closed (rule LB15b). None comes where it
+    /// heads no unit: it is a mark, and `fresh` is false.
+    pub fn unit_closes(self, fresh: bool) -> Option<bool>
+        ensures { result ≡ (if fresh || none_of mark self.class then Some (closes_before (unit self).class) else None) }
+    {
+        if fresh || !self.class.is_mark() {
+            return Some(self.unit().class.closes_before());
+        }
+        None
+    }
+
+    /// Whether a mark behind it heads a unit (rule LB10): it is one after which lines may end.
+    pub fn leaves_fresh(self) -> bool
+        ensures { result ≡ hard self.class }
+    {
+        self.class.is_hard()
     }
 
     /// Whether it is of this class, and not wide (rule LB30).

@@ -1,9 +1,22 @@
 //! Verdicts as numbers.
 
-ghost use Rattle.std.specs.Prelude.{◌≡◌, ◌<◌};
+ghost use Rattle.std.specs.Prelude.{◌≡◌, ◌<◌, Some, None, nat_lt, if◌then◌else◌};
 ghost use Rattle.lbk_rules.specs.Codes.{IsCode, kind_numbered, rule_numbered, verdict_coded};
 
 use crate::verdicts::{Kind, Rule, Verdict};
+
+impl Rule {
+    /// The rule of a number: its place among the rules, from 0. None comes past the last.
+    pub fn numbered(number: u8) -> Option<Rule>
+        ensures { result ≡ (if nat_lt number 38 then Some (rule_numbered number) else None) }
+    {
+        if number < 38 {
+            Some(rule_numbered(u16::from(number)))
+        } else {
+            None
+        }
+    }
+}
 
 /// The number of a verdict: 256 times the place of its rule among the rules, and that of its kind among the kinds. So a
 /// verdict is read from a table, and written to a block, at once.

@@ -17,7 +17,7 @@ const CODES: usize = 0x11_0000;
 /// The kind of each code.
 #[derive(Debug, Drop)]
 pub(crate) struct KindTable {
-    kinds: Vec<u8>,
+    pub(crate) kinds: Vec<u8>,
     ghost complete: { length kinds.items ≡ 0x110000 },
     ghost few: { (code : ℕ) → slice_index kinds.items code < 84 },
 }

@@ -13,10 +13,10 @@ use crate::verdicts::Profile;
 use std::alloc::{AllocError, Global};
 
 /// How many rows a table may have at most, so that the place of each fits a `u16`.
-const MOST_ROWS: usize = 65_536 / KINDS;
+pub(crate) const MOST_ROWS: usize = 65_536 / KINDS;
 
 /// How many hints are kept on where a row is.
-const HINTS: usize = 1021;
+pub(crate) const HINTS: usize = 1021;
 
 /// What happens at a cell of some kind after some cells.
 #[derive(Clone, Copy, PartialEq, Eq, Debug)]
@@ -128,7 +128,7 @@ fn step_of(steps: &[Step], row: usize, kind: usize) -> &Step
 }
 
 /// The place of a hint on where the row is that knows this, mostly its own.
-fn hint_slot(left: Left) -> usize
+pub(crate) fn hint_slot(left: Left) -> usize
     ensures { result < HINTS }
 {
     let units = left.units;
@@ -148,7 +148,7 @@ fn hint_slot(left: Left) -> usize
 
 /// The row that knows this, put behind the others where there is none. `hint` is the row to look at
 /// first.
-fn row_of(lefts: &mut Vec<Left>, left: Left, hint: usize) -> Result<usize, AllocError>
+pub(crate) fn row_of(lefts: &mut Vec<Left>, left: Left, hint: usize) -> Result<usize, AllocError>
     ensures more { IfOk result (λ _. Extends lefts.old.items lefts.new.items) }
     ensures row { IfOk result (λ row. (row < length lefts.new.items)
         × (slice_index_or lefts.new.items row (facts []) ≡ left)) }

@@ -1,8 +1,8 @@
 //! The feed over reads that are cut, that fail and that end, with the pieces, counts and places that must come.
 
-use crate::hostile::SIZES;
 use lbk_feed::devices::{MemorySource, RepeatedSource};
 use lbk_feed::{Feed, FeedFault, Source};
+use lbk_tests_rows::reads::SIZES;
 use std::process::Abort;
 use std::test::Fail;
 

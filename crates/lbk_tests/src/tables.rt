@@ -1,7 +1,6 @@
 //! What tables say of codes, and how files are refused.
 
-use crate::property_files::{NO_FILES, line_break_alone};
-use lbk_cmd::SAMPLE_FILES;
+use lbk_tests_rows::property_files::{NO_FILES, SAMPLES, line_break_alone};
 use lbk_ucd::{Category, EastAsian, Files, LineBreak, Places, Tables, UcdCause, UcdFault, Which};
 use std::alloc::{AllocError, Global};
 use std::fmt::Write;
@@ -91,7 +90,7 @@ const SAMPLE_ROWS: [(u32, LineBreak, EastAsian, Category, bool); 10] = [
 
 #[test]
 fn samples_answer(rt: HostRuntime) -> Result<(), Fail> {
-    let tables = Tables::read(rt.alloc(), SAMPLE_FILES)?;
+    let tables = Tables::read(rt.alloc(), SAMPLES)?;
     for (code, line_break, east_asian, category, is_pictographic) in SAMPLE_ROWS {
         assert!(rt; code <= 0x10FFFF);
         assert_eq!(rt; tables.line_break(code), line_break, "at {code:x}");
@@ -288,7 +287,7 @@ fn rows_in_falling_order(rt: HostRuntime) -> Result<(), Fail> {
 
 #[test]
 fn runs_of_the_samples(rt: HostRuntime) -> Result<(), Fail> {
-    let tables = Tables::read(rt.alloc(), SAMPLE_FILES)?;
+    let tables = Tables::read(rt.alloc(), SAMPLES)?;
     let mut near = Places::START;
     for (code, line_break, east_asian, category, is_pictographic) in SAMPLE_ROWS {
         assert!(rt; code <= 0x10FFFF);

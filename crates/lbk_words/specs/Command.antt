@@ -11,23 +11,28 @@ greatest_limit = 16777216
 abbrev pub default_limit : ℕ
 default_limit = 65536
 
+-- an option
+abbrev pub option_rule : Text → Rule
+option_rule name = record (new_rule name) { long = Some name }
+
+-- an option that takes a value
+abbrev pub value_rule : Text → Rule
+value_rule name = record (option_rule name) { action = Some Set; value_names = 1 }
+
 -- a required option with the name of a property file
 abbrev pub file_rule : Text → Rule
-file_rule name = record (new_rule name) { long = Some name; action = Some Set; value_names = 1; required = true }
+file_rule name = record (value_rule name) { required = true }
 
 -- an option with a number of a range
 abbrev pub number_rule : Text → ℕ → Text → Rule
-number_rule name most default = record (new_rule name) {
-  long = Some name;
-  action = Some Set;
-  value_names = 1;
+number_rule name most default = record (value_rule name) {
   parser = Some (Unsigned 1 most);
   defaults = default ∷ [];
 }
 
 -- a flag
 abbrev pub flag_rule : Text → Rule
-flag_rule name = record (new_rule name) { long = Some name; action = Some SetTrue }
+flag_rule name = record (option_rule name) { action = Some SetTrue }
 
 -- the options that each subcommand has
 abbrev pub files_app : Text → App
@@ -38,7 +43,7 @@ files_app name = with_rule (with_rule (with_rule (with_rule (new_app name)
 abbrev pub profile_rule : Rule
 profile_rule = number_rule (codes "profile") 2 (codes "1")
 
--- `show` and `segment`
+-- `mark`, `show` and `segment`
 abbrev pub limited_app : Text → App
 limited_app name = with_rule (with_rule (files_app name)
     (number_rule (codes "limit") greatest_limit (codes "65536"))) profile_rule
@@ -55,8 +60,8 @@ bare_app = record {
 }
 
 abbrev pub lbk_app : App
-lbk_app = with_subcommand (with_subcommand (with_subcommand bare_app
-    (limited_app (codes "show")).top) (limited_app (codes "segment")).top) replay_app.top
+lbk_app = with_subcommand (with_subcommand (with_subcommand (with_subcommand bare_app
+    (limited_app (codes "mark")).top) (limited_app (codes "show")).top) (limited_app (codes "segment")).top) replay_app.top
 
 -- what is wrong with the words, or what they ask for in place of work, as `clap` sorts it
 abbrev pub faults_of : List Text → Kinds

@@ -3,7 +3,7 @@
 ghost use Rattle.std.specs.Prelude.{◌≡◌, false, IfOk, codes};
 ghost use Rattle.clap.specs.Words.{app_of, rule_of};
 ghost use Rattle.lbk_words.specs.Local.{IsLocal};
-ghost use Rattle.lbk_words.specs.Command.{file_rule, number_rule, flag_rule, greatest_limit, profile_rule, files_app, limited_app, replay_app, bare_app, lbk_app};
+ghost use Rattle.lbk_words.specs.Command.{option_rule, value_rule, file_rule, number_rule, flag_rule, greatest_limit, profile_rule, files_app, limited_app, replay_app, bare_app, lbk_app};
 
 use clap::builder::ValueParser;
 use clap::{Arg, ArgAction, Command};
@@ -29,6 +29,8 @@ Examples:
 
 Exit status: 0 done, 1 a refused file or text, 2 wrong words, 3 a replay with lines that differ or are refused.";
 
+const MARK_ABOUT: &str = "Writes the text with ÷ at each position where a line may end";
+
 const SHOW_ABOUT: &str =
     "Writes a line for each passage: its marks and scalars, and the rule of each position";
 
@@ -37,6 +39,12 @@ const SEGMENT_ABOUT: &str =
 
 const REPLAY_ABOUT: &str =
     "Compares a file of break tests with the rules, and counts what agrees and what differs";
+
+const MARK_AFTER: &str = "\
+Nothing else is changed: where a line must end, the line end of the text shows it. A text that ends without a line
+end gets one. Example:
+  $ printf 'ab cd' | lbk mark FILES
+  ab ÷cd";
 
 const SHOW_AFTER: &str = "\
 A mark stands before and after each scalar: × no break, ÷ a break may be, ! a break must be. Example:
@@ -61,17 +69,28 @@ too long; `T lines agreed differed refused` stands at the end. Example:
   D 1 1 ÷ × 28
   T 1 0 1 0";
 
+/// An option of this name.
+fn option<'a>(alloc: Global, name: &'a str) -> Arg<'a>
+    ensures rule { rule_of result ≡ option_rule name.entry.now }
+    ensures local { result.global ≡ false }
+{
+    Arg::new(alloc, name).long(name)
+}
+
+/// An option of this name that takes a value.
+fn value_option<'a>(alloc: Global, name: &'a str, value: &'a str) -> Arg<'a>
+    ensures rule { rule_of result ≡ value_rule name.entry.now }
+    ensures local { result.global ≡ false }
+{
+    option(alloc, name).action(ArgAction::Set).value_name(value)
+}
+
 /// A required option that takes the name of a property file.
 fn file_option<'a>(alloc: Global, name: &'a str, help: &'a str) -> Arg<'a>
     ensures rule { rule_of result ≡ file_rule name.entry.now }
     ensures local { result.global ≡ false }
 {
-    Arg::new(alloc, name)
-        .long(name)
-        .action(ArgAction::Set)
-        .value_name("FILE")
-        .required(true)
-        .help(help)
+    value_option(alloc, name, "FILE").required(true).help(help)
 }
 
 /// An option that takes a number from 1 to `most`.
@@ -79,10 +98,7 @@ fn number_option<'a>(alloc: Global, name: &'a str, most: u64, default: &'a str) 
     ensures rule { rule_of result ≡ number_rule name.entry.now most default.entry.now }
     ensures local { result.global ≡ false }
 {
-    Arg::new(alloc, name)
-        .long(name)
-        .action(ArgAction::Set)
-        .value_name("NUMBER")
+    value_option(alloc, name, "NUMBER")
         .value_parser(ValueParser::unsigned(1, most))
         .default_value(default)
 }
@@ -109,8 +125,7 @@ fn kinds_option<'a>(alloc: Global) -> Arg<'a>
     ensures rule { rule_of result ≡ flag_rule (codes "kinds") }
     ensures local { result.global ≡ false }
 {
-    Arg::new(alloc, "kinds")
-        .long("kinds")
+    option(alloc, "kinds")
         .action(ArgAction::SetTrue)
         .help("Marks tell ! from ÷; without it ÷ stands for every break")
 }
@@ -135,7 +150,15 @@ fn with_files<'a>(alloc: Global, name: &'a str) -> Result<Command<'a>, AllocErro
         .arg(file_option(alloc, "emoji", "emoji-data.txt, the pictographs"))
 }
 
-/// `show` or `segment`.
+/// The command with what its help says.
+fn described<'a>(command: Command<'a>, about: &'a str, after: &'a str) -> Command<'a>
+    ensures app { app_of result ≡ app_of command.entry }
+    ensures local { IsLocal command.entry → IsLocal result }
+{
+    command.about(about).after_help(after)
+}
+
+/// `mark`, `show` or `segment`.
 fn limited<'a>(alloc: Global, name: &'a str) -> Result<Command<'a>, AllocError>
     ensures app { IfOk result (λ c. app_of c ≡ limited_app name.entry.now) }
     ensures local { IfOk result IsLocal }
@@ -145,13 +168,35 @@ fn limited<'a>(alloc: Global, name: &'a str) -> Result<Command<'a>, AllocError>
         .arg(profile_option(alloc))
 }
 
+fn mark<'a>(alloc: Global) -> Result<Command<'a>, AllocError>
+    ensures app { IfOk result (λ c. app_of c ≡ limited_app (codes "mark")) }
+    ensures local { IfOk result IsLocal }
+{
+    Ok(described(limited(alloc, "mark")?, MARK_ABOUT, MARK_AFTER))
+}
+
+fn show<'a>(alloc: Global) -> Result<Command<'a>, AllocError>
+    ensures app { IfOk result (λ c. app_of c ≡ limited_app (codes "show")) }
+    ensures local { IfOk result IsLocal }
+{
+    Ok(described(limited(alloc, "show")?, SHOW_ABOUT, SHOW_AFTER))
+}
+
+fn segment<'a>(alloc: Global) -> Result<Command<'a>, AllocError>
+    ensures app { IfOk result (λ c. app_of c ≡ limited_app (codes "segment")) }
+    ensures local { IfOk result IsLocal }
+{
+    Ok(described(limited(alloc, "segment")?, SEGMENT_ABOUT, SEGMENT_AFTER))
+}
+
 fn replay<'a>(alloc: Global) -> Result<Command<'a>, AllocError>
     ensures app { IfOk result (λ c. app_of c ≡ replay_app) }
     ensures local { IfOk result IsLocal }
 {
-    with_files(alloc, "replay")?
+    let replay = with_files(alloc, "replay")?
         .arg(kinds_option(alloc))?
-        .arg(profile_option(alloc))
+        .arg(profile_option(alloc))?;
+    Ok(described(replay, REPLAY_ABOUT, REPLAY_AFTER))
 }
 
 /// The program with no subcommand yet.
@@ -173,14 +218,12 @@ pub fn command<'a>(alloc: Global) -> Result<Command<'a>, AllocError>
     ensures app { IfOk result (λ c. app_of c ≡ lbk_app) }
     ensures local { IfOk result IsLocal }
 {
-    let show = limited(alloc, "show")?
-        .about(SHOW_ABOUT)
-        .after_help(SHOW_AFTER);
-    let segment = limited(alloc, "segment")?
-        .about(SEGMENT_ABOUT)
-        .after_help(SEGMENT_AFTER);
-    let replay = replay(alloc)?.about(REPLAY_ABOUT).after_help(REPLAY_AFTER);
+    let mark = mark(alloc)?;
+    let show = show(alloc)?;
+    let segment = segment(alloc)?;
+    let replay = replay(alloc)?;
     bare(alloc)?
+        .subcommand(mark)?
         .subcommand(show)?
         .subcommand(segment)?
         .subcommand(replay)

@@ -1,7 +1,9 @@
-use Rattle.std.proofs.Common.{◌||◌, Err, refl, sym, ap, ◌∙◌, inr}
+use Rattle.std.proofs.Common.{◌||◌, None, Ok, Err, refl, sym, ap, ◌∙◌, inr}
+use Rattle.std.proofs.lemmas.Bool.{false≢true}
 use Rattle.std.proofs.lemmas.Result.{err_from_is_err_and}
 use Rattle.lbk_passage.specs.State.{state_with}
-use Rattle.lbk_passage.proofs.Filling.{Fills-spent, Fills-held, Fills-gathered, Fills-ok, ends_by_fault}
+use Rattle.lbk_passage.proofs.Settling.{ok_err}
+use Rattle.lbk_passage.proofs.Filling.{held_done, whole_done, Fills-spent, Fills-held, Fills-gathered, Fills-ok, ends_by_fault}
 use Rattle.lbk_passage.proofs.Booleans.{or-true}
 use Rattle.lbk_passage.proofs.paragraph.Paragraph.fill.Goals as goal
 
@@ -33,3 +35,21 @@ returns-clause-fills g c = λ profile.
     let gathers = rw c.in_ok-end.was at c.gather.ensures.gathers in
     Fills-ok cell profile old _ _ _ _ new _ _ _ _ c.in_ok-end.end (ap (λ b. b || old.is_spent) c.if-self-2.false ∙ c.if-self.false) refl refl
     gathers refl refl refl refl refl c.if-self.false
+
+pub returns-then-self-clause-again : goal.returns-then-self-clause-again
+returns-then-self-clause-again g c = λ profile done unspent. absurd (false≢true (sym unspent ∙ c.if-self.true))
+
+pub returns-then-self-2-clause-again : goal.returns-then-self-2-clause-again
+returns-then-self-2-clause-again g c = λ profile done unspent.
+    ap Ok (whole_done (g.C.CellSource.cell_of c.args.cells.now) profile c.args.self.now (ap (λ b. b || c.args.self.now.is_spent) c.if-self-2.true)
+    (c.requires c.if-self-2.true) done)
+
+pub returns-in_err-end-clause-again : goal.returns-in_err-end-clause-again
+returns-in_err-end-clause-again g c = λ profile done unspent.
+    let fresh = ap (λ b. b || c.args.self.now.is_spent) c.if-self-2.false ∙ c.if-self.false in
+    absurd (ok_err c.gather.result None _ (c.gather.ensures.again done.at_end (held_done (g.C.CellSource.cell_of c.args.cells.now) profile c.args.self.now fresh done)) c.in_err-end.was)
+
+pub returns-clause-again : goal.returns-clause-again
+returns-clause-again g c = λ profile done unspent.
+    let fresh = ap (λ b. b || c.args.self.now.is_spent) c.if-self-2.false ∙ c.if-self.false in
+    sym c.in_ok-end.was ∙ c.gather.ensures.again done.at_end (held_done (g.C.CellSource.cell_of c.args.cells.now) profile c.args.self.now fresh done)

@@ -1,7 +1,9 @@
-use Rattle.std.proofs.Common.{inl, inr, Err, refl, sym, ap, ◌∙◌}
+use Rattle.std.proofs.Common.{false, inl, inr, Ok, Err, refl, sym, ap, ◌∙◌}
 use Rattle.std.proofs.lemmas.Result.{err_from_is_err_and}
 use Rattle.lbk_passage.specs.Next.{failures_with, fault_in}
-use Rattle.lbk_passage.proofs.Gathered.{Gathering-none, turn-end, turn-more, turn-less, turn-line, turn-long, turn-fault}
+use Rattle.lbk_passage.proofs.Gathered.{Gathering-none, still_done, turn-end, turn-more, turn-less, turn-line, turn-long, turn-fault}
+use Rattle.lbk_passage.specs.Stays.{end_before}
+use Rattle.lbk_passage.proofs.Settling.{ok_err, true_false}
 use Rattle.lbk_passage.proofs.paragraph.Paragraph.gather.Goals as goal
 
 pub loop-self-init : goal.loop-self-init
@@ -61,3 +63,23 @@ returns-in-NoRoom-clause-quiet g c = λ h. let q = c.loop-self.invariant.quiet h
 
 pub returns-clause-quiet : goal.returns-clause-quiet
 returns-clause-quiet g c = λ h. let q = c.loop-self.invariant.quiet h in c.settle.ensures.quiet q.1 ∙ q.0
+
+pub returns-in_err-settle-clause-again : goal.returns-in_err-settle-clause-again
+returns-in_err-settle-clause-again g c = λ h none.
+    let still = still_done (g.C.CellSource.cell_of c.args.cells.now) c.args.self.now _ _ _ c.loop-self.self c.loop-self.last _ _ _ c.loop-self.invariant.gathering h none in
+    absurd (ok_err c.settle.result false _ (c.settle.ensures.again still.0 still.1) c.in_err-settle.was)
+
+pub returns-in-LineEnds-clause-again : goal.returns-in-LineEnds-clause-again
+returns-in-LineEnds-clause-again g c = λ h none.
+    let still = still_done (g.C.CellSource.cell_of c.args.cells.now) c.args.self.now _ _ _ c.loop-self.self c.loop-self.last _ _ _ c.loop-self.invariant.gathering h none in
+    absurd (true_false c.settle.result c.in_ok-settle.field-0 c.in_ok-settle.was c.if-branch.true (c.settle.ensures.again still.0 still.1))
+
+pub returns-in-NoRoom-clause-again : goal.returns-in-NoRoom-clause-again
+returns-in-NoRoom-clause-again g c = λ h none.
+    let still = still_done (g.C.CellSource.cell_of c.args.cells.now) c.args.self.now _ _ _ c.loop-self.self c.loop-self.last _ _ _ c.loop-self.invariant.gathering h none in
+    absurd (true_false c.settle.result c.in_ok-settle.field-0 c.in_ok-settle.was c.if-branch.true (c.settle.ensures.again still.0 still.1))
+
+pub returns-clause-again : goal.returns-clause-again
+returns-clause-again g c = λ h none.
+    let still = still_done (g.C.CellSource.cell_of c.args.cells.now) c.args.self.now _ _ _ c.loop-self.self c.loop-self.last _ _ _ c.loop-self.invariant.gathering h none in
+    ap Ok (c.end_before-2.ensures ∙ ap (λ k. end_before k false) still.2)

@@ -1,9 +1,9 @@
-use Rattle.std.proofs.Common.{◌≡◌, None, Some, Err, ◌&&◌, not, is_err, inl, inr, arith, refl, sym, ap, ◌∙◌}
+use Rattle.std.proofs.Common.{◌≡◌, false, None, Some, Ok, Err, ◌&&◌, not, is_err, inl, inr, arith, refl, sym, ap, ◌∙◌}
 use Rattle.lbk_feed.specs.declared.faults.FeedFault.TheVariants.{Read, Spent}
 use Rattle.lbk_feed.specs.View.{fault_of}
 use Rattle.lbk_feed.specs.View as feed
 use Rattle.lbk_passage.specs.Next.{failures_with}
-use Rattle.lbk_passage.proofs.Settling.{feed_unspent, spent_together, failures_alike}
+use Rattle.lbk_passage.proofs.Settling.{ok_err, one_value, feed_unspent, spent_together, failures_alike}
 use Rattle.lbk_passage.proofs.paragraph.Paragraph.settle.Goals as goal
 
 pub invariant_of-self-clause-spent : goal.invariant_of-self-clause-spent
@@ -65,3 +65,13 @@ returns-in-Ok-clause-quiet g c = λ h. c.settle-outcome.ensures.idle (inr (inl h
 
 pub returns-in-Err-clause-quiet : goal.returns-in-Err-clause-quiet
 returns-in-Err-clause-quiet g c = λ h. c.settle-outcome.ensures.idle (inr (inl h))
+
+pub returns-in-Ok-clause-again : goal.returns-in-Ok-clause-again
+returns-in-Ok-clause-again g c = λ h none.
+    ap Ok (one_value c.settle-outcome.result c.in-Ok.stands false c.in-Ok.is (c.settle-outcome.ensures.again h none
+    (feed_unspent c.args.self.now.feed.is_spent c.args.self.now.is_spent c.args.self.now.spent c.requires.unspent)))
+
+pub returns-in-Err-clause-again : goal.returns-in-Err-clause-again
+returns-in-Err-clause-again g c = λ h none.
+    absurd (ok_err c.settle-outcome.result false c.in-Err.fault (c.settle-outcome.ensures.again h none
+    (feed_unspent c.args.self.now.feed.is_spent c.args.self.now.is_spent c.args.self.now.spent c.requires.unspent)) c.in-Err.is)

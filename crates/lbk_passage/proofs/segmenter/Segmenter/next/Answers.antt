@@ -1,4 +1,4 @@
-use Rattle.std.proofs.Common.{◌≡◌, not, length, chars, Ok, Err, Some, refl, sym, ap, ◌∙◌, ⊎_elim, arith}
+use Rattle.std.proofs.Common.{◌≡◌, not, length, chars, Ok, Err, None, Some, refl, sym, ap, ◌∙◌, ⊎_elim, arith}
 use Rattle.std.proofs.lemmas.Result.{err_from_is_err_and}
 use Rattle.lbk_passage.specs.Marks.{marks, ended}
 use Rattle.lbk_passage.specs.Segments.{segments_of}
@@ -7,7 +7,8 @@ use Rattle.lbk_passage.specs.declared.faults.PassageFault.{PassageFault}
 use Rattle.lbk_passage.specs.declared.faults.PassageFault.TheVariants.{Spent}
 use Rattle.lbk_passage.specs.Next.{failures_with, fault_in}
 use Rattle.lbk_passage.specs.State.{state_with}
-use Rattle.lbk_passage.proofs.Giving.{or-cases, spent_by, After-fault, After-none, After-memory, After-lent, on_ok, ok_err}
+use Rattle.lbk_passage.proofs.Giving.{or-cases, spent_by, After-fault, After-none, After-memory, After-lent, on_ok}
+use Rattle.lbk_passage.proofs.Settling.{ok_err, some_none}
 use Rattle.lbk_passage.proofs.Taking.{string_len-is}
 use Rattle.lbk_passage.proofs.segmenter.Segmenter.next.Goals as goal
 
@@ -28,6 +29,7 @@ returns-in_err-end g c =
         spent = λ spent. let told = sym was ∙ c.fill.ensures.refused spent in
             let same : exit.0 ≡ Spent = cc in ap (λ (f : PassageFault). Err f) same;
         spent_only = λ is. spent_by (state_with cell profile p) p old.is_spent exit.0 fills.answer (let same : exit.0 ≡ Spent = cc in same);
+        again = λ done unspent. absurd (ok_err c.fill.result None exit.0 (c.fill.ensures.again profile done unspent) was);
         settled = λ seen. ⊎_elim (λ held. c.fill.ensures.quiet held) (λ spent. c.fill.ensures.spent spent) (or-cases old.is_held old.is_spent seen);
         ended = λ h. c.fill.ensures.ended h;
         reads = omega (arith, c.fill.ensures.reads);
@@ -49,6 +51,7 @@ returns-in_default g c =
         lent = tt;
         spent = λ spent. absurd (let refused = c.fill.ensures.refused spent in cc);
         spent_only = λ is. cc;
+        again = λ done unspent. refl;
         settled = λ seen. ⊎_elim (λ held. c.fill.ensures.quiet held) (λ spent. c.fill.ensures.spent spent) (or-cases old.is_held old.is_spent seen);
         ended = λ h. c.fill.ensures.ended h;
         reads = omega (arith, c.fill.ensures.reads);
@@ -70,6 +73,7 @@ returns-then-is_err g c =
         lent = tt;
         spent = λ spent. absurd (let refused = c.fill.ensures.refused spent in cc);
         spent_only = λ is. cc;
+        again = λ done unspent. absurd (some_none c.fill.result c.in-Some.end was (c.fill.ensures.again profile done unspent));
         settled = λ seen. ⊎_elim (λ held. c.fill.ensures.quiet held) (λ spent. c.fill.ensures.spent spent) (or-cases old.is_held old.is_spent seen);
         ended = λ h. c.fill.ensures.ended h;
         reads = omega (arith, c.fill.ensures.reads);
@@ -91,6 +95,7 @@ returns-then-is_err-2 g c =
         lent = tt;
         spent = λ spent. absurd (let refused = c.fill.ensures.refused spent in cc);
         spent_only = λ is. cc;
+        again = λ done unspent. absurd (some_none c.fill.result c.in-Some.end was (c.fill.ensures.again profile done unspent));
         settled = λ seen. ⊎_elim (λ held. c.fill.ensures.quiet held) (λ spent. c.fill.ensures.spent spent) (or-cases old.is_held old.is_spent seen);
         ended = λ h. c.fill.ensures.ended h;
         reads = omega (arith, c.fill.ensures.reads);
@@ -132,6 +137,7 @@ returns g c =
         lent = given.1;
         spent = λ spent. absurd (ok_err c.fill.result (Some c.in-Some.end) Spent was (c.fill.ensures.refused spent));
         spent_only = λ is. absurd (ok_err (Ok (Some c.lend.result)) (Some c.lend.result) Spent refl is);
+        again = λ done unspent. absurd (some_none c.fill.result c.in-Some.end was (c.fill.ensures.again profile done unspent));
         settled = λ seen. ⊎_elim (λ held. c.fill.ensures.quiet held) (λ spent. c.fill.ensures.spent spent) (or-cases old.is_held old.is_spent seen);
         ended = λ h. c.fill.ensures.ended h;
         reads = omega (arith, c.fill.ensures.reads);

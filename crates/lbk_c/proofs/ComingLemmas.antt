@@ -1,0 +1,260 @@
+-- The breaks of a text from its start on, and some of them given.
+use Rattle.std.proofs.Common.{◌≡◌, ℕ, zero, suc, ◌+◌, ◌-◌, ◌<◌, ◌≤◌, min, true, ◌⊎◌, inl, inr, ⊎_elim, Some, List, [], ◌∷◌, ◌++◌, length, map, drop, take, refl, sym, ap, subst, ◌∙◌, arith}
+use Rattle.std.specs.Char.{encode_utf8}
+use Rattle.std.specs.Str.{IsUtf8, chars, encode_utf8_all}
+use Rattle.std.proofs.lemmas.Bool.{and_parts}
+use Rattle.std.proofs.lemmas.Bool.Decides.{nat_tests}
+use Rattle.std.proofs.lemmas.List.{append-nil, length-append, length-map, length-take-le, take_at}
+use Rattle.std.proofs.lemmas.Str.{chars-encodes}
+use Rattle.std.proofs.Math.Seq.{drop-append_seam, drop-length, take-length}
+use lib.Utf8.{scalars}
+use Rattle.bstr.specs.Utf8.{Decoded, good, lossy_chars, or_replacement, pieces}
+use Rattle.bstr.proofs.lemmas.EncodeLemmas.{decoded-encode}
+use Rattle.bstr.proofs.lemmas.PieceLemmas.{pieces-nil, pieces-step}
+use Rattle.lbk_rules.specs.declared.breaks.Break.{Break}
+use Rattle.lbk_rules.specs.declared.cells.Cell.{Cell}
+use Rattle.lbk_rules.specs.declared.facts.Left.{Left}
+use Rattle.lbk_rules.specs.declared.flat_table.FlatTable.{FlatTable}
+use Rattle.lbk_rules.specs.declared.verdicts.Profile.{Profile}
+use Rattle.lbk_rules.specs.declared.verdicts.Profile.TheVariants.{First, Second}
+use Rattle.lbk_rules.specs.declared.verdicts.Verdict.{Verdict}
+use Rattle.lbk_rules.specs.Breaks.{break_by, breaks, breaks_from}
+use Rattle.lbk_rules.specs.Ends.{end_of_text}
+use Rattle.lbk_rules.specs.FlatTable.{IsFlatBy, IsFlatOf, KnowsTaken}
+use Rattle.lbk_rules.specs.Marks.{marks, marks_behind}
+use Rattle.lbk_rules.specs.Verdict.{verdict_between_in}
+use Rattle.lbk_rules.proofs.EndLemmas.{must_at_length, start_of_text}
+use Rattle.lbk_c.specs.declared.interface.Found.{Found}
+use Rattle.lbk_c.specs.declared.interface.State.{State}
+use Rattle.lbk_c.specs.declared.progress.Progress.{Progress}
+use Rattle.lbk_c.specs.Bytes.{breaks_after, breaks_of_bytes, with_break}
+use Rattle.lbk_c.specs.Reached.{Comes, Goes, IsGoing, IsSpent, Onto, Reached, from_state, onward, scalars_of}
+use Rattle.lbk_c.specs.Shown.{given_in, shown}
+use Rattle.lbk_c.specs.State.{profile_numbered, profile_number, start_in}
+
+-- From the start on
+
+onward-marks : (profile : Profile) (cell : ℕ → Cell) (before : List ℕ) (at : ℕ) (p : Decoded) (ps : List Decoded)
+    → breaks_after at (p ∷ ps) (marks_behind profile cell before (scalars_of (p ∷ ps))) ≡ onward profile cell (before ++ or_replacement p.char ∷ []) (at + p.size) ps
+onward-marks profile cell before at p [] = refl
+onward-marks profile cell before at p (q ∷ qs) =
+    let on = before ++ or_replacement p.char ∷ [] in
+    let next = at + p.size in
+    ap (with_break next (verdict_between_in profile (map cell on) (map cell (scalars_of (q ∷ qs))))) (onward-marks profile cell on next q qs)
+
+onward-start : (profile : Profile) (cell : ℕ → Cell) (ps : List Decoded) → breaks_after 0 ps (marks profile cell (scalars_of ps)) ≡ onward profile cell [] 0 ps
+onward-start profile cell [] = sym (ap (λ (v : Verdict). with_break 0 v []) (start_of_text profile []))
+onward-start profile cell (p ∷ ps) =
+    onward-marks profile cell [] 0 p ps
+    ∙ sym (ap (λ (v : Verdict). with_break 0 v (onward profile cell (or_replacement p.char ∷ []) (0 + p.size) ps)) (start_of_text profile (map cell (scalars_of (p ∷ ps)))))
+
+profile-same : (profile : Profile) → profile_numbered (profile_number profile) ≡ Some profile
+profile-same First = refl
+profile-same Second = refl
+
+pub Comes-start : (cell : ℕ → Cell) (table : FlatTable) (text : List ℕ) (profile : Profile) (state : State) → IsFlatOf table cell → state ≡ start_in profile
+    → Comes cell table text state (breaks_of_bytes profile cell text)
+Comes-start cell table text profile state flat starts =
+    subst (λ s. Comes cell table text s (breaks_of_bytes profile cell text)) (sym starts) (record {
+      profile = profile;
+      named = profile-same profile;
+      lefts = flat.0;
+      flat = flat.1;
+      onto = record {
+        within = omega arith;
+        goes_on = λ _. record {
+          taken = [];
+          knows = (flat.1.begins, flat.1.start);
+          none = λ _. refl;
+          some = λ more. absurd (omega arith);
+          joined = onward-start profile cell (pieces text);
+        };
+        none_come = λ more. absurd (omega arith);
+      };
+    })
+
+-- Well-formed text
+
+good_of : ℕ → Decoded
+good_of c = good c (length (encode_utf8 c))
+
+encode-some : (c : ℕ) → 0 < length (encode_utf8 c)
+unfolding encode_utf8
+encode-some c = grind (arith, nat_tests)
+
+pieces-encode : (cs : List ℕ) → scalars cs ≡ true → pieces (encode_utf8_all cs) ≡ map good_of cs
+unfolding good_of
+pieces-encode [] all = pieces-nil
+pieces-encode (c ∷ cs) all =
+    let first = encode_utf8 c in
+    let rest = encode_utf8_all cs in
+    let some : 0 < length (first ++ rest) = omega (arith, encode-some c, length-append first rest) in
+    let both = and_parts _ _ all in
+    let read = decoded-encode c rest both.0 in
+    pieces-step (first ++ rest) some
+    ∙ ap (λ (p : Decoded). p ∷ pieces (drop p.size (first ++ rest))) read
+    ∙ ap (λ l. good c (length first) ∷ pieces l) (drop-append_seam first rest)
+    ∙ ap (λ l. good c (length first) ∷ l) (pieces-encode cs both.1)
+
+scalars-good : (cs : List ℕ) → scalars_of (map good_of cs) ≡ cs
+unfolding good_of
+scalars-good [] = refl
+scalars-good (c ∷ cs) = ap (λ l. c ∷ l) (scalars-good cs)
+
+after-good : (profile : Profile) (cell : ℕ → Cell) (before : List ℕ) (at : ℕ) (cs : List ℕ)
+    → breaks_after at (map good_of cs) (marks_behind profile cell before cs) ≡ breaks_from at (marks_behind profile cell before cs)
+unfolding good_of
+after-good profile cell before at [] = refl
+after-good profile cell before at (c ∷ cs) =
+    ap (with_break (at + length (encode_utf8 c)) (verdict_between_in profile (map cell (before ++ c ∷ [])) (map cell cs)))
+    (after-good profile cell (before ++ c ∷ []) (at + length (encode_utf8 c)) cs)
+
+encoded-breaks : (profile : Profile) (cell : ℕ → Cell) (cs : List ℕ) → scalars cs ≡ true
+    → breaks_of_bytes profile cell (encode_utf8_all cs) ≡ breaks profile cell (chars (encode_utf8_all cs))
+encoded-breaks profile cell cs all =
+    ap (λ ps. breaks_after 0 ps (marks profile cell (scalars_of ps))) (pieces-encode cs all)
+    ∙ ap (λ l. breaks_after 0 (map good_of cs) (marks profile cell l)) (scalars-good cs)
+    ∙ after-good profile cell [] 0 cs
+    ∙ ap (λ l. breaks profile cell l) (sym (chars-encodes cs all))
+
+-- of well-formed text the breaks of its bytes are those of its scalars
+pub breaks-utf8 : (profile : Profile) (cell : ℕ → Cell) (text : List ℕ) → IsUtf8 text
+    → breaks_of_bytes profile cell text ≡ breaks profile cell (chars text)
+breaks-utf8 profile cell text utf8 =
+    subst (λ t. breaks_of_bytes profile cell t ≡ breaks profile cell (chars t)) utf8.1.1 (encoded-breaks profile cell utf8.0 utf8.1.0)
+
+-- The end
+
+-- where all is taken, the break at the end comes, if the text has any bytes
+pub Reached-end : (profile : Profile) (cell : ℕ → Cell) (lefts : List Left) (text : List ℕ) (all : List Break) (here : Progress) (given : List Break)
+    → here.at ≡ length text → Reached profile cell lefts text all here given
+    → (length text ≡ 0 → all ≡ given) × (0 < length text → all ≡ given ++ break_by (length text) end_of_text ∷ [])
+Reached-end profile cell lefts text all here given ends r =
+    let at = here.at in
+    let none_left : pieces (drop at text) ≡ [] = ap (λ n. pieces (drop n text)) ends ∙ ap pieces (drop-length text) ∙ pieces-nil in
+    let last : all ≡ given ++ with_break at (verdict_between_in profile (map cell r.taken) []) [] =
+    r.joined ∙ ap (λ ps. given ++ onward profile cell r.taken at ps) none_left in (
+      (λ empty.
+          let at_start : at ≡ 0 = ends ∙ empty in
+          last ∙ ap (λ taken. given ++ with_break at (verdict_between_in profile (map cell taken) []) []) (r.none at_start)
+          ∙ ap (λ (v : Verdict). given ++ with_break at v []) (start_of_text profile []) ∙ append-nil given),
+      (λ more.
+          let cells = map cell r.taken in
+          let some : 0 < length cells = (let taken = r.some (omega arith) in omega (arith, length-map r.taken cell)) in
+          let must : verdict_between_in profile cells [] ≡ end_of_text =
+          ap (λ l. verdict_between_in profile l []) (sym (take-length cells))
+          ∙ ap (λ l. verdict_between_in profile (take (length cells) cells) l) (sym (drop-length cells))
+          ∙ must_at_length profile cells some in
+          last ∙ ap (λ (v : Verdict). given ++ with_break at v []) must ∙ ap (λ n. given ++ break_by n end_of_text ∷ []) ends),
+    )
+
+-- Some more given
+
+zero_or : (n : ℕ) → (n ≡ 0) ⊎ (0 < n)
+zero_or zero = inl refl
+zero_or (suc n) = inr (omega arith)
+
+record Gives (to_come front : List Break) (count room : ℕ) (rest : List Break) : Type 0 where
+  counted : count ≡ min room (length to_come)
+  same : front ≡ take count to_come
+  left : drop count to_come ≡ rest
+
+gives : (to_come front more : List Break) (count room : ℕ) → to_come ≡ front ++ more → length front ≡ count → count ≤ room
+    → (count ≡ room) ⊎ (more ≡ []) → Gives to_come front count room more
+gives to_come front more count room joined many within full = record {
+  counted =
+      let whole = ap length joined in
+      let sum = length-append front more in
+      ⊎_elim (λ (same : count ≡ room). omega arith) (λ (none : more ≡ []). (let no = ap length none in omega arith)) full;
+  same = sym (ap (take count) joined ∙ take_at front more count many);
+  left = ap (drop count) joined ∙ ap (λ n. drop n (front ++ more)) (sym many) ∙ drop-append_seam front more;
+}
+
+-- how many are in the front of a block
+given-many : (block : List Found) (count : ℕ) → count ≤ length block → length (given_in block count) ≡ count
+given-many block count within = length-map (take count block) shown ∙ length-take-le count block within
+
+-- the block is full
+pub Goes-full : (profile : Profile) (cell : ℕ → Cell) (lefts : List Left) (text : List ℕ) (to_come : List Break) (here : Progress) (state : State) (block : List Found) (room : ℕ)
+    → Reached profile cell lefts text to_come here (given_in block here.count) → here.at ≤ length text → state.at ≡ here.at → state.row ≡ here.row → state.ended ≡ 0
+    → here.count ≤ length block → here.count ≡ room
+    → Goes profile cell lefts text to_come state (given_in block here.count) here.count room
+Goes-full profile cell lefts text to_come here state block room r within at_same row_same unended few full =
+    let more = onward profile cell r.taken here.at (pieces (drop here.at text)) in
+    let g = gives to_come (given_in block here.count) more here.count room r.joined (given-many block here.count few) (omega arith) (inl full) in
+    record {
+      counted = g.counted;
+      front = g.same;
+      onto = record {
+        within = omega arith;
+        goes_on = λ _. record {
+          taken = r.taken;
+          knows = subst (λ n. KnowsTaken cell lefts n r.taken) (sym row_same) r.knows;
+          none = λ zero. r.none (sym at_same ∙ zero);
+          some = λ more. r.some (omega arith);
+          joined = g.left ∙ ap (λ n. onward profile cell r.taken n (pieces (drop n text))) (sym at_same);
+        };
+        none_come = λ ended. absurd (omega arith);
+      };
+    }
+
+-- all were given, the text's end too
+pub Goes-ended : (profile : Profile) (cell : ℕ → Cell) (lefts : List Left) (text : List ℕ) (to_come : List Break) (here : Progress) (state : State) (before block : List Found)
+    (count room : ℕ)
+    → Reached profile cell lefts text to_come here (given_in before here.count) → here.at ≡ length text → state.at ≡ here.at → state.ended ≡ 1
+    → (0 < length text → given_in block count ≡ given_in before here.count ++ break_by (length text) end_of_text ∷ [])
+    → (length text ≡ 0 → given_in block count ≡ given_in before here.count)
+    → count ≤ length block → length block ≡ room
+    → Goes profile cell lefts text to_come state (given_in block count) count room
+Goes-ended profile cell lefts text to_come here state before block count room r ends at_same ended some none few same_room =
+    let last = Reached-end profile cell lefts text to_come here (given_in before here.count) ends r in
+    let joined : to_come ≡ given_in block count ++ [] =
+    ⊎_elim (λ (empty : length text ≡ 0). last.0 empty ∙ sym (none empty)) (λ (more : 0 < length text). last.1 more ∙ sym (some more)) (zero_or (length text))
+    ∙ sym (append-nil (given_in block count)) in
+    let g = gives to_come (given_in block count) [] count room joined (given-many block count few) (omega arith) (inr refl) in
+    record {
+      counted = g.counted;
+      front = g.same;
+      onto = record {
+        within = omega arith;
+        goes_on = λ unended. absurd (omega arith);
+        none_come = λ _. g.left;
+      };
+    }
+
+-- Between the calls
+
+same-profile : (p q : Profile) (state : State) → profile_numbered state.profile ≡ Some p → profile_numbered state.profile ≡ Some q → p ≡ q
+same-profile p q state is also = cc
+
+-- from a spent state nothing comes
+pub spent-none : (cell : ℕ → Cell) (table : FlatTable) (text : List ℕ) (state : State) (to_come : List Break)
+    → IsSpent state (length text) → Comes cell table text state to_come → to_come ≡ []
+spent-none cell table text state to_come (inl unnamed) c = absurd (let no : ⊥ = (let named = c.named in cc) in no)
+spent-none cell table text state to_come (inr (inl ended)) c = c.onto.none_come ended
+spent-none cell table text state to_come (inr (inr past)) c = absurd (let within = c.onto.within in omega arith)
+
+-- what a call gives of the breaks to come
+pub Comes-goes : (profile : Profile) (cell : ℕ → Cell) (table : FlatTable) (text : List ℕ) (old new : State) (to_come given : List Break) (count room : ℕ)
+    → ((cell : ℕ → Cell) (lefts : List Left) (to_come : List Break) → IsFlatBy lefts table cell
+    → Reached profile cell lefts text to_come (from_state old) []
+    → Goes profile cell lefts text to_come new given count room)
+    → IsGoing profile old (length text) → (c : Comes cell table text old to_come)
+    → Goes profile cell c.lefts text to_come new given count room
+Comes-goes profile cell table text old new to_come given count room goes going c =
+    let same = same-profile c.profile profile old c.named going.named in
+    goes cell c.lefts to_come c.flat
+    (subst (λ p. Reached p cell c.lefts text to_come (from_state old) []) same (c.onto.goes_on going.unended))
+
+-- and the others come from the next state on
+pub Comes-next : (profile : Profile) (cell : ℕ → Cell) (table : FlatTable) (text : List ℕ) (old new : State) (to_come given : List Break) (count room : ℕ)
+    → IsGoing profile old (length text) → new.profile ≡ old.profile → (c : Comes cell table text old to_come)
+    → Goes profile cell c.lefts text to_come new given count room
+    → Comes cell table text new (drop count to_come)
+Comes-next profile cell table text old new to_come given count room going kept c goes = record {
+  profile = profile;
+  named = ap profile_numbered kept ∙ going.named;
+  lefts = c.lefts;
+  flat = c.flat;
+  onto = goes.onto;
+}

@@ -1,0 +1,74 @@
+-- One more scalar, in the fast loop and behind it.
+use Rattle.std.proofs.Common.{◌≡◌, ℕ, ◌+◌, ◌<◌, List, [], ◌∷◌, ◌++◌, length, get_or, map, drop, reverse, refl, sym, ap, subst, ◌∙◌}
+use Rattle.std.specs.Char.{IsScalar}
+use Rattle.bstr.specs.Utf8.{decoded, good, lossy_chars, or_replacement}
+use Rattle.lbk_rules.specs.declared.breaks.Break.{Break}
+use Rattle.lbk_rules.specs.declared.cells.Cell.{Cell}
+use Rattle.lbk_rules.specs.declared.facts.Left.{Left}
+use Rattle.lbk_rules.specs.declared.flat_table.FlatStep.{FlatStep}
+use Rattle.lbk_rules.specs.declared.flat_table.FlatTable.{FlatTable}
+use Rattle.lbk_rules.specs.declared.flat_table.TheConstants.{HELD}
+use Rattle.lbk_rules.specs.declared.verdicts.Profile.{Profile}
+use Rattle.lbk_rules.specs.Codes.{IsCode, verdict_coded}
+use Rattle.lbk_rules.specs.Facts.{facts}
+use Rattle.lbk_rules.specs.FlatTable.{AreFlatKinds, IsFlatBy, KnowsTaken, no_flat_step}
+use Rattle.lbk_rules.specs.Kinds.{kind_cell}
+use Rattle.lbk_rules.specs.Normal.{normal}
+use Rattle.lbk_rules.specs.RowMachineFits.{normals}
+use Rattle.lbk_rules.specs.Sides.{Side}
+use Rattle.lbk_rules.specs.Steps.{IsStart, left_at}
+use Rattle.lbk_rules.specs.Verdict.{verdict_between_in}
+use Rattle.lbk_c.specs.declared.interface.Found.{Found}
+use Rattle.lbk_c.specs.Bytes.{with_break}
+use Rattle.lbk_c.specs.Reached.{AreSwift, IsSwiftStep, Reached}
+use Rattle.lbk_c.specs.Shown.{given_in}
+use Rattle.lbk_c.proofs.PieceLemmas.{Reads}
+use Rattle.lbk_c.proofs.ReachedLemmas.{Reached-step}
+use Rattle.lbk_c.proofs.StepLemmas.{decides-text, flat_step_at, knows-more}
+
+pub Reached-swift : (profile : Profile) (cell : ℕ → Cell) (lefts : List Left) (text : List ℕ) (all : List Break) (steps : List FlatStep) (kinds : List ℕ)
+    (out after : List Found) (count next row at code size : ℕ) (step : FlatStep)
+    → AreSwift profile lefts steps → AreFlatKinds kinds cell → Reads text at code size → at < length text
+    → step ≡ get_or steps (row + get_or kinds code 0) no_flat_step → ¬ (step.code ≡ HELD)
+    → (IsCode step.code → given_in after next ≡ given_in out count ++ with_break at (verdict_coded step.code) [])
+    → Reached profile cell lefts text all (record { count = count; row = row; at = at }) (given_in out count)
+    → Reached profile cell lefts text all (record { count = next; row = step.next; at = at + size }) (given_in after next)
+Reached-swift profile cell lefts text all steps kinds out after count next row at code size step swift are_kinds reads inside same apart front r =
+    let kind = get_or kinds code 0 in
+    let is_kind = are_kinds code reads.scalar in
+    let here : IsSwiftStep profile lefts (left_at lefts row) (kind_cell kind) step =
+    subst (λ s. IsSwiftStep profile lefts (left_at lefts row) (kind_cell kind) s) (sym same) (swift row kind r.knows.0 is_kind.0) in
+    let right = map cell (lossy_chars (drop (at + size) text)) in
+    Reached-step profile cell lefts text all (record { count = count; row = row; at = at }) (record { count = next; row = step.next; at = at + size })
+    (given_in out count) (given_in after next) (good code size) (verdict_coded step.code) reads.read inside refl
+    (knows-more cell lefts row step.next code kind is_kind.1 here.starts here.leads)
+    (λ taken known. decides-text profile cell taken code kind step.code right is_kind.1
+    (here.decides apart (reverse (normals cell taken)) (map normal right) (sym known.1)))
+    (front here.coded) r
+
+pub Reached-one : (profile : Profile) (cell : ℕ → Cell) (lefts : List Left) (text : List ℕ) (all : List Break) (table : FlatTable)
+    (out after : List Found) (count next row at c size code : ℕ) (rest : List ℕ) (step : FlatStep)
+    → IsFlatBy lefts table cell → IsScalar c → at < length text
+    → c ≡ or_replacement (decoded (drop at text)).char → size ≡ (decoded (drop at text)).size → rest ≡ drop (at + size) text
+    → step ≡ get_or table.first (row + get_or table.kinds c 0) no_flat_step
+    → ((taken : List ℕ) → KnowsTaken cell lefts row taken
+    → IsCode code × (verdict_coded code ≡ verdict_between_in profile (map cell taken) (cell c ∷ map cell (lossy_chars rest))))
+    → (IsCode code → given_in after next ≡ given_in out count ++ with_break at (verdict_coded code) [])
+    → Reached profile cell lefts text all (record { count = count; row = row; at = at }) (given_in out count)
+    → Reached profile cell lefts text all (record { count = next; row = step.next; at = at + size }) (given_in after next)
+Reached-one profile cell lefts text all table out after count next row at c size code rest step flat scalar inside is_char is_size is_rest same decides front r =
+    let kind = get_or table.kinds c 0 in
+    let is_kind = flat.kinds c scalar in
+    let here = flat_step_at lefts table.first table.second row kind flat.steps r.knows.0 is_kind.0 in
+    let starts = subst (λ (s : FlatStep). IsStart lefts s.next) (sym same) here.starts in
+    let leads : (side : Side) → facts side ≡ left_at lefts row → facts (kind_cell kind ∷ side) ≡ left_at lefts step.next =
+    λ side known. here.leads side known ∙ ap (λ (s : FlatStep). left_at lefts s.next) (sym same) in
+    let p = decoded (drop at text) in
+    Reached-step profile cell lefts text all (record { count = count; row = row; at = at }) (record { count = next; row = step.next; at = at + size })
+    (given_in out count) (given_in after next) p (verdict_coded code) refl inside (ap (λ n. at + n) is_size)
+    (λ taken known. subst (λ x. KnowsTaken cell lefts step.next (taken ++ x ∷ [])) is_char
+    (knows-more cell lefts row step.next c kind is_kind.1 starts leads taken known))
+    (λ taken known. (decides taken known).1
+    ∙ ap (λ l. verdict_between_in profile (map cell taken) (cell c ∷ map cell (lossy_chars l))) is_rest
+    ∙ ap (λ x. verdict_between_in profile (map cell taken) (cell x ∷ map cell (lossy_chars (drop (at + size) text)))) is_char)
+    (front (decides r.taken r.knows).0) r

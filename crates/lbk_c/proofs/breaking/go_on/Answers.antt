@@ -1,0 +1,27 @@
+use Rattle.std.proofs.Common.{◌≡◌, ◌<◌, ◌≤◌, length, refl, ap, sym, ◌∙◌, arith}
+use Rattle.lbk_c.specs.declared.interface.State.{State}
+use Rattle.lbk_c.specs.Shown.{given_in}
+use Rattle.lbk_c.proofs.ComingLemmas.{Goes-ended, Goes-full}
+use Rattle.lbk_c.proofs.breaking.go_on.Goals as goal
+
+pub returns-then-here-out-clause-goes : goal.returns-then-here-out-clause-goes
+returns-then-here-out-clause-goes c = λ cell lefts to_come flat start.
+    let fill = c.fill-here in
+    let within = fill.ensures.within in
+    let old = c.args.state.now in
+    let state : State = record { at = fill.result.at; row = fill.result.row; profile = old.profile; ended = old.ended } in
+    Goes-full c.args.profile cell lefts c.args.text.now to_come fill.result state fill.new.out (length c.args.out.now)
+    (fill.ensures.reached cell lefts to_come flat start) within.2 refl refl c.requires.unended (omega (arith, within.0)) (omega arith)
+
+pub returns-clause-goes : goal.returns-clause-goes
+returns-clause-goes c = λ cell lefts to_come flat start.
+    let fill = c.fill-here in
+    let within = fill.ensures.within in
+    let put = c.put_end in
+    let old = c.args.state.now in
+    let state : State = record { at = fill.result.at; row = fill.result.row; profile = old.profile; ended = 1 } in
+    let ends = fill.ensures.stops (omega arith) in
+    Goes-ended c.args.profile cell lefts c.args.text.now to_come fill.result state fill.new.out put.new.out put.result (length c.args.out.now)
+    (fill.ensures.reached cell lefts to_come flat start) ends refl refl put.ensures.some
+    (λ empty. (let none = put.ensures.none empty in ap (λ b. given_in b put.result) none.1 ∙ ap (given_in fill.new.out) none.0))
+    (omega (arith, put.ensures.within)) (omega arith)

@@ -1,0 +1,47 @@
+use Rattle.std.proofs.Common.{◌≡◌, [], length, min, take, drop, ap, sym, subst, ◌∙◌, arith, refl}
+use Rattle.lbk_c.specs.Reached.{Comes}
+use Rattle.lbk_c.specs.Shown.{given_in}
+use Rattle.lbk_c.proofs.ComingLemmas.{Comes-goes, Comes-next, Comes-start, breaks-utf8, spent-none}
+use Rattle.lbk_c.proofs.breaking.lbk_breaks.Goals as goal
+
+pub returns-in_default-clause-start : goal.returns-in_default-clause-start
+returns-in_default-clause-start c = λ cell profile flat starts. Comes-start cell c.args.table.now c.args.text.now profile c.args.state.now flat starts
+
+pub returns-clause-start : goal.returns-clause-start
+returns-clause-start c = λ cell profile flat starts. Comes-start cell c.args.table.now c.args.text.now profile c.args.state.now flat starts
+
+pub returns-in_default-clause-well_formed : goal.returns-in_default-clause-well_formed
+returns-in_default-clause-well_formed c = λ cell profile utf8. breaks-utf8 profile cell c.args.text.now utf8
+
+pub returns-clause-well_formed : goal.returns-clause-well_formed
+returns-clause-well_formed c = λ cell profile utf8. breaks-utf8 profile cell c.args.text.now utf8
+
+pub returns-in_default-clause-count : goal.returns-in_default-clause-count
+returns-in_default-clause-count c = λ cell to_come comes.
+    let none = ap length (spent-none cell c.args.table.now c.args.text.now c.args.state.now to_come c.in_default.ensures comes) in
+    omega arith
+
+pub returns-in_default-clause-front : goal.returns-in_default-clause-front
+returns-in_default-clause-front c = λ cell to_come comes. refl
+
+pub returns-in_default-clause-rest : goal.returns-in_default-clause-rest
+returns-in_default-clause-rest c = λ cell to_come comes. comes
+
+pub returns-clause-count : goal.returns-clause-count
+returns-clause-count c = λ cell to_come comes.
+    let gone = Comes-goes c.in-Some.profile cell c.args.table.now c.args.text.now c.args.state.now c.go_on.new.state to_come
+    (given_in c.go_on.new.out c.go_on.result) c.go_on.result (length c.args.out.now) c.go_on.ensures.goes c.in-Some.ensures comes in
+    gone.counted
+
+pub returns-clause-front : goal.returns-clause-front
+returns-clause-front c = λ cell to_come comes.
+    let gone = Comes-goes c.in-Some.profile cell c.args.table.now c.args.text.now c.args.state.now c.go_on.new.state to_come
+    (given_in c.go_on.new.out c.go_on.result) c.go_on.result (length c.args.out.now) c.go_on.ensures.goes c.in-Some.ensures comes in
+    gone.front
+
+pub returns-clause-rest : goal.returns-clause-rest
+returns-clause-rest c = λ cell to_come comes.
+    let gone = Comes-goes c.in-Some.profile cell c.args.table.now c.args.text.now c.args.state.now c.go_on.new.state to_come
+    (given_in c.go_on.new.out c.go_on.result) c.go_on.result (length c.args.out.now) c.go_on.ensures.goes c.in-Some.ensures comes in
+    Comes-next c.in-Some.profile cell c.args.table.now c.args.text.now c.args.state.now c.go_on.new.state to_come
+    (given_in c.go_on.new.out c.go_on.result) c.go_on.result (length c.args.out.now) c.in-Some.ensures c.go_on.ensures.profile_same comes gone

@@ -1,0 +1,36 @@
+use Rattle.std.proofs.Common.{◌+◌, ◌<◌, ◌≤◌, length, arith}
+use Rattle.lbk_c.proofs.LoopLemmas.{Reached-swift}
+use Rattle.lbk_c.proofs.PieceLemmas.{reads}
+use Rattle.lbk_c.proofs.filling.quick.Goals as goal
+
+pub bounds-kinds-scalar : goal.bounds-kinds-scalar
+bounds-kinds-scalar c =
+    (reads c.args.text.now c.loop-count.at c.in-Some.scalar.code c.in-Some.scalar.size c.if-at-text.true c.in-Some.ensures).below
+
+pub overflow_add-at : goal.overflow_add-at
+overflow_add-at c =
+    let r = reads c.args.text.now c.loop-count.at c.in-Some.scalar.code c.in-Some.scalar.size c.if-at-text.true c.in-Some.ensures in
+    omega (arith, r.within)
+
+pub loop-count-smaller : goal.loop-count-smaller
+loop-count-smaller c =
+    let r = reads c.args.text.now c.loop-count.at c.in-Some.scalar.code c.in-Some.scalar.size c.if-at-text.true c.in-Some.ensures in
+    omega (arith, r.within, r.some)
+
+pub loop-count-preserved : goal.loop-count-preserved
+loop-count-preserved c =
+    let l = c.loop-count in
+    let s = c.in-Some.scalar in
+    let step = c.step_at-step.result in
+    let put = c.put-count in
+    let inside = c.if-at-text.true in
+    let r = reads c.args.text.now l.at s.code s.size inside c.in-Some.ensures in
+    record {
+      room = omega (arith, put.ensures.within);
+      row = omega arith;
+      within = r.within;
+      onward = omega (arith, l.invariant.onward);
+      reached = λ profile cell lefts all swift are_kinds start.
+          Reached-swift profile cell lefts c.args.text.now all c.args.steps.now c.args.kinds.now l.out put.new.out l.count put.result l.row l.at s.code s.size step
+          swift are_kinds r inside c.step_at-step.ensures c.if-step-eq-HELD.false put.ensures.front (l.invariant.reached profile cell lefts all swift are_kinds start);
+    }

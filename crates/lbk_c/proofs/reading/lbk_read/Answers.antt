@@ -1,0 +1,15 @@
+use Rattle.std.proofs.Common.{sym, ◌∙◌}
+use Rattle.lbk_rules.specs.Resolve.{cell_of_tables}
+use Rattle.lbk_c.specs.Faults.{files_of}
+use Rattle.lbk_c.proofs.TableLemmas.{cells-of-files, flat-same}
+use Rattle.lbk_c.proofs.reading.lbk_read.Goals as goal
+
+pub returns-in-Ok-fill-clause-table : goal.returns-in-Ok-fill-clause-table
+returns-in-Ok-fill-clause-table c = λ _ cell cells.
+    let files = files_of c.args.line_break c.args.east_asian c.args.category c.args.emoji in
+    let read = c.in-Ok.ensures in
+    flat-same (cell_of_tables c.in-Ok.tables) cell c.fill.new.self
+    (λ code scalar.
+    cells-of-files c.in-Ok.tables files code (read.line_break code) (read.east_asian code) (read.category code) (read.pictographic code)
+    ∙ sym (cells code scalar))
+    c.in-Ok-fill.ensures.table

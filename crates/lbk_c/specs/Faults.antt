@@ -1,0 +1,58 @@
+-- Why no table was made, as numbers.
+use Rattle.std.specs.Prelude.{◌≡◌, ◌⊎◌, ℕ, List}
+use Rattle.std.specs.Borrow.{Bor}
+use Rattle.lbk_ucd.specs.declared.fault.UcdCause.{UcdCause}
+use Rattle.lbk_ucd.specs.declared.fault.UcdCause.TheVariants.{FileTooLong, LineTooLong, RowSyntax, Range, UnknownValue, Overlap, TooManyRows, Memory}
+use Rattle.lbk_ucd.specs.declared.fault.UcdFault.{UcdFault}
+use Rattle.lbk_ucd.specs.declared.tables.Files.{Files}
+use Rattle.lbk_ucd.specs.declared.values.Which.{Which}
+use Rattle.lbk_ucd.specs.declared.values.Which.TheVariants.{LineBreak, EastAsianWidth, Category, Emoji}
+use Rattle.lbk_ucd.specs.Files.{AreLawful, IsRefused}
+use Rattle.lbk_rules.specs.declared.flat_table.TableError.{TableError}
+use Rattle.lbk_rules.specs.declared.flat_table.TableError.TheVariants as refused
+use Rattle.lbk_c.specs.declared.interface.Fault.{Fault}
+
+-- the number of a property file
+abbrev pub file_number : Which → ℕ
+file_number LineBreak = 1
+file_number EastAsianWidth = 2
+file_number Category = 3
+file_number Emoji = 4
+
+-- the number of a cause
+abbrev pub cause_number : UcdCause → ℕ
+cause_number FileTooLong = 1
+cause_number LineTooLong = 2
+cause_number RowSyntax = 3
+cause_number Range = 4
+cause_number UnknownValue = 5
+cause_number Overlap = 6
+cause_number TooManyRows = 7
+cause_number Memory = 8
+
+-- a fault of the files, as it is given
+abbrev pub given_fault : UcdFault → Fault
+given_fault fault = record { file = file_number fault.file; line = fault.line; cause = cause_number fault.cause }
+
+abbrev pub no_fault : Fault
+no_fault = record { file = 0; line = 0; cause = 0 }
+
+-- of lawful files no table was made: a growth of memory was refused, or there are more rows than places can name
+abbrev pub unmade_fault : TableError → Fault
+unmade_fault refused.Memory = record { file = 0; line = 0; cause = 8 }
+unmade_fault refused.TooManyRows = record { file = 0; line = 0; cause = 9 }
+
+-- the four files of a call
+abbrev pub files_of : Bor (List ℕ) → Bor (List ℕ) → Bor (List ℕ) → Bor (List ℕ) → Files
+files_of line_break east_asian category emoji = record {
+  line_break = line_break;
+  east_asian = east_asian;
+  category = category;
+  emoji = emoji;
+}
+
+-- why no table was made of the files
+abbrev pub IsFaultOf : Files → Fault → Type 0
+IsFaultOf files fault =
+    ((found : UcdFault) × IsRefused files found × (fault ≡ given_fault found))
+    ⊎ (AreLawful files × ((error : TableError) × (fault ≡ unmade_fault error)))

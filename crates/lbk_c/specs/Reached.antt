@@ -1,0 +1,96 @@
+-- How far a call has come with a text, and what is to come from a state on.
+use Rattle.std.specs.Prelude.{◌≡◌, ℕ, ◌+◌, ◌<◌, ◌≤◌, List, [], ◌∷◌, ◌++◌, length, map, drop, take, min, slice_index_or, ◌⊎◌, Some, None}
+use Rattle.bstr.specs.Utf8.{Decoded, or_replacement, pieces}
+use Rattle.lbk_rules.specs.declared.breaks.Break.{Break}
+use Rattle.lbk_rules.specs.declared.cells.Cell.{Cell}
+use Rattle.lbk_rules.specs.declared.facts.Left.{Left}
+use Rattle.lbk_rules.specs.declared.flat_table.FlatStep.{FlatStep}
+use Rattle.lbk_rules.specs.declared.flat_table.FlatTable.{FlatTable}
+use Rattle.lbk_rules.specs.declared.verdicts.Profile.{Profile}
+use Rattle.lbk_rules.specs.declared.verdicts.Profile.TheVariants.{First, Second}
+use Rattle.lbk_rules.specs.Chain.{from_cells}
+use Rattle.lbk_rules.specs.Codes.{IsCode, verdict_coded}
+use Rattle.lbk_rules.specs.Facts.{facts}
+use Rattle.lbk_rules.specs.FlatTable.{IsFlatBy, KnowsTaken, no_flat_step}
+use Rattle.lbk_rules.specs.Kinds.{kind_cell}
+use Rattle.lbk_rules.specs.Sides.{Side}
+use Rattle.lbk_rules.specs.Steps.{IsStart, left_at}
+use Rattle.lbk_rules.specs.Verdict.{verdict_between_in}
+use Rattle.lbk_c.specs.declared.progress.Progress.{Progress}
+use Rattle.lbk_rules.specs.declared.flat_table.TheConstants.{HELD}
+use Rattle.lbk_c.specs.declared.interface.Found.{Found}
+use Rattle.lbk_c.specs.declared.interface.State.{State}
+use Rattle.lbk_c.specs.Bytes.{with_break}
+use Rattle.lbk_c.specs.Shown.{shown}
+use Rattle.lbk_c.specs.State.{profile_numbered}
+
+-- the scalars that some pieces are read as
+abbrev pub scalars_of : List Decoded → List ℕ
+scalars_of ps = map (λ p. or_replacement p.char) ps
+
+-- the breaks from the byte `at` on, which stands between the scalars before it and these pieces
+abbrev pub onward : Profile → (ℕ → Cell) → List ℕ → ℕ → List Decoded → List Break
+onward profile cell before at [] = with_break at (verdict_between_in profile (map cell before) []) []
+onward profile cell before at (p ∷ ps) =
+    with_break at (verdict_between_in profile (map cell before) (map cell (scalars_of (p ∷ ps))))
+    (onward profile cell (before ++ or_replacement p.char ∷ []) (at + p.size) ps)
+
+-- a step by which a position is decided, unless it is held
+pub record IsSwiftStep (profile : Profile) (lefts : List Left) (left : Left) (cell : Cell) (step : FlatStep) : Type 0 where
+  pub starts : IsStart lefts step.next
+  pub coded : IsCode step.code
+  pub leads : (side : Side) → facts side ≡ left → facts (cell ∷ side) ≡ left_at lefts step.next
+  pub decides : ¬ (step.code ≡ HELD) → (side more : Side) → facts side ≡ left
+      → verdict_coded step.code ≡ from_cells profile side (cell ∷ more)
+
+-- the steps of a profile
+abbrev pub steps_in : FlatTable → Profile → List FlatStep
+steps_in table First = table.first
+steps_in table Second = table.second
+
+abbrev pub AreSwift : Profile → List Left → List FlatStep → Type 0
+AreSwift profile lefts steps =
+    (row kind : ℕ) → IsStart lefts row → kind < 84
+    → IsSwiftStep profile lefts (left_at lefts row) (kind_cell kind) (slice_index_or steps (row + kind) no_flat_step)
+
+-- of all breaks these were given, and the others come from here on
+pub record Reached (profile : Profile) (cell : ℕ → Cell) (lefts : List Left) (text : List ℕ) (all : List Break) (here : Progress) (given : List Break) : Type 0 where
+  pub taken : List ℕ
+  pub knows : KnowsTaken cell lefts here.row taken
+  pub none : here.at ≡ 0 → taken ≡ []
+  pub some : 0 < here.at → 0 < length taken
+  pub joined : all ≡ given ++ onward profile cell taken here.at (pieces (drop here.at text))
+
+-- where a state stands in a text
+abbrev pub from_state : State → Progress
+from_state state = record { count = 0; row = state.row; at = state.at }
+
+-- from the state on these breaks come of this text, if it has not given all
+pub record Onto (profile : Profile) (cell : ℕ → Cell) (lefts : List Left) (text : List ℕ) (state : State) (to_come : List Break) : Type 0 where
+  pub within : state.at ≤ length text
+  pub goes_on : state.ended ≡ 0 → Reached profile cell lefts text to_come (from_state state) []
+  pub none_come : 0 < state.ended → to_come ≡ []
+
+-- the state came of the start of this text, and these breaks are to come
+pub record Comes (cell : ℕ → Cell) (table : FlatTable) (text : List ℕ) (state : State) (to_come : List Break) : Type 0 where
+  pub profile : Profile
+  pub named : profile_numbered state.profile ≡ Some profile
+  pub lefts : List Left
+  pub flat : IsFlatBy lefts table cell
+  pub onto : Onto profile cell lefts text state to_come
+
+-- no break comes from the state on: it names no profile, has given all, or is past the text
+abbrev pub IsSpent : State → ℕ → Type 0
+IsSpent state len = (profile_numbered state.profile ≡ None) ⊎ ((0 < state.ended) ⊎ (len < state.at))
+
+-- breaks may come from it on, in this profile
+pub record IsGoing (profile : Profile) (state : State) (len : ℕ) : Type 0 where
+  pub named : profile_numbered state.profile ≡ Some profile
+  pub unended : state.ended ≡ 0
+  pub within : state.at ≤ len
+
+-- of the breaks to come as many were given as there was room for, and the others come from the state on
+pub record Goes (profile : Profile) (cell : ℕ → Cell) (lefts : List Left) (text : List ℕ) (to_come : List Break) (state : State) (given : List Break) (count room : ℕ) : Type 0 where
+  pub counted : count ≡ min room (length to_come)
+  pub front : given ≡ take count to_come
+  pub onto : Onto profile cell lefts text state (drop count to_come)

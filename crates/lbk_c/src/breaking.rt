@@ -1,0 +1,128 @@
+//! The breaks of a text, a block at a time.
+
+ghost use Rattle.std.specs.Prelude.{◌≡◌, ℕ, ◌<◌, ◌≤◌, ◌++◌, [], ◌∷◌, List, MatchOption, drop, length, min, take};
+ghost use Rattle.std.specs.Str.{IsUtf8, chars};
+ghost use Rattle.lbk_rules.specs.declared.breaks.Break.{Break};
+ghost use Rattle.lbk_rules.specs.declared.cells.Cell.{Cell};
+ghost use Rattle.lbk_rules.specs.declared.facts.Left.{Left};
+ghost use Rattle.lbk_rules.specs.declared.verdicts.Profile.{Profile};
+ghost use Rattle.lbk_rules.specs.Breaks.{break_by, breaks};
+ghost use Rattle.lbk_rules.specs.Ends.{end_of_text};
+ghost use Rattle.lbk_rules.specs.FlatTable.{IsFlatBy, IsFlatOf};
+ghost use Rattle.lbk_c.specs.Bytes.{breaks_of_bytes};
+ghost use Rattle.lbk_c.specs.Reached.{Comes, Goes, IsGoing, IsSpent, Reached, from_state};
+ghost use Rattle.lbk_c.specs.Shown.{given_in};
+ghost use Rattle.lbk_c.specs.State.{profile_numbered, start_in};
+
+use crate::filling::{fill, put};
+use crate::interface::{Found, State};
+use crate::progress::Progress;
+use lbk_rules::{FlatTable, Profile};
+
+/// The number of the verdict at a text's end, by rule 3.
+const END: u16 = 256 + 2;
+
+/// Puts the next breaks of a text (UAX #14, section 3) into the front of the block, from the state on, and answers how many:
+/// as many as the block holds, or all that are left. The text may be any bytes: each longest piece that begins no scalar is
+/// read as U+FFFD (Unicode Standard, section 3.9).
+///
+/// Where the state is past the text or at its end, or names no profile, it stays and no break comes. What stands in the
+/// block behind the breaks is of no account.
+#[unsafe(no_mangle)]
+pub extern "C" fn lbk_breaks(
+    table: &FlatTable,
+    state: &mut State,
+    text: &[u8],
+    out: &mut [Found],
+) -> usize
+    ensures within { result ≤ length out.old }
+    ensures profile_same { state.new.profile ≡ state.old.profile }
+    ensures start { (cell : ℕ → Cell) (profile : Profile) → IsFlatOf table.now cell → state.old ≡ start_in profile
+        → Comes cell table.now text.now state.old (breaks_of_bytes profile cell text.now) }
+    ensures count { (cell : ℕ → Cell) (to_come : List Break) → Comes cell table.now text.now state.old to_come
+        → result ≡ min (length out.old) (length to_come) }
+    ensures front { (cell : ℕ → Cell) (to_come : List Break) → Comes cell table.now text.now state.old to_come
+        → given_in out.new result ≡ take result to_come }
+    ensures rest { (cell : ℕ → Cell) (to_come : List Break) → Comes cell table.now text.now state.old to_come
+        → Comes cell table.now text.now state.new (drop result to_come) }
+    ensures well_formed { (cell : ℕ → Cell) (profile : Profile) → IsUtf8 text.now
+        → breaks_of_bytes profile cell text.now ≡ breaks profile cell (chars text.now) }
+    ensures ended { 0 < state.old.ended → (result ≡ 0) × (state.new ≡ state.old) }
+    ensures past { length text.now < state.old.at → (result ≡ 0) × (state.new ≡ state.old) }
+    ensures unknown { 1 < state.old.profile → (result ≡ 0) × (state.new ≡ state.old) }
+{
+    let Some(profile) = going_profile(state, text.len()) else {
+        return 0;
+    };
+    go_on(table, profile, state, text, out)
+}
+
+/// The profile of a state from which breaks may come of a text of this length: none where the state names no profile, has
+/// given all, or is past the text.
+fn going_profile(state: &State, len: usize) -> Option<Profile>
+    ensures { MatchOption result (IsSpent state.now len) (λ profile. IsGoing profile state.now len) }
+{
+    let profile = profile_numbered(state.profile)?;
+    if state.ended != 0 {
+        return None;
+    }
+    if len < state.at {
+        return None;
+    }
+    Some(profile)
+}
+
+/// Puts the next breaks into the front of the block, and answers how many.
+fn go_on(
+    table: &FlatTable,
+    profile: Profile,
+    state: &mut State,
+    text: &[u8],
+    out: &mut [Found],
+) -> usize
+    requires { IsGoing profile state.old (length text.now) }
+    ensures within { result ≤ length out.old }
+    ensures profile_same { state.new.profile ≡ state.old.profile }
+    ensures goes { (cell : ℕ → Cell) (lefts : List Left) (to_come : List Break) → IsFlatBy lefts table.now cell
+        → Reached profile cell lefts text.now to_come (from_state state.old) []
+        → Goes profile cell lefts text.now to_come state.new (given_in out.new result) result (length out.old) }
+{
+    let start = Progress {
+        count: 0,
+        row: state.row as usize,
+        at: state.at,
+    };
+    let here = fill(table, profile, start, text, out);
+    state.row = here.row as u16;
+    state.at = here.at;
+    if here.count == out.len() {
+        return here.count;
+    }
+    state.ended = 1;
+    put_end(out, here.count, text.len())
+}
+
+/// Writes the break at the end of a text behind those in the front of the block, and answers how many these are now. An empty
+/// text has none.
+fn put_end(out: &mut [Found], count: usize, len: usize) -> usize
+    requires { count < length out.old }
+    ensures within { result ≤ length out.old }
+    ensures some { 0 < len → given_in out.new result ≡ given_in out.old count ++ break_by len end_of_text ∷ [] }
+    ensures none { len ≡ 0 → (result ≡ count) × (out.new ≡ out.old) }
+{
+    if len == 0 {
+        return count;
+    }
+    put(out, count, len, END)
+}
+
+/// The profile of a number: 0 for the first, 1 for the second. None comes for any other.
+fn profile_numbered(number: u8) -> Option<Profile>
+    ensures { result ≡ profile_numbered number }
+{
+    match number {
+        0 => Some(Profile::First),
+        1 => Some(Profile::Second),
+        _ => None,
+    }
+}

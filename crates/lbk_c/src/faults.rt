@@ -1,0 +1,69 @@
+//! The numbers of faults.
+
+ghost use Rattle.std.specs.Prelude.{◌≡◌};
+ghost use Rattle.lbk_c.specs.Faults.{cause_number, file_number, given_fault, unmade_fault};
+
+use crate::interface::Fault;
+use lbk_rules::TableError;
+use lbk_ucd::{UcdCause, UcdFault, Which};
+
+/// No fault.
+pub(crate) const NO_FAULT: Fault = Fault {
+    file: 0,
+    line: 0,
+    cause: 0,
+};
+
+/// A fault of the files.
+pub(crate) fn given_fault(fault: UcdFault) -> Fault
+    ensures { result ≡ given_fault fault }
+{
+    Fault {
+        file: file_number(fault.file),
+        line: fault.line,
+        cause: cause_number(fault.cause),
+    }
+}
+
+/// Why no table was made of lawful files.
+pub(crate) fn unmade_fault(error: TableError) -> Fault
+    ensures { result ≡ unmade_fault error }
+{
+    let cause = match error {
+        TableError::Memory => 8,
+        TableError::TooManyRows => 9,
+    };
+    Fault {
+        file: 0,
+        line: 0,
+        cause,
+    }
+}
+
+/// The number of a property file.
+fn file_number(file: Which) -> u32
+    ensures { result ≡ file_number file }
+{
+    match file {
+        Which::LineBreak => 1,
+        Which::EastAsianWidth => 2,
+        Which::Category => 3,
+        Which::Emoji => 4,
+    }
+}
+
+/// The number of a cause.
+fn cause_number(cause: UcdCause) -> u32
+    ensures { result ≡ cause_number cause }
+{
+    match cause {
+        UcdCause::FileTooLong => 1,
+        UcdCause::LineTooLong => 2,
+        UcdCause::RowSyntax => 3,
+        UcdCause::Range => 4,
+        UcdCause::UnknownValue => 5,
+        UcdCause::Overlap => 6,
+        UcdCause::TooManyRows => 7,
+        UcdCause::Memory => 8,
+    }
+}

@@ -1,0 +1,123 @@
+//! A block that is filled with breaks.
+
+ghost use Rattle.std.specs.Prelude.{◌≡◌, ℕ, ◌^◌, ◌<◌, ◌≤◌, ◌++◌, ◌∷◌, [], List, length, map};
+ghost use Rattle.lbk_rules.specs.declared.breaks.Break.{Break};
+ghost use Rattle.lbk_rules.specs.declared.cells.Cell.{Cell};
+ghost use Rattle.lbk_rules.specs.declared.facts.Left.{Left};
+ghost use Rattle.lbk_rules.specs.declared.verdicts.Profile.{Profile};
+ghost use Rattle.lbk_rules.specs.Codes.{IsCode, verdict_coded};
+ghost use Rattle.lbk_rules.specs.FlatTable.{AreFlatKinds, IsFlatBy};
+ghost use Rattle.lbk_c.specs.Bytes.{with_break};
+ghost use Rattle.lbk_c.specs.Reached.{AreSwift, Reached};
+ghost use Rattle.lbk_c.specs.Shown.{given_in};
+
+use crate::ahead::code_ahead;
+use crate::decoding::quick_scalar;
+use crate::interface::Found;
+use crate::progress::Progress;
+use crate::steps::{CODES, step_at, steps_of};
+use bstr::decode_lossy;
+use lbk_rules::{FlatStep, FlatTable, HELD, Profile, STEPS};
+
+/// Goes on until the block is full or the text ends, and writes the breaks before the scalars taken behind those in the
+/// front of the block.
+pub(crate) fn fill(
+    table: &FlatTable,
+    profile: Profile,
+    start: Progress,
+    text: &[u8],
+    out: &mut [Found],
+) -> Progress
+    requires { (start.count ≤ length out.old) × (start.row < 65536) × (start.at ≤ length text.now) }
+    ensures within { (result.count ≤ length out.old) × (result.row < 65536) × (result.at ≤ length text.now) }
+    ensures stops { result.count < length out.old → result.at ≡ length text.now }
+    ensures reached { (cell : ℕ → Cell) (lefts : List Left) (all : List Break) → IsFlatBy lefts table.now cell
+        → Reached profile cell lefts text.now all start (given_in out.old start.count)
+        → Reached profile cell lefts text.now all result (given_in out.new result.count) }
+{
+    let steps = steps_of(table, profile);
+    let mut here = quick(&table.kinds, steps, start, text, out);
+    while here.count < out.len() && here.at < text.len() {
+        let past = take_one(table, profile, here, text, out);
+        here = quick(&table.kinds, steps, past, text, out);
+    }
+    here
+}
+
+/// The same until a scalar of four bytes, ill-formed bytes or a held position. It calls nothing, so that all it has stays
+/// in registers.
+#[inline(never)]
+fn quick(
+    kinds: &[u8; CODES],
+    steps: &[FlatStep; STEPS],
+    start: Progress,
+    text: &[u8],
+    out: &mut [Found],
+) -> Progress
+    requires { (start.count ≤ length out.old) × (start.row < 65536) × (start.at ≤ length text.now) }
+    ensures within { (result.count ≤ length out.old) × (result.row < 65536) × (result.at ≤ length text.now) }
+    ensures onward { start.at ≤ result.at }
+    ensures reached { (profile : Profile) (cell : ℕ → Cell) (lefts : List Left) (all : List Break) → AreSwift profile lefts steps.now → AreFlatKinds kinds.now cell
+        → Reached profile cell lefts text.now all start (given_in out.old start.count)
+        → Reached profile cell lefts text.now all result (given_in out.new result.count) }
+{
+    let mut count = start.count;
+    let mut row = start.row;
+    let mut at = start.at;
+    while count < out.len() && at < text.len() {
+        let Some(scalar) = quick_scalar(&text[at..]) else {
+            break;
+        };
+        let step = step_at(steps, row, kinds[scalar.code as usize]);
+        if step.code == HELD {
+            break;
+        }
+        count = put(out, count, at, step.code);
+        row = step.next as usize;
+        at += scalar.size;
+    }
+    Progress { count, row, at }
+}
+
+/// Takes one scalar, whatever it is, and writes the break before it.
+fn take_one(
+    table: &FlatTable,
+    profile: Profile,
+    here: Progress,
+    text: &[u8],
+    out: &mut [Found],
+) -> Progress
+    requires { (here.count < length out.old) × (here.row < 65536) × (here.at < length text.now) }
+    ensures within { (result.count ≤ length out.old) × (result.row < 65536) × (result.at ≤ length text.now) }
+    ensures onward { here.at < result.at }
+    ensures reached { (cell : ℕ → Cell) (lefts : List Left) (all : List Break) → IsFlatBy lefts table.now cell
+        → Reached profile cell lefts text.now all here (given_in out.old here.count)
+        → Reached profile cell lefts text.now all result (given_in out.new result.count) }
+{
+    let rest = &text[here.at..];
+    let (c, size) = decode_lossy(rest);
+    let code = code_ahead(table, profile, here.row, c, &rest[size..]);
+    let step = step_at(&table.first, here.row, table.kinds[c as usize]);
+    let count = put(out, here.count, here.at, code);
+    Progress {
+        count,
+        row: step.next as usize,
+        at: here.at + size,
+    }
+}
+
+/// Writes the verdict of a number behind the breaks in the front of the block, and answers how many these are now: one
+/// more, if it is a break.
+#[inline(always)]
+pub(crate) fn put(out: &mut [Found], count: usize, at: usize, code: u16) -> usize
+    requires { count < length out.old }
+    ensures within { result ≤ length out.old }
+    ensures front { IsCode code → given_in out.new result ≡ given_in out.old count ++ with_break at (verdict_coded code) [] }
+{
+    out[count] = Found {
+        at,
+        kind: (code % 256) as u8,
+        rule: (code / 256) as u8,
+    };
+    count + usize::from(code % 256 != 0)
+}

@@ -1,0 +1,46 @@
+//! What crosses between C and the library, beside the table.
+
+/// A break of a text.
+#[repr(C)]
+#[derive(Clone, Copy)]
+pub struct Found {
+    /// The byte that it stands before, counted from the text's start; the text's length at its end.
+    pub at: usize,
+    /// Whether the line may or must end there: 1 for May, 2 for Must.
+    pub kind: u8,
+    /// The number of the rule that decided there: its place among the rules, from 0.
+    pub rule: u8,
+}
+
+/// How far a text was taken. One of zeros stands at the start of a text, in the first profile.
+#[repr(C)]
+#[derive(Clone, Copy)]
+pub struct State {
+    /// How many bytes of the text were taken.
+    pub at: usize,
+    /// The place of the table's row that knows of them what the rules ask.
+    pub row: u16,
+    /// The number of the profile: 0 for the first, 1 for the second.
+    pub profile: u8,
+    /// 1 once the break at the text's end was given.
+    pub ended: u8,
+}
+
+/// Why no table was made, or zeros where there is one.
+#[repr(C)]
+#[derive(Clone, Copy)]
+pub struct Fault {
+    /// The number of the property file, from 1, or 0.
+    pub file: u32,
+    /// Its line, from 1; 0 for a file as a whole, or where there is no file.
+    pub line: u32,
+    /// The number of the cause, from 1, or 0 where there is no fault.
+    pub cause: u32,
+}
+
+/// A rule's number as it is written, without `LB`: ASCII, filled up by zeros.
+#[repr(C)]
+#[derive(Clone, Copy)]
+pub struct RuleLabel {
+    pub text: [u8; 4],
+}

@@ -1,0 +1,31 @@
+//! The label of a rule.
+
+ghost use Rattle.std.specs.Prelude.{◌≡◌, ◌≤◌, length};
+ghost use Rattle.lbk_c.specs.Shown.{filled, label_numbered};
+
+use crate::interface::RuleLabel;
+use lbk_rules::Rule;
+
+/// The number of the rule as it is written, without `LB`, as `8a`: ASCII, filled up by zeros. `rule` is the rule's place
+/// among the rules, as a break has it; for a number past the last the label is zeros.
+#[unsafe(no_mangle)]
+pub extern "C" fn lbk_label(rule: u8) -> RuleLabel
+    ensures { result.text ≡ label_numbered rule }
+{
+    match Rule::numbered(rule) {
+        Some(rule) => RuleLabel {
+            text: filled(rule.label().as_bytes()),
+        },
+        None => RuleLabel { text: [0; 4] },
+    }
+}
+
+/// The bytes of a label, and zeros behind them.
+fn filled(label: &[u8]) -> [u8; 4]
+    requires { length label.now ≤ 4 }
+    ensures { result ≡ filled label.now }
+{
+    let mut text = [0; 4];
+    text[..label.len()].copy_from_slice(label);
+    text
+}

@@ -1,0 +1,22 @@
+//! The library for C: the breaks of a text by calls that C, C++, Rust and Python can make.
+//!
+//! A caller's [`FlatTable`](lbk_rules::FlatTable) is filled once by `lbk_read`. `lbk_breaks` then goes over a text a block
+//! of breaks at a time, from a state that the caller keeps. No memory is kept between calls, and nothing is to be freed.
+//! `include/lbk.h` declares the calls.
+#![tactic(auto)]
+
+mod ahead;
+mod breaking;
+mod decoding;
+mod faults;
+mod filling;
+mod interface;
+mod labels;
+mod progress;
+mod reading;
+mod steps;
+
+pub use breaking::lbk_breaks;
+pub use interface::{Fault, Found, RuleLabel, State};
+pub use labels::lbk_label;
+pub use reading::{lbk_check, lbk_read};

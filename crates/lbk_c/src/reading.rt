@@ -1,0 +1,61 @@
+//! A table out of property files, and whether one is whole.
+
+ghost use Rattle.std.specs.Prelude.{◌≡◌, ◌<◌, ◌⊎◌, ◌↔◌, ℕ, IsTrue};
+ghost use Rattle.lbk_ucd.specs.Files.{AreLawful};
+ghost use Rattle.lbk_rules.specs.Cells.{AreCellsOf};
+ghost use Rattle.lbk_rules.specs.declared.cells.Cell.{Cell};
+ghost use Rattle.lbk_rules.specs.FlatTable.{IsFlatOf, IsWhole};
+ghost use Rattle.lbk_c.specs.Faults.{IsFaultOf, files_of, no_fault};
+
+use crate::faults::{NO_FAULT, given_fault, unmade_fault};
+use crate::interface::Fault;
+use lbk_rules::FlatTable;
+use lbk_ucd::{Files, Tables};
+use std::alloc::Global;
+
+/// Fills the table by the four property files LineBreak.txt, EastAsianWidth.txt, DerivedGeneralCategory.txt and
+/// emoji-data.txt (UAX #44, section 4.2), and answers zeros; or the first fault of the first file that has one.
+///
+/// Cause 8 comes where a growth of memory was refused: at a line of a file, or at none while the table was made. Cause 9
+/// comes where the rules need more rows than a table has room for. After a fault the table is as it was.
+#[unsafe(no_mangle)]
+pub extern "C" fn lbk_read(
+    alloc: Global,
+    table: &mut FlatTable,
+    line_break: &[u8],
+    east_asian: &[u8],
+    category: &[u8],
+    emoji: &[u8],
+) -> Fault
+    ensures lawful { result.cause ≡ 0 → AreLawful (files_of line_break.entry east_asian.entry category.entry emoji.entry) }
+    ensures table { result.cause ≡ 0 → (cell : ℕ → Cell) → AreCellsOf (files_of line_break.entry east_asian.entry category.entry emoji.entry) cell
+        → IsFlatOf table.new cell }
+    ensures whole { result.cause ≡ 0 → IsWhole table.new }
+    ensures none { result.cause ≡ 0 → result ≡ no_fault }
+    ensures refused { 0 < result.cause → IsFaultOf (files_of line_break.entry east_asian.entry category.entry emoji.entry) result }
+    ensures untouched { 0 < result.cause → table.new ≡ table.old }
+{
+    let files = Files {
+        line_break,
+        east_asian,
+        category,
+        emoji,
+    };
+    let tables = match Tables::read(alloc, files) {
+        Ok(tables) => tables,
+        Err(fault) => return given_fault(fault),
+    };
+    match table.fill(alloc, &tables) {
+        Ok(()) => NO_FAULT,
+        Err(error) => unmade_fault(error),
+    }
+}
+
+/// Whether the table is whole: its layout is that of this version, and its digest is that of its numbers. So it is of each
+/// table that `lbk_read` filled, also after it was kept in a file.
+#[unsafe(no_mangle)]
+pub extern "C" fn lbk_check(table: &FlatTable) -> bool
+    ensures { IsTrue result ↔ IsWhole table.now }
+{
+    table.is_whole()
+}

@@ -1,0 +1,151 @@
+-- What is settled before a read is written before it.
+use Rattle.std.proofs.Common.{◌≡◌, ℕ, ◌+◌, ◌<◌, ◌≤◌, true, false, Bool, List, [], ◌++◌, length, take, drop, Option, Result, IsUtf8, encode_utf8, encode_utf8_all, sym, ap, subst, ◌∙◌, arith, inl, refl, ⊎_elim, length-append, length-take-le, append_assoc, append-nil}
+use Rattle.std.proofs.lemmas.Bool.{cases_lt}
+use Rattle.std.proofs.lemmas.List.{take-append-drop, take-append-le}
+use Rattle.std.proofs.Math.Seq.{take-append_seam}
+use Rattle.std.proofs.lemmas.Str.{encode_same, encodes-append}
+use Rattle.lbk_feed.specs.Text.{longest_text, IsCutScalar}
+use Rattle.lbk_feed.specs.View.{CanGoOn}
+use Rattle.lbk_passage.specs.Marks.{Marked}
+use Rattle.lbk_passage.specs.Passages.{passages}
+use Rattle.lbk_passage.specs.State.{State}
+use Rattle.lbk_passage.specs.Next.{AfterNext, BeginsWithAll, WereDue, lent_text}
+use Rattle.lbk_passage.specs.declared.faults.PassageFault.{PassageFault}
+use Rattle.lbk_passage.specs.declared.passage.Passage.{Passage}
+use Rattle.lbk_cmd.specs.Run.{Engine, KeepsUp, passages_by}
+use Rattle.lbk_cmd.proofs.Running.{some_bytes, Stands, fresh, goes_on, ended, Standing}
+use Rattle.lbk_cmd.proofs.Stopping.{settled_by, settled_none}
+
+-- nothing was read
+pub keeps_none : (e : Engine) (reads : ℕ) → KeepsUp e reads reads [] []
+unfolding settled_none
+keeps_none e reads = record {
+  before = [];
+  last = [];
+  read = refl;
+  each_gave = omega arith;
+  written = [];
+  later = [];
+  is = refl;
+  settled = settled_none e;
+  goes_on = record { within = omega arith; cut = inl refl };
+}
+
+-- more was written
+pub keeps_written : (e : Engine) (from to : ℕ) (bytes out line : List ℕ) → KeepsUp e from to bytes out → KeepsUp e from to bytes (out ++ line)
+keeps_written e from to bytes out line k = record {
+  before = k.before;
+  last = k.last;
+  read = k.read;
+  each_gave = k.each_gave;
+  written = k.written;
+  later = k.later ++ line;
+  is = ap (λ l. l ++ line) k.is ∙ append_assoc k.written k.later line;
+  settled = k.settled;
+  goes_on = k.goes_on;
+}
+
+-- a call that made no read
+keeps_still : (e : Engine) (from to to' : ℕ) (bytes got out : List ℕ) → to' ≤ to → KeepsUp e from to bytes out → KeepsUp e from to' (bytes ++ got) out
+keeps_still e from to to' bytes got out none k = record {
+  before = k.before;
+  last = k.last ++ got;
+  read = ap (λ l. l ++ got) k.read ∙ append_assoc k.before k.last got;
+  each_gave = omega (arith, k.each_gave);
+  written = k.written;
+  later = k.later;
+  is = k.is;
+  settled = k.settled;
+  goes_on = k.goes_on;
+}
+
+-- bytes that may go on to a scalar do not begin with one
+not_whole : (next : ℕ) (rest last behind : List ℕ) → rest ++ last ≡ encode_utf8 next ++ behind → length (encode_utf8 next) ≤ length rest → IsCutScalar rest → ⊥
+not_whole next rest last behind same long cut =
+    let n = length (encode_utf8 next) in
+    let front : take n rest ≡ encode_utf8 next =
+    sym (take-append-le n rest last long) ∙ ap (take n) same ∙ take-append_seam (encode_utf8 next) behind in
+    let split : rest ≡ encode_utf8 next ++ drop n rest = sym (take-append-drop n rest) ∙ ap (λ l. l ++ drop n rest) front in
+    let whole : encode_utf8 next ++ (drop n rest ++ cut.more) ≡ encode_utf8 cut.scalar ++ [] =
+    sym (append_assoc (encode_utf8 next) (drop n rest) cut.more) ∙ ap (λ l. l ++ cut.more) (sym split) ∙ cut.spells ∙ sym (append-nil (encode_utf8 cut.scalar)) in
+    let one = encode_same next cut.scalar (drop n rest ++ cut.more) [] whole in
+    let lacks = cut.lacks in
+    omega (arith, lacks, ap length cut.spells, length-append rest cut.more, ap (λ c. length (encode_utf8 c)) one.0, long)
+
+module _ (e : Engine) (from : ℕ) (s : State) (bytes out : List ℕ) (st : Standing e s bytes out) (t : State) (u v : Option (List ℕ)) (e1 e2 : Bool) (r1 r2 : ℕ)
+    (r : Result (Option Passage) PassageFault) (a : AfterNext s t u v e1 e2 r1 r2 r) (paid : s.is_ended ≡ false → r1 ≤ from + (s.start + length s.held)) where
+  module _ (more : r1 < r2) (due : WereDue s (lent_text r ++ t.held) r1 r2) where
+    used : List ℕ
+    used = encode_utf8_all st.scalars
+
+    -- the end was not met before it
+    open_end : s.is_ended ≡ false
+    open_end = by s.is_ended refl
+      where
+        by : (b : Bool) → s.is_ended ≡ b → s.is_ended ≡ false
+        by true is = absurd (let few = (a.quiet is).2 in omega (arith, few, more))
+        by false is = is
+
+    -- something was seen behind a passage that was given
+    none_seen : due.seen ≡ [] → (st.scalars ≡ []) × (st.given ≡ [])
+    none_seen none = by st.stands
+      where
+        by : Stands e s st.scalars st.given → (st.scalars ≡ []) × (st.given ≡ [])
+        by (fresh no_scalars no_given) = (no_scalars, no_given)
+        by (goes_on next rest held utf8 near first) =
+            let some = some_bytes next in
+            let nothing : length (encode_utf8_all due.seen) ≡ 0 = ap (λ l. length (encode_utf8_all l)) none in
+            let many = ap length held ∙ length-append (encode_utf8 next) rest in
+            let long : length (encode_utf8 next) ≤ length due.rest = omega (arith, due.each_gave, nothing, many, more) in
+            let same : due.rest ++ due.last ≡ encode_utf8 next ++ (rest ++ a.got) =
+            sym (due.bytes ∙ ap (λ l. encode_utf8_all l ++ (due.rest ++ due.last)) none) ∙ a.grown ∙ ap (λ l. l ++ a.got) held ∙ append_assoc (encode_utf8 next) rest a.got in
+            absurd (⊎_elim
+            (λ (empty : due.rest ≡ []). omega (arith, some, long, ap length empty))
+            (λ (cut : IsCutScalar due.rest). not_whole next due.rest due.last (rest ++ a.got) same long cut)
+            due.goes_on.cut)
+        by (ended held at_end given) = absurd (let few = (a.quiet at_end).2 in omega (arith, few, more))
+
+    begin_now : length used ≡ s.start
+    unfolding used
+    begin_now = sym st.start
+
+    in_engine : (more : List ℕ) → BeginsWithAll due.seen (passages s.profile s.cell (due.seen ++ more)) → BeginsWithAll due.seen (passages_by e (due.seen ++ more))
+    in_engine more b =
+        subst (λ f. BeginsWithAll due.seen (passages f e.cell (due.seen ++ more))) st.profile
+        (subst (λ f. BeginsWithAll due.seen (passages s.profile f (due.seen ++ more))) st.cell b)
+
+    keeps_due : KeepsUp e from r2 (bytes ++ a.got) out
+    unfolding used settled_by
+    keeps_due =
+        let before = used ++ (encode_utf8_all due.seen ++ due.rest) in
+        let place : s.start + length (encode_utf8_all due.seen) ≡ length (encode_utf8_all (st.scalars ++ due.seen)) =
+        omega (arith, begin_now, ap length (encodes-append st.scalars due.seen), length-append used (encode_utf8_all due.seen)) in
+        let within = due.goes_on.within in
+        record {
+          before = before;
+          last = due.last;
+          read = ap (λ l. l ++ a.got) st.bytes_are ∙ append_assoc used s.held a.got
+              ∙ ap (λ l. used ++ l) (sym a.grown ∙ due.bytes ∙ sym (append_assoc (encode_utf8_all due.seen) due.rest due.last))
+              ∙ sym (append_assoc used (encode_utf8_all due.seen ++ due.rest) due.last);
+          each_gave = omega (
+            arith,
+            due.each_gave,
+            paid open_end,
+            begin_now,
+            length-append used (encode_utf8_all due.seen ++ due.rest),
+            length-append (encode_utf8_all due.seen) due.rest,
+          );
+          written = out;
+          later = [];
+          is = sym (append-nil out);
+          settled = settled_by e s bytes out st (lent_text r ++ t.held) a.got due.seen (due.rest ++ due.last) a.grown (λ h. (a.quiet h).0) due.bytes due.text
+              (omega (arith, begin_now, within)) (λ some more. in_engine more (due.unfinished some more)) none_seen before due.rest refl;
+          goes_on = subst (λ n. CanGoOn n due.rest) place due.goes_on;
+        }
+
+  -- a call more
+  pub keeps_next : KeepsUp e from r1 bytes out → KeepsUp e from r2 (bytes ++ a.got) out
+  keeps_next k = ⊎_elim
+      (λ (more : r1 < r2). keeps_due more (a.costs.due more))
+      (λ (none : r2 ≤ r1). keeps_still e from r1 r2 bytes a.got out none k)
+      (cases_lt r1 r2)

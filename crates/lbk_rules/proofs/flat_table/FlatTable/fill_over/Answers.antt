@@ -1,0 +1,22 @@
+use Rattle.std.proofs.Common.{refl, ◌∙◌}
+use Rattle.lbk_rules.specs.FlatTable.{digest_of}
+use Rattle.lbk_rules.specs.KindTable.{kind_at}
+use Rattle.lbk_rules.proofs.flat_table.FlatTable.fill_over.Goals as goal
+
+pub returns-clause-table : goal.returns-clause-table
+unfolding kind_at
+returns-clause-table g c =
+    let rows = c.in-Some.rows in (
+      rows.lefts.items,
+      record {
+        begins = rows.begins;
+        start = rows.start;
+        steps = rw (c.copy_from_slice.ensures.after ∙ c.deref.ensures.value, c.copy_from_slice-2.ensures.after ∙ c.deref-2.ensures.value) rows.decided;
+        kinds = rw (c.copy_from_slice-3.ensures.after ∙ c.deref-3.ensures.value)
+            (λ code scalar. (c.in_ok-kinds.kinds.few code, c.in_ok-kinds.ensures code scalar));
+      },
+    )
+
+pub returns-clause-whole : goal.returns-clause-whole
+unfolding digest_of
+returns-clause-whole g c = (refl, c.digest_now-self.ensures)

@@ -1,0 +1,147 @@
+//! What the evaluator and the machines answer, kinds and all, over a list of cells, and the cell that properties come to.
+
+use crate::calls::{decided, decided_in, late_step, start_late, step};
+use lbk_rules::{
+    Cell, Class, End, Kind, Machine, Out, Profile, Quote, Rule, Verdict, decide_all, decide_all_in,
+    resolve,
+};
+use lbk_tests_rows::cells::{mark, plain};
+use lbk_ucd::{Category, EastAsian, LineBreak};
+use std::process::Abort;
+
+/// A letter, a space, a quotation mark that closes with a mark on it, and a comma.
+fn quoted() -> [Cell; 5] {
+    [
+        plain(Class::Alphabetic),
+        plain(Class::Space),
+        mark(Quote::Final),
+        plain(Class::CombiningMark),
+        plain(Class::InfixNumeric),
+    ]
+}
+
+fn no(rule: Rule) -> Verdict {
+    Verdict {
+        kind: Kind::No,
+        rule,
+    }
+}
+
+const END: Verdict = Verdict {
+    kind: Kind::Must,
+    rule: Rule::Lb3,
+};
+
+/// The verdicts of the positions of these cells, of which only that before the quotation mark differs in the profiles.
+fn verdicts_of_quoted(before_quotation: Verdict) -> [Verdict; 6] {
+    [
+        no(Rule::Lb2),
+        no(Rule::Lb7),
+        before_quotation,
+        no(Rule::Lb9),
+        no(Rule::Lb13),
+        END,
+    ]
+}
+
+#[test]
+fn first_profile(rt: HostRuntime) {
+    let cells = quoted();
+    let want = verdicts_of_quoted(Verdict {
+        kind: Kind::May,
+        rule: Rule::Lb18,
+    });
+    let mut machine = Machine::start();
+    for k in 0..5 {
+        same(&rt, decided(&rt, &cells, k), want[k], k);
+        same(&rt, step(&mut machine, cells[k]), want[k], k);
+    }
+    same(&rt, decided(&rt, &cells, 5), END, 5);
+    same(&rt, machine.finish(), END, 5);
+}
+
+fn same(rt: &impl Abort, found: Verdict, want: Verdict, k: usize) {
+    assert_eq!(rt; found, want, "at {k}");
+}
+
+#[test]
+fn first_profile_at_once(rt: HostRuntime) {
+    let cells = quoted();
+    let want = verdicts_of_quoted(Verdict {
+        kind: Kind::May,
+        rule: Rule::Lb18,
+    });
+
+    let mut verdicts = [END; 6];
+    decide_all(&cells, &mut verdicts);
+    assert_eq!(rt; verdicts, want);
+}
+
+#[test]
+fn second_profile(rt: HostRuntime) {
+    let cells = quoted();
+    let want = verdicts_of_quoted(no(Rule::Lb15b));
+    for k in 0..6 {
+        same(&rt, decided_in(&rt, Profile::Second, &cells, k), want[k], k);
+    }
+}
+
+#[test]
+fn second_profile_at_once(rt: HostRuntime) {
+    let cells = quoted();
+    let want = verdicts_of_quoted(no(Rule::Lb15b));
+    let mut verdicts = [END; 6];
+    assert_eq!(rt; decide_all_in(Profile::Second, &cells, &mut verdicts), 6);
+    assert_eq!(rt; verdicts, want);
+}
+
+/// The answer of a step by which no held position comes.
+fn at_once(rule: Rule) -> Out {
+    Out {
+        now: Some(no(rule)),
+        late: None,
+    }
+}
+
+// The position before the quotation mark waits for the comma.
+#[test]
+fn held_position(rt: HostRuntime) {
+    let held = Out {
+        now: None,
+        late: None,
+    };
+    let answered = Out {
+        now: Some(no(Rule::Lb13)),
+        late: Some((2, no(Rule::Lb15b))),
+    };
+    let outs = [
+        at_once(Rule::Lb2),
+        at_once(Rule::Lb7),
+        held,
+        at_once(Rule::Lb9),
+        answered,
+    ];
+    let cells = quoted();
+    let mut machine = start_late(Profile::Second);
+    for k in 0..5u64 {
+        let out = late_step(&rt, &mut machine, k, cells[k as usize]);
+        assert_eq!(rt; out, outs[k as usize], "at {k}");
+    }
+    assert_eq!(rt; machine.steps(), 5);
+    let end = End {
+        late: None,
+        end: END,
+    };
+    assert_eq!(rt; machine.finish(), end);
+}
+
+#[test]
+fn complex_context(rt: HostRuntime) {
+    let cell = resolve(
+        LineBreak::ComplexContext,
+        EastAsian::Neutral,
+        Category::Mn,
+        false,
+    );
+    assert_eq!(rt; cell, plain(Class::CombiningMark));
+}

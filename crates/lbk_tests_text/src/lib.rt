@@ -1,0 +1,27 @@
+//! Tests of passages, lines, replays and the engines over devices in memory. Most are tables of rows with answers from outside.
+#![tactic(auto)]
+
+#[cfg(test)]
+mod cuts;
+#[cfg(test)]
+mod hostile;
+#[cfg(test)]
+mod laws;
+#[cfg(test)]
+mod lines;
+#[cfg(test)]
+mod passages;
+#[cfg(test)]
+mod replayed;
+#[cfg(test)]
+mod segment_lines;
+#[cfg(test)]
+mod segmented;
+#[cfg(test)]
+mod shown;
+#[cfg(test)]
+mod signed;
+#[cfg(test)]
+mod stopped_writers;
+#[cfg(test)]
+mod tasks;
