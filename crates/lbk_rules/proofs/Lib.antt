@@ -1,6 +1,5 @@
 pub mod ChainLemmas
 pub mod FactsLemmas
-pub mod FlatLemmas
 pub mod LookAheadLemmas
 pub mod MachineLemmas
 pub mod PagesLemmas

@@ -7,6 +7,7 @@ use Rattle.lbk_rules.specs.declared.flat_table.FlatStep.{FlatStep}
 use Rattle.lbk_rules.specs.declared.flat_table.FlatTable.{FlatTable}
 use Rattle.lbk_rules.specs.declared.flat_table.TheConstants.{HELD, LAYOUT}
 use Rattle.lbk_rules.specs.declared.kinds.TheConstants.{KINDS}
+use Rattle.lbk_rules.specs.declared.verdicts.Profile.{Profile}
 use Rattle.lbk_rules.specs.declared.verdicts.Profile.TheVariants.{First, Second}
 use Rattle.lbk_rules.specs.Chain.{from_cells}
 use Rattle.lbk_rules.specs.Classes.{hard}
@@ -14,8 +15,7 @@ use Rattle.lbk_rules.specs.Codes.{IsCode, verdict_coded}
 use Rattle.lbk_rules.specs.Facts.{facts}
 use Rattle.lbk_rules.specs.Held.{is_15b}
 use Rattle.lbk_rules.specs.Kinds.{kind_cell}
-use Rattle.lbk_rules.specs.Normal.{normal}
-use Rattle.lbk_rules.specs.RowMachineFits.{normals}
+use Rattle.lbk_rules.specs.Normal.{normal, normals}
 use Rattle.lbk_rules.specs.Sides.{Side, leaves_closed}
 use Rattle.lbk_rules.specs.Steps.{IsStart, left_at}
 use Rattle.lbk_rules.specs.Units.{units_after}
@@ -53,6 +53,11 @@ AreFlatStepsTo count lefts first second =
 -- so it is at the places of all rows
 abbrev pub AreFlatSteps : List Left → List FlatStep → List FlatStep → Type 0
 AreFlatSteps lefts first second = AreFlatStepsTo (KINDS * length lefts) lefts first second
+
+-- the steps of a profile
+abbrev pub steps_in : Profile → List FlatStep → List FlatStep → List FlatStep
+steps_in First first second = first
+steps_in Second first second = second
 
 -- these kinds are those of the cells that `cell` gives
 abbrev pub AreFlatKinds : List ℕ → (ℕ → Cell) → Type 0

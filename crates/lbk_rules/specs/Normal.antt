@@ -1,5 +1,5 @@
 -- A cell without what no rule asks of it.
-use Rattle.std.specs.Prelude.{false, ◌&&◌, if◌then◌else◌}
+use Rattle.std.specs.Prelude.{ℕ, false, ◌&&◌, if◌then◌else◌, List, map}
 use Rattle.lbk_rules.specs.declared.classes.Quote.TheVariants.{Neither}
 use Rattle.lbk_rules.specs.declared.cells.Cell.{Cell}
 use Rattle.lbk_rules.specs.Classes.{◌or◌, none_of, CP, OP, QU, mark}
@@ -15,3 +15,7 @@ normal cell = record {
   quote = if QU cell.class then cell.quote else Neither;
   letter = false;
 }
+
+-- the cells of some scalars, without what no rule asks of them
+abbrev pub normals : (ℕ → Cell) → List ℕ → List Cell
+normals cell taken = map normal (map cell taken)

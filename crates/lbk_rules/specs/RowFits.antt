@@ -4,7 +4,6 @@ use Rattle.std.specs.Char.{IsScalar}
 use Rattle.lbk_rules.specs.declared.cells.Cell.{Cell}
 use Rattle.lbk_rules.specs.declared.kind_table.KindTable.{KindTable}
 use Rattle.lbk_rules.specs.declared.rows.Rows.{Rows}
-use Rattle.lbk_rules.specs.declared.verdicts.Profile.{Profile}
 use Rattle.lbk_rules.specs.Facts.{facts}
 use Rattle.lbk_rules.specs.Kinds.{kind_cell}
 use Rattle.lbk_rules.specs.KindTable.{kind_at}
@@ -18,10 +17,6 @@ IsRowOf rows row = IsStart rows.lefts.items row
 -- what the row at this place knows is what the rules ask of these cells
 unfoldable pub RowFits : Rows → ℕ → List Cell → Type 0
 RowFits rows row cells = left_at rows.lefts.items row ≡ facts (reverse cells)
-
--- the profile whose verdicts the table has
-unfoldable pub profile_of : Rows → Profile
-profile_of rows = rows.profile
 
 -- these kinds are those of the cells that `cell` gives
 unfoldable pub AreKindsOf : KindTable → (ℕ → Cell) → Type 0

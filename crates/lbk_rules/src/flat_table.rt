@@ -7,9 +7,9 @@ ghost use Rattle.lbk_rules.specs.Normal.{normal};
 ghost use Rattle.lbk_rules.specs.Resolve.{cell_of_tables};
 
 use crate::cells::Cell;
-use crate::flat_rows::FlatRows;
 use crate::kind_table::KindTable;
 use crate::kinds::{KINDS, cell_of_kind};
+use crate::rows::Rows;
 use crate::runs::CellRuns;
 use lbk_ucd::Tables;
 use std::alloc::{AllocError, Global};
@@ -91,7 +91,7 @@ impl FlatTable {
         ensures untouched { OnErr result (self.new ≡ self.old) }
     {
         let kinds = KindTable::build(alloc, source)?;
-        let Some(rows) = FlatRows::build(alloc)? else {
+        let Some(rows) = Rows::build(alloc)? else {
             return Err(TableError::TooManyRows);
         };
         self.first.copy_from_slice(&rows.first);

@@ -16,7 +16,6 @@ mod classes;
 mod codes;
 mod evaluator;
 mod facts;
-mod flat_rows;
 mod flat_table;
 mod forward;
 mod kind_table;

@@ -1,68 +1,65 @@
-//! The table of steps of one profile.
+//! The rows of the table of steps, in both profiles.
 
-ghost use Rattle.std.specs.Prelude.{◌≡◌, ◌*◌, ◌<◌, ◌≤◌, ◌+◌, max, List, [], ◌∷◌, ◌++◌, length, reverse, slice_index_or, IfOk, IfSome};
-ghost use Rattle.lbk_rules.specs.declared.kinds.TheConstants.{KINDS};
+ghost use Rattle.std.specs.Prelude.{◌≡◌, ◌*◌, ◌<◌, ◌≤◌, ◌+◌, max, true, List, [], ◌∷◌, length, slice_index_or, IfOk, IfSome};
+ghost use Rattle.lbk_rules.specs.declared.flat_table.TheConstants.{STEPS};
+ghost use Rattle.lbk_rules.specs.declared.rows.TheConstants.{MOST_ROWS};
+ghost use Rattle.lbk_rules.specs.declared.verdicts.Profile.TheVariants.{First, Second};
+ghost use Rattle.lbk_rules.specs.Chain.{from_cells};
+ghost use Rattle.lbk_rules.specs.Classes.{hard};
 ghost use Rattle.lbk_rules.specs.Codes.{IsCode, verdict_coded};
 ghost use Rattle.lbk_rules.specs.Facts.{facts};
-ghost use Rattle.lbk_rules.specs.Steps.{AreSteps, Extends, IsStart, left_at, no_step};
+ghost use Rattle.lbk_rules.specs.FlatTable.{AreFlatSteps, steps_in};
+ghost use Rattle.lbk_rules.specs.Held.{is_15b};
+ghost use Rattle.lbk_rules.specs.Sides.{Side, leaves_closed};
+ghost use Rattle.lbk_rules.specs.Steps.{Extends, IsStart, left_at};
+ghost use Rattle.lbk_rules.specs.Units.{units_after};
 
+use crate::cells::Cell;
 use crate::codes::code_of;
 use crate::facts::Left;
+use crate::flat_table::{FlatStep, HELD, STEPS};
 use crate::kinds::{KINDS, cell_of_kind};
 use crate::verdicts::Profile;
 use std::alloc::{AllocError, Global};
 
 /// How many rows a table may have at most, so that the place of each fits a `u16`.
-pub(crate) const MOST_ROWS: usize = 65_536 / KINDS;
+const MOST_ROWS: usize = 65_536 / KINDS;
 
 /// How many hints are kept on where a row is.
-pub(crate) const HINTS: usize = 1021;
+const HINTS: usize = 1021;
 
-/// What happens at a cell of some kind after some cells.
-#[derive(Clone, Copy, PartialEq, Eq, Debug)]
-pub(crate) struct Step {
-    /// The number of the verdict before the cell. Where the second profile asks for the unit after it, that of a text
-    /// without one.
-    pub(crate) code: u16,
-    /// The place at which the next row begins.
-    pub(crate) next: u16,
-}
-
-/// A row for each thing that can be known of the cells so far, with a step for each kind of cell. A
-/// row is named by the place of its first step.
+/// A row for each thing that can be known of the cells so far, with a step in either profile for each kind of cell.
 #[derive(Debug, Drop)]
 pub(crate) struct Rows {
-    profile: Profile,
     lefts: Vec<Left>,
-    steps: Vec<Step>,
-    ghost whole: { length steps.items ≡ KINDS * length lefts.items },
+    pub(crate) first: Vec<FlatStep>,
+    pub(crate) second: Vec<FlatStep>,
+    ghost whole: { (length first.items ≡ STEPS) × (length second.items ≡ STEPS) },
     ghost begins: { IsStart lefts.items 0 },
     ghost start: { left_at lefts.items 0 ≡ facts [] },
-    ghost decided: { AreSteps profile lefts.items steps.items },
+    ghost few: { length lefts.items ≤ MOST_ROWS },
+    ghost decided: { AreFlatSteps lefts.items first.items second.items },
 }
+
+/// What stands behind the steps of the last row.
+const NO_STEP: FlatStep = FlatStep { code: 0, next: 0 };
 
 impl Rows {
     ghost use Rattle.lbk_rules.specs.declared.cells.Cell.{Cell};
-    ghost use Rattle.lbk_rules.specs.RowFits.{IsRowOf, RowFits, profile_of};
-    ghost use Rattle.lbk_rules.specs.Chain.{from_cells};
-    ghost use Rattle.lbk_rules.specs.Classes.{hard};
-    ghost use Rattle.lbk_rules.specs.Facts.{closes_in};
-    ghost use Rattle.lbk_rules.specs.Kinds.{kind_cell};
-    ghost use Rattle.lbk_rules.specs.Units.{units_after};
+    ghost use Rattle.lbk_rules.specs.RowFits.{IsRowOf, RowFits};
+    ghost use Rattle.std.specs.Prelude.{reverse};
 
-    /// The table of a profile. None comes where there are more rows than a place can name, an error
-    /// where memory was refused.
-    #[tactic(auto, unfolding(crate::specs::RowFits::profile_of))]
-    pub(crate) fn build(alloc: Global, profile: Profile) -> Result<Option<Rows>, AllocError>
-        ensures { IfOk result (λ built. IfSome built (λ rows. profile_of rows ≡ profile)) }
-    {
+    /// The rows that the rules need. None comes where there are more than a place can name, an error where memory was
+    /// refused.
+    pub(crate) fn build(alloc: Global) -> Result<Option<Rows>, AllocError> {
         let mut lefts = Vec::new(alloc);
-        let mut steps = Vec::new(alloc);
+        let mut first = Vec::with_capacity(alloc, STEPS)?;
+        let mut second = Vec::with_capacity(alloc, STEPS)?;
         let mut hints = [0_u16; HINTS];
         lefts.push(Left::start())?;
-        'places: while steps.len() < KINDS * lefts.len() {
-            let left = lefts[steps.len() / KINDS];
-            let cell = cell_of_kind((steps.len() % KINDS) as u8);
+        'places: while first.len() < KINDS * lefts.len() {
+            let left = lefts[first.len() / KINDS];
+            let cell = cell_of_kind((first.len() % KINDS) as u8);
             let then = left.then(cell);
             let slot = hint_slot(then);
             let row = row_of(&mut lefts, then, hints[slot] as usize)?;
@@ -70,41 +67,29 @@ impl Rows {
                 return Ok(None);
             }
             hints[slot] = row as u16;
-            let verdict = left.verdict(profile, cell, profile.is_second());
-            let code = code_of(verdict);
             let next = (KINDS * row) as u16;
-            steps.push(Step { code, next })?;
+            let one = first_code(left, cell);
+            let other = second_code(left, cell);
+            first.push(FlatStep { code: one, next })?;
+            second.push(FlatStep { code: other, next })?;
         }
+        first.resize(STEPS, NO_STEP)?;
+        second.resize(STEPS, NO_STEP)?;
         Ok(Some(Rows {
-            profile,
             lefts,
-            steps,
+            first,
+            second,
         }))
     }
 
-    /// What happens at a cell of this kind in this row.
-    #[inline]
-    #[tactic(auto, unfolding(crate::specs::RowFits::RowFits, crate::specs::RowFits::profile_of))]
-    pub(crate) fn step(&self, row: usize, kind: u8) -> &Step
-        requires row { IsRowOf self.now row }
-        requires kind { kind < KINDS }
-        ensures row { IsRowOf self.now result.now.next }
-        ensures coded { IsCode result.now.code }
-        ensures fits { (cells : List Cell) → RowFits self.now row cells
-            → RowFits self.now result.now.next (cells ++ kind_cell kind ∷ []) }
-        ensures decides { (cells more : List Cell) → RowFits self.now row cells
-            → closes_in (profile_of self.now) (units_after (hard (kind_cell kind).class) more) ≡ closes_in (profile_of self.now) []
-            → verdict_coded result.now.code ≡ from_cells (profile_of self.now) (reverse cells) (kind_cell kind ∷ more) }
+    /// The steps of a profile.
+    pub(crate) fn steps(&self, profile: Profile) -> &[FlatStep]
+        ensures { result.now ≡ steps_in profile self.now.first.items self.now.second.items }
     {
-        step_of(&self.steps, row, kind as usize)
-    }
-
-    /// The profile whose verdicts it has.
-    #[tactic(auto, unfolding(crate::specs::RowFits::profile_of))]
-    pub(crate) fn profile(&self) -> Profile
-        ensures { result ≡ profile_of self.now }
-    {
-        self.profile
+        match profile {
+            Profile::First => &self.first,
+            Profile::Second => &self.second,
+        }
     }
 
     /// What the row knows of the cells.
@@ -118,17 +103,32 @@ impl Rows {
     }
 }
 
-/// The step of a kind in a row. The kind is counted first, so that only the read itself waits for the row.
-#[inline(always)]
-fn step_of(steps: &[Step], row: usize, kind: usize) -> &Step
-    requires { row + kind < length steps.now }
-    ensures { result.now ≡ slice_index_or steps.now (row + kind) no_step }
+/// The number of the verdict before a cell in the first profile.
+fn first_code(left: Left, cell: Cell) -> u16
+    ensures coded { IsCode result }
+    ensures decides { (side more : Side) → facts side ≡ left → verdict_coded result ≡ from_cells First side (cell ∷ more) }
 {
-    &steps[kind..][row]
+    code_of(left.verdict(Profile::First, cell, false))
+}
+
+/// The number of the verdict before a cell in the second profile, where what follows leaves a closing quotation mark
+/// closed.
+fn second_code(left: Left, cell: Cell) -> u16
+    ensures coded { IsCode result }
+    ensures closes { (side more : Side) → facts side ≡ left → leaves_closed (units_after (hard cell.class) more) ≡ true
+        → verdict_coded result ≡ from_cells Second side (cell ∷ more) }
+    ensures held { is_15b (verdict_coded result).rule ≡ true → result ≡ HELD }
+{
+    let verdict = left.verdict(Profile::Second, cell, true);
+    if verdict.rule.is_15b() {
+        HELD
+    } else {
+        code_of(verdict)
+    }
 }
 
 /// The place of a hint on where the row is that knows this, mostly its own.
-pub(crate) fn hint_slot(left: Left) -> usize
+fn hint_slot(left: Left) -> usize
     ensures { result < HINTS }
 {
     let units = left.units;
@@ -148,7 +148,7 @@ pub(crate) fn hint_slot(left: Left) -> usize
 
 /// The row that knows this, put behind the others where there is none. `hint` is the row to look at
 /// first.
-pub(crate) fn row_of(lefts: &mut Vec<Left>, left: Left, hint: usize) -> Result<usize, AllocError>
+fn row_of(lefts: &mut Vec<Left>, left: Left, hint: usize) -> Result<usize, AllocError>
     ensures more { IfOk result (λ _. Extends lefts.old.items lefts.new.items) }
     ensures row { IfOk result (λ row. (row < length lefts.new.items)
         × (slice_index_or lefts.new.items row (facts []) ≡ left)) }

@@ -1,12 +1,13 @@
-//! The tables of steps of both profiles, and the machine that steps by them.
+//! The table of steps, and the machine that steps by it.
 
-ghost use Rattle.std.specs.Prelude.{◌≡◌, ℕ, List, [], ◌∷◌, ◌++◌, length, map, reverse, false, IfOk, IfSome};
-ghost use Rattle.lbk_rules.specs.declared.verdicts.Profile.TheVariants.{First, Second};
-ghost use Rattle.lbk_rules.specs.RowFits.{IsRowOf, profile_of};
+ghost use Rattle.std.specs.Prelude.{◌≡◌, ◌+◌, ◌<◌, ℕ, List, [], ◌∷◌, ◌++◌, length, map, reverse, slice_index_or, true, false, IfNone, IfOk, IfSome};
+ghost use Rattle.lbk_rules.specs.FlatTable.{no_flat_step, steps_in};
+ghost use Rattle.lbk_rules.specs.RowFits.{IsRowOf};
 
 use crate::cells::Cell;
 use crate::codes::verdict_of;
 use crate::facts::Left;
+use crate::flat_table::{FlatStep, HELD};
 use crate::kind_table::KindTable;
 use crate::kinds::cell_of_kind;
 use crate::rows::Rows;
@@ -19,9 +20,7 @@ use std::alloc::{AllocError, Global};
 #[derive(Debug, Drop)]
 pub struct StepTable {
     kinds: KindTable,
-    first: Rows,
-    second: Rows,
-    ghost profiles: { (profile_of first ≡ First) × (profile_of second ≡ Second) },
+    rows: Rows,
 }
 
 /// Decides the positions of a text one after another by a table of steps: two reads a scalar (UAX #14, section 6). It
@@ -30,17 +29,21 @@ pub struct StepTable {
 pub struct RowMachine<'a> {
     pub(crate) kinds: &'a KindTable,
     rows: &'a Rows,
+    profile: Profile,
+    /// The steps of the profile.
+    steps: &'a [FlatStep],
     row: usize,
     ghost in_rows: { IsRowOf rows.now row },
+    ghost of_profile: { steps.now ≡ steps_in profile rows.now.first.items rows.now.second.items },
 }
 
 impl StepTable {
     ghost use Rattle.lbk_rules.specs.declared.cells.Cell.{Cell};
-    ghost use Rattle.lbk_rules.specs.RowFits.{AreKindsOf};
     ghost use Rattle.lbk_rules.specs.RowMachineFits.{IsTableOf, RowMachineFits};
 
-    /// The table of the cells that a source gives the scalar values. None comes where a profile has more
-    /// rows than places can name, an error where memory was refused.
+    /// The table of the cells that a source gives the scalar values. None comes where there are more rows than places can
+    /// name, an error where memory was refused.
+    #[tactic(auto, unfolding(crate::specs::RowFits::AreKindsOf, crate::specs::RowMachineFits::IsTableOf))]
     pub(crate) fn build<C: CellRuns>(
         alloc: Global,
         source: &C,
@@ -48,27 +51,10 @@ impl StepTable {
         ensures { IfOk result (λ built. IfSome built (λ table. IsTableOf table (C.cell_at source.now))) }
     {
         let kinds = KindTable::build(alloc, source)?;
-        StepTable::over(alloc, kinds)
-    }
-
-    /// The table over these kinds. None comes where a profile has more rows than places can name, an
-    /// error where memory was refused.
-    #[tactic(auto, unfolding(crate::specs::RowMachineFits::IsTableOf))]
-    fn over(alloc: Global, kinds: KindTable) -> Result<Option<StepTable>, AllocError>
-        ensures { (cell : ℕ → Cell) → AreKindsOf kinds cell
-            → IfOk result (λ built. IfSome built (λ table. IsTableOf table cell)) }
-    {
-        let Some(first) = Rows::build(alloc, Profile::First)? else {
+        let Some(rows) = Rows::build(alloc)? else {
             return Ok(None);
         };
-        let Some(second) = Rows::build(alloc, Profile::Second)? else {
-            return Ok(None);
-        };
-        Ok(Some(StepTable {
-            kinds,
-            first,
-            second,
-        }))
+        Ok(Some(StepTable { kinds, rows }))
     }
 
     /// A machine of this profile that has taken no scalar.
@@ -76,13 +62,11 @@ impl StepTable {
     pub fn machine(&self, profile: Profile) -> RowMachine<'_>
         ensures { (cell : ℕ → Cell) → IsTableOf self.now cell → RowMachineFits result profile cell [] }
     {
-        let rows = match profile {
-            Profile::First => &self.first,
-            Profile::Second => &self.second,
-        };
         RowMachine {
             kinds: &self.kinds,
-            rows,
+            rows: &self.rows,
+            profile,
+            steps: self.rows.steps(profile),
             row: 0,
         }
     }
@@ -91,9 +75,12 @@ impl StepTable {
 impl<'a> RowMachine<'a> {
     ghost use Rattle.lbk_rules.specs.declared.cells.Cell.{Cell};
     ghost use Rattle.lbk_rules.specs.declared.verdicts.Profile.{Profile};
+    ghost use Rattle.lbk_rules.specs.Chain.{from_cells};
+    ghost use Rattle.lbk_rules.specs.Codes.{IsCode, verdict_coded};
     ghost use Rattle.lbk_rules.specs.Facts.{facts};
     ghost use Rattle.lbk_rules.specs.Held.{is_15b, is_held};
     ghost use Rattle.lbk_rules.specs.Normal.{normal};
+    ghost use Rattle.lbk_rules.specs.RowFits.{RowFits};
     ghost use Rattle.lbk_rules.specs.RowMachineFits.{RowMachineFits, normals};
     ghost use Rattle.lbk_rules.specs.Verdict.{verdict_in};
 
@@ -111,9 +98,47 @@ impl<'a> RowMachine<'a> {
             → RowMachineFits self.old profile cell taken
             → RowMachineFits self.new profile cell (taken ++ c ∷ []) }
     {
-        let step = self.rows.step(self.row, self.kinds.of(c));
+        let step = self.step_by(c);
         self.row = step.next as usize;
         verdict_of(step.code)
+    }
+
+    /// Takes the next scalar, if what follows does not decide the position before it: the verdict there. None comes where
+    /// the position is held, and the scalar is not taken then.
+    #[inline]
+    pub fn step_unless_held(&mut self, c: char) -> Option<Verdict>
+        ensures decides { (profile : Profile) (cell : ℕ → Cell) (taken : List ℕ) (more : List Cell)
+            → RowMachineFits self.old profile cell taken
+            → IfSome result (λ verdict. verdict ≡ verdict_in profile (map cell taken ++ cell c ∷ more) (length taken)) }
+        ensures fits { (profile : Profile) (cell : ℕ → Cell) (taken : List ℕ)
+            → RowMachineFits self.old profile cell taken
+            → IfSome result (λ _. RowMachineFits self.new profile cell (taken ++ c ∷ [])) }
+        ensures stays { IfNone result (self.new ≡ self.old) }
+    {
+        let step = self.step_by(c);
+        if step.code == HELD {
+            return None;
+        }
+        self.row = step.next as usize;
+        Some(verdict_of(step.code))
+    }
+
+    /// The step by `c`, of which the verdict is that where nothing follows.
+    #[inline(always)]
+    fn step_by(&self, c: char) -> FlatStep
+        ensures row { IsRowOf self.now.rows.now result.next }
+        ensures coded { IsCode result.code }
+        ensures leads { (profile : Profile) (cell : ℕ → Cell) (taken : List ℕ)
+            → RowMachineFits self.now profile cell taken
+            → RowFits self.now.rows.now result.next (normals cell (taken ++ c ∷ [])) }
+        ensures so_far { (profile : Profile) (cell : ℕ → Cell) (taken : List ℕ)
+            → RowMachineFits self.now profile cell taken
+            → verdict_coded result.code ≡ from_cells profile (reverse (map cell taken)) (cell c ∷ []) }
+        ensures held { (profile : Profile) (cell : ℕ → Cell) (taken : List ℕ)
+            → RowMachineFits self.now profile cell taken
+            → is_15b (verdict_coded result.code).rule ≡ true → result.code ≡ HELD }
+    {
+        *step_of(self.steps, self.row, self.kinds.of(c) as usize)
     }
 
     /// What it knows of the cells that it has taken.
@@ -140,7 +165,7 @@ impl<'a> RowMachine<'a> {
             → RowMachineFits self.now profile cell taken
             → result ≡ profile }
     {
-        self.rows.profile()
+        self.profile
     }
 
     /// The verdict of the position after all scalars taken, where the text ends.
@@ -151,4 +176,13 @@ impl<'a> RowMachine<'a> {
     {
         self.rows.left(self.row).verdict_at_end()
     }
+}
+
+/// The step of a kind in a row. The kind is counted first, so that only the read itself waits for the row.
+#[inline(always)]
+fn step_of(steps: &[FlatStep], row: usize, kind: usize) -> &FlatStep
+    requires { row + kind < length steps.now }
+    ensures { result.now ≡ slice_index_or steps.now (row + kind) no_flat_step }
+{
+    &steps[kind..][row]
 }

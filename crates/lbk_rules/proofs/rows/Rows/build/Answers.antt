@@ -1,17 +1,18 @@
-use Rattle.std.proofs.Common.{◌≡◌, ◌*◌, ◌/◌, ◌%◌, ◌<◌, length, get_or, sym, subst, ◌∙◌, arith}
+use Rattle.std.proofs.Common.{◌≡◌, ◌*◌, ◌/◌, ◌%◌, ◌<◌, [], ◌∷◌, ◌++◌, length, get_or, sym, ap, subst, ◌∙◌, arith}
 use Rattle.std.proofs.lemmas.List.{length_push}
+use Rattle.lbk_rules.specs.declared.flat_table.FlatStep.{FlatStep}
 use Rattle.lbk_rules.specs.declared.kinds.TheConstants.{KINDS}
+use Rattle.lbk_rules.specs.FlatTable.{AreFlatStepsTo, no_flat_step}
 use Rattle.lbk_rules.specs.Kinds.{kind_cell}
-use Rattle.lbk_rules.specs.Steps.{AreSteps}
-use Rattle.lbk_rules.proofs.RowsLemmas.{AreSteps-made}
+use Rattle.lbk_rules.proofs.RowsLemmas.{AreFlatSteps-made, AreFlatSteps-padded, alike-push}
 use Rattle.lbk_rules.proofs.rows.Rows.build.Goals as goal
 
 pub places-preserved : goal.places-preserved
 places-preserved c =
     let inv = c.places.invariant in
-    let profile = c.args.profile in
     let before = c.places.lefts.items in
-    let steps = c.places.steps.items in
+    let first = c.places.first.items in
+    let second = c.places.second.items in
     let after = c.row_of.new.lefts.items in
     let row = c.in_ok-row.row in
     let left = c.index-left.result.now in
@@ -21,22 +22,44 @@ places-preserved c =
     let found = c.in_ok-row.ensures.row in
     let few = c.in_ok-row.ensures.few in
     let begins = inv.begins in
-    let place : c.len-in-places-2.result ≡ length steps = omega arith in
-    let place_2 : c.len-in-places-3.result ≡ length steps = omega arith in
-    let within : length steps < KINDS * length before = omega arith in
-    let known : left ≡ get_or before (length steps / KINDS) left =
+    let alike = inv.alike in
+    let place : c.len-in-places-2.result ≡ length first = omega arith in
+    let place_2 : c.len-in-places-3.result ≡ length first = omega arith in
+    let within : length first < KINDS * length before = omega arith in
+    let known : left ≡ get_or before (length first / KINDS) left =
     subst (λ n. left ≡ get_or before (n / KINDS) left) place c.index-left.ensures in
-    let kind : cell ≡ kind_cell (length steps % KINDS) =
+    let kind : cell ≡ kind_cell (length first % KINDS) =
     subst (λ n. cell ≡ kind_cell (n % KINDS)) place_2 c.cell_of_kind-cell.ensures in
     let pushed = c.in_ok-push-2.ensures.items in
+    let pushed_2 = c.in_ok-push-3.ensures.items in
+    let one = c.first_code-one.result in
+    let other = c.second_code-other.result in
+    let step : FlatStep = record { code = one; next = KINDS * row } in
+    let step_2 : FlatStep = record { code = other; next = KINDS * row } in
+    let made = AreFlatSteps-made before after first second left c.then-then.result cell one other row
+    alike inv.decided within extends known kind found.0 found.1 c.then-then.ensures
+    c.first_code-one.ensures.coded c.first_code-one.ensures.decides
+    c.second_code-other.ensures.coded c.second_code-other.ensures.closes c.second_code-other.ensures.held in
     record {
       begins = (begins.0, omega (arith, begins.1));
       start = extends.kept 0 begins.1 ∙ inv.start;
-      decided = subst (λ s. AreSteps profile after s) (sym pushed)
-          (AreSteps-made profile before after steps left c.then-then.result cell c.is_second.result c.verdict-verdict.result c.code_of-code.result row
-          inv.decided within extends known kind found.0 found.1 c.then-then.ensures c.is_second.ensures
-          (λ side more same closed. c.verdict-verdict.ensures side more same closed)
-          c.code_of-code.ensures.coded c.code_of-code.ensures.verdict);
+      alike = ap length pushed_2 ∙ alike-push first second step step_2 alike ∙ sym (ap length pushed);
+      decided =
+          let in_first = subst (λ f. AreFlatStepsTo (length f) after f (second ++ step_2 ∷ [])) (sym pushed) made in
+          subst (λ s. AreFlatStepsTo (length c.push-in-places.new.self.items) after c.push-in-places.new.self.items s) (sym pushed_2) in_first;
       within = rw (pushed, length_push) (omega arith);
       few = omega arith;
     }
+
+pub invariant_of-result-clause-decided : goal.invariant_of-result-clause-decided
+invariant_of-result-clause-decided c =
+    let inv = c.places.invariant in
+    let lefts = c.places.lefts.items in
+    let first = c.places.first.items in
+    let second = c.places.second.items in
+    let whole : KINDS * length lefts ≡ length first = omega (arith, inv.within) in
+    let few = inv.few in
+    let alike = inv.alike in
+    AreFlatSteps-padded lefts first second c.resize.new.self.items c.resize-2.new.self.items (length first) whole inv.decided
+    (λ k below. c.in_ok-resize.ensures.by_index.0 k no_flat_step (omega arith) (omega arith))
+    (λ k below. c.in_ok-resize-2.ensures.by_index.0 k no_flat_step (omega arith) (omega arith))

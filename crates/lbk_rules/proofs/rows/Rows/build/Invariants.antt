@@ -2,17 +2,19 @@ use Rattle.std.proofs.Common.{◌≡◌, ◌*◌, ◌-◌, ◌≤◌, [], length
 use Rattle.lbk_rules.specs.declared.kinds.TheConstants.{KINDS}
 use Rattle.lbk_rules.specs.declared.rows.TheConstants.{MOST_ROWS}
 use Rattle.lbk_rules.specs.Facts.{facts}
-use Rattle.lbk_rules.specs.Steps.{AreSteps, IsStart, left_at}
+use Rattle.lbk_rules.specs.FlatTable.{AreFlatStepsTo}
+use Rattle.lbk_rules.specs.Steps.{IsStart, left_at}
 use Rattle.lbk_rules.proofs.rows.Rows.build.Given as goal
 
 abbrev pub invariant-places : goal.invariant-places
 invariant-places l = record {
   begins : IsStart l.lefts.items 0;
   start : left_at l.lefts.items 0 ≡ facts [];
-  decided : AreSteps l.profile l.lefts.items l.steps.items;
-  within : length l.steps.items ≤ KINDS * length l.lefts.items;
+  alike : length l.second.items ≡ length l.first.items;
+  decided : AreFlatStepsTo (length l.first.items) l.lefts.items l.first.items l.second.items;
+  within : length l.first.items ≤ KINDS * length l.lefts.items;
   few : length l.lefts.items ≤ MOST_ROWS;
 }
 
 abbrev pub decreases-places : goal.decreases-places
-decreases-places l = KINDS * MOST_ROWS - length l.steps.items
+decreases-places l = KINDS * MOST_ROWS - length l.first.items

@@ -2,7 +2,7 @@ use Rattle.std.proofs.Common.{◌≡◌, [], refl, sym, ap, ◌∙◌}
 use Rattle.lbk_rules.specs.Codes.{verdict_coded}
 use Rattle.lbk_rules.specs.Held.{is_15b}
 use Rattle.lbk_rules.proofs.HeldLemmas.{from_cells-15b}
-use Rattle.lbk_rules.proofs.flat_rows.second_code.Goals as goal
+use Rattle.lbk_rules.proofs.rows.second_code.Goals as goal
 
 pub returns-then-is_15b-clause-closes : goal.returns-then-is_15b-clause-closes
 unfolding verdict_coded
