@@ -41,7 +41,8 @@ pub fn mark<R: Source, W: Sink, C: CellSource>(
 
     // What was read and what was written, whatever the answer.
     ensures run { Ran (is_failed_read result) (R.unread reader.old) (R.unread reader.new) (W.written writer.old)
-        (W.written writer.new) (IsRun (marking (C.cell_of cells.now) profile limit) (R.has_ended reader.new) result) }
+        (W.written writer.new) (IsRun (marking (C.cell_of cells.now) profile limit) (R.read_count reader.old)
+        (R.read_count reader.new) (R.has_ended reader.new) result) }
     ensures reads { R.read_count reader.new ≤ R.read_count reader.old + 1073741825 }
 
     // When each refusal comes that the bytes do not tell.
