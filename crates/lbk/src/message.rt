@@ -103,7 +103,8 @@ impl<'a> Message<'a> {
     /// The most bytes of a paragraph.
     fn limit(&self) -> u32 {
         match self.order.map(|order| order.engine) {
-            Some(Engine::Show { limit }) | Some(Engine::Segment { limit }) => limit,
+            Some(Engine::Mark { limit } | Engine::Show { limit } | Engine::Segment { limit }) =>
+                limit,
             _ => 65_536,
         }
     }

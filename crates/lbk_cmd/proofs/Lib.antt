@@ -1,6 +1,7 @@
 pub mod Deciding
 pub mod LineWriting
 pub mod PassageLines
+pub mod Signing
 pub mod Running
 pub mod Runs
 pub mod Stopping

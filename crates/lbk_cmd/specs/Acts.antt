@@ -7,9 +7,9 @@ use Rattle.lbk_passage.specs.Passages.{passages}
 use Rattle.lbk_passage.specs.State.{IsLimit}
 use Rattle.lbk_passage.specs.declared.faults.PassageFault.{PassageFault}
 use Rattle.lbk_notation.specs.Replay.{IsReplay, IsReplayed, is_read_fault}
-use Rattle.lbk_cmd.specs.Engines.{segmenting, showing}
+use Rattle.lbk_cmd.specs.Engines.{marking, segmenting, showing}
 use Rattle.lbk_cmd.specs.Run.{Engine as TextEngine, IsRun, is_failed_read}
-use Rattle.lbk_cmd.specs.Texts.{segment_text, show_text}
+use Rattle.lbk_cmd.specs.Texts.{segment_text, show_text, signed_text}
 use Rattle.lbk_rules.specs.declared.cells.Cell.{Cell}
 use Rattle.lbk_rules.specs.declared.verdicts.Profile.{Profile}
 use Rattle.lbk_rules.specs.declared.verdicts.Profile.TheVariants.{First}
@@ -18,7 +18,7 @@ use Rattle.lbk_notation.specs.declared.findings.ReplayFault.{ReplayFault}
 use Rattle.lbk_notation.specs.declared.marks.Form.{Form}
 use Rattle.lbk_notation.specs.declared.marks.Form.TheVariants.{Plain, Kinds}
 use Rattle.lbk_words.specs.declared.order.Engine.{Engine}
-use Rattle.lbk_words.specs.declared.order.Engine.TheVariants.{Show, Segment, Replay}
+use Rattle.lbk_words.specs.declared.order.Engine.TheVariants.{Mark, Show, Segment, Replay}
 use Rattle.lbk_words.specs.Command.{default_limit}
 use Rattle.lbk_words.specs.Task.{Task}
 use Rattle.lbk_files.specs.declared.faults.CellsFault.{CellsFault}
@@ -32,7 +32,7 @@ use Rattle.lbk_cmd.specs.declared.ending.Ending.{Ending}
 use Rattle.lbk_cmd.specs.Devices.{Devices}
 use Rattle.lbk_cmd.specs.Ending.{ending_of_files, ending_of_replay, ending_of_stop, ending_of_text}
 
--- what `show` and `segment` do where they differ only in the text that they write: to the devices, with the answer
+-- what `mark`, `show` and `segment` do where they differ only in the text that they write: to the devices, with the answer
 pub record TextRuns (text : List ℕ → List ℕ) (engine : TextEngine) (before after : Devices) (answer : Result (Unit {0}) CmdFault) : Type 0 where
   pub shown : OnOk answer (IfSome before.unread (λ input. IsUtf8 input × Appends before.written after.written (text input)))
   pub ended : OnOk answer (IsTrue after.has_ended × IsAtEnd after.unread)
@@ -43,6 +43,9 @@ pub record TextRuns (text : List ℕ → List ℕ) (engine : TextEngine) (before
   pub read_failed : before.failed_reads < after.failed_reads → answer ≡ Err (CmdFault.Passage PassageFault.Read)
   pub write : IsErrOf answer CmdFault.Write → HasFailed before.failed_writes after.failed_writes
   pub write_failed : before.failed_writes < after.failed_writes → answer ≡ Err CmdFault.Write
+
+abbrev pub Marks : (ℕ → Cell) → ℕ → Profile → Devices → Devices → Result (Unit {0}) CmdFault → Type 0
+Marks cell limit profile = TextRuns (λ input. signed_text cell (passages profile cell (chars input))) (marking cell profile limit)
 
 abbrev pub Shows : (ℕ → Cell) → ℕ → Profile → Devices → Devices → Result (Unit {0}) CmdFault → Type 0
 Shows cell limit profile = TextRuns (λ input. show_text (passages profile cell (chars input))) (showing cell profile limit)
@@ -80,6 +83,8 @@ ShowsSamples before after ending =
 
 -- the engine runs with its option, and the run ends as its answer says
 abbrev pub EngineRuns : Engine → Profile → (ℕ → Cell) → Devices → Devices → Ending → Type 0
+EngineRuns (Mark limit) profile cell before after ending =
+    (answer : Result (Unit {0}) CmdFault) × Marks cell limit profile before after answer × (ending ≡ ending_of_text answer)
 EngineRuns (Show limit) profile cell before after ending =
     (answer : Result (Unit {0}) CmdFault) × Shows cell limit profile before after answer × (ending ≡ ending_of_text answer)
 EngineRuns (Segment limit) profile cell before after ending =

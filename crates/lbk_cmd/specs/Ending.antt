@@ -31,7 +31,7 @@ ending_of_stop (stop.Help text) = Help text
 ending_of_stop (stop.Usage text) = Usage text
 ending_of_stop (stop.Refused fault) = ending_of_files fault
 
--- `show` and `segment`
+-- `mark`, `show` and `segment`
 abbrev pub ending_of_text : Result (Unit {0}) CmdFault → Ending
 ending_of_text (Ok _) = Done
 ending_of_text (Err fault) = Refused (Cmd fault)

@@ -1,6 +1,7 @@
 -- What a reader has to believe.
 pub mod Show
 pub mod Segment
+pub mod Mark
 pub mod Texts
 pub mod Run
 pub mod Engines
@@ -10,3 +11,4 @@ pub mod Acts
 pub mod Headline
 -- What only carries proofs.
 pub mod Deciding
+pub mod Signing

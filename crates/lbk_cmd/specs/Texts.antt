@@ -2,6 +2,7 @@
 use Rattle.std.specs.Prelude.{ℕ, ◌+◌, List, [], ◌∷◌, ◌++◌, length}
 use Rattle.lbk_rules.specs.declared.cells.Cell.{Cell}
 use Rattle.lbk_passage.specs.Marks.{Marked, text_of}
+use Rattle.lbk_cmd.specs.Mark.{signed_passage}
 use Rattle.lbk_cmd.specs.Show.{shown_passage}
 use Rattle.lbk_cmd.specs.Segment.{segmented_passage}
 
@@ -10,6 +11,10 @@ use Rattle.lbk_cmd.specs.Segment.{segmented_passage}
 abbrev pub lines_from : (ℕ → List Marked → List ℕ) → ℕ → List (List Marked) → List ℕ
 lines_from lines start [] = []
 lines_from lines start (ms ∷ passages) = lines start ms ++ lines_from lines (start + length (text_of ms)) passages
+
+-- what `mark` writes of some passages
+abbrev pub signed_text : (ℕ → Cell) → List (List Marked) → List ℕ
+signed_text cell passages = lines_from (λ start ms. signed_passage cell ms) 0 passages
 
 -- what `show` writes of some passages
 abbrev pub show_text : List (List Marked) → List ℕ

@@ -11,7 +11,7 @@ ghost use Rattle.lbk_cmd.specs.Ending.{ending_of_text};
 ghost use Rattle.lbk_cmd.specs.Acts.{EngineRuns, Performs, ShowsSamples, StopsBefore, form_of};
 
 use super::ending::Ending;
-use super::engine::{segment, show};
+use super::engine::{mark, segment, show};
 use lbk_feed::{Sink, Source};
 use lbk_files::{Ready, Store, prepare, sample_cells};
 use lbk_notation::{Form, replay};
@@ -101,6 +101,14 @@ fn perform<R: Source, W: Sink>(
 {
     let cells = &ready.cells;
     match ready.engine {
+        Engine::Mark { limit } => Ending::of_text(mark(
+            alloc,
+            reader,
+            writer,
+            cells,
+            limit,
+            ready.profile,
+        )),
         Engine::Show { limit } => Ending::of_text(show(
             alloc,
             reader,

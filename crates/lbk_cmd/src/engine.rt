@@ -8,17 +8,54 @@ ghost use Rattle.lbk_passage.specs.Marks.{Marked};
 ghost use Rattle.lbk_passage.specs.Next.{IsPassage, IsPlaced};
 ghost use Rattle.lbk_passage.specs.Passages.{passages};
 ghost use Rattle.lbk_passage.specs.State.{State, IsLimit};
-ghost use Rattle.lbk_cmd.specs.Engines.{engine_of, lines_of, showing, segmenting};
+ghost use Rattle.lbk_cmd.specs.Engines.{engine_of, lines_of, marking, showing, segmenting};
 ghost use Rattle.lbk_cmd.specs.Run.{IsRun, is_failed_read};
-ghost use Rattle.lbk_cmd.specs.Texts.{show_text, segment_text};
+ghost use Rattle.lbk_cmd.specs.Signing.{IsCut};
+ghost use Rattle.lbk_cmd.specs.Texts.{show_text, segment_text, signed_text};
 
 use super::faults::CmdFault;
 use super::segmented::push_segmented;
 use super::shown::{decide, push_shown};
+use super::signed::push_signed;
 use lbk_feed::{Sink, Source, write_all};
 use lbk_passage::{Passage, PassageFault, Segmenter};
 use lbk_rules::{CellSource, Profile, Verdict};
 use std::alloc::{AllocError, Global};
+
+/// Writes a text with `÷` at each position where a line may end (UAX #14, section 6), and nothing else changed: where a
+/// line must end, the text's own line end shows it. A text that ends without a line end gets one.
+///
+/// The text of a passage is written as a whole. `limit` and the faults are those of `show`.
+pub fn mark<R: Source, W: Sink, C: CellSource>(
+    alloc: Global,
+    reader: &mut R,
+    writer: &mut W,
+    cells: &C,
+    limit: u32,
+    profile: Profile,
+) -> Result<(), CmdFault>
+    // What is written of an input that the reader tells.
+    ensures shown { OnOk result (IfSome (R.unread reader.old) (λ input. IsUtf8 input
+        × Appends (W.written writer.old) (W.written writer.new) (signed_text (C.cell_of cells.now) (passages profile (C.cell_of cells.now) (chars input))))) }
+    ensures ended { OnOk result (IsTrue (R.has_ended reader.new) × IsAtEnd (R.unread reader.new)) }
+
+    // What was read and what was written, whatever the answer.
+    ensures run { Ran (is_failed_read result) (R.unread reader.old) (R.unread reader.new) (W.written writer.old)
+        (W.written writer.new) (IsRun (marking (C.cell_of cells.now) profile limit) (R.has_ended reader.new) result) }
+    ensures reads { R.read_count reader.new ≤ R.read_count reader.old + 1073741825 }
+
+    // When each refusal comes that the bytes do not tell.
+    ensures limit { IsErrOf result (CmdFault.Passage PassageFault.Limit) ↔ (¬ (IsLimit limit)) }
+    ensures read { IsErrOf result (CmdFault.Passage PassageFault.Read)
+        → HasFailed (R.failure_count reader.old) (R.failure_count reader.new) }
+    ensures read_failed { R.failure_count reader.old < R.failure_count reader.new
+        → result ≡ Err (CmdFault.Passage PassageFault.Read) }
+    ensures write { IsErrOf result CmdFault.Write
+        → HasFailed (W.failure_count writer.old) (W.failure_count writer.new) }
+    ensures write_failed { W.failure_count writer.old < W.failure_count writer.new → result ≡ Err CmdFault.Write }
+{
+    write_lines(Lines::Signed, alloc, reader, writer, cells, limit, profile)
+}
 
 /// Writes the marks, scalars and rules of a text (UAX #14, section 6), each passage in a line of its own: the marks
 /// of its positions with its scalars between them, a tab, `#`, and the number of the rule that decided each position.
@@ -107,6 +144,8 @@ pub fn segment<R: Source, W: Sink, C: CellSource>(
 /// What is written of a passage.
 #[derive(Clone, Copy)]
 enum Lines {
+    /// Its text, with a sign at each position where a line may end.
+    Signed,
     /// Its marks, scalars and rules, in one line.
     Shown,
     /// Itself, its segments and its words.
@@ -158,12 +197,14 @@ fn push_lines<C: CellSource>(
     verdicts: &mut Vec<Verdict>,
     text: &mut Vec<u8>,
 ) -> Result<(), AllocError>
-    requires { IsPlaced passage.now }
+    requires placed { IsPlaced passage.now }
+    requires cut { IsCut 0 (length passage.now.text.now) passage.now.segments.now }
     ensures { OnOk result ((s : State) (ms : List Marked) → s.cell ≡ C.cell_of cells.now → s.profile ≡ profile
         → IsPassage s ms passage.now
         → text.new.items ≡ text.old.items ++ lines_of lines (C.cell_of cells.now) passage.now.start ms) }
 {
     match lines {
+        Lines::Signed => push_signed(text, cells, passage),
         Lines::Shown => {
             decide(cells, profile, passage.text, passage.end, verdicts)?;
             push_shown(text, passage.text, verdicts)

@@ -8,10 +8,11 @@ mod faults;
 pub mod laws;
 mod segmented;
 mod shown;
+mod signed;
 
 pub use command::run;
 pub use ending::{Ending, RunFault};
-pub use engine::{segment, show};
+pub use engine::{mark, segment, show};
 pub use faults::CmdFault;
 pub use lbk_files::{
     CellsFault, LoadFault, MemoryStore, SAMPLE_FILES, Store, read_cells, read_front,

@@ -1,5 +1,5 @@
 -- What is answered of the run over a line, in the words of the grammar.
-use Rattle.std.proofs.Common.{◌≡◌, ℕ, ◌≤◌, List, length, Option, Result, Ok, Err, IfOk, IfErr}
+use Rattle.std.proofs.Common.{◌≡◌, ℕ, ◌≤◌, List, length, Option, Some, Result, Ok, Err, IfOk, IfErr}
 use Rattle.lbk_notation.specs.declared.fault.LineFault.{LineFault}
 use Rattle.lbk_notation.specs.declared.fault.LineFault.TheVariants.{LineTooLong, Bad, Memory}
 use Rattle.lbk_notation.specs.declared.marks.Form.{Form}
@@ -25,12 +25,16 @@ pub answered_only : (form : Form) (bytes : List ℕ) (r : Result (Option Line) L
 answered_only form bytes (Ok value) e = λ other is. only form bytes value other e is
 answered_only form bytes (Err fault) e = tt
 
+-- a place where the run stops is one where the bytes go wrong
+pub refused : (form : Form) (bytes : List ℕ) (at : ℕ) → length bytes ≤ longest → run_line form bytes ≡ Err at → IsFault form bytes (Bad at)
+refused form bytes at short e = (short, outside form bytes at e, placed form bytes at e)
+
 pub answered_fault : (form : Form) (bytes : List ℕ) (r : Result (Option Line) LineFault) → length bytes ≤ longest
     → IfErr r (λ fault. IsRunFault form bytes fault) → IfErr r (λ fault. IsFault form bytes fault)
 answered_fault form bytes (Ok value) short e = tt
 answered_fault form bytes (Err LineTooLong) short e = elim e [ ]
-answered_fault form bytes (Err (Bad at)) short e = (short, outside form bytes at e, placed form bytes at e)
-answered_fault form bytes (Err Memory) short e = short
+answered_fault form bytes (Err (Bad at)) short e = refused form bytes at short e
+answered_fault form bytes (Err Memory) short e = (short, (e.0, sound form bytes (Some e.0) e.1))
 
 -- so a line that says something says nothing else
 pub only_of : (form : Form) (bytes : List ℕ) (value other : Option Line) → IsLine form bytes value → IsLine form bytes other → other ≡ value

@@ -1,16 +1,23 @@
 -- When a line is refused.
-use Rattle.std.specs.Prelude.{ℕ, ◌<◌, ◌≤◌, List, length}
+use Rattle.std.specs.Prelude.{ℕ, ◌<◌, ◌≤◌, List, length, Some}
 use Rattle.lbk_notation.specs.declared.fault.LineFault.{LineFault}
 use Rattle.lbk_notation.specs.declared.fault.LineFault.TheVariants.{LineTooLong, Bad, Memory}
 use Rattle.lbk_notation.specs.declared.marks.Form.{Form}
+use Rattle.lbk_notation.specs.Grammar.{IsLine}
+use Rattle.lbk_notation.specs.Line.{Line}
 use Rattle.lbk_notation.specs.Place.{IsOutside, IsPlace}
 
 -- the longest line, in bytes
 abbrev pub longest : ℕ
 longest = 268435456
 
--- what a fault says of the bytes; of want of memory it says that they are not too long
+-- a line that has marks
+abbrev pub HasMarks : Form → List ℕ → Type 0
+HasMarks form bytes = (line : Line) × IsLine form bytes (Some line)
+
+-- what a fault says of the bytes; Memory says that they are not too long, and are a line that has marks: every other line is
+-- answered without memory
 abbrev pub IsFault : Form → List ℕ → LineFault → Type 0
 IsFault form bytes LineTooLong = longest < length bytes
 IsFault form bytes (Bad at) = (length bytes ≤ longest) × IsOutside form bytes × IsPlace form bytes at
-IsFault form bytes Memory = length bytes ≤ longest
+IsFault form bytes Memory = (length bytes ≤ longest) × HasMarks form bytes

@@ -1,6 +1,6 @@
 -- What the reader does over the bytes of a line. Only the contracts of its parts cite this: what has to be believed is the
 -- grammar.
-use Rattle.std.specs.Prelude.{◌≡◌, ℕ, ◌+◌, ◌-◌, ◌*◌, ◌^◌, ◌<◌, ◌≤◌, Bool, true, false, ◌==◌, ltb, leb, ◌||◌, ◌&&◌, if◌then◌else◌, List, [], ◌∷◌, ◌++◌, Option, Result, Ok, Err}
+use Rattle.std.specs.Prelude.{◌≡◌, ℕ, ◌+◌, ◌-◌, ◌*◌, ◌^◌, ◌<◌, ◌≤◌, Bool, true, false, ◌==◌, ltb, leb, ◌||◌, ◌&&◌, if◌then◌else◌, List, [], ◌∷◌, ◌++◌, Option, Some, Result, Ok, Err}
 use Rattle.lbk_notation.specs.declared.fault.LineFault.{LineFault}
 use Rattle.lbk_notation.specs.declared.fault.LineFault.TheVariants.{LineTooLong, Bad, Memory}
 use Rattle.lbk_notation.specs.declared.marks.Form.{Form}
@@ -128,4 +128,4 @@ run_line form bytes = run form Start 0 [] [] bytes
 abbrev pub IsRunFault : Form → List ℕ → LineFault → Type 0
 IsRunFault form bytes LineTooLong = ⊥
 IsRunFault form bytes (Bad at) = run_line form bytes ≡ Err at
-IsRunFault form bytes Memory = Unit {0}
+IsRunFault form bytes Memory = (line : Line) × (run_line form bytes ≡ Ok (Some line))

@@ -36,6 +36,7 @@ impl Progress {
     ghost use Rattle.lbk_rules.specs.declared.cells.Cell.{Cell};
     ghost use Rattle.lbk_rules.specs.declared.verdicts.Profile.{Profile};
     ghost use Rattle.lbk_notation.specs.declared.marks.Form.{Form};
+    ghost use Rattle.lbk_notation.specs.Fault.{HasMarks};
     ghost use Rattle.lbk_notation.specs.Findings.{IsFinding};
     ghost use Rattle.lbk_notation.specs.Progress.{Holds, Settles, Stands, StandsAtEnd};
     ghost use Rattle.lbk_notation.specs.ReplayText.{total_text};
@@ -202,6 +203,7 @@ impl Progress {
         ensures finding { IfOk result (λ finding. (rest : List ℕ) → Holds rest self.now.line.items self.now.is_long
             → IsFinding (C.cell_of replayer.now.cells.now) replayer.now.form replayer.now.profile rest finding) }
         ensures only { IfErr result (λ fault. fault ≡ ReplayFault.Memory) }
+        ensures memory { IfErr result (λ fault. HasMarks replayer.now.form self.now.line.items) }
     {
         if self.is_long {
             return Ok(Finding::Long);

@@ -11,7 +11,7 @@ use super::fault::LineFault;
 use super::line::TestLine;
 use super::marks::Form;
 use super::reader::{State, Taken, sort_of, step};
-use std::alloc::Global;
+use std::alloc::{AllocError, Global};
 
 /// The longest line, in bytes.
 pub(crate) const LONGEST: usize = 268_435_456;
@@ -19,33 +19,42 @@ pub(crate) const LONGEST: usize = 268_435_456;
 /// Reads a line of the notation, without its line end: its scalars and marks, or None for a blank line or
 /// a comment. A line over 268,435,456 bytes is `LineTooLong`, which is looked at first; one that is none
 /// of the notation is `Bad`, with the place where it stops being the beginning of any line. `Memory` may
-/// come in place of an answer where a growth was refused.
+/// come in place of a line with marks, where a growth was refused; the other answers need no memory.
 pub fn read_line(alloc: Global, bytes: &[u8], form: Form) -> Result<Option<TestLine>, LineFault>
     ensures long { IsErrOf result LineTooLong ↔ (longest < length bytes.now) }
     // The line is one that the grammar relates to the bytes, and it relates no other.
     ensures found { IfOk result (λ line. IsLine form bytes.now line) }
     ensures only { IfOk result (λ line. (other : Option Line) → IsLine form bytes.now other → other ≡ line) }
-    // The bytes are outside the grammar and go wrong at the place.
+    // At Bad the bytes are outside the grammar and go wrong at the place, at Memory they are a line with marks.
     ensures fault { IfErr result (λ fault. IsFault form bytes.now fault) }
 {
     if bytes.len() > LONGEST {
         return Err(LineFault::LineTooLong);
     }
-    read_bytes(alloc, bytes, form)
+    let Ok(read) = read_bytes(alloc, bytes, form) else {
+        return judge(bytes, form);
+    };
+    match read {
+        Ok(line) => Ok(line),
+        Err(at) => Err(LineFault::Bad { at }),
+    }
 }
 
-/// Reads a line that is not too long.
-fn read_bytes(alloc: Global, bytes: &[u8], form: Form) -> Result<Option<TestLine>, LineFault>
+/// Reads a line that is not too long, or says where it goes wrong. An error comes where a growth was refused.
+fn read_bytes(
+    alloc: Global,
+    bytes: &[u8],
+    form: Form,
+) -> Result<Result<Option<TestLine>, u32>, AllocError>
     requires { length bytes.now ≤ longest }
-    ensures line { IfOk result (λ line. run_line form bytes.now ≡ Ok line) }
-    ensures fault { IfErr result (λ fault. IsRunFault form bytes.now fault) }
+    ensures { IfOk result (λ answer. run_line form bytes.now ≡ answer) }
 {
     let mut scalars = Vec::new(alloc);
     let mut marks = Vec::new(alloc);
     let mut state = State::Start;
     for (place, byte) in bytes.iter().enumerate() {
         match step(form, state, sort_of(*byte)) {
-            Taken::Dead => return Err(LineFault::Bad { at: place as u32 }),
+            Taken::Dead => return Ok(Err(place as u32)),
             Taken::On(next) => state = next,
             Taken::OneScalar(scalar) => {
                 scalars.push(scalar)?;
@@ -58,10 +67,43 @@ fn read_bytes(alloc: Global, bytes: &[u8], form: Form) -> Result<Option<TestLine
         }
     }
     if !state.can_end() {
+        return Ok(Err(bytes.len() as u32));
+    }
+    // Without a mark there is no line.
+    Ok(Ok(TestLine::new(scalars, marks)))
+}
+
+/// What can be said without memory of a line that is not too long: where it goes wrong, or that it has no
+/// marks. Of a line with marks the answer is `Memory`.
+fn judge(bytes: &[u8], form: Form) -> Result<Option<TestLine>, LineFault>
+    requires { length bytes.now ≤ longest }
+    ensures line { IfOk result (λ line. run_line form bytes.now ≡ Ok line) }
+    ensures fault { IfErr result (λ fault. IsRunFault form bytes.now fault) }
+{
+    let mut scalars: usize = 0;
+    let mut marks: usize = 0;
+    let mut state = State::Start;
+    for (place, byte) in bytes.iter().enumerate() {
+        match step(form, state, sort_of(*byte)) {
+            Taken::Dead => return Err(LineFault::Bad { at: place as u32 }),
+            Taken::On(next) => state = next,
+            Taken::OneScalar(_) => {
+                scalars += 1;
+                state = State::Coded;
+            }
+            Taken::OneMark(_) => {
+                marks += 1;
+                state = State::Marked;
+            }
+        }
+    }
+    if !state.can_end() {
         return Err(LineFault::Bad {
             at: bytes.len() as u32,
         });
     }
-    // Without a mark there is no line.
-    Ok(TestLine::new(scalars, marks))
+    if marks == scalars + 1 {
+        return Err(LineFault::Memory);
+    }
+    Ok(None)
 }

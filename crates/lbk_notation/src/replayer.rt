@@ -1,6 +1,7 @@
 //! What a line of a test file comes to.
 
 ghost use Rattle.std.specs.Prelude.{◌≡◌, IfOk, IfErr};
+ghost use Rattle.lbk_notation.specs.Fault.{HasMarks};
 ghost use Rattle.lbk_notation.specs.Findings.{IsFinding};
 
 use super::fault::LineFault;
@@ -20,10 +21,11 @@ pub struct Replayer<'a, C: CellSource> {
 }
 
 impl<C: CellSource> Replayer<'_, C> {
-    /// What a line comes to, given without its line end.
+    /// What a line comes to, given without its line end. `Memory` comes of a line with marks alone.
     pub fn finding(&self, alloc: Global, line: &[u8]) -> Result<Finding, ReplayFault>
         ensures finding { IfOk result (IsFinding (C.cell_of self.now.cells.now) self.now.form self.now.profile line.now) }
         ensures only { IfErr result (λ fault. fault ≡ ReplayFault.Memory) }
+        ensures memory { IfErr result (λ fault. HasMarks self.now.form line.now) }
     {
         match read_line(alloc, line, self.form) {
             Ok(None) => Ok(Finding::NoLine),

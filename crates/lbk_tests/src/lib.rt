@@ -6,4 +6,8 @@ mod devices;
 #[cfg(test)]
 mod feeds;
 #[cfg(test)]
+mod long_streams;
+#[cfg(test)]
+mod sample_ranges;
+#[cfg(test)]
 mod tables;

@@ -15,3 +15,5 @@ mod deciding;
 mod looking_ahead;
 #[cfg(test)]
 mod pages;
+#[cfg(test)]
+mod step_tables;

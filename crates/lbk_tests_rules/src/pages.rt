@@ -94,7 +94,7 @@ fn equal_pages(rt: HostRuntime) -> Result<(), Fail> {
 
 /// A file by which two codes of each page open: that at the page's place among 256, and that at the place of its 256
 /// pages among all. So most pages differ from all others.
-fn striped(alloc: Global) -> Result<String, AllocError> {
+pub fn striped(alloc: Global) -> Result<String, AllocError> {
     let mut file = String::new(alloc);
     for page in 0..4352u32 {
         let low = page % 256;

@@ -13,7 +13,7 @@ use std::alloc::{AllocError, Global};
 use std::process::Abort;
 use std::test::Fail;
 
-const OF_TEXTS: [Task; 3] = [Task::Passages, Task::Show, Task::Segment];
+const OF_TEXTS: [Task; 4] = [Task::Passages, Task::Mark, Task::Show, Task::Segment];
 
 const OF_FILES: [Task; 2] = [Task::Replay(Form::Plain), Task::Replay(Form::Kinds)];
 

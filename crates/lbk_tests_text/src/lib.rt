@@ -20,6 +20,8 @@ mod segmented;
 #[cfg(test)]
 mod shown;
 #[cfg(test)]
+mod signed;
+#[cfg(test)]
 mod stopped_writers;
 #[cfg(test)]
 mod tasks;

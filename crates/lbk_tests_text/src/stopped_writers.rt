@@ -11,7 +11,8 @@ use lbk_tests_rows::replayed::{FOUR_LINES, FOUR_LINES_TEXT};
 use std::test::Fail;
 
 /// What is run, its input, and what it writes.
-const RUNS: [(Task, &str, &str); 3] = [
+const RUNS: [(Task, &str, &str); 4] = [
+    (Task::Mark, "a b\r\nc", "a ÷b\r\nc\n"),
     (
         Task::Show,
         "a\r\nb",

@@ -1,7 +1,7 @@
 //! What reads a text or a test file and writes, by a name that a table can hold.
 
 use crate::segmented::told;
-use lbk_cmd::{CmdFault, segment, show};
+use lbk_cmd::{CmdFault, mark, segment, show};
 use lbk_feed::devices::{MemorySink, MemorySource};
 use lbk_feed::{Sink, Source, write_all};
 use lbk_notation::{Form, ReplayFault, Report, replay};
@@ -20,6 +20,7 @@ const ROOM: usize = 4096;
 pub enum Task {
     /// The segmenter alone: each passage is written as the tests tell it.
     Passages,
+    Mark,
     Show,
     Segment,
     Replay(Form),
@@ -61,6 +62,7 @@ impl Task {
         } = setting;
         match self {
             Task::Passages => End::Text(tell_all(setting, reader, writer)),
+            Task::Mark => End::Text(mark(alloc, reader, writer, cells, LIMIT, profile)),
             Task::Show => End::Text(show(alloc, reader, writer, cells, LIMIT, profile)),
             Task::Segment => End::Text(segment(alloc, reader, writer, cells, LIMIT, profile)),
             Task::Replay(form) => End::File(replay(alloc, reader, writer, cells, form, profile)),

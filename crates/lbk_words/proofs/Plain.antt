@@ -16,7 +16,7 @@ use Rattle.clap.proofs.OnLiterals.{clap_on_literals}
 use Rattle.lbk_rules.specs.declared.verdicts.Profile.{Profile}
 use Rattle.lbk_rules.specs.declared.verdicts.Profile.TheVariants.{First, Second}
 use Rattle.lbk_words.specs.declared.order.Engine.{Engine}
-use Rattle.lbk_words.specs.declared.order.Engine.TheVariants.{Show, Segment, Replay}
+use Rattle.lbk_words.specs.declared.order.Engine.TheVariants.{Mark, Show, Segment, Replay}
 use Rattle.lbk_words.specs.Command.{file_rule, flag_rule, greatest_limit, lbk_app, limited_app, number_rule, profile_rule, replay_app}
 use Rattle.lbk_words.specs.PlainWords.{AreEngineWords, AreKindsWords, AreLimitWords, AreProfileWords, IsPlainFor, IsPlainName, name_of_engine, profile_word}
 use Rattle.lbk_words.specs.Task.{Task, limit_in, profile_in, task_by, task_in, text_in}
@@ -85,6 +85,10 @@ pub record Performs (words : List Text) (task : Task) : Type 0 where
   pub accepted : fault_of lbk_app words ≡ []
   pub asks : task_by words ≡ Some task
 
+enters_mark : Enters (built lbk_app) (codes "mark")
+unfolding clap_on_literals
+enters_mark = record { walks = refl; clean = refl; defaults = refl }
+
 enters_show : Enters (built lbk_app) (codes "show")
 unfolding clap_on_literals
 enters_show = record { walks = refl; clean = refl; defaults = refl }
@@ -102,6 +106,13 @@ limited_shape name = sub (limited_app name).top
 
 abbrev replay_shape : Shape
 replay_shape = sub replay_app.top
+
+mark_performs : (words : List Text) (rows : List Row) → Takes (limited_shape (codes "mark")) words rows
+    → Performs (codes "mark" ∷ words) (task_in (codes "mark", rows))
+mark_performs words rows takes = record {
+  accepted = entered_clean (built lbk_app) (codes "mark") words enters_mark takes.clean refl;
+  asks = ap (option_map task_in) (entered_rows (built lbk_app) (codes "mark") words enters_mark ∙ ap (λ (r : List Row). Some (codes "mark", r)) takes.rows_are);
+}
 
 show_performs : (words : List Text) (rows : List Row) → Takes (limited_shape (codes "show")) words rows
     → Performs (codes "show" ∷ words) (task_in (codes "show", rows))
@@ -140,7 +151,7 @@ built_profile_rule = built_rule profile_rule
 abbrev file_texts : Text → Text → Text → Text → List Text → List Text
 file_texts l e c m rest = codes "--line-break" ∷ l ∷ codes "--east-asian" ∷ e ∷ codes "--category" ∷ c ∷ codes "--emoji" ∷ m ∷ rest
 
--- `show` and `segment`, with no more words
+-- `mark`, `show` and `segment`, with no more words
 limited_alone : (name l e c m : Text) → IsPlainName l → IsPlainName e → IsPlainName c → IsPlainName m
     → Takes (limited_shape name) (file_texts l e c m []) (finished (limited_shape name).rules (behind_files l e c m))
 unfolding clap_on_literals
@@ -295,7 +306,7 @@ task_with engine l e c m profile = record {
   profile = profile;
 }
 
--- what `show` or `segment` finds behind its name
+-- what `mark`, `show` or `segment` finds behind its name
 record Finds (name : Text) (words : List Text) (l e c m : Text) (limit : ℕ) (profile : Profile) : Type 0 where
   rows : List Row
   takes : Takes (limited_shape name) words rows
@@ -389,6 +400,17 @@ module _ (l e c m : Text) (pl : IsPlainName l) (pe : IsPlainName e) (pc : IsPlai
 
   engine_plain : (engine : Engine) (profile : Profile) (own last : List Text) → AreEngineWords engine own → AreProfileWords profile last
       → Performs (words_of engine l e c m own last) (task_with engine l e c m profile)
+  engine_plain (Mark limit) profile own last given more =
+      let f = limited_plain (codes "mark") limit profile own last given more in
+      let same : task_in (codes "mark", f.rows) ≡ task_with (Mark limit) l e c m profile = λ i. record {
+        engine = Mark (f.limit_is i);
+        line_break = f.line_break i;
+        east_asian = f.east_asian i;
+        category = f.category i;
+        emoji = f.emoji i;
+        profile = f.profile_is i;
+      } in
+      subst (Performs (words_of (Mark limit) l e c m own last)) same (mark_performs (file_texts l e c m (own ++ last)) f.rows f.takes)
   engine_plain (Show limit) profile own last given more =
       let f = limited_plain (codes "show") limit profile own last given more in
       let same : task_in (codes "show", f.rows) ≡ task_with (Show limit) l e c m profile = λ i. record {

@@ -43,7 +43,7 @@ files_app name = with_rule (with_rule (with_rule (with_rule (new_app name)
 abbrev pub profile_rule : Rule
 profile_rule = number_rule (codes "profile") 2 (codes "1")
 
--- `show` and `segment`
+-- `mark`, `show` and `segment`
 abbrev pub limited_app : Text → App
 limited_app name = with_rule (with_rule (files_app name)
     (number_rule (codes "limit") greatest_limit (codes "65536"))) profile_rule
@@ -60,8 +60,8 @@ bare_app = record {
 }
 
 abbrev pub lbk_app : App
-lbk_app = with_subcommand (with_subcommand (with_subcommand bare_app
-    (limited_app (codes "show")).top) (limited_app (codes "segment")).top) replay_app.top
+lbk_app = with_subcommand (with_subcommand (with_subcommand (with_subcommand bare_app
+    (limited_app (codes "mark")).top) (limited_app (codes "show")).top) (limited_app (codes "segment")).top) replay_app.top
 
 -- what is wrong with the words, or what they ask for in place of work, as `clap` sorts it
 abbrev pub faults_of : List Text → Kinds

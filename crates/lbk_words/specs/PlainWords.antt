@@ -7,7 +7,7 @@ use Rattle.lbk_rules.specs.declared.verdicts.Profile.TheVariants.{First, Second}
 use Rattle.lbk_words.specs.Command.{default_limit, greatest_limit}
 use Rattle.lbk_words.specs.Task.{Task}
 use Rattle.lbk_words.specs.declared.order.Engine.{Engine}
-use Rattle.lbk_words.specs.declared.order.Engine.TheVariants.{Show, Segment, Replay}
+use Rattle.lbk_words.specs.declared.order.Engine.TheVariants.{Mark, Show, Segment, Replay}
 
 -- a file's name that is not empty and does not begin with `-` (45)
 abbrev pub IsPlainName : Text → Type 0
@@ -25,6 +25,7 @@ AreKindsWords kinds words = ((words ≡ []) × (kinds ≡ false)) ⊎ ((words �
 
 -- the words of the option that an engine alone has
 abbrev pub AreEngineWords : Engine → List Text → Type 0
+AreEngineWords (Mark limit) words = AreLimitWords limit words
 AreEngineWords (Show limit) words = AreLimitWords limit words
 AreEngineWords (Segment limit) words = AreLimitWords limit words
 AreEngineWords (Replay kinds) words = AreKindsWords kinds words
@@ -39,6 +40,7 @@ AreProfileWords profile words = ((words ≡ []) × (profile ≡ First))
     ⊎ (words ≡ codes "--profile" ∷ profile_word profile ∷ [])
 
 abbrev pub name_of_engine : Engine → Text
+name_of_engine (Mark limit) = codes "mark"
 name_of_engine (Show limit) = codes "show"
 name_of_engine (Segment limit) = codes "segment"
 name_of_engine (Replay kinds) = codes "replay"

@@ -8,7 +8,7 @@ use Rattle.lbk_rules.specs.declared.verdicts.Profile.{Profile}
 use Rattle.lbk_rules.specs.declared.verdicts.Profile.TheVariants.{First, Second}
 use Rattle.lbk_words.specs.Command.{lbk_app, default_limit}
 use Rattle.lbk_words.specs.declared.order.Engine.{Engine}
-use Rattle.lbk_words.specs.declared.order.Engine.TheVariants.{Show, Segment, Replay}
+use Rattle.lbk_words.specs.declared.order.Engine.TheVariants.{Mark, Show, Segment, Replay}
 use Rattle.lbk_words.specs.declared.order.Order.{Order}
 
 -- an engine with its option, the names of the four files and the profile
@@ -60,7 +60,8 @@ kinds_in rows = is_true (one_of (codes "kinds") rows)
 
 abbrev pub engine_in : Text → List Row → Engine
 engine_in name rows =
-    if bytes_eq name (codes "show") then Show (limit_in rows)
+    if bytes_eq name (codes "mark") then Mark (limit_in rows)
+    else if bytes_eq name (codes "show") then Show (limit_in rows)
     else if bytes_eq name (codes "segment") then Segment (limit_in rows)
     else Replay (kinds_in rows)
 

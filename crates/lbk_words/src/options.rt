@@ -29,6 +29,8 @@ Examples:
 
 Exit status: 0 done, 1 a refused file or text, 2 wrong words, 3 a replay with lines that differ or are refused.";
 
+const MARK_ABOUT: &str = "Writes the text with ÷ at each position where a line may end";
+
 const SHOW_ABOUT: &str =
     "Writes a line for each passage: its marks and scalars, and the rule of each position";
 
@@ -37,6 +39,12 @@ const SEGMENT_ABOUT: &str =
 
 const REPLAY_ABOUT: &str =
     "Compares a file of break tests with the rules, and counts what agrees and what differs";
+
+const MARK_AFTER: &str = "\
+Nothing else is changed: where a line must end, the line end of the text shows it. A text that ends without a line
+end gets one. Example:
+  $ printf 'ab cd' | lbk mark FILES
+  ab ÷cd";
 
 const SHOW_AFTER: &str = "\
 A mark stands before and after each scalar: × no break, ÷ a break may be, ! a break must be. Example:
@@ -142,7 +150,15 @@ fn with_files<'a>(alloc: Global, name: &'a str) -> Result<Command<'a>, AllocErro
         .arg(file_option(alloc, "emoji", "emoji-data.txt, the pictographs"))
 }
 
-/// `show` or `segment`.
+/// The command with what its help says.
+fn described<'a>(command: Command<'a>, about: &'a str, after: &'a str) -> Command<'a>
+    ensures app { app_of result ≡ app_of command.entry }
+    ensures local { IsLocal command.entry → IsLocal result }
+{
+    command.about(about).after_help(after)
+}
+
+/// `mark`, `show` or `segment`.
 fn limited<'a>(alloc: Global, name: &'a str) -> Result<Command<'a>, AllocError>
     ensures app { IfOk result (λ c. app_of c ≡ limited_app name.entry.now) }
     ensures local { IfOk result IsLocal }
@@ -152,13 +168,35 @@ fn limited<'a>(alloc: Global, name: &'a str) -> Result<Command<'a>, AllocError>
         .arg(profile_option(alloc))
 }
 
+fn mark<'a>(alloc: Global) -> Result<Command<'a>, AllocError>
+    ensures app { IfOk result (λ c. app_of c ≡ limited_app (codes "mark")) }
+    ensures local { IfOk result IsLocal }
+{
+    Ok(described(limited(alloc, "mark")?, MARK_ABOUT, MARK_AFTER))
+}
+
+fn show<'a>(alloc: Global) -> Result<Command<'a>, AllocError>
+    ensures app { IfOk result (λ c. app_of c ≡ limited_app (codes "show")) }
+    ensures local { IfOk result IsLocal }
+{
+    Ok(described(limited(alloc, "show")?, SHOW_ABOUT, SHOW_AFTER))
+}
+
+fn segment<'a>(alloc: Global) -> Result<Command<'a>, AllocError>
+    ensures app { IfOk result (λ c. app_of c ≡ limited_app (codes "segment")) }
+    ensures local { IfOk result IsLocal }
+{
+    Ok(described(limited(alloc, "segment")?, SEGMENT_ABOUT, SEGMENT_AFTER))
+}
+
 fn replay<'a>(alloc: Global) -> Result<Command<'a>, AllocError>
     ensures app { IfOk result (λ c. app_of c ≡ replay_app) }
     ensures local { IfOk result IsLocal }
 {
-    with_files(alloc, "replay")?
+    let replay = with_files(alloc, "replay")?
         .arg(kinds_option(alloc))?
-        .arg(profile_option(alloc))
+        .arg(profile_option(alloc))?;
+    Ok(described(replay, REPLAY_ABOUT, REPLAY_AFTER))
 }
 
 /// The program with no subcommand yet.
@@ -175,23 +213,17 @@ fn bare<'a>(alloc: Global) -> Result<Command<'a>, AllocError>
         .bin_name("lbk")
 }
 
-/// The command with what its help says.
-fn described<'a>(command: Command<'a>, about: &'a str, after: &'a str) -> Command<'a>
-    ensures app { app_of result ≡ app_of command.entry }
-    ensures local { IsLocal command.entry → IsLocal result }
-{
-    command.about(about).after_help(after)
-}
-
 /// The command line of the program.
 pub fn command<'a>(alloc: Global) -> Result<Command<'a>, AllocError>
     ensures app { IfOk result (λ c. app_of c ≡ lbk_app) }
     ensures local { IfOk result IsLocal }
 {
-    let show = described(limited(alloc, "show")?, SHOW_ABOUT, SHOW_AFTER);
-    let segment = described(limited(alloc, "segment")?, SEGMENT_ABOUT, SEGMENT_AFTER);
-    let replay = described(replay(alloc)?, REPLAY_ABOUT, REPLAY_AFTER);
+    let mark = mark(alloc)?;
+    let show = show(alloc)?;
+    let segment = segment(alloc)?;
+    let replay = replay(alloc)?;
     bare(alloc)?
+        .subcommand(mark)?
         .subcommand(show)?
         .subcommand(segment)?
         .subcommand(replay)

@@ -14,6 +14,8 @@ pub struct FileNames<'a> {
 /// Which engine runs, with the options that it alone has.
 #[derive(Clone, Copy, Debug, PartialEq, Eq)]
 pub enum Engine {
+    /// `mark`, for paragraphs of at most `limit` bytes.
+    Mark { limit: u32 },
     /// `show`, for paragraphs of at most `limit` bytes.
     Show { limit: u32 },
     /// `segment`, for paragraphs of at most `limit` bytes.

@@ -59,6 +59,9 @@ fn engine(name: &str, given: &ArgMatches<'_>) -> Engine
     ensures { result ≡ engine_in name.now (rows_of (found_of given.now)) }
 {
     match name {
+        "mark" => Engine::Mark {
+            limit: limit(given),
+        },
         "show" => Engine::Show {
             limit: limit(given),
         },

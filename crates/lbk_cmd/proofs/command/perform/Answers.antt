@@ -1,5 +1,22 @@
 use Rattle.lbk_cmd.proofs.command.perform.Goals as goal
 
+pub returns-in-Mark : goal.returns-in-Mark
+returns-in-Mark g c = rw c.in-Mark.is (
+  c.mark.result,
+  record {
+    shown = c.mark.ensures.shown;
+    ended = c.mark.ensures.ended;
+    run = c.mark.ensures.run;
+    reads = c.mark.ensures.reads;
+    limit = c.mark.ensures.limit;
+    read = c.mark.ensures.read;
+    read_failed = c.mark.ensures.read_failed;
+    write = c.mark.ensures.write;
+    write_failed = c.mark.ensures.write_failed;
+  },
+  c.of_text.ensures,
+)
+
 pub returns-in-Show : goal.returns-in-Show
 returns-in-Show g c = rw c.in-Show.is (
   c.show.result,
@@ -14,7 +31,7 @@ returns-in-Show g c = rw c.in-Show.is (
     write = c.show.ensures.write;
     write_failed = c.show.ensures.write_failed;
   },
-  c.of_text.ensures,
+  c.of_text-in-Show.ensures,
 )
 
 pub returns-in-Segment : goal.returns-in-Segment

@@ -5,6 +5,7 @@ use Rattle.lbk_passage.specs.Next.{failures_with, fault_in}
 use Rattle.lbk_passage.specs.Shown.{state_of}
 use Rattle.lbk_cmd.specs.Engines.{engine_of, lines_of}
 use Rattle.lbk_cmd.proofs.Looping.{Going-new, run_none, run_stopped, run_ended, run_out_of_memory, run_unwritten, run_goes_on}
+use Rattle.lbk_cmd.proofs.Signing.{lent_cut}
 use Rattle.lbk_cmd.proofs.engine.write_lines.Goals as goal
 
 pub returns-in_err-segmenter-clause-run : goal.returns-in_err-segmenter-clause-run
@@ -28,6 +29,10 @@ returns-in_err-passage-clause-run g c =
     run_stopped (engine_of c.args.lines (g.C.CellSource.cell_of c.args.cells.now) c.args.profile c.args.limit) _ _ _ _
     c.from_residual-in_err-passage.result _ _ _ _ _ _ _ _ _ c.next.result c.loop-text.invariant.going c.next.follows.holds-at-none
     c.in_err-passage.field-0.0 c.in_err-passage.was (exit.1 ∙ ap Err exit.2)
+
+pub push_lines-requires-clause-cut : goal.push_lines-requires-clause-cut
+push_lines-requires-clause-cut g c =
+    lent_cut _ _ _ _ _ _ _ _ c.next.result c.in-Some.passage (c.in_ok-passage.was ∙ ap Ok c.in-Some.is) c.next.follows.holds-at-none
 
 pub returns-in_err-push_lines-clause-run : goal.returns-in_err-push_lines-clause-run
 returns-in_err-push_lines-clause-run g c =

@@ -1,34 +1,26 @@
-use Rattle.std.proofs.Common.{◌≡◌, ◌∙◌, ap, ap₂, refl, rules, codes, false, Bool}
+use Rattle.std.proofs.Common.{◌≡◌, ◌∙◌, ap, ap₂, refl, false, Bool}
 use Rattle.std.specs.Prelude.{◌||◌}
 use Rattle.std.proofs.lemmas.Result.{IfOk-weaker}
-use Rattle.clap.specs.Words.{App, app_of, with_subcommand}
-use Rattle.lbk_words.specs.Command.{bare_app, limited_app, replay_app}
-use Rattle.lbk_words.specs.Local.{IsLocal}
+use Rattle.clap.specs.Words.{App, with_subcommand}
 use Rattle.lbk_words.proofs.options.command.Goals as goal
 
 pub returns-clause-app : goal.returns-clause-app
 returns-clause-app c =
-    let show : app_of c.described-show.result ≡ limited_app (codes "show") = search rules in
-    let segment : app_of c.described-segment.result ≡ limited_app (codes "segment") = search rules in
-    let replay : app_of c.described-replay.result ≡ replay_app = search rules in
-    let show_local : IsLocal c.described-show.result = c.described-show.ensures.local (search rules) in
-    let segment_local : IsLocal c.described-segment.result = c.described-segment.ensures.local (search rules) in
-    let replay_local : IsLocal c.described-replay.result = c.described-replay.ensures.local (search rules) in
-    let bare : app_of c.in_ok-bare.field-0 ≡ bare_app = search rules in
-    IfOk-weaker c.subcommand-3.result _ _ (λ x added. added.shape replay_local ∙ ap₂ with_subcommand
-    (c.in_ok-subcommand-2.ensures.shape segment_local ∙ ap₂ with_subcommand
-    (c.in_ok-subcommand.ensures.shape show_local ∙ ap₂ with_subcommand bare (ap (λ (a : App). a.top) show)) (ap (λ (a : App). a.top) segment))
-    (ap (λ (a : App). a.top) replay)) c.subcommand-3.ensures
+    let top : (a b : App) → a ≡ b → a.top ≡ b.top = λ a b e. ap (λ (x : App). x.top) e in
+    IfOk-weaker c.subcommand-4.result _ _ (λ x added. added.shape c.in_ok-replay.ensures.local ∙ ap₂ with_subcommand
+    (c.in_ok-subcommand-3.ensures.shape c.in_ok-segment.ensures.local ∙ ap₂ with_subcommand
+    (c.in_ok-subcommand-2.ensures.shape c.in_ok-show.ensures.local ∙ ap₂ with_subcommand
+    (c.in_ok-subcommand.ensures.shape c.in_ok-mark.ensures.local ∙ ap₂ with_subcommand c.in_ok-bare.ensures.app
+    (top _ _ c.in_ok-mark.ensures.app)) (top _ _ c.in_ok-show.ensures.app)) (top _ _ c.in_ok-segment.ensures.app))
+    (top _ _ c.in_ok-replay.ensures.app)) c.subcommand-4.ensures
 
 or_false : (a b : Bool) → a ≡ false → b ≡ false → (a || b) ≡ false
 or_false a b e f = rw (e, f) refl
 
 pub returns-clause-local : goal.returns-clause-local
 returns-clause-local c =
-    let show_local : IsLocal c.described-show.result = c.described-show.ensures.local (search rules) in
-    let segment_local : IsLocal c.described-segment.result = c.described-segment.ensures.local (search rules) in
-    let replay_local : IsLocal c.described-replay.result = c.described-replay.ensures.local (search rules) in
-    let bare_local : IsLocal c.in_ok-bare.field-0 = search rules in
-    IfOk-weaker c.subcommand-3.result _ _ (λ x added. added.globals ∙ or_false _ _
+    IfOk-weaker c.subcommand-4.result _ _ (λ x added. added.globals ∙ or_false _ _
+    (c.in_ok-subcommand-3.ensures.globals ∙ or_false _ _
     (c.in_ok-subcommand-2.ensures.globals ∙ or_false _ _
-    (c.in_ok-subcommand.ensures.globals ∙ or_false _ _ bare_local show_local) segment_local) replay_local) c.subcommand-3.ensures
+    (c.in_ok-subcommand.ensures.globals ∙ or_false _ _ c.in_ok-bare.ensures.local c.in_ok-mark.ensures.local) c.in_ok-show.ensures.local)
+    c.in_ok-segment.ensures.local) c.in_ok-replay.ensures.local) c.subcommand-4.ensures

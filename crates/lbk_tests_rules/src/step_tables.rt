@@ -1,0 +1,25 @@
+//! Cells have a table of steps, whatever the files say: without it the answers are the same, and slow.
+
+use crate::pages::striped;
+use lbk_rules::{CellPages, CellSource};
+use lbk_tests_rows::property_files::{NO_FILES, SAMPLES, line_break_alone};
+use lbk_ucd::{Files, Tables};
+use std::alloc::Global;
+use std::test::Fail;
+
+/// Whether the cells of these files have a table of steps.
+fn has_table(alloc: Global, files: Files<'_>) -> Result<bool, Fail> {
+    let tables = Tables::read(alloc, files)?;
+    let pages = CellPages::build(alloc, &tables)?;
+    Ok(pages.step_table().is_some())
+}
+
+// No page, some, and some 4,000 that differ from one another.
+#[test]
+fn tables_of_steps(rt: HostRuntime) -> Result<(), Fail> {
+    assert!(rt; has_table(rt.alloc(), NO_FILES)?);
+    assert!(rt; has_table(rt.alloc(), SAMPLES)?);
+    let file = striped(rt.alloc())?;
+    assert!(rt; has_table(rt.alloc(), line_break_alone(file.as_bytes()))?);
+    Ok(())
+}
