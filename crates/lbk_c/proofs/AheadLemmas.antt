@@ -1,5 +1,5 @@
 -- What stands behind a quotation mark that may close.
-use Rattle.std.proofs.Common.{◌≡◌, ℕ, ◌+◌, ◌<◌, ◌||◌, Bool, true, false, cond, Option, Some, None, List, [], ◌∷◌, length, map, drop, refl, sym, ap, ◌∙◌}
+use Rattle.std.proofs.Common.{◌≡◌, ℕ, ◌+◌, ◌<◌, ◌||◌, Bool, true, false, cond, Option, Some, None, List, ◌∷◌, length, map, drop, refl, sym, ap, ◌∙◌}
 use Rattle.bstr.specs.Utf8.{decoded, lossy_chars, or_replacement}
 use Rattle.lbk_rules.specs.declared.cells.Cell.{Cell}
 use Rattle.lbk_rules.specs.Classes.{closes_before, hard, mark, none_of}

@@ -8,7 +8,7 @@ use Rattle.std.proofs.lemmas.List.{append-nil, length-append, length-map, length
 use Rattle.std.proofs.lemmas.Str.{chars-encodes}
 use Rattle.std.proofs.Math.Seq.{drop-append_seam, drop-length, take-length}
 use lib.Utf8.{scalars}
-use Rattle.bstr.specs.Utf8.{Decoded, good, lossy_chars, or_replacement, pieces}
+use Rattle.bstr.specs.Utf8.{Decoded, good, or_replacement, pieces}
 use Rattle.bstr.proofs.lemmas.EncodeLemmas.{decoded-encode}
 use Rattle.bstr.proofs.lemmas.PieceLemmas.{pieces-nil, pieces-step}
 use Rattle.lbk_rules.specs.declared.breaks.Break.{Break}
@@ -28,7 +28,7 @@ use Rattle.lbk_c.specs.declared.interface.Found.{Found}
 use Rattle.lbk_c.specs.declared.interface.State.{State}
 use Rattle.lbk_c.specs.declared.progress.Progress.{Progress}
 use Rattle.lbk_c.specs.Bytes.{breaks_after, breaks_of_bytes, with_break}
-use Rattle.lbk_c.specs.Reached.{Comes, Goes, IsGoing, IsSpent, Onto, Reached, from_state, onward, scalars_of}
+use Rattle.lbk_c.specs.Reached.{Comes, Goes, IsGoing, IsSpent, Reached, from_state, onward, scalars_of}
 use Rattle.lbk_c.specs.Shown.{given_in, shown}
 use Rattle.lbk_c.specs.State.{profile_numbered, profile_number, start_in}
 

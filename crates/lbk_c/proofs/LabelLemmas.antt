@@ -1,5 +1,5 @@
 -- The labels of numbers.
-use Rattle.std.proofs.Common.{◌≡◌, ℕ, cond, nat_lt, true, false, Option, Some, None, List, [], ◌∷◌, refl, ap, sym}
+use Rattle.std.proofs.Common.{◌≡◌, ℕ, cond, nat_lt, true, false, Option, Some, None, [], ◌∷◌, refl, ap}
 use Rattle.lbk_rules.specs.declared.verdicts.Rule.{Rule}
 use Rattle.lbk_rules.specs.Codes.{rule_numbered}
 use Rattle.lbk_rules.specs.Labels.{label_of}

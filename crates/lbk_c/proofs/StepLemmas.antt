@@ -1,5 +1,5 @@
 -- What a step of a flat table says of the text.
-use Rattle.std.proofs.Common.{◌≡◌, ℕ, ◌+◌, ◌*◌, ◌/◌, ◌%◌, ◌<◌, ◌≤◌, Bool, true, false, List, [], ◌∷◌, ◌++◌, length, get_or, map, reverse, refl, sym, ap, subst, ◌∙◌, arith}
+use Rattle.std.proofs.Common.{◌≡◌, ℕ, ◌+◌, ◌*◌, ◌/◌, ◌%◌, ◌<◌, true, false, List, [], ◌∷◌, ◌++◌, length, get_or, map, reverse, refl, sym, ap, subst, ◌∙◌, arith}
 use Rattle.std.specs.Char.{IsScalar}
 use Rattle.lbk_rules.specs.declared.cells.Cell.{Cell}
 use Rattle.lbk_rules.specs.declared.facts.Left.{Left}
@@ -23,7 +23,7 @@ use Rattle.lbk_rules.specs.Verdict.{verdict_between_in}
 use Rattle.lbk_rules.proofs.AheadLemmas.{ahead-normal}
 use Rattle.lbk_rules.proofs.RowMachineLemmas.{normals-back}
 use Rattle.lbk_rules.specs.declared.flat_table.TheConstants.{HELD}
-use Rattle.lbk_c.specs.Reached.{AreSwift, IsSwiftStep, steps_in}
+use Rattle.lbk_c.specs.Reached.{AreSwift, steps_in}
 
 -- the row that a step leads to knows of the scalar too
 pub knows-more : (cell : ℕ → Cell) (lefts : List Left) (row next c kind : ℕ) → kind_cell kind ≡ normal (cell c) → IsStart lefts next

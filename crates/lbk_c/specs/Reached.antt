@@ -18,10 +18,8 @@ use Rattle.lbk_rules.specs.Steps.{IsStart, left_at}
 use Rattle.lbk_rules.specs.Verdict.{verdict_between_in}
 use Rattle.lbk_c.specs.declared.progress.Progress.{Progress}
 use Rattle.lbk_rules.specs.declared.flat_table.TheConstants.{HELD}
-use Rattle.lbk_c.specs.declared.interface.Found.{Found}
 use Rattle.lbk_c.specs.declared.interface.State.{State}
 use Rattle.lbk_c.specs.Bytes.{with_break}
-use Rattle.lbk_c.specs.Shown.{shown}
 use Rattle.lbk_c.specs.State.{profile_numbered}
 
 -- the scalars that some pieces are read as

@@ -1,5 +1,5 @@
 -- What the numbers that cross to C stand for.
-use Rattle.std.specs.Prelude.{ℕ, ◌-◌, List, [], ◌∷◌, ◌++◌, length, map, take, replicate, nat_lt, if◌then◌else◌}
+use Rattle.std.specs.Prelude.{ℕ, ◌-◌, List, [], ◌++◌, length, map, take, replicate, nat_lt, if◌then◌else◌}
 use Rattle.lbk_rules.specs.declared.breaks.Break.{Break}
 use Rattle.lbk_rules.specs.Codes.{kind_numbered, rule_numbered}
 use Rattle.lbk_rules.specs.Labels.{label_of}

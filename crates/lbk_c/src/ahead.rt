@@ -43,12 +43,12 @@ fn second_code(table: &FlatTable, row: usize, c: char, rest: &[u8]) -> u16
         → IsCode result × (verdict_coded result ≡ verdict_between_in Second (map cell taken) (cell c ∷ map cell (lossy_chars rest.now))) }
 {
     let kind = table.kinds[c as usize];
-    let second = step_at(&table.second, row, kind).code;
-    if second != HELD {
-        return second;
+    let second = step_at(&table.second, row, kind);
+    if second.code != HELD {
+        return second.code;
     }
     if closes_ahead(table, c, rest) {
-        return second;
+        return second.code;
     }
     step_at(&table.first, row, kind).code
 }

@@ -1,6 +1,6 @@
 //! A block that is filled with breaks.
 
-ghost use Rattle.std.specs.Prelude.{◌≡◌, ℕ, ◌^◌, ◌<◌, ◌≤◌, ◌++◌, ◌∷◌, [], List, length, map};
+ghost use Rattle.std.specs.Prelude.{◌≡◌, ℕ, ◌<◌, ◌≤◌, ◌++◌, [], List, length};
 ghost use Rattle.lbk_rules.specs.declared.breaks.Break.{Break};
 ghost use Rattle.lbk_rules.specs.declared.cells.Cell.{Cell};
 ghost use Rattle.lbk_rules.specs.declared.facts.Left.{Left};
@@ -114,10 +114,9 @@ pub(crate) fn put(out: &mut [Found], count: usize, at: usize, code: u16) -> usiz
     ensures within { result ≤ length out.old }
     ensures front { IsCode code → given_in out.new result ≡ given_in out.old count ++ with_break at (verdict_coded code) [] }
 {
-    out[count] = Found {
-        at,
-        kind: (code % 256) as u8,
-        rule: (code / 256) as u8,
-    };
+    let place = &mut out[count];
+    place.at = at;
+    place.kind = (code % 256) as u8;
+    place.rule = (code / 256) as u8;
     count + usize::from(code % 256 != 0)
 }

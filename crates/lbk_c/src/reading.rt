@@ -1,6 +1,6 @@
 //! A table out of property files, and whether one is whole.
 
-ghost use Rattle.std.specs.Prelude.{◌≡◌, ◌<◌, ◌⊎◌, ◌↔◌, ℕ, IsTrue};
+ghost use Rattle.std.specs.Prelude.{◌≡◌, ◌<◌, ◌↔◌, ℕ, IsTrue};
 ghost use Rattle.lbk_ucd.specs.Files.{AreLawful};
 ghost use Rattle.lbk_rules.specs.Cells.{AreCellsOf};
 ghost use Rattle.lbk_rules.specs.declared.cells.Cell.{Cell};

@@ -21,9 +21,9 @@ pub(crate) fn steps_of(table: &FlatTable, profile: Profile) -> &[FlatStep; STEPS
 
 /// The step of a kind in a row. The kind is counted first, so that only the read itself waits for the row.
 #[inline(always)]
-pub(crate) fn step_at(steps: &[FlatStep; STEPS], row: usize, kind: u8) -> FlatStep
+pub(crate) fn step_at(steps: &[FlatStep; STEPS], row: usize, kind: u8) -> &FlatStep
     requires { row < 65536 }
-    ensures { result ≡ slice_index_or steps.now (row + kind) no_flat_step }
+    ensures { result.now ≡ slice_index_or steps.now (row + kind) no_flat_step }
 {
-    steps[kind as usize..][row]
+    &steps[kind as usize..][row]
 }

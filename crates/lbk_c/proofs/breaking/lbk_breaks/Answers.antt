@@ -1,5 +1,4 @@
-use Rattle.std.proofs.Common.{◌≡◌, [], length, min, take, drop, ap, sym, subst, ◌∙◌, arith, refl}
-use Rattle.lbk_c.specs.Reached.{Comes}
+use Rattle.std.proofs.Common.{length, ap, arith, refl}
 use Rattle.lbk_c.specs.Shown.{given_in}
 use Rattle.lbk_c.proofs.ComingLemmas.{Comes-goes, Comes-next, Comes-start, breaks-utf8, spent-none}
 use Rattle.lbk_c.proofs.breaking.lbk_breaks.Goals as goal

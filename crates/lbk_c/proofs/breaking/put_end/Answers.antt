@@ -1,4 +1,4 @@
-use Rattle.std.proofs.Common.{◌<◌, ap, ◌∙◌, lit<}
+use Rattle.std.proofs.Common.{◌<◌, lit<}
 use Rattle.lbk_rules.specs.Codes.{verdict_coded}
 use Rattle.lbk_c.proofs.breaking.put_end.Goals as goal
 

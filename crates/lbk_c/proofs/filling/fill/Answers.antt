@@ -1,6 +1,5 @@
-use Rattle.std.proofs.Common.{◌<◌, ◌≤◌, length, sym, subst, arith}
-use Rattle.lbk_rules.specs.FlatTable.{IsFlatBy}
-use Rattle.lbk_c.specs.Reached.{AreSwift, steps_in}
+use Rattle.std.proofs.Common.{sym, subst, arith}
+use Rattle.lbk_c.specs.Reached.{AreSwift}
 use Rattle.lbk_c.proofs.StepLemmas.{flat-swift}
 use Rattle.lbk_c.proofs.filling.fill.Goals as goal
 

@@ -1,4 +1,4 @@
-use Rattle.std.proofs.Common.{◌+◌, ◌<◌, ◌≤◌, length, arith}
+use Rattle.std.proofs.Common.{arith}
 use Rattle.lbk_c.proofs.LoopLemmas.{Reached-swift}
 use Rattle.lbk_c.proofs.PieceLemmas.{reads}
 use Rattle.lbk_c.proofs.filling.quick.Goals as goal
@@ -21,7 +21,7 @@ pub loop-count-preserved : goal.loop-count-preserved
 loop-count-preserved c =
     let l = c.loop-count in
     let s = c.in-Some.scalar in
-    let step = c.step_at-step.result in
+    let step = c.step_at-step.result.now in
     let put = c.put-count in
     let inside = c.if-at-text.true in
     let r = reads c.args.text.now l.at s.code s.size inside c.in-Some.ensures in

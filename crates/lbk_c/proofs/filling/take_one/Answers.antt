@@ -1,4 +1,4 @@
-use Rattle.std.proofs.Common.{◌≡◌, ◌+◌, ◌-◌, ◌<◌, ◌≤◌, length, drop, take, ap, sym, subst, ◌∙◌, arith}
+use Rattle.std.proofs.Common.{◌≡◌, ◌-◌, length, drop, take, ap, sym, subst, ◌∙◌, arith}
 use Rattle.std.specs.Char.{IsScalar}
 use Rattle.std.proofs.lemmas.List.{length-drop}
 use Rattle.bstr.specs.Utf8.{decoded, or_replacement}
@@ -62,5 +62,5 @@ returns-clause-reached c = λ cell lefts all flat reached.
     let scalar : IsScalar x = subst IsScalar (sym is_char) (read-scalar (drop here.at text)) in
     let rest = take (length (take (length text - here.at) (drop here.at text)) - size) (drop size (take (length text - here.at) (drop here.at text))) in
     Reached-one c.args.profile cell lefts text all c.args.table.now c.args.out.now c.put-count.new.out here.count c.put-count.result here.row here.at x size
-    c.code_ahead-code.result rest c.step_at-step.result flat scalar c.requires.2 is_char is_size (rest-behind text here.at size c.requires.2 is_size)
+    c.code_ahead-code.result rest c.step_at-step.result.now flat scalar c.requires.2 is_char is_size (rest-behind text here.at size c.requires.2 is_size)
     c.step_at-step.ensures (λ taken known. c.code_ahead-code.ensures cell lefts taken flat known) c.put-count.ensures.front reached
