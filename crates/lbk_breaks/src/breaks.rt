@@ -12,6 +12,14 @@ use std::marker::Model;
 /// The breaks of a text: its positions after the first where a line may or must end (UAX #14, section 3), the last
 /// being its end; an empty text has none. The text is one, whatever its paragraphs. No memory is taken, and time grows
 /// with the length of the text.
+///
+/// ```rust
+/// for found in Breaks::new(&cells, text, Profile::First) {
+///     lines.push_str(text.get(start..found.at).unwrap_or(""))?;
+///     lines.push(if found.kind == Kind::Must { '!' } else { '÷' })?;
+///     start = found.at;
+/// }
+/// ```
 #[derive(Drop)]
 pub struct Breaks<'a, C: CellSource> {
     cells: &'a C,

@@ -11,6 +11,11 @@ use std::io::{Read, Write};
 /// A source over any reader of std, or a sink over any writer of std.
 ///
 /// A call that was interrupted fails, and so does a write that takes no byte of a list that is not empty.
+///
+/// ```rust
+/// let mut reader = Device::new(rt.stdin());
+/// let mut writer = Device::new(rt.stdout());
+/// ```
 #[derive(Drop)]
 pub struct Device<D> {
     inner: D,

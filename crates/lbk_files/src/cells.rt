@@ -24,6 +24,10 @@ pub const SAMPLE_FILES: Files<'static> = Files {
 ///
 /// `Tables` names the first fault of the files, or the line at which their tables could not grow; `Memory` comes
 /// where the pages could not grow.
+///
+/// ```rust
+/// let cells = read_cells(rt.alloc(), SAMPLE_FILES)?;
+/// ```
 #[tactic(auto, unfolding(lbk_rules::specs::Resolve::cell_of_tables))]
 pub fn read_cells(alloc: Global, files: Files<'_>) -> Result<CellPages, CellsFault>
     ensures lawful { OnOk result (AreLawful files.entry) }

@@ -7,6 +7,17 @@ use super::store::{LoadFault, Store};
 use std::alloc::Global;
 
 /// Files by their names, the first of a name where there are more.
+///
+/// ```rust
+/// let files = [
+///     ("L", SAMPLE_FILES.line_break),
+///     ("E", SAMPLE_FILES.east_asian),
+///     ("C", SAMPLE_FILES.category),
+///     ("M", SAMPLE_FILES.emoji),
+///     ("B", BAD_ROW),
+/// ];
+/// let store = MemoryStore::new(files.as_slice());
+/// ```
 #[derive(Clone, Copy)]
 pub struct MemoryStore<'a> {
     files: &'a [(&'a str, &'a [u8])],

@@ -29,7 +29,12 @@ const BLOCK: usize = 4096;
 /// order mark at the front of the file is passed over. One line is held at a time, and none that is too long.
 ///
 /// After `Read` what went out is that of the lines whose LF was read, and no counts; after `StreamTooLong` that of
-/// the lines ended among the first 1,073,741,824 bytes; after `Write` and `Memory` a front of the output.
+/// the lines ended among the first 1,073,741,824 bytes; after `Write` and `Memory` a prefix of the output.
+///
+/// ```rust
+/// let mut sink = MemorySink::new(alloc, ROOM)?;
+/// let answer = replay(alloc, source, &mut sink, cells, form, profile);
+/// ```
 pub fn replay<R: Source, W: Sink, C: CellSource>(
     alloc: Global,
     reader: &mut R,

@@ -8,6 +8,12 @@ use std::marker::Model;
 
 /// A line of the notation: scalars, and a mark at each position, from the one before the first scalar to
 /// the one after the last.
+///
+/// ```rust
+/// let line = mark_text(rt.alloc(), &cells, "b d", Profile::First)?;
+/// let bytes = write_line(rt.alloc(), &line, Form::Kinds)?;
+/// assert_eq!(&rt; bytes.as_slice(), "× 0062 × 0020 ÷ 0064 !".as_bytes());
+/// ```
 #[derive(Drop)]
 pub struct TestLine {
     scalars: Vec<char>,

@@ -3,7 +3,16 @@
 use lbk_rules::{Kind, Rule, Verdict};
 
 /// A passage: the text up to and with a position where a line must end (UAX #14, section 6.1), or up to the end of
-/// the whole text. It is never empty.
+/// the whole text. It is never empty. Its words are those of its pieces that are one:
+///
+/// ```rust
+/// for piece in passage.pieces {
+///     if piece.word {
+///         let place = piece.start as usize..piece.end as usize;
+///         write!(seen, " {}", passage.text.get(place).unwrap_or(""))?;
+///     }
+/// }
+/// ```
 #[derive(Clone, Copy, Debug)]
 pub struct Passage<'a> {
     /// How many bytes of the whole text stand before it.

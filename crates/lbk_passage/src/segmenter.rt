@@ -18,6 +18,15 @@ use std::alloc::{AllocError, Global};
 /// Cuts a text of any length into passages, of which it holds one at a time.
 ///
 /// One reader serves all calls. The text of a paragraph has at most as many bytes as the limit says.
+///
+/// ```rust
+/// let mut segmenter = Segmenter::new(rt.alloc(), &cells, 65_536, Profile::First)?;
+/// let mut seen = String::new(rt.alloc());
+/// for _ in 0..u64::MAX {
+///     let Some(passage) = segmenter.next(&mut reader)? else {
+///         break;
+///     };
+/// ```
 #[derive(Drop)]
 pub struct Segmenter<'a, C: CellSource> {
     cells: &'a C,

@@ -2,7 +2,15 @@
 
 use crate::verdicts::{Kind, Rule};
 
-/// A position of a text where a line may or must end (UAX #14, section 3).
+/// A position of a text where a line may or must end (UAX #14, section 3). The first of `ab cd` is
+///
+/// ```rust
+/// let may = Break {
+///     at: 3,
+///     kind: Kind::May,
+///     rule: Rule::Lb18,
+/// };
+/// ```
 #[derive(Clone, Copy, PartialEq, Eq, Debug)]
 pub struct Break {
     /// The byte that it stands before, counted from the text's start; the text's length at its end.

@@ -13,6 +13,16 @@ use crate::verdicts::Profile;
 /// by the cells of a source (UAX #14, section 6): by its table of steps, if it has one, and else by the plain rules. In
 /// the second profile it may hold a position open until the unit after a closing quotation mark begins. Positions count
 /// scalars from 0.
+///
+/// ```rust
+/// let mut stepper = Stepper::start(cells, profile);
+/// let mut breaks = 0u64;
+/// for c in text.chars() {
+///     let out = stepper.step(c);
+///     breaks = breaks.wrapping_add(breaks_in(out.late, out.now));
+/// }
+/// let end = stepper.finish();
+/// ```
 #[derive(Drop)]
 pub struct Stepper<'a, C: CellSource> {
     cells: &'a C,
