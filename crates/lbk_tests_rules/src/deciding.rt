@@ -145,3 +145,19 @@ fn complex_context(rt: HostRuntime) {
     );
     assert_eq!(rt; cell, plain(Class::CombiningMark));
 }
+
+#[test]
+fn rules_by_number(rt: HostRuntime) {
+    assert_eq!(&rt; Rule::numbered(14), Some(Rule::Lb15));
+    assert_eq!(&rt; Rule::numbered(37), Some(Rule::Lb31));
+    assert_eq!(&rt; Rule::numbered(38), None);
+}
+
+#[test]
+fn units_behind_a_quotation_mark(rt: HostRuntime) {
+    assert_eq!(&rt; plain(Class::InfixNumeric).unit_closes(false), Some(true));
+    assert_eq!(&rt; plain(Class::Alphabetic).unit_closes(false), Some(false));
+    assert_eq!(&rt; plain(Class::CombiningMark).unit_closes(false), None);
+    assert!(&rt; plain(Class::Space).leaves_fresh());
+    assert!(&rt; !plain(Class::Alphabetic).leaves_fresh());
+}
