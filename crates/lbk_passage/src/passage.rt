@@ -8,8 +8,9 @@ use lbk_rules::{Kind, Rule, Verdict};
 /// ```rust
 /// for piece in passage.pieces {
 ///     if piece.word {
-///         let place = piece.start as usize..piece.end as usize;
-///         write!(seen, " {}", passage.text.get(place).unwrap_or(""))?;
+///         let word = passage.text.get(piece.start as usize..piece.end as usize);
+///         seen.push(' ')?;
+///         seen.push_str(word.unwrap_or(""))?;
 ///     }
 /// }
 /// ```

@@ -2,10 +2,24 @@
 
 use lbk_cmd::{SAMPLE_FILES, read_cells};
 use lbk_feed::devices::MemorySource;
-use lbk_passage::Segmenter;
+use lbk_passage::{Passage, Segmenter};
 use lbk_rules::Profile;
 use std::fmt::Write;
 use std::test::Fail;
+
+/// Writes where a passage begins, its words, and how many segments it has.
+fn push_passage(seen: &mut String, passage: &Passage<'_>) -> Result<(), Fail> {
+    write!(seen, "{}:", passage.start)?;
+    for piece in passage.pieces {
+        if piece.word {
+            let word = passage.text.get(piece.start as usize..piece.end as usize);
+            seen.push(' ')?;
+            seen.push_str(word.unwrap_or(""))?;
+        }
+    }
+    writeln!(seen, " ({} segments)", passage.segments.len())?;
+    Ok(())
+}
 
 #[test]
 fn passages_of_a_reader(rt: HostRuntime) -> Result<(), Fail> {
@@ -18,14 +32,7 @@ fn passages_of_a_reader(rt: HostRuntime) -> Result<(), Fail> {
         let Some(passage) = segmenter.next(&mut reader)? else {
             break;
         };
-        write!(seen, "{}:", passage.start)?;
-        for piece in passage.pieces {
-            if piece.word {
-                let place = piece.start as usize..piece.end as usize;
-                write!(seen, " {}", passage.text.get(place).unwrap_or(""))?;
-            }
-        }
-        writeln!(seen, " ({} segments)", passage.segments.len())?;
+        push_passage(&mut seen, &passage)?;
     }
     assert_eq!(&rt;
         seen.as_str(),
