@@ -5,6 +5,8 @@ use lbk_cmd::{CmdFault, Ending, MemoryStore, SAMPLE_FILES, mark, read_cells, run
 use lbk_feed::devices::{MemorySink, MemorySource};
 use lbk_passage::PassageFault;
 use lbk_rules::Profile;
+use std::alloc::{AllocError, Global};
+use std::process::Abort;
 use std::test::Fail;
 
 const ROOM: usize = 4096;
@@ -30,47 +32,61 @@ pub const BOTH: [(&str, &str); 17] = [
     ("a \u{2019}\u{301}b", "a ÷\u{2019}\u{301}b\n"),
 ];
 
-/// What the profiles write of a text, the first and the second.
-const EACH: [(&str, &str, &str); 2] = [
-    (
-        "a \u{2019}\u{301},",
-        "a ÷\u{2019}\u{301},\n",
-        "a \u{2019}\u{301},\n",
-    ),
-    ("\u{2018} a", "\u{2018} ÷a\n", "\u{2018} a\n"),
+/// What the first writes.
+const FIRST: [(&str, &str); 2] = [
+    ("a \u{2019}\u{301},", "a ÷\u{2019}\u{301},\n"),
+    ("\u{2018} a", "\u{2018} ÷a\n"),
 ];
 
-#[test]
-fn texts(rt: HostRuntime) -> Result<(), Fail> {
-    let alloc = rt.alloc();
+/// What the second writes.
+const SECOND: [(&str, &str); 2] = [
+    ("a \u{2019}\u{301},", "a \u{2019}\u{301},\n"),
+    ("\u{2018} a", "\u{2018} a\n"),
+];
+
+/// Checks what is written of a text in reads of this size.
+fn check(
+    rt: &impl Abort,
+    setting: Setting<'_>,
+    size: usize,
+    text: &str,
+    want: &str,
+) -> Result<(), AllocError> {
+    let sizes = [size];
+    let mut source = MemorySource::cut(text.as_bytes(), &sizes);
+    let ran = Task::Mark.run_whole(setting, &mut source)?;
+    assert!(rt; matches!(ran.end, End::Text(Ok(()))), "{text:?}");
+    assert_eq!(rt; ran.sink.bytes(), want.as_bytes(), "{text:?}");
+    Ok(())
+}
+
+/// Checks rows in a profile, in reads of one, two and all bytes.
+fn check_rows(
+    rt: &impl Abort,
+    alloc: Global,
+    rows: &[(&str, &str)],
+    profile: Profile,
+) -> Result<(), Fail> {
     let cells = read_cells(alloc, SAMPLE_FILES)?;
-    for profile in [Profile::First, Profile::Second] {
-        let setting = Setting {
-            alloc,
-            cells: &cells,
-            profile,
-        };
-        for (text, want) in BOTH {
-            for size in [1, 2, ROOM] {
-                let sizes = [size];
-                let mut source = MemorySource::cut(text.as_bytes(), &sizes);
-                let ran = Task::Mark.run_whole(setting, &mut source)?;
-                assert!(rt; matches!(ran.end, End::Text(Ok(()))), "{text:?}");
-                assert_eq!(rt; ran.sink.bytes(), want.as_bytes(), "{text:?}");
-            }
-        }
-        for (text, first, second) in EACH {
-            let want = if profile == Profile::First {
-                first
-            } else {
-                second
-            };
-            let mut source = MemorySource::new(text.as_bytes());
-            let ran = Task::Mark.run_whole(setting, &mut source)?;
-            assert_eq!(rt; ran.sink.bytes(), want.as_bytes(), "{text:?}");
+    let setting = Setting {
+        alloc,
+        cells: &cells,
+        profile,
+    };
+    for (text, want) in rows {
+        for size in [1, 2, ROOM] {
+            check(rt, setting, size, text, want)?;
         }
     }
     Ok(())
+}
+
+#[test]
+fn texts(rt: HostRuntime) -> Result<(), Fail> {
+    check_rows(&rt, rt.alloc(), &BOTH, Profile::First)?;
+    check_rows(&rt, rt.alloc(), &BOTH, Profile::Second)?;
+    check_rows(&rt, rt.alloc(), &FIRST, Profile::First)?;
+    check_rows(&rt, rt.alloc(), &SECOND, Profile::Second)
 }
 
 #[test]
