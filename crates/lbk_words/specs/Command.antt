@@ -11,13 +11,9 @@ greatest_limit = 16777216
 abbrev pub default_limit : ℕ
 default_limit = 65536
 
--- an option
-abbrev pub option_rule : Text → Rule
-option_rule name = record (new_rule name) { long = Some name }
-
 -- an option that takes a value
 abbrev pub value_rule : Text → Rule
-value_rule name = record (option_rule name) { action = Some Set; value_names = 1 }
+value_rule name = record (new_rule name) { long = Some name; action = Some Set; value_names = 1 }
 
 -- a required option with the name of a property file
 abbrev pub file_rule : Text → Rule
@@ -32,7 +28,7 @@ number_rule name most default = record (value_rule name) {
 
 -- a flag
 abbrev pub flag_rule : Text → Rule
-flag_rule name = record (option_rule name) { action = Some SetTrue }
+flag_rule name = record (new_rule name) { long = Some name; action = Some SetTrue }
 
 -- the options that each subcommand has
 abbrev pub files_app : Text → App

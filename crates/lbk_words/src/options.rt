@@ -3,7 +3,7 @@
 ghost use Rattle.std.specs.Prelude.{◌≡◌, false, IfOk, codes};
 ghost use Rattle.clap.specs.Words.{app_of, rule_of};
 ghost use Rattle.lbk_words.specs.Local.{IsLocal};
-ghost use Rattle.lbk_words.specs.Command.{option_rule, value_rule, file_rule, number_rule, flag_rule, greatest_limit, profile_rule, files_app, limited_app, replay_app, bare_app, lbk_app};
+ghost use Rattle.lbk_words.specs.Command.{value_rule, file_rule, number_rule, flag_rule, greatest_limit, profile_rule, files_app, limited_app, replay_app, bare_app, lbk_app};
 
 use clap::builder::ValueParser;
 use clap::{Arg, ArgAction, Command};
@@ -69,20 +69,15 @@ too long; `T lines agreed differed refused` stands at the end. Example:
   D 1 1 ÷ × 28
   T 1 0 1 0";
 
-/// An option of this name.
-fn option<'a>(alloc: Global, name: &'a str) -> Arg<'a>
-    ensures rule { rule_of result ≡ option_rule name.entry.now }
-    ensures local { result.global ≡ false }
-{
-    Arg::new(alloc, name).long(name)
-}
-
 /// An option of this name that takes a value.
 fn value_option<'a>(alloc: Global, name: &'a str, value: &'a str) -> Arg<'a>
     ensures rule { rule_of result ≡ value_rule name.entry.now }
     ensures local { result.global ≡ false }
 {
-    option(alloc, name).action(ArgAction::Set).value_name(value)
+    Arg::new(alloc, name)
+        .long(name)
+        .action(ArgAction::Set)
+        .value_name(value)
 }
 
 /// A required option that takes the name of a property file.
@@ -125,7 +120,8 @@ fn kinds_option<'a>(alloc: Global) -> Arg<'a>
     ensures rule { rule_of result ≡ flag_rule (codes "kinds") }
     ensures local { result.global ≡ false }
 {
-    option(alloc, "kinds")
+    Arg::new(alloc, "kinds")
+        .long("kinds")
         .action(ArgAction::SetTrue)
         .help("Marks tell ! from ÷; without it ÷ stands for every break")
 }
