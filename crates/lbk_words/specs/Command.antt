@@ -31,9 +31,12 @@ abbrev pub flag_rule : Text → Rule
 flag_rule name = record (new_rule name) { long = Some name; action = Some SetTrue }
 
 -- the options that each subcommand has
+abbrev pub widths_app : Text → App
+widths_app name = with_rule (with_rule (new_app name)
+    (file_rule (codes "line-break"))) (file_rule (codes "east-asian"))
+
 abbrev pub files_app : Text → App
-files_app name = with_rule (with_rule (with_rule (with_rule (new_app name)
-    (file_rule (codes "line-break"))) (file_rule (codes "east-asian")))
+files_app name = with_rule (with_rule (widths_app name)
     (file_rule (codes "category"))) (file_rule (codes "emoji"))
 
 abbrev pub profile_rule : Rule
@@ -55,9 +58,18 @@ bare_app = record {
   subs = [];
 }
 
+-- the program with its subcommands, each added behind those before it
+abbrev pub app_to_mark : App
+app_to_mark = with_subcommand bare_app (limited_app (codes "mark")).top
+
+abbrev pub app_to_show : App
+app_to_show = with_subcommand app_to_mark (limited_app (codes "show")).top
+
+abbrev pub app_to_segment : App
+app_to_segment = with_subcommand app_to_show (limited_app (codes "segment")).top
+
 abbrev pub lbk_app : App
-lbk_app = with_subcommand (with_subcommand (with_subcommand (with_subcommand bare_app
-    (limited_app (codes "mark")).top) (limited_app (codes "show")).top) (limited_app (codes "segment")).top) replay_app.top
+lbk_app = with_subcommand app_to_segment replay_app.top
 
 -- what is wrong with the words, or what they ask for in place of work, as `clap` sorts it
 abbrev pub faults_of : List Text → Kinds

@@ -3,7 +3,7 @@
 ghost use Rattle.std.specs.Prelude.{◌≡◌, false, IfOk, codes};
 ghost use Rattle.clap.specs.Words.{app_of, rule_of};
 ghost use Rattle.lbk_words.specs.Local.{IsLocal};
-ghost use Rattle.lbk_words.specs.Command.{value_rule, file_rule, number_rule, flag_rule, greatest_limit, profile_rule, files_app, limited_app, replay_app, bare_app, lbk_app};
+ghost use Rattle.lbk_words.specs.Command.{value_rule, file_rule, number_rule, flag_rule, greatest_limit, profile_rule, widths_app, files_app, limited_app, replay_app, bare_app, app_to_mark, app_to_show, app_to_segment, lbk_app};
 
 use clap::builder::ValueParser;
 use clap::{Arg, ArgAction, Command};
@@ -126,9 +126,9 @@ fn kinds_option<'a>(alloc: Global) -> Arg<'a>
         .help("Marks tell ! from ÷; without it ÷ stands for every break")
 }
 
-/// A subcommand with the options of the four files.
-fn with_files<'a>(alloc: Global, name: &'a str) -> Result<Command<'a>, AllocError>
-    ensures app { IfOk result (λ c. app_of c ≡ files_app name.entry.now) }
+/// A subcommand with the options of the first two files.
+fn with_widths<'a>(alloc: Global, name: &'a str) -> Result<Command<'a>, AllocError>
+    ensures app { IfOk result (λ c. app_of c ≡ widths_app name.entry.now) }
     ensures local { IfOk result IsLocal }
 {
     Command::new(alloc, name)
@@ -137,7 +137,15 @@ fn with_files<'a>(alloc: Global, name: &'a str) -> Result<Command<'a>, AllocErro
             "line-break",
             "LineBreak.txt, the classes of characters",
         ))?
-        .arg(file_option(alloc, "east-asian", "EastAsianWidth.txt, the widths"))?
+        .arg(file_option(alloc, "east-asian", "EastAsianWidth.txt, the widths"))
+}
+
+/// A subcommand with the options of the four files.
+fn with_files<'a>(alloc: Global, name: &'a str) -> Result<Command<'a>, AllocError>
+    ensures app { IfOk result (λ c. app_of c ≡ files_app name.entry.now) }
+    ensures local { IfOk result IsLocal }
+{
+    with_widths(alloc, name)?
         .arg(file_option(
             alloc,
             "category",
@@ -209,18 +217,32 @@ fn bare<'a>(alloc: Global) -> Result<Command<'a>, AllocError>
         .bin_name("lbk")
 }
 
+/// The program with its first subcommand. Each function here adds one: the proof of one that adds all takes minutes.
+fn with_mark<'a>(alloc: Global) -> Result<Command<'a>, AllocError>
+    ensures app { IfOk result (λ c. app_of c ≡ app_to_mark) }
+    ensures local { IfOk result IsLocal }
+{
+    bare(alloc)?.subcommand(mark(alloc)?)
+}
+
+fn with_show<'a>(alloc: Global) -> Result<Command<'a>, AllocError>
+    ensures app { IfOk result (λ c. app_of c ≡ app_to_show) }
+    ensures local { IfOk result IsLocal }
+{
+    with_mark(alloc)?.subcommand(show(alloc)?)
+}
+
+fn with_segment<'a>(alloc: Global) -> Result<Command<'a>, AllocError>
+    ensures app { IfOk result (λ c. app_of c ≡ app_to_segment) }
+    ensures local { IfOk result IsLocal }
+{
+    with_show(alloc)?.subcommand(segment(alloc)?)
+}
+
 /// The command line of the program.
 pub fn command<'a>(alloc: Global) -> Result<Command<'a>, AllocError>
     ensures app { IfOk result (λ c. app_of c ≡ lbk_app) }
     ensures local { IfOk result IsLocal }
 {
-    let mark = mark(alloc)?;
-    let show = show(alloc)?;
-    let segment = segment(alloc)?;
-    let replay = replay(alloc)?;
-    bare(alloc)?
-        .subcommand(mark)?
-        .subcommand(show)?
-        .subcommand(segment)?
-        .subcommand(replay)
+    with_segment(alloc)?.subcommand(replay(alloc)?)
 }
