@@ -1,9 +1,11 @@
 //! Texts, test files, and what is made before growths are counted.
 
 use anyhow::{Result, anyhow};
+use lbk_feed::devices::{MemorySink, MemorySource};
 use lbk_files::{SAMPLE_FILES, read_cells};
 use lbk_notation::{TestLine, mark_text};
 use lbk_rules::{Cell, CellPages, CellSource, Kind, Profile, Rule, Verdict, decide_all_in};
+use lbk_ucd::{Files, Tables};
 use std::alloc::{AllocError, Global};
 
 /// The bytes of a text or of a file.
@@ -30,6 +32,23 @@ impl Text {
         }
         Ok(bytes)
     }
+}
+
+/// A source that gives these bytes, three in a read.
+pub fn source_of(bytes: &[u8]) -> MemorySource<'_> {
+    MemorySource::cut(bytes, &[3])
+}
+
+/// Room for all that a row writes.
+const ROOM: usize = 2_097_152;
+
+pub fn sink_of(alloc: Global) -> Result<MemorySink, AllocError> {
+    MemorySink::new(alloc, ROOM)
+}
+
+/// The tables of files that are lawful.
+pub fn tables_of(alloc: Global, files: Files<'_>) -> Result<Tables> {
+    Tables::read(alloc, files).map_err(|_| anyhow!("the files of this row are refused"))
 }
 
 /// The cells by the sample files.

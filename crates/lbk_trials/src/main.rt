@@ -5,6 +5,7 @@
 //! memory in turn and compares.
 #![tactic(auto)]
 
+mod calls;
 mod commands;
 mod counting;
 mod digest;
@@ -17,6 +18,7 @@ mod pushes;
 mod quiet;
 mod rows;
 mod tables;
+mod told;
 mod trial;
 
 use anyhow::Result;

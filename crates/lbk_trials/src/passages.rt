@@ -1,13 +1,14 @@
 //! `Segmenter::new` and `next`.
 
-use crate::counting::{begin, end};
+use crate::calls;
 use crate::digest::Digest;
-use crate::inputs::{Text, cells};
+use crate::inputs::{Text, cells, source_of};
+use crate::told::fault_told;
 use anyhow::{Result, anyhow};
 use lbk_feed::Source;
 use lbk_feed::devices::MemorySource;
-use lbk_passage::{Passage, PassageFault, Segmenter};
-use lbk_rules::Profile;
+use lbk_passage::{Passage, PassageFault, Piece, Segment, Segmenter};
+use lbk_rules::{CellPages, Profile};
 use std::alloc::{AllocError, Global};
 use std::fmt::Write;
 
@@ -16,42 +17,77 @@ const CALLS: usize = 10_000;
 
 pub fn new(alloc: Global, limit: u32, profile: Profile) -> Result<String> {
     let cells = cells(alloc)?;
-    begin(alloc);
-    let answer = Segmenter::new(alloc, &cells, limit, profile);
-    end(alloc);
-    Ok(match answer {
-        Ok(_segmenter) => String::from_str(alloc, "Ok\n")?,
-        Err(fault) => format!(in alloc; "Err({fault:?})\n")?,
-    })
+    match calls::segmenter(alloc, &cells, limit, profile) {
+        Ok(_segmenter) => Ok(String::from_str(alloc, "Ok\n")?),
+        Err(fault) => fault_told(alloc, &fault),
+    }
 }
 
-/// All passages of a text, and what comes after them, with the number of reads made so far. After `Memory` the same
-/// call is made again.
+/// All passages of a text, and what comes after them, with the number of reads made so far.
 pub fn next(alloc: Global, text: Text, limit: u32, profile: Profile) -> Result<String> {
     let cells = cells(alloc)?;
     let bytes = text.bytes(alloc)?;
-    let mut source = MemorySource::cut(&bytes, &[3]);
-    let Ok(mut segmenter) = Segmenter::new(alloc, &cells, limit, profile) else {
-        return Err(anyhow!("the limit of this row is refused"));
-    };
+    let mut segmenter = segmenter_of(alloc, &cells, limit, profile)?;
     let mut told = String::new(alloc);
+    tell_all(alloc, &mut told, &mut segmenter, &bytes)?;
+    Ok(told)
+}
+
+fn segmenter_of(
+    alloc: Global,
+    cells: &CellPages,
+    limit: u32,
+    profile: Profile,
+) -> Result<Segmenter<'_, CellPages>> {
+    Segmenter::new(alloc, cells, limit, profile).map_err(|_| anyhow!(
+        "the limit of this row is refused"
+    ))
+}
+
+fn tell_all(
+    alloc: Global,
+    told: &mut String,
+    segmenter: &mut Segmenter<'_, CellPages>,
+    bytes: &[u8],
+) -> Result<(), AllocError> {
+    let mut source = source_of(bytes);
     for _ in 0..CALLS {
-        begin(alloc);
-        let answer = segmenter.next(&mut source);
-        end(alloc);
-        match answer {
-            Ok(Some(passage)) => tell(&mut told, &passage)?,
-            Ok(None) => write!(told, "None")?,
-            Err(fault) => write!(told, "Err({fault:?})")?,
-        }
-        let is_last = !matches!(answer, Ok(Some(_)) | Err(PassageFault::Memory));
-        let reads = source.reads();
-        writeln!(told, " after {reads} reads")?;
-        if is_last {
+        if !tell_call(alloc, told, segmenter, &mut source)? {
             break;
         }
     }
-    Ok(told)
+    Ok(())
+}
+
+/// Makes one call, and tells what it answered. Whether there is another to make: also after `Memory`, where the same
+/// call is made again.
+fn tell_call(
+    alloc: Global,
+    told: &mut String,
+    segmenter: &mut Segmenter<'_, CellPages>,
+    source: &mut MemorySource<'_>,
+) -> Result<bool, AllocError> {
+    let answer = calls::next(alloc, segmenter, source);
+    tell_answer(told, &answer)?;
+    let goes_on = matches!(answer, Ok(Some(_)) | Err(PassageFault::Memory));
+    tell_reads(told, source)?;
+    Ok(goes_on)
+}
+
+fn tell_reads(told: &mut String, source: &MemorySource<'_>) -> Result<(), AllocError> {
+    let reads = source.reads();
+    writeln!(told, " after {reads} reads")
+}
+
+fn tell_answer(
+    told: &mut String,
+    answer: &Result<Option<Passage<'_>>, PassageFault>,
+) -> Result<(), AllocError> {
+    match answer {
+        Ok(Some(passage)) => tell(told, passage),
+        Ok(None) => told.push_str("None"),
+        Err(fault) => write!(told, "Err({fault:?})"),
+    }
 }
 
 /// The passage in full where it is short, else the counts of its parts and a digest of them.
@@ -74,16 +110,24 @@ fn tell(told: &mut String, passage: &Passage<'_>) -> Result<(), AllocError> {
 fn digest_of(passage: &Passage<'_>) -> u64 {
     let mut digest = Digest::new();
     digest.add_bytes(passage.text.as_bytes());
-    for segment in passage.segments {
+    add_segments(&mut digest, passage.segments);
+    add_pieces(&mut digest, passage.pieces);
+    digest.value()
+}
+
+fn add_segments(digest: &mut Digest, segments: &[Segment]) {
+    for segment in segments {
         digest.add(u64::from(segment.start));
         digest.add(u64::from(segment.end));
         digest.add(segment.kind as u64);
         digest.add_bytes(segment.rule.label().as_bytes());
     }
-    for piece in passage.pieces {
+}
+
+fn add_pieces(digest: &mut Digest, pieces: &[Piece]) {
+    for piece in pieces {
         digest.add(u64::from(piece.start));
         digest.add(u64::from(piece.end));
         digest.add(u64::from(piece.word));
     }
-    digest.value()
 }

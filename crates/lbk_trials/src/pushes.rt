@@ -1,11 +1,11 @@
 //! The calls of the notation that put something behind a text: `push_line`, `push_scalar`, `push_mark` and
 //! `push_passage_line`. What stood there before stays, and after a refusal a front of what was to come follows.
 
-use crate::counting::{begin, end};
-use crate::engines::told;
+use crate::calls;
 use crate::inputs::{Text, line_of, text_of, verdicts_of};
-use anyhow::{Result, ensure};
-use lbk_notation::{Form, Mark, push_line, push_mark, push_passage_line, push_scalar};
+use crate::told::answer_told;
+use anyhow::Result;
+use lbk_notation::{Form, Mark};
 use lbk_rules::Profile;
 use std::alloc::{AllocError, Global};
 
@@ -17,40 +17,31 @@ fn before(alloc: Global) -> Result<Vec<u8>, AllocError> {
 pub fn line(alloc: Global, text: Text, form: Form, profile: Profile) -> Result<String> {
     let line = line_of(alloc, text, profile)?;
     let mut out = before(alloc)?;
-    begin(alloc);
-    let answer = push_line(&mut out, line.scalars(), line.marks(), form);
-    end(alloc);
-    told(alloc, &answer, &out)
+    let answer = calls::push_line(alloc, &mut out, &line, form);
+    answer_told(alloc, &answer, &out)
 }
 
 pub fn passage_line(alloc: Global, text: Text, profile: Profile) -> Result<String> {
     let bytes = text.bytes(alloc)?;
-    let text = text_of(&bytes)?;
+    passage_line_of(alloc, text_of(&bytes)?, profile)
+}
+
+fn passage_line_of(alloc: Global, text: &str, profile: Profile) -> Result<String> {
     let scalars: Vec<char> = text.chars().collect(alloc)?;
     let verdicts = verdicts_of(alloc, text, profile)?;
-    ensure!(
-        !verdicts.is_empty() && verdicts.len() - 1 == scalars.len(),
-        "a verdict at each position"
-    );
     let mut out = before(alloc)?;
-    begin(alloc);
-    let answer = push_passage_line(&mut out, &scalars, &verdicts);
-    end(alloc);
-    told(alloc, &answer, &out)
+    let answer = calls::push_passage_line(alloc, &mut out, &scalars, &verdicts)?;
+    answer_told(alloc, &answer, &out)
 }
 
 pub fn scalar(alloc: Global, c: char, form: Form) -> Result<String> {
     let mut out = before(alloc)?;
-    begin(alloc);
-    let answer = push_scalar(&mut out, c, Mark::Must, form);
-    end(alloc);
-    told(alloc, &answer, &out)
+    let answer = calls::push_scalar(alloc, &mut out, c, form);
+    answer_told(alloc, &answer, &out)
 }
 
 pub fn mark(alloc: Global, mark: Mark, form: Form) -> Result<String> {
     let mut out = before(alloc)?;
-    begin(alloc);
-    let answer = push_mark(&mut out, mark, form);
-    end(alloc);
-    told(alloc, &answer, &out)
+    let answer = calls::push_mark(alloc, &mut out, mark, form);
+    answer_told(alloc, &answer, &out)
 }

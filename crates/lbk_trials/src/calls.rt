@@ -1,0 +1,262 @@
+//! The calls that are tried, each on what was made for it, with its growths counted and without its contract. A trial
+//! proves only that it is safe and ends, so it needs no fact of them; a check that does not carry their facts on takes
+//! a fraction of the time.
+
+use crate::commands::Words;
+use crate::counting::{begin, end};
+use crate::inputs::source_of;
+use anyhow::{Result, ensure};
+use lbk_cmd::{CmdFault, Ending};
+use lbk_feed::Source;
+use lbk_feed::devices::{MemorySink, MemorySource};
+use lbk_files::{CellsFault, LoadFault, MemoryStore, Ready, Stop, Store};
+use lbk_notation::{Form, LineFault, Mark, ReplayFault, Report, TestLine};
+use lbk_passage::{Passage, PassageFault, Segmenter};
+use lbk_rules::{CellPages, Profile, Verdict};
+use lbk_ucd::{Files, Tables, UcdFault};
+use lbk_words::{Order, WordsFault};
+use std::alloc::{AllocError, Global};
+
+pub fn sink(alloc: Global, room: u16) -> Result<MemorySink, AllocError> {
+    begin(alloc);
+    let answer = MemorySink::new(alloc, usize::from(room));
+    end(alloc);
+    answer
+}
+
+pub fn tables(alloc: Global, files: Files<'_>) -> Result<Tables, UcdFault> {
+    begin(alloc);
+    let answer = Tables::read(alloc, files);
+    end(alloc);
+    answer
+}
+
+pub fn pages(alloc: Global, tables: &Tables) -> Result<CellPages, AllocError> {
+    begin(alloc);
+    let answer = CellPages::build(alloc, tables);
+    end(alloc);
+    answer
+}
+
+pub fn cells(alloc: Global, files: Files<'_>) -> Result<CellPages, CellsFault> {
+    begin(alloc);
+    let answer = lbk_files::read_cells(alloc, files);
+    end(alloc);
+    answer
+}
+
+pub fn segmenter(
+    alloc: Global,
+    cells: &CellPages,
+    limit: u32,
+    profile: Profile,
+) -> Result<Segmenter<'_, CellPages>, PassageFault> {
+    begin(alloc);
+    let answer = Segmenter::new(alloc, cells, limit, profile);
+    end(alloc);
+    answer
+}
+
+pub fn next<'s>(
+    alloc: Global,
+    segmenter: &'s mut Segmenter<'_, CellPages>,
+    source: &mut MemorySource<'_>,
+) -> Result<Option<Passage<'s>>, PassageFault> {
+    begin(alloc);
+    let answer = segmenter.next(source);
+    end(alloc);
+    answer
+}
+
+pub fn read_line(alloc: Global, bytes: &[u8], form: Form) -> Result<Option<TestLine>, LineFault> {
+    begin(alloc);
+    let answer = lbk_notation::read_line(alloc, bytes, form);
+    end(alloc);
+    answer
+}
+
+pub fn read_passage_line(alloc: Global, bytes: &[u8]) -> Result<Option<TestLine>, LineFault> {
+    begin(alloc);
+    let answer = lbk_notation::read_passage_line(alloc, bytes);
+    end(alloc);
+    answer
+}
+
+pub fn read_back(
+    alloc: Global,
+    line: &TestLine,
+    form: Form,
+) -> Result<Option<TestLine>, LineFault> {
+    begin(alloc);
+    let answer = lbk_notation::read_back(alloc, line, form);
+    end(alloc);
+    answer
+}
+
+pub fn write_line(alloc: Global, line: &TestLine, form: Form) -> Result<Vec<u8>, AllocError> {
+    begin(alloc);
+    let answer = lbk_notation::write_line(alloc, line, form);
+    end(alloc);
+    answer
+}
+
+pub fn mark_text(
+    alloc: Global,
+    cells: &CellPages,
+    text: &str,
+    profile: Profile,
+) -> Result<TestLine, AllocError> {
+    begin(alloc);
+    let answer = lbk_notation::mark_text(alloc, cells, text, profile);
+    end(alloc);
+    answer
+}
+
+pub fn push_line(
+    alloc: Global,
+    out: &mut Vec<u8>,
+    line: &TestLine,
+    form: Form,
+) -> Result<(), AllocError> {
+    begin(alloc);
+    let answer = lbk_notation::push_line(out, line.scalars(), line.marks(), form);
+    end(alloc);
+    answer
+}
+
+/// The answer, where there is a verdict at each position.
+pub fn push_passage_line(
+    alloc: Global,
+    out: &mut Vec<u8>,
+    scalars: &[char],
+    verdicts: &[Verdict],
+) -> Result<Result<(), AllocError>> {
+    ensure!(
+        !verdicts.is_empty() && verdicts.len() - 1 == scalars.len(),
+        "a verdict at each position"
+    );
+    begin(alloc);
+    let answer = lbk_notation::push_passage_line(out, scalars, verdicts);
+    end(alloc);
+    Ok(answer)
+}
+
+pub fn push_scalar(
+    alloc: Global,
+    out: &mut Vec<u8>,
+    c: char,
+    form: Form,
+) -> Result<(), AllocError> {
+    begin(alloc);
+    let answer = lbk_notation::push_scalar(out, c, Mark::Must, form);
+    end(alloc);
+    answer
+}
+
+pub fn push_mark(
+    alloc: Global,
+    out: &mut Vec<u8>,
+    mark: Mark,
+    form: Form,
+) -> Result<(), AllocError> {
+    begin(alloc);
+    let answer = lbk_notation::push_mark(out, mark, form);
+    end(alloc);
+    answer
+}
+
+pub fn show(
+    alloc: Global,
+    bytes: &[u8],
+    sink: &mut MemorySink,
+    cells: &CellPages,
+    limit: u32,
+    profile: Profile,
+) -> Result<(), CmdFault> {
+    let mut source = source_of(bytes);
+    begin(alloc);
+    let answer = lbk_cmd::show(alloc, &mut source, sink, cells, limit, profile);
+    end(alloc);
+    answer
+}
+
+pub fn segment(
+    alloc: Global,
+    bytes: &[u8],
+    sink: &mut MemorySink,
+    cells: &CellPages,
+    limit: u32,
+    profile: Profile,
+) -> Result<(), CmdFault> {
+    let mut source = source_of(bytes);
+    begin(alloc);
+    let answer = lbk_cmd::segment(alloc, &mut source, sink, cells, limit, profile);
+    end(alloc);
+    answer
+}
+
+pub fn replay(
+    alloc: Global,
+    bytes: &[u8],
+    sink: &mut MemorySink,
+    cells: &CellPages,
+    form: Form,
+    profile: Profile,
+) -> Result<Report, ReplayFault> {
+    let mut source = source_of(bytes);
+    begin(alloc);
+    let answer = lbk_notation::replay(alloc, &mut source, sink, cells, form, profile);
+    end(alloc);
+    answer
+}
+
+pub fn parse(alloc: Global, words: Words) -> Result<Order<'static>, WordsFault> {
+    begin(alloc);
+    let answer = lbk_words::parse(alloc, words);
+    end(alloc);
+    answer
+}
+
+pub fn read_front(
+    alloc: Global,
+    source: &mut MemorySource<'_>,
+    most: u16,
+) -> Result<Vec<u8>, LoadFault> {
+    begin(alloc);
+    let answer = lbk_files::read_front(alloc, source, usize::from(most));
+    end(alloc);
+    answer
+}
+
+pub fn load(
+    alloc: Global,
+    store: &MemoryStore<'_>,
+    name: &str,
+    most: u16,
+) -> Result<Vec<u8>, LoadFault> {
+    begin(alloc);
+    let answer = store.load(alloc, name, usize::from(most));
+    end(alloc);
+    answer
+}
+
+pub fn prepare(alloc: Global, words: Words, store: &MemoryStore<'_>) -> Result<Ready, Stop> {
+    begin(alloc);
+    let answer = lbk_files::prepare(alloc, words, store);
+    end(alloc);
+    answer
+}
+
+pub fn run(
+    alloc: Global,
+    words: Words,
+    store: &MemoryStore<'_>,
+    bytes: &[u8],
+    sink: &mut MemorySink,
+) -> Ending {
+    let mut source = source_of(bytes);
+    begin(alloc);
+    let ending = lbk_cmd::run(alloc, words, store, &mut source, sink);
+    end(alloc);
+    ending
+}

@@ -1,0 +1,56 @@
+//! What is told of answers.
+
+use crate::digest::Digest;
+use crate::inputs::text_of;
+use anyhow::Result;
+use lbk_notation::{LineFault, TestLine};
+use lbk_rules::{Cell, CellSource};
+use std::alloc::Global;
+use std::fmt::Debug;
+
+/// An answer in full.
+pub fn told<A: Debug>(alloc: Global, answer: &A) -> Result<String> {
+    Ok(format!(in alloc; "{answer:?}\n")?)
+}
+
+/// That a call failed.
+pub fn fault_told<F: Debug>(alloc: Global, fault: &F) -> Result<String> {
+    Ok(format!(in alloc; "Err({fault:?})\n")?)
+}
+
+/// The answer, and behind a line `wrote` what went out.
+pub fn answer_told<A: Debug>(alloc: Global, answer: &A, written: &[u8]) -> Result<String> {
+    let written = text_of(written)?;
+    Ok(format!(in alloc; "{answer:?}\nwrote\n{written}")?)
+}
+
+/// The line that was read, or why there is none.
+pub fn read_told(alloc: Global, answer: Result<Option<TestLine>, LineFault>) -> Result<String> {
+    match answer {
+        Ok(Some(line)) => line_told(alloc, &line),
+        Ok(None) => Ok(String::from_str(alloc, "Ok(None)\n")?),
+        Err(fault) => fault_told(alloc, &fault),
+    }
+}
+
+pub fn line_told(alloc: Global, line: &TestLine) -> Result<String> {
+    let scalars = line.scalars();
+    let marks = line.marks();
+    Ok(format!(in alloc; "Ok({scalars:?} {marks:?})\n")?)
+}
+
+/// A digest of the cells of all scalar values.
+pub fn cells_told<C: CellSource>(alloc: Global, source: &C) -> Result<String> {
+    let mut digest = Digest::new();
+    for c in '\0'..=char::MAX {
+        digest.add(number_of(source.cell(c)));
+    }
+    let digest = digest.value();
+    Ok(format!(in alloc; "Ok: digest {digest:016x}\n")?)
+}
+
+/// A number for each cell.
+fn number_of(cell: Cell) -> u64 {
+    let flags = u64::from(cell.wide) | u64::from(cell.pict_cn) << 1 | u64::from(cell.letter) << 2;
+    flags | (cell.quote as u64) << 3 | (cell.class as u64) << 5
+}
