@@ -1,7 +1,7 @@
 //! The worked texts and test files through the program's words, in both profiles, and what refuses them.
 
-use crate::commands::{ROOM, check, ended, words};
-use lbk_cmd::{CmdFault, Ending, RunFault};
+use crate::commands::{ROOM, check, check_fault, ended, words};
+use lbk_cmd::{CmdFault, RunFault};
 use lbk_feed::devices::MemorySource;
 use lbk_notation::ReplayFault;
 use lbk_passage::PassageFault;
@@ -21,35 +21,46 @@ fn check_texts(
 ) -> Result<(), Fail> {
     let words = words(alloc, engine, options)?;
     for (text, lines) in rows {
-        check(rt, alloc, &words, text, lines, 0)?;
+        let _ = check(rt, alloc, &words, text, lines, 0)?;
     }
     Ok(())
 }
 
+/// What an engine writes in both profiles, in the first and in the second.
+struct Texts {
+    engine: &'static str,
+    both: &'static [(&'static str, &'static str)],
+    first: &'static [(&'static str, &'static str)],
+    second: &'static [(&'static str, &'static str)],
+}
+
+const SHOWN: Texts = Texts {
+    engine: "show",
+    both: &shown::BOTH,
+    first: &shown::FIRST,
+    second: &shown::SECOND,
+};
+
+const SEGMENTED: Texts = Texts {
+    engine: "segment",
+    both: &segment_lines::BOTH,
+    first: &segment_lines::FIRST,
+    second: &segment_lines::SECOND,
+};
+
+fn check_engine_texts(rt: &impl Abort, alloc: Global, texts: &Texts) -> Result<(), Fail> {
+    let engine = texts.engine;
+    check_texts(rt, alloc, engine, &[], texts.both)?;
+    check_texts(rt, alloc, engine, &[], texts.first)?;
+    check_texts(rt, alloc, engine, &["--profile", "1"], texts.first)?;
+    check_texts(rt, alloc, engine, &["--profile", "2"], texts.both)?;
+    check_texts(rt, alloc, engine, &["--profile", "2"], texts.second)
+}
+
 #[test]
 fn texts(rt: HostRuntime) -> Result<(), Fail> {
-    let alloc = rt.alloc();
-    for (engine, both, first, second) in [
-        (
-            "show",
-            shown::BOTH.as_slice(),
-            shown::FIRST.as_slice(),
-            shown::SECOND.as_slice(),
-        ),
-        (
-            "segment",
-            &segment_lines::BOTH,
-            &segment_lines::FIRST,
-            &segment_lines::SECOND,
-        ),
-    ] {
-        check_texts(&rt, alloc, engine, &[], both)?;
-        check_texts(&rt, alloc, engine, &[], first)?;
-        check_texts(&rt, alloc, engine, &["--profile", "1"], first)?;
-        check_texts(&rt, alloc, engine, &["--profile", "2"], both)?;
-        check_texts(&rt, alloc, engine, &["--profile", "2"], second)?;
-    }
-    Ok(())
+    check_engine_texts(&rt, rt.alloc(), &SHOWN)?;
+    check_engine_texts(&rt, rt.alloc(), &SEGMENTED)
 }
 
 /// Test files, and what is written of them with these options.
@@ -63,7 +74,7 @@ fn check_files(
     for (file, text, counts) in rows {
         let [_, _, differed, refused] = *counts;
         let status = if differed == 0 && refused == 0 { 0 } else { 3 };
-        check(rt, alloc, &words, file, text, status)?;
+        let _ = check(rt, alloc, &words, file, text, status)?;
     }
     Ok(())
 }
@@ -163,66 +174,84 @@ fn check_refused(
     let (ending, writer) = ended(alloc, words, &mut source, room)?;
     assert_eq!(rt; writer.bytes(), written);
     assert_eq!(rt; ending.status(), 1);
-    match ending {
-        Ending::Refused(found) => assert_eq!(rt; found, fault),
-        other => assert!(rt; false, "{other:?} in place of {fault:?}"),
+    check_fault(rt, &ending, fault);
+    Ok(())
+}
+
+/// In reads of one, two and all bytes.
+fn check_refused_text(rt: &impl Abort, alloc: Global, row: &Refused) -> Result<(), Fail> {
+    let (engine, options, text, lines, fault) = *row;
+    let words = words(alloc, engine, options)?;
+    let fault = RunFault::Cmd(CmdFault::Passage(fault));
+    let want = (lines.as_bytes(), fault);
+    for sizes in [[1].as_slice(), &[2], &[]] {
+        let source = MemorySource::cut(text, sizes);
+        check_refused(rt, alloc, &words, source, ROOM, want)?;
     }
     Ok(())
 }
 
 #[test]
 fn refused_texts(rt: HostRuntime) -> Result<(), Fail> {
-    let alloc = rt.alloc();
-    for (engine, options, text, lines, fault) in REFUSED {
-        let words = words(alloc, engine, options)?;
-        let fault = RunFault::Cmd(CmdFault::Passage(fault));
-        let want = (lines.as_bytes(), fault);
-        for size in [1, 2, usize::MAX] {
-            let sizes = [size];
-            let source = MemorySource::cut(text, &sizes);
-            check_refused(&rt, alloc, &words, source, ROOM, want)?;
-        }
+    for row in &REFUSED {
+        check_refused_text(&rt, rt.alloc(), row)?;
     }
     Ok(())
 }
 
-// The second read fails, behind a scalar that follows a passage and behind a passage alone.
+/// The second read fails.
+fn check_failed_read(
+    rt: &impl Abort,
+    alloc: Global,
+    words: &[&'static str],
+    text: &[u8],
+    sizes: &[usize],
+    want: (&[u8], RunFault),
+) -> Result<(), Fail> {
+    let source = MemorySource::cut(text, sizes).failing_at(1);
+    check_refused(rt, alloc, words, source, ROOM, want)
+}
+
+// Behind a scalar that follows a passage, and behind a passage alone.
 #[test]
 fn failed_reads(rt: HostRuntime) -> Result<(), Fail> {
     let alloc = rt.alloc();
     let read = RunFault::Cmd(CmdFault::Passage(PassageFault::Read));
     let line = "× 0061 × 000A !\t# 2 6 5\n".as_bytes();
     let show = words(alloc, "show", &[])?;
-    let source = MemorySource::new(b"a\nb").failing_at(1);
-    check_refused(&rt, alloc, &show, source, ROOM, (line, read))?;
-    let source = MemorySource::new(b"a\n").failing_at(1);
-    check_refused(&rt, alloc, &show, source, ROOM, (b"", read))?;
-    let source = MemorySource::new(b"a\nb").failing_at(1);
-    check_refused(&rt, alloc, &[], source, ROOM, (line, read))?;
+    check_failed_read(&rt, alloc, &show, b"a\nb", &[], (line, read))?;
+    check_failed_read(&rt, alloc, &show, b"a\n", &[], (b"", read))?;
+    check_failed_read(&rt, alloc, &[], b"a\nb", &[], (line, read))?;
     let replay = words(alloc, "replay", &[])?;
-    let source = MemorySource::cut(FOUR_LINES.as_bytes(), &[38]).failing_at(1);
     let want = (
         "D 2 1 ÷ × 28\n".as_bytes(),
         RunFault::Replay(ReplayFault::Read),
     );
-    check_refused(&rt, alloc, &replay, source, ROOM, want)
+    check_failed_read(&rt, alloc, &replay, FOUR_LINES.as_bytes(), &[38], want)
 }
 
-// The writer takes five bytes.
+/// The writer takes five bytes.
+fn check_failed_write(
+    rt: &impl Abort,
+    alloc: Global,
+    words: &[&'static str],
+    text: &str,
+    want: (&[u8], RunFault),
+) -> Result<(), Fail> {
+    let source = MemorySource::new(text.as_bytes());
+    check_refused(rt, alloc, words, source, 5, want)
+}
+
 #[test]
 fn failed_writes(rt: HostRuntime) -> Result<(), Fail> {
     let alloc = rt.alloc();
     let write = RunFault::Cmd(CmdFault::Write);
     let show = words(alloc, "show", &[])?;
-    let source = MemorySource::new(b"ab cd");
-    check_refused(&rt, alloc, &show, source, 5, (b"\xC3\x97 00", write))?;
-    let source = MemorySource::new(b"ab cd");
-    check_refused(&rt, alloc, &[], source, 5, (b"\xC3\x97 00", write))?;
+    check_failed_write(&rt, alloc, &show, "ab cd", (b"\xC3\x97 00", write))?;
+    check_failed_write(&rt, alloc, &[], "ab cd", (b"\xC3\x97 00", write))?;
     let segment = words(alloc, "segment", &[])?;
-    let source = MemorySource::new(b"ab cd");
-    check_refused(&rt, alloc, &segment, source, 5, (b"P 0 5", write))?;
+    check_failed_write(&rt, alloc, &segment, "ab cd", (b"P 0 5", write))?;
     let replay = words(alloc, "replay", &[])?;
-    let source = MemorySource::new(FOUR_LINES.as_bytes());
     let fault = RunFault::Replay(ReplayFault::Write);
-    check_refused(&rt, alloc, &replay, source, 5, (b"D 2 1", fault))
+    check_failed_write(&rt, alloc, &replay, FOUR_LINES, (b"D 2 1", fault))
 }

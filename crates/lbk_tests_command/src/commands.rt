@@ -5,7 +5,7 @@ use lbk_feed::devices::{MemorySink, MemorySource};
 use lbk_notation::Report;
 use lbk_passage::PassageFault;
 use lbk_ucd::{UcdCause, UcdFault, Which};
-use std::alloc::Global;
+use std::alloc::{AllocError, Global};
 use std::process::Abort;
 use std::test::Fail;
 
@@ -36,7 +36,8 @@ pub fn words(
     Ok(words)
 }
 
-/// How a run ends over the sample files and one bad file `B`, and what it wrote into so much room.
+/// How a run ends over the sample files and one bad file `B`, and what it wrote into so much room. It promises nothing,
+/// so that the tests see nothing of what `run` promises.
 pub fn ended(
     alloc: Global,
     words: &[&'static str],
@@ -72,72 +73,89 @@ pub fn check(
     Ok(ending)
 }
 
+/// A run of an engine by the sample files, with these options.
+pub fn check_engine(
+    rt: &impl Abort,
+    alloc: Global,
+    engine: &'static str,
+    options: &[&'static str],
+    input: &str,
+    text: &str,
+    status: u8,
+) -> Result<Ending, Fail> {
+    let words = words(alloc, engine, options)?;
+    check(rt, alloc, &words, input, text, status)
+}
+
+/// Compares why a run was refused.
+pub fn check_fault(rt: &impl Abort, ending: &Ending, fault: RunFault) {
+    match ending {
+        Ending::Refused(found) => assert_eq!(rt; *found, fault),
+        other => assert!(rt; false, "{other:?} in place of {fault:?}"),
+    }
+}
+
 const TWO_WORDS: &str = "× 0061 × 0062 × 0020 ÷ 0063 × 0064 !\t# 2 28 7 18 28 3\n";
 
-#[test]
-fn done(rt: HostRuntime) -> Result<(), Fail> {
-    let alloc = rt.alloc();
-    check(&rt, alloc, &[], "ab cd", TWO_WORDS, 0)?;
-    check(
-        &rt,
-        alloc,
-        &words(alloc, "show", &[])?,
+/// An engine, its options, what it reads and what it writes.
+type Row = (
+    &'static str,
+    &'static [&'static str],
+    &'static str,
+    &'static str,
+);
+
+const DONE: [Row; 4] = [
+    ("show", &[], "ab cd", TWO_WORDS),
+    (
+        "segment",
+        &[],
         "ab cd",
-        TWO_WORDS,
-        0,
-    )?;
-    let segments = "P 0 5\nS 0 3 May 18\nS 3 5 Must 3\nW 0 2\nW 3 5\n";
-    check(
-        &rt,
-        alloc,
-        &words(alloc, "segment", &[])?,
-        "ab cd",
-        segments,
-        0,
-    )?;
-    let kinds = "× 0061 × 0062 × 0020 ÷ 0063 × 0064 !\n";
-    check(
-        &rt,
-        alloc,
-        &words(alloc, "replay", &["--kinds"])?,
-        kinds,
+        "P 0 5\nS 0 3 May 18\nS 3 5 Must 3\nW 0 2\nW 3 5\n",
+    ),
+    (
+        "replay",
+        &["--kinds"],
+        "× 0061 × 0062 × 0020 ÷ 0063 × 0064 !\n",
         "T 1 1 0 0\n",
-        0,
-    )?;
-    check(
-        &rt,
-        alloc,
-        &words(alloc, "replay", &[])?,
-        "",
-        "T 0 0 0 0\n",
-        0,
-    )?;
+    ),
+    ("replay", &[], "", "T 0 0 0 0\n"),
+];
+
+/// Runs that end with status 0.
+fn check_done(rt: &impl Abort, alloc: Global, rows: &[Row]) -> Result<(), Fail> {
+    for (engine, options, input, text) in rows {
+        let _ = check_engine(rt, alloc, engine, options, input, text, 0)?;
+    }
     Ok(())
 }
 
 #[test]
+fn done(rt: HostRuntime) -> Result<(), Fail> {
+    let _ = check(&rt, rt.alloc(), &[], "ab cd", TWO_WORDS, 0)?;
+    check_done(&rt, rt.alloc(), &DONE)
+}
+
+const QUOTED: &str = "a \u{2019}\u{301},";
+
+const BY_PROFILE: [Row; 2] = [
+    (
+        "show",
+        &["--profile", "2"],
+        QUOTED,
+        "× 0061 × 0020 × 2019 × 0301 × 002C !\t# 2 7 15b 9 13 3\n",
+    ),
+    (
+        "show",
+        &["--profile", "1"],
+        QUOTED,
+        "× 0061 × 0020 ÷ 2019 × 0301 × 002C !\t# 2 7 18 9 13 3\n",
+    ),
+];
+
+#[test]
 fn second_profile(rt: HostRuntime) -> Result<(), Fail> {
-    let alloc = rt.alloc();
-    let quoted = "a \u{2019}\u{301},";
-    let shown = "× 0061 × 0020 × 2019 × 0301 × 002C !\t# 2 7 15b 9 13 3\n";
-    check(
-        &rt,
-        alloc,
-        &words(alloc, "show", &["--profile", "2"])?,
-        quoted,
-        shown,
-        0,
-    )?;
-    let first = "× 0061 × 0020 ÷ 2019 × 0301 × 002C !\t# 2 7 18 9 13 3\n";
-    check(
-        &rt,
-        alloc,
-        &words(alloc, "show", &["--profile", "1"])?,
-        quoted,
-        first,
-        0,
-    )?;
-    Ok(())
+    check_done(&rt, rt.alloc(), &BY_PROFILE)
 }
 
 #[test]
@@ -145,7 +163,7 @@ fn differs(rt: HostRuntime) -> Result<(), Fail> {
     let alloc = rt.alloc();
     let lines = "× 0061 × 0062 ÷\n× 0061 ÷ 0062 ÷\n× D800 ÷\n# done\n";
     let text = "D 2 1 ÷ × 28\nR 3 7\nT 3 1 1 1\n";
-    let ending = check(&rt, alloc, &words(alloc, "replay", &[])?, lines, text, 3)?;
+    let ending = check_engine(&rt, alloc, "replay", &[], lines, text, 3)?;
     let want = Report {
         lines: 3,
         agreed: 1,
@@ -154,66 +172,52 @@ fn differs(rt: HostRuntime) -> Result<(), Fail> {
     };
     assert!(rt; matches!(ending, Ending::Differs(report) if report == want));
     let kinds = "× 0061 × 0062 × 0020 ÷ 0063 × 0064 ÷\n";
-    check(
-        &rt,
-        alloc,
-        &words(alloc, "replay", &["--kinds"])?,
-        kinds,
-        "D 1 5 ÷ ! 3\nT 1 0 1 0\n",
-        3,
-    )?;
+    let text = "D 1 5 ÷ ! 3\nT 1 0 1 0\n";
+    let _ = check_engine(&rt, alloc, "replay", &["--kinds"], kinds, text, 3)?;
     Ok(())
 }
+
+/// Words of which one names a file that is missing.
+const MISSING: [&str; 9] = [
+    "show",
+    "--line-break",
+    "L",
+    "--east-asian",
+    "none",
+    "--category",
+    "C",
+    "--emoji",
+    "M",
+];
+
+/// Words of which one names the bad file.
+const BAD: [&str; 9] = [
+    "show",
+    "--line-break",
+    "B",
+    "--east-asian",
+    "E",
+    "--category",
+    "C",
+    "--emoji",
+    "M",
+];
 
 #[test]
 fn refused(rt: HostRuntime) -> Result<(), Fail> {
     let alloc = rt.alloc();
-    let ending = check(
-        &rt,
-        alloc,
-        &words(alloc, "show", &["--limit", "4"])?,
-        "abc\r\n",
-        "",
-        1,
-    )?;
+    let ending = check_engine(&rt, alloc, "show", &["--limit", "4"], "abc\r\n", "", 1)?;
     let too_long = CmdFault::Passage(PassageFault::ParagraphTooLong { start: 0 });
-    assert!(rt; matches!(ending, Ending::Refused(RunFault::Cmd(fault)) if fault == too_long));
-    let missing = [
-        "show",
-        "--line-break",
-        "L",
-        "--east-asian",
-        "none",
-        "--category",
-        "C",
-        "--emoji",
-        "M",
-    ];
-    let ending = check(&rt, alloc, &missing, "ab cd", "", 1)?;
-    assert!(rt;
-        matches!(
-            ending,
-            Ending::Refused(RunFault::Load(Which::EastAsianWidth))
-        )
-    );
-    let bad = [
-        "show",
-        "--line-break",
-        "B",
-        "--east-asian",
-        "E",
-        "--category",
-        "C",
-        "--emoji",
-        "M",
-    ];
-    let ending = check(&rt, alloc, &bad, "ab cd", "", 1)?;
+    check_fault(&rt, &ending, RunFault::Cmd(too_long));
+    let ending = check(&rt, alloc, &MISSING, "ab cd", "", 1)?;
+    check_fault(&rt, &ending, RunFault::Load(Which::EastAsianWidth));
+    let ending = check(&rt, alloc, &BAD, "ab cd", "", 1)?;
     let row = UcdFault {
         file: Which::LineBreak,
         line: 1,
         cause: UcdCause::UnknownValue,
     };
-    assert!(rt; matches!(ending, Ending::Refused(RunFault::Tables(fault)) if fault == row));
+    check_fault(&rt, &ending, RunFault::Tables(row));
     Ok(())
 }
 
@@ -236,27 +240,71 @@ const WRONG: [(&str, &[&str]); 15] = [
     ("replay", &["--bogus"]),
 ];
 
+fn check_help(rt: &impl Abort, alloc: Global, words: &[&'static str]) -> Result<(), Fail> {
+    let ending = check(rt, alloc, words, "ab", "", 0)?;
+    assert!(rt; matches!(ending, Ending::Help { .. }), "{words:?}");
+    Ok(())
+}
+
+fn check_usage(rt: &impl Abort, alloc: Global, words: &[&'static str]) -> Result<(), Fail> {
+    let ending = check(rt, alloc, words, "ab", "", 2)?;
+    assert!(rt; matches!(ending, Ending::Usage { .. }), "{words:?}");
+    Ok(())
+}
+
+const HELP: [&[&str]; 5] = [
+    &["--help"],
+    &["--version"],
+    &["show", "--help"],
+    &["segment", "--help"],
+    &["replay", "--help"],
+];
+
+/// Words without files that no command line has.
+const WRONG_ALONE: [&[&str]; 3] = [&["bogus"], &["show"], &["--limit", "4"]];
+
 #[test]
 fn help_and_usage(rt: HostRuntime) -> Result<(), Fail> {
     let alloc = rt.alloc();
-    for help in [
-        ["--help"].as_slice(),
-        &["--version"],
-        &["show", "--help"],
-        &["segment", "--help"],
-        &["replay", "--help"],
-    ] {
-        let ending = check(&rt, alloc, help, "ab", "", 0)?;
-        assert!(rt; matches!(ending, Ending::Help { .. }), "{help:?}");
+    for help in &HELP {
+        check_help(&rt, alloc, help)?;
     }
-    for (engine, more) in WRONG {
-        let wrong = words(alloc, engine, more)?;
-        let ending = check(&rt, alloc, &wrong, "ab", "", 2)?;
-        assert!(rt; matches!(ending, Ending::Usage { .. }), "{wrong:?}");
+    for (engine, more) in &WRONG {
+        check_usage(&rt, alloc, &words(alloc, engine, more)?)?;
     }
-    for wrong in [["bogus"].as_slice(), &["show"], &["--limit", "4"]] {
-        let ending = check(&rt, alloc, wrong, "ab", "", 2)?;
-        assert!(rt; matches!(ending, Ending::Usage { .. }), "{wrong:?}");
+    for wrong in &WRONG_ALONE {
+        check_usage(&rt, alloc, wrong)?;
+    }
+    Ok(())
+}
+
+/// The words without an option and the name behind it.
+fn without(
+    alloc: Global,
+    words: &[&'static str],
+    option: &str,
+) -> Result<Vec<&'static str>, AllocError> {
+    let mut fewer = Vec::new(alloc);
+    let mut is_name = false;
+    for word in words {
+        if *word == option {
+            is_name = true;
+        } else if is_name {
+            is_name = false;
+        } else {
+            fewer.push(*word)?;
+        }
+    }
+    Ok(fewer)
+}
+
+/// Leaves out each of the four files.
+fn check_left_out(rt: &impl Abort, alloc: Global, engine: &'static str) -> Result<(), Fail> {
+    let all = words(alloc, engine, &[])?;
+    for option in ["--line-break", "--east-asian", "--category", "--emoji"] {
+        let fewer = without(alloc, &all, option)?;
+        assert_eq!(rt; fewer.len(), 7);
+        check_usage(rt, alloc, &fewer)?;
     }
     Ok(())
 }
@@ -264,25 +312,8 @@ fn help_and_usage(rt: HostRuntime) -> Result<(), Fail> {
 // Each of the four files has to be named.
 #[test]
 fn file_left_out(rt: HostRuntime) -> Result<(), Fail> {
-    let alloc = rt.alloc();
     for engine in ["show", "segment", "replay"] {
-        let all = words(alloc, engine, &[])?;
-        for option in ["--line-break", "--east-asian", "--category", "--emoji"] {
-            let mut fewer = Vec::new(alloc);
-            let mut is_name = false;
-            for word in &all {
-                if *word == option {
-                    is_name = true;
-                } else if is_name {
-                    is_name = false;
-                } else {
-                    fewer.push(*word)?;
-                }
-            }
-            assert_eq!(rt; fewer.len(), 7);
-            let ending = check(&rt, alloc, &fewer, "ab", "", 2)?;
-            assert!(rt; matches!(ending, Ending::Usage { .. }), "{fewer:?}");
-        }
+        check_left_out(&rt, rt.alloc(), engine)?;
     }
     Ok(())
 }

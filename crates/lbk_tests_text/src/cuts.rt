@@ -1,11 +1,11 @@
 //! However the reads cut a worked text or test file, the passages, the output and the report are those of a single
 //! read: in two reads and in three at every place, and in one byte a read.
 
+use crate::calls::sample_cells;
+use crate::runs::{Ran, Run, whole};
 use crate::segmented;
-use crate::tasks::{Ran, Setting, Task};
-use lbk_cmd::{SAMPLE_FILES, read_cells};
+use crate::tasks::{Setting, Task};
 use lbk_feed::Sink;
-use lbk_feed::devices::MemorySource;
 use lbk_notation::Form;
 use lbk_rules::{CellPages, Profile};
 use lbk_tests_rows::{replayed, shown, texts};
@@ -21,22 +21,49 @@ const OF_FILES: [Task; 2] = [Task::Replay(Form::Plain), Task::Replay(Form::Kinds
 fn check_cut(
     rt: &impl Abort,
     setting: Setting<'_>,
-    task: Task,
-    input: &[u8],
+    run: Run<'_>,
     sizes: &[usize],
     want: &Ran,
 ) -> Result<(), AllocError> {
-    let mut source = MemorySource::cut(input, sizes);
-    let cut = task.run_whole(setting, &mut source)?;
-    assert_eq!(rt; cut.end, want.end, "{task:?} of {input:?} by {sizes:?}");
-    assert!(rt;
-        cut.sink.bytes() == want.sink.bytes(),
-        "{task:?} of {input:?} by {sizes:?}"
-    );
+    let run = Run { sizes, ..run };
+    let cut = run.ran(setting)?;
+    run.check_end(rt, cut.end, want.end);
+    run.check_bytes(rt, cut.sink.bytes(), want.sink.bytes());
     Ok(())
 }
 
-/// Cuts in each way; the last size is that of all reads that follow.
+/// Cuts at this place and at each behind it; the last size is that of all reads that follow.
+fn check_cut_at(
+    rt: &impl Abort,
+    setting: Setting<'_>,
+    run: Run<'_>,
+    first: usize,
+    want: &Ran,
+) -> Result<(), AllocError> {
+    for second in 1..=run.input.len() {
+        let sizes = [first, second, usize::MAX];
+        check_cut(rt, setting, run, &sizes, want)?;
+    }
+    Ok(())
+}
+
+/// Cuts in each way.
+fn check_task(
+    rt: &impl Abort,
+    setting: Setting<'_>,
+    task: Task,
+    input: &[u8],
+) -> Result<(), AllocError> {
+    let run = whole(task, input);
+    let want = run.ran(setting)?;
+    assert_eq!(rt; want.sink.failures(), 0);
+    check_cut(rt, setting, run, &[1], &want)?;
+    for first in 1..=input.len() {
+        check_cut_at(rt, setting, run, first, &want)?;
+    }
+    Ok(())
+}
+
 fn check(
     rt: &impl Abort,
     setting: Setting<'_>,
@@ -44,21 +71,26 @@ fn check(
     input: &[u8],
 ) -> Result<(), AllocError> {
     for task in tasks {
-        let mut source = MemorySource::new(input);
-        let whole = task.run_whole(setting, &mut source)?;
-        assert_eq!(rt; whole.sink.failures(), 0);
-        check_cut(rt, setting, *task, input, &[1], &whole)?;
-        for first in 1..=input.len() {
-            for second in 1..=input.len() {
-                let sizes = [first, second, usize::MAX];
-                check_cut(rt, setting, *task, input, &sizes, &whole)?;
-            }
-        }
+        check_task(rt, setting, *task, input)?;
     }
     Ok(())
 }
 
-/// The texts of a table, in both profiles.
+/// In both profiles.
+fn check_both(
+    rt: &impl Abort,
+    alloc: Global,
+    cells: &CellPages,
+    tasks: &[Task],
+    input: &[u8],
+) -> Result<(), AllocError> {
+    for profile in [Profile::First, Profile::Second] {
+        check(rt, Setting::new(alloc, cells, profile), tasks, input)?;
+    }
+    Ok(())
+}
+
+/// The texts of a table.
 fn check_texts<T: Copy>(
     rt: &impl Abort,
     alloc: Global,
@@ -66,14 +98,7 @@ fn check_texts<T: Copy>(
     rows: &[(&str, T)],
 ) -> Result<(), AllocError> {
     for (text, _) in rows {
-        for profile in [Profile::First, Profile::Second] {
-            let setting = Setting {
-                alloc,
-                cells,
-                profile,
-            };
-            check(rt, setting, &OF_TEXTS, text.as_bytes())?;
-        }
+        check_both(rt, alloc, cells, &OF_TEXTS, text.as_bytes())?;
     }
     Ok(())
 }
@@ -88,23 +113,24 @@ const ILL_FORMED: [&[u8]; 6] = [
     b"\xEF\xBB\xBFa\r\rb\xC0\x80",
 ];
 
+fn check_ill_formed(rt: &impl Abort, alloc: Global, cells: &CellPages) -> Result<(), AllocError> {
+    let setting = Setting::new(alloc, cells, Profile::First);
+    for text in ILL_FORMED {
+        check(rt, setting, &OF_TEXTS, text)?;
+    }
+    Ok(())
+}
+
 #[test]
 fn texts(rt: HostRuntime) -> Result<(), Fail> {
     let alloc = rt.alloc();
-    let cells = read_cells(alloc, SAMPLE_FILES)?;
+    let cells = sample_cells(alloc)?;
     check_texts(&rt, alloc, &cells, &texts::FIRST)?;
     check_texts(&rt, alloc, &cells, &texts::SECOND)?;
     check_texts(&rt, alloc, &cells, &shown::BOTH)?;
     check_texts(&rt, alloc, &cells, &shown::SECOND)?;
     check_texts(&rt, alloc, &cells, &segmented::BOTH)?;
-    let setting = Setting {
-        alloc,
-        cells: &cells,
-        profile: Profile::First,
-    };
-    for text in ILL_FORMED {
-        check(&rt, setting, &OF_TEXTS, text)?;
-    }
+    check_ill_formed(&rt, alloc, &cells)?;
     Ok(())
 }
 
@@ -118,26 +144,27 @@ const FILES: [&[u8]; 5] = [
     b"# a\r\n \t\r\n\xC3\xB7\r\n",
 ];
 
+fn check_rows(
+    rt: &impl Abort,
+    alloc: Global,
+    cells: &CellPages,
+    rows: &[replayed::Row],
+) -> Result<(), AllocError> {
+    for (file, _, _) in rows {
+        check_both(rt, alloc, cells, &OF_FILES, file.as_bytes())?;
+    }
+    Ok(())
+}
+
 #[test]
 fn files(rt: HostRuntime) -> Result<(), Fail> {
     let alloc = rt.alloc();
-    let cells = read_cells(alloc, SAMPLE_FILES)?;
-    for profile in [Profile::First, Profile::Second] {
-        let setting = Setting {
-            alloc,
-            cells: &cells,
-            profile,
-        };
-        for file in FILES {
-            check(&rt, setting, &OF_FILES, file)?;
-        }
-        check(&rt, setting, &OF_FILES, replayed::QUOTED.as_bytes())?;
-        for (file, _, _) in replayed::PLAIN {
-            check(&rt, setting, &OF_FILES, file.as_bytes())?;
-        }
-        for (file, _, _) in replayed::KINDS {
-            check(&rt, setting, &OF_FILES, file.as_bytes())?;
-        }
+    let cells = sample_cells(alloc)?;
+    for file in FILES {
+        check_both(&rt, alloc, &cells, &OF_FILES, file)?;
     }
+    check_both(&rt, alloc, &cells, &OF_FILES, replayed::QUOTED.as_bytes())?;
+    check_rows(&rt, alloc, &cells, &replayed::PLAIN)?;
+    check_rows(&rt, alloc, &cells, &replayed::KINDS)?;
     Ok(())
 }

@@ -3,13 +3,19 @@
 use lbk_rules::annex;
 use lbk_ucd::LineBreak;
 
-#[test]
-fn laws() {
+fn of_feeds() {
     lbk_feed::laws::text_max();
     lbk_feed::laws::prefix_is_longest_text();
     lbk_feed::laws::prefix_behind_a_text();
     lbk_feed::laws::faults_exclude_each_other();
+}
+
+fn of_the_program() {
     lbk_cmd::laws::shown_lines();
+    lbk_cmd::laws::headline();
+}
+
+fn of_property_files() {
     lbk_ucd::laws::lines_say_what_the_grammar_has();
     lbk_ucd::laws::lines_make_up_the_file();
     lbk_ucd::laws::shared_codes_are_held::<LineBreak>();
@@ -17,6 +23,9 @@ fn laws() {
     lbk_ucd::laws::kept_rows_are_apart::<LineBreak>();
     lbk_ucd::laws::lawful_files_want_memory();
     lbk_ucd::laws::samples_are_lawful();
+}
+
+fn of_rules_and_paragraphs() {
     lbk_rules::laws::paragraph();
     lbk_rules::laws::paragraph_between();
     lbk_rules::laws::look_ahead();
@@ -25,6 +34,9 @@ fn laws() {
     lbk_rules::laws::look_ahead_second_between();
     lbk_rules::laws::unanswered_position();
     lbk_rules::laws::unanswered_alone();
+}
+
+fn of_rules_and_positions() {
     lbk_rules::laws::must_end();
     lbk_rules::laws::must_end_of_text();
     lbk_rules::laws::before_line_end();
@@ -33,17 +45,37 @@ fn laws() {
     lbk_rules::laws::machine_holds();
     lbk_rules::laws::answered_once();
     lbk_rules::laws::normal_cells();
+}
+
+fn of_the_annex() {
     annex::spaces();
     annex::indicators();
     annex::heads();
     annex::opening_quotation();
     annex::closing_quotation();
+}
+
+fn of_passages() {
     lbk_passage::laws::behind_an_earlier_text();
     lbk_passage::laws::run_begins();
     lbk_passage::laws::run_goes_on();
     lbk_passage::laws::run_ends();
+}
+
+fn of_test_files() {
     lbk_notation::file_laws::lines_make_up_the_file();
     lbk_notation::file_laws::one_replay_text();
     lbk_notation::file_laws::settled_text_stays();
-    lbk_cmd::laws::headline();
+}
+
+#[test]
+fn laws() {
+    of_feeds();
+    of_the_program();
+    of_property_files();
+    of_rules_and_paragraphs();
+    of_rules_and_positions();
+    of_the_annex();
+    of_passages();
+    of_test_files();
 }

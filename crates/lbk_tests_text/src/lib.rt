@@ -2,6 +2,8 @@
 #![tactic(auto)]
 
 #[cfg(test)]
+mod calls;
+#[cfg(test)]
 mod cuts;
 #[cfg(test)]
 mod hostile;
@@ -13,6 +15,8 @@ mod lines;
 mod passages;
 #[cfg(test)]
 mod replayed;
+#[cfg(test)]
+mod runs;
 #[cfg(test)]
 mod segment_lines;
 #[cfg(test)]

@@ -1,13 +1,13 @@
 //! Lines of the notation: what is read, refused, written and marked.
 
-use lbk_cmd::{SAMPLE_FILES, read_cells};
+use crate::calls::{line_of, marked, sample_cells, written_line};
 use lbk_notation::{
-    Form, LineFault, Mark, TestLine, laws, mark_of, mark_text, push_line, push_mark,
-    push_passage_line, push_scalar, read_back, read_line, read_passage_line, write_line,
+    Form, LineFault, Mark, TestLine, laws, mark_of, push_line, push_mark, push_passage_line,
+    push_scalar, read_back, read_passage_line,
 };
-use lbk_rules::{Kind, Profile, Rule, Verdict, decide_all_in};
+use lbk_rules::{Cell, CellPages, Kind, Profile, Rule, Verdict, decide_all_in};
 use lbk_tests_rows::cells::cells_of;
-use std::alloc::Global;
+use std::alloc::{AllocError, Global};
 use std::process::Abort;
 use std::test::Fail;
 
@@ -19,7 +19,7 @@ enum Want {
     Bad(u32),
 }
 
-const PLAIN: [(&str, Want); 34] = [
+static PLAIN: [(&str, Want); 34] = [
     ("× 0023 × 0023 ÷\t# note", Want::Line("× 0023 × 0023 ÷")),
     ("×", Want::Line("×")),
     ("× 0023 ÷\r", Want::Line("× 0023 ÷")),
@@ -56,7 +56,7 @@ const PLAIN: [(&str, Want); 34] = [
     ("\r ", Want::Bad(1)),
 ];
 
-const KINDS: [(&str, Want); 5] = [
+static KINDS: [(&str, Want); 5] = [
     ("! 0061 !", Want::Line("! 0061 !")),
     (
         "× 0061 × 0062 × 0020 ÷ 0063 × 0064 !\t# 2 28 7 18 28 3",
@@ -67,6 +67,34 @@ const KINDS: [(&str, Want); 5] = [
     ("× \r÷", Want::Bad(4)),
 ];
 
+fn same_text(rt: &impl Abort, found: &[u8], want: &str) {
+    assert_eq!(rt; found, want.as_bytes());
+}
+
+fn check_line(
+    rt: &impl Abort,
+    alloc: Global,
+    line: Option<TestLine>,
+    form: Form,
+    want: &str,
+) -> Result<(), Fail> {
+    let line = line.ok_or("no line")?;
+    same_text(rt, &written_line(alloc, &line, form)?, want);
+    Ok(())
+}
+
+fn check_fault(
+    rt: &impl Abort,
+    bytes: &[u8],
+    answer: Result<Option<TestLine>, LineFault>,
+    at: u32,
+) {
+    match answer {
+        Ok(_) => panic!(rt; "accepted: {bytes:?}"),
+        Err(fault) => assert_eq!(rt; fault, LineFault::Bad { at }, "in {bytes:?}"),
+    }
+}
+
 fn check(
     rt: &impl Abort,
     alloc: Global,
@@ -74,44 +102,91 @@ fn check(
     form: Form,
     want: &Want,
 ) -> Result<(), Fail> {
-    let answer = read_line(alloc, bytes, form);
+    let answer = line_of(alloc, bytes, form);
     match want {
-        Want::Line(text) => {
-            let line = answer?.ok_or("no line")?;
-            let written = write_line(alloc, &line, form)?;
-            assert_eq!(rt; written.as_slice(), text.as_bytes());
-        }
+        Want::Line(text) => check_line(rt, alloc, answer?, form, text)?,
         Want::Nothing => assert!(rt; answer?.is_none(), "a line in {bytes:?}"),
-        Want::Bad(at) => match answer {
-            Ok(_) => panic!(rt; "accepted: {bytes:?}"),
-            Err(fault) => assert_eq!(rt; fault, LineFault::Bad { at: *at }, "in {bytes:?}"),
-        },
+        Want::Bad(at) => check_fault(rt, bytes, answer, *at),
+    }
+    Ok(())
+}
+
+fn check_rows(
+    rt: &impl Abort,
+    alloc: Global,
+    form: Form,
+    rows: &[(&str, Want)],
+) -> Result<(), Fail> {
+    for (line, want) in rows {
+        check(rt, alloc, line.as_bytes(), form, want)?;
     }
     Ok(())
 }
 
 #[test]
 fn reading(rt: HostRuntime) -> Result<(), Fail> {
-    for (line, want) in &PLAIN {
-        check(&rt, rt.alloc(), line.as_bytes(), Form::Plain, want)?;
-    }
-    for (line, want) in &KINDS {
-        check(&rt, rt.alloc(), line.as_bytes(), Form::Kinds, want)?;
-    }
+    check_rows(&rt, rt.alloc(), Form::Plain, &PLAIN)?;
+    check_rows(&rt, rt.alloc(), Form::Kinds, &KINDS)?;
     check(&rt, rt.alloc(), b"\xC3\x80", Form::Plain, &Want::Bad(1))
+}
+
+/// A comment of this many bytes.
+fn comment(alloc: Global, length: usize) -> Result<Vec<u8>, AllocError> {
+    let mut line = vec![in alloc; b'x'; length]?;
+    if let Some(first) = line.first_mut() {
+        *first = b'#';
+    }
+    Ok(line)
 }
 
 #[test]
 fn long_lines(rt: HostRuntime) -> Result<(), Fail> {
-    let mut line = vec![in rt.alloc(); b'x'; 16_777_217]?;
-    line[0] = b'#';
-    assert!(rt; read_line(rt.alloc(), &line, Form::Plain)?.is_none());
-    let mut longer = vec![in rt.alloc(); b'x'; 268_435_457]?;
-    longer[0] = b'#';
+    let line = comment(rt.alloc(), 16_777_217)?;
+    assert!(rt; line_of(rt.alloc(), &line, Form::Plain)?.is_none());
+    let longer = comment(rt.alloc(), 268_435_457)?;
     let longest = longer.get(..268_435_456).ok_or("no line")?;
-    assert!(rt; read_line(rt.alloc(), longest, Form::Plain)?.is_none());
-    let too_long = read_line(rt.alloc(), &longer, Form::Plain).err();
+    assert!(rt; line_of(rt.alloc(), longest, Form::Plain)?.is_none());
+    let too_long = line_of(rt.alloc(), &longer, Form::Plain).err();
     assert_eq!(rt; too_long, Some(LineFault::LineTooLong));
+    Ok(())
+}
+
+/// Compares what a line has.
+fn check_parts(rt: &impl Abort, line: &TestLine, scalars: &[char], marks: &[Mark]) {
+    assert_eq!(rt; line.scalars(), scalars);
+    assert_eq!(rt; line.marks(), marks);
+}
+
+/// Writes a line piece by piece.
+fn by_pieces(alloc: Global, form: Form) -> Result<Vec<u8>, AllocError> {
+    let mut text = Vec::new(alloc);
+    push_mark(&mut text, Mark::No, form)?;
+    push_scalar(&mut text, '\u{1F466}', Mark::Must, form)?;
+    Ok(text)
+}
+
+/// Writes a line behind what was written before.
+fn behind(alloc: Global, line: &TestLine, form: Form) -> Result<Vec<u8>, AllocError> {
+    let mut text = Vec::new(alloc);
+    text.push(b'>')?;
+    push_line(&mut text, line.scalars(), line.marks(), form)?;
+    Ok(text)
+}
+
+/// Checks what is written of a line, and that it is read back.
+fn check_written(
+    rt: &impl Abort,
+    alloc: Global,
+    line: &TestLine,
+    form: Form,
+    text: &str,
+) -> Result<(), Fail> {
+    same_text(rt, &written_line(alloc, line, form)?, text);
+    same_text(rt, &by_pieces(alloc, form)?, text);
+    let behind = behind(alloc, line, form)?;
+    same_text(rt, behind.get(1..).ok_or("nothing written")?, text);
+    let again = read_back(alloc, line, form)?.ok_or("no line")?;
+    assert_eq!(rt; again.scalars(), line.scalars());
     Ok(())
 }
 
@@ -120,22 +195,9 @@ fn writing(rt: HostRuntime) -> Result<(), Fail> {
     let scalars = vec![in rt.alloc(); '\u{1F466}']?;
     let marks = vec![in rt.alloc(); Mark::No, Mark::Must]?;
     let line = TestLine::new(scalars, marks).ok_or("refused")?;
-    assert_eq!(rt; line.scalars(), ['\u{1F466}'].as_slice());
-    assert_eq!(rt; line.marks(), [Mark::No, Mark::Must].as_slice());
-    for (form, text) in [(Form::Kinds, "× 1F466 !"), (Form::Plain, "× 1F466 ÷")] {
-        let written = write_line(rt.alloc(), &line, form)?;
-        assert_eq!(rt; written.as_slice(), text.as_bytes());
-        let again = read_back(rt.alloc(), &line, form)?.ok_or("no line")?;
-        assert_eq!(rt; again.scalars(), line.scalars());
-        let mut pieces = Vec::new(rt.alloc());
-        push_mark(&mut pieces, Mark::No, form)?;
-        push_scalar(&mut pieces, '\u{1F466}', Mark::Must, form)?;
-        assert_eq!(rt; pieces.as_slice(), text.as_bytes());
-        let mut behind = Vec::new(rt.alloc());
-        behind.push(b'>')?;
-        push_line(&mut behind, line.scalars(), line.marks(), form)?;
-        assert_eq!(rt; &behind[1..], text.as_bytes());
-    }
+    check_parts(&rt, &line, &['\u{1F466}'], &[Mark::No, Mark::Must]);
+    check_written(&rt, rt.alloc(), &line, Form::Kinds, "× 1F466 !")?;
+    check_written(&rt, rt.alloc(), &line, Form::Plain, "× 1F466 ÷")?;
     let none = TestLine::new(Vec::new(rt.alloc()), Vec::new(rt.alloc()));
     assert!(rt; none.is_none());
     Ok(())
@@ -166,20 +228,32 @@ const MARKED: [(&str, &str, &str); 5] = [
     ),
 ];
 
+/// Checks what is marked in a text.
+fn check_marked(
+    rt: &impl Abort,
+    alloc: Global,
+    setting: (&CellPages, Profile, Form),
+    text: &str,
+    want: &str,
+) -> Result<(), AllocError> {
+    let (cells, profile, form) = setting;
+    let line = marked(alloc, cells, text, profile)?;
+    same_text(rt, &written_line(alloc, &line, form)?, want);
+    Ok(())
+}
+
 #[test]
 fn marking(rt: HostRuntime) -> Result<(), Fail> {
-    let cells = read_cells(rt.alloc(), SAMPLE_FILES)?;
-    for (text, first, second) in MARKED {
-        for (profile, want) in [(Profile::First, first), (Profile::Second, second)] {
-            let line = mark_text(rt.alloc(), &cells, text, profile)?;
-            let written = write_line(rt.alloc(), &line, Form::Kinds)?;
-            assert_eq!(rt; written.as_slice(), want.as_bytes(), "of {text:?}");
-        }
+    let alloc = rt.alloc();
+    let cells = sample_cells(alloc)?;
+    let kinds = Form::Kinds;
+    for (text, first, second) in &MARKED {
+        check_marked(&rt, alloc, (&cells, Profile::First, kinds), text, first)?;
+        check_marked(&rt, alloc, (&cells, Profile::Second, kinds), text, second)?;
     }
-    let line = mark_text(rt.alloc(), &cells, "ab cd", Profile::First)?;
-    let plain = write_line(rt.alloc(), &line, Form::Plain)?;
     let want = "× 0061 × 0062 × 0020 ÷ 0063 × 0064 ÷";
-    assert_eq!(rt; plain.as_slice(), want.as_bytes());
+    let plain = (&cells, Profile::First, Form::Plain);
+    check_marked(&rt, alloc, plain, "ab cd", want)?;
     assert_eq!(rt; mark_of(Kind::No), Mark::No);
     assert_eq!(rt; mark_of(Kind::May), Mark::May);
     assert_eq!(rt; mark_of(Kind::Must), Mark::Must);
@@ -191,27 +265,45 @@ const BLANK: Verdict = Verdict {
     rule: Rule::Lb2,
 };
 
-#[test]
-fn lines_of_passages(rt: HostRuntime) -> Result<(), Fail> {
-    let source = read_cells(rt.alloc(), SAMPLE_FILES)?;
-    let cells = cells_of(rt.alloc(), &source, "a\r\n")?;
-    let mut verdicts = vec![in rt.alloc(); BLANK; cells.len() + 1]?;
-    decide_all_in(Profile::First, &cells, &mut verdicts);
-    let scalars = ['a', '\r', '\n'];
+/// What the rules say of each position.
+fn verdicts_of(alloc: Global, cells: &[Cell]) -> Result<Vec<Verdict>, AllocError> {
+    let mut verdicts = vec![in alloc; BLANK; cells.len() + 1]?;
+    decide_all_in(Profile::First, cells, &mut verdicts);
+    Ok(verdicts)
+}
+
+/// The line of a passage.
+fn passage_line(
+    rt: &impl Abort,
+    alloc: Global,
+    scalars: &[char],
+    verdicts: &[Verdict],
+) -> Result<Vec<u8>, AllocError> {
     assert_eq!(rt; verdicts.len(), scalars.len() + 1);
-    let mut shown = Vec::new(rt.alloc());
-    push_passage_line(&mut shown, &scalars, &verdicts)?;
-    let want = "× 0061 × 000D × 000A !\t# 2 6 5 3";
-    assert_eq!(rt; shown.as_slice(), want.as_bytes());
-    let line = read_passage_line(rt.alloc(), &shown)?.ok_or("no line")?;
-    assert_eq!(rt; line.scalars(), scalars.as_slice());
-    assert_eq!(rt;
-        line.marks(),
-        [Mark::No, Mark::No, Mark::No, Mark::Must].as_slice()
-    );
+    let mut shown = Vec::new(alloc);
+    push_passage_line(&mut shown, scalars, verdicts)?;
+    Ok(shown)
+}
+
+/// The laws of the notation can be called.
+fn laws_of_lines() {
     laws::tokens();
     laws::one_value();
     laws::comments();
     laws::passage_lines();
+}
+
+#[test]
+fn lines_of_passages(rt: HostRuntime) -> Result<(), Fail> {
+    let source = sample_cells(rt.alloc())?;
+    let cells = cells_of(rt.alloc(), &source, "a\r\n")?;
+    let verdicts = verdicts_of(rt.alloc(), &cells)?;
+    let scalars = ['a', '\r', '\n'];
+    let shown = passage_line(&rt, rt.alloc(), &scalars, &verdicts)?;
+    same_text(&rt, &shown, "× 0061 × 000D × 000A !\t# 2 6 5 3");
+    let line = read_passage_line(rt.alloc(), &shown)?.ok_or("no line")?;
+    let marks = [Mark::No, Mark::No, Mark::No, Mark::Must];
+    check_parts(&rt, &line, &scalars, &marks);
+    laws_of_lines();
     Ok(())
 }

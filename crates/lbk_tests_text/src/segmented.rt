@@ -1,16 +1,16 @@
 //! The segments and pieces that a segmenter gives over the sample files, in both profiles and however the reads are
 //! cut.
 
-use lbk_cmd::{SAMPLE_FILES, read_cells};
-use lbk_feed::devices::MemorySource;
-use lbk_passage::{Passage, Segment, Segmenter};
+use crate::calls::{cut_source, has_next, next_passage, sample_cells, segmenter};
+use crate::tasks::LIMIT;
+use lbk_cmd::CmdFault;
+use lbk_feed::Source;
+use lbk_passage::{Passage, PassageFault, Piece, Segment, Segmenter};
 use lbk_rules::{CellPages, Kind, Profile, Rule};
 use std::alloc::{AllocError, Global};
 use std::fmt::Write;
 use std::process::Abort;
 use std::test::Fail;
-
-const LIMIT: u32 = 65_536;
 
 /// A text, and of each of its passages: `P`, its start, its length and the rule at its end; `S`, start, end, kind and
 /// rule of a segment; `W`, start and end of a word; `p`, those of another piece.
@@ -102,20 +102,54 @@ const SECOND: [Row; 6] = [
     ),
 ];
 
-/// What is told of a passage.
-pub fn told(alloc: Global, passage: &Passage<'_>) -> Result<String, AllocError> {
-    let mut line = String::new(alloc);
+fn push_start(line: &mut String, passage: &Passage<'_>) -> Result<(), AllocError> {
     let end = passage.end.rule.label();
-    write!(line, "P {} {} {}", passage.start, passage.text.len(), end)?;
+    write!(line, "P {} {} {end}", passage.start, passage.text.len())?;
+    Ok(())
+}
+
+fn push_segment(line: &mut String, segment: &Segment) -> Result<(), AllocError> {
+    let (start, end, kind) = (segment.start, segment.end, segment.kind);
+    write!(line, " S {start} {end} {kind:?} {}", segment.rule.label())?;
+    Ok(())
+}
+
+fn push_piece(line: &mut String, piece: &Piece) -> Result<(), AllocError> {
+    let name = if piece.word { 'W' } else { 'p' };
+    write!(line, " {name} {} {}", piece.start, piece.end)?;
+    Ok(())
+}
+
+/// What is told of a passage.
+fn told(alloc: Global, passage: &Passage<'_>) -> Result<String, AllocError> {
+    let mut line = String::new(alloc);
+    push_start(&mut line, passage)?;
     for segment in passage.segments {
-        let (start, end, kind) = (segment.start, segment.end, segment.kind);
-        write!(line, " S {start} {end} {kind:?} {}", segment.rule.label())?;
+        push_segment(&mut line, segment)?;
     }
     for piece in passage.pieces {
-        let name = if piece.word { 'W' } else { 'p' };
-        write!(line, " {name} {} {}", piece.start, piece.end)?;
+        push_piece(&mut line, piece)?;
     }
     Ok(line)
+}
+
+/// What is told of the next passage, if there is one.
+pub fn told_next<R: Source>(
+    alloc: Global,
+    segmenter: &mut Segmenter<'_, CellPages>,
+    reader: &mut R,
+) -> Result<Option<String>, CmdFault> {
+    match next_passage(segmenter, reader)? {
+        Some(passage) => Ok(Some(told(alloc, &passage)?)),
+        None => Ok(None),
+    }
+}
+
+fn check_told(rt: &impl Abort, found: Option<String>, want: &str, row: &Row) {
+    match found {
+        Some(line) => assert_eq!(rt; line.as_str(), want),
+        None => assert!(rt; false, "no passage of {row:?}"),
+    }
 }
 
 /// Runs a segmenter over the text in reads of the sizes, and compares its passages.
@@ -126,52 +160,53 @@ fn check(
     profile: Profile,
     sizes: &[usize],
     row: &Row,
-) -> Result<(), Fail> {
-    let mut source = MemorySource::cut(row.0.as_bytes(), sizes);
-    let mut segmenter = Segmenter::new(alloc, cells, LIMIT, profile)?;
+) -> Result<(), CmdFault> {
+    let mut source = cut_source(row.0.as_bytes(), sizes);
+    let mut segmenter = segmenter(alloc, cells, LIMIT, profile)?;
     for want in row.1 {
-        match segmenter.next(&mut source) {
-            Ok(Some(passage)) => assert_eq!(rt; told(alloc, &passage)?.as_str(), *want),
-            other => assert!(rt; false, "{other:?} in {row:?}"),
-        }
+        check_told(
+            rt,
+            told_next(alloc, &mut segmenter, &mut source)?,
+            want,
+            row,
+        );
     }
     for _ in 0..2 {
-        let last = segmenter.next(&mut source);
-        assert!(rt; matches!(last, Ok(None)), "{last:?} after {row:?}");
+        let last = has_next(&mut segmenter, &mut source);
+        assert_eq!(rt; last, Ok(false), "after {row:?}");
     }
     Ok(())
 }
 
 const CUTTINGS: [&[usize]; 6] = [&[1], &[2], &[3], &[7], &[4096], &[]];
 
-#[test]
-fn segments(rt: HostRuntime) -> Result<(), Fail> {
-    let cells = read_cells(rt.alloc(), SAMPLE_FILES)?;
-    for sizes in CUTTINGS {
-        for row in &BOTH {
-            check(&rt, rt.alloc(), &cells, Profile::First, sizes, row)?;
-            check(&rt, rt.alloc(), &cells, Profile::Second, sizes, row)?;
-        }
-        for row in &FIRST {
-            check(&rt, rt.alloc(), &cells, Profile::First, sizes, row)?;
-        }
-        for row in &SECOND {
-            check(&rt, rt.alloc(), &cells, Profile::Second, sizes, row)?;
+fn check_rows(
+    rt: &impl Abort,
+    alloc: Global,
+    cells: &CellPages,
+    profile: Profile,
+    rows: &[Row],
+) -> Result<(), CmdFault> {
+    for row in rows {
+        for sizes in CUTTINGS {
+            check(rt, alloc, cells, profile, sizes, row)?;
         }
     }
     Ok(())
 }
 
-fn check_many(
-    rt: &impl Abort,
-    alloc: Global,
-    cells: &CellPages,
-    profile: Profile,
-    text: &[u8],
-) -> Result<(), Fail> {
-    let mut source = MemorySource::new(text);
-    let mut segmenter = Segmenter::new(alloc, cells, LIMIT, profile)?;
-    let passage = segmenter.next(&mut source)?.ok_or("no passage")?;
+#[test]
+fn segments(rt: HostRuntime) -> Result<(), Fail> {
+    let alloc = rt.alloc();
+    let cells = sample_cells(alloc)?;
+    check_rows(&rt, alloc, &cells, Profile::First, &BOTH)?;
+    check_rows(&rt, alloc, &cells, Profile::Second, &BOTH)?;
+    check_rows(&rt, alloc, &cells, Profile::First, &FIRST)?;
+    check_rows(&rt, alloc, &cells, Profile::Second, &SECOND)?;
+    Ok(())
+}
+
+fn check_sizes(rt: &impl Abort, passage: &Passage<'_>) {
     assert_eq!(rt; passage.text.len(), 4000);
     assert_eq!(rt; passage.segments.len(), 2000);
     assert_eq!(rt; passage.pieces.len(), 4000);
@@ -181,20 +216,34 @@ fn check_many(
         kind: Kind::Must,
         rule: Rule::Lb3,
     };
-    assert_eq!(rt; passage.segments[1999], last);
-    assert!(rt; segmenter.next(&mut source)?.is_none());
+    assert_eq!(rt; passage.segments.last(), Some(&last));
+}
+
+fn check_many(
+    rt: &impl Abort,
+    alloc: Global,
+    cells: &CellPages,
+    profile: Profile,
+    text: &[u8],
+) -> Result<(), PassageFault> {
+    let mut source = cut_source(text, &[]);
+    let mut segmenter = segmenter(alloc, cells, LIMIT, profile)?;
+    match next_passage(&mut segmenter, &mut source)? {
+        Some(passage) => check_sizes(rt, &passage),
+        None => assert!(rt; false, "no passage"),
+    }
+    assert_eq!(rt; has_next(&mut segmenter, &mut source), Ok(false));
     Ok(())
 }
 
 #[test]
 fn many_segments(rt: HostRuntime) -> Result<(), Fail> {
-    let cells = read_cells(rt.alloc(), SAMPLE_FILES)?;
+    let cells = sample_cells(rt.alloc())?;
     let mut text = Vec::new(rt.alloc());
     for _ in 0..2000 {
         text.extend_from_slice(b"a ")?;
     }
-    for profile in [Profile::First, Profile::Second] {
-        check_many(&rt, rt.alloc(), &cells, profile, &text)?;
-    }
+    check_many(&rt, rt.alloc(), &cells, Profile::First, &text)?;
+    check_many(&rt, rt.alloc(), &cells, Profile::Second, &text)?;
     Ok(())
 }

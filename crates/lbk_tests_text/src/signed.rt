@@ -1,7 +1,9 @@
 //! What `mark` writes and refuses, over devices in memory.
 
-use crate::tasks::{End, Setting, Task};
-use lbk_cmd::{CmdFault, Ending, MemoryStore, SAMPLE_FILES, mark, read_cells, run};
+use crate::calls::{cut_source, memory_sink, sample_cells};
+use crate::runs::{Run, check_texts, whole};
+use crate::tasks::{End, ROOM, Setting, Task};
+use lbk_cmd::{Ending, MemoryStore, SAMPLE_FILES, run};
 use lbk_feed::devices::{MemorySink, MemorySource};
 use lbk_passage::PassageFault;
 use lbk_rules::Profile;
@@ -9,10 +11,8 @@ use std::alloc::{AllocError, Global};
 use std::process::Abort;
 use std::test::Fail;
 
-const ROOM: usize = 4096;
-
 /// What both profiles write of a text.
-pub const BOTH: [(&str, &str); 17] = [
+const BOTH: [(&str, &str); 17] = [
     ("ab cd", "ab ÷cd\n"),
     ("ab cd\n", "ab ÷cd\n"),
     ("", ""),
@@ -44,116 +44,106 @@ const SECOND: [(&str, &str); 2] = [
     ("\u{2018} a", "\u{2018} a\n"),
 ];
 
-/// Checks what is written of a text in reads of this size.
-fn check(
-    rt: &impl Abort,
-    setting: Setting<'_>,
-    size: usize,
-    text: &str,
-    want: &str,
-) -> Result<(), AllocError> {
-    let sizes = [size];
-    let mut source = MemorySource::cut(text.as_bytes(), &sizes);
-    let ran = Task::Mark.run_whole(setting, &mut source)?;
-    assert!(rt; matches!(ran.end, End::Text(Ok(()))), "{text:?}");
-    assert_eq!(rt; ran.sink.bytes(), want.as_bytes(), "{text:?}");
-    Ok(())
-}
-
-/// Checks rows in a profile, in reads of one, two and all bytes.
-fn check_rows(
-    rt: &impl Abort,
-    alloc: Global,
-    rows: &[(&str, &str)],
-    profile: Profile,
-) -> Result<(), Fail> {
-    let cells = read_cells(alloc, SAMPLE_FILES)?;
-    let setting = Setting {
-        alloc,
-        cells: &cells,
-        profile,
-    };
-    for (text, want) in rows {
-        for size in [1, 2, ROOM] {
-            check(rt, setting, size, text, want)?;
-        }
-    }
-    Ok(())
-}
-
 #[test]
 fn texts(rt: HostRuntime) -> Result<(), Fail> {
-    check_rows(&rt, rt.alloc(), &BOTH, Profile::First)?;
-    check_rows(&rt, rt.alloc(), &BOTH, Profile::Second)?;
-    check_rows(&rt, rt.alloc(), &FIRST, Profile::First)?;
-    check_rows(&rt, rt.alloc(), &SECOND, Profile::Second)
+    let task = Task::Mark;
+    check_texts(&rt, rt.alloc(), task, &BOTH, Profile::First)?;
+    check_texts(&rt, rt.alloc(), task, &BOTH, Profile::Second)?;
+    check_texts(&rt, rt.alloc(), task, &FIRST, Profile::First)?;
+    check_texts(&rt, rt.alloc(), task, &SECOND, Profile::Second)
 }
+
+/// A text, the limit of a paragraph, the fault, and what is written before it.
+const REFUSED: [(&[u8], u32, PassageFault, &str); 4] = [
+    (b"a b\nb\xFF", 9, PassageFault::NotUtf8 { at: 5 }, "a ÷b\n"),
+    (b"a\n\xFF", 9, PassageFault::NotUtf8 { at: 2 }, ""),
+    (
+        b"a b\nabcde",
+        4,
+        PassageFault::ParagraphTooLong { start: 4 },
+        "a ÷b\n",
+    ),
+    (b"a b", 0, PassageFault::Limit, ""),
+];
+
+/// The read that fails, of reads of one byte, and what is written before it.
+const FAILED_READS: [(u64, &str); 4] = [(0, ""), (3, ""), (4, ""), (5, "a ÷b\n")];
 
 #[test]
 fn refusals(rt: HostRuntime) -> Result<(), Fail> {
-    let alloc = rt.alloc();
-    let cells = read_cells(alloc, SAMPLE_FILES)?;
-    for (text, limit, fault, out) in [
-        (
-            b"a b\nb\xFF".as_slice(),
-            9,
-            PassageFault::NotUtf8 { at: 5 },
-            "a ÷b\n",
-        ),
-        (b"a\n\xFF", 9, PassageFault::NotUtf8 { at: 2 }, ""),
-        (
-            b"a b\nabcde",
-            4,
-            PassageFault::ParagraphTooLong { start: 4 },
-            "a ÷b\n",
-        ),
-        (b"a b", 0, PassageFault::Limit, ""),
-    ] {
-        let mut source = MemorySource::new(text);
-        let mut sink = MemorySink::new(alloc, ROOM)?;
-        let answer = mark(alloc, &mut source, &mut sink, &cells, limit, Profile::First);
-        assert_eq!(rt; answer, Err(CmdFault::Passage(fault)), "{text:?}");
-        assert_eq!(rt; sink.bytes(), out.as_bytes(), "{text:?}");
+    let cells = sample_cells(rt.alloc())?;
+    let setting = Setting {
+        limit: 9,
+        ..Setting::new(rt.alloc(), &cells, Profile::First)
+    };
+    for (text, limit, fault, out) in &REFUSED {
+        let setting = Setting {
+            limit: *limit,
+            ..setting
+        };
+        let run = whole(Task::Mark, text);
+        let _ = run.check(&rt, setting, End::refused(*fault), out)?;
     }
-    for (read, out) in [(0, ""), (3, ""), (4, ""), (5, "a ÷b\n")] {
-        let mut source = MemorySource::cut(b"a b\nc", &[1]).failing_at(read);
-        let mut sink = MemorySink::new(alloc, ROOM)?;
-        let answer = mark(alloc, &mut source, &mut sink, &cells, 9, Profile::First);
-        assert_eq!(rt; answer, Err(CmdFault::Passage(PassageFault::Read)));
-        assert_eq!(rt; sink.bytes(), out.as_bytes(), "{read}");
+    for (read, out) in &FAILED_READS {
+        let run = Run {
+            sizes: &[1],
+            failing: Some(*read),
+            ..whole(Task::Mark, b"a b\nc")
+        };
+        let _ = run.check(&rt, setting, End::refused(PassageFault::Read), out)?;
     }
     Ok(())
 }
 
-#[test]
-fn by_words(rt: HostRuntime) -> Result<(), Fail> {
-    let alloc = rt.alloc();
+/// How a run by words ends over the sample files.
+fn ended(
+    alloc: Global,
+    words: &[&str],
+    source: &mut MemorySource<'_>,
+    sink: &mut MemorySink,
+) -> Ending {
     let files = [
         ("L", SAMPLE_FILES.line_break),
         ("E", SAMPLE_FILES.east_asian),
         ("C", SAMPLE_FILES.category),
         ("M", SAMPLE_FILES.emoji),
     ];
-    let words = [
-        "mark",
-        "--line-break",
-        "L",
-        "--east-asian",
-        "E",
-        "--category",
-        "C",
-        "--emoji",
-        "M",
-        "--limit",
-        "6",
-    ];
-    for (text, out, status) in [("ab cd\n", "ab ÷cd\n", 0), ("a\nabcdefg", "a\n", 1)] {
-        let mut source = MemorySource::new(text.as_bytes());
-        let mut sink = MemorySink::new(alloc, ROOM)?;
-        let store = MemoryStore::new(files.as_slice());
-        let ending: Ending = run(alloc, words.as_slice(), &store, &mut source, &mut sink);
-        assert_eq!(rt; ending.status(), status);
-        assert_eq!(rt; sink.bytes(), out.as_bytes());
-    }
+    let store = MemoryStore::new(files.as_slice());
+    run(alloc, words, &store, source, sink)
+}
+
+const WORDS: [&str; 11] = [
+    "mark",
+    "--line-break",
+    "L",
+    "--east-asian",
+    "E",
+    "--category",
+    "C",
+    "--emoji",
+    "M",
+    "--limit",
+    "6",
+];
+
+fn check_words(
+    rt: &impl Abort,
+    alloc: Global,
+    text: &str,
+    out: &str,
+    status: u8,
+) -> Result<(), AllocError> {
+    let mut source = cut_source(text.as_bytes(), &[]);
+    let mut sink = memory_sink(alloc, ROOM, usize::MAX)?;
+    let ending = ended(alloc, &WORDS, &mut source, &mut sink);
+    assert_eq!(rt; ending.status(), status);
+    assert_eq!(rt; sink.bytes(), out.as_bytes());
+    Ok(())
+}
+
+#[test]
+fn by_words(rt: HostRuntime) -> Result<(), Fail> {
+    check_words(&rt, rt.alloc(), "ab cd\n", "ab ÷cd\n", 0)?;
+    check_words(&rt, rt.alloc(), "a\nabcdefg", "a\n", 1)?;
     Ok(())
 }

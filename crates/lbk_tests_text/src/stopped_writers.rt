@@ -1,17 +1,20 @@
 //! A writer that stops: for each n below the length of the output exactly the first n bytes went out, and the answer is
 //! a failed write.
 
-use crate::tasks::{Setting, Task};
-use lbk_cmd::{SAMPLE_FILES, read_cells};
-use lbk_feed::devices::{MemorySink, MemorySource};
+use crate::calls::{cut_source, memory_sink, sample_cells};
+use crate::tasks::{End, Setting, Task};
 use lbk_feed::{Device, Sink};
 use lbk_notation::Form;
 use lbk_rules::Profile;
 use lbk_tests_rows::replayed::{FOUR_LINES, FOUR_LINES_TEXT};
+use std::alloc::AllocError;
+use std::process::Abort;
 use std::test::Fail;
 
 /// What is run, its input, and what it writes.
-const RUNS: [(Task, &str, &str); 4] = [
+type Row = (Task, &'static str, &'static str);
+
+const RUNS: [Row; 4] = [
     (Task::Mark, "a b\r\nc", "a ÷b\r\nc\n"),
     (
         Task::Show,
@@ -26,50 +29,80 @@ const RUNS: [(Task, &str, &str); 4] = [
     (Task::Replay(Form::Plain), FOUR_LINES, FOUR_LINES_TEXT),
 ];
 
+/// Compares how a run into so much room ended, how many writes failed, and what went out.
+fn check(rt: &impl Abort, row: Row, room: usize, end: End, failures: u64, written: &[u8]) {
+    let (task, _, output) = row;
+    let stopped = room < output.len();
+    assert_eq!(rt; end == task.failed_write(), stopped, "{task:?} {room}");
+    assert_eq!(rt; failures, u64::from(stopped));
+    assert_eq!(rt; Some(written), output.as_bytes().get(..room));
+}
+
+fn check_sink(
+    rt: &impl Abort,
+    setting: Setting<'_>,
+    row: Row,
+    room: usize,
+    most: usize,
+) -> Result<(), AllocError> {
+    let (task, input, _) = row;
+    let mut source = cut_source(input.as_bytes(), &[]);
+    let mut sink = memory_sink(setting.alloc, room, most)?;
+    let end = task.run(setting, &mut source, &mut sink);
+    check(rt, row, room, end, sink.failures(), sink.bytes());
+    Ok(())
+}
+
+/// A write takes at most this many bytes.
+fn check_sinks(
+    rt: &impl Abort,
+    setting: Setting<'_>,
+    row: Row,
+    most: usize,
+) -> Result<(), AllocError> {
+    for room in 0..=row.2.len() {
+        check_sink(rt, setting, row, room, most)?;
+    }
+    Ok(())
+}
+
 // A write takes one byte, a few, or all, until n bytes were taken.
 #[test]
 fn sinks(rt: HostRuntime) -> Result<(), Fail> {
-    let cells = read_cells(rt.alloc(), SAMPLE_FILES)?;
-    let setting = Setting {
-        alloc: rt.alloc(),
-        cells: &cells,
-        profile: Profile::First,
-    };
-    for (task, input, output) in RUNS {
-        for most in [1, 7, usize::MAX] {
-            for room in 0..=output.len() {
-                let mut source = MemorySource::new(input.as_bytes());
-                let mut sink = MemorySink::new(rt.alloc(), room)?.at_most(most);
-                let end = task.run(setting, &mut source, &mut sink);
-                let stopped = room < output.len();
-                assert_eq!(rt; end == task.failed_write(), stopped, "{task:?} {room}");
-                assert_eq!(rt; sink.failures(), u64::from(stopped));
-                assert_eq!(rt; sink.bytes(), &output.as_bytes()[..room]);
-            }
-        }
+    let cells = sample_cells(rt.alloc())?;
+    let setting = Setting::new(rt.alloc(), &cells, Profile::First);
+    for row in RUNS {
+        check_sinks(&rt, setting, row, 1)?;
+        check_sinks(&rt, setting, row, 7)?;
+        check_sinks(&rt, setting, row, usize::MAX)?;
     }
+    Ok(())
+}
+
+fn check_writer(
+    rt: &impl Abort,
+    setting: Setting<'_>,
+    row: Row,
+    room: usize,
+) -> Result<(), AllocError> {
+    let (task, input, _) = row;
+    let mut taken = vec![in setting.alloc; 0u8; room]?;
+    let mut source = cut_source(input.as_bytes(), &[]);
+    let mut device = Device::new(taken.as_mut_slice());
+    let end = task.run(setting, &mut source, &mut device);
+    let failures = device.failures();
+    check(rt, row, room, end, failures, &taken);
     Ok(())
 }
 
 // A writer of std over n bytes takes no byte once they are full, which is no failure of its own.
 #[test]
 fn writers_of_std(rt: HostRuntime) -> Result<(), Fail> {
-    let cells = read_cells(rt.alloc(), SAMPLE_FILES)?;
-    let setting = Setting {
-        alloc: rt.alloc(),
-        cells: &cells,
-        profile: Profile::First,
-    };
-    for (task, input, output) in RUNS {
-        for room in 0..=output.len() {
-            let mut taken = vec![in rt.alloc(); 0u8; room]?;
-            let mut source = MemorySource::new(input.as_bytes());
-            let mut device = Device::new(taken.as_mut_slice());
-            let end = task.run(setting, &mut source, &mut device);
-            let stopped = room < output.len();
-            assert_eq!(rt; end == task.failed_write(), stopped, "{task:?} {room}");
-            assert_eq!(rt; device.failures(), u64::from(stopped));
-            assert_eq!(rt; taken.as_slice(), &output.as_bytes()[..room]);
+    let cells = sample_cells(rt.alloc())?;
+    let setting = Setting::new(rt.alloc(), &cells, Profile::First);
+    for row in RUNS {
+        for room in 0..=row.2.len() {
+            check_writer(&rt, setting, row, room)?;
         }
     }
     Ok(())

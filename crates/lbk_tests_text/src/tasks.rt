@@ -1,19 +1,19 @@
 //! What reads a text or a test file and writes, by a name that a table can hold.
 
-use crate::segmented::told;
-use lbk_cmd::{CmdFault, mark, segment, show};
-use lbk_feed::devices::{MemorySink, MemorySource};
-use lbk_feed::{Sink, Source, write_all};
-use lbk_notation::{Form, ReplayFault, Report, replay};
-use lbk_passage::{PassageFault, Segmenter};
+use crate::calls::{mark_to, replay_to, segment_to, segmenter, show_to, write_line_to};
+use crate::segmented::told_next;
+use lbk_cmd::CmdFault;
+use lbk_feed::{Sink, Source};
+use lbk_notation::{Form, ReplayFault, Report};
+use lbk_passage::PassageFault;
 use lbk_rules::{CellPages, Profile};
-use std::alloc::{AllocError, Global};
+use std::alloc::Global;
 
 /// The most bytes of a paragraph.
 pub const LIMIT: u32 = 65_536;
 
 /// The most bytes that a run writes.
-const ROOM: usize = 4096;
+pub const ROOM: usize = 4096;
 
 /// What is run.
 #[derive(Clone, Copy, Debug, PartialEq, Eq)]
@@ -31,7 +31,19 @@ pub enum Task {
 pub struct Setting<'a> {
     pub alloc: Global,
     pub cells: &'a CellPages,
+    pub limit: u32,
     pub profile: Profile,
+}
+
+impl<'a> Setting<'a> {
+    pub fn new(alloc: Global, cells: &'a CellPages, profile: Profile) -> Setting<'a> {
+        Setting {
+            alloc,
+            cells,
+            limit: LIMIT,
+            profile,
+        }
+    }
 }
 
 /// How a run ends.
@@ -41,11 +53,11 @@ pub enum End {
     File(Result<Report, ReplayFault>),
 }
 
-/// How a run ended, and the sink that it wrote to.
-#[derive(Drop)]
-pub struct Ran {
-    pub end: End,
-    pub sink: MemorySink,
+impl End {
+    /// The end of a text that is refused.
+    pub fn refused(fault: PassageFault) -> End {
+        End::Text(Err(CmdFault::Passage(fault)))
+    }
 }
 
 impl Task {
@@ -55,36 +67,20 @@ impl Task {
         reader: &mut R,
         writer: &mut W,
     ) -> End {
-        let Setting {
-            alloc,
-            cells,
-            profile,
-        } = setting;
         match self {
             Task::Passages => End::Text(tell_all(setting, reader, writer)),
-            Task::Mark => End::Text(mark(alloc, reader, writer, cells, LIMIT, profile)),
-            Task::Show => End::Text(show(alloc, reader, writer, cells, LIMIT, profile)),
-            Task::Segment => End::Text(segment(alloc, reader, writer, cells, LIMIT, profile)),
-            Task::Replay(form) => End::File(replay(alloc, reader, writer, cells, form, profile)),
+            Task::Mark => End::Text(mark_to(setting, reader, writer)),
+            Task::Show => End::Text(show_to(setting, reader, writer)),
+            Task::Segment => End::Text(segment_to(setting, reader, writer)),
+            Task::Replay(form) => End::File(replay_to(setting, form, reader, writer)),
         }
-    }
-
-    /// Runs from a source into a sink that takes all.
-    pub fn run_whole(
-        self,
-        setting: Setting<'_>,
-        source: &mut MemorySource<'_>,
-    ) -> Result<Ran, AllocError> {
-        let mut sink = MemorySink::new(setting.alloc, ROOM)?;
-        let end = self.run(setting, source, &mut sink);
-        Ok(Ran { end, sink })
     }
 
     /// The end after a failed read.
     pub fn failed_read(self) -> End {
         match self {
             Task::Replay(_) => End::File(Err(ReplayFault::Read)),
-            _ => End::Text(Err(CmdFault::Passage(PassageFault::Read))),
+            _ => End::refused(PassageFault::Read),
         }
     }
 
@@ -103,13 +99,18 @@ fn tell_all<R: Source, W: Sink>(
     reader: &mut R,
     writer: &mut W,
 ) -> Result<(), CmdFault> {
-    let mut segmenter = Segmenter::new(setting.alloc, setting.cells, LIMIT, setting.profile)?;
+    let Setting {
+        alloc,
+        cells,
+        limit,
+        profile,
+    } = setting;
+    let mut segmenter = segmenter(alloc, cells, limit, profile)?;
     for _ in 0..ROOM {
-        let Some(passage) = segmenter.next(reader)? else {
+        let Some(line) = told_next(alloc, &mut segmenter, reader)? else {
             return Ok(());
         };
-        write_all(writer, told(setting.alloc, &passage)?.as_bytes())?;
-        write_all(writer, b"\n")?;
+        write_line_to(writer, line.as_str())?;
     }
     Err(CmdFault::Memory)
 }
