@@ -1,10 +1,11 @@
 //! What a person reads where a run is refused.
 
 use lbk_cmd::{CmdFault, RunFault};
+use lbk_files::name_in_database;
 use lbk_notation::ReplayFault;
 use lbk_passage::PassageFault;
 use lbk_ucd::{UcdCause, UcdFault, Which};
-use lbk_words::{Engine, FileNames, Order};
+use lbk_words::{Engine, FileName, FileNames, Order};
 use std::fmt;
 
 /// A fault in one line that a person can act on and an editor can jump by.
@@ -35,11 +36,31 @@ impl<'a> fmt::Display for Message<'a> {
     }
 }
 
-/// A name in one line: a control character, as a line end, is written as `\u` and its code in braces.
+/// The name of a property file.
 #[derive(Clone, Copy)]
-struct Name<'a>(&'a str);
+enum Name<'a> {
+    /// As it stands in the words, or that of a sample file.
+    Whole(&'a str),
+    /// That of a file in a folder.
+    InFolder(&'a str, Which),
+}
 
 impl<'a> fmt::Display for Name<'a> {
+    fn fmt<W: fmt::Write>(&self, f: &mut fmt::Formatter<W>) -> fmt::Result {
+        match *self {
+            Name::Whole(name) => write!(f, "{}", OneLine(name)),
+            Name::InFolder(folder, which) => {
+                write!(f, "{}/{}", OneLine(folder), name_in_database(which))
+            }
+        }
+    }
+}
+
+/// A name in one line: a control character, as a line end, is written as `\u` and its code in braces.
+#[derive(Clone, Copy)]
+struct OneLine<'a>(&'a str);
+
+impl<'a> fmt::Display for OneLine<'a> {
     fn fmt<W: fmt::Write>(&self, f: &mut fmt::Formatter<W>) -> fmt::Result {
         for c in self.0.chars() {
             if c.is_control() {
@@ -56,9 +77,12 @@ impl<'a> Message<'a> {
     /// The file's name as it was given; without words, that of the sample file.
     fn name(&self, which: Which) -> Name<'a> {
         let Some(order) = self.order else {
-            return Name(sample_name(which));
+            return Name::Whole(sample_name(which));
         };
-        Name(name_in(order.files, which))
+        match name_in(order.files, which) {
+            FileName::Given(name) => Name::Whole(name),
+            FileName::InFolder(folder) => Name::InFolder(folder, which),
+        }
     }
 
     /// `FILE:LINE: cause`, or `FILE: cause` where the whole file is meant.
@@ -110,7 +134,7 @@ impl<'a> Message<'a> {
     }
 }
 
-fn name_in<'a>(files: FileNames<'a>, which: Which) -> &'a str {
+fn name_in<'a>(files: FileNames<'a>, which: Which) -> FileName<'a> {
     match which {
         Which::LineBreak => files.line_break,
         Which::EastAsianWidth => files.east_asian,

@@ -1,29 +1,36 @@
--- What a store tells of the files that are named.
-use Rattle.std.specs.Prelude.{◌≡◌, ℕ, List, Option, ⊤}
+-- The files that are named, and what a store tells of them.
+use Rattle.std.specs.Prelude.{◌≡◌, ℕ, List, ◌∷◌, ◌++◌, Option, ⊤, codes}
 use Rattle.lbk_ucd.specs.declared.values.Which.{Which}
-use Rattle.lbk_words.specs.declared.order.FileNames.{FileNames}
-use Rattle.lbk_words.specs.Task.{Task}
+use Rattle.lbk_ucd.specs.declared.values.Which.TheVariants.{LineBreak, EastAsianWidth, Category, Emoji}
+use Rattle.lbk_words.specs.Task.{Named, NamedFiles, given, in_folder}
 use Rattle.lbk_files.specs.Store.{IsUnreadable}
 use Rattle.lbk_files.specs.FileFault.{FourFiles}
 use Rattle.lbk_files.specs.declared.faults.CellsFault.{CellsFault}
 use Rattle.lbk_files.specs.declared.faults.CellsFault.TheVariants.{Load, Tables, Memory}
 
--- the four files of a task
-abbrev pub files_of : (List ℕ → Option (Option (List ℕ))) → Task → FourFiles
-files_of file task = record {
-  line_break = file task.line_break;
-  east_asian = file task.east_asian;
-  category = file task.category;
-  emoji = file task.emoji;
-}
+-- the name of each file in a folder of the Unicode Character Database
+abbrev pub name_in_database : Which → List ℕ
+name_in_database LineBreak = codes "LineBreak.txt"
+name_in_database EastAsianWidth = codes "EastAsianWidth.txt"
+name_in_database Category = codes "extracted/DerivedGeneralCategory.txt"
+name_in_database Emoji = codes "emoji/emoji-data.txt"
 
--- the four files by their names
-abbrev pub told_files : (List ℕ → Option (Option (List ℕ))) → FileNames → FourFiles
-told_files file names = record {
-  line_break = file names.line_break.now;
-  east_asian = file names.east_asian.now;
-  category = file names.category.now;
-  emoji = file names.emoji.now;
+-- the name of a file of a folder, behind the folder's name and a slash (47)
+abbrev pub joined : List ℕ → Which → List ℕ
+joined folder which = folder ++ (47 ∷ name_in_database which)
+
+-- the name by which a file is loaded
+abbrev pub name_of : Which → Named → List ℕ
+name_of which (given name) = name
+name_of which (in_folder folder) = joined folder which
+
+-- what is told of the four files
+abbrev pub files_of : (List ℕ → Option (Option (List ℕ))) → NamedFiles → FourFiles
+files_of file files = record {
+  line_break = file (name_of LineBreak files.line_break);
+  east_asian = file (name_of EastAsianWidth files.east_asian);
+  category = file (name_of Category files.category);
+  emoji = file (name_of Emoji files.emoji);
 }
 
 -- why one file is not loaded

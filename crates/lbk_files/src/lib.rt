@@ -2,6 +2,7 @@
 #![tactic(auto)]
 
 mod cells;
+mod database;
 mod faults;
 mod front;
 mod loading;
@@ -10,6 +11,7 @@ mod readiness;
 mod store;
 
 pub use cells::{SAMPLE_FILES, read_cells, sample_cells};
+pub use database::name_in_database;
 pub use faults::{CellsFault, Stop};
 pub use front::read_front;
 pub use loading::{GREATEST_FILE, load_cells};

@@ -3,14 +3,16 @@
 ghost use Rattle.std.specs.Prelude.{MatchResult};
 ghost use Rattle.lbk_rules.specs.CellPages.{page_cell};
 ghost use Rattle.lbk_files.specs.FileFault.{AreCellsFrom, IsFileFault, IsLoaded};
-ghost use Rattle.lbk_files.specs.Named.{IsOneFault, told_files};
+ghost use Rattle.lbk_files.specs.Named.{IsOneFault, files_of, name_of};
+ghost use Rattle.lbk_words.specs.Task.{files_of_names, named_of};
 
 use super::cells::read_cells;
+use super::database::joined;
 use super::faults::CellsFault;
 use super::store::{LoadFault, Store};
 use lbk_rules::CellPages;
 use lbk_ucd::{Files, Which};
-use lbk_words::FileNames;
+use lbk_words::{FileName, FileNames};
 use std::alloc::Global;
 
 /// The most bytes of a property file. One more is loaded, so that a longer file is refused as too long.
@@ -25,8 +27,8 @@ pub fn load_cells<S: Store>(
     names: &FileNames<'_>,
     store: &S,
 ) -> Result<CellPages, CellsFault>
-    ensures { MatchResult result (λ pages. AreCellsFrom (told_files (S.file store.now) names.now) (page_cell pages))
-        (IsFileFault (told_files (S.file store.now) names.now)) }
+    ensures { MatchResult result (λ pages. AreCellsFrom (files_of (S.file store.now) (files_of_names names.now)) (page_cell pages))
+        (IsFileFault (files_of (S.file store.now) (files_of_names names.now))) }
 {
     let line_break = load_file(alloc, names.line_break, store, Which::LineBreak)?;
     let east_asian = load_file(alloc, names.east_asian, store, Which::EastAsianWidth)?;
@@ -43,8 +45,29 @@ pub fn load_cells<S: Store>(
     )
 }
 
-#[tactic(auto, unfolding(crate::specs::FileFault::greatest_file))]
+/// The bytes of one file, by the name of its option or in the folder.
 fn load_file<S: Store>(
+    alloc: Global,
+    file: FileName<'_>,
+    store: &S,
+    which: Which,
+) -> Result<Vec<u8>, CellsFault>
+    ensures { MatchResult result (λ bytes. IsLoaded (S.file store.now (name_of which (named_of file.entry))) bytes.items)
+        (IsOneFault (S.file store.now (name_of which (named_of file.entry))) which) }
+{
+    match file {
+        FileName::Given(name) => load_named(alloc, name, store, which),
+        FileName::InFolder(folder) => {
+            let Ok(name) = joined(alloc, folder, which) else {
+                return Err(CellsFault::Memory);
+            };
+            load_named(alloc, name.as_str(), store, which)
+        }
+    }
+}
+
+#[tactic(auto, unfolding(crate::specs::FileFault::greatest_file))]
+fn load_named<S: Store>(
     alloc: Global,
     name: &str,
     store: &S,
