@@ -1,12 +1,12 @@
 -- The files that are named, and what a store tells of them.
-use Rattle.std.specs.Prelude.{◌≡◌, ℕ, List, ◌∷◌, ◌++◌, Option, ⊤, codes}
+use Rattle.std.specs.Prelude.{◌≡◌, ℕ, List, ◌∷◌, ◌++◌, Option, true, false, ⊤, codes}
 use Rattle.lbk_ucd.specs.declared.values.Which.{Which}
 use Rattle.lbk_ucd.specs.declared.values.Which.TheVariants.{LineBreak, EastAsianWidth, Category, Emoji}
 use Rattle.lbk_words.specs.Task.{Named, NamedFiles, given, in_folder}
 use Rattle.lbk_files.specs.Store.{IsUnreadable}
-use Rattle.lbk_files.specs.FileFault.{FourFiles}
+use Rattle.lbk_files.specs.FileFault.{FourFiles, IsUnlikeItsClaim, Told}
 use Rattle.lbk_files.specs.declared.faults.CellsFault.{CellsFault}
-use Rattle.lbk_files.specs.declared.faults.CellsFault.TheVariants.{Load, Tables, Memory}
+use Rattle.lbk_files.specs.declared.faults.CellsFault.TheVariants.{Load, Claim, Tables, Memory}
 
 -- the name of each file in a folder of the Unicode Character Database
 abbrev pub name_in_database : Which → List ℕ
@@ -19,22 +19,23 @@ name_in_database Emoji = codes "emoji/emoji-data.txt"
 abbrev pub joined : List ℕ → Which → List ℕ
 joined folder which = folder ++ (47 ∷ name_in_database which)
 
--- the name by which a file is loaded
-abbrev pub name_of : Which → Named → List ℕ
-name_of which (given name) = name
-name_of which (in_folder folder) = joined folder which
+-- what is told of a file: of one that an option names, or of one of a folder, which has to be what it claims
+abbrev pub told_of : (List ℕ → Option (Option (List ℕ))) → Which → Named → Told
+told_of file which (given name) = record { contents = file name; is_claimed = false }
+told_of file which (in_folder folder) = record { contents = file (joined folder which); is_claimed = true }
 
 -- what is told of the four files
 abbrev pub files_of : (List ℕ → Option (Option (List ℕ))) → NamedFiles → FourFiles
 files_of file files = record {
-  line_break = file (name_of LineBreak files.line_break);
-  east_asian = file (name_of EastAsianWidth files.east_asian);
-  category = file (name_of Category files.category);
-  emoji = file (name_of Emoji files.emoji);
+  line_break = told_of file LineBreak files.line_break;
+  east_asian = told_of file EastAsianWidth files.east_asian;
+  category = told_of file Category files.category;
+  emoji = told_of file Emoji files.emoji;
 }
 
 -- why one file is not loaded
-abbrev pub IsOneFault : Option (Option (List ℕ)) → Which → CellsFault → Type 0
-IsOneFault file which (Load other) = (other ≡ which) × IsUnreadable file
-IsOneFault file which (Tables fault) = ⊥
-IsOneFault file which Memory = ⊤
+abbrev pub IsOneFault : Which → Told → CellsFault → Type 0
+IsOneFault which file (Load other) = (other ≡ which) × IsUnreadable file.contents
+IsOneFault which file (Claim other cause) = (other ≡ which) × IsUnlikeItsClaim which cause file
+IsOneFault which file (Tables fault) = ⊥
+IsOneFault which file Memory = ⊤

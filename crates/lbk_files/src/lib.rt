@@ -7,6 +7,7 @@ mod faults;
 mod front;
 mod loading;
 mod memory_store;
+mod published;
 mod readiness;
 mod store;
 
@@ -16,5 +17,6 @@ pub use faults::{CellsFault, Stop};
 pub use front::read_front;
 pub use loading::{GREATEST_FILE, load_cells};
 pub use memory_store::MemoryStore;
+pub use published::{ClaimCause, Version, check_claim};
 pub use readiness::{Ready, prepare};
 pub use store::{LoadFault, Store};
