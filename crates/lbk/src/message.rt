@@ -1,10 +1,11 @@
 //! What a person reads where a run is refused.
 
-use lbk_cmd::{CmdFault, RunFault};
+use lbk_cmd::{ClaimCause, CmdFault, RunFault};
+use lbk_files::name_in_database;
 use lbk_notation::ReplayFault;
 use lbk_passage::PassageFault;
 use lbk_ucd::{UcdCause, UcdFault, Which};
-use lbk_words::{Engine, FileNames, Order};
+use lbk_words::{Engine, FileName, FileNames, Order};
 use std::fmt;
 
 /// A fault in one line that a person can act on and an editor can jump by.
@@ -19,6 +20,7 @@ impl<'a> fmt::Display for Message<'a> {
     fn fmt<W: fmt::Write>(&self, f: &mut fmt::Formatter<W>) -> fmt::Result {
         match self.fault {
             RunFault::Load(which) => write!(f, "{}: the file cannot be read", self.name(which)),
+            RunFault::Claim(which, cause) => self.claim_fault(f, which, cause),
             RunFault::Tables(fault) => self.table_fault(f, fault),
             RunFault::Cmd(CmdFault::Passage(fault)) => self.passage_fault(f, fault),
             RunFault::Cmd(CmdFault::Write) | RunFault::Replay(ReplayFault::Write) => {
@@ -35,11 +37,34 @@ impl<'a> fmt::Display for Message<'a> {
     }
 }
 
-/// A name in one line: a control character, as a line end, is written as `\u` and its code in braces.
+/// The name of a property file.
 #[derive(Clone, Copy)]
-struct Name<'a>(&'a str);
+enum Name<'a> {
+    /// That of a sample file.
+    Sample(Which),
+    /// As it stands in the words.
+    Given(&'a str),
+    /// That of a file in a folder.
+    InFolder(&'a str, Which),
+}
 
 impl<'a> fmt::Display for Name<'a> {
+    fn fmt<W: fmt::Write>(&self, f: &mut fmt::Formatter<W>) -> fmt::Result {
+        match *self {
+            Name::Sample(which) => write!(f, "sample {}", plain_name(which)),
+            Name::Given(name) => write!(f, "{}", OneLine(name)),
+            Name::InFolder(folder, which) => {
+                write!(f, "{}/{}", OneLine(folder), name_in_database(which))
+            }
+        }
+    }
+}
+
+/// A name in one line: a control character, as a line end, is written as `\u` and its code in braces.
+#[derive(Clone, Copy)]
+struct OneLine<'a>(&'a str);
+
+impl<'a> fmt::Display for OneLine<'a> {
     fn fmt<W: fmt::Write>(&self, f: &mut fmt::Formatter<W>) -> fmt::Result {
         for c in self.0.chars() {
             if c.is_control() {
@@ -56,9 +81,12 @@ impl<'a> Message<'a> {
     /// The file's name as it was given; without words, that of the sample file.
     fn name(&self, which: Which) -> Name<'a> {
         let Some(order) = self.order else {
-            return Name(sample_name(which));
+            return Name::Sample(which);
         };
-        Name(name_in(order.files, which))
+        match name_in(order.files, which) {
+            FileName::Given(name) => Name::Given(name),
+            FileName::InFolder(folder) => Name::InFolder(folder, which),
+        }
     }
 
     /// `FILE:LINE: cause`, or `FILE: cause` where the whole file is meant.
@@ -73,6 +101,36 @@ impl<'a> Message<'a> {
             write!(f, "{name}: {cause}")
         } else {
             write!(f, "{name}:{}: {cause}", fault.line)
+        }
+    }
+
+    /// What a file of the folder is, that is not the file of Unicode 15.0.
+    fn claim_fault<W: fmt::Write>(
+        &self,
+        f: &mut fmt::Formatter<W>,
+        which: Which,
+        cause: ClaimCause,
+    ) -> fmt::Result {
+        write!(f, "{}: ", self.name(which))?;
+        match cause {
+            ClaimCause::Title => write!(
+                f,
+                "this is not {} as Unicode 15.0 published it",
+                plain_name(which)
+            ),
+            ClaimCause::Version(version) => match which {
+                Which::Emoji => write!(
+                    f,
+                    "this is of Emoji {}.{}, and lbk goes by 15.0",
+                    version.major, version.minor
+                ),
+                _ => write!(
+                    f,
+                    "this is of Unicode {}.{}.{}, and lbk goes by 15.0.0",
+                    version.major, version.minor, version.update
+                ),
+            },
+            ClaimCause::End => write!(f, "the file is cut: its last line is missing"),
         }
     }
 
@@ -110,7 +168,7 @@ impl<'a> Message<'a> {
     }
 }
 
-fn name_in<'a>(files: FileNames<'a>, which: Which) -> &'a str {
+fn name_in<'a>(files: FileNames<'a>, which: Which) -> FileName<'a> {
     match which {
         Which::LineBreak => files.line_break,
         Which::EastAsianWidth => files.east_asian,
@@ -119,12 +177,13 @@ fn name_in<'a>(files: FileNames<'a>, which: Which) -> &'a str {
     }
 }
 
-fn sample_name(which: Which) -> &'static str {
+/// The name of a file without its folder.
+fn plain_name(which: Which) -> &'static str {
     match which {
-        Which::LineBreak => "sample LineBreak.txt",
-        Which::EastAsianWidth => "sample EastAsianWidth.txt",
-        Which::Category => "sample DerivedGeneralCategory.txt",
-        Which::Emoji => "sample emoji-data.txt",
+        Which::LineBreak => "LineBreak.txt",
+        Which::EastAsianWidth => "EastAsianWidth.txt",
+        Which::Category => "DerivedGeneralCategory.txt",
+        Which::Emoji => "emoji-data.txt",
     }
 }
 

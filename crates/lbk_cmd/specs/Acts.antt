@@ -95,4 +95,4 @@ EngineRuns (Replay kinds) profile cell before after ending =
 -- a task: its files stop the run, or its engine runs with its option and profile on the cells of the files
 abbrev pub Performs : (List ℕ → Option (Option (List ℕ))) → Task → Devices → Devices → Ending → Type 0
 Performs file task before after ending = StopsBefore (IsStoppedAt file task) before after ending
-    ⊎ ((cell : ℕ → Cell) × AreCellsFrom (files_of file task) cell × EngineRuns task.engine task.profile cell before after ending)
+    ⊎ ((cell : ℕ → Cell) × AreCellsFrom (files_of file task.files) cell × EngineRuns task.engine task.profile cell before after ending)

@@ -9,7 +9,7 @@ use Rattle.lbk_files.specs.declared.faults.Stop.TheVariants as stop
 use Rattle.lbk_cmd.specs.declared.faults.CmdFault.{CmdFault}
 use Rattle.lbk_cmd.specs.declared.ending.Ending.{Ending}
 use Rattle.lbk_cmd.specs.declared.ending.Ending.TheVariants.{Done, Help, Usage, Differs, Refused}
-use Rattle.lbk_cmd.specs.declared.ending.RunFault.TheVariants.{Load, Tables, Cmd, Replay, Memory}
+use Rattle.lbk_cmd.specs.declared.ending.RunFault.TheVariants.{Load, Claim, Tables, Cmd, Replay, Memory}
 
 -- 0 done or help, 1 refused, 2 wrong words, 3 a replay with lines that differ or are refused
 abbrev pub status_of : Ending → ℕ
@@ -22,6 +22,7 @@ status_of (Refused fault) = 1
 -- files that gave no cells
 abbrev pub ending_of_files : CellsFault → Ending
 ending_of_files (cells.Load which) = Refused (Load which)
+ending_of_files (cells.Claim which cause) = Refused (Claim which cause)
 ending_of_files (cells.Tables fault) = Refused (Tables fault)
 ending_of_files cells.Memory = Refused Memory
 

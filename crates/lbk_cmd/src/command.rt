@@ -2,7 +2,7 @@
 
 ghost use Rattle.std.specs.Prelude.{◌≡◌, ◌≢◌, ◌⊎◌, Bool, [], Some, map};
 ghost use Rattle.lbk_rules.specs.CellPages.{page_cell};
-ghost use Rattle.lbk_words.specs.Command.{AreAccepted};
+ghost use Rattle.lbk_words.specs.Accepted.{AreAccepted};
 ghost use Rattle.lbk_words.specs.Task.{Task, task_by};
 ghost use Rattle.lbk_words.specs.PlainWords.{IsPlainFor};
 ghost use Rattle.lbk_files.specs.Ready.{IsStoppedByWords};

@@ -4,7 +4,7 @@ ghost use Rattle.std.specs.Prelude.{◌≡◌};
 ghost use Rattle.lbk_cmd.specs.Ending.{ending_of_files, ending_of_replay, ending_of_text, status_of};
 
 use super::faults::CmdFault;
-use lbk_files::{CellsFault, Stop};
+use lbk_files::{CellsFault, ClaimCause, Stop};
 use lbk_notation::{ReplayFault, Report};
 use lbk_ucd::{UcdFault, Which};
 
@@ -13,6 +13,8 @@ use lbk_ucd::{UcdFault, Which};
 pub enum RunFault {
     /// A property file cannot be opened or read.
     Load(Which),
+    /// A property file of a folder is not that of Unicode 15.0.
+    Claim(Which, ClaimCause),
     /// The property files were refused at their first fault, or at a line where their tables could not grow.
     Tables(UcdFault),
     /// `show` or `segment` stopped.
@@ -57,6 +59,7 @@ impl Ending {
     {
         match fault {
             CellsFault::Load(which) => Ending::Refused(RunFault::Load(which)),
+            CellsFault::Claim(which, cause) => Ending::Refused(RunFault::Claim(which, cause)),
             CellsFault::Tables(fault) => Ending::Refused(RunFault::Tables(fault)),
             CellsFault::Memory => Ending::Refused(RunFault::Memory),
         }

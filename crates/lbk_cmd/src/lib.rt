@@ -15,5 +15,6 @@ pub use ending::{Ending, RunFault};
 pub use engine::{mark, segment, show};
 pub use faults::CmdFault;
 pub use lbk_files::{
-    CellsFault, LoadFault, MemoryStore, SAMPLE_FILES, Store, read_cells, read_front,
+    CellsFault, ClaimCause, LoadFault, MemoryStore, SAMPLE_FILES, Store, Version, read_cells,
+    read_front,
 };

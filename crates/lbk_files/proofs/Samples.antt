@@ -4,7 +4,7 @@ use Rattle.lbk_ucd.specs.declared.tables.Files.{Files}
 use Rattle.lbk_ucd.specs.Samples.{AreSamples}
 use Rattle.lbk_ucd.proofs.SampleLemmas.{samples_lawful, lawful_refused}
 use Rattle.lbk_files.specs.declared.faults.CellsFault.{CellsFault}
-use Rattle.lbk_files.specs.declared.faults.CellsFault.TheVariants.{Load, Tables, Memory}
+use Rattle.lbk_files.specs.declared.faults.CellsFault.TheVariants.{Load, Claim, Tables, Memory}
 use Rattle.lbk_rules.specs.CellPages.{page_cell}
 use Rattle.lbk_rules.specs.declared.pages.CellPages.{CellPages}
 use Rattle.lbk_files.specs.Cells.{AreCellsOf}
@@ -15,6 +15,7 @@ pub wants_memory : (files : Files) (fault : CellsFault) → AreSamples files →
 wants_memory files (Tables fault) are refused = lawful_refused files fault (samples_lawful files are) refused
 wants_memory files Memory are refused = tt
 wants_memory files (Load which) are refused = refused
+wants_memory files (Claim which cause) are refused = refused
 
 -- what comes of reading them
 pub sampled : (files : Files) (result : Result CellPages CellsFault) → IfErr result (IsCellsRefusal files)

@@ -1,5 +1,5 @@
 -- The four files of a task, loaded in order, then read: what they come to.
-use Rattle.std.specs.Prelude.{◌≡◌, ℕ, ◌+◌, List, Option, ⊤}
+use Rattle.std.specs.Prelude.{ℕ, Bool, List, Option, IsTrue, ⊤}
 use Rattle.lbk_ucd.specs.declared.tables.Files.{Files}
 use Rattle.lbk_ucd.specs.declared.values.Which.{Which}
 use Rattle.lbk_ucd.specs.declared.values.Which.TheVariants.{LineBreak, EastAsianWidth, Category, Emoji}
@@ -7,42 +7,59 @@ use Rattle.lbk_ucd.specs.Files.{AreLawful, IsRefused}
 use Rattle.lbk_rules.specs.declared.cells.Cell.{Cell}
 use Rattle.lbk_rules.specs.Cells.{AreCellsOf}
 use Rattle.lbk_files.specs.Store.{IsFront, IsUnreadable}
+use Rattle.lbk_files.specs.Published.{IsAsClaimed, IsClaimCause}
+use Rattle.lbk_files.specs.declared.published.ClaimCause.{ClaimCause}
 use Rattle.lbk_files.specs.declared.faults.CellsFault.{CellsFault}
-use Rattle.lbk_files.specs.declared.faults.CellsFault.TheVariants.{Load, Tables, Memory}
+use Rattle.lbk_files.specs.declared.faults.CellsFault.TheVariants.{Load, Claim, Tables, Memory}
 
 -- the most bytes that a property file may have; one more is loaded, so that a longer file is refused as too long
 unfoldable pub greatest_file : ℕ
 greatest_file = 8388608
 
+-- what a store tells of a file, and whether it has to be what it claims, since no option names it
+pub record Told : Type 0 where
+  pub contents : Option (Option (List ℕ))
+  pub is_claimed : Bool
+
 -- what a store tells of the four files
 pub record FourFiles : Type 0 where
-  pub line_break : Option (Option (List ℕ))
-  pub east_asian : Option (Option (List ℕ))
-  pub category : Option (Option (List ℕ))
-  pub emoji : Option (Option (List ℕ))
+  pub line_break : Told
+  pub east_asian : Told
+  pub category : Told
+  pub emoji : Told
 
 -- the bytes are what a load of the file gives
-abbrev pub IsLoaded : Option (Option (List ℕ)) → List ℕ → Type 0
-IsLoaded file bytes = IsFront file greatest_file bytes
+abbrev pub IsRead : Told → List ℕ → Type 0
+IsRead file bytes = IsFront file.contents greatest_file bytes
+
+-- and they are what the file claims
+pub record IsLoaded (which : Which) (file : Told) (bytes : List ℕ) : Type 0 where
+  pub read : IsRead file bytes
+  pub claim : IsTrue file.is_claimed → IsAsClaimed which bytes
 
 -- all four are loaded
 pub record AreLoaded (four : FourFiles) (files : Files) : Type 0 where
-  pub line_break : IsLoaded four.line_break files.line_break.now
-  pub east_asian : IsLoaded four.east_asian files.east_asian.now
-  pub category : IsLoaded four.category files.category.now
-  pub emoji : IsLoaded four.emoji files.emoji.now
+  pub line_break : IsLoaded LineBreak four.line_break files.line_break.now
+  pub east_asian : IsLoaded EastAsianWidth four.east_asian files.east_asian.now
+  pub category : IsLoaded Category four.category files.category.now
+  pub emoji : IsLoaded Emoji four.emoji files.emoji.now
 
--- a file can be read
-abbrev pub IsReadable : Option (Option (List ℕ)) → Type 0
-IsReadable file = (bytes : List ℕ) × IsLoaded file bytes
+-- a file can be loaded
+abbrev pub CanLoad : Which → Told → Type 0
+CanLoad which file = (bytes : List ℕ) × IsLoaded which file bytes
 
--- the first file that cannot be read is this one
-abbrev pub IsFirstUnreadable : FourFiles → Which → Type 0
-IsFirstUnreadable four LineBreak = IsUnreadable four.line_break
-IsFirstUnreadable four EastAsianWidth = IsReadable four.line_break × IsUnreadable four.east_asian
-IsFirstUnreadable four Category = IsReadable four.line_break × IsReadable four.east_asian × IsUnreadable four.category
-IsFirstUnreadable four Emoji =
-    IsReadable four.line_break × IsReadable four.east_asian × IsReadable four.category × IsUnreadable four.emoji
+-- this file is so, and those before it can be loaded
+abbrev pub IsFirst : FourFiles → Which → (Told → Type 0) → Type 0
+IsFirst four LineBreak Is = Is four.line_break
+IsFirst four EastAsianWidth Is = CanLoad LineBreak four.line_break × Is four.east_asian
+IsFirst four Category Is = CanLoad LineBreak four.line_break × CanLoad EastAsianWidth four.east_asian × Is four.category
+IsFirst four Emoji Is = CanLoad LineBreak four.line_break × CanLoad EastAsianWidth four.east_asian
+    × CanLoad Category four.category × Is four.emoji
+
+-- a file is read that has to be what it claims, and is not
+abbrev pub IsUnlikeItsClaim : Which → ClaimCause → Told → Type 0
+IsUnlikeItsClaim which cause file =
+    IsTrue file.is_claimed × ((bytes : List ℕ) × IsRead file bytes × IsClaimCause which bytes cause)
 
 -- the cells are those of the four files, which are lawful
 pub record AreCellsFrom (four : FourFiles) (cell : ℕ → Cell) : Type 0 where
@@ -51,8 +68,9 @@ pub record AreCellsFrom (four : FourFiles) (cell : ℕ → Cell) : Type 0 where
   pub lawful : AreLawful files
   pub cells : AreCellsOf files cell
 
--- a file cannot be read, or all are loaded and refused; want of memory may come at each step
+-- a file cannot be read or is not what it claims, or all are loaded and refused; want of memory may come at each step
 abbrev pub IsFileFault : FourFiles → CellsFault → Type 0
-IsFileFault four (Load which) = IsFirstUnreadable four which
+IsFileFault four (Load which) = IsFirst four which (λ file. IsUnreadable file.contents)
+IsFileFault four (Claim which cause) = IsFirst four which (IsUnlikeItsClaim which cause)
 IsFileFault four (Tables fault) = (files : Files) × AreLoaded four files × IsRefused files fault
 IsFileFault four Memory = ⊤

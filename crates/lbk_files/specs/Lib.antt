@@ -3,6 +3,7 @@ pub use Rattle.lbk_rules.specs.Cells
 pub mod CellsRefusal
 pub mod Store
 pub mod MemoryStore
+pub mod Published
 pub mod FileFault
 pub mod Named
 pub mod SampleFiles

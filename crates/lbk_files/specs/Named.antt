@@ -1,33 +1,41 @@
--- What a store tells of the files that are named.
-use Rattle.std.specs.Prelude.{◌≡◌, ℕ, List, Option, ⊤}
+-- The files that are named, and what a store tells of them.
+use Rattle.std.specs.Prelude.{◌≡◌, ℕ, List, ◌∷◌, ◌++◌, Option, true, false, ⊤, codes}
 use Rattle.lbk_ucd.specs.declared.values.Which.{Which}
-use Rattle.lbk_words.specs.declared.order.FileNames.{FileNames}
-use Rattle.lbk_words.specs.Task.{Task}
+use Rattle.lbk_ucd.specs.declared.values.Which.TheVariants.{LineBreak, EastAsianWidth, Category, Emoji}
+use Rattle.lbk_words.specs.Task.{Named, NamedFiles, given, in_folder}
 use Rattle.lbk_files.specs.Store.{IsUnreadable}
-use Rattle.lbk_files.specs.FileFault.{FourFiles}
+use Rattle.lbk_files.specs.FileFault.{FourFiles, IsUnlikeItsClaim, Told}
 use Rattle.lbk_files.specs.declared.faults.CellsFault.{CellsFault}
-use Rattle.lbk_files.specs.declared.faults.CellsFault.TheVariants.{Load, Tables, Memory}
+use Rattle.lbk_files.specs.declared.faults.CellsFault.TheVariants.{Load, Claim, Tables, Memory}
 
--- the four files of a task
-abbrev pub files_of : (List ℕ → Option (Option (List ℕ))) → Task → FourFiles
-files_of file task = record {
-  line_break = file task.line_break;
-  east_asian = file task.east_asian;
-  category = file task.category;
-  emoji = file task.emoji;
-}
+-- the name of each file in a folder of the Unicode Character Database
+abbrev pub name_in_database : Which → List ℕ
+name_in_database LineBreak = codes "LineBreak.txt"
+name_in_database EastAsianWidth = codes "EastAsianWidth.txt"
+name_in_database Category = codes "extracted/DerivedGeneralCategory.txt"
+name_in_database Emoji = codes "emoji/emoji-data.txt"
 
--- the four files by their names
-abbrev pub told_files : (List ℕ → Option (Option (List ℕ))) → FileNames → FourFiles
-told_files file names = record {
-  line_break = file names.line_break.now;
-  east_asian = file names.east_asian.now;
-  category = file names.category.now;
-  emoji = file names.emoji.now;
+-- the name of a file of a folder, behind the folder's name and a slash (47)
+abbrev pub joined : List ℕ → Which → List ℕ
+joined folder which = folder ++ (47 ∷ name_in_database which)
+
+-- what is told of a file: of one that an option names, or of one of a folder, which has to be what it claims
+abbrev pub told_of : (List ℕ → Option (Option (List ℕ))) → Which → Named → Told
+told_of file which (given name) = record { contents = file name; is_claimed = false }
+told_of file which (in_folder folder) = record { contents = file (joined folder which); is_claimed = true }
+
+-- what is told of the four files
+abbrev pub files_of : (List ℕ → Option (Option (List ℕ))) → NamedFiles → FourFiles
+files_of file files = record {
+  line_break = told_of file LineBreak files.line_break;
+  east_asian = told_of file EastAsianWidth files.east_asian;
+  category = told_of file Category files.category;
+  emoji = told_of file Emoji files.emoji;
 }
 
 -- why one file is not loaded
-abbrev pub IsOneFault : Option (Option (List ℕ)) → Which → CellsFault → Type 0
-IsOneFault file which (Load other) = (other ≡ which) × IsUnreadable file
-IsOneFault file which (Tables fault) = ⊥
-IsOneFault file which Memory = ⊤
+abbrev pub IsOneFault : Which → Told → CellsFault → Type 0
+IsOneFault which file (Load other) = (other ≡ which) × IsUnreadable file.contents
+IsOneFault which file (Claim other cause) = (other ≡ which) × IsUnlikeItsClaim which cause file
+IsOneFault which file (Tables fault) = ⊥
+IsOneFault which file Memory = ⊤

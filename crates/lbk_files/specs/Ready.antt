@@ -1,7 +1,7 @@
 -- What the words of the program come to before an engine runs.
-use Rattle.std.specs.Prelude.{◌≡◌, ℕ, List, Option, ⊤}
+use Rattle.std.specs.Prelude.{◌≡◌, ℕ, List, Option}
 use Rattle.lbk_rules.specs.CellPages.{page_cell}
-use Rattle.lbk_words.specs.Command.{faults_of}
+use Rattle.lbk_words.specs.Accepted.{faults_of}
 use Rattle.lbk_words.specs.Refusal.{HasFault, IsCallForHelp, IsMistake}
 use Rattle.lbk_words.specs.Task.{Task}
 use Rattle.lbk_files.specs.FileFault.{AreCellsFrom, IsFileFault}
@@ -15,13 +15,13 @@ use Rattle.lbk_files.specs.declared.readiness.Ready.{Ready}
 pub record IsReadyFor (file : List ℕ → Option (Option (List ℕ))) (task : Task) (ready : Ready) : Type 0 where
   pub engine : ready.engine ≡ task.engine
   pub profile : ready.profile ≡ task.profile
-  pub cells : AreCellsFrom (files_of file task) (page_cell ready.cells)
+  pub cells : AreCellsFrom (files_of file task.files) (page_cell ready.cells)
 
 -- a task stops at its files alone
 abbrev pub IsStoppedAt : (List ℕ → Option (Option (List ℕ))) → Task → Stop → Type 0
 IsStoppedAt file task (Help text) = ⊥
 IsStoppedAt file task (Usage text) = ⊥
-IsStoppedAt file task (Refused fault) = IsFileFault (files_of file task) fault
+IsStoppedAt file task (Refused fault) = IsFileFault (files_of file task.files) fault
 
 -- words that are not accepted: help for a call for it, usage for a mistake, or want of memory
 abbrev pub IsStoppedByWords : List (List ℕ) → Stop → Type 0

@@ -5,7 +5,7 @@ use Rattle.lbk_ucd.specs.declared.fault.UcdCause.TheVariants as cause
 use Rattle.lbk_ucd.specs.Samples.{AreSamples}
 use Rattle.lbk_rules.specs.declared.cells.Cell.{Cell}
 use Rattle.lbk_files.specs.declared.faults.CellsFault.{CellsFault}
-use Rattle.lbk_files.specs.declared.faults.CellsFault.TheVariants.{Load, Tables, Memory}
+use Rattle.lbk_files.specs.declared.faults.CellsFault.TheVariants.{Load, Claim, Tables, Memory}
 use Rattle.lbk_files.specs.Cells.{AreCellsOf}
 use Rattle.lbk_files.specs.CellsRefusal.{IsCellsRefusal}
 
@@ -18,6 +18,7 @@ abbrev pub IsWantOfMemory : CellsFault → Type 0
 IsWantOfMemory (Tables fault) = fault.cause ≡ cause.Memory
 IsWantOfMemory Memory = ⊤
 IsWantOfMemory (Load which) = ⊥
+IsWantOfMemory (Claim which cause) = ⊥
 
 -- the sample files give no cells, for want of memory alone
 abbrev pub IsSampleFault : CellsFault → Type 0

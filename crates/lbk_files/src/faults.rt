@@ -1,5 +1,6 @@
 //! Why there are no cells to decide by, and why no engine runs.
 
+use super::published::ClaimCause;
 use lbk_ucd::{UcdFault, Which};
 use thiserror::Error;
 
@@ -9,6 +10,9 @@ pub enum CellsFault {
     /// The file cannot be opened or read.
     #[error("property file {0:?}: it cannot be read")]
     Load(Which),
+    /// The file has to be that of Unicode 15.0, and is not.
+    #[error("property file {0:?}: it is not that of Unicode 15.0: {1:?}")]
+    Claim(Which, ClaimCause),
     /// The property files were refused at their first fault, or at a line where their tables could not grow.
     #[error("property file {:?}, line {}: {:?}", .0.file, .0.line, .0.cause)]
     Tables(UcdFault),

@@ -3,14 +3,17 @@
 ghost use Rattle.std.specs.Prelude.{MatchResult};
 ghost use Rattle.lbk_rules.specs.CellPages.{page_cell};
 ghost use Rattle.lbk_files.specs.FileFault.{AreCellsFrom, IsFileFault, IsLoaded};
-ghost use Rattle.lbk_files.specs.Named.{IsOneFault, told_files};
+ghost use Rattle.lbk_files.specs.Named.{IsOneFault, files_of, joined, told_of};
+ghost use Rattle.lbk_words.specs.Task.{files_of_names, given, in_folder, named_of};
 
 use super::cells::read_cells;
+use super::database::joined;
 use super::faults::CellsFault;
+use super::published::check_claim;
 use super::store::{LoadFault, Store};
 use lbk_rules::CellPages;
 use lbk_ucd::{Files, Which};
-use lbk_words::FileNames;
+use lbk_words::{FileName, FileNames};
 use std::alloc::Global;
 
 /// The most bytes of a property file. One more is loaded, so that a longer file is refused as too long.
@@ -18,15 +21,17 @@ pub const GREATEST_FILE: usize = 8_388_608;
 
 /// The cells of the files that are named: they are loaded in the order of `Files`, then read.
 ///
-/// `Load` names the first that cannot be read. `Tables` and `Memory` come as in `read_cells`, and `Memory` also where a
+/// A file of a folder has to be what it claims: it names itself and Unicode 15.0 at its beginning, and has its last line.
+///
+/// `Load` names the first file that cannot be read, and `Claim` the first that is not what it claims. `Tables` and `Memory` come as in `read_cells`, and `Memory` also where a
 /// load could not grow.
 pub fn load_cells<S: Store>(
     alloc: Global,
     names: &FileNames<'_>,
     store: &S,
 ) -> Result<CellPages, CellsFault>
-    ensures { MatchResult result (λ pages. AreCellsFrom (told_files (S.file store.now) names.now) (page_cell pages))
-        (IsFileFault (told_files (S.file store.now) names.now)) }
+    ensures { MatchResult result (λ pages. AreCellsFrom (files_of (S.file store.now) (files_of_names names.now)) (page_cell pages))
+        (IsFileFault (files_of (S.file store.now) (files_of_names names.now))) }
 {
     let line_break = load_file(alloc, names.line_break, store, Which::LineBreak)?;
     let east_asian = load_file(alloc, names.east_asian, store, Which::EastAsianWidth)?;
@@ -43,15 +48,52 @@ pub fn load_cells<S: Store>(
     )
 }
 
-#[tactic(auto, unfolding(crate::specs::FileFault::greatest_file))]
+/// The bytes of one file, by the name of its option or in the folder.
 fn load_file<S: Store>(
+    alloc: Global,
+    file: FileName<'_>,
+    store: &S,
+    which: Which,
+) -> Result<Vec<u8>, CellsFault>
+    ensures { MatchResult result (λ bytes. IsLoaded which (told_of (S.file store.now) which (named_of file.entry)) bytes.items)
+        (IsOneFault which (told_of (S.file store.now) which (named_of file.entry))) }
+{
+    match file {
+        FileName::Given(name) => load_named(alloc, name, store, which),
+        FileName::InFolder(folder) => load_claimed(alloc, folder, store, which),
+    }
+}
+
+/// The bytes of a file of a folder, which has to be what it claims.
+fn load_claimed<S: Store>(
+    alloc: Global,
+    folder: &str,
+    store: &S,
+    which: Which,
+) -> Result<Vec<u8>, CellsFault>
+    ensures { MatchResult result (λ bytes. IsLoaded which (told_of (S.file store.now) which (in_folder folder.now)) bytes.items)
+        (IsOneFault which (told_of (S.file store.now) which (in_folder folder.now))) }
+{
+    let Ok(name) = joined(alloc, folder, which) else {
+        return Err(CellsFault::Memory);
+    };
+    let bytes = load_named(alloc, name.as_str(), store, which)?;
+    match check_claim(which, &bytes) {
+        Ok(()) => Ok(bytes),
+        Err(cause) => Err(CellsFault::Claim(which, cause)),
+    }
+}
+
+/// The bytes of the file of this name.
+#[tactic(auto, unfolding(crate::specs::FileFault::greatest_file))]
+fn load_named<S: Store>(
     alloc: Global,
     name: &str,
     store: &S,
     which: Which,
 ) -> Result<Vec<u8>, CellsFault>
-    ensures { MatchResult result (λ bytes. IsLoaded (S.file store.now name.now) bytes.items)
-        (IsOneFault (S.file store.now name.now) which) }
+    ensures { MatchResult result (λ bytes. IsLoaded which (told_of (S.file store.now) which (given name.now)) bytes.items)
+        (IsOneFault which (told_of (S.file store.now) which (given name.now))) }
 {
     match store.load(alloc, name, GREATEST_FILE) {
         Ok(bytes) => Ok(bytes),

@@ -1,7 +1,7 @@
 //! From the words to an engine with the cells that it decides by.
 
 ghost use Rattle.std.specs.Prelude.{◌≡◌, Some, MatchResult, map};
-ghost use Rattle.lbk_words.specs.Command.{AreAccepted};
+ghost use Rattle.lbk_words.specs.Accepted.{AreAccepted};
 ghost use Rattle.lbk_words.specs.Task.{Task, task_by, task_of};
 ghost use Rattle.lbk_words.specs.PlainWords.{IsPlainFor};
 ghost use Rattle.lbk_files.specs.Ready.{IsReadyFor, IsStoppedAt, IsStoppedByWords};

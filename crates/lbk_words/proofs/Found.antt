@@ -1,14 +1,18 @@
 -- From what `clap` answers to what the contract of `parse` says.
-use Rattle.std.proofs.Common.{◌≡◌, ◌∙◌, ℕ, List, [], ◌∷◌, Option, Some, None, inl, inr, refl, sym, subst, ap, true≢false}
-use Rattle.std.specs.Prelude.{◌⊎◌, Box, is_some, option_map}
+use Rattle.std.proofs.Common.{◌≡◌, ◌∙◌, List, [], ◌∷◌, Option, Some, None, inl, inr, refl, sym, subst, ap, ap₂, true≢false}
+use Rattle.std.specs.Prelude.{◌⊎◌, Box, is_some, option_and_then, option_map}
 use Rattle.std.specs.Box.{box_value}
-use Rattle.clap.specs.Words.{IsAmong, Kinds, Row, Text, subcommand_rows}
+use Rattle.clap.specs.Kinds.{or_else}
+use Rattle.clap.specs.Words.{IsAmong, Kinds, Row, Text, fault_of, subcommand_of, subcommand_rows}
 use Rattle.clap.specs.declared.error.kind.ErrorKind.{ErrorKind}
-use Rattle.clap.specs.declared.error.kind.ErrorKind.TheVariants.{OutOfMemory}
+use Rattle.clap.specs.declared.error.kind.ErrorKind.TheVariants.{MissingRequiredArgument, OutOfMemory}
 use Rattle.clap.specs.declared.parser.matches.ArgMatches.TheViews.{out-SubCommand}
 use Rattle.clap.specs.declared.parser.matches.SubCommand.{SubCommand}
 use Rattle.lbk_words.specs.declared.order.WordsFault.{WordsFault}
 use Rattle.lbk_words.specs.declared.order.WordsFault.TheVariants.{Help, Usage, Memory}
+use Rattle.lbk_words.specs.Accepted.{faults_of, unnamed_fault}
+use Rattle.lbk_words.specs.Command.{lbk_app}
+use Rattle.lbk_words.specs.Task.{Task, task_by, task_in}
 use Rattle.lbk_words.specs.Refusal.{HasFault, IsCallForHelp, IsMistake, IsRefusalBy}
 
 -- the name of a subcommand stands before its rows
@@ -43,3 +47,28 @@ pub only_memory : (fault : WordsFault) → IsRefusalBy [] fault → fault ≡ Me
 only_memory (Help text) h = absurd h.1
 only_memory (Usage text) h = absurd h.1
 only_memory Memory h = refl
+
+-- an answer to the faults is one to them and to what would come behind them
+pub widened : (ks more : Kinds) (fault : WordsFault) → IsRefusalBy ks fault → IsRefusalBy (or_else ks more) fault
+widened [] more (Help text) h = absurd h.1
+widened [] more (Usage text) h = absurd h.1
+widened [] more Memory h = tt
+widened (k ∷ ks) more fault h = h
+
+-- what the words ask for, by the subcommand that was found in them
+pub asked : (words : List Text) (found : Option (Text × List Row)) (name : Text) (rows : List Row) → found ≡ subcommand_of lbk_app words
+    → found ≡ Some (name, rows) → task_by words ≡ task_in (name, rows)
+asked words found name rows of pair = ap (option_and_then task_in) (sym of ∙ pair)
+
+pub not_none : (found : Option Task) (task : Task) → found ≡ Some task → ¬ (found ≡ None)
+not_none found task some none = absurd (cc)
+
+-- words that name no files have this fault alone
+pub unnamed_only : (words : List Text) (fault : WordsFault) → fault_of lbk_app words ≡ [] → task_by words ≡ None
+    → IsRefusalBy (MissingRequiredArgument ∷ []) fault → IsRefusalBy (faults_of words) fault
+unnamed_only words fault clean none refused =
+    subst (λ (ks : Kinds). IsRefusalBy ks fault) (sym (ap₂ (λ (ks : Kinds) (t : Option Task). or_else ks (unnamed_fault t)) clean none)) refused
+
+-- it is a mistake
+pub missing : HasFault IsMistake (MissingRequiredArgument ∷ [])
+missing = (MissingRequiredArgument, inl refl, ((λ e. absurd (cc)), (λ e. absurd (cc)), λ e. absurd (cc)))

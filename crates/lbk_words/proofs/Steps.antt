@@ -1,8 +1,8 @@
 -- The walk over the words of a subcommand, step by step.
-use Rattle.std.proofs.Common.{◌≡◌, ◌∙◌, ◌≢◌, ℕ, Bool, true, false, zero, suc, List, [], ◌∷◌, ◌++◌, Option, Some, None, refl, sym, ap, ap₂, eqb-true, arith}
+use Rattle.std.proofs.Common.{◌≡◌, ◌∙◌, ◌≢◌, ℕ, Bool, true, false, List, [], ◌∷◌, ◌++◌, Some, None, refl, sym, ap, ap₂, eqb-true}
 use Rattle.std.specs.Prelude.{◌==◌, is_some}
 use Rattle.std.specs.List.{fold}
-use Rattle.clap.specs.Walk.{Held, Names, Row, Rule, Step, Text, Waiting, Walk, after_step, arg_by_id, finished, idle, next, nothing_held, option, option_word, plain_word, rows_after, settled, stop_after, walk, walk_from, walked, word_met}
+use Rattle.clap.specs.Walk.{Held, Names, Row, Rule, Step, Text, Waiting, Walk, after_step, arg_by_id, finished, idle, nothing_held, option, option_word, plain_word, rows_after, settled, stop_after, walk, walk_from, walked, word_met}
 use Rattle.clap.specs.Simple.{App, Shape, entered, names_of}
 use Rattle.clap.specs.Kinds.{Kinds, or_else}
 use Rattle.clap.specs.Faults.{built_fault, check_fault, defaults_fault, entered_fault, level_fault, settle_fault, step_fault, turn_fault, walk_fault, word_fault}

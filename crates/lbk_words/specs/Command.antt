@@ -1,6 +1,6 @@
 -- The command line: the subcommands, and the options that each has.
-use Rattle.std.specs.Prelude.{◌≡◌, ℕ, true, List, [], ◌∷◌, Some, codes}
-use Rattle.clap.specs.Words.{App, Kinds, Rule, Text, fault_of, new_app, new_rule, with_rule, with_subcommand}
+use Rattle.std.specs.Prelude.{ℕ, true, [], ◌∷◌, Some, codes}
+use Rattle.clap.specs.Words.{App, Rule, Text, new_app, new_rule, with_rule, with_subcommand}
 use Rattle.clap.specs.declared.builder.action.ArgAction.TheVariants.{Set, SetTrue}
 use Rattle.clap.specs.declared.builder.value_parser.ValueParser.TheVariants.{Unsigned}
 
@@ -15,10 +15,6 @@ default_limit = 65536
 abbrev pub value_rule : Text → Rule
 value_rule name = record (new_rule name) { long = Some name; action = Some Set; value_names = 1 }
 
--- a required option with the name of a property file
-abbrev pub file_rule : Text → Rule
-file_rule name = record (value_rule name) { required = true }
-
 -- an option with a number of a range
 abbrev pub number_rule : Text → ℕ → Text → Rule
 number_rule name most default = record (value_rule name) {
@@ -30,14 +26,18 @@ number_rule name most default = record (value_rule name) {
 abbrev pub flag_rule : Text → Rule
 flag_rule name = record (new_rule name) { long = Some name; action = Some SetTrue }
 
+-- a subcommand with the folder of the property files
+abbrev pub folder_app : Text → App
+folder_app name = with_rule (new_app name) (value_rule (codes "ucd"))
+
 -- the options that each subcommand has
 abbrev pub widths_app : Text → App
-widths_app name = with_rule (with_rule (new_app name)
-    (file_rule (codes "line-break"))) (file_rule (codes "east-asian"))
+widths_app name = with_rule (with_rule (folder_app name)
+    (value_rule (codes "line-break"))) (value_rule (codes "east-asian"))
 
 abbrev pub files_app : Text → App
 files_app name = with_rule (with_rule (widths_app name)
-    (file_rule (codes "category"))) (file_rule (codes "emoji"))
+    (value_rule (codes "category"))) (value_rule (codes "emoji"))
 
 abbrev pub profile_rule : Rule
 profile_rule = number_rule (codes "profile") 2 (codes "1")
@@ -70,11 +70,3 @@ app_to_segment = with_subcommand app_to_show (limited_app (codes "segment")).top
 
 abbrev pub lbk_app : App
 lbk_app = with_subcommand app_to_segment replay_app.top
-
--- what is wrong with the words, or what they ask for in place of work, as `clap` sorts it
-abbrev pub faults_of : List Text → Kinds
-faults_of words = fault_of lbk_app words
-
--- the words are a command line of the program
-abbrev pub AreAccepted : List Text → Type 0
-AreAccepted words = faults_of words ≡ []

@@ -1,6 +1,7 @@
 -- What a reader has to believe.
 pub mod Command
 pub mod Task
+pub mod Accepted
 pub mod PlainWords
 pub mod Refusal
 -- What only carries proofs.

@@ -5,7 +5,7 @@ use Rattle.clap.specs.Words.{Text}
 use Rattle.lbk_rules.specs.declared.verdicts.Profile.{Profile}
 use Rattle.lbk_rules.specs.declared.verdicts.Profile.TheVariants.{First, Second}
 use Rattle.lbk_words.specs.Command.{default_limit, greatest_limit}
-use Rattle.lbk_words.specs.Task.{Task}
+use Rattle.lbk_words.specs.Task.{NamedFiles, Task, given, in_folder}
 use Rattle.lbk_words.specs.declared.order.Engine.{Engine}
 use Rattle.lbk_words.specs.declared.order.Engine.TheVariants.{Mark, Show, Segment, Replay}
 
@@ -45,19 +45,54 @@ name_of_engine (Show limit) = codes "show"
 name_of_engine (Segment limit) = codes "segment"
 name_of_engine (Replay kinds) = codes "replay"
 
--- the four files in order, each behind its option
-abbrev pub file_words : Task → List Text
-file_words task = codes "--line-break" ∷ task.line_break ∷ codes "--east-asian" ∷ task.east_asian
-    ∷ codes "--category" ∷ task.category ∷ codes "--emoji" ∷ task.emoji ∷ []
+-- all four files in a folder
+abbrev pub folder_files : Text → NamedFiles
+folder_files folder = record {
+  line_break = in_folder folder;
+  east_asian = in_folder folder;
+  category = in_folder folder;
+  emoji = in_folder folder;
+}
 
--- the subcommand, the four files, the engine's own option and the profile
+-- each file by a name of its own
+abbrev pub given_files : Text → Text → Text → Text → NamedFiles
+given_files line_break east_asian category emoji = record {
+  line_break = given line_break;
+  east_asian = given east_asian;
+  category = given category;
+  emoji = given emoji;
+}
+
+abbrev pub four_words : Text → Text → Text → Text → List Text
+four_words line_break east_asian category emoji = codes "--line-break" ∷ line_break ∷ codes "--east-asian" ∷ east_asian
+    ∷ codes "--category" ∷ category ∷ codes "--emoji" ∷ emoji ∷ []
+
+-- `--ucd` and the folder of all four files
+pub record AreFolderWords (files : NamedFiles) (words : List Text) : Type 0 where
+  pub folder : Text
+  pub plain : IsPlainName folder
+  pub are : words ≡ codes "--ucd" ∷ folder ∷ []
+  pub files_are : files ≡ folder_files folder
+
+-- the four files in order, each behind its option
+pub record AreFourWords (files : NamedFiles) (words : List Text) : Type 0 where
+  pub line_break : Text
+  pub east_asian : Text
+  pub category : Text
+  pub emoji : Text
+  pub plain_line_break : IsPlainName line_break
+  pub plain_east_asian : IsPlainName east_asian
+  pub plain_category : IsPlainName category
+  pub plain_emoji : IsPlainName emoji
+  pub are : words ≡ four_words line_break east_asian category emoji
+  pub files_are : files ≡ given_files line_break east_asian category emoji
+
+-- the subcommand, the files, the engine's own option and the profile
 pub record IsPlainFor (task : Task) (words : List Text) : Type 0 where
+  pub file_words : List Text
   pub engine_words : List Text
   pub profile_words : List Text
-  pub are : words ≡ name_of_engine task.engine ∷ (file_words task ++ (engine_words ++ profile_words))
-  pub line_break : IsPlainName task.line_break
-  pub east_asian : IsPlainName task.east_asian
-  pub category : IsPlainName task.category
-  pub emoji : IsPlainName task.emoji
+  pub are : words ≡ name_of_engine task.engine ∷ (file_words ++ (engine_words ++ profile_words))
+  pub files : AreFolderWords task.files file_words ⊎ AreFourWords task.files file_words
   pub engine : AreEngineWords task.engine engine_words
   pub profile : AreProfileWords task.profile profile_words

@@ -1,5 +1,5 @@
 -- What accepted words ask for, by the values that `clap` finds in them.
-use Rattle.std.specs.Prelude.{ℕ, ◌^◌, ◌==◌, ◌&&◌, Bool, false, List, [], Option, Some, None, if◌then◌else◌, nat_lt, codes, unwrap_or, option_map}
+use Rattle.std.specs.Prelude.{ℕ, ◌^◌, ◌==◌, ◌&&◌, Bool, false, List, Option, Some, None, if◌then◌else◌, nat_lt, codes, option_and_then, option_map}
 use Rattle.std.specs.Str.{bytes_eq}
 use Rattle.std.specs.Str.Parse.{digits_value, without_leading_plus}
 use Rattle.clap.specs.Words.{Row, Text, first_of, one_of, subcommand_of}
@@ -9,31 +9,66 @@ use Rattle.lbk_rules.specs.declared.verdicts.Profile.TheVariants.{First, Second}
 use Rattle.lbk_words.specs.Command.{lbk_app, default_limit}
 use Rattle.lbk_words.specs.declared.order.Engine.{Engine}
 use Rattle.lbk_words.specs.declared.order.Engine.TheVariants.{Mark, Show, Segment, Replay}
+use Rattle.lbk_words.specs.declared.order.FileName.{FileName}
+use Rattle.lbk_words.specs.declared.order.FileName.TheVariants.{Given, InFolder}
+use Rattle.lbk_words.specs.declared.order.FileNames.{FileNames}
 use Rattle.lbk_words.specs.declared.order.Order.{Order}
+
+-- how a property file is named: by an option of its own, or by the folder that it is in
+pub data Named : Type 0 where
+  given : Text → Named
+  in_folder : Text → Named
+
+-- the four files
+pub record NamedFiles : Type 0 where
+  pub line_break : Named
+  pub east_asian : Named
+  pub category : Named
+  pub emoji : Named
 
 -- an engine with its option, the names of the four files and the profile
 pub record Task : Type 0 where
   pub engine : Engine
-  pub line_break : Text
-  pub east_asian : Text
-  pub category : Text
-  pub emoji : Text
+  pub files : NamedFiles
   pub profile : Profile
+
+abbrev pub named_of : FileName → Named
+named_of (Given name) = given name.now
+named_of (InFolder folder) = in_folder folder.now
+
+abbrev pub files_of_names : FileNames → NamedFiles
+files_of_names names = record {
+  line_break = named_of names.line_break;
+  east_asian = named_of names.east_asian;
+  category = named_of names.category;
+  emoji = named_of names.emoji;
+}
 
 -- the task that an order holds
 abbrev pub task_of : Order → Task
-task_of o = record {
-  engine = o.engine;
-  line_break = o.files.line_break.now;
-  east_asian = o.files.east_asian.now;
-  category = o.files.category.now;
-  emoji = o.files.emoji.now;
-  profile = o.profile;
-}
+task_of o = record { engine = o.engine; files = files_of_names o.files; profile = o.profile }
 
--- the value of an option, and the empty text where it has none
-abbrev pub text_in : Text → List Row → Text
-text_in id rows = unwrap_or (first_of id rows) []
+-- the name that a file's own option gives, or else the folder
+abbrev pub own_or_folder : Option Text → Option Text → Option Named
+own_or_folder (Some name) folder = Some (given name)
+own_or_folder None folder = option_map in_folder folder
+
+abbrev pub named_in : Text → List Row → Option Named
+named_in id rows = own_or_folder (first_of id rows) (first_of (codes "ucd") rows)
+
+-- all four, where each is named
+abbrev pub all_four : Option Named → Option Named → Option Named → Option Named → Option NamedFiles
+all_four (Some line_break) (Some east_asian) (Some category) (Some emoji) = Some (record {
+  line_break = line_break;
+  east_asian = east_asian;
+  category = category;
+  emoji = emoji;
+})
+all_four _ _ _ _ = None
+
+abbrev pub files_in : List Row → Option NamedFiles
+files_in rows = all_four (named_in (codes "line-break") rows) (named_in (codes "east-asian") rows)
+    (named_in (codes "category") rows) (named_in (codes "emoji") rows)
 
 -- the text is a number of 32 bits in decimal, where a plus may stand first
 abbrev pub is_number : Text → Bool
@@ -65,17 +100,14 @@ engine_in name rows =
     else if bytes_eq name (codes "segment") then Segment (limit_in rows)
     else Replay (kinds_in rows)
 
--- the task of a subcommand, by the rows of its options
-abbrev pub task_in : Text × List Row → Task
-task_in found = record {
+-- the task of a subcommand, by the rows of its options, where its files are named
+abbrev pub task_in : Text × List Row → Option Task
+task_in found = option_map (λ files. record {
   engine = engine_in found.0 found.1;
-  line_break = text_in (codes "line-break") found.1;
-  east_asian = text_in (codes "east-asian") found.1;
-  category = text_in (codes "category") found.1;
-  emoji = text_in (codes "emoji") found.1;
+  files = files;
   profile = profile_in found.1;
-}
+}) (files_in found.1)
 
 -- the task that the words ask for
 abbrev pub task_by : List Text → Option Task
-task_by words = option_map task_in (subcommand_of lbk_app words)
+task_by words = option_and_then task_in (subcommand_of lbk_app words)

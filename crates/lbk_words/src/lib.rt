@@ -5,5 +5,5 @@ mod options;
 mod order;
 mod reading;
 
-pub use order::{Engine, FileNames, Order, WordsFault};
+pub use order::{Engine, FileName, FileNames, Order, WordsFault};
 pub use reading::parse;

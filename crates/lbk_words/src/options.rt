@@ -3,7 +3,7 @@
 ghost use Rattle.std.specs.Prelude.{◌≡◌, false, IfOk, codes};
 ghost use Rattle.clap.specs.Words.{app_of, rule_of};
 ghost use Rattle.lbk_words.specs.Local.{IsLocal};
-ghost use Rattle.lbk_words.specs.Command.{value_rule, file_rule, number_rule, flag_rule, greatest_limit, profile_rule, widths_app, files_app, limited_app, replay_app, bare_app, app_to_mark, app_to_show, app_to_segment, lbk_app};
+ghost use Rattle.lbk_words.specs.Command.{value_rule, number_rule, flag_rule, greatest_limit, profile_rule, folder_app, widths_app, files_app, limited_app, replay_app, bare_app, app_to_mark, app_to_show, app_to_segment, lbk_app};
 
 use clap::builder::ValueParser;
 use clap::{Arg, ArgAction, Command};
@@ -18,16 +18,25 @@ Says where the text on standard input may break and where it must, and which rul
 Without words it shows the text by four small sample files.";
 
 const EXAMPLES: &str = "\
-FILES are the four property files of the Unicode Character Database, all required:
+FOLDER is the Unicode Character Database of Unicode 15.0. Without --ucd name its files, all four:
   --line-break LineBreak.txt --east-asian EastAsianWidth.txt
   --category DerivedGeneralCategory.txt --emoji emoji-data.txt
 
 Examples:
-  lbk show FILES < text.txt                        a line for each passage
-  lbk segment FILES --limit 1000000 < text.txt     the breaks as byte offsets
-  lbk replay FILES < LineBreakTest.txt             the lines that do not agree
+  lbk mark --ucd FOLDER < text.txt                       the text with its breaks
+  lbk show --ucd FOLDER < text.txt                       a line for each passage
+  lbk segment --ucd FOLDER --limit 1000000 < text.txt    the breaks as byte offsets
+  lbk replay --ucd FOLDER < LineBreakTest.txt            the lines that do not agree
 
 Exit status: 0 done, 1 a refused file or text, 2 wrong words, 3 a replay with lines that differ or are refused.";
+
+const MARK_USAGE: &str = "lbk mark --ucd <FOLDER> [OPTIONS] < TEXT";
+
+const SHOW_USAGE: &str = "lbk show --ucd <FOLDER> [OPTIONS] < TEXT";
+
+const SEGMENT_USAGE: &str = "lbk segment --ucd <FOLDER> [OPTIONS] < TEXT";
+
+const REPLAY_USAGE: &str = "lbk replay --ucd <FOLDER> [OPTIONS] < TESTS";
 
 const MARK_ABOUT: &str = "Writes the text with ÷ at each position where a line may end";
 
@@ -43,18 +52,18 @@ const REPLAY_ABOUT: &str =
 const MARK_AFTER: &str = "\
 Nothing else is changed: where a line must end, the line end of the text shows it. A text that ends without a line
 end gets one. Example:
-  $ printf 'ab cd' | lbk mark FILES
+  $ printf 'ab cd' | lbk mark --ucd FOLDER
   ab ÷cd";
 
 const SHOW_AFTER: &str = "\
 A mark stands before and after each scalar: × no break, ÷ a break may be, ! a break must be. Example:
-  $ printf 'ab cd' | lbk show FILES
+  $ printf 'ab cd' | lbk show --ucd FOLDER
   × 0061 × 0062 × 0020 ÷ 0063 × 0064 !\t# 2 28 7 18 28 3";
 
 const SEGMENT_AFTER: &str = "\
 `P start end` is a passage, `S start end kind rule` a segment of it up to a break that may be (kind May) or must
 be (kind Must), and `W start end` a word. Places count bytes of the whole text. Example:
-  $ printf 'ab cd' | lbk segment FILES
+  $ printf 'ab cd' | lbk segment --ucd FOLDER
   P 0 5
   S 0 3 May 18
   S 3 5 Must 3
@@ -65,7 +74,7 @@ const REPLAY_AFTER: &str = "\
 `D line position file rules rule` is the first position of a line that differs, with the mark of the file and that
 of the rules; `R line place` is a line that cannot be read from its byte `place` on, and `R line long` one that is
 too long; `T lines agreed differed refused` stands at the end. Example:
-  $ printf '× 0061 ÷ 0062 ÷\\n' | lbk replay FILES
+  $ printf '× 0061 ÷ 0062 ÷\\n' | lbk replay --ucd FOLDER
   D 1 1 ÷ × 28
   T 1 0 1 0";
 
@@ -80,12 +89,22 @@ fn value_option<'a>(alloc: Global, name: &'a str, value: &'a str) -> Arg<'a>
         .value_name(value)
 }
 
-/// A required option that takes the name of a property file.
-fn file_option<'a>(alloc: Global, name: &'a str, help: &'a str) -> Arg<'a>
-    ensures rule { rule_of result ≡ file_rule name.entry.now }
+/// The option of the folder that the property files are in.
+fn folder_option<'a>(alloc: Global) -> Arg<'a>
+    ensures rule { rule_of result ≡ value_rule (codes "ucd") }
     ensures local { result.global ≡ false }
 {
-    value_option(alloc, name, "FILE").required(true).help(help)
+    value_option(alloc, "ucd", "FOLDER").help(
+        "The folder of the Unicode Character Database, which has the four files below",
+    )
+}
+
+/// An option that takes the name of a property file.
+fn file_option<'a>(alloc: Global, name: &'a str, help: &'a str) -> Arg<'a>
+    ensures rule { rule_of result ≡ value_rule name.entry.now }
+    ensures local { result.global ≡ false }
+{
+    value_option(alloc, name, "FILE").help(help)
 }
 
 /// An option that takes a number from 1 to `most`.
@@ -126,12 +145,20 @@ fn kinds_option<'a>(alloc: Global) -> Arg<'a>
         .help("Marks tell ! from ÷; without it ÷ stands for every break")
 }
 
-/// A subcommand with the options of the first two files.
+/// A subcommand with the option of the folder.
+fn with_folder<'a>(alloc: Global, name: &'a str) -> Result<Command<'a>, AllocError>
+    ensures app { IfOk result (λ c. app_of c ≡ folder_app name.entry.now) }
+    ensures local { IfOk result IsLocal }
+{
+    Command::new(alloc, name).arg(folder_option(alloc))
+}
+
+/// A subcommand with the options of the folder and of the first two files.
 fn with_widths<'a>(alloc: Global, name: &'a str) -> Result<Command<'a>, AllocError>
     ensures app { IfOk result (λ c. app_of c ≡ widths_app name.entry.now) }
     ensures local { IfOk result IsLocal }
 {
-    Command::new(alloc, name)
+    with_folder(alloc, name)?
         .arg(file_option(
             alloc,
             "line-break",
@@ -155,11 +182,16 @@ fn with_files<'a>(alloc: Global, name: &'a str) -> Result<Command<'a>, AllocErro
 }
 
 /// The command with what its help says.
-fn described<'a>(command: Command<'a>, about: &'a str, after: &'a str) -> Command<'a>
+fn described<'a>(
+    command: Command<'a>,
+    usage: &'a str,
+    about: &'a str,
+    after: &'a str,
+) -> Command<'a>
     ensures app { app_of result ≡ app_of command.entry }
     ensures local { IsLocal command.entry → IsLocal result }
 {
-    command.about(about).after_help(after)
+    command.override_usage(usage).about(about).after_help(after)
 }
 
 /// `mark`, `show` or `segment`.
@@ -176,21 +208,26 @@ fn mark<'a>(alloc: Global) -> Result<Command<'a>, AllocError>
     ensures app { IfOk result (λ c. app_of c ≡ limited_app (codes "mark")) }
     ensures local { IfOk result IsLocal }
 {
-    Ok(described(limited(alloc, "mark")?, MARK_ABOUT, MARK_AFTER))
+    Ok(described(limited(alloc, "mark")?, MARK_USAGE, MARK_ABOUT, MARK_AFTER))
 }
 
 fn show<'a>(alloc: Global) -> Result<Command<'a>, AllocError>
     ensures app { IfOk result (λ c. app_of c ≡ limited_app (codes "show")) }
     ensures local { IfOk result IsLocal }
 {
-    Ok(described(limited(alloc, "show")?, SHOW_ABOUT, SHOW_AFTER))
+    Ok(described(limited(alloc, "show")?, SHOW_USAGE, SHOW_ABOUT, SHOW_AFTER))
 }
 
 fn segment<'a>(alloc: Global) -> Result<Command<'a>, AllocError>
     ensures app { IfOk result (λ c. app_of c ≡ limited_app (codes "segment")) }
     ensures local { IfOk result IsLocal }
 {
-    Ok(described(limited(alloc, "segment")?, SEGMENT_ABOUT, SEGMENT_AFTER))
+    Ok(described(
+        limited(alloc, "segment")?,
+        SEGMENT_USAGE,
+        SEGMENT_ABOUT,
+        SEGMENT_AFTER,
+    ))
 }
 
 fn replay<'a>(alloc: Global) -> Result<Command<'a>, AllocError>
@@ -200,7 +237,7 @@ fn replay<'a>(alloc: Global) -> Result<Command<'a>, AllocError>
     let replay = with_files(alloc, "replay")?
         .arg(kinds_option(alloc))?
         .arg(profile_option(alloc))?;
-    Ok(described(replay, REPLAY_ABOUT, REPLAY_AFTER))
+    Ok(described(replay, REPLAY_USAGE, REPLAY_ABOUT, REPLAY_AFTER))
 }
 
 /// The program with no subcommand yet.

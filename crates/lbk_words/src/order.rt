@@ -2,13 +2,22 @@
 
 use lbk_rules::Profile;
 
-/// The names of the four property files (UCD file format), as they stand in the words.
+/// How a property file is named.
+#[derive(Clone, Copy, Debug)]
+pub enum FileName<'a> {
+    /// By the option of this file.
+    Given(&'a str),
+    /// By `--ucd`: the file of this kind in a folder of the Unicode Character Database.
+    InFolder(&'a str),
+}
+
+/// The four property files (UCD file format), as the words name them.
 #[derive(Clone, Copy, Debug)]
 pub struct FileNames<'a> {
-    pub line_break: &'a str,
-    pub east_asian: &'a str,
-    pub category: &'a str,
-    pub emoji: &'a str,
+    pub line_break: FileName<'a>,
+    pub east_asian: FileName<'a>,
+    pub category: FileName<'a>,
+    pub emoji: FileName<'a>,
 }
 
 /// Which engine runs, with the options that it alone has.

@@ -1,14 +1,15 @@
 //! Words into an order.
 
-ghost use Rattle.std.specs.Prelude.{◌≡◌, [], ◌∷◌, Some, IfOk, IfErr, MatchResult, map};
-ghost use Rattle.clap.specs.Words.{found_of, kind_of, one_of, rows_of};
-ghost use Rattle.lbk_words.specs.Command.{AreAccepted, faults_of};
-ghost use Rattle.lbk_words.specs.Task.{Task, engine_in, kinds_in, limit_in, number_or, profile_in, task_by, task_in, task_of, text_in};
+ghost use Rattle.std.specs.Prelude.{◌≡◌, [], ◌∷◌, None, Some, IfOk, IfErr, MatchOption, MatchResult, map, option_map};
+ghost use Rattle.clap.specs.Words.{first_of, found_of, kind_of, one_of, rows_of};
+ghost use Rattle.clap.specs.declared.error.kind.ErrorKind.TheVariants.{MissingRequiredArgument};
+ghost use Rattle.lbk_words.specs.Accepted.{AreAccepted, faults_of};
+ghost use Rattle.lbk_words.specs.Task.{Task, engine_in, files_in, files_of_names, kinds_in, limit_in, named_in, named_of, number_or, own_or_folder, profile_in, task_by, task_in, task_of};
 ghost use Rattle.lbk_words.specs.PlainWords.{IsPlainFor};
 ghost use Rattle.lbk_words.specs.Refusal.{IsRefusalBy};
 
 use super::options::command;
-use super::order::{Engine, FileNames, Order, WordsFault};
+use super::order::{Engine, FileName, FileNames, Order, WordsFault};
 use clap::error::ErrorKind;
 use clap::{ArgMatches, Error};
 use lbk_rules::Profile;
@@ -33,25 +34,46 @@ pub fn parse<'a>(alloc: Global, words: &'a [&'a str]) -> Result<Order<'a>, Words
     match command.try_get_matches_from(words) {
         Ok(matches) => {
             let (name, given) = matches.subcommand().unwrap();
-            Ok(order(name, given))
+            match order(name, given) {
+                Some(order) => Ok(order),
+                None => Err(unnamed(alloc, name)),
+            }
         }
         Err(error) => Err(refusal(alloc, &error)),
     }
 }
 
-/// The order of a subcommand, by what was found for its options.
-fn order<'a>(name: &str, given: &ArgMatches<'a>) -> Order<'a>
-    ensures { task_of result ≡ task_in (name.now, rows_of (found_of given.now)) }
+/// The order of a subcommand, by what was found for its options; none where a property file is not named.
+fn order<'a>(name: &str, given: &ArgMatches<'a>) -> Option<Order<'a>>
+    ensures { option_map task_of result ≡ task_in (name.now, rows_of (found_of given.now)) }
 {
-    Order {
+    let files = files(given)?;
+    Some(Order {
         engine: engine(name, given),
-        files: FileNames {
-            line_break: text(given, "line-break"),
-            east_asian: text(given, "east-asian"),
-            category: text(given, "category"),
-            emoji: text(given, "emoji"),
-        },
+        files,
         profile: profile(given),
+    })
+}
+
+/// The four files, where each is named.
+fn files<'a>(given: &ArgMatches<'a>) -> Option<FileNames<'a>>
+    ensures { option_map files_of_names result ≡ files_in (rows_of (found_of given.now)) }
+{
+    Some(FileNames {
+        line_break: file(given, "line-break")?,
+        east_asian: file(given, "east-asian")?,
+        category: file(given, "category")?,
+        emoji: file(given, "emoji")?,
+    })
+}
+
+/// The file of this option, or else that of the folder.
+fn file<'a>(given: &ArgMatches<'a>, id: &str) -> Option<FileName<'a>>
+    ensures { option_map named_of result ≡ named_in id.now (rows_of (found_of given.now)) }
+{
+    match text(given, id) {
+        Some(name) => Some(FileName::Given(name)),
+        None => text(given, "ucd").map(FileName::InFolder),
     }
 }
 
@@ -74,10 +96,10 @@ fn engine(name: &str, given: &ArgMatches<'_>) -> Engine
     }
 }
 
-fn text<'a>(given: &ArgMatches<'a>, id: &str) -> &'a str
-    ensures { result.now ≡ text_in id.now (rows_of (found_of given.now)) }
+fn text<'a>(given: &ArgMatches<'a>, id: &str) -> Option<&'a str>
+    ensures { option_map (λ s. s.now) result ≡ first_of id.now (rows_of (found_of given.now)) }
 {
-    given.get_str(id).unwrap_or("")
+    given.get_str(id)
 }
 
 /// The number that an option has, and `other` where it has none.
@@ -119,6 +141,21 @@ fn refusal(alloc: Global, error: &Error) -> WordsFault
     match format!(in alloc; "{error}") {
         Ok(text) if error.use_stderr() => WordsFault::Usage { text },
         Ok(text) => WordsFault::Help { text },
+        Err(_) => WordsFault::Memory,
+    }
+}
+
+/// The answer to words that `clap` takes where a property file is not named.
+fn unnamed(alloc: Global, name: &str) -> WordsFault
+    ensures { IsRefusalBy (MissingRequiredArgument ∷ []) result }
+{
+    let told = format!(in alloc;
+        "error: the property files are not named: give --ucd <FOLDER>, or each of\n  \
+         --line-break <FILE>\n  --east-asian <FILE>\n  --category <FILE>\n  --emoji <FILE>\n\n\
+         Usage: lbk {name} --ucd <FOLDER> [OPTIONS]\n\nFor more information, try '--help'.\n"
+    );
+    match told {
+        Ok(text) => WordsFault::Usage { text },
         Err(_) => WordsFault::Memory,
     }
 }
