@@ -1,11 +1,11 @@
 -- The breaks of a text, of which some were given.
-use Rattle.std.proofs.Common.{◌≡◌, ℕ, zero, suc, ◌+◌, ◌-◌, ◌≤◌, ◌<◌, ◌^◌, min, Bool, true, false, cond, ◌⊎◌, inl, inr, ⊎_elim, List, [], ◌∷◌, ◌++◌, length, map, take, drop, encode_utf8_all, refl, sym, ap, subst, ◌∙◌, arith}
+use Rattle.std.proofs.Common.{◌≡◌, ℕ, suc, ◌+◌, ◌≤◌, ◌<◌, ◌^◌, min, Bool, true, false, cond, ◌⊎◌, inl, inr, ⊎_elim, List, [], ◌∷◌, ◌++◌, length, map, take, drop, refl, sym, ap, ◌∙◌, arith}
 use Rattle.std.specs.Char.{encode_utf8}
-use Rattle.std.specs.Str.{IsUtf8, chars}
+use Rattle.std.specs.Str.{IsCharBoundary, IsUtf8, chars}
 use Rattle.std.proofs.lemmas.Bool.{false≢true}
-use Rattle.std.proofs.lemmas.List.{append-nil, length-append, length-drop, length-take-le, nil_from_length, take-append-drop, take_at}
-use Rattle.std.proofs.lemmas.Str.{chars-nil, encodes-chars, length-le-encodes}
-use Rattle.std.proofs.Math.Seq.{drop-append-add, drop-append_seam}
+use Rattle.std.proofs.lemmas.List.{append-nil, length-append, length-drop, length-take-le, take-append-drop, take_at}
+use Rattle.std.proofs.lemmas.Str.{IsCharBoundary-start, chars-nil, encodes-chars, length-le-encodes}
+use Rattle.std.proofs.Math.Seq.{drop-append-add, drop-append_seam, drop-length}
 use Rattle.lbk_rules.specs.declared.breaks.Break.{Break}
 use Rattle.lbk_rules.specs.declared.cells.Cell.{Cell}
 use Rattle.lbk_rules.specs.declared.verdicts.Profile.{Profile}
@@ -56,18 +56,16 @@ breaks-most profile cell text utf8 =
     omega arith
 
 pub IsKept-start : (Fits : Profile → (ℕ → Cell) → List ℕ → Type 0) (profile : Profile) (cell : ℕ → Cell) (text : List ℕ)
-    → length text < 2 ^ 64 → IsUtf8 text → Fits profile cell [] → IsKept Fits profile cell text text 0 false
+    → length text < 2 ^ 64 → IsUtf8 text → Fits profile cell [] → IsKept Fits profile cell text 0 0 false
 IsKept-start Fits profile cell text few utf8 fits = record {
   few = few;
-  left = omega arith;
+  place = IsCharBoundary-start text utf8;
   within = omega arith;
   most = breaks-most profile cell text utf8;
   comes = λ _. record {
     taken = [];
     fits = fits;
-    to_come =
-        onward-start profile cell (chars text)
-        ∙ ap (λ n. onward profile cell [] n (chars text)) (let e : 0 ≡ length text - length text = omega arith in e);
+    to_come = onward-start profile cell (chars text);
   };
   none_come = λ ended. absurd (false≢true ended);
 }
@@ -104,38 +102,38 @@ gives to_come front more count room joined many within full = record {
   same = sym (ap (take count) joined ∙ take_at front more count many);
 }
 
-pub fills-gives : (ended : Bool) (Fits : List ℕ → Type 0) (profile : Profile) (cell : ℕ → Cell) (end : ℕ) (before rest more : List ℕ) (to_come front : List Break) (count room : ℕ)
-    → to_come ≡ onward_in profile cell end before rest
-    → FillsTo ended Fits profile cell end before rest more front → length front ≡ count → count ≤ room → (ended ≡ false → count ≡ room)
+pub fills-gives : (ended : Bool) (Fits : List ℕ → Type 0) (profile : Profile) (cell : ℕ → Cell) (text before : List ℕ) (start at : ℕ) (to_come front : List Break) (count room : ℕ)
+    → to_come ≡ onward_in profile cell text before start
+    → FillsTo ended Fits profile cell text before start at front → length front ≡ count → count ≤ room → (ended ≡ false → count ≡ room)
     → Gives to_come front count room
-fills-gives true Fits profile cell end before rest more to_come front count room is f many within full =
+fills-gives true Fits profile cell text before start at to_come front count room is f many within full =
     gives to_come front [] count room (is ∙ f ∙ sym (append-nil front)) many within (inr refl)
-fills-gives false Fits profile cell end before rest more to_come front count room is f many within full =
-    gives to_come front (onward_in profile cell end (before ++ f.taken) more) count room
+fills-gives false Fits profile cell text before start at to_come front count room is f many within full =
+    gives to_come front (onward_in profile cell text (before ++ f.taken) at) count room
     (is ∙ f.joined) many within (inl (full refl))
 
-pub IsKept-next : (ended : Bool) (Old New : Profile → (ℕ → Cell) → List ℕ → Type 0) (profile : Profile) (cell : ℕ → Cell) (text rest more : List ℕ)
-    (given count : ℕ) (front : List Break) → IsKept Old profile cell text rest given false → length more ≤ length text
-    → (comes : Comes (Old profile cell) profile cell text rest given) → FillsTo ended (New profile cell) profile cell (length text) comes.taken rest more front
-    → length front ≡ count → IsKept New profile cell text more (given + count) ended
-IsKept-next true Old New profile cell text rest more given count front kept left comes f many =
+pub IsKept-next : (ended : Bool) (Old New : Profile → (ℕ → Cell) → List ℕ → Type 0) (profile : Profile) (cell : ℕ → Cell) (text : List ℕ)
+    (start at given count : ℕ) (front : List Break) → IsKept Old profile cell text start given false → IsCharBoundary text at
+    → (comes : Comes (Old profile cell) profile cell text start given) → FillsTo ended (New profile cell) profile cell text comes.taken start at front
+    → length front ≡ count → IsKept New profile cell text at (given + count) ended
+IsKept-next true Old New profile cell text start at given count front kept place comes f many =
     let all = breaks profile cell (chars text) in
     let joined : drop given all ≡ front ++ [] = comes.to_come ∙ f ∙ sym (append-nil front) in
     record {
       few = kept.few;
-      left = left;
+      place = place;
       within = within-more given count all front [] kept.within joined many;
       most = kept.most;
       comes = λ goes_on. absurd (false≢true (sym goes_on));
       none_come = λ _. drop-more given count all front [] kept.within joined many;
     }
-IsKept-next false Old New profile cell text rest more given count front kept left comes f many =
+IsKept-next false Old New profile cell text start at given count front kept place comes f many =
     let all = breaks profile cell (chars text) in
-    let behind = onward_in profile cell (length text) (comes.taken ++ f.taken) more in
+    let behind = onward_in profile cell text (comes.taken ++ f.taken) at in
     let joined : drop given all ≡ front ++ behind = comes.to_come ∙ f.joined in
     record {
       few = kept.few;
-      left = left;
+      place = place;
       within = within-more given count all front behind kept.within joined many;
       most = kept.most;
       comes = λ _. record { taken = comes.taken ++ f.taken; fits = f.fits; to_come = drop-more given count all front behind kept.within joined many };
@@ -143,16 +141,15 @@ IsKept-next false Old New profile cell text rest more given count front kept lef
     }
 
 -- where nothing is left of the text its end comes next
-pub end-comes : (Fits : List ℕ → Type 0) (profile : Profile) (cell : ℕ → Cell) (end : ℕ) (before rest more : List ℕ) (front all : List Break) (verdict : Verdict)
-    → (f : Filled Fits profile cell end before rest more front) → verdict ≡ verdict_between_in profile (map cell (before ++ f.taken)) []
-    → length more ≡ 0 → all ≡ front ++ with_break end verdict []
-    → onward_in profile cell end before rest ≡ all
-end-comes Fits profile cell end before rest more front all verdict f decides none whole =
+pub end-comes : (Fits : List ℕ → Type 0) (profile : Profile) (cell : ℕ → Cell) (text before : List ℕ) (start at : ℕ) (front all : List Break) (verdict : Verdict)
+    → (f : Filled Fits profile cell text before start at front) → verdict ≡ verdict_between_in profile (map cell (before ++ f.taken)) []
+    → at ≡ length text → all ≡ front ++ with_break (length text) verdict []
+    → onward_in profile cell text before start ≡ all
+end-comes Fits profile cell text before start at front all verdict f decides ends whole =
     let on = before ++ f.taken in
-    let no_chars : chars more ≡ [] = ap chars (nil_from_length more none) ∙ chars-nil in
-    let place : end - length more ≡ end = omega arith in
+    let no_chars : chars (drop (length text) text) ≡ [] = ap chars (drop-length text) ∙ chars-nil in
     f.joined
-    ∙ ap (λ cs. front ++ onward profile cell on (end - length more) cs) no_chars
-    ∙ ap (λ n. front ++ with_break n (verdict_between_in profile (map cell on) []) []) place
-    ∙ ap (λ v. front ++ with_break end v []) (sym decides)
+    ∙ ap (λ n. front ++ onward_in profile cell text on n) ends
+    ∙ ap (λ cs. front ++ onward profile cell on (length text) cs) no_chars
+    ∙ ap (λ v. front ++ with_break (length text) v []) (sym decides)
     ∙ sym whole

@@ -1,11 +1,12 @@
 -- A block that is filled with breaks, scalar by scalar.
-use Rattle.std.proofs.Common.{◌≡◌, ℕ, ◌+◌, ◌-◌, ◌<◌, ◌≤◌, Bool, true, false, cond, not, List, [], ◌∷◌, ◌++◌, length, map, take, append_assoc, refl, sym, ap, subst, ◌∙◌, arith}
+use Rattle.std.proofs.Common.{◌≡◌, ℕ, ◌+◌, ◌-◌, ◌<◌, ◌≤◌, Bool, true, false, cond, not, List, [], ◌∷◌, ◌++◌, length, map, drop, take, append_assoc, refl, sym, ap, subst, ◌∙◌, arith}
 use Rattle.std.specs.Char.{encode_utf8}
 use Rattle.std.specs.Int.{from_bool}
-use Rattle.std.specs.Str.{IsUtf8, chars}
+use Rattle.std.specs.Str.{IsCharBoundary, IsUtf8, chars}
 use Rattle.std.proofs.Math.ListN.{set}
-use Rattle.std.proofs.lemmas.List.{append-nil, length-append, take-set, take_more_set}
-use Rattle.std.proofs.lemmas.Str.{chars_past_char}
+use Rattle.std.proofs.Math.Seq.{drop-append_seam, drop-drop}
+use Rattle.std.proofs.lemmas.List.{append-nil, length-append, length-drop, take-set, take_more_set}
+use Rattle.std.proofs.lemmas.Str.{IsCharBoundary-from_drop, IsUtf8-drop, IsUtf8-past_char, chars_past_char}
 use Rattle.lbk_rules.specs.declared.breaks.Break.{Break}
 use Rattle.lbk_rules.specs.declared.cells.Cell.{Cell}
 use Rattle.lbk_rules.specs.declared.verdicts.Profile.{Profile}
@@ -39,55 +40,62 @@ with_break-more at verdict more =
     as (λ k. cond k more (break_by at verdict ∷ more) ≡ cond k [] (break_by at verdict ∷ []) ++ more)
     [ true ↦ refl | false ↦ refl ]
 
-pub Filled-start : (Fits : List ℕ → Type 0) (profile : Profile) (cell : ℕ → Cell) (end : ℕ) (before rest : List ℕ) (given : List Break)
-    → given ≡ [] → Fits before → Filled Fits profile cell end before rest rest given
-Filled-start Fits profile cell end before rest given none fits = record {
+pub Filled-start : (Fits : List ℕ → Type 0) (profile : Profile) (cell : ℕ → Cell) (text before : List ℕ) (start : ℕ) (given : List Break)
+    → given ≡ [] → Fits before → Filled Fits profile cell text before start start given
+Filled-start Fits profile cell text before start given none fits = record {
   taken = [];
   fits = subst Fits (sym (append-nil before)) fits;
   joined =
-      ap (λ b. onward_in profile cell end b rest) (sym (append-nil before))
-      ∙ ap (λ g. g ++ onward_in profile cell end (before ++ []) rest) (sym none);
+      ap (λ b. onward_in profile cell text b start) (sym (append-nil before))
+      ∙ ap (λ g. g ++ onward_in profile cell text (before ++ []) start) (sym none);
 }
 
--- the next position
-place-on : (end c : ℕ) (rest more : List ℕ) → rest ≡ encode_utf8 c ++ more → length rest ≤ end
-    → (end - length rest) + length (encode_utf8 c) ≡ end - length more
-place-on end c rest more splits left =
-    let whole = ap length splits in
-    omega (arith, length-append (encode_utf8 c) more)
+-- a scalar stands at the byte `at` of a text, and the text goes on at `next`
+pub record Reads (text : List ℕ) (at c next : ℕ) (more : List ℕ) : Type 0 where
+  pub next_is : next ≡ at + length (encode_utf8 c)
+  pub rest : drop next text ≡ more
+  pub begins : chars (drop at text) ≡ c ∷ chars more
+  pub place : IsCharBoundary text next
 
-pub left-on : (end c : ℕ) (rest more : List ℕ) → rest ≡ encode_utf8 c ++ more → length rest ≤ end → length more ≤ end
-left-on end c rest more splits left =
-    let whole = ap length splits in
-    omega (arith, length-append (encode_utf8 c) more)
+pub reads : (text more : List ℕ) (at c : ℕ) → IsUtf8 text → IsCharBoundary text at → drop at text ≡ encode_utf8 c ++ more
+    → Reads text at c (length text - length more) more
+reads text more at c utf8 place splits =
+    let here = IsUtf8-drop text at utf8 place in
+    let within = place.0 in
+    let size = length (encode_utf8 c) in
+    let left : length text - at ≡ size + length more = sym (length-drop at text) ∙ ap length splits ∙ length-append (encode_utf8 c) more in
+    let next_is : length text - length more ≡ at + size = omega arith in
+    let rest : drop (length text - length more) text ≡ more =
+    ap (λ n. drop n text) next_is ∙ sym (drop-drop size at text) ∙ ap (drop size) splits ∙ drop-append_seam (encode_utf8 c) more in
+    record {
+      next_is = next_is;
+      rest = rest;
+      begins = chars_past_char (drop at text) more c here splits;
+      place = IsCharBoundary-from_drop text (length text - length more) (omega arith) (subst IsUtf8 (sym rest) (IsUtf8-past_char (drop at text) more c here splits));
+    }
 
-pub Filled-step : (Fits Next : List ℕ → Type 0) (profile : Profile) (cell : ℕ → Cell) (end : ℕ) (before old rest more : List ℕ) (given after : List Break)
-    (at c : ℕ) (verdict : Verdict)
+pub Filled-step : (Fits Next : List ℕ → Type 0) (profile : Profile) (cell : ℕ → Cell) (text before : List ℕ) (start at next c : ℕ) (more : List ℕ) (given after : List Break) (verdict : Verdict)
     → ((taken : List ℕ) → Fits taken → verdict ≡ verdict_between_in profile (map cell taken) (cell c ∷ map cell (chars more)))
     → ((taken : List ℕ) → Fits taken → Next (taken ++ c ∷ []))
-    → IsUtf8 rest → length rest ≤ end → at ≡ end - length rest → rest ≡ encode_utf8 c ++ more
-    → after ≡ given ++ with_break at verdict []
-    → Filled Fits profile cell end before old rest given → Filled Next profile cell end before old more after
-Filled-step Fits Next profile cell end before old rest more given after at c verdict decides fit utf8 left_over here splits grown f =
+    → Reads text at c next more → after ≡ given ++ with_break at verdict []
+    → Filled Fits profile cell text before start at given → Filled Next profile cell text before start next after
+Filled-step Fits Next profile cell text before start at next c more given after verdict decides fit r grown f =
     let left = before ++ f.taken in
     let on = before ++ (f.taken ++ c ∷ []) in
     let others = chars more in
-    let begins : chars rest ≡ c ∷ others = chars_past_char rest more c utf8 splits in
     let moved : left ++ c ∷ [] ≡ on = append_assoc before f.taken (c ∷ []) in
-    let next : at + length (encode_utf8 c) ≡ end - length more =
-    ap (λ n. n + length (encode_utf8 c)) here ∙ place-on end c rest more splits left_over in
-    let further_on = onward_in profile cell end on more in
-    let stepped : onward profile cell left (end - length rest) (c ∷ others) ≡ with_break at verdict further_on =
-    ap (λ n. onward profile cell left n (c ∷ others)) (sym here)
-    ∙ ap (λ v. with_break at v (onward profile cell (left ++ c ∷ []) (at + length (encode_utf8 c)) others)) (sym (decides left f.fits))
+    let further_on = onward_in profile cell text on next in
+    let stepped : onward profile cell left at (c ∷ others) ≡ with_break at verdict further_on =
+    ap (λ v. with_break at v (onward profile cell (left ++ c ∷ []) (at + length (encode_utf8 c)) others)) (sym (decides left f.fits))
     ∙ ap (λ l. with_break at verdict (onward profile cell l (at + length (encode_utf8 c)) others)) moved
-    ∙ ap (λ n. with_break at verdict (onward profile cell on n others)) next in
+    ∙ ap (λ n. with_break at verdict (onward profile cell on n others)) (sym r.next_is)
+    ∙ ap (λ bytes. with_break at verdict (onward profile cell on next (chars bytes))) (sym r.rest) in
     record {
       taken = f.taken ++ c ∷ [];
       fits = subst Next moved (fit left f.fits);
       joined =
           f.joined
-          ∙ ap (λ cs. given ++ onward profile cell left (end - length rest) cs) begins
+          ∙ ap (λ cs. given ++ onward profile cell left at cs) r.begins
           ∙ ap (λ l. given ++ l) (stepped ∙ with_break-more at verdict further_on)
           ∙ sym (append_assoc given (with_break at verdict []) further_on)
           ∙ ap (λ g. g ++ further_on) (sym grown);

@@ -1,3 +1,3 @@
 pub mod FillingLemmas
 pub mod ComingLemmas
-pub mod DeciderLemmas
+pub mod MachineLemmas

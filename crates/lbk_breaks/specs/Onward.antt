@@ -1,6 +1,6 @@
 -- The breaks from a position on, as the positions are decided one after another.
-use Rattle.std.specs.Prelude.{◌≡◌, ℕ, ◌+◌, ◌-◌, ◌^◌, ◌<◌, ◌≤◌, Bool, true, false, List, [], ◌∷◌, ◌++◌, length, drop, map, encode_utf8, if◌then◌else◌}
-use Rattle.std.specs.Str.{IsUtf8, chars}
+use Rattle.std.specs.Prelude.{◌≡◌, ℕ, ◌+◌, ◌^◌, ◌<◌, ◌≤◌, Bool, true, false, List, [], ◌∷◌, ◌++◌, length, drop, map, encode_utf8, if◌then◌else◌}
+use Rattle.std.specs.Str.{IsCharBoundary, chars}
 use Rattle.lbk_rules.specs.declared.breaks.Break.{Break}
 use Rattle.lbk_rules.specs.declared.cells.Cell.{Cell}
 use Rattle.lbk_rules.specs.declared.verdicts.Profile.{Profile}
@@ -19,33 +19,32 @@ onward profile cell before at (c ∷ cs) =
     with_break at (verdict_between_in profile (map cell before) (map cell (c ∷ cs)))
     (onward profile cell (before ++ c ∷ []) (at + length (encode_utf8 c)) cs)
 
--- those from where the rest of a text of `end` bytes begins
-abbrev pub onward_in : Profile → (ℕ → Cell) → ℕ → List ℕ → List ℕ → List Break
-onward_in profile cell end before rest = onward profile cell before (end - length rest) (chars rest)
+-- those from the byte `at` of a text on
+abbrev pub onward_in : Profile → (ℕ → Cell) → List ℕ → List ℕ → ℕ → List Break
+onward_in profile cell text before at = onward profile cell before at (chars (drop at text))
 
--- of the breaks from where the rest `old` of a text begins these were given, and the others come from where the rest
--- `new` begins
-pub record Filled (Fits : List ℕ → Type 0) (profile : Profile) (cell : ℕ → Cell) (end : ℕ) (before : List ℕ) (old new : List ℕ) (given : List Break) : Type 0 where
+-- of the breaks from the byte `start` of a text on these were given, and the others come from the byte `at` on
+pub record Filled (Fits : List ℕ → Type 0) (profile : Profile) (cell : ℕ → Cell) (text before : List ℕ) (start at : ℕ) (given : List Break) : Type 0 where
   pub taken : List ℕ
   pub fits : Fits (before ++ taken)
-  pub joined : onward_in profile cell end before old ≡ given ++ onward_in profile cell end (before ++ taken) new
+  pub joined : onward_in profile cell text before start ≡ given ++ onward_in profile cell text (before ++ taken) at
 
 -- as many of the breaks from there as a block holds were given; ended: that at the text's end too
-abbrev pub FillsTo : Bool → (List ℕ → Type 0) → Profile → (ℕ → Cell) → ℕ → List ℕ → List ℕ → List ℕ → List Break → Type 0
-FillsTo true Fits profile cell end before old new given = onward_in profile cell end before old ≡ given
-FillsTo false Fits profile cell end before old new given = Filled Fits profile cell end before old new given
+abbrev pub FillsTo : Bool → (List ℕ → Type 0) → Profile → (ℕ → Cell) → List ℕ → List ℕ → ℕ → ℕ → List Break → Type 0
+FillsTo true Fits profile cell text before start at given = onward_in profile cell text before start ≡ given
+FillsTo false Fits profile cell text before start at given = Filled Fits profile cell text before start at given
 
 -- until the end is given: what was taken of the text, and that the breaks from there on are to come
-pub record Comes (Fits : List ℕ → Type 0) (profile : Profile) (cell : ℕ → Cell) (text rest : List ℕ) (given : ℕ) : Type 0 where
+pub record Comes (Fits : List ℕ → Type 0) (profile : Profile) (cell : ℕ → Cell) (text : List ℕ) (at given : ℕ) : Type 0 where
   pub taken : List ℕ
   pub fits : Fits taken
-  pub to_come : drop given (breaks profile cell (chars text)) ≡ onward_in profile cell (length text) taken rest
+  pub to_come : drop given (breaks profile cell (chars text)) ≡ onward_in profile cell text taken at
 
 -- what stays so: what comes until the end is given, and that nothing comes from then on
-pub record IsKept (Fits : Profile → (ℕ → Cell) → List ℕ → Type 0) (profile : Profile) (cell : ℕ → Cell) (text rest : List ℕ) (given : ℕ) (ended : Bool) : Type 0 where
+pub record IsKept (Fits : Profile → (ℕ → Cell) → List ℕ → Type 0) (profile : Profile) (cell : ℕ → Cell) (text : List ℕ) (at given : ℕ) (ended : Bool) : Type 0 where
   pub few : length text < 2 ^ 64
-  pub left : length rest ≤ length text
+  pub place : IsCharBoundary text at
   pub within : given ≤ length (breaks profile cell (chars text))
   pub most : length (breaks profile cell (chars text)) ≤ length text
-  pub comes : ended ≡ false → Comes (Fits profile cell) profile cell text rest given
+  pub comes : ended ≡ false → Comes (Fits profile cell) profile cell text at given
   pub none_come : ended ≡ true → drop given (breaks profile cell (chars text)) ≡ []

@@ -25,8 +25,8 @@ pub struct Breaks<'a, C: CellSource> {
     cells: &'a C,
     profile: Profile,
     text: &'a str,
-    /// What is left of the text.
-    rest: &'a str,
+    /// How many bytes of the text were taken.
+    taken: usize,
     walk: Walk<'a, C>,
     /// How many were given.
     given: usize,
@@ -47,7 +47,7 @@ impl<'a, C: CellSource> Model for Breaks<'a, C> {
 
     ghost view = { λ b. drop b.given (breaks b.profile (C.cell_of b.cells.now) (chars b.text.now)) };
 
-    ghost invariant = { λ b. IsKept (WalkFits C.cell_of b.walk) b.profile (C.cell_of b.cells.now) b.text.now b.rest.now b.given b.ended };
+    ghost invariant = { λ b. IsKept (WalkFits C.cell_of b.walk) b.profile (C.cell_of b.cells.now) b.text.now b.taken b.given b.ended };
 }
 
 impl<'a, C: CellSource> Breaks<'a, C> {
@@ -60,7 +60,7 @@ impl<'a, C: CellSource> Breaks<'a, C> {
             cells,
             profile,
             text,
-            rest: text,
+            taken: 0,
             walk: Walk::start(cells, profile),
             given: 0,
             ended: false,
@@ -77,8 +77,8 @@ impl<'a, C: CellSource> Breaks<'a, C> {
         if self.ended {
             return 0;
         }
-        let filling = self.walk.fill(self.rest, self.text.len(), block);
-        self.rest = filling.rest;
+        let filling = self.walk.fill(self.text, self.taken, block);
+        self.taken = filling.at;
         self.ended = filling.ended;
         self.given += filling.count;
         filling.count

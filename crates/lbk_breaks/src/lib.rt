@@ -5,7 +5,8 @@
 #![tactic(auto)]
 
 mod breaks;
-mod decider;
+mod by_rules;
+mod by_steps;
 mod filling;
 mod walk;
 

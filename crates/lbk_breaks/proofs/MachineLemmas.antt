@@ -1,22 +1,11 @@
--- What machines by rows answer, between what was taken and the text behind.
-use Rattle.std.proofs.Common.{◌≡◌, ℕ, false, List, [], ◌∷◌, ◌++◌, length, map, drop, refl, sym, ap, ◌∙◌}
+-- What a machine by steps answers, between what was taken and the text behind.
+use Rattle.std.proofs.Common.{◌≡◌, ℕ, List, [], ◌++◌, length, map, drop, sym, ap, ◌∙◌}
 use Rattle.std.proofs.lemmas.List.{length-map}
 use Rattle.std.proofs.Math.Seq.{drop-length, take-length}
 use Rattle.lbk_rules.specs.declared.cells.Cell.{Cell}
 use Rattle.lbk_rules.specs.declared.verdicts.Profile.{Profile}
-use Rattle.lbk_rules.specs.declared.verdicts.Profile.TheVariants.{First}
-use Rattle.lbk_rules.specs.declared.verdicts.Verdict.{Verdict}
-use Rattle.lbk_rules.specs.Held.{is_held}
 use Rattle.lbk_rules.specs.Verdict.{verdict_in, verdict_between_in}
 use Rattle.lbk_rules.proofs.MachineLemmas.{verdict_in-append}
-
--- in the first profile none is held
-none_first : (left right : List Cell) → is_held First left right ≡ false
-unfolding is_held
-none_first left right = refl
-
-pub none_held : (profile : Profile) (left right : List Cell) → profile ≡ First → is_held profile left right ≡ false
-none_held profile left right first = ap (λ p. is_held p left right) first ∙ none_first left right
 
 pub at-seam : (profile : Profile) (cell : ℕ → Cell) (taken : List ℕ) (more : List Cell)
     → verdict_in profile (map cell taken ++ more) (length taken) ≡ verdict_between_in profile (map cell taken) more

@@ -1,0 +1,18 @@
+use Rattle.std.proofs.Common.{◌-◌, ◌≤◌, ℕ, List, length, take}
+use Rattle.std.specs.Str.{IsCharBoundary}
+use Rattle.lbk_rules.specs.declared.cells.Cell.{Cell}
+use Rattle.lbk_rules.specs.declared.verdicts.Profile.{Profile}
+use Rattle.lbk_rules.specs.AheadFits.{AheadFits}
+use Rattle.lbk_breaks.specs.Onward.{Filled}
+use Rattle.lbk_breaks.proofs.by_rules.fill.Given as goal
+
+abbrev pub invariant-loop-count : goal.invariant-loop-count
+invariant-loop-count g l = record {
+  within : l.count ≤ length l.block;
+  place : IsCharBoundary l.text l.at;
+  filled : (profile : Profile) (cell : ℕ → Cell) (before : List ℕ) → AheadFits g.C.CellSource.cell_of l.fn.machine profile cell before
+      → Filled (AheadFits g.C.CellSource.cell_of l.here profile cell) profile cell l.text before l.fn.start l.at (take l.count l.block);
+}
+
+abbrev pub decreases-loop-count : goal.decreases-loop-count
+decreases-loop-count g l = length l.text - l.at

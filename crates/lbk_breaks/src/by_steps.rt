@@ -1,0 +1,98 @@
+//! A block that is filled by the table of steps.
+
+ghost use Rattle.std.specs.Prelude.{◌≡◌, ℕ, ◌<◌, ◌≤◌, List, IsCharBoundary, length, take};
+ghost use Rattle.lbk_rules.specs.declared.cells.Cell.{Cell};
+ghost use Rattle.lbk_rules.specs.declared.verdicts.Profile.{Profile};
+ghost use Rattle.lbk_rules.specs.RowMachineFits.{RowMachineFits};
+ghost use Rattle.lbk_breaks.specs.Onward.{Filled};
+
+use crate::filling::{Progress, put};
+use lbk_rules::{Break, RowMachine};
+
+/// Takes scalars of a text from the byte `start` on, until the block is full or the text ends, and writes the breaks
+/// before them into the front of the block.
+pub(crate) fn fill(
+    machine: &mut RowMachine<'_>,
+    text: &str,
+    start: usize,
+    block: &mut [Break],
+) -> Progress
+    requires { IsCharBoundary text.now start }
+    ensures place { IsCharBoundary text.now result.at }
+    ensures filled { (profile : Profile) (cell : ℕ → Cell) (before : List ℕ) → RowMachineFits machine.old profile cell before
+        → Filled (RowMachineFits machine.new profile cell) profile cell text.now before start result.at (take result.count block.new) }
+    ensures within { result.count ≤ length block.old }
+    ensures stops { result.count < length block.old → result.at ≡ length text.now }
+{
+    let empty = Progress {
+        count: 0,
+        at: start,
+    };
+    let mut here = quick(machine, text, empty, block);
+    while here.count < block.len() && here.at < text.len() {
+        let past = take_one(machine, text, here, block);
+        here = quick(machine, text, past, block);
+    }
+    here
+}
+
+/// Goes on until the block is full, the text ends, or a position is held. It calls nothing, so that all it has stays in
+/// registers.
+#[inline(never)]
+fn quick(machine: &mut RowMachine<'_>, text: &str, start: Progress, block: &mut [Break]) -> Progress
+    requires room { start.count ≤ length block.old }
+    requires place { IsCharBoundary text.now start.at }
+    ensures within { result.count ≤ length block.old }
+    ensures place { IsCharBoundary text.now result.at }
+    ensures onward { start.at ≤ result.at }
+    ensures filled { (profile : Profile) (cell : ℕ → Cell) (before : List ℕ) (from : ℕ)
+        → Filled (RowMachineFits machine.old profile cell) profile cell text.now before from start.at (take start.count block.old)
+        → Filled (RowMachineFits machine.new profile cell) profile cell text.now before from result.at (take result.count block.new) }
+{
+    let mut here = *machine;
+    let mut count = start.count;
+    let mut at = start.at;
+    while count < block.len() && at < text.len() {
+        let mut scalars = text[at..].chars();
+        let Some(c) = scalars.next() else {
+            break;
+        };
+        let Some(verdict) = here.step_unless_held(c) else {
+            break;
+        };
+        count = put(block, count, at, verdict);
+        at = text.len() - scalars.as_str().len();
+    }
+    *machine = here;
+    Progress { count, at }
+}
+
+/// Takes one scalar, also where the position before it is held, and writes the break there.
+fn take_one(
+    machine: &mut RowMachine<'_>,
+    text: &str,
+    here: Progress,
+    block: &mut [Break],
+) -> Progress
+    requires room { here.count < length block.old }
+    requires place { IsCharBoundary text.now here.at }
+    requires some { here.at < length text.now }
+    ensures within { result.count ≤ length block.old }
+    ensures place { IsCharBoundary text.now result.at }
+    ensures onward { here.at < result.at }
+    ensures filled { (profile : Profile) (cell : ℕ → Cell) (before : List ℕ) (from : ℕ)
+        → Filled (RowMachineFits machine.old profile cell) profile cell text.now before from here.at (take here.count block.old)
+        → Filled (RowMachineFits machine.new profile cell) profile cell text.now before from result.at (take result.count block.new) }
+{
+    let mut scalars = text[here.at..].chars();
+    let Some(c) = scalars.next() else {
+        unreachable!()
+    };
+    let rest = scalars.as_str();
+    let verdict = machine.look_ahead(c, rest);
+    machine.step(c);
+    Progress {
+        count: put(block, here.count, here.at, verdict),
+        at: text.len() - rest.len(),
+    }
+}
