@@ -4,6 +4,7 @@ ghost use Rattle.std.specs.Prelude.{◌≡◌, ◌+◌, ◌<◌};
 ghost use Rattle.lbk_notation.specs.declared.findings.ReplayFault.TheVariants.{Memory};
 
 use super::marks::Mark;
+use lbk_feed::TEXT_MAX;
 use lbk_rules::Verdict;
 use std::alloc::{AllocError, AllocFailed};
 
@@ -57,8 +58,8 @@ pub enum ReplayFault {
     StreamTooLong,
 }
 
-/// The most bytes of a file that is replayed.
-pub const STREAM_MAX: usize = 1_073_741_824;
+/// The most bytes of a file that is replayed: as many as of a text.
+pub const STREAM_MAX: usize = TEXT_MAX as usize;
 
 impl From<AllocError> for ReplayFault {
     ghost from_gives = { λ _ fault. fault ≡ Memory };
