@@ -2,6 +2,7 @@
 
 ghost use Rattle.std.specs.Prelude.{None};
 
+use super::noting::{Notes, Noting};
 use lbk_cmd::{LoadFault, Store, read_front};
 use lbk_feed::Device;
 use std::alloc::Global;
@@ -12,11 +13,12 @@ use std::io::ErrorKind;
 #[derive(Clone, Copy)]
 pub struct FileStore<'a> {
     rt: &'a HostRuntime,
+    notes: &'a Notes,
 }
 
 impl<'a> FileStore<'a> {
-    pub fn new(rt: &'a HostRuntime) -> FileStore<'a> {
-        FileStore { rt }
+    pub fn new(rt: &'a HostRuntime, notes: &'a Notes) -> FileStore<'a> {
+        FileStore { rt, notes }
     }
 }
 
@@ -24,8 +26,11 @@ impl<'a> Store for FileStore<'a> {
     ghost file = { λ store name. None };
 
     fn load(&self, alloc: Global, name: &str, most: usize) -> Result<Vec<u8>, LoadFault> {
-        match File::open(self.rt, name) {
-            Ok(file) => read_front(alloc, &mut Device::new(file), most),
+        match self.notes.noted(File::open(self.rt, name)) {
+            Ok(file) => {
+                let mut file = Device::new(Noting::new(file, self.notes));
+                read_front(alloc, &mut file, most)
+            }
             Err(error) if error.kind() == ErrorKind::OutOfMemory => Err(LoadFault::Memory),
             Err(_) => Err(LoadFault::Unreadable),
         }

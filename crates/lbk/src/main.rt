@@ -2,13 +2,17 @@
 #![tactic(auto)]
 
 mod file_store;
+mod hints;
 mod message;
+mod noting;
 
 use file_store::FileStore;
-use lbk_cmd::{Ending, run};
+use lbk_cmd::{CmdFault, Ending, RunFault, run};
 use lbk_feed::Device;
+use lbk_notation::ReplayFault;
 use lbk_words::{WordsFault, parse};
 use message::Message;
+use noting::{Input, InputKind, Notes, Noting};
 use std::io::ErrorKind;
 use std::process::ExitCode;
 use std::{env, io};
@@ -32,17 +36,25 @@ fn main(rt: HostRuntime) -> ExitCode {
             return ended(&rt, REFUSED);
         }
     }
-    let mut reader = Device::new(rt.stdin());
-    let mut writer = Device::new(rt.stdout());
-    let store = FileStore::new(&rt);
-    let ending = run(
-        rt.alloc(),
-        words.as_slice(),
-        &store,
-        &mut reader,
-        &mut writer,
-    );
-    told(&rt, words.as_slice(), &ending)
+    if words.is_empty() {
+        let _ = eprintln!(rt; "lbk: {}", hints::SAMPLES);
+    }
+    let notes = Notes::new();
+    let ending = run_on_devices(&rt, words.as_slice(), &notes);
+    told(&rt, words.as_slice(), &ending, &notes)
+}
+
+/// A run over the files of the system, from standard input to standard output.
+fn run_on_devices(rt: &HostRuntime, words: &[&str], notes: &Notes) -> Ending {
+    let kind = if words.first() == Some(&"replay") {
+        InputKind::TestLines
+    } else {
+        InputKind::Text
+    };
+    let mut reader = Device::new(Input::new(rt.stdin(), kind, notes));
+    let mut writer = Device::new(Noting::new(rt.stdout(), notes));
+    let store = FileStore::new(rt, notes);
+    run(rt.alloc(), words, &store, &mut reader, &mut writer)
 }
 
 /// The words behind the program's name.
@@ -57,32 +69,58 @@ fn ended(rt: &HostRuntime, status: u8) -> ExitCode {
     ExitCode::from(status)
 }
 
-/// Help goes to standard output, usage and faults to standard error.
-fn told(rt: &HostRuntime, words: &[&str], ending: &Ending) -> ExitCode {
+/// Help goes to standard output, usage, errors and hints to standard error.
+fn told(rt: &HostRuntime, words: &[&str], ending: &Ending, notes: &Notes) -> ExitCode {
     match ending {
-        Ending::Done | Ending::Differs(_) => {}
+        Ending::Done => {}
+        Ending::Differs(report) => {
+            if report.refused > 0 && notes.has_kinds.get() && !words.contains(&"--kinds") {
+                let _ = eprintln!(rt; "lbk: {}", hints::KINDS);
+            }
+        }
         Ending::Help { text } => {
-            if print!(rt; "{text}").is_err() {
-                let _ = eprintln!(rt; "lbk: standard output cannot be written");
-                return ExitCode::from(REFUSED);
+            if let Err(error) = print!(rt; "{text}") {
+                notes.error.set(Some(error.kind()));
+                return refused(rt, words, RunFault::Cmd(CmdFault::Write), notes);
             }
         }
         Ending::Usage { text } => {
             let _ = eprint!(rt; "{text}");
+            if let Some(file) = hints::file_of_text(words) {
+                let _ = eprintln!(rt; "\n{}{file}", hints::TEXT_ON_INPUT);
+            }
         }
-        Ending::Refused(fault) => {
-            let order = match parse(rt.alloc(), words) {
-                Ok(order) => Some(order),
-                // Without them the message would name another file or limit.
-                Err(WordsFault::Memory) => return ended(rt, REFUSED),
-                Err(_) => None,
-            };
-            let message = Message {
-                fault: *fault,
-                order,
-            };
-            let _ = eprintln!(rt; "lbk: {message}");
-        }
+        Ending::Refused(fault) => return refused(rt, words, *fault, notes),
     }
     ExitCode::from(ending.status())
+}
+
+/// One line for a refused run; none where nobody reads the output any more.
+fn refused(rt: &HostRuntime, words: &[&str], fault: RunFault, notes: &Notes) -> ExitCode {
+    let reason = notes.error.get();
+    if is_write(fault) && reason == Some(ErrorKind::BrokenPipe) {
+        return ExitCode::from(REFUSED);
+    }
+    let order = match parse(rt.alloc(), words) {
+        Ok(order) => Some(order),
+        // Without them the message would name another file or limit.
+        Err(WordsFault::Memory) => return ended(rt, REFUSED),
+        Err(_) => None,
+    };
+    let message = Message {
+        fault,
+        order,
+        reason,
+        is_utf16: notes.is_utf16.get(),
+    };
+    let _ = eprintln!(rt; "lbk: {message}");
+    ExitCode::from(REFUSED)
+}
+
+/// Whether the output failed.
+fn is_write(fault: RunFault) -> bool {
+    matches!(
+        fault,
+        RunFault::Cmd(CmdFault::Write) | RunFault::Replay(ReplayFault::Write)
+    )
 }

@@ -7,6 +7,7 @@ use lbk_passage::PassageFault;
 use lbk_ucd::{UcdCause, UcdFault, Which};
 use lbk_words::{Engine, FileName, FileNames, Order};
 use std::fmt;
+use std::io::ErrorKind;
 
 /// A fault in one line that a person can act on and an editor can jump by.
 #[derive(Clone, Copy)]
@@ -14,25 +15,54 @@ pub struct Message<'a> {
     pub fault: RunFault,
     /// What the words asked for, where there were words.
     pub order: Option<Order<'a>>,
+    /// The system's reason, where a file or a device failed.
+    pub reason: Option<ErrorKind>,
+    /// Whether the text begins as UTF-16 does.
+    pub is_utf16: bool,
 }
 
 impl<'a> fmt::Display for Message<'a> {
     fn fmt<W: fmt::Write>(&self, f: &mut fmt::Formatter<W>) -> fmt::Result {
         match self.fault {
-            RunFault::Load(which) => write!(f, "{}: the file cannot be read", self.name(which)),
+            RunFault::Load(which) => {
+                write!(
+                    f,
+                    "{}: the file cannot be read{}",
+                    self.name(which),
+                    self.why()
+                )
+            }
             RunFault::Claim(which, cause) => self.claim_fault(f, which, cause),
             RunFault::Tables(fault) => self.table_fault(f, fault),
             RunFault::Cmd(CmdFault::Passage(fault)) => self.passage_fault(f, fault),
             RunFault::Cmd(CmdFault::Write) | RunFault::Replay(ReplayFault::Write) => {
-                write!(f, "standard output cannot be written")
+                write!(f, "standard output cannot be written{}", self.why())
             }
-            RunFault::Replay(ReplayFault::Read) => write!(f, "standard input cannot be read"),
+            RunFault::Replay(ReplayFault::Read) => {
+                write!(f, "standard input cannot be read{}", self.why())
+            }
             RunFault::Replay(ReplayFault::StreamTooLong) => {
                 write!(f, "standard input has more than 1073741824 bytes")
             }
             RunFault::Cmd(CmdFault::Memory)
             | RunFault::Replay(ReplayFault::Memory)
             | RunFault::Memory => write!(f, "out of memory"),
+        }
+    }
+}
+
+const UTF_16_HINT: &str = "; it begins as UTF-16 does: iconv -f UTF-16 -t UTF-8 makes UTF-8 of it";
+
+/// The system's reason, behind a colon where it tells one.
+#[derive(Clone, Copy)]
+struct Why(Option<ErrorKind>);
+
+impl fmt::Display for Why {
+    fn fmt<W: fmt::Write>(&self, f: &mut fmt::Formatter<W>) -> fmt::Result {
+        match self.0 {
+            None | Some(ErrorKind::Other | ErrorKind::Uncategorized) => Ok(()),
+            Some(ErrorKind::NotFound) => write!(f, ": no such file"),
+            Some(kind) => write!(f, ": {kind}"),
         }
     }
 }
@@ -89,6 +119,10 @@ impl<'a> Message<'a> {
         }
     }
 
+    fn why(&self) -> Why {
+        Why(self.reason)
+    }
+
     /// `FILE:LINE: cause`, or `FILE: cause` where the whole file is meant.
     fn table_fault<W: fmt::Write>(
         &self,
@@ -142,9 +176,12 @@ impl<'a> Message<'a> {
         match fault {
             PassageFault::Limit => write!(f, "the limit of a paragraph is 1 to 16777216 bytes"),
             PassageFault::Memory => write!(f, "out of memory"),
-            PassageFault::Read | PassageFault::Spent => write!(f, "standard input cannot be read"),
+            PassageFault::Read | PassageFault::Spent => {
+                write!(f, "standard input cannot be read{}", self.why())
+            }
             PassageFault::NotUtf8 { at } => {
-                write!(f, "standard input: byte {at}: it is not UTF-8 from here on")
+                let hint = if self.is_utf16 { UTF_16_HINT } else { "" };
+                write!(f, "standard input: byte {at}: invalid UTF-8{hint}")
             }
             PassageFault::TextTooLong => {
                 write!(f, "standard input has more than 1073741824 bytes")
@@ -193,7 +230,8 @@ fn cause_text(cause: UcdCause) -> &'static str {
         UcdCause::LineTooLong => "the line has more than 1024 bytes",
         UcdCause::RowSyntax => "the line is neither a row `code; value` nor a comment nor blank",
         UcdCause::Range => "a range whose first code is past its last, or a code past 10FFFF",
-        UcdCause::UnknownValue => "the property has no value of this name in Unicode 15.0",
+        UcdCause::UnknownValue =>
+            "no value of the property has this name; lbk knows the names up to Unicode 15.0",
         UcdCause::Overlap => "a row before this one holds a code of this row",
         UcdCause::TooManyRows => "the file has more than 65536 rows and default lines",
         UcdCause::Memory => "out of memory",

@@ -11,7 +11,7 @@ use std::alloc::{AllocError, Global};
 
 const GREATEST_LIMIT: u64 = 16_777_216;
 
-const VERSION: &str = "0.1.0 (UAX #14 of Unicode 15.0)";
+const VERSION: &str = "0.1.0 (breaks by UAX #14 of Unicode 15.0, words by UAX #29 of Unicode 18.0)";
 
 const ABOUT: &str = "\
 Says where the text on standard input may break and where it must, and which rule of UAX #14 says so.
