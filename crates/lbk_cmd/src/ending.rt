@@ -7,21 +7,28 @@ use super::faults::CmdFault;
 use lbk_files::{CellsFault, ClaimCause, Stop};
 use lbk_notation::{ReplayFault, Report};
 use lbk_ucd::{UcdFault, Which};
+use thiserror::Error;
 
 /// Why a run is refused.
-#[derive(Clone, Copy, Debug, PartialEq, Eq)]
+#[derive(Clone, Copy, Debug, PartialEq, Eq, Error)]
 pub enum RunFault {
     /// A property file cannot be opened or read.
+    #[error("{}", CellsFault::Load(*.0))]
     Load(Which),
     /// A property file of a folder is not that of Unicode 15.0.
+    #[error("{}", CellsFault::Claim(*.0, *.1))]
     Claim(Which, ClaimCause),
     /// The property files were refused at their first fault, or at a line where their tables could not grow.
+    #[error("{}", CellsFault::Tables(*.0))]
     Tables(UcdFault),
-    /// `show` or `segment` stopped.
+    /// `mark`, `show` or `segment` stopped.
+    #[error("{0}")]
     Cmd(CmdFault),
     /// `replay` stopped.
+    #[error("the replay stopped: {0:?}")]
     Replay(ReplayFault),
     /// Any other growth of memory was refused.
+    #[error("out of memory")]
     Memory,
 }
 
