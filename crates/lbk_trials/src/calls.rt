@@ -4,7 +4,7 @@
 
 use crate::commands::Words;
 use crate::counting::{begin, end};
-use crate::inputs::source_of;
+use crate::inputs::{Input, source_of};
 use anyhow::{Result, ensure};
 use lbk_cmd::{CmdFault, Ending};
 use lbk_feed::Source;
@@ -167,45 +167,42 @@ pub fn push_mark(
 
 pub fn show(
     alloc: Global,
-    bytes: &[u8],
+    input: &Input,
     sink: &mut MemorySink,
-    cells: &CellPages,
     limit: u32,
     profile: Profile,
 ) -> Result<(), CmdFault> {
-    let mut source = source_of(bytes);
+    let mut source = source_of(&input.bytes);
     begin(alloc);
-    let answer = lbk_cmd::show(alloc, &mut source, sink, cells, limit, profile);
+    let answer = lbk_cmd::show(alloc, &mut source, sink, &input.cells, limit, profile);
     end(alloc);
     answer
 }
 
 pub fn segment(
     alloc: Global,
-    bytes: &[u8],
+    input: &Input,
     sink: &mut MemorySink,
-    cells: &CellPages,
     limit: u32,
     profile: Profile,
 ) -> Result<(), CmdFault> {
-    let mut source = source_of(bytes);
+    let mut source = source_of(&input.bytes);
     begin(alloc);
-    let answer = lbk_cmd::segment(alloc, &mut source, sink, cells, limit, profile);
+    let answer = lbk_cmd::segment(alloc, &mut source, sink, &input.cells, limit, profile);
     end(alloc);
     answer
 }
 
 pub fn replay(
     alloc: Global,
-    bytes: &[u8],
+    input: &Input,
     sink: &mut MemorySink,
-    cells: &CellPages,
     form: Form,
     profile: Profile,
 ) -> Result<Report, ReplayFault> {
-    let mut source = source_of(bytes);
+    let mut source = source_of(&input.bytes);
     begin(alloc);
-    let answer = lbk_notation::replay(alloc, &mut source, sink, cells, form, profile);
+    let answer = lbk_notation::replay(alloc, &mut source, sink, &input.cells, form, profile);
     end(alloc);
     answer
 }

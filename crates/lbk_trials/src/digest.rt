@@ -1,5 +1,8 @@
 //! A number by which long answers are compared (the FNV hash of 64 bits).
 
+use lbk_rules::{Kind, Rule};
+use lbk_ucd::{Category, EastAsian, LineBreak};
+
 const MULTIPLIER: u64 = 0x100_0000_01b3;
 
 const START: u64 = 0xcbf2_9ce4_8422_2325;
@@ -23,6 +26,24 @@ impl Digest {
         for byte in bytes {
             self.add(u64::from(*byte));
         }
+    }
+
+    pub fn add_verdict(&mut self, kind: Kind, rule: Rule) {
+        self.add(kind as u64);
+        self.add_bytes(rule.label().as_bytes());
+    }
+
+    pub fn add_properties(
+        &mut self,
+        line_break: LineBreak,
+        east_asian: EastAsian,
+        category: Category,
+        is_pictographic: bool,
+    ) {
+        self.add(line_break as u64);
+        self.add(east_asian as u64);
+        self.add(category as u64);
+        self.add(u64::from(is_pictographic));
     }
 
     pub fn value(&self) -> u64 {

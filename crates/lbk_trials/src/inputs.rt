@@ -34,6 +34,47 @@ impl Text {
     }
 }
 
+/// A text's bytes, and the cells by the sample files.
+#[derive(Drop)]
+pub struct Input {
+    pub bytes: Vec<u8>,
+    pub cells: CellPages,
+}
+
+impl Input {
+    pub fn new(alloc: Global, text: Text) -> Result<Input> {
+        Ok(Input {
+            bytes: text.bytes(alloc)?,
+            cells: cells(alloc)?,
+        })
+    }
+
+    /// The text of the bytes.
+    pub fn text(&self) -> Result<&str> {
+        text_of(&self.bytes)
+    }
+
+    /// The cells of the text's scalars.
+    pub fn cell_list(&self, alloc: Global) -> Result<Vec<Cell>> {
+        let mut list = Vec::new(alloc);
+        push_cells(&mut list, &self.cells, self.text()?)?;
+        Ok(list)
+    }
+
+    /// The text's line: its scalars and the marks of its positions.
+    pub fn line(&self, alloc: Global, profile: Profile) -> Result<TestLine> {
+        let text = self.text()?;
+        Ok(mark_text(alloc, &self.cells, text, profile)?)
+    }
+}
+
+fn push_cells(list: &mut Vec<Cell>, cells: &CellPages, text: &str) -> Result<(), AllocError> {
+    for c in text.chars() {
+        list.push(cells.cell(c))?;
+    }
+    Ok(())
+}
+
 /// A source that gives these bytes, three in a read.
 pub fn source_of(bytes: &[u8]) -> MemorySource<'_> {
     MemorySource::cut(bytes, &[3])
@@ -61,31 +102,18 @@ pub fn text_of(bytes: &[u8]) -> Result<&str> {
     str::from_utf8(bytes).map_err(|_| anyhow!("the text of this row is not UTF-8"))
 }
 
-/// The cells of a text by the sample files.
-pub fn cells_of(alloc: Global, text: &str) -> Result<Vec<Cell>> {
-    let source = cells(alloc)?;
-    let mut list = Vec::new(alloc);
-    for c in text.chars() {
-        list.push(source.cell(c))?;
-    }
-    Ok(list)
-}
-
 const BLANK: Verdict = Verdict {
     kind: Kind::Must,
     rule: Rule::Lb31,
 };
 
-/// The verdicts at all positions of a text.
-pub fn verdicts_of(alloc: Global, text: &str, profile: Profile) -> Result<Vec<Verdict>> {
-    let cells = cells_of(alloc, text)?;
+/// The verdicts at all positions of these cells.
+pub fn verdicts_of(
+    alloc: Global,
+    cells: &[Cell],
+    profile: Profile,
+) -> Result<Vec<Verdict>, AllocError> {
     let mut verdicts = vec![in alloc; BLANK; cells.len() + 1]?;
-    decide_all_in(profile, &cells, &mut verdicts);
+    decide_all_in(profile, cells, &mut verdicts);
     Ok(verdicts)
-}
-
-/// The line of a text: its scalars and the marks of its positions.
-pub fn line_of(alloc: Global, text: Text, profile: Profile) -> Result<TestLine> {
-    let bytes = text.bytes(alloc)?;
-    Ok(mark_text(alloc, &cells(alloc)?, text_of(&bytes)?, profile)?)
 }

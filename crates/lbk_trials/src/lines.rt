@@ -1,12 +1,13 @@
-//! `read_line`, `read_passage_line`, `read_back`, `write_line` and `mark_text`.
+//! `read_line`, `read_passage_line`, `read_back`, `write_line`, `mark_text`, `replay_line` and `TestLine::new`.
 
 use crate::calls;
-use crate::inputs::{Text, cells, line_of, text_of};
+use crate::counting::{begin, end};
+use crate::inputs::{Input, Text, text_of};
 use crate::told::{fault_told, line_told, read_told};
-use anyhow::Result;
-use lbk_notation::Form;
-use lbk_rules::Profile;
-use std::alloc::Global;
+use anyhow::{Result, anyhow};
+use lbk_notation::{Form, Mark, Outcome, TestLine, replay_line};
+use lbk_rules::{CellPages, Profile};
+use std::alloc::{AllocError, Global};
 
 pub fn read(alloc: Global, bytes: Text, form: Form) -> Result<String> {
     let bytes = bytes.bytes(alloc)?;
@@ -18,13 +19,13 @@ pub fn read_passage(alloc: Global, bytes: Text) -> Result<String> {
     read_told(alloc, calls::read_passage_line(alloc, &bytes))
 }
 
-pub fn again(alloc: Global, text: Text, form: Form, profile: Profile) -> Result<String> {
-    let line = line_of(alloc, text, profile)?;
+pub fn again(alloc: Global, input: &Input, form: Form, profile: Profile) -> Result<String> {
+    let line = input.line(alloc, profile)?;
     read_told(alloc, calls::read_back(alloc, &line, form))
 }
 
-pub fn write(alloc: Global, text: Text, form: Form, profile: Profile) -> Result<String> {
-    let line = line_of(alloc, text, profile)?;
+pub fn write(alloc: Global, input: &Input, form: Form, profile: Profile) -> Result<String> {
+    let line = input.line(alloc, profile)?;
     match calls::write_line(alloc, &line, form) {
         Ok(written) => written_told(alloc, &written),
         Err(fault) => fault_told(alloc, &fault),
@@ -36,11 +37,82 @@ fn written_told(alloc: Global, written: &[u8]) -> Result<String> {
     Ok(format!(in alloc; "Ok({written})\n")?)
 }
 
-pub fn mark(alloc: Global, text: Text, profile: Profile) -> Result<String> {
-    let cells = cells(alloc)?;
-    let bytes = text.bytes(alloc)?;
-    match calls::mark_text(alloc, &cells, text_of(&bytes)?, profile) {
+pub fn mark(alloc: Global, input: &Input, profile: Profile) -> Result<String> {
+    let text = input.text()?;
+    match calls::mark_text(alloc, &input.cells, text, profile) {
         Ok(line) => line_told(alloc, &line),
         Err(fault) => fault_told(alloc, &fault),
     }
+}
+
+/// What `replay_line`, which takes no memory, says of the text's line, which agrees in form Kinds, and of the line that
+/// breaks nowhere, which differs in both forms.
+pub fn replay(alloc: Global, input: &Input, profile: Profile) -> Result<String> {
+    let line = input.line(alloc, profile)?;
+    let unbroken = unbroken(alloc, &line)?;
+    outcomes_told(alloc, &input.cells, &line, &unbroken, profile)
+}
+
+/// The line of the same scalars that breaks nowhere.
+fn unbroken(alloc: Global, line: &TestLine) -> Result<TestLine> {
+    let marks = vec![in alloc; Mark::No; line.marks().len()]?;
+    accepted(alloc, line.scalars(), &marks)
+}
+
+fn outcomes_told(
+    alloc: Global,
+    source: &CellPages,
+    line: &TestLine,
+    unbroken: &TestLine,
+    profile: Profile,
+) -> Result<String> {
+    begin(alloc);
+    let agrees = outcome(source, line, Form::Kinds, profile);
+    let kinds = outcome(source, unbroken, Form::Kinds, profile);
+    let plain = outcome(source, unbroken, Form::Plain, profile);
+    end(alloc);
+    Ok(format!(in alloc; "{agrees:?}\n{kinds:?}\n{plain:?}\n")?)
+}
+
+fn outcome(source: &CellPages, line: &TestLine, form: Form, profile: Profile) -> Outcome {
+    replay_line(source, line, form, profile)
+}
+
+/// What `TestLine::new` takes and refuses, and what it lends: none of it takes memory.
+pub fn test_line(alloc: Global) -> Result<String> {
+    let line = accepted(
+        alloc,
+        &['a', '\u{1F466}'],
+        &[Mark::No, Mark::May, Mark::Must],
+    )?;
+    let has_none = is_refused(alloc, &['a'], &[Mark::No])?;
+    begin(alloc);
+    let shown = (line.scalars(), line.marks());
+    end(alloc);
+    Ok(format!(in alloc; "{shown:?} {has_none}\n")?)
+}
+
+fn is_refused(alloc: Global, scalars: &[char], marks: &[Mark]) -> Result<bool, AllocError> {
+    Ok(new_line(alloc, scalars, marks)?.is_none())
+}
+
+fn accepted(alloc: Global, scalars: &[char], marks: &[Mark]) -> Result<TestLine> {
+    match new_line(alloc, scalars, marks)? {
+        Some(line) => Ok(line),
+        None => Err(anyhow!("the line of this row is refused")),
+    }
+}
+
+/// The line of these, if they make one.
+fn new_line(
+    alloc: Global,
+    scalars: &[char],
+    marks: &[Mark],
+) -> Result<Option<TestLine>, AllocError> {
+    let scalars = Vec::from_slice(alloc, scalars)?;
+    let marks = Vec::from_slice(alloc, marks)?;
+    begin(alloc);
+    let line = TestLine::new(scalars, marks);
+    end(alloc);
+    Ok(line)
 }

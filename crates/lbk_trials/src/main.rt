@@ -5,13 +5,16 @@
 //! memory in turn and compares.
 #![tactic(auto)]
 
+mod breaks;
 mod calls;
 mod commands;
 mod counting;
+mod devices;
 mod digest;
 mod engines;
 mod inputs;
 mod lines;
+mod on_text;
 mod passages;
 mod property_files;
 mod pushes;
@@ -20,6 +23,7 @@ mod rows;
 mod tables;
 mod told;
 mod trial;
+mod verdicts;
 
 use anyhow::Result;
 use lbk_rules::Profile;

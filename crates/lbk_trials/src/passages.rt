@@ -2,7 +2,7 @@
 
 use crate::calls;
 use crate::digest::Digest;
-use crate::inputs::{Text, cells, source_of};
+use crate::inputs::{Input, cells, source_of};
 use crate::told::fault_told;
 use anyhow::{Result, anyhow};
 use lbk_feed::Source;
@@ -17,20 +17,20 @@ const CALLS: usize = 10_000;
 
 pub fn new(alloc: Global, limit: u32, profile: Profile) -> Result<String> {
     let cells = cells(alloc)?;
-    match calls::segmenter(alloc, &cells, limit, profile) {
+    new_told(alloc, &cells, limit, profile)
+}
+
+fn new_told(alloc: Global, cells: &CellPages, limit: u32, profile: Profile) -> Result<String> {
+    match calls::segmenter(alloc, cells, limit, profile) {
         Ok(_segmenter) => Ok(String::from_str(alloc, "Ok\n")?),
         Err(fault) => fault_told(alloc, &fault),
     }
 }
 
 /// All passages of a text, and what comes after them, with the number of reads made so far.
-pub fn next(alloc: Global, text: Text, limit: u32, profile: Profile) -> Result<String> {
-    let cells = cells(alloc)?;
-    let bytes = text.bytes(alloc)?;
-    let mut segmenter = segmenter_of(alloc, &cells, limit, profile)?;
-    let mut told = String::new(alloc);
-    tell_all(alloc, &mut told, &mut segmenter, &bytes)?;
-    Ok(told)
+pub fn next(alloc: Global, input: &Input, limit: u32, profile: Profile) -> Result<String> {
+    let mut segmenter = segmenter_of(alloc, &input.cells, limit, profile)?;
+    all_told(alloc, &mut segmenter, &input.bytes)
 }
 
 fn segmenter_of(
@@ -44,19 +44,19 @@ fn segmenter_of(
     ))
 }
 
-fn tell_all(
+fn all_told(
     alloc: Global,
-    told: &mut String,
     segmenter: &mut Segmenter<'_, CellPages>,
     bytes: &[u8],
-) -> Result<(), AllocError> {
+) -> Result<String> {
     let mut source = source_of(bytes);
+    let mut told = String::new(alloc);
     for _ in 0..CALLS {
-        if !tell_call(alloc, told, segmenter, &mut source)? {
+        if !tell_call(alloc, &mut told, segmenter, &mut source)? {
             break;
         }
     }
-    Ok(())
+    Ok(told)
 }
 
 /// Makes one call, and tells what it answered. Whether there is another to make: also after `Memory`, where the same
@@ -119,8 +119,7 @@ fn add_segments(digest: &mut Digest, segments: &[Segment]) {
     for segment in segments {
         digest.add(u64::from(segment.start));
         digest.add(u64::from(segment.end));
-        digest.add(segment.kind as u64);
-        digest.add_bytes(segment.rule.label().as_bytes());
+        digest.add_verdict(segment.kind, segment.rule);
     }
 }
 

@@ -22,7 +22,11 @@ pub fn read(alloc: Global, files: PropertyFiles) -> Result<String> {
 pub fn build(alloc: Global, files: PropertyFiles) -> Result<String> {
     let made = files.make(alloc)?;
     let tables = tables_of(alloc, made.files())?;
-    match calls::pages(alloc, &tables) {
+    pages_told(alloc, &tables)
+}
+
+fn pages_told(alloc: Global, tables: &Tables) -> Result<String> {
+    match calls::pages(alloc, tables) {
         Ok(pages) => cells_told(alloc, &pages),
         Err(fault) => fault_told(alloc, &fault),
     }
@@ -57,9 +61,11 @@ fn tables_told(alloc: Global, tables: &Tables) -> Result<String> {
 }
 
 fn add_run(digest: &mut Digest, run: Run) {
-    digest.add(run.line_break as u64);
-    digest.add(run.east_asian as u64);
-    digest.add(run.category as u64);
-    digest.add(u64::from(run.is_pictographic));
+    digest.add_properties(
+        run.line_break,
+        run.east_asian,
+        run.category,
+        run.is_pictographic,
+    );
     digest.add(u64::from(run.last));
 }

@@ -39,6 +39,11 @@ pub fn line_told(alloc: Global, line: &TestLine) -> Result<String> {
     Ok(format!(in alloc; "Ok({scalars:?} {marks:?})\n")?)
 }
 
+pub fn digest_told(alloc: Global, digest: Digest) -> Result<String> {
+    let digest = digest.value();
+    Ok(format!(in alloc; "digest {digest:016x}\n")?)
+}
+
 /// A digest of the cells of all scalar values.
 pub fn cells_told<C: CellSource>(alloc: Global, source: &C) -> Result<String> {
     let mut digest = Digest::new();

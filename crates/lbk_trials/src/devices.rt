@@ -1,0 +1,155 @@
+//! The feed, and devices over readers and writers of std: calls that take no memory.
+
+use crate::counting::{begin, end};
+use crate::digest::Digest;
+use crate::inputs::Text;
+use anyhow::Result;
+use lbk_feed::devices::MemorySource;
+use lbk_feed::{Device, Failed, Feed, FeedFault, Sink, Source, write_all};
+use std::alloc::{AllocError, Global};
+use std::fmt::Write;
+
+/// More pieces than a row has.
+const PIECES: usize = 100_000;
+
+/// `Feed::new`, `ready`, `piece`, `settle`, `advance`, `given`.
+pub fn feed(alloc: Global, text: Text) -> Result<String> {
+    let bytes = text.bytes(alloc)?;
+    let mut source = MemorySource::cut(&bytes, &[1, 2, 3, 4096]);
+    let mut digest = Digest::new();
+    begin(alloc);
+    let mut feed = Feed::new();
+    let fault = add_pieces(&mut digest, &mut feed, &mut source).err();
+    let settled = settle(&mut feed, &mut source);
+    let given = feed.given();
+    end(alloc);
+    let reads = source.reads();
+    feed_told(alloc, (given, reads), fault, settled, digest)
+}
+
+fn feed_told(
+    alloc: Global,
+    (given, reads): (u64, u64),
+    fault: Option<FeedFault>,
+    settled: Result<bool, FeedFault>,
+    digest: Digest,
+) -> Result<String> {
+    let digest = digest.value();
+    Ok(format!(in alloc;
+        "{given} bytes, {reads} reads, {fault:?}, {settled:?}, digest {digest:016x}\n"
+    )?)
+}
+
+fn add_pieces(
+    digest: &mut Digest,
+    feed: &mut Feed,
+    source: &mut MemorySource<'_>,
+) -> Result<(), FeedFault> {
+    for _ in 0..PIECES {
+        if !add_piece(digest, feed, source)? {
+            break;
+        }
+    }
+    Ok(())
+}
+
+/// Adds the next piece, if there is one, and uses it up.
+fn add_piece(
+    digest: &mut Digest,
+    feed: &mut Feed,
+    source: &mut MemorySource<'_>,
+) -> Result<bool, FeedFault> {
+    let Some(piece) = feed.piece(source)? else {
+        return Ok(false);
+    };
+    digest.add_bytes(piece.as_bytes());
+    let ready = feed.ready().len();
+    feed.advance(ready);
+    Ok(true)
+}
+
+fn settle(feed: &mut Feed, source: &mut MemorySource<'_>) -> Result<bool, FeedFault> {
+    feed.settle(source)
+}
+
+/// `Device::new`, its `read` and `write`, `reads`, `failures`, `ended`; `write_all`.
+pub fn device(alloc: Global) -> Result<String> {
+    let room: Vec<u8> = Vec::with_capacity(alloc, 64)?;
+    begin(alloc);
+    let read = Reads::make();
+    let written = Writes::make(room);
+    end(alloc);
+    let mut told = read.told(alloc)?;
+    written.tell(&mut told, read.failures)?;
+    Ok(told)
+}
+
+/// What a device over a reader answers, and what it counts.
+#[derive(Clone, Copy)]
+struct Reads {
+    first: Result<usize, Failed>,
+    second: Result<usize, Failed>,
+    third: Result<usize, Failed>,
+    reads: u64,
+    ended: bool,
+    failures: u64,
+}
+
+impl Reads {
+    fn make() -> Reads {
+        let mut reader = Device::new(b"bytes of a reader".as_slice());
+        Reads {
+            first: read(&mut reader),
+            second: read(&mut reader),
+            third: read(&mut reader),
+            reads: reader.reads(),
+            ended: reader.ended(),
+            failures: Source::failures(&reader),
+        }
+    }
+
+    fn told(self, alloc: Global) -> Result<String, AllocError> {
+        let Reads {
+            first,
+            second,
+            third,
+            reads,
+            ended,
+            ..
+        } = self;
+        format!(in alloc; "{first:?} {second:?} {third:?} {reads} {ended}")
+    }
+}
+
+fn read(reader: &mut Device<&[u8]>) -> Result<usize, Failed> {
+    let mut block = [0u8; 16];
+    reader.read(&mut block)
+}
+
+/// What a device over a writer answers, and what it counts.
+#[derive(Clone, Copy)]
+struct Writes {
+    first: Result<usize, Failed>,
+    all: Result<(), Failed>,
+    failures: u64,
+}
+
+impl Writes {
+    fn make(room: Vec<u8>) -> Writes {
+        let mut writer = Device::new(room);
+        Writes {
+            first: writer.write(b"bytes of "),
+            all: write_all(&mut writer, b"a writer"),
+            failures: Sink::failures(&writer),
+        }
+    }
+
+    fn tell(self, told: &mut String, read_failures: u64) -> Result<(), AllocError> {
+        let Writes {
+            first,
+            all,
+            failures,
+        } = self;
+        writeln!(told, " {first:?} {all:?} ({read_failures}, {failures})")
+    }
+}
