@@ -1,3 +1,2 @@
 pub mod FillingLemmas
 pub mod ComingLemmas
-pub mod MachineLemmas

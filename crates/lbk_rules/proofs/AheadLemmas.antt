@@ -1,9 +1,11 @@
 -- A position of a text that is at hand: what the scalars behind it decide.
-use Rattle.std.proofs.Common.{◌≡◌, ℕ, ◌||◌, Bool, true, false, cond, List, [], ◌∷◌, ◌++◌, map, reverse, refl, sym, ap, subst, ◌∙◌}
+use Rattle.std.proofs.Common.{◌≡◌, ℕ, ◌||◌, Bool, true, false, cond, List, [], ◌∷◌, ◌++◌, drop, length, map, reverse, refl, sym, ap, subst, ◌∙◌}
 use Rattle.std.specs.Char.{encode_utf8}
 use Rattle.std.specs.Str.{IsUtf8, chars}
 use Rattle.std.proofs.lemmas.Bool.{false≢true}
+use Rattle.std.proofs.lemmas.List.{length-map}
 use Rattle.std.proofs.lemmas.Str.{IsUtf8-past_char, chars-nil, chars_past_char}
+use Rattle.std.proofs.Math.Seq.{drop-length, take-length}
 use Rattle.lbk_rules.specs.declared.cells.Cell.{Cell}
 use Rattle.lbk_rules.specs.declared.verdicts.Profile.{Profile}
 use Rattle.lbk_rules.specs.declared.verdicts.Profile.TheVariants.{First, Second}
@@ -17,11 +19,12 @@ use Rattle.lbk_rules.specs.KindTable.{kind_at}
 use Rattle.lbk_rules.specs.Normal.{normal}
 use Rattle.lbk_rules.specs.RowFits.{AreKindsOf}
 use Rattle.lbk_rules.specs.RowMachineFits.{normals}
-use Rattle.lbk_rules.specs.Verdict.{verdict_between_in}
+use Rattle.lbk_rules.specs.Verdict.{verdict_between_in, verdict_in}
 use Rattle.lbk_rules.specs.Sides.{Side, leaves_closed}
 use Rattle.lbk_rules.specs.Units.{unit, units_after}
 use Rattle.lbk_rules.proofs.ChainLemmas.{verdict_between-chain}
 use Rattle.lbk_rules.proofs.HeldLemmas.{from_cells-first}
+use Rattle.lbk_rules.proofs.MachineLemmas.{verdict_in-append}
 use Rattle.lbk_rules.proofs.NormalLemmas.{between-normal}
 use Rattle.lbk_rules.proofs.PagesOfText.{cells_of_text-same}
 
@@ -93,3 +96,17 @@ pub ahead-normal : (profile : Profile) (cell : ℕ → Cell) (taken : List ℕ) 
     → from_cells profile (reverse (normals cell taken)) (map normal right) ≡ verdict_between_in profile (map cell taken) right
 ahead-normal profile cell taken right =
     sym (verdict_between-chain profile (normals cell taken) (map normal right)) ∙ between-normal profile (map cell taken) right
+
+-- Between what was taken and the text behind
+
+pub at-seam : (profile : Profile) (cell : ℕ → Cell) (taken : List ℕ) (more : List Cell)
+    → verdict_in profile (map cell taken ++ more) (length taken) ≡ verdict_between_in profile (map cell taken) more
+at-seam profile cell taken more =
+    ap (λ k. verdict_in profile (map cell taken ++ more) k) (sym (length-map taken cell)) ∙ verdict_in-append profile (map cell taken) more
+
+pub at-end : (profile : Profile) (cell : ℕ → Cell) (taken : List ℕ)
+    → verdict_in profile (map cell taken) (length taken) ≡ verdict_between_in profile (map cell taken) []
+at-end profile cell taken =
+    ap (λ k. verdict_in profile (map cell taken) k) (sym (length-map taken cell))
+    ∙ ap (λ l. verdict_between_in profile l (drop (length (map cell taken)) (map cell taken))) (take-length (map cell taken))
+    ∙ ap (λ r. verdict_between_in profile (map cell taken) r) (drop-length (map cell taken))

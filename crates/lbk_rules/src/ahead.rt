@@ -5,7 +5,7 @@ ghost use Rattle.std.specs.Prelude.{◌≡◌, ℕ, List, [], ◌∷◌, ◌++�
 ghost use Rattle.std.specs.Str.{chars};
 ghost use Rattle.lbk_rules.specs.Chain.{from_cells};
 ghost use Rattle.lbk_rules.specs.Classes.{hard};
-ghost use Rattle.lbk_rules.specs.Facts.{facts};
+ghost use Rattle.lbk_rules.specs.Facts.{closes_in, facts};
 ghost use Rattle.lbk_rules.specs.Sides.{Side, leaves_closed};
 ghost use Rattle.lbk_rules.specs.Units.{units_after};
 ghost use Rattle.lbk_rules.specs.Verdict.{verdict_between_in};
@@ -93,8 +93,14 @@ impl<'a> RowMachine<'a> {
             → RowMachineFits self.now profile cell taken
             → result ≡ verdict_between_in profile (map cell taken) (cell c ∷ map cell (chars rest.now)) }
     {
-        self.left()
-            .verdict_ahead(self.kinds, self.profile(), self.cell(c), rest)
+        let mut machine = *self;
+        if let Some(verdict) = machine.step_unless_held(c) {
+            return verdict;
+        }
+        let profile = self.profile();
+        let cell = self.cell(c);
+        let closes = closes_in(profile, self.kinds, cell.class, rest);
+        self.left().verdict(profile, cell, closes)
     }
 }
 
@@ -133,4 +139,11 @@ fn closes_ahead<C: CellSource>(cells: &C, class: Class, rest: &str) -> bool
         fresh = cell.class.is_hard();
     }
     true
+}
+
+/// The same in the second profile, the only one that asks for it.
+fn closes_in<C: CellSource>(profile: Profile, cells: &C, class: Class, rest: &str) -> bool
+    ensures { result ≡ closes_in profile (units_after (hard class) (map (C.cell_of cells.now) (chars rest.now))) }
+{
+    profile.is_second() && closes_ahead(cells, class, rest)
 }

@@ -3,7 +3,7 @@ use Rattle.std.specs.Char.{encode_utf8}
 use Rattle.std.specs.Str.{chars}
 use Rattle.lbk_rules.specs.RowMachineFits.{RowMachineFits}
 use Rattle.lbk_breaks.proofs.FillingLemmas.{Filled-step, reads}
-use Rattle.lbk_breaks.proofs.MachineLemmas.{at-seam}
+use Rattle.lbk_rules.proofs.AheadLemmas.{at-seam}
 use Rattle.lbk_breaks.proofs.by_steps.quick.Goals as goal
 
 pub range_from-requires : goal.range_from-requires

@@ -1,4 +1,4 @@
-use Rattle.std.proofs.Common.{ℕ, ◌∷◌, map, reverse, ap, ◌∙◌}
+use Rattle.std.proofs.Common.{ℕ, ◌∷◌, map, reverse, sym, ap, ◌∙◌}
 use Rattle.std.specs.Str.{chars}
 use Rattle.lbk_rules.specs.declared.cells.Cell.{Cell}
 use Rattle.lbk_rules.specs.declared.verdicts.Profile.{Profile}
@@ -7,8 +7,13 @@ use Rattle.lbk_rules.specs.Kinds.{kind_cell}
 use Rattle.lbk_rules.specs.KindTable.{kind_at}
 use Rattle.lbk_rules.specs.Normal.{normal}
 use Rattle.lbk_rules.specs.RowMachineFits.{normals}
-use Rattle.lbk_rules.proofs.AheadLemmas.{ahead-normal, kinds_of_text}
+use Rattle.lbk_rules.proofs.AheadLemmas.{ahead-normal, at-seam, kinds_of_text}
 use Rattle.lbk_rules.proofs.step_table.RowMachine.look_ahead.Goals as goal
+
+pub returns-in-Some : goal.returns-in-Some
+returns-in-Some c = λ profile cell taken fits.
+    let more = map cell (chars c.args.rest.now) in
+    c.in-Some.ensures.decides profile cell taken more fits ∙ at-seam profile cell taken (cell c.args.c ∷ more)
 
 pub returns : goal.returns
 returns c = λ profile cell taken fits.
@@ -16,8 +21,8 @@ returns c = λ profile cell taken fits.
     let rest = c.args.rest.now in
     let machine = c.args.self.now in
     let see : ℕ → Cell = λ code. kind_cell (kind_at machine.kinds.now code) in
-    c.verdict_ahead.ensures side (c.left.ensures profile cell taken fits)
-    ∙ ap (λ (p : Profile). from_cells p side (c.cell.result ∷ map see (chars rest))) (c.profile.ensures profile cell taken fits)
-    ∙ ap (λ (x : Cell). from_cells profile side (x ∷ map see (chars rest))) (c.cell.ensures profile cell taken fits)
+    c.verdict.ensures side (map see (chars rest)) (c.left.ensures profile cell taken fits) (sym c.closes_in-closes.ensures)
+    ∙ ap (λ (p : Profile). from_cells p side (c.cell-cell.result ∷ map see (chars rest))) (c.profile-profile.ensures profile cell taken fits)
+    ∙ ap (λ (x : Cell). from_cells profile side (x ∷ map see (chars rest))) (c.cell-cell.ensures profile cell taken fits)
     ∙ ap (λ l. from_cells profile side (normal (cell c.args.c) ∷ l)) (kinds_of_text machine.kinds.now cell rest fits.kinds_same c.utf8.rest)
     ∙ ahead-normal profile cell taken (cell c.args.c ∷ map cell (chars rest))
