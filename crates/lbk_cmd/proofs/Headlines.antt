@@ -21,7 +21,7 @@ AllScalars text = AllByRecursion (λ scalar. IsScalar scalar) text
 
 -- all of two lists joined
 
-both : {A : Type 0} → (P : A → Type 0) (xs ys : List A) → AllByRecursion P (xs ++ ys) → AllByRecursion P xs × AllByRecursion P ys
+pub both : {A : Type 0} → (P : A → Type 0) (xs ys : List A) → AllByRecursion P (xs ++ ys) → AllByRecursion P xs × AllByRecursion P ys
 both P [] ys all = (tt, all)
 both P (x ∷ xs) ys all = let rest = both P xs ys all.1 in ((all.0, rest.0), rest.1)
 

@@ -1,12 +1,11 @@
 -- What is settled before a read is written before it.
-use Rattle.std.proofs.Common.{◌≡◌, ℕ, ◌+◌, ◌<◌, ◌≤◌, true, false, Bool, List, [], ◌++◌, length, take, drop, Option, Result, IsUtf8, encode_utf8, encode_utf8_all, sym, ap, subst, ◌∙◌, arith, inl, refl, ⊎_elim, length-append, length-take-le, append_assoc, append-nil}
+use Rattle.std.proofs.Common.{◌≡◌, ℕ, ◌+◌, ◌<◌, ◌≤◌, true, false, Bool, List, [], ◌++◌, length, take, drop, Option, Result, encode_utf8, encode_utf8_all, sym, ap, subst, ◌∙◌, arith, inl, refl, ⊎_elim, length-append, append_assoc, append-nil}
 use Rattle.std.proofs.lemmas.Bool.{cases_lt}
 use Rattle.std.proofs.lemmas.List.{take-append-drop, take-append-le}
 use Rattle.std.proofs.Math.Seq.{take-append_seam}
 use Rattle.std.proofs.lemmas.Str.{encode_same, encodes-append}
-use Rattle.lbk_feed.specs.Text.{longest_text, IsCutScalar}
+use Rattle.lbk_feed.specs.Text.{IsCutScalar}
 use Rattle.lbk_feed.specs.View.{CanGoOn}
-use Rattle.lbk_passage.specs.Marks.{Marked}
 use Rattle.lbk_passage.specs.Passages.{passages}
 use Rattle.lbk_passage.specs.State.{State}
 use Rattle.lbk_passage.specs.Next.{AfterNext, BeginsWithAll, WereDue, lent_text}

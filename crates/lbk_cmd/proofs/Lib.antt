@@ -1,6 +1,9 @@
 pub mod Deciding
 pub mod LineWriting
 pub mod PassageLines
+pub mod Breaking
+pub mod InMemory
+pub mod ReadingBack
 pub mod Signing
 pub mod Running
 pub mod Runs

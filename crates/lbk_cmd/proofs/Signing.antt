@@ -1,21 +1,18 @@
 -- A passage's text with its signs, segment by segment, is that of its marks.
-use Rattle.std.proofs.Common.{◌≡◌, ℕ, ◌+◌, ◌-◌, ◌≤◌, List, [], ◌∷◌, ◌++◌, length, drop, take, None, Some, Option, Result, Ok, Bool, append_assoc, append-nil, refl, sym, ap, ap₂, subst, ◌∙◌, arith, length-append, encode_utf8, encode_utf8_all, chars}
+use Rattle.std.proofs.Common.{◌≡◌, ℕ, ◌+◌, ◌-◌, ◌≤◌, List, [], ◌∷◌, ◌++◌, length, drop, take, Some, Option, Result, Ok, Bool, append_assoc, refl, sym, ap, ap₂, subst, ◌∙◌, arith, length-append, encode_utf8, chars}
 use Rattle.std.specs.Prelude.{slice_range, if◌then◌else◌}
-use Rattle.std.specs.List.{flat_map, last_or}
-use Rattle.std.specs.Str.{IsUtf8}
+use Rattle.std.specs.List.{flat_map}
 use Rattle.std.proofs.Math.Seq.{drop-append_seam, take-append_seam}
 use Rattle.std.proofs.lemmas.Str.{chars_from_encodes}
 use Rattle.lbk_rules.specs.declared.cells.Cell.{Cell}
-use Rattle.lbk_rules.specs.declared.verdicts.Kind.{Kind}
 use Rattle.lbk_rules.specs.declared.verdicts.Kind.TheVariants.{No, May, Must}
 use Rattle.lbk_rules.specs.Breaks.{is_no}
 use Rattle.lbk_passage.specs.Marks.{Marked, scalars_of, text_of}
-use Rattle.lbk_passage.specs.Segments.{segment_by, segments_from, segments_of}
+use Rattle.lbk_passage.specs.Segments.{segments_from, segments_of}
 use Rattle.lbk_passage.specs.State.{State}
 use Rattle.lbk_passage.specs.Next.{AfterNext, IsPassage}
 use Rattle.lbk_passage.specs.declared.faults.PassageFault.{PassageFault}
 use Rattle.lbk_passage.specs.declared.passage.Passage.{Passage}
-use Rattle.lbk_passage.specs.declared.passage.Segment.{Segment}
 use Rattle.lbk_cmd.specs.Mark.{missing_line_end, sign, signed, signed_passage}
 use Rattle.lbk_cmd.specs.Signing.{IsCut, signed_from}
 

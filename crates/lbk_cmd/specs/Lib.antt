@@ -9,6 +9,8 @@ pub mod Ending
 pub mod Devices
 pub mod Acts
 pub mod Headline
+pub mod Broken
 -- What only carries proofs.
 pub mod Deciding
 pub mod Signing
+pub mod ReadBack

@@ -1,6 +1,7 @@
 //! The engines of the program, and the program's run: what each writes is a stated function of what it reads.
 #![tactic(auto)]
 
+mod broken;
 mod command;
 mod ending;
 mod engine;
@@ -10,6 +11,7 @@ mod segmented;
 mod shown;
 mod signed;
 
+pub use broken::{BreakFault, break_text};
 pub use command::run;
 pub use ending::{Ending, RunFault};
 pub use engine::{mark, segment, show};

@@ -35,6 +35,14 @@ impl<D> Device<D> {
             tally: Tally::new(),
         }
     }
+
+    /// What the device is over, as its calls left it.
+    pub fn into_inner(self) -> D
+        ensures { result ≡ inner_of self }
+    {
+        let Device { inner, tally: _ } = self;
+        inner
+    }
 }
 
 impl<R: Read> Source for Device<R> {

@@ -19,7 +19,7 @@ use Rattle.lbk_notation.specs.Grammar.{digit_byte, mark_bytes, token_bytes, IsAf
 use Rattle.lbk_notation.specs.Line.{Line}
 use Rattle.lbk_notation.specs.Marked.{mark_of}
 use Rattle.lbk_notation.specs.Shown.{written_labels, passage_line, passage_marks}
-use Rattle.lbk_notation.specs.Written.{shown, shown_line, digits_of, token, written_after, written_line}
+use Rattle.lbk_notation.specs.Written.{shown, shown_line, digits_of, token, written_after, written_line, written_marks}
 use Rattle.lbk_notation.proofs.Writes.{AllScalars, written-IsLine}
 use Rattle.lbk_rules.specs.declared.verdicts.Rule.{Rule}
 use Rattle.lbk_rules.specs.declared.verdicts.Rule.TheVariants.{Lb2}
@@ -153,6 +153,44 @@ labels_no_feed : (verdicts : List Verdict) → AllByRecursion (λ byte. byte ≢
 labels_no_feed [] = tt
 labels_no_feed (verdict ∷ verdicts) =
     ((λ e. omega (arith, e)), joined_no_feed (label_of verdict.rule) (written_labels verdicts) (label_no_feed verdict.rule) (labels_no_feed verdicts))
+
+-- a passage's line has no line end within it
+
+digit_no_feed : (digit : ℕ) → 10 < digit_byte digit
+digit_no_feed digit =
+    cond_both (ltb digit 10) (48 + digit) (55 + digit) (λ byte. 10 < byte) (λ e. omega arith) (λ e. omega arith)
+
+token_no_feed : (digits : List ℕ) → AllByRecursion (λ byte. byte ≢ 10) (token_bytes digits)
+token_no_feed [] = tt
+token_no_feed (digit ∷ digits) = ((λ e. omega (arith, e, digit_no_feed digit)), token_no_feed digits)
+
+mark_no_feed : (mark : Mark) → AllByRecursion (λ byte. byte ≢ 10) (mark_bytes mark)
+mark_no_feed No = no_feed (mark_bytes No) refl
+mark_no_feed May = no_feed (mark_bytes May) refl
+mark_no_feed Must = no_feed (mark_bytes Must) refl
+
+after_no_feed : (scalars : List ℕ) (marks : List Mark) → AllByRecursion (λ byte. byte ≢ 10) (written_after Kinds scalars marks)
+after_no_feed [] [] = tt
+after_no_feed [] (mark ∷ marks) = tt
+after_no_feed (scalar ∷ scalars) [] = tt
+after_no_feed (scalar ∷ scalars) (mark ∷ marks) =
+    let mark_then = joined_no_feed (mark_bytes (shown Kinds mark)) (written_after Kinds scalars marks)
+    (mark_no_feed (shown Kinds mark)) (after_no_feed scalars marks) in (
+      (λ e. omega (arith, e)),
+      joined_no_feed (token scalar) (32 ∷ (mark_bytes (shown Kinds mark) ++ written_after Kinds scalars marks))
+          (token_no_feed (digits_of scalar)) ((λ e. omega (arith, e)), mark_then),
+    )
+
+marks_no_feed : (scalars : List ℕ) (marks : List Mark) → AllByRecursion (λ byte. byte ≢ 10) (written_marks Kinds scalars marks)
+marks_no_feed scalars [] = tt
+marks_no_feed scalars (mark ∷ marks) =
+    joined_no_feed (mark_bytes (shown Kinds mark)) (written_after Kinds scalars marks) (mark_no_feed (shown Kinds mark)) (after_no_feed scalars marks)
+
+pub one_line : (scalars : List ℕ) (verdicts : List Verdict) → AllByRecursion (λ byte. byte ≢ 10) (passage_line scalars verdicts)
+one_line scalars verdicts =
+    let marks : List Mark = map (λ (v : Verdict). mark_of v.kind) verdicts in
+    joined_no_feed (written_marks Kinds scalars marks) (9 ∷ 35 ∷ written_labels verdicts) (marks_no_feed scalars marks)
+    ((λ e. omega (arith, e)), ((λ e. omega (arith, e)), labels_no_feed verdicts))
 
 pub says : (scalars : List ℕ) (verdicts : List Verdict) → length verdicts ≡ length scalars + 1 → AllScalars scalars
     → IsLine Kinds (passage_line scalars verdicts) (Some (passage_marks scalars verdicts))

@@ -10,6 +10,7 @@ ghost use Rattle.lbk_notation.specs.declared.marks.Mark.{Mark};
 ghost use Rattle.lbk_notation.specs.Grammar.{IsLine, IsToken, number_of};
 ghost use Rattle.lbk_notation.specs.Line.{Line};
 ghost use Rattle.lbk_notation.specs.Shown.{passage_line, passage_marks};
+ghost use Rattle.lbk_notation.specs.Stream.{HasNoLineEnd};
 ghost use Rattle.lbk_notation.specs.Written.{digits_of, token, shown_line, written_line};
 ghost use Rattle.lbk_rules.specs.declared.verdicts.Verdict.{Verdict};
 
@@ -37,10 +38,11 @@ pub fn comments()
 {}
 
 /// The line that is written of a passage, with the labels of the rules in its comment, has at most 12 bytes
-/// per byte of the passage's text and 8 more, and it says the passage's scalars and marks.
+/// per byte of the passage's text and 8 more, holds no LF, and says the passage's scalars and marks.
 pub fn passage_lines()
     ensures short { (scalars : List ℕ) (verdicts : List Verdict) → length verdicts ≡ length scalars + 1
         → length (passage_line scalars verdicts) ≤ 12 * length (encode_utf8_all scalars) + 8 }
+    ensures one { (scalars : List ℕ) (verdicts : List Verdict) → HasNoLineEnd (passage_line scalars verdicts) }
     ensures says { (scalars : List ℕ) (verdicts : List Verdict) → length verdicts ≡ length scalars + 1
         → AllByRecursion (λ scalar. IsScalar scalar) scalars
         → IsLine Kinds (passage_line scalars verdicts) (Some (passage_marks scalars verdicts)) }

@@ -1,4 +1,4 @@
-use Rattle.std.proofs.Common.{◌≡◌, ◌∙◌, ℕ, Option, None, false, sym, ap, chars}
+use Rattle.std.proofs.Common.{◌∙◌, ℕ, Option, None, false, sym, ap, chars}
 use Rattle.std.specs.List.{last_or}
 use Rattle.std.specs.Option.{option_map_or}
 use Rattle.std.proofs.lemmas.Str.{Chars-Drains, encodes-chars}

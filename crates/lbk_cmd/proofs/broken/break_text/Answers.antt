@@ -1,0 +1,30 @@
+use Rattle.std.proofs.Common.{None, ap, subst, sym, ◌∙◌}
+use Rattle.std.proofs.lemmas.Result.{err_from_is_err_and}
+use Rattle.lbk_rules.specs.CellPages.{page_cell}
+use Rattle.lbk_cmd.specs.Devices.{devices_of}
+use Rattle.lbk_cmd.specs.ReadBack.{AreReadable, Say}
+use Rattle.lbk_cmd.specs.declared.broken.BreakFault.TheVariants.{Text as text_fault}
+use Rattle.lbk_cmd.proofs.Breaking.{broken, out_of_memory, readable}
+use Rattle.lbk_cmd.proofs.broken.break_text.Goals as goal
+
+pub read_lines-requires : goal.read_lines-requires
+read_lines-requires g c =
+    subst AreReadable (sym c.deref.ensures.value)
+    (readable (page_cell c.in_ok-cells.cells) c.args.limit c.args.profile _ _ c.in_ok-text.ensures.done (g.R.Source.unread c.args.reader.now)
+    c.in_ok-text.text.items c.in_ok-text.ensures.whole)
+
+pub returns-in_err-lines-clause-refused : goal.returns-in_err-lines-clause-refused
+returns-in_err-lines-clause-refused g c =
+    let source = g.R.Source in
+    let exit = err_from_is_err_and c.from_residual-in_err-lines.result c.from_residual-in_err-lines.ensures.1 in
+    out_of_memory c.args.files (page_cell c.in_ok-cells.cells) c.args.limit c.args.profile
+    (devices_of (source.unread c.args.reader.now) (source.read_count c.args.reader.now) (source.failure_count c.args.reader.now) (source.has_ended c.args.reader.now) None 0)
+    (devices_of (source.unread c.shown_text.new.reader) (source.read_count c.shown_text.new.reader) (source.failure_count c.shown_text.new.reader) (source.has_ended c.shown_text.new.reader) None 0)
+    c.from_residual-in_err-lines.result exit.0 exit.1 (exit.2 ∙ ap text_fault c.in_err-lines.ensures.fault)
+    c.in_ok-cells.ensures.cells c.in_ok-text.ensures.done
+
+pub returns-clause-broken : goal.returns-clause-broken
+returns-clause-broken g c =
+    broken (page_cell c.in_ok-cells.cells) c.args.limit c.args.profile _ _ c.in_ok-text.ensures.done (g.R.Source.unread c.args.reader.now)
+    c.in_ok-text.text.items c.in_ok-text.ensures.whole c.args.files c.in_ok-lines.lines.items c.in_ok-cells.ensures.cells
+    (subst (λ text. Say text c.in_ok-lines.lines.items) c.deref.ensures.value c.in_ok-lines.ensures.lines)

@@ -1,0 +1,44 @@
+-- What `break_text` answers, by the files and by what it read.
+use Rattle.std.specs.Prelude.{◌≡◌, ℕ, List, map, Option, Result, Err, IfSome, IsUtf8}
+use Rattle.std.specs.Str.{chars}
+use Rattle.lbk_ucd.specs.declared.tables.Files.{Files}
+use Rattle.lbk_rules.specs.declared.cells.Cell.{Cell}
+use Rattle.lbk_rules.specs.declared.verdicts.Profile.{Profile}
+use Rattle.lbk_passage.specs.Marks.{Marked, scalars_of}
+use Rattle.lbk_notation.specs.Line.{Line}
+use Rattle.lbk_notation.specs.Shown.{passage_marks}
+use Rattle.lbk_files.specs.Cells.{AreCellsOf}
+use Rattle.lbk_files.specs.CellsRefusal.{IsCellsRefusal}
+use Rattle.lbk_cmd.specs.Acts.{Shows}
+use Rattle.lbk_cmd.specs.Devices.{Devices}
+use Rattle.lbk_cmd.specs.Headline.{ArePassagesOf}
+use Rattle.lbk_cmd.specs.Show.{verdicts_of}
+use Rattle.lbk_cmd.specs.declared.broken.BreakFault.{BreakFault}
+use Rattle.lbk_cmd.specs.declared.broken.BreakFault.TheVariants.{Files as files_fault, Text as text_fault}
+use Rattle.lbk_cmd.specs.declared.faults.CmdFault.{CmdFault}
+
+-- what the line of a passage says: its scalars, and the marks of its positions
+abbrev pub said : List Marked → Line
+said ms = passage_marks (scalars_of ms) (verdicts_of ms)
+
+-- each line says one passage of the text, in their order
+pub record SayPassages (files : Files) (profile : Profile) (text : List ℕ) (lines : List Line) : Type 0 where
+  pub passages : List (List Marked)
+  pub are : ArePassagesOf files profile text passages
+  pub say : lines ≡ map said passages
+
+-- the bytes read, all that the reader had where it tells them, are a text, and the lines say its passages
+pub record IsBroken (files : Files) (profile : Profile) (unread : Option (List ℕ)) (lines : List Line) : Type 0 where
+  pub bytes : List ℕ
+  pub read : IfSome unread (λ input. bytes ≡ input)
+  pub utf8 : IsUtf8 bytes
+  pub say : SayPassages files profile (chars bytes) lines
+
+-- `show` answers so by cells of the files
+abbrev pub ShowsBy : Files → ℕ → Profile → Devices → Devices → Result (Unit {0}) CmdFault → Type 0
+ShowsBy files limit profile before after answer = (cell : ℕ → Cell) × AreCellsOf files cell × Shows cell limit profile before after answer
+
+-- the files are refused, and nothing is read; or `show` stops by their cells
+abbrev pub IsBreakFault : Files → ℕ → Profile → Devices → Devices → BreakFault → Type 0
+IsBreakFault files limit profile before after (files_fault fault) = IsCellsRefusal files fault × (after ≡ before)
+IsBreakFault files limit profile before after (text_fault fault) = ShowsBy files limit profile before after (Err fault)
