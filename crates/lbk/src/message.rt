@@ -5,7 +5,7 @@ use lbk_files::name_in_database;
 use lbk_notation::ReplayFault;
 use lbk_passage::PassageFault;
 use lbk_ucd::{UcdCause, UcdFault, Which};
-use lbk_words::{Engine, FileName, FileNames, Order};
+use lbk_words::{DEFAULT_LIMIT, Engine, FileName, FileNames, Order};
 use std::fmt;
 use std::io::ErrorKind;
 
@@ -200,7 +200,7 @@ impl<'a> Message<'a> {
         match self.order.map(|order| order.engine) {
             Some(Engine::Mark { limit } | Engine::Show { limit } | Engine::Segment { limit }) =>
                 limit,
-            _ => 65_536,
+            _ => DEFAULT_LIMIT,
         }
     }
 }

@@ -16,10 +16,8 @@ use lbk_feed::{Sink, Source};
 use lbk_files::{Ready, Store, prepare, sample_cells};
 use lbk_notation::{Form, replay};
 use lbk_rules::Profile;
-use lbk_words::Engine;
+use lbk_words::{DEFAULT_LIMIT, Engine};
 use std::alloc::Global;
-
-const SAMPLE_LIMIT: u32 = 65_536;
 
 /// Runs the engine that the words behind the program's name ask for, by the files that they name, from the reader to
 /// the writer. Without words it shows the text by the sample files, in the first profile, with paragraphs of at most
@@ -79,7 +77,7 @@ fn show_samples<R: Source, W: Sink>(alloc: Global, reader: &mut R, writer: &mut 
             reader,
             writer,
             &cells,
-            SAMPLE_LIMIT,
+            DEFAULT_LIMIT,
             Profile::First,
         )),
         Err(fault) => Ending::of_files(fault),

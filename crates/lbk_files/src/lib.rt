@@ -15,7 +15,7 @@ pub use cells::{SAMPLE_FILES, read_cells, sample_cells};
 pub use database::name_in_database;
 pub use faults::{CellsFault, Stop};
 pub use front::read_front;
-pub use loading::{GREATEST_FILE, load_cells};
+pub use loading::load_cells;
 pub use memory_store::MemoryStore;
 pub use published::{ClaimCause, Version, check_claim};
 pub use readiness::{Ready, prepare};

@@ -12,12 +12,9 @@ use super::faults::CellsFault;
 use super::published::check_claim;
 use super::store::{LoadFault, Store};
 use lbk_rules::CellPages;
-use lbk_ucd::{Files, Which};
+use lbk_ucd::{Files, LONGEST_FILE, Which};
 use lbk_words::{FileName, FileNames};
 use std::alloc::Global;
-
-/// The most bytes of a property file. One more is loaded, so that a longer file is refused as too long.
-pub const GREATEST_FILE: usize = 8_388_608;
 
 /// The cells of the files that are named: they are loaded in the order of `Files`, then read.
 ///
@@ -95,7 +92,8 @@ fn load_named<S: Store>(
     ensures { MatchResult result (λ bytes. IsLoaded which (told_of (S.file store.now) which (given name.now)) bytes.items)
         (IsOneFault which (told_of (S.file store.now) which (given name.now))) }
 {
-    match store.load(alloc, name, GREATEST_FILE) {
+    // One byte more is loaded, so that a longer file is refused as too long.
+    match store.load(alloc, name, LONGEST_FILE) {
         Ok(bytes) => Ok(bytes),
         Err(LoadFault::Unreadable) => Err(CellsFault::Load(which)),
         Err(LoadFault::Memory) => Err(CellsFault::Memory),

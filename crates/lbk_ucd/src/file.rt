@@ -16,8 +16,8 @@ use crate::rows::{Assigned, LAST_CODE, Row};
 use crate::values::Which;
 use std::alloc::Global;
 
-/// How many bytes a file has at most.
-const LONGEST_FILE: usize = 8_388_608;
+/// The most bytes of a property file.
+pub const LONGEST_FILE: usize = 8_388_608;
 
 /// How many bytes a line has at most, without its LF.
 const LONGEST_LINE: usize = 1_024;

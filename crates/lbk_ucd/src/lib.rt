@@ -16,6 +16,7 @@ mod taken;
 mod values;
 
 pub use fault::{UcdCause, UcdFault};
+pub use file::LONGEST_FILE;
 pub use samples::{SAMPLE_CATEGORY, SAMPLE_EAST_ASIAN, SAMPLE_EMOJI, SAMPLE_LINE_BREAK};
 pub use tables::{Files, Places, Run, Tables};
 pub use values::{Category, EastAsian, LineBreak, Which};

@@ -6,4 +6,4 @@ mod order;
 mod reading;
 
 pub use order::{Engine, FileName, FileNames, Order, WordsFault};
-pub use reading::parse;
+pub use reading::{DEFAULT_LIMIT, parse};

@@ -15,7 +15,8 @@ use clap::{ArgMatches, Error};
 use lbk_rules::Profile;
 use std::alloc::Global;
 
-const DEFAULT_LIMIT: u32 = 65_536;
+/// The most bytes of a paragraph where the words give no limit.
+pub const DEFAULT_LIMIT: u32 = 65_536;
 
 /// Reads the words behind the program's name.
 ///
