@@ -27,7 +27,7 @@ mod verdicts;
 
 use anyhow::Result;
 use lbk_rules::Profile;
-use rows::{ROWS, Row};
+use rows::{GROUPS, Row, trial_of};
 use std::env;
 use std::process::ExitCode;
 
@@ -55,25 +55,30 @@ fn usage(rt: &HostRuntime) -> Result<ExitCode> {
 
 /// Runs the row of this name, and writes the whole answer.
 fn run_one(rt: &HostRuntime, name: &str, profile: Profile) -> Result<ExitCode> {
-    for (row, trial) in ROWS {
-        if *row == name {
-            let told = trial.run(rt.alloc(), profile)?;
-            print!(rt; "{told}")?;
-            return Ok(ExitCode::SUCCESS);
-        }
-    }
-    usage(rt)
+    let Some(trial) = trial_of(name) else {
+        return usage(rt);
+    };
+    let told = trial.run(rt.alloc(), profile)?;
+    print!(rt; "{told}")?;
+    Ok(ExitCode::SUCCESS)
 }
 
 /// Runs all rows, those that have a profile in both, and writes the answers that are short, the sum of the others.
 fn run_all(rt: &HostRuntime) -> Result<ExitCode> {
-    for row in ROWS {
+    for group in &GROUPS {
+        run_rows(rt, group.rows())?;
+    }
+    Ok(ExitCode::SUCCESS)
+}
+
+fn run_rows(rt: &HostRuntime, rows: &[Row]) -> Result<()> {
+    for row in rows {
         run_shortly(rt, row, Profile::First)?;
         if row.1.has_profile() {
             run_shortly(rt, row, Profile::Second)?;
         }
     }
-    Ok(ExitCode::SUCCESS)
+    Ok(())
 }
 
 fn run_shortly(rt: &HostRuntime, row: &Row, profile: Profile) -> Result<()> {
@@ -83,9 +88,13 @@ fn run_shortly(rt: &HostRuntime, row: &Row, profile: Profile) -> Result<()> {
         Profile::First => println!(rt; "row {name}")?,
         Profile::Second => println!(rt; "row {name} 2")?,
     }
+    show(rt, told.as_str())
+}
+
+/// Shows an answer, or its length and a digest of it.
+fn show(rt: &HostRuntime, told: &str) -> Result<()> {
     if told.len() <= SHOWN {
-        let text = told.as_str();
-        println!(rt; "{}", text.strip_suffix('\n').unwrap_or(text))?;
+        println!(rt; "{}", told.strip_suffix('\n').unwrap_or(told))?;
     } else {
         let digest = digest::of(told.as_bytes());
         let count = told.len();

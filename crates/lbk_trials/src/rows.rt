@@ -180,7 +180,75 @@ const LIMIT: u32 = 65_536;
 
 const HUGE_LIMIT: u32 = 100_000;
 
-pub const ROWS: &[Row] = &[
+/// Kinds of calls. Each has a table of rows of its own, since a function that names a long one is dear to prove.
+#[derive(Clone, Copy)]
+pub enum Group {
+    /// Sinks and property files.
+    Files,
+    /// Segmenters and their passages.
+    Passages,
+    /// Test lines, read, written and marked.
+    Lines,
+    /// What is put behind a text.
+    Pushes,
+    /// Engines over a text.
+    Engines,
+    /// Words of the command line, and the files that they name.
+    Words,
+    /// Runs of the program.
+    Runs,
+    /// Calls that take no memory.
+    Quiet,
+}
+
+/// All groups, in the order in which their rows are run.
+pub const GROUPS: [Group; 8] = [
+    Group::Files,
+    Group::Passages,
+    Group::Lines,
+    Group::Pushes,
+    Group::Engines,
+    Group::Words,
+    Group::Runs,
+    Group::Quiet,
+];
+
+impl Group {
+    pub fn rows(self) -> &'static [Row] {
+        match self {
+            Group::Files => files(),
+            Group::Passages => passages(),
+            Group::Lines => lines(),
+            Group::Pushes => pushes(),
+            Group::Engines => engines(),
+            Group::Words => words(),
+            Group::Runs => runs(),
+            Group::Quiet => quiet(),
+        }
+    }
+
+    fn trial_of(self, name: &str) -> Option<Trial> {
+        for (row, trial) in self.rows() {
+            if *row == name {
+                return Some(*trial);
+            }
+        }
+        None
+    }
+}
+
+/// What the row of this name tries.
+pub fn trial_of(name: &str) -> Option<Trial> {
+    for group in &GROUPS {
+        let trial = group.trial_of(name);
+        if trial.is_some() {
+            return trial;
+        }
+    }
+    None
+}
+
+const FILES: &[Row] = &[
     ("sink/64", Trial::Sink(64)),
     ("tables/samples", Trial::Tables(PropertyFiles::Samples)),
     ("tables/overlap", Trial::Tables(PropertyFiles::Overlap)),
@@ -207,6 +275,13 @@ pub const ROWS: &[Row] = &[
         Trial::Cells(PropertyFiles::UnknownValue),
     ),
     ("cells/many-pages", Trial::Cells(PropertyFiles::ManyPages)),
+];
+
+fn files() -> &'static [Row] {
+    FILES
+}
+
+const PASSAGES: &[Row] = &[
     ("segmenter/16", Trial::NewSegmenter(16)),
     ("segmenter/0", Trial::NewSegmenter(0)),
     ("segmenter/1", Trial::NewSegmenter(1)),
@@ -266,6 +341,13 @@ pub const ROWS: &[Row] = &[
         "next/ill-formed-first",
         Trial::OnText(Text::Bytes(b"abcd\xFF"), OnText::Next(4)),
     ),
+];
+
+fn passages() -> &'static [Row] {
+    PASSAGES
+}
+
+const LINES: &[Row] = &[
     ("read-line/kinds", Trial::ReadLine(KINDS_LINE, Form::Kinds)),
     (
         "read-line/comment",
@@ -326,6 +408,13 @@ pub const ROWS: &[Row] = &[
     ("mark-text/long", Trial::OnText(LONG, OnText::MarkText)),
     ("mark-text/pairs", Trial::OnText(PAIRS, OnText::MarkText)),
     ("mark-text/huge", Trial::OnText(HUGE, OnText::MarkText)),
+];
+
+fn lines() -> &'static [Row] {
+    LINES
+}
+
+const PUSHES: &[Row] = &[
     (
         "push-line/return",
         Trial::OnText(RETURN, OnText::PushLine(Form::Kinds)),
@@ -360,6 +449,13 @@ pub const ROWS: &[Row] = &[
     ),
     ("push-mark/plain", Trial::PushMark(Mark::Must, Form::Plain)),
     ("push-mark/kinds", Trial::PushMark(Mark::Must, Form::Kinds)),
+];
+
+fn pushes() -> &'static [Row] {
+    PUSHES
+}
+
+const ENGINES: &[Row] = &[
     ("show/empty", Trial::OnText(EMPTY, OnText::Show(LIMIT))),
     (
         "show/two-words",
@@ -452,6 +548,13 @@ pub const ROWS: &[Row] = &[
         "replay/long-bad-line",
         Trial::OnText(LONG_BAD_LINE, OnText::Replay(Form::Plain)),
     ),
+];
+
+fn engines() -> &'static [Row] {
+    ENGINES
+}
+
+const WORDS: &[Row] = &[
     ("parse/none", Trial::Parse(&[])),
     ("parse/show", Trial::Parse(FILES_SHOW)),
     ("parse/show-profile-2", Trial::Parse(FILES_SHOW_SECOND)),
@@ -469,6 +572,13 @@ pub const ROWS: &[Row] = &[
     ("prepare/show", Trial::Prepare(FILES_SHOW)),
     ("prepare/missing", Trial::Prepare(FILES_SHOW_MISSING)),
     ("prepare/bad-row", Trial::Prepare(FILES_SHOW_BAD)),
+];
+
+fn words() -> &'static [Row] {
+    WORDS
+}
+
+const RUNS: &[Row] = &[
     ("run/none", Trial::Run(&[], TWO_WORDS)),
     ("run/show", Trial::Run(FILES_SHOW, TWO_WORDS)),
     ("run/show-long", Trial::Run(FILES_SHOW, LONG)),
@@ -491,6 +601,13 @@ pub const ROWS: &[Row] = &[
     ("run/bad-row", Trial::Run(FILES_SHOW_BAD, TWO_WORDS)),
     ("run/help", Trial::Run(HELP, EMPTY)),
     ("run/wrong", Trial::Run(WRONG, EMPTY)),
+];
+
+fn runs() -> &'static [Row] {
+    RUNS
+}
+
+const QUIET: &[Row] = &[
     ("quiet/feed", Trial::Quiet(Quiet::Feed(LONG))),
     (
         "quiet/feed-ill-formed",
@@ -515,3 +632,7 @@ pub const ROWS: &[Row] = &[
     ),
     ("quiet/status", Trial::Quiet(Quiet::Status)),
 ];
+
+fn quiet() -> &'static [Row] {
+    QUIET
+}
