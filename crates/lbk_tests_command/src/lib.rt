@@ -6,6 +6,8 @@ mod command_rows;
 #[cfg(test)]
 mod commands;
 #[cfg(test)]
+mod folder;
+#[cfg(test)]
 mod guide;
 #[cfg(test)]
 mod passages_of_a_reader;
