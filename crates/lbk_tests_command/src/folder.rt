@@ -25,12 +25,15 @@ const NO_SPACES: &str = "0020;AL\n0061..007A;AL\n";
 fn marked(
     alloc: Global,
     words: &[&'static str],
-    line_break: &str,
+    line_break: &'static str,
 ) -> Result<(Ending, MemorySink), Fail> {
     let files = [
         ("U/LineBreak.txt", line_break.as_bytes()),
         ("U/EastAsianWidth.txt", EAST_ASIAN.as_bytes()),
-        ("U/extracted/DerivedGeneralCategory.txt", CATEGORY.as_bytes()),
+        (
+            "U/extracted/DerivedGeneralCategory.txt",
+            CATEGORY.as_bytes(),
+        ),
         ("U/emoji/emoji-data.txt", EMOJI.as_bytes()),
         ("N", NO_SPACES.as_bytes()),
     ];
@@ -46,7 +49,7 @@ fn writes(
     rt: &impl Abort,
     alloc: Global,
     words: &[&'static str],
-    line_break: &str,
+    line_break: &'static str,
     text: &str,
 ) -> Result<(), Fail> {
     let (ending, writer) = marked(alloc, words, line_break)?;
@@ -56,7 +59,12 @@ fn writes(
 }
 
 /// A run that is refused at `LineBreak.txt`.
-fn claims(rt: &impl Abort, alloc: Global, line_break: &str, want: ClaimCause) -> Result<(), Fail> {
+fn claims(
+    rt: &impl Abort,
+    alloc: Global,
+    line_break: &'static str,
+    want: ClaimCause,
+) -> Result<(), Fail> {
     let (ending, writer) = marked(alloc, &["mark", "--ucd", "U"], line_break)?;
     assert_eq!(rt; writer.bytes(), b"".as_slice());
     assert!(rt;
@@ -67,7 +75,13 @@ fn claims(rt: &impl Abort, alloc: Global, line_break: &str, want: ClaimCause) ->
 
 #[test]
 fn folder(rt: HostRuntime) -> Result<(), Fail> {
-    writes(&rt, rt.alloc(), &["mark", "--ucd", "U"], LINE_BREAK, "ab ÷cd\n")
+    writes(
+        &rt,
+        rt.alloc(),
+        &["mark", "--ucd", "U"],
+        LINE_BREAK,
+        "ab ÷cd\n",
+    )
 }
 
 #[test]
@@ -83,7 +97,12 @@ fn another_file_in_the_folder(rt: HostRuntime) -> Result<(), Fail> {
     let alloc = rt.alloc();
     claims(&rt, alloc, NO_SPACES, ClaimCause::Title)?;
     claims(&rt, alloc, EAST_ASIAN, ClaimCause::Title)?;
-    claims(&rt, alloc, "# LineBreak-15.0.0.txt\n0020;SP\n", ClaimCause::End)
+    claims(
+        &rt,
+        alloc,
+        "# LineBreak-15.0.0.txt\n0020;SP\n",
+        ClaimCause::End,
+    )
 }
 
 fn version(major: u32, minor: u32, update: u32) -> ClaimCause {
@@ -121,8 +140,18 @@ fn files_as_published(rt: HostRuntime) {
         assert_eq!(&rt; check_claim(which, text.as_bytes()), Ok(()));
     }
     refuses(&rt, Which::LineBreak, EAST_ASIAN, ClaimCause::Title);
-    refuses(&rt, Which::LineBreak, "# LineBreak-15.0.0.txt\r\n# EOF\r\n", ClaimCause::Title);
-    refuses(&rt, Which::Emoji, "# emoji-data.txt\n#EOF\n", ClaimCause::Title);
+    refuses(
+        &rt,
+        Which::LineBreak,
+        "# LineBreak-15.0.0.txt\r\n# EOF\r\n",
+        ClaimCause::Title,
+    );
+    refuses(
+        &rt,
+        Which::Emoji,
+        "# emoji-data.txt\n#EOF\n",
+        ClaimCause::Title,
+    );
     refuses(&rt, Which::LineBreak, "", ClaimCause::Title);
 }
 
