@@ -1,6 +1,6 @@
 //! The worked texts and test files through the program's words, in both profiles, and what refuses them.
 
-use crate::commands::{ROOM, check, check_fault, ended, words};
+use crate::commands::{ROOM, check, check_fault, ended, same, words};
 use lbk_cmd::{CmdFault, RunFault};
 use lbk_feed::devices::MemorySource;
 use lbk_notation::ReplayFault;
@@ -11,6 +11,18 @@ use std::alloc::Global;
 use std::process::Abort;
 use std::test::Fail;
 
+fn check_rows(
+    rt: &impl Abort,
+    alloc: Global,
+    words: &[&'static str],
+    rows: &[(&str, &str)],
+) -> Result<(), Fail> {
+    for (text, lines) in rows {
+        let _ = check(rt, alloc, words, text, lines, 0)?;
+    }
+    Ok(())
+}
+
 /// Texts, and what is written of them by an engine with these options.
 fn check_texts(
     rt: &impl Abort,
@@ -19,48 +31,37 @@ fn check_texts(
     options: &[&'static str],
     rows: &[(&str, &str)],
 ) -> Result<(), Fail> {
-    let words = words(alloc, engine, options)?;
-    for (text, lines) in rows {
-        let _ = check(rt, alloc, &words, text, lines, 0)?;
-    }
-    Ok(())
+    check_rows(rt, alloc, &words(alloc, engine, options)?, rows)
 }
 
-/// What an engine writes in both profiles, in the first and in the second.
-struct Texts {
+/// Rows of both profiles, of the first and of the second.
+fn check_profiles(
+    rt: &impl Abort,
+    alloc: Global,
     engine: &'static str,
-    both: &'static [(&'static str, &'static str)],
-    first: &'static [(&'static str, &'static str)],
-    second: &'static [(&'static str, &'static str)],
-}
-
-const SHOWN: Texts = Texts {
-    engine: "show",
-    both: &shown::BOTH,
-    first: &shown::FIRST,
-    second: &shown::SECOND,
-};
-
-const SEGMENTED: Texts = Texts {
-    engine: "segment",
-    both: &segment_lines::BOTH,
-    first: &segment_lines::FIRST,
-    second: &segment_lines::SECOND,
-};
-
-fn check_engine_texts(rt: &impl Abort, alloc: Global, texts: &Texts) -> Result<(), Fail> {
-    let engine = texts.engine;
-    check_texts(rt, alloc, engine, &[], texts.both)?;
-    check_texts(rt, alloc, engine, &[], texts.first)?;
-    check_texts(rt, alloc, engine, &["--profile", "1"], texts.first)?;
-    check_texts(rt, alloc, engine, &["--profile", "2"], texts.both)?;
-    check_texts(rt, alloc, engine, &["--profile", "2"], texts.second)
+    [both, first, second]: [&[(&str, &str)]; 3],
+) -> Result<(), Fail> {
+    check_texts(rt, alloc, engine, &[], both)?;
+    check_texts(rt, alloc, engine, &[], first)?;
+    check_texts(rt, alloc, engine, &["--profile", "1"], first)?;
+    check_texts(rt, alloc, engine, &["--profile", "2"], both)?;
+    check_texts(rt, alloc, engine, &["--profile", "2"], second)
 }
 
 #[test]
 fn texts(rt: HostRuntime) -> Result<(), Fail> {
-    check_engine_texts(&rt, rt.alloc(), &SHOWN)?;
-    check_engine_texts(&rt, rt.alloc(), &SEGMENTED)
+    let shown = [
+        shown::BOTH.as_slice(),
+        shown::FIRST.as_slice(),
+        shown::SECOND.as_slice(),
+    ];
+    check_profiles(&rt, rt.alloc(), "show", shown)?;
+    let segmented = [
+        segment_lines::BOTH.as_slice(),
+        segment_lines::FIRST.as_slice(),
+        segment_lines::SECOND.as_slice(),
+    ];
+    check_profiles(&rt, rt.alloc(), "segment", segmented)
 }
 
 /// Test files, and what is written of them with these options.
@@ -101,7 +102,7 @@ type Refused = (
     PassageFault,
 );
 
-const REFUSED: [Refused; 8] = [
+static REFUSED: [Refused; 8] = [
     (
         "show",
         &["--limit", "4"],
@@ -172,8 +173,8 @@ fn check_refused(
     let mut source = source;
     let (written, fault) = want;
     let (ending, writer) = ended(alloc, words, &mut source, room)?;
-    assert_eq!(rt; writer.bytes(), written);
-    assert_eq!(rt; ending.status(), 1);
+    same(rt, &writer.bytes(), &written, words);
+    same(rt, &ending.status(), &1, words);
     check_fault(rt, &ending, fault);
     Ok(())
 }
@@ -199,59 +200,89 @@ fn refused_texts(rt: HostRuntime) -> Result<(), Fail> {
     Ok(())
 }
 
-/// The second read fails.
-fn check_failed_read(
-    rt: &impl Abort,
-    alloc: Global,
-    words: &[&'static str],
-    text: &[u8],
-    sizes: &[usize],
-    want: (&[u8], RunFault),
-) -> Result<(), Fail> {
-    let source = MemorySource::cut(text, sizes).failing_at(1);
-    check_refused(rt, alloc, words, source, ROOM, want)
+/// The words of an engine, or none.
+fn words_of(alloc: Global, engine: Option<&'static str>) -> Result<Vec<&'static str>, Fail> {
+    match engine {
+        Some(engine) => words(alloc, engine, &[]),
+        None => Ok(Vec::new(alloc)),
+    }
 }
 
-// Behind a scalar that follows a passage, and behind a passage alone.
+/// An engine or no words, a text, the sizes of reads, what is written before the second read fails, and the fault.
+type FailedRead = (
+    Option<&'static str>,
+    &'static str,
+    &'static [usize],
+    &'static str,
+    RunFault,
+);
+
+const READ: RunFault = RunFault::Cmd(CmdFault::Passage(PassageFault::Read));
+
+// Behind a scalar that follows a passage, behind a passage alone, and behind a line.
+static FAILED_READS: [FailedRead; 4] = [
+    (
+        Some("show"),
+        "a\nb",
+        &[],
+        "× 0061 × 000A !\t# 2 6 5\n",
+        READ,
+    ),
+    (Some("show"), "a\n", &[], "", READ),
+    (None, "a\nb", &[], "× 0061 × 000A !\t# 2 6 5\n", READ),
+    (
+        Some("replay"),
+        FOUR_LINES,
+        &[38],
+        "D 2 1 ÷ × 28\n",
+        RunFault::Replay(ReplayFault::Read),
+    ),
+];
+
+fn check_failed_read(rt: &impl Abort, alloc: Global, row: &FailedRead) -> Result<(), Fail> {
+    let (engine, text, sizes, written, fault) = *row;
+    let words = words_of(alloc, engine)?;
+    let source = MemorySource::cut(text.as_bytes(), sizes).failing_at(1);
+    let want = (written.as_bytes(), fault);
+    check_refused(rt, alloc, &words, source, ROOM, want)
+}
+
 #[test]
 fn failed_reads(rt: HostRuntime) -> Result<(), Fail> {
-    let alloc = rt.alloc();
-    let read = RunFault::Cmd(CmdFault::Passage(PassageFault::Read));
-    let line = "× 0061 × 000A !\t# 2 6 5\n".as_bytes();
-    let show = words(alloc, "show", &[])?;
-    check_failed_read(&rt, alloc, &show, b"a\nb", &[], (line, read))?;
-    check_failed_read(&rt, alloc, &show, b"a\n", &[], (b"", read))?;
-    check_failed_read(&rt, alloc, &[], b"a\nb", &[], (line, read))?;
-    let replay = words(alloc, "replay", &[])?;
-    let want = (
-        "D 2 1 ÷ × 28\n".as_bytes(),
-        RunFault::Replay(ReplayFault::Read),
-    );
-    check_failed_read(&rt, alloc, &replay, FOUR_LINES.as_bytes(), &[38], want)
+    for row in &FAILED_READS {
+        check_failed_read(&rt, rt.alloc(), row)?;
+    }
+    Ok(())
 }
 
-/// The writer takes five bytes.
-fn check_failed_write(
-    rt: &impl Abort,
-    alloc: Global,
-    words: &[&'static str],
-    text: &str,
-    want: (&[u8], RunFault),
-) -> Result<(), Fail> {
+/// An engine or no words, a text, what is written of it into five bytes, and the fault.
+type FailedWrite = (Option<&'static str>, &'static str, &'static [u8], RunFault);
+
+const WRITE: RunFault = RunFault::Cmd(CmdFault::Write);
+
+static FAILED_WRITES: [FailedWrite; 4] = [
+    (Some("show"), "ab cd", b"\xC3\x97 00", WRITE),
+    (None, "ab cd", b"\xC3\x97 00", WRITE),
+    (Some("segment"), "ab cd", b"P 0 5", WRITE),
+    (
+        Some("replay"),
+        FOUR_LINES,
+        b"D 2 1",
+        RunFault::Replay(ReplayFault::Write),
+    ),
+];
+
+fn check_failed_write(rt: &impl Abort, alloc: Global, row: &FailedWrite) -> Result<(), Fail> {
+    let (engine, text, written, fault) = *row;
+    let words = words_of(alloc, engine)?;
     let source = MemorySource::new(text.as_bytes());
-    check_refused(rt, alloc, words, source, 5, want)
+    check_refused(rt, alloc, &words, source, 5, (written, fault))
 }
 
 #[test]
 fn failed_writes(rt: HostRuntime) -> Result<(), Fail> {
-    let alloc = rt.alloc();
-    let write = RunFault::Cmd(CmdFault::Write);
-    let show = words(alloc, "show", &[])?;
-    check_failed_write(&rt, alloc, &show, "ab cd", (b"\xC3\x97 00", write))?;
-    check_failed_write(&rt, alloc, &[], "ab cd", (b"\xC3\x97 00", write))?;
-    let segment = words(alloc, "segment", &[])?;
-    check_failed_write(&rt, alloc, &segment, "ab cd", (b"P 0 5", write))?;
-    let replay = words(alloc, "replay", &[])?;
-    let fault = RunFault::Replay(ReplayFault::Write);
-    check_failed_write(&rt, alloc, &replay, FOUR_LINES, (b"D 2 1", fault))
+    for row in &FAILED_WRITES {
+        check_failed_write(&rt, rt.alloc(), row)?;
+    }
+    Ok(())
 }

@@ -6,6 +6,7 @@ use lbk_notation::Report;
 use lbk_passage::PassageFault;
 use lbk_ucd::{UcdCause, UcdFault, Which};
 use std::alloc::{AllocError, Global};
+use std::fmt::Debug;
 use std::process::Abort;
 use std::test::Fail;
 
@@ -36,14 +37,14 @@ pub fn words(
     Ok(words)
 }
 
-/// How a run ends over the sample files and one bad file `B`, and what it wrote into so much room. It promises nothing,
-/// so that the tests see nothing of what `run` promises.
-pub fn ended(
+/// How a run ends over the sample files and one bad file `B`. It promises nothing, so that the tests see nothing of what
+/// `run` promises.
+fn ended_into(
     alloc: Global,
     words: &[&'static str],
     reader: &mut MemorySource<'_>,
-    room: usize,
-) -> Result<(Ending, MemorySink), Fail> {
+    writer: &mut MemorySink,
+) -> Ending {
     let files = [
         ("L", SAMPLE_FILES.line_break),
         ("E", SAMPLE_FILES.east_asian),
@@ -52,9 +53,24 @@ pub fn ended(
         ("B", BAD_ROW),
     ];
     let store = MemoryStore::new(files.as_slice());
+    run(alloc, words, &store, reader, writer)
+}
+
+/// How such a run ends, and what it wrote into so much room.
+pub fn ended(
+    alloc: Global,
+    words: &[&'static str],
+    reader: &mut MemorySource<'_>,
+    room: usize,
+) -> Result<(Ending, MemorySink), AllocError> {
     let mut writer = MemorySink::new(alloc, room)?;
-    let ending = run(alloc, words, &store, reader, &mut writer);
+    let ending = ended_into(alloc, words, reader, &mut writer);
     Ok((ending, writer))
+}
+
+/// Compares what was found with what is wanted.
+pub fn same<T: PartialEq + Debug>(rt: &impl Abort, found: &T, want: &T, words: &[&str]) {
+    assert!(rt; found == want, "{found:?} in place of {want:?}: {words:?}");
 }
 
 /// A run that writes `text` and ends with this status.
@@ -68,8 +84,8 @@ pub fn check(
 ) -> Result<Ending, Fail> {
     let mut reader = MemorySource::new(input.as_bytes());
     let (ending, writer) = ended(alloc, words, &mut reader, ROOM)?;
-    assert_eq!(rt; writer.bytes(), text.as_bytes());
-    assert_eq!(rt; ending.status(), status);
+    same(rt, &writer.bytes(), &text.as_bytes(), words);
+    same(rt, &ending.status(), &status, words);
     Ok(ending)
 }
 
@@ -105,7 +121,7 @@ type Row = (
     &'static str,
 );
 
-const DONE: [Row; 4] = [
+static DONE: [Row; 4] = [
     ("show", &[], "ab cd", TWO_WORDS),
     (
         "segment",
@@ -138,7 +154,7 @@ fn done(rt: HostRuntime) -> Result<(), Fail> {
 
 const QUOTED: &str = "a \u{2019}\u{301},";
 
-const BY_PROFILE: [Row; 2] = [
+static BY_PROFILE: [Row; 2] = [
     (
         "show",
         &["--profile", "2"],
@@ -222,7 +238,7 @@ fn refused(rt: HostRuntime) -> Result<(), Fail> {
 }
 
 /// Words behind an engine and its files that no command line has.
-const WRONG: [(&str, &[&str]); 15] = [
+static WRONG: [(&str, &[&str]); 15] = [
     ("show", &["--limit", "0"]),
     ("show", &["--limit", "16777217"]),
     ("show", &["--limit", "many"]),
@@ -252,7 +268,7 @@ fn check_usage(rt: &impl Abort, alloc: Global, words: &[&'static str]) -> Result
     Ok(())
 }
 
-const HELP: [&[&str]; 5] = [
+static HELP: [&[&str]; 5] = [
     &["--help"],
     &["--version"],
     &["show", "--help"],
@@ -261,19 +277,37 @@ const HELP: [&[&str]; 5] = [
 ];
 
 /// Words without files that no command line has.
-const WRONG_ALONE: [&[&str]; 3] = [&["bogus"], &["show"], &["--limit", "4"]];
+static WRONG_ALONE: [&[&str]; 3] = [&["bogus"], &["show"], &["--limit", "4"]];
+
+fn check_all_help(rt: &impl Abort, alloc: Global) -> Result<(), Fail> {
+    for help in &HELP {
+        check_help(rt, alloc, help)?;
+    }
+    Ok(())
+}
+
+fn check_wrong(
+    rt: &impl Abort,
+    alloc: Global,
+    engine: &'static str,
+    more: &[&'static str],
+) -> Result<(), Fail> {
+    check_usage(rt, alloc, &words(alloc, engine, more)?)
+}
+
+fn check_all_wrong(rt: &impl Abort, alloc: Global) -> Result<(), Fail> {
+    for (engine, more) in &WRONG {
+        check_wrong(rt, alloc, engine, more)?;
+    }
+    Ok(())
+}
 
 #[test]
 fn help_and_usage(rt: HostRuntime) -> Result<(), Fail> {
-    let alloc = rt.alloc();
-    for help in &HELP {
-        check_help(&rt, alloc, help)?;
-    }
-    for (engine, more) in &WRONG {
-        check_usage(&rt, alloc, &words(alloc, engine, more)?)?;
-    }
+    check_all_help(&rt, rt.alloc())?;
+    check_all_wrong(&rt, rt.alloc())?;
     for wrong in &WRONG_ALONE {
-        check_usage(&rt, alloc, wrong)?;
+        check_usage(&rt, rt.alloc(), wrong)?;
     }
     Ok(())
 }

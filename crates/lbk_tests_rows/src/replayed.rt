@@ -8,7 +8,7 @@ pub const FOUR_LINES: &str = "× 0061 × 0062 ÷\n× 0061 ÷ 0062 ÷\n× D800 ÷
 pub const FOUR_LINES_TEXT: &str = "D 2 1 ÷ × 28\nR 3 7\nT 3 1 1 1\n";
 
 /// In form Plain, alike in both profiles.
-pub const PLAIN: [Row; 11] = [
+pub static PLAIN: [Row; 11] = [
     (FOUR_LINES, FOUR_LINES_TEXT, [3, 1, 1, 1]),
     ("", "T 0 0 0 0\n", [0, 0, 0, 0]),
     ("\n \n#\n\r\n", "T 0 0 0 0\n", [0, 0, 0, 0]),
@@ -38,7 +38,7 @@ pub const PLAIN: [Row; 11] = [
 pub const QUOTED: &str = "× 0061 × 0020 × 2019 ÷ 0301 × 002C ÷\n";
 
 /// In form Kinds.
-pub const KINDS: [Row; 3] = [
+pub static KINDS: [Row; 3] = [
     (
         "× 0061 × 0062 × 0020 ÷ 0063 × 0064 !",
         "T 1 1 0 0\n",

@@ -1,7 +1,7 @@
 //! What `segment` writes of texts over the sample files.
 
 /// What both profiles say of a text.
-pub const BOTH: [(&str, &str); 8] = [
+pub static BOTH: [(&str, &str); 8] = [
     ("", ""),
     ("ab cd", "P 0 5\nS 0 3 May 18\nS 3 5 Must 3\nW 0 2\nW 3 5\n"),
     ("a\r\nb", RETURN),
@@ -19,11 +19,11 @@ pub const BOTH: [(&str, &str); 8] = [
 ];
 
 /// What the first says, and what the second.
-pub const FIRST: [(&str, &str); 1] = [(
+pub static FIRST: [(&str, &str); 1] = [(
     "a \u{2019}\u{301},",
     "P 0 8\nS 0 2 May 18\nS 2 8 Must 3\nW 0 1\n",
 )];
 
-pub const SECOND: [(&str, &str); 1] = [("a \u{2019}\u{301},", "P 0 8\nS 0 8 Must 3\nW 0 1\n")];
+pub static SECOND: [(&str, &str); 1] = [("a \u{2019}\u{301},", "P 0 8\nS 0 8 Must 3\nW 0 1\n")];
 
 const RETURN: &str = "P 0 3\nS 0 3 Must 5\nW 0 1\nP 3 4\nS 3 4 Must 3\nW 3 4\n";

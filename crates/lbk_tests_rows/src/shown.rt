@@ -1,7 +1,7 @@
 //! What `show` writes of texts over the sample files.
 
 /// What both profiles say of a text.
-pub const BOTH: [(&str, &str); 14] = [
+pub static BOTH: [(&str, &str); 14] = [
     ("ab cd", TWO_WORDS),
     ("", ""),
     (
@@ -31,7 +31,7 @@ pub const BOTH: [(&str, &str); 14] = [
 ];
 
 /// What the first says.
-pub const FIRST: [(&str, &str); 3] = [
+pub static FIRST: [(&str, &str); 3] = [
     (
         "a \u{2019}\u{301},",
         "× 0061 × 0020 ÷ 2019 × 0301 × 002C !\t# 2 7 18 9 13 3\n",
@@ -41,7 +41,7 @@ pub const FIRST: [(&str, &str); 3] = [
 ];
 
 /// What the second says.
-pub const SECOND: [(&str, &str); 4] = [
+pub static SECOND: [(&str, &str); 4] = [
     (
         "a \u{2019}\u{301},",
         "× 0061 × 0020 × 2019 × 0301 × 002C !\t# 2 7 15b 9 13 3\n",

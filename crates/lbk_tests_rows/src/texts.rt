@@ -1,7 +1,7 @@
 //! Texts over the sample files, with the labels of the rules that decide their positions.
 
 /// What the first profile says.
-pub const FIRST: [(&str, &str); 65] = [
+pub static FIRST: [(&str, &str); 65] = [
     ("", "2"),
     // ends of lines
     ("a\r", "2 6 3"),
@@ -84,7 +84,7 @@ pub const FIRST: [(&str, &str); 65] = [
 ];
 
 /// What the second profile says.
-pub const SECOND: [(&str, &str); 8] = [
+pub static SECOND: [(&str, &str); 8] = [
     ("a \u{2019}\u{301},", "2 7 15b 9 13 3"),
     ("a \u{2019}\u{301}b", "2 7 18 9 19 3"),
     ("a \u{2019}", "2 7 15b 3"),
@@ -97,7 +97,7 @@ pub const SECOND: [(&str, &str); 8] = [
 
 /// What each step of the machine of the second profile answers: the label of the position before the cell, or `-`
 /// where it is held, and `position:label` where an earlier answer comes; last what `finish` answers.
-pub const STEPS: [(&str, &str); 5] = [
+pub static STEPS: [(&str, &str); 5] = [
     ("a \u{2019}\u{301},", "2 7 - 9 13,2:15b 3"),
     ("a \u{2019}\u{301}b", "2 7 - 9 19,2:18 3"),
     ("a \u{2019}", "2 7 - 3,2:15b"),

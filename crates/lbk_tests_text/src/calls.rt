@@ -2,7 +2,7 @@
 //! fact of them; a check that does not carry their facts from call to call takes a fraction of the time.
 
 use crate::tasks::Setting;
-use lbk_cmd::{CellsFault, CmdFault, SAMPLE_FILES, mark, read_cells, segment, show};
+use lbk_cmd::{CmdFault, SAMPLE_FILES, mark, read_cells, segment, show};
 use lbk_feed::devices::{MemorySink, MemorySource};
 use lbk_feed::{Failed, Feed, FeedFault, Sink, Source, write_all};
 use lbk_notation::{
@@ -11,11 +11,29 @@ use lbk_notation::{
 };
 use lbk_passage::{Passage, PassageFault, Segmenter};
 use lbk_rules::{CellPages, CellSource, Profile};
+use lbk_ucd::Tables;
 use std::alloc::{AllocError, Global};
+use std::fmt::Debug;
+use std::process::Abort;
+use std::test::Fail;
+
+/// Compares what was found of something with what is wanted.
+pub fn same<T: PartialEq + Debug, D: Debug>(rt: &impl Abort, found: &T, want: &T, of: &D) {
+    assert!(rt; found == want, "{found:?} in place of {want:?}: {of:?}");
+}
 
 /// The cells of the sample files.
-pub fn sample_cells(alloc: Global) -> Result<CellPages, CellsFault> {
-    read_cells(alloc, SAMPLE_FILES)
+pub fn sample_cells(alloc: Global) -> Result<CellPages, Fail> {
+    Ok(read_cells(alloc, SAMPLE_FILES)?)
+}
+
+/// The tables of the sample files.
+pub fn sample_tables(alloc: Global) -> Result<Tables, Fail> {
+    Ok(Tables::read(alloc, SAMPLE_FILES)?)
+}
+
+pub fn has_step_table<C: CellSource>(cells: &C) -> bool {
+    cells.step_table().is_some()
 }
 
 /// Gives the bytes in reads of these sizes, the last of them for all that follow.
@@ -23,9 +41,17 @@ pub fn cut_source<'a>(bytes: &'a [u8], sizes: &'a [usize]) -> MemorySource<'a> {
     MemorySource::cut(bytes, sizes)
 }
 
-/// Gives the bytes in reads of these sizes, and fails once, at this read.
-pub fn failing_source<'a>(bytes: &'a [u8], sizes: &'a [usize], read: u64) -> MemorySource<'a> {
-    MemorySource::cut(bytes, sizes).failing_at(read)
+/// Gives the bytes in reads of these sizes, of which one may fail.
+pub fn source_of<'a>(
+    bytes: &'a [u8],
+    sizes: &'a [usize],
+    failing: Option<u64>,
+) -> MemorySource<'a> {
+    let source = cut_source(bytes, sizes);
+    match failing {
+        Some(read) => source.failing_at(read),
+        None => source,
+    }
 }
 
 /// Takes `room` bytes, and at most `most` in a write.
@@ -47,15 +73,6 @@ pub fn take_piece<R: Source>(feed: &mut Feed, reader: &mut R) -> Result<bool, Fe
     Ok(found)
 }
 
-pub fn segmenter<C: CellSource>(
-    alloc: Global,
-    cells: &C,
-    limit: u32,
-    profile: Profile,
-) -> Result<Segmenter<'_, C>, PassageFault> {
-    Segmenter::new(alloc, cells, limit, profile)
-}
-
 pub fn next_passage<'a, R: Source, C: CellSource>(
     segmenter: &'a mut Segmenter<'_, C>,
     reader: &mut R,
@@ -63,12 +80,27 @@ pub fn next_passage<'a, R: Source, C: CellSource>(
     segmenter.next(reader)
 }
 
+/// How many bytes, segments and pieces the next passage has, if there is one.
+pub fn next_sizes<R: Source, C: CellSource>(
+    segmenter: &mut Segmenter<'_, C>,
+    reader: &mut R,
+) -> Result<Option<[usize; 3]>, PassageFault> {
+    match next_passage(segmenter, reader)? {
+        Some(passage) => Ok(Some([
+            passage.text.len(),
+            passage.segments.len(),
+            passage.pieces.len(),
+        ])),
+        None => Ok(None),
+    }
+}
+
 /// Says whether there is a passage more.
 pub fn has_next<R: Source, C: CellSource>(
     segmenter: &mut Segmenter<'_, C>,
     reader: &mut R,
 ) -> Result<bool, PassageFault> {
-    Ok(segmenter.next(reader)?.is_some())
+    Ok(next_passage(segmenter, reader)?.is_some())
 }
 
 pub fn mark_to<R: Source, W: Sink>(
@@ -76,13 +108,8 @@ pub fn mark_to<R: Source, W: Sink>(
     reader: &mut R,
     writer: &mut W,
 ) -> Result<(), CmdFault> {
-    let Setting {
-        alloc,
-        cells,
-        limit,
-        profile,
-    } = setting;
-    mark(alloc, reader, writer, cells, limit, profile)
+    let Setting { alloc, cells, .. } = setting;
+    mark(alloc, reader, writer, cells, setting.limit, setting.profile)
 }
 
 pub fn show_to<R: Source, W: Sink>(
@@ -90,13 +117,8 @@ pub fn show_to<R: Source, W: Sink>(
     reader: &mut R,
     writer: &mut W,
 ) -> Result<(), CmdFault> {
-    let Setting {
-        alloc,
-        cells,
-        limit,
-        profile,
-    } = setting;
-    show(alloc, reader, writer, cells, limit, profile)
+    let Setting { alloc, cells, .. } = setting;
+    show(alloc, reader, writer, cells, setting.limit, setting.profile)
 }
 
 pub fn segment_to<R: Source, W: Sink>(
@@ -104,13 +126,8 @@ pub fn segment_to<R: Source, W: Sink>(
     reader: &mut R,
     writer: &mut W,
 ) -> Result<(), CmdFault> {
-    let Setting {
-        alloc,
-        cells,
-        limit,
-        profile,
-    } = setting;
-    segment(alloc, reader, writer, cells, limit, profile)
+    let Setting { alloc, cells, .. } = setting;
+    segment(alloc, reader, writer, cells, setting.limit, setting.profile)
 }
 
 pub fn replay_to<R: Source, W: Sink>(
@@ -119,13 +136,8 @@ pub fn replay_to<R: Source, W: Sink>(
     reader: &mut R,
     writer: &mut W,
 ) -> Result<Report, ReplayFault> {
-    let Setting {
-        alloc,
-        cells,
-        profile,
-        ..
-    } = setting;
-    replay(alloc, reader, writer, cells, form, profile)
+    let Setting { alloc, cells, .. } = setting;
+    replay(alloc, reader, writer, cells, form, setting.profile)
 }
 
 pub fn line_of(alloc: Global, bytes: &[u8], form: Form) -> Result<Option<TestLine>, LineFault> {

@@ -1,7 +1,7 @@
 //! However the reads cut a worked text or test file, the passages, the output and the report are those of a single
 //! read: in two reads and in three at every place, and in one byte a read.
 
-use crate::calls::sample_cells;
+use crate::calls::{same, sample_cells};
 use crate::runs::{Ran, Run, whole};
 use crate::segmented;
 use crate::tasks::{Setting, Task};
@@ -27,8 +27,8 @@ fn check_cut(
 ) -> Result<(), AllocError> {
     let run = Run { sizes, ..run };
     let cut = run.ran(setting)?;
-    run.check_end(rt, cut.end, want.end);
-    run.check_bytes(rt, cut.sink.bytes(), want.sink.bytes());
+    same(rt, &cut.end, &want.end, &run);
+    same(rt, &cut.sink.bytes(), &want.sink.bytes(), &run);
     Ok(())
 }
 
@@ -56,7 +56,7 @@ fn check_task(
 ) -> Result<(), AllocError> {
     let run = whole(task, input);
     let want = run.ran(setting)?;
-    assert_eq!(rt; want.sink.failures(), 0);
+    same(rt, &want.sink.failures(), &0, &run);
     check_cut(rt, setting, run, &[1], &want)?;
     for first in 1..=input.len() {
         check_cut_at(rt, setting, run, first, &want)?;
@@ -104,7 +104,7 @@ fn check_texts<T: Copy>(
 }
 
 /// Texts that are ill-formed at an end or within, behind passages and not.
-const ILL_FORMED: [&[u8]; 6] = [
+static ILL_FORMED: [&[u8]; 6] = [
     b"a\xE2\x82",
     b"a\nb\xFF",
     b"a\n\xFF",
@@ -115,20 +115,28 @@ const ILL_FORMED: [&[u8]; 6] = [
 
 fn check_ill_formed(rt: &impl Abort, alloc: Global, cells: &CellPages) -> Result<(), AllocError> {
     let setting = Setting::new(alloc, cells, Profile::First);
-    for text in ILL_FORMED {
+    for text in &ILL_FORMED {
         check(rt, setting, &OF_TEXTS, text)?;
     }
     Ok(())
+}
+
+fn check_rules(rt: &impl Abort, alloc: Global, cells: &CellPages) -> Result<(), AllocError> {
+    check_texts(rt, alloc, cells, &texts::FIRST)?;
+    check_texts(rt, alloc, cells, &texts::SECOND)
+}
+
+fn check_shown(rt: &impl Abort, alloc: Global, cells: &CellPages) -> Result<(), AllocError> {
+    check_texts(rt, alloc, cells, &shown::BOTH)?;
+    check_texts(rt, alloc, cells, &shown::SECOND)
 }
 
 #[test]
 fn texts(rt: HostRuntime) -> Result<(), Fail> {
     let alloc = rt.alloc();
     let cells = sample_cells(alloc)?;
-    check_texts(&rt, alloc, &cells, &texts::FIRST)?;
-    check_texts(&rt, alloc, &cells, &texts::SECOND)?;
-    check_texts(&rt, alloc, &cells, &shown::BOTH)?;
-    check_texts(&rt, alloc, &cells, &shown::SECOND)?;
+    check_rules(&rt, alloc, &cells)?;
+    check_shown(&rt, alloc, &cells)?;
     check_texts(&rt, alloc, &cells, &segmented::BOTH)?;
     check_ill_formed(&rt, alloc, &cells)?;
     Ok(())
@@ -136,7 +144,7 @@ fn texts(rt: HostRuntime) -> Result<(), Fail> {
 
 /// Test files beside those that are replayed elsewhere: the front of a byte order mark, which is a bad line; one
 /// behind the first line; lines that end at CR LF; a line that is no line of a form, and bytes that are no text.
-const FILES: [&[u8]; 5] = [
+static FILES: [&[u8]; 5] = [
     b"\xEF\xBB",
     b"\xEF\xBB\xBF\xC3\x97 0061 \xC3\xB7\r\n\xEF\xBB\xBF\n",
     b"\xC3\x97 0061 !\n\xC3\x97\xC3\x97\n\n\xC3\x97 002a \xC3\xB7",
@@ -156,14 +164,18 @@ fn check_rows(
     Ok(())
 }
 
+fn check_files(rt: &impl Abort, alloc: Global, cells: &CellPages) -> Result<(), AllocError> {
+    for file in &FILES {
+        check_both(rt, alloc, cells, &OF_FILES, file)?;
+    }
+    check_both(rt, alloc, cells, &OF_FILES, replayed::QUOTED.as_bytes())
+}
+
 #[test]
 fn files(rt: HostRuntime) -> Result<(), Fail> {
     let alloc = rt.alloc();
     let cells = sample_cells(alloc)?;
-    for file in FILES {
-        check_both(&rt, alloc, &cells, &OF_FILES, file)?;
-    }
-    check_both(&rt, alloc, &cells, &OF_FILES, replayed::QUOTED.as_bytes())?;
+    check_files(&rt, alloc, &cells)?;
     check_rows(&rt, alloc, &cells, &replayed::PLAIN)?;
     check_rows(&rt, alloc, &cells, &replayed::KINDS)?;
     Ok(())

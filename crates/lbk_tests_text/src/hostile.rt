@@ -2,14 +2,15 @@
 //! greatest sizes.
 
 use crate::calls::{
-    cut_source, failing_source, has_next, next_passage, sample_cells, segmenter, take_piece,
+    cut_source, has_next, next_passage, next_sizes, same, sample_cells, source_of, take_piece,
 };
+use crate::passages::check_spent;
 use crate::runs::{Run, whole};
 use crate::tasks::{LIMIT, Setting, Task};
-use lbk_feed::devices::{MemorySource, RepeatedSource};
+use lbk_feed::devices::RepeatedSource;
 use lbk_feed::{Device, Feed, FeedFault, Source};
 use lbk_notation::Form;
-use lbk_passage::{Passage, PassageFault, Segmenter};
+use lbk_passage::{PassageFault, Segmenter};
 use lbk_rules::{CellPages, Profile, Rule};
 use lbk_tests_rows::reads::SIZES;
 use lbk_tests_rows::replayed::FOUR_LINES;
@@ -19,7 +20,7 @@ use std::process::Abort;
 use std::test::Fail;
 
 /// What is run on an input in reads of one byte, and all that went out once so many bytes were read.
-const FAILED_READS: [(Task, &str, &[(u64, &str)]); 4] = [
+static FAILED_READS: [(Task, &str, &[(u64, &str)]); 4] = [
     (
         Task::Show,
         "a\r\nb",
@@ -75,7 +76,7 @@ fn check_failed_read(
         ..run
     };
     let ran = run.check(rt, setting, run.task.failed_read(), written)?;
-    assert_eq!(rt; ran.reads, read.saturating_add(1));
+    same(rt, &ran.reads, &read.saturating_add(1), &run);
     Ok(())
 }
 
@@ -113,25 +114,26 @@ fn take_pieces<R: Source>(feed: &mut Feed, reader: &mut R) -> Result<bool, FeedF
     Ok(true)
 }
 
-fn same_answer(rt: &impl Abort, found: Result<bool, FeedFault>, want: FeedFault) {
-    assert_eq!(rt; found, Err(want));
+fn check_spent_piece<R: Source>(rt: &impl Abort, feed: &mut Feed, reader: &mut R) {
+    let again = take_piece(feed, reader);
+    same(rt, &again, &Err(FeedFault::Spent), &"a fault");
 }
 
 /// Takes all pieces up to a fault, which is the one wanted, and calls three times more.
 fn check_spent_feed<R: Source>(rt: &impl Abort, reader: &mut R, want: FeedFault) {
     let mut feed = Feed::new();
-    same_answer(rt, take_pieces(&mut feed, reader), want);
+    same(rt, &take_pieces(&mut feed, reader), &Err(want), &"a feed");
     let reads = reader.reads();
     for _ in 0..3 {
-        same_answer(rt, take_piece(&mut feed, reader), FeedFault::Spent);
+        check_spent_piece(rt, &mut feed, reader);
     }
-    assert_eq!(rt; reader.reads(), reads);
+    same(rt, &reader.reads(), &reads, &want);
 }
 
 // Each reader could go on.
 #[test]
 fn spent_feeds(rt: HostRuntime) {
-    let mut failing = failing_source(b"abcdef", &[1], 2);
+    let mut failing = source_of(b"abcdef", &[1], Some(2));
     check_spent_feed(&rt, &mut failing, FeedFault::Read);
     let mut ill_formed = cut_source(b"ab\xFFcdef", &[1]);
     check_spent_feed(&rt, &mut ill_formed, FeedFault::NotUtf8 { at: 2 });
@@ -152,10 +154,6 @@ fn take_passages<R: Source>(
     Ok(true)
 }
 
-fn same_fault(rt: &impl Abort, found: Result<bool, PassageFault>, want: PassageFault) {
-    assert_eq!(rt; found, Err(want));
-}
-
 /// Takes all passages up to a fault, which is the one wanted, and calls three times more.
 fn check_spent_segmenter<R: Source>(
     rt: &impl Abort,
@@ -163,38 +161,44 @@ fn check_spent_segmenter<R: Source>(
     reader: &mut R,
     want: PassageFault,
 ) -> Result<(), PassageFault> {
-    let Setting {
-        alloc,
-        cells,
-        limit,
-        profile,
-    } = setting;
-    let mut segmenter = segmenter(alloc, cells, limit, profile)?;
-    same_fault(rt, take_passages(&mut segmenter, reader), want);
+    let mut segmenter = setting.segmenter()?;
+    let found = take_passages(&mut segmenter, reader);
+    same(rt, &found, &Err(want), &"a segmenter");
     let reads = reader.reads();
-    for _ in 0..3 {
-        same_fault(rt, has_next(&mut segmenter, reader), PassageFault::Spent);
-    }
-    assert_eq!(rt; reader.reads(), reads);
+    check_spent(rt, &mut segmenter, reader);
+    same(rt, &reader.reads(), &reads, &want);
     Ok(())
 }
+
+/// A text, the read of one byte that fails, if one does, the limit of a paragraph, and the fault.
+static SPENT: [(&[u8], Option<u64>, u32, PassageFault); 3] = [
+    (b"a\nb\nc\nd", Some(4), LIMIT, PassageFault::Read),
+    (
+        b"a\nb\xFFc\nd",
+        None,
+        LIMIT,
+        PassageFault::NotUtf8 { at: 3 },
+    ),
+    (
+        b"a\nbcdef\ng",
+        None,
+        4,
+        PassageFault::ParagraphTooLong { start: 2 },
+    ),
+];
 
 #[test]
 fn spent_segmenters(rt: HostRuntime) -> Result<(), Fail> {
     let cells = sample_cells(rt.alloc())?;
     let setting = Setting::new(rt.alloc(), &cells, Profile::First);
-    let mut failing = failing_source(b"a\nb\nc\nd", &[1], 4);
-    check_spent_segmenter(&rt, setting, &mut failing, PassageFault::Read)?;
-    let mut ill_formed = cut_source(b"a\nb\xFFc\nd", &[1]);
-    let fault = PassageFault::NotUtf8 { at: 3 };
-    check_spent_segmenter(&rt, setting, &mut ill_formed, fault)?;
-    let mut long = cut_source(b"a\nbcdef\ng", &[1]);
-    let fault = PassageFault::ParagraphTooLong { start: 2 };
-    let four = Setting {
-        limit: 4,
-        ..setting
-    };
-    check_spent_segmenter(&rt, four, &mut long, fault)?;
+    for (text, failing, limit, fault) in &SPENT {
+        let mut source = source_of(text, &[1], *failing);
+        let limited = Setting {
+            limit: *limit,
+            ..setting
+        };
+        check_spent_segmenter(&rt, limited, &mut source, *fault)?;
+    }
     Ok(())
 }
 
@@ -224,54 +228,60 @@ fn segmenter_spent_by_too_long_a_text(rt: HostRuntime) -> Result<(), Fail> {
     Ok(())
 }
 
-/// The length of the one passage of a text in reads of a size.
-fn only_length(
-    rt: &impl Abort,
-    setting: Setting<'_>,
-    text: &[u8],
-    size: usize,
-) -> Result<usize, PassageFault> {
-    let sizes = [size];
-    let mut source = cut_source(text, &sizes);
-    let Setting {
-        alloc,
-        cells,
-        limit,
-        profile,
-    } = setting;
-    let mut segmenter = segmenter(alloc, cells, limit, profile)?;
-    let length = match next_passage(&mut segmenter, &mut source)? {
-        Some(passage) => passage.text.len(),
-        None => panic!(rt; "no passage"),
-    };
-    assert_eq!(rt; has_next(&mut segmenter, &mut source), Ok(false));
-    Ok(length)
+/// The length of the next passage, if there is one.
+fn next_length<R: Source>(
+    segmenter: &mut Segmenter<'_, CellPages>,
+    reader: &mut R,
+) -> Result<Option<usize>, PassageFault> {
+    match next_passage(segmenter, reader)? {
+        Some(passage) => Ok(Some(passage.text.len())),
+        None => Ok(None),
+    }
 }
 
-/// The one passage of a text in reads of all sizes, or the fault in its place.
+/// Compares the length of the one passage of a text in reads of a size, or the fault in its place.
 fn check_one(
     rt: &impl Abort,
     setting: Setting<'_>,
     text: &[u8],
-    want: Result<usize, PassageFault>,
-) {
-    for size in SIZES {
-        assert_eq!(rt; only_length(rt, setting, text, size), want);
+    size: usize,
+    want: Result<Option<usize>, PassageFault>,
+) -> Result<(), PassageFault> {
+    let sizes = [size];
+    let mut source = cut_source(text, &sizes);
+    let mut segmenter = setting.segmenter()?;
+    let found = next_length(&mut segmenter, &mut source);
+    same(rt, &found, &want, &size);
+    if found.is_ok() {
+        let last = has_next(&mut segmenter, &mut source);
+        same(rt, &last, &Ok(false), &size);
     }
+    Ok(())
 }
 
-/// A scalar of three bytes behind `n` others, whole and cut off.
-fn check_scalar_behind(rt: &impl Abort, setting: Setting<'_>, n: usize) -> Result<(), AllocError> {
+/// In reads of all sizes.
+fn check_sizes(
+    rt: &impl Abort,
+    setting: Setting<'_>,
+    text: &[u8],
+    want: Result<Option<usize>, PassageFault>,
+) -> Result<(), PassageFault> {
+    for size in SIZES {
+        check_one(rt, setting, text, size, want)?;
+    }
+    Ok(())
+}
+
+/// A scalar of three bytes behind `n` others, cut off and whole.
+fn check_scalar_behind(rt: &impl Abort, setting: Setting<'_>, n: usize) -> Result<(), Fail> {
     let mut text = vec![in setting.alloc; b'a'; n]?;
     let fault = PassageFault::NotUtf8 { at: n as u64 };
-    for (byte, want) in [
-        (0xE2, Err(fault)),
-        (0x82, Err(fault)),
-        (0xAC, Ok(n.saturating_add(3))),
-    ] {
-        text.push(byte)?;
-        check_one(rt, setting, &text, want);
-    }
+    text.push(0xE2)?;
+    check_sizes(rt, setting, &text, Err(fault))?;
+    text.push(0x82)?;
+    check_sizes(rt, setting, &text, Err(fault))?;
+    text.push(0xAC)?;
+    check_sizes(rt, setting, &text, Ok(Some(n.saturating_add(3))))?;
     Ok(())
 }
 
@@ -286,66 +296,60 @@ fn scalars_over_a_block_edge(rt: HostRuntime) -> Result<(), Fail> {
     Ok(())
 }
 
-/// Compares where a passage begins, its length and the rule at its end.
-fn check_passage(rt: &impl Abort, found: Option<Passage<'_>>, start: u64, len: usize, rule: Rule) {
-    match found {
-        Some(passage) => {
-            assert_eq!(rt; (passage.start, passage.text.len()), (start, len));
-            assert_eq!(rt; passage.end.rule, rule);
-        }
-        None => assert!(rt; false, "no passage from {start} on"),
+/// Where the next passage begins, its length and the rule at its end, if there is one.
+fn next_outline<R: Source>(
+    segmenter: &mut Segmenter<'_, CellPages>,
+    reader: &mut R,
+) -> Result<Option<(u64, usize, Rule)>, PassageFault> {
+    match next_passage(segmenter, reader)? {
+        Some(passage) => Ok(Some((passage.start, passage.text.len(), passage.end.rule))),
+        None => Ok(None),
     }
 }
 
 /// The two passages of a text in reads of a size.
 fn check_two(
     rt: &impl Abort,
-    alloc: Global,
-    cells: &CellPages,
+    setting: Setting<'_>,
     text: &[u8],
     size: usize,
 ) -> Result<(), PassageFault> {
     let sizes = [size];
     let mut source = cut_source(text, &sizes);
-    let mut segmenter = segmenter(alloc, cells, LIMIT, Profile::First)?;
-    for (start, len, rule) in [(0, 4097, Rule::Lb5), (4097, 1, Rule::Lb3)] {
-        let found = next_passage(&mut segmenter, &mut source)?;
-        check_passage(rt, found, start, len, rule);
+    let mut segmenter = setting.segmenter()?;
+    for want in [Some((0, 4097, Rule::Lb5)), Some((4097, 1, Rule::Lb3)), None] {
+        let found = next_outline(&mut segmenter, &mut source)?;
+        same(rt, &found, &want, &size);
     }
-    assert_eq!(rt; has_next(&mut segmenter, &mut source), Ok(false));
     Ok(())
+}
+
+fn text_over_the_edge(alloc: Global) -> Result<Vec<u8>, AllocError> {
+    let mut text = vec![in alloc; b'a'; 4095]?;
+    text.extend_from_slice(b"\r\nb")?;
+    Ok(text)
 }
 
 // CR ends a block and LF begins the next.
 #[test]
 fn line_end_over_a_block_edge(rt: HostRuntime) -> Result<(), Fail> {
     let cells = sample_cells(rt.alloc())?;
-    let mut text = vec![in rt.alloc(); b'a'; 4095]?;
-    text.extend_from_slice(b"\r\nb")?;
+    let setting = Setting::new(rt.alloc(), &cells, Profile::First);
+    let text = text_over_the_edge(rt.alloc())?;
     for size in SIZES {
-        check_two(&rt, rt.alloc(), &cells, &text, size)?;
+        check_two(&rt, setting, &text, size)?;
     }
     Ok(())
 }
 
-/// The one passage of this many bytes, which is one segment and one word.
-fn check_greatest(
-    rt: &impl Abort,
-    alloc: Global,
-    cells: &CellPages,
-    limit: u32,
-) -> Result<(), PassageFault> {
-    let mut source = RepeatedSource::new(b'a', u64::from(limit));
-    let mut segmenter = segmenter(alloc, cells, limit, Profile::First)?;
-    match next_passage(&mut segmenter, &mut source)? {
-        Some(passage) => {
-            assert_eq!(rt; passage.text.len(), limit as usize);
-            assert_eq!(rt; passage.segments.len(), 1);
-            assert_eq!(rt; passage.pieces.len(), 1);
-        }
-        None => assert!(rt; false, "no passage"),
+/// The one passage of as many bytes as a paragraph may have, which is one segment and one piece.
+fn check_greatest(rt: &impl Abort, setting: Setting<'_>) -> Result<(), PassageFault> {
+    let mut source = RepeatedSource::new(b'a', u64::from(setting.limit));
+    let mut segmenter = setting.segmenter()?;
+    for want in [Some([setting.limit as usize, 1, 1]), None] {
+        let found = next_sizes(&mut segmenter, &mut source)?;
+        same(rt, &found, &want, &"the greatest passage");
     }
-    assert_eq!(rt; has_next(&mut segmenter, &mut source), Ok(false));
     Ok(())
 }
 
@@ -353,12 +357,11 @@ fn check_greatest(
 #[test]
 fn greatest_passage(rt: HostRuntime) -> Result<(), Fail> {
     let cells = sample_cells(rt.alloc())?;
-    let limit = 16_777_216;
-    check_greatest(&rt, rt.alloc(), &cells, limit)?;
     let setting = Setting {
-        limit,
+        limit: 16_777_216,
         ..Setting::new(rt.alloc(), &cells, Profile::First)
     };
+    check_greatest(&rt, setting)?;
     let mut longer = RepeatedSource::new(b'a', 16_777_217);
     let fault = PassageFault::ParagraphTooLong { start: 0 };
     check_spent_segmenter(&rt, setting, &mut longer, fault)?;

@@ -1,6 +1,6 @@
 //! Lines of the notation: what is read, refused, written and marked.
 
-use crate::calls::{line_of, marked, sample_cells, written_line};
+use crate::calls::{line_of, marked, same, sample_cells, written_line};
 use lbk_notation::{
     Form, LineFault, Mark, TestLine, laws, mark_of, push_line, push_mark, push_passage_line,
     push_scalar, read_back, read_passage_line,
@@ -68,7 +68,7 @@ static KINDS: [(&str, Want); 5] = [
 ];
 
 fn same_text(rt: &impl Abort, found: &[u8], want: &str) {
-    assert_eq!(rt; found, want.as_bytes());
+    same(rt, &found, &want.as_bytes(), &want);
 }
 
 fn check_line(
@@ -91,7 +91,7 @@ fn check_fault(
 ) {
     match answer {
         Ok(_) => panic!(rt; "accepted: {bytes:?}"),
-        Err(fault) => assert_eq!(rt; fault, LineFault::Bad { at }, "in {bytes:?}"),
+        Err(fault) => same(rt, &fault, &LineFault::Bad { at }, &bytes),
     }
 }
 
@@ -147,14 +147,14 @@ fn long_lines(rt: HostRuntime) -> Result<(), Fail> {
     let longest = longer.get(..268_435_456).ok_or("no line")?;
     assert!(rt; line_of(rt.alloc(), longest, Form::Plain)?.is_none());
     let too_long = line_of(rt.alloc(), &longer, Form::Plain).err();
-    assert_eq!(rt; too_long, Some(LineFault::LineTooLong));
+    same(&rt, &too_long, &Some(LineFault::LineTooLong), &"a line");
     Ok(())
 }
 
 /// Compares what a line has.
 fn check_parts(rt: &impl Abort, line: &TestLine, scalars: &[char], marks: &[Mark]) {
-    assert_eq!(rt; line.scalars(), scalars);
-    assert_eq!(rt; line.marks(), marks);
+    same(rt, &line.scalars(), &scalars, &"scalars");
+    same(rt, &line.marks(), &marks, &"marks");
 }
 
 /// Writes a line piece by piece.
@@ -173,7 +173,7 @@ fn behind(alloc: Global, line: &TestLine, form: Form) -> Result<Vec<u8>, AllocEr
     Ok(text)
 }
 
-/// Checks what is written of a line, and that it is read back.
+/// Checks what is written of a line.
 fn check_written(
     rt: &impl Abort,
     alloc: Global,
@@ -184,17 +184,27 @@ fn check_written(
     same_text(rt, &written_line(alloc, line, form)?, text);
     same_text(rt, &by_pieces(alloc, form)?, text);
     let behind = behind(alloc, line, form)?;
-    same_text(rt, behind.get(1..).ok_or("nothing written")?, text);
+    same_text(rt, behind.get(1..).unwrap_or(b"nothing"), text);
+    check_again(rt, alloc, line, form)
+}
+
+/// Checks that a line is read back.
+fn check_again(rt: &impl Abort, alloc: Global, line: &TestLine, form: Form) -> Result<(), Fail> {
     let again = read_back(alloc, line, form)?.ok_or("no line")?;
-    assert_eq!(rt; again.scalars(), line.scalars());
+    same(rt, &again.scalars(), &line.scalars(), &"a line");
     Ok(())
+}
+
+/// The line of one scalar that the tests write.
+fn one_scalar(alloc: Global) -> Result<TestLine, Fail> {
+    let scalars = vec![in alloc; '\u{1F466}']?;
+    let marks = vec![in alloc; Mark::No, Mark::Must]?;
+    Ok(TestLine::new(scalars, marks).ok_or("refused")?)
 }
 
 #[test]
 fn writing(rt: HostRuntime) -> Result<(), Fail> {
-    let scalars = vec![in rt.alloc(); '\u{1F466}']?;
-    let marks = vec![in rt.alloc(); Mark::No, Mark::Must]?;
-    let line = TestLine::new(scalars, marks).ok_or("refused")?;
+    let line = one_scalar(rt.alloc())?;
     check_parts(&rt, &line, &['\u{1F466}'], &[Mark::No, Mark::Must]);
     check_written(&rt, rt.alloc(), &line, Form::Kinds, "× 1F466 !")?;
     check_written(&rt, rt.alloc(), &line, Form::Plain, "× 1F466 ÷")?;
@@ -204,7 +214,7 @@ fn writing(rt: HostRuntime) -> Result<(), Fail> {
 }
 
 /// Texts, and what is marked in the first profile and in the second.
-const MARKED: [(&str, &str, &str); 5] = [
+static MARKED: [(&str, &str, &str); 5] = [
     ("", "×", "×"),
     (
         "ab cd",
@@ -242,22 +252,35 @@ fn check_marked(
     Ok(())
 }
 
+/// Checks what is marked in a text in both profiles.
+fn check_both(
+    rt: &impl Abort,
+    alloc: Global,
+    cells: &CellPages,
+    (text, first, second): (&str, &str, &str),
+) -> Result<(), AllocError> {
+    for (profile, want) in [(Profile::First, first), (Profile::Second, second)] {
+        check_marked(rt, alloc, (cells, profile, Form::Kinds), text, want)?;
+    }
+    Ok(())
+}
+
 #[test]
 fn marking(rt: HostRuntime) -> Result<(), Fail> {
-    let alloc = rt.alloc();
-    let cells = sample_cells(alloc)?;
-    let kinds = Form::Kinds;
-    for (text, first, second) in &MARKED {
-        check_marked(&rt, alloc, (&cells, Profile::First, kinds), text, first)?;
-        check_marked(&rt, alloc, (&cells, Profile::Second, kinds), text, second)?;
+    let cells = sample_cells(rt.alloc())?;
+    for row in &MARKED {
+        check_both(&rt, rt.alloc(), &cells, *row)?;
     }
-    let want = "× 0061 × 0062 × 0020 ÷ 0063 × 0064 ÷";
     let plain = (&cells, Profile::First, Form::Plain);
-    check_marked(&rt, alloc, plain, "ab cd", want)?;
-    assert_eq!(rt; mark_of(Kind::No), Mark::No);
-    assert_eq!(rt; mark_of(Kind::May), Mark::May);
-    assert_eq!(rt; mark_of(Kind::Must), Mark::Must);
+    let want = "× 0061 × 0062 × 0020 ÷ 0063 × 0064 ÷";
+    check_marked(&rt, rt.alloc(), plain, "ab cd", want)?;
+    check_kinds(&rt);
     Ok(())
+}
+
+fn check_kinds(rt: &impl Abort) {
+    let marks = [mark_of(Kind::No), mark_of(Kind::May), mark_of(Kind::Must)];
+    same(rt, &marks, &[Mark::No, Mark::May, Mark::Must], &"kinds");
 }
 
 const BLANK: Verdict = Verdict {
@@ -279,7 +302,7 @@ fn passage_line(
     scalars: &[char],
     verdicts: &[Verdict],
 ) -> Result<Vec<u8>, AllocError> {
-    assert_eq!(rt; verdicts.len(), scalars.len() + 1);
+    assert!(rt; verdicts.len() == scalars.len() + 1);
     let mut shown = Vec::new(alloc);
     push_passage_line(&mut shown, scalars, verdicts)?;
     Ok(shown)
@@ -293,17 +316,20 @@ fn laws_of_lines() {
     laws::passage_lines();
 }
 
+fn check_passage_line(rt: &impl Abort, alloc: Global, shown: &[u8]) -> Result<(), Fail> {
+    same_text(rt, shown, "× 0061 × 000D × 000A !\t# 2 6 5 3");
+    let line = read_passage_line(alloc, shown)?.ok_or("no line")?;
+    let marks = [Mark::No, Mark::No, Mark::No, Mark::Must];
+    check_parts(rt, &line, &['a', '\r', '\n'], &marks);
+    Ok(())
+}
+
 #[test]
 fn lines_of_passages(rt: HostRuntime) -> Result<(), Fail> {
     let source = sample_cells(rt.alloc())?;
     let cells = cells_of(rt.alloc(), &source, "a\r\n")?;
     let verdicts = verdicts_of(rt.alloc(), &cells)?;
-    let scalars = ['a', '\r', '\n'];
-    let shown = passage_line(&rt, rt.alloc(), &scalars, &verdicts)?;
-    same_text(&rt, &shown, "× 0061 × 000D × 000A !\t# 2 6 5 3");
-    let line = read_passage_line(rt.alloc(), &shown)?.ok_or("no line")?;
-    let marks = [Mark::No, Mark::No, Mark::No, Mark::Must];
-    check_parts(&rt, &line, &scalars, &marks);
+    let shown = passage_line(&rt, rt.alloc(), &['a', '\r', '\n'], &verdicts)?;
     laws_of_lines();
-    Ok(())
+    check_passage_line(&rt, rt.alloc(), &shown)
 }

@@ -1,14 +1,21 @@
 //! The passages that a segmenter gives up to its limit and before a fault, in both profiles and however the reads are
 //! cut, and what it answers then.
 
-use crate::calls::{cut_source, failing_source, has_next, next_passage, sample_cells, segmenter};
-use lbk_cmd::SAMPLE_FILES;
+use crate::calls::{
+    cut_source, has_next, has_step_table, next_passage, same, sample_cells, sample_tables,
+    source_of,
+};
+use crate::segmented::push_told;
+use crate::tasks::Setting;
+use lbk_cmd::CmdFault;
+use lbk_feed::Source;
 use lbk_feed::devices::MemorySource;
 use lbk_passage::{Passage, PassageFault, Segmenter};
 use lbk_rules::{CellPages, CellSource, Profile, Rule};
 use lbk_tests_rows::texts::{FIRST, SECOND};
 use lbk_ucd::Tables;
 use std::alloc::{AllocError, Global};
+use std::fmt::Write;
 use std::process::Abort;
 use std::test::Fail;
 
@@ -56,18 +63,38 @@ static FAULTS: [Row; 8] = [
     (b"a\n\xFF", 65_536, &[], PassageFault::NotUtf8 { at: 2 }),
 ];
 
-type Found<'a> = Result<Option<Passage<'a>>, PassageFault>;
-
-/// Compares where a passage begins, and its text.
-fn check_passage(rt: &impl Abort, found: Found<'_>, want: (u64, &str), row: &Row) {
-    match found {
-        Ok(Some(passage)) => assert_eq!(rt; (passage.start, passage.text), want),
-        other => assert!(rt; false, "{other:?} in {row:?}"),
+/// Where the next passage begins, and its text, if there is one.
+fn next_text<'a, R: Source>(
+    segmenter: &'a mut Segmenter<'_, CellPages>,
+    reader: &mut R,
+) -> Result<Option<(u64, &'a str)>, PassageFault> {
+    match next_passage(segmenter, reader)? {
+        Some(passage) => Ok(Some((passage.start, passage.text))),
+        None => Ok(None),
     }
 }
 
-fn check_fault(rt: &impl Abort, found: Result<bool, PassageFault>, want: PassageFault, row: &Row) {
-    assert_eq!(rt; found, Err(want), "{row:?}");
+/// Compares what comes next.
+fn check_text(
+    rt: &impl Abort,
+    segmenter: &mut Segmenter<'_, CellPages>,
+    source: &mut MemorySource<'_>,
+    want: Result<Option<(u64, &str)>, PassageFault>,
+    row: &Row,
+) {
+    same(rt, &next_text(segmenter, source), &want, row);
+}
+
+/// Calls three times more behind a fault.
+pub fn check_spent<R: Source>(
+    rt: &impl Abort,
+    segmenter: &mut Segmenter<'_, CellPages>,
+    reader: &mut R,
+) {
+    for _ in 0..3 {
+        let again = has_next(segmenter, reader);
+        same(rt, &again, &Err(PassageFault::Spent), &"a fault");
+    }
 }
 
 /// Compares the passages that come first, and those given before the fault, which is answered once.
@@ -81,16 +108,12 @@ fn check(
 ) -> Result<(), PassageFault> {
     let mut source = source;
     let (_, limit, passages, fault) = *row;
-    let mut segmenter = segmenter(alloc, cells, limit, profile)?;
+    let mut segmenter = Segmenter::new(alloc, cells, limit, profile)?;
     for want in passages {
-        let found = next_passage(&mut segmenter, &mut source);
-        check_passage(rt, found, *want, row);
+        check_text(rt, &mut segmenter, &mut source, Ok(Some(*want)), row);
     }
-    check_fault(rt, has_next(&mut segmenter, &mut source), fault, row);
-    for _ in 0..3 {
-        let again = has_next(&mut segmenter, &mut source);
-        check_fault(rt, again, PassageFault::Spent, row);
-    }
+    check_text(rt, &mut segmenter, &mut source, Err(fault), row);
+    check_spent(rt, &mut segmenter, &mut source);
     Ok(())
 }
 
@@ -148,7 +171,7 @@ fn faults(rt: HostRuntime) -> Result<(), Fail> {
 }
 
 /// The second read fails, once a passage and a scalar were read, or a passage alone.
-const FAILED_READS: [Row; 2] = [
+static FAILED_READS: [Row; 2] = [
     (b"a\nb", 65_536, &[(0, "a\n")], PassageFault::Read),
     (b"a\n", 65_536, &[], PassageFault::Read),
 ];
@@ -157,127 +180,136 @@ const FAILED_READS: [Row; 2] = [
 fn failed_reads(rt: HostRuntime) -> Result<(), Fail> {
     let cells = sample_cells(rt.alloc())?;
     for row in &FAILED_READS {
-        let source = failing_source(row.0, &[], 1);
+        let source = source_of(row.0, &[], Some(1));
         check(&rt, rt.alloc(), &cells, Profile::First, source, row)?;
     }
     Ok(())
 }
 
-/// Compares a passage's text and the rule at its end.
-fn check_end(rt: &impl Abort, found: Found<'_>, want: &str, end: Rule) {
-    match found {
-        Ok(Some(passage)) => assert_eq!(rt; (passage.text, passage.end.rule), (want, end)),
-        other => assert!(rt; false, "{other:?} for {want:?}"),
+/// The text of the next passage and the rule at its end, if there is one.
+fn next_end<'a, R: Source>(
+    segmenter: &'a mut Segmenter<'_, CellPages>,
+    reader: &mut R,
+) -> Result<Option<(&'a str, Rule)>, PassageFault> {
+    match next_passage(segmenter, reader)? {
+        Some(passage) => Ok(Some((passage.text, passage.end.rule))),
+        None => Ok(None),
     }
 }
 
+fn check_limit(rt: &impl Abort, setting: Setting<'_>) {
+    let refused = setting.segmenter();
+    assert!(rt; matches!(refused, Err(PassageFault::Limit)));
+}
+
 /// A text of three passages, of which the longest has as many bytes as a paragraph may have.
-fn check_within(rt: &impl Abort, alloc: Global, cells: &CellPages) -> Result<(), PassageFault> {
+fn check_within(rt: &impl Abort, setting: Setting<'_>) -> Result<(), PassageFault> {
     let mut source = cut_source(b"ab\r\nabc\rb", &[]);
-    let mut segmenter = segmenter(alloc, cells, 4, Profile::First)?;
-    for (want, end) in [
-        ("ab\r\n", Rule::Lb5),
-        ("abc\r", Rule::Lb5),
-        ("b", Rule::Lb3),
-    ] {
-        check_end(rt, next_passage(&mut segmenter, &mut source), want, end);
+    let mut segmenter = Setting {
+        limit: 4,
+        ..setting
     }
-    assert_eq!(rt; has_next(&mut segmenter, &mut source), Ok(false));
+    .segmenter()?;
+    for want in [
+        Some(("ab\r\n", Rule::Lb5)),
+        Some(("abc\r", Rule::Lb5)),
+        Some(("b", Rule::Lb3)),
+        None,
+    ] {
+        let found = next_end(&mut segmenter, &mut source)?;
+        same(rt, &found, &want, &"three passages");
+    }
     Ok(())
 }
 
 #[test]
 fn limits(rt: HostRuntime) -> Result<(), Fail> {
     let cells = sample_cells(rt.alloc())?;
+    let setting = Setting::new(rt.alloc(), &cells, Profile::First);
     for limit in [0, 16_777_217] {
-        let refused = segmenter(rt.alloc(), &cells, limit, Profile::First);
+        let refused = Setting { limit, ..setting }.segmenter();
         assert!(&rt; matches!(refused, Err(PassageFault::Limit)));
     }
-    check_within(&rt, rt.alloc(), &cells)?;
+    let four = Setting {
+        limit: 4,
+        ..setting
+    };
+    check_within(&rt, four)?;
     Ok(())
 }
 
-/// A segmenter and what it reads.
-#[derive(Drop)]
-struct Reading<'a, C: CellSource> {
-    segmenter: Segmenter<'a, C>,
-    source: MemorySource<'a>,
-}
-
-fn read_text<'a, C: CellSource>(
-    alloc: Global,
-    cells: &'a C,
-    profile: Profile,
-    text: &'a str,
-) -> Result<Reading<'a, C>, PassageFault> {
-    Ok(Reading {
-        segmenter: segmenter(alloc, cells, 65_536, profile)?,
-        source: cut_source(text.as_bytes(), &[]),
-    })
-}
-
-fn same_passage(rt: &impl Abort, found: &Passage<'_>, want: &Passage<'_>) {
-    assert_eq!(rt; (found.start, found.text), (want.start, want.text));
-    assert_eq!(rt; found.segments, want.segments, "{want:?}");
-    assert_eq!(rt; found.pieces, want.pieces, "{want:?}");
-    assert_eq!(rt; found.end, want.end, "{want:?}");
-}
-
-/// Compares the next passages, and says whether there are any.
-fn check_next<A: CellSource, B: CellSource>(
-    rt: &impl Abort,
-    one: &mut Reading<'_, A>,
-    other: &mut Reading<'_, B>,
-) -> Result<bool, PassageFault> {
-    let want = next_passage(&mut one.segmenter, &mut one.source)?;
-    let found = next_passage(&mut other.segmenter, &mut other.source)?;
-    match (&found, &want) {
-        (Some(found), Some(want)) => same_passage(rt, found, want),
-        _ => assert_eq!(rt; found.is_some(), want.is_some()),
+/// Writes all that is known of the next passage, or that there is none.
+fn push_next<C: CellSource>(
+    seen: &mut String,
+    segmenter: &mut Segmenter<'_, C>,
+    source: &mut MemorySource<'_>,
+) -> Result<(), CmdFault> {
+    match next_passage(segmenter, source)? {
+        Some(passage) => push_passage(seen, &passage)?,
+        None => seen.push_str("none\n")?,
     }
-    Ok(want.is_some())
+    Ok(())
+}
+
+fn push_passage(seen: &mut String, passage: &Passage<'_>) -> Result<(), AllocError> {
+    push_told(seen, passage)?;
+    writeln!(seen, " {:?} {}", passage.end, passage.text)?;
+    Ok(())
+}
+
+/// All passages of a text, and what is answered behind the last.
+fn passages_of<C: CellSource>(
+    alloc: Global,
+    cells: &C,
+    profile: Profile,
+    text: &str,
+) -> Result<String, CmdFault> {
+    let mut source = cut_source(text.as_bytes(), &[]);
+    let mut segmenter = Segmenter::new(alloc, cells, 65_536, profile)?;
+    let mut seen = String::new(alloc);
+    for _ in 0..=text.len() {
+        push_next(&mut seen, &mut segmenter, &mut source)?;
+    }
+    Ok(seen)
 }
 
 /// The passages of a text by two sources of the same cells.
-fn check_same<A: CellSource, B: CellSource>(
-    rt: &impl Abort,
-    alloc: Global,
-    one: &A,
-    other: &B,
-    profile: Profile,
-    text: &str,
-) -> Result<(), PassageFault> {
-    let mut one = read_text(alloc, one, profile, text)?;
-    let mut other = read_text(alloc, other, profile, text)?;
-    for _ in 0..text.len() {
-        if !check_next(rt, &mut one, &mut other)? {
-            return Ok(());
-        }
-    }
-    assert_eq!(rt; check_next(rt, &mut one, &mut other), Ok(false));
-    Ok(())
-}
-
-fn check_sources(
+fn check_same(
     rt: &impl Abort,
     alloc: Global,
     tables: &Tables,
     pages: &CellPages,
     text: &str,
-) -> Result<(), PassageFault> {
-    check_same(rt, alloc, tables, pages, Profile::First, text)?;
-    check_same(rt, alloc, tables, pages, Profile::Second, text)
+) -> Result<(), CmdFault> {
+    for profile in [Profile::First, Profile::Second] {
+        let want = passages_of(alloc, tables, profile, text)?;
+        let found = passages_of(alloc, pages, profile, text)?;
+        same(rt, &found.as_str(), &want.as_str(), &text);
+    }
+    Ok(())
+}
+
+fn check_rows(
+    rt: &impl Abort,
+    alloc: Global,
+    tables: &Tables,
+    pages: &CellPages,
+    rows: &[(&str, &str)],
+) -> Result<(), CmdFault> {
+    for (text, _) in rows {
+        check_same(rt, alloc, tables, pages, text)?;
+    }
+    Ok(())
 }
 
 /// The tables have no table of steps, and the pages have one.
 #[test]
 fn without_a_table_of_steps(rt: HostRuntime) -> Result<(), Fail> {
-    let tables = Tables::read(rt.alloc(), SAMPLE_FILES)?;
-    let pages = CellPages::build(rt.alloc(), &tables)?;
-    assert!(rt; tables.step_table().is_none());
-    assert!(rt; pages.step_table().is_some());
-    for (text, _) in FIRST.iter().chain(&SECOND) {
-        check_sources(&rt, rt.alloc(), &tables, &pages, text)?;
-    }
+    let tables = sample_tables(rt.alloc())?;
+    let pages = sample_cells(rt.alloc())?;
+    assert!(rt; !has_step_table(&tables));
+    assert!(rt; has_step_table(&pages));
+    check_rows(&rt, rt.alloc(), &tables, &pages, &FIRST)?;
+    check_rows(&rt, rt.alloc(), &tables, &pages, &SECOND)?;
     Ok(())
 }

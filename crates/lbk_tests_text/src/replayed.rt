@@ -1,11 +1,11 @@
 //! What a replay of test files writes and answers, over devices in memory.
 
-use crate::calls::{line_of, outcome_of, sample_cells};
+use crate::calls::{line_of, outcome_of, same, sample_cells};
 use crate::runs::{Run, whole};
 use crate::tasks::{End, ROOM, Setting, Task};
 use lbk_feed::Source;
 use lbk_feed::devices::{MemorySink, RepeatedSource};
-use lbk_notation::{Form, Mark, Outcome, ReplayFault, Report, replay};
+use lbk_notation::{Form, Mark, Outcome, ReplayFault, Report, TestLine, replay};
 use lbk_rules::{CellPages, Kind, Profile, Rule, Verdict};
 use lbk_tests_rows::replayed::{FOUR_LINES, KINDS, PLAIN, QUOTED, Row};
 use std::alloc::{AllocError, Global};
@@ -74,24 +74,18 @@ fn files(rt: HostRuntime) -> Result<(), Fail> {
 
 #[test]
 fn file_that_profiles_tell_apart(rt: HostRuntime) -> Result<(), Fail> {
-    let alloc = rt.alloc();
-    let cells = sample_cells(alloc)?;
-    let file = QUOTED.as_bytes();
+    let cells = sample_cells(rt.alloc())?;
     for (profile, text) in [
         (Profile::First, "D 1 2 × ÷ 18\nT 1 0 1 0\n"),
         (Profile::Second, "D 1 3 ÷ × 9\nT 1 0 1 0\n"),
     ] {
-        let setting = Setting::new(alloc, &cells, profile);
-        check(&rt, setting, Form::Plain, file, text, [1, 0, 1, 0])?;
+        let setting = Setting::new(rt.alloc(), &cells, profile);
+        check_rows(&rt, setting, Form::Plain, &[(QUOTED, text, [1, 0, 1, 0])])?;
     }
     Ok(())
 }
 
-#[test]
-fn lines(rt: HostRuntime) -> Result<(), Fail> {
-    let cells = sample_cells(rt.alloc())?;
-    let bytes = "× 0061 ÷ 0062 ÷".as_bytes();
-    let line = line_of(rt.alloc(), bytes, Form::Plain)?.ok_or("no line")?;
+fn check_line(rt: &impl Abort, cells: &CellPages, line: &TestLine, profile: Profile) {
     let differ = Outcome::Differ {
         position: 1,
         file: Mark::May,
@@ -100,32 +94,53 @@ fn lines(rt: HostRuntime) -> Result<(), Fail> {
             rule: Rule::Lb28,
         },
     };
+    let found = outcome_of(cells, line, Form::Plain, profile);
+    same(rt, &found, &differ, &profile);
+}
+
+#[test]
+fn lines(rt: HostRuntime) -> Result<(), Fail> {
+    let cells = sample_cells(rt.alloc())?;
+    let bytes = "× 0061 ÷ 0062 ÷".as_bytes();
+    let line = line_of(rt.alloc(), bytes, Form::Plain)?.ok_or("no line")?;
     for profile in [Profile::First, Profile::Second] {
-        assert_eq!(rt; outcome_of(&cells, &line, Form::Plain, profile), differ);
+        check_line(&rt, &cells, &line, profile);
     }
     Ok(())
 }
 
 /// The sizes of reads, the one that fails, and what is written before it. The second LF stands at byte 37.
-const FAILED_READS: [(&[usize], u64, &str); 4] = [
+type FailedRead = (&'static [usize], u64, &'static str);
+
+static FAILED_READS: [FailedRead; 4] = [
     (&[38], 1, "D 2 1 ÷ × 28\n"),
     (&[37], 1, ""),
     (&[], 0, ""),
     (&[], 1, "D 2 1 ÷ × 28\nR 3 7\n"),
 ];
 
+fn check_failed_read(
+    rt: &impl Abort,
+    setting: Setting<'_>,
+    row: &FailedRead,
+) -> Result<(), AllocError> {
+    let (sizes, failing, written) = *row;
+    let run = Run {
+        sizes,
+        failing: Some(failing),
+        ..whole(Task::Replay(Form::Plain), FOUR_LINES.as_bytes())
+    };
+    let ran = run.check(rt, setting, run.task.failed_read(), written)?;
+    same(rt, &ran.reads, &failing.saturating_add(1), &run);
+    Ok(())
+}
+
 #[test]
 fn failing_reads(rt: HostRuntime) -> Result<(), Fail> {
     let cells = sample_cells(rt.alloc())?;
     let setting = Setting::new(rt.alloc(), &cells, Profile::First);
-    for (sizes, failing, written) in &FAILED_READS {
-        let run = Run {
-            sizes,
-            failing: Some(*failing),
-            ..whole(Task::Replay(Form::Plain), FOUR_LINES.as_bytes())
-        };
-        let ran = run.check(&rt, setting, End::File(Err(ReplayFault::Read)), written)?;
-        assert_eq!(rt; ran.reads, failing.saturating_add(1));
+    for row in &FAILED_READS {
+        check_failed_read(&rt, setting, row)?;
     }
     Ok(())
 }
@@ -143,36 +158,37 @@ fn replayed<R: Source>(
     Ok((answer, sink))
 }
 
-/// Replays one byte again and again.
-fn repeated(
+/// Replays one byte again and again, and compares whether it is refused, and what is written.
+fn check_repeated(
+    rt: &impl Abort,
     alloc: Global,
     cells: &CellPages,
-    byte: u8,
-    count: u64,
-) -> Result<(Result<Report, ReplayFault>, MemorySink), AllocError> {
+    (byte, count): (u8, u64),
+    (refused, written): (Option<ReplayFault>, &str),
+) -> Result<(), AllocError> {
     let mut source = RepeatedSource::new(byte, count);
-    replayed(alloc, cells, &mut source, Form::Plain, Profile::First)
+    let (answer, sink) = replayed(alloc, cells, &mut source, Form::Plain, Profile::First)?;
+    same(rt, &answer.err(), &refused, &count);
+    same(rt, &sink.bytes(), &written.as_bytes(), &count);
+    Ok(())
 }
 
 #[test]
 fn longest_line(rt: HostRuntime) -> Result<(), Fail> {
     let cells = sample_cells(rt.alloc())?;
-    for (count, written) in [
-        (268_435_456, "T 0 0 0 0\n"),
-        (268_435_457, "R 1 long\nT 1 0 0 1\n"),
-    ] {
-        let (answer, sink) = repeated(rt.alloc(), &cells, b'#', count)?;
-        assert!(rt; answer.is_ok());
-        assert_eq!(rt; sink.bytes(), written.as_bytes());
-    }
+    let line = (b'#', 268_435_456);
+    check_repeated(&rt, rt.alloc(), &cells, line, (None, "T 0 0 0 0\n"))?;
+    let longer = (b'#', 268_435_457);
+    let written = "R 1 long\nT 1 0 0 1\n";
+    check_repeated(&rt, rt.alloc(), &cells, longer, (None, written))?;
     Ok(())
 }
 
 #[test]
 fn longest_stream(rt: HostRuntime) -> Result<(), Fail> {
     let cells = sample_cells(rt.alloc())?;
-    let (answer, sink) = repeated(rt.alloc(), &cells, b'\n', 1_073_741_825)?;
-    assert_eq!(rt; answer, Err(ReplayFault::StreamTooLong));
-    assert!(rt; sink.bytes().is_empty());
+    let lines = (b'\n', 1_073_741_825);
+    let want = (Some(ReplayFault::StreamTooLong), "");
+    check_repeated(&rt, rt.alloc(), &cells, lines, want)?;
     Ok(())
 }

@@ -1,9 +1,10 @@
 //! Runs of a task over bytes in memory, and what has to come of them.
 
-use crate::calls::{cut_source, failing_source, memory_sink, sample_cells};
+use crate::calls::{memory_sink, same, sample_cells, source_of};
 use crate::tasks::{End, ROOM, Setting, Task};
 use lbk_feed::Source;
 use lbk_feed::devices::MemorySink;
+use lbk_passage::PassageFault;
 use lbk_rules::Profile;
 use std::alloc::{AllocError, Global};
 use std::process::Abort;
@@ -41,10 +42,7 @@ pub fn whole(task: Task, input: &[u8]) -> Run<'_> {
 impl Run<'_> {
     /// Runs into a sink that takes all.
     pub fn ran(self, setting: Setting<'_>) -> Result<Ran, AllocError> {
-        let mut source = match self.failing {
-            Some(read) => failing_source(self.input, self.sizes, read),
-            None => cut_source(self.input, self.sizes),
-        };
+        let mut source = source_of(self.input, self.sizes, self.failing);
         let mut sink = memory_sink(setting.alloc, ROOM, usize::MAX)?;
         let end = self.task.run(setting, &mut source, &mut sink);
         Ok(Ran {
@@ -53,16 +51,6 @@ impl Run<'_> {
             reads: source.reads(),
             ended: source.ended(),
         })
-    }
-
-    /// Compares how it ended.
-    pub fn check_end(self, rt: &impl Abort, found: End, want: End) {
-        assert_eq!(rt; found, want, "{self:?}");
-    }
-
-    /// Compares what it wrote.
-    pub fn check_bytes(self, rt: &impl Abort, found: &[u8], want: &[u8]) {
-        assert_eq!(rt; found, want, "{self:?}");
     }
 
     /// Runs, and compares how it ended and what it wrote.
@@ -74,8 +62,8 @@ impl Run<'_> {
         written: &str,
     ) -> Result<Ran, AllocError> {
         let ran = self.ran(setting)?;
-        self.check_end(rt, ran.end, end);
-        self.check_bytes(rt, ran.sink.bytes(), written.as_bytes());
+        same(rt, &ran.end, &end, &self);
+        same(rt, &ran.sink.bytes(), &written.as_bytes(), &self);
         Ok(ran)
     }
 }
@@ -110,6 +98,55 @@ pub fn check_texts(
     let setting = Setting::new(alloc, &cells, profile);
     for (text, written) in rows {
         check_text(rt, setting, task, text, written)?;
+    }
+    Ok(())
+}
+
+/// A text, the limit of a paragraph, the sizes of the reads, the one that fails, if any, the fault, and what is written
+/// before it.
+pub type Refused = (
+    &'static [u8],
+    u32,
+    &'static [usize],
+    Option<u64>,
+    PassageFault,
+    &'static str,
+);
+
+fn check_refused_text(
+    rt: &impl Abort,
+    setting: Setting<'_>,
+    task: Task,
+    row: &Refused,
+) -> Result<(), AllocError> {
+    let (input, limit, sizes, failing, fault, written) = *row;
+    let run = Run {
+        task,
+        input,
+        sizes,
+        failing,
+    };
+    let _ = run.check(
+        rt,
+        Setting { limit, ..setting },
+        End::refused(fault),
+        written,
+    )?;
+    Ok(())
+}
+
+/// Checks texts that are refused in a profile.
+pub fn check_refused(
+    rt: &impl Abort,
+    alloc: Global,
+    task: Task,
+    rows: &[Refused],
+    profile: Profile,
+) -> Result<(), Fail> {
+    let cells = sample_cells(alloc)?;
+    let setting = Setting::new(alloc, &cells, profile);
+    for row in rows {
+        check_refused_text(rt, setting, task, row)?;
     }
     Ok(())
 }

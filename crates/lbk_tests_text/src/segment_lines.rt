@@ -1,8 +1,7 @@
 //! What `segment` writes and refuses, over devices in memory.
 
-use crate::calls::sample_cells;
-use crate::runs::{Run, check_texts, whole};
-use crate::tasks::{End, Setting, Task};
+use crate::runs::{Refused, check_refused, check_texts};
+use crate::tasks::{LIMIT, Task};
 use lbk_passage::PassageFault;
 use lbk_rules::Profile;
 use lbk_tests_rows::segment_lines::{BOTH, FIRST, SECOND};
@@ -17,35 +16,28 @@ fn texts(rt: HostRuntime) -> Result<(), Fail> {
     check_texts(&rt, rt.alloc(), task, &SECOND, Profile::Second)
 }
 
-/// A text, the limit of a paragraph, the fault, and what is written before it.
-const REFUSED: [(&[u8], u32, PassageFault, &str); 3] = [
-    (b"a", 0, PassageFault::Limit, ""),
+static REFUSED: [Refused; 4] = [
+    (b"a", 0, &[], None, PassageFault::Limit, ""),
     (
         b"a\nb\xFF",
         4,
+        &[],
+        None,
         PassageFault::NotUtf8 { at: 3 },
         "P 0 2\nS 0 2 Must 5\nW 0 1\n",
     ),
-    (b"abcde", 4, PassageFault::ParagraphTooLong { start: 0 }, ""),
+    (
+        b"abcde",
+        4,
+        &[],
+        None,
+        PassageFault::ParagraphTooLong { start: 0 },
+        "",
+    ),
+    (b"a\nb", LIMIT, &[2], Some(1), PassageFault::Read, ""),
 ];
 
 #[test]
 fn refusals(rt: HostRuntime) -> Result<(), Fail> {
-    let cells = sample_cells(rt.alloc())?;
-    let setting = Setting::new(rt.alloc(), &cells, Profile::First);
-    for (text, limit, fault, out) in &REFUSED {
-        let setting = Setting {
-            limit: *limit,
-            ..setting
-        };
-        let run = whole(Task::Segment, text);
-        let _ = run.check(&rt, setting, End::refused(*fault), out)?;
-    }
-    let run = Run {
-        sizes: &[2],
-        failing: Some(1),
-        ..whole(Task::Segment, b"a\nb")
-    };
-    let _ = run.check(&rt, setting, End::refused(PassageFault::Read), "")?;
-    Ok(())
+    check_refused(&rt, rt.alloc(), Task::Segment, &REFUSED, Profile::First)
 }

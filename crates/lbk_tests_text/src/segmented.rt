@@ -1,10 +1,11 @@
 //! The segments and pieces that a segmenter gives over the sample files, in both profiles and however the reads are
 //! cut.
 
-use crate::calls::{cut_source, has_next, next_passage, sample_cells, segmenter};
-use crate::tasks::LIMIT;
+use crate::calls::{cut_source, has_next, next_passage, same, sample_cells};
+use crate::tasks::Setting;
 use lbk_cmd::CmdFault;
 use lbk_feed::Source;
+use lbk_feed::devices::MemorySource;
 use lbk_passage::{Passage, PassageFault, Piece, Segment, Segmenter};
 use lbk_rules::{CellPages, Kind, Profile, Rule};
 use std::alloc::{AllocError, Global};
@@ -17,7 +18,7 @@ use std::test::Fail;
 pub type Row = (&'static str, &'static [&'static str]);
 
 /// What both profiles say.
-pub const BOTH: [Row; 11] = [
+pub static BOTH: [Row; 11] = [
     ("", &[]),
     (
         "ab cd",
@@ -62,7 +63,7 @@ pub const BOTH: [Row; 11] = [
 ];
 
 /// What the first says.
-const FIRST: [Row; 3] = [
+static FIRST: [Row; 3] = [
     (
         "a \u{2019}\u{301},",
         &["P 0 8 3 S 0 2 May 18 S 2 8 Must 3 W 0 1 p 1 2 p 2 7 p 7 8"],
@@ -78,7 +79,7 @@ const FIRST: [Row; 3] = [
 ];
 
 /// What the second says.
-const SECOND: [Row; 6] = [
+static SECOND: [Row; 6] = [
     (
         "a \u{2019}\u{301},",
         &["P 0 8 3 S 0 8 Must 3 W 0 1 p 1 2 p 2 7 p 7 8"],
@@ -120,16 +121,21 @@ fn push_piece(line: &mut String, piece: &Piece) -> Result<(), AllocError> {
     Ok(())
 }
 
-/// What is told of a passage.
-fn told(alloc: Global, passage: &Passage<'_>) -> Result<String, AllocError> {
-    let mut line = String::new(alloc);
-    push_start(&mut line, passage)?;
+/// Adds what is told of a passage.
+pub fn push_told(line: &mut String, passage: &Passage<'_>) -> Result<(), AllocError> {
+    push_start(line, passage)?;
     for segment in passage.segments {
-        push_segment(&mut line, segment)?;
+        push_segment(line, segment)?;
     }
     for piece in passage.pieces {
-        push_piece(&mut line, piece)?;
+        push_piece(line, piece)?;
     }
+    Ok(())
+}
+
+fn told(alloc: Global, passage: &Passage<'_>) -> Result<String, AllocError> {
+    let mut line = String::new(alloc);
+    push_told(&mut line, passage)?;
     Ok(line)
 }
 
@@ -147,103 +153,108 @@ pub fn told_next<R: Source>(
 
 fn check_told(rt: &impl Abort, found: Option<String>, want: &str, row: &Row) {
     match found {
-        Some(line) => assert_eq!(rt; line.as_str(), want),
+        Some(line) => same(rt, &line.as_str(), &want, row),
         None => assert!(rt; false, "no passage of {row:?}"),
     }
+}
+
+/// No passage follows.
+fn check_end(
+    rt: &impl Abort,
+    segmenter: &mut Segmenter<'_, CellPages>,
+    source: &mut MemorySource<'_>,
+) {
+    same(rt, &has_next(segmenter, source), &Ok(false), &"the end");
 }
 
 /// Runs a segmenter over the text in reads of the sizes, and compares its passages.
 fn check(
     rt: &impl Abort,
-    alloc: Global,
-    cells: &CellPages,
-    profile: Profile,
+    setting: Setting<'_>,
     sizes: &[usize],
     row: &Row,
 ) -> Result<(), CmdFault> {
     let mut source = cut_source(row.0.as_bytes(), sizes);
-    let mut segmenter = segmenter(alloc, cells, LIMIT, profile)?;
+    let mut segmenter = setting.segmenter()?;
     for want in row.1 {
-        check_told(
-            rt,
-            told_next(alloc, &mut segmenter, &mut source)?,
-            want,
-            row,
-        );
+        let found = told_next(setting.alloc, &mut segmenter, &mut source)?;
+        check_told(rt, found, want, row);
     }
-    for _ in 0..2 {
-        let last = has_next(&mut segmenter, &mut source);
-        assert_eq!(rt; last, Ok(false), "after {row:?}");
-    }
+    check_end(rt, &mut segmenter, &mut source);
+    check_end(rt, &mut segmenter, &mut source);
     Ok(())
 }
 
 const CUTTINGS: [&[usize]; 6] = [&[1], &[2], &[3], &[7], &[4096], &[]];
 
-fn check_rows(
-    rt: &impl Abort,
-    alloc: Global,
-    cells: &CellPages,
-    profile: Profile,
-    rows: &[Row],
-) -> Result<(), CmdFault> {
-    for row in rows {
-        for sizes in CUTTINGS {
-            check(rt, alloc, cells, profile, sizes, row)?;
-        }
+fn check_row(rt: &impl Abort, setting: Setting<'_>, row: &Row) -> Result<(), CmdFault> {
+    for sizes in CUTTINGS {
+        check(rt, setting, sizes, row)?;
     }
     Ok(())
 }
 
+fn check_rows(rt: &impl Abort, setting: Setting<'_>, rows: &[Row]) -> Result<(), CmdFault> {
+    for row in rows {
+        check_row(rt, setting, row)?;
+    }
+    Ok(())
+}
+
+/// The rows of both profiles, and those of one.
+fn check_profile(rt: &impl Abort, setting: Setting<'_>, rows: &[Row]) -> Result<(), CmdFault> {
+    check_rows(rt, setting, &BOTH)?;
+    check_rows(rt, setting, rows)
+}
+
 #[test]
 fn segments(rt: HostRuntime) -> Result<(), Fail> {
-    let alloc = rt.alloc();
-    let cells = sample_cells(alloc)?;
-    check_rows(&rt, alloc, &cells, Profile::First, &BOTH)?;
-    check_rows(&rt, alloc, &cells, Profile::Second, &BOTH)?;
-    check_rows(&rt, alloc, &cells, Profile::First, &FIRST)?;
-    check_rows(&rt, alloc, &cells, Profile::Second, &SECOND)?;
+    let cells = sample_cells(rt.alloc())?;
+    let first = Setting::new(rt.alloc(), &cells, Profile::First);
+    check_profile(&rt, first, &FIRST)?;
+    let second = Setting::new(rt.alloc(), &cells, Profile::Second);
+    check_profile(&rt, second, &SECOND)?;
     Ok(())
 }
 
 fn check_sizes(rt: &impl Abort, passage: &Passage<'_>) {
-    assert_eq!(rt; passage.text.len(), 4000);
-    assert_eq!(rt; passage.segments.len(), 2000);
-    assert_eq!(rt; passage.pieces.len(), 4000);
+    same(rt, &passage.text.len(), &4000, passage);
+    same(rt, &passage.segments.len(), &2000, passage);
+    same(rt, &passage.pieces.len(), &4000, passage);
     let last = Segment {
         start: 3998,
         end: 4000,
         kind: Kind::Must,
         rule: Rule::Lb3,
     };
-    assert_eq!(rt; passage.segments.last(), Some(&last));
+    same(rt, &passage.segments.last(), &Some(&last), passage);
 }
 
-fn check_many(
-    rt: &impl Abort,
-    alloc: Global,
-    cells: &CellPages,
-    profile: Profile,
-    text: &[u8],
-) -> Result<(), PassageFault> {
+fn check_many(rt: &impl Abort, setting: Setting<'_>, text: &[u8]) -> Result<(), PassageFault> {
     let mut source = cut_source(text, &[]);
-    let mut segmenter = segmenter(alloc, cells, LIMIT, profile)?;
+    let mut segmenter = setting.segmenter()?;
     match next_passage(&mut segmenter, &mut source)? {
         Some(passage) => check_sizes(rt, &passage),
         None => assert!(rt; false, "no passage"),
     }
-    assert_eq!(rt; has_next(&mut segmenter, &mut source), Ok(false));
+    check_end(rt, &mut segmenter, &mut source);
     Ok(())
+}
+
+fn many_words(alloc: Global) -> Result<Vec<u8>, AllocError> {
+    let mut text = Vec::new(alloc);
+    for _ in 0..2000 {
+        text.extend_from_slice(b"a ")?;
+    }
+    Ok(text)
 }
 
 #[test]
 fn many_segments(rt: HostRuntime) -> Result<(), Fail> {
     let cells = sample_cells(rt.alloc())?;
-    let mut text = Vec::new(rt.alloc());
-    for _ in 0..2000 {
-        text.extend_from_slice(b"a ")?;
+    let text = many_words(rt.alloc())?;
+    for profile in [Profile::First, Profile::Second] {
+        check_many(&rt, Setting::new(rt.alloc(), &cells, profile), &text)?;
     }
-    check_many(&rt, rt.alloc(), &cells, Profile::First, &text)?;
-    check_many(&rt, rt.alloc(), &cells, Profile::Second, &text)?;
     Ok(())
 }

@@ -1,12 +1,14 @@
 //! What `show` writes and refuses, over devices in memory.
 
-use crate::calls::sample_cells;
-use crate::runs::{Run, check_texts, whole};
-use crate::tasks::{End, Setting, Task};
+use crate::calls::{same, sample_cells};
+use crate::runs::{Refused, check_refused, check_texts, whole};
+use crate::tasks::{End, LIMIT, Setting, Task};
 use lbk_cmd::CmdFault;
 use lbk_passage::PassageFault;
 use lbk_rules::Profile;
 use lbk_tests_rows::shown::{BOTH, FIRST, SECOND};
+use std::alloc::AllocError;
+use std::process::Abort;
 use std::test::Fail;
 
 #[test]
@@ -18,48 +20,59 @@ fn texts(rt: HostRuntime) -> Result<(), Fail> {
     check_texts(&rt, rt.alloc(), task, &SECOND, Profile::Second)
 }
 
-/// A text, the fault, and what is written before it.
-const ILL_FORMED: [(&[u8], PassageFault, &str); 3] = [
-    (b"a\xE2\x82", PassageFault::NotUtf8 { at: 1 }, ""),
+static ILL_FORMED: [Refused; 3] = [
+    (
+        b"a\xE2\x82",
+        LIMIT,
+        &[],
+        None,
+        PassageFault::NotUtf8 { at: 1 },
+        "",
+    ),
     (
         b"a\nb\xFF",
+        LIMIT,
+        &[],
+        None,
         PassageFault::NotUtf8 { at: 3 },
         "× 0061 × 000A !\t# 2 6 5\n",
     ),
-    (b"a\n\xFF", PassageFault::NotUtf8 { at: 2 }, ""),
+    (
+        b"a\n\xFF",
+        LIMIT,
+        &[],
+        None,
+        PassageFault::NotUtf8 { at: 2 },
+        "",
+    ),
 ];
 
-/// The read that fails, of reads of one byte, and what is written before it.
-const FAILED_READS: [(u64, &str); 5] = [
-    (0, ""),
-    (1, ""),
-    (2, ""),
-    (3, ""),
-    (4, "× 0061 × 000D × 000A !\t# 2 6 5 5\n"),
+static FAILED_READS: [Refused; 5] = [
+    (b"a\r\nb", LIMIT, &[1], Some(0), PassageFault::Read, ""),
+    (b"a\r\nb", LIMIT, &[1], Some(1), PassageFault::Read, ""),
+    (b"a\r\nb", LIMIT, &[1], Some(2), PassageFault::Read, ""),
+    (b"a\r\nb", LIMIT, &[1], Some(3), PassageFault::Read, ""),
+    (
+        b"a\r\nb",
+        LIMIT,
+        &[1],
+        Some(4),
+        PassageFault::Read,
+        "× 0061 × 000D × 000A !\t# 2 6 5 5\n",
+    ),
 ];
 
 #[test]
 fn refusals(rt: HostRuntime) -> Result<(), Fail> {
-    let cells = sample_cells(rt.alloc())?;
-    let first = Setting::new(rt.alloc(), &cells, Profile::First);
-    for (text, fault, out) in &ILL_FORMED {
-        let run = whole(Task::Show, text);
-        let _ = run.check(&rt, first, End::refused(*fault), out)?;
-    }
-    let second = Setting::new(rt.alloc(), &cells, Profile::Second);
-    for (read, out) in &FAILED_READS {
-        let run = Run {
-            sizes: &[1],
-            failing: Some(*read),
-            ..whole(Task::Show, b"a\r\nb")
-        };
-        let _ = run.check(&rt, second, End::refused(PassageFault::Read), out)?;
-    }
-    Ok(())
+    let task = Task::Show;
+    check_refused(&rt, rt.alloc(), task, &ILL_FORMED, Profile::First)?;
+    check_refused(&rt, rt.alloc(), task, &FAILED_READS, Profile::Second)
 }
 
 /// A text, the limit of a paragraph, and the answer.
-const LIMITS: [(&str, u32, Result<(), PassageFault>); 8] = [
+type Limited = (&'static str, u32, Result<(), PassageFault>);
+
+static LIMITS: [Limited; 8] = [
     ("ab cd", 0, Err(PassageFault::Limit)),
     ("ab cd", 16_777_217, Err(PassageFault::Limit)),
     ("ab cd", 16_777_216, Ok(())),
@@ -78,18 +91,25 @@ const LIMITS: [(&str, u32, Result<(), PassageFault>); 8] = [
     ),
 ];
 
+fn check_limit(rt: &impl Abort, setting: Setting<'_>, row: &Limited) -> Result<(), AllocError> {
+    let (text, limit, want) = *row;
+    let run = whole(Task::Show, text.as_bytes());
+    let ran = run.ran(Setting { limit, ..setting })?;
+    same(
+        rt,
+        &ran.end,
+        &End::Text(want.map_err(CmdFault::Passage)),
+        &run,
+    );
+    Ok(())
+}
+
 #[test]
 fn limits(rt: HostRuntime) -> Result<(), Fail> {
     let cells = sample_cells(rt.alloc())?;
     let setting = Setting::new(rt.alloc(), &cells, Profile::First);
-    for (text, limit, want) in &LIMITS {
-        let run = whole(Task::Show, text.as_bytes());
-        let setting = Setting {
-            limit: *limit,
-            ..setting
-        };
-        let want = End::Text(want.map_err(CmdFault::Passage));
-        run.check_end(&rt, run.ran(setting)?.end, want);
+    for row in &LIMITS {
+        check_limit(&rt, setting, row)?;
     }
     Ok(())
 }

@@ -1,8 +1,8 @@
 //! What `mark` writes and refuses, over devices in memory.
 
-use crate::calls::{cut_source, memory_sink, sample_cells};
-use crate::runs::{Run, check_texts, whole};
-use crate::tasks::{End, ROOM, Setting, Task};
+use crate::calls::{cut_source, memory_sink, same};
+use crate::runs::{Refused, check_refused, check_texts};
+use crate::tasks::{ROOM, Task};
 use lbk_cmd::{Ending, MemoryStore, SAMPLE_FILES, run};
 use lbk_feed::devices::{MemorySink, MemorySource};
 use lbk_passage::PassageFault;
@@ -12,7 +12,7 @@ use std::process::Abort;
 use std::test::Fail;
 
 /// What both profiles write of a text.
-const BOTH: [(&str, &str); 17] = [
+static BOTH: [(&str, &str); 17] = [
     ("ab cd", "ab ÷cd\n"),
     ("ab cd\n", "ab ÷cd\n"),
     ("", ""),
@@ -33,13 +33,13 @@ const BOTH: [(&str, &str); 17] = [
 ];
 
 /// What the first writes.
-const FIRST: [(&str, &str); 2] = [
+static FIRST: [(&str, &str); 2] = [
     ("a \u{2019}\u{301},", "a ÷\u{2019}\u{301},\n"),
     ("\u{2018} a", "\u{2018} ÷a\n"),
 ];
 
 /// What the second writes.
-const SECOND: [(&str, &str); 2] = [
+static SECOND: [(&str, &str); 2] = [
     ("a \u{2019}\u{301},", "a \u{2019}\u{301},\n"),
     ("\u{2018} a", "\u{2018} a\n"),
 ];
@@ -53,46 +53,41 @@ fn texts(rt: HostRuntime) -> Result<(), Fail> {
     check_texts(&rt, rt.alloc(), task, &SECOND, Profile::Second)
 }
 
-/// A text, the limit of a paragraph, the fault, and what is written before it.
-const REFUSED: [(&[u8], u32, PassageFault, &str); 4] = [
-    (b"a b\nb\xFF", 9, PassageFault::NotUtf8 { at: 5 }, "a ÷b\n"),
-    (b"a\n\xFF", 9, PassageFault::NotUtf8 { at: 2 }, ""),
+static REFUSED: [Refused; 8] = [
+    (
+        b"a b\nb\xFF",
+        9,
+        &[],
+        None,
+        PassageFault::NotUtf8 { at: 5 },
+        "a ÷b\n",
+    ),
+    (
+        b"a\n\xFF",
+        9,
+        &[],
+        None,
+        PassageFault::NotUtf8 { at: 2 },
+        "",
+    ),
     (
         b"a b\nabcde",
         4,
+        &[],
+        None,
         PassageFault::ParagraphTooLong { start: 4 },
         "a ÷b\n",
     ),
-    (b"a b", 0, PassageFault::Limit, ""),
+    (b"a b", 0, &[], None, PassageFault::Limit, ""),
+    (b"a b\nc", 9, &[1], Some(0), PassageFault::Read, ""),
+    (b"a b\nc", 9, &[1], Some(3), PassageFault::Read, ""),
+    (b"a b\nc", 9, &[1], Some(4), PassageFault::Read, ""),
+    (b"a b\nc", 9, &[1], Some(5), PassageFault::Read, "a ÷b\n"),
 ];
-
-/// The read that fails, of reads of one byte, and what is written before it.
-const FAILED_READS: [(u64, &str); 4] = [(0, ""), (3, ""), (4, ""), (5, "a ÷b\n")];
 
 #[test]
 fn refusals(rt: HostRuntime) -> Result<(), Fail> {
-    let cells = sample_cells(rt.alloc())?;
-    let setting = Setting {
-        limit: 9,
-        ..Setting::new(rt.alloc(), &cells, Profile::First)
-    };
-    for (text, limit, fault, out) in &REFUSED {
-        let setting = Setting {
-            limit: *limit,
-            ..setting
-        };
-        let run = whole(Task::Mark, text);
-        let _ = run.check(&rt, setting, End::refused(*fault), out)?;
-    }
-    for (read, out) in &FAILED_READS {
-        let run = Run {
-            sizes: &[1],
-            failing: Some(*read),
-            ..whole(Task::Mark, b"a b\nc")
-        };
-        let _ = run.check(&rt, setting, End::refused(PassageFault::Read), out)?;
-    }
-    Ok(())
+    check_refused(&rt, rt.alloc(), Task::Mark, &REFUSED, Profile::First)
 }
 
 /// How a run by words ends over the sample files.
@@ -136,8 +131,8 @@ fn check_words(
     let mut source = cut_source(text.as_bytes(), &[]);
     let mut sink = memory_sink(alloc, ROOM, usize::MAX)?;
     let ending = ended(alloc, &WORDS, &mut source, &mut sink);
-    assert_eq!(rt; ending.status(), status);
-    assert_eq!(rt; sink.bytes(), out.as_bytes());
+    same(rt, &ending.status(), &status, &text);
+    same(rt, &sink.bytes(), &out.as_bytes(), &text);
     Ok(())
 }
 

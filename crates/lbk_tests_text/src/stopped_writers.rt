@@ -1,7 +1,7 @@
 //! A writer that stops: for each n below the length of the output exactly the first n bytes went out, and the answer is
 //! a failed write.
 
-use crate::calls::{cut_source, memory_sink, sample_cells};
+use crate::calls::{cut_source, memory_sink, same, sample_cells};
 use crate::tasks::{End, Setting, Task};
 use lbk_feed::{Device, Sink};
 use lbk_notation::Form;
@@ -14,7 +14,7 @@ use std::test::Fail;
 /// What is run, its input, and what it writes.
 type Row = (Task, &'static str, &'static str);
 
-const RUNS: [Row; 4] = [
+static RUNS: [Row; 4] = [
     (Task::Mark, "a b\r\nc", "a ÷b\r\nc\n"),
     (
         Task::Show,
@@ -33,9 +33,10 @@ const RUNS: [Row; 4] = [
 fn check(rt: &impl Abort, row: Row, room: usize, end: End, failures: u64, written: &[u8]) {
     let (task, _, output) = row;
     let stopped = room < output.len();
-    assert_eq!(rt; end == task.failed_write(), stopped, "{task:?} {room}");
-    assert_eq!(rt; failures, u64::from(stopped));
-    assert_eq!(rt; Some(written), output.as_bytes().get(..room));
+    let run = (task, room);
+    same(rt, &(end == task.failed_write()), &stopped, &run);
+    same(rt, &failures, &u64::from(stopped), &run);
+    same(rt, &Some(written), &output.as_bytes().get(..room), &run);
 }
 
 fn check_sink(
@@ -66,15 +67,20 @@ fn check_sinks(
     Ok(())
 }
 
+fn check_all_sinks(rt: &impl Abort, setting: Setting<'_>, row: Row) -> Result<(), AllocError> {
+    for most in [1, 7, usize::MAX] {
+        check_sinks(rt, setting, row, most)?;
+    }
+    Ok(())
+}
+
 // A write takes one byte, a few, or all, until n bytes were taken.
 #[test]
 fn sinks(rt: HostRuntime) -> Result<(), Fail> {
     let cells = sample_cells(rt.alloc())?;
     let setting = Setting::new(rt.alloc(), &cells, Profile::First);
-    for row in RUNS {
-        check_sinks(&rt, setting, row, 1)?;
-        check_sinks(&rt, setting, row, 7)?;
-        check_sinks(&rt, setting, row, usize::MAX)?;
+    for row in &RUNS {
+        check_all_sinks(&rt, setting, *row)?;
     }
     Ok(())
 }
@@ -95,15 +101,20 @@ fn check_writer(
     Ok(())
 }
 
+fn check_writers(rt: &impl Abort, setting: Setting<'_>, row: Row) -> Result<(), AllocError> {
+    for room in 0..=row.2.len() {
+        check_writer(rt, setting, row, room)?;
+    }
+    Ok(())
+}
+
 // A writer of std over n bytes takes no byte once they are full, which is no failure of its own.
 #[test]
 fn writers_of_std(rt: HostRuntime) -> Result<(), Fail> {
     let cells = sample_cells(rt.alloc())?;
     let setting = Setting::new(rt.alloc(), &cells, Profile::First);
-    for row in RUNS {
-        for room in 0..=row.2.len() {
-            check_writer(&rt, setting, row, room)?;
-        }
+    for row in &RUNS {
+        check_writers(&rt, setting, *row)?;
     }
     Ok(())
 }

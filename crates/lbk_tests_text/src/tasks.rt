@@ -1,11 +1,11 @@
 //! What reads a text or a test file and writes, by a name that a table can hold.
 
-use crate::calls::{mark_to, replay_to, segment_to, segmenter, show_to, write_line_to};
+use crate::calls::{mark_to, replay_to, segment_to, show_to, write_line_to};
 use crate::segmented::told_next;
 use lbk_cmd::CmdFault;
 use lbk_feed::{Sink, Source};
 use lbk_notation::{Form, ReplayFault, Report};
-use lbk_passage::PassageFault;
+use lbk_passage::{PassageFault, Segmenter};
 use lbk_rules::{CellPages, Profile};
 use std::alloc::Global;
 
@@ -43,6 +43,10 @@ impl<'a> Setting<'a> {
             limit: LIMIT,
             profile,
         }
+    }
+
+    pub fn segmenter(self) -> Result<Segmenter<'a, CellPages>, PassageFault> {
+        Segmenter::new(self.alloc, self.cells, self.limit, self.profile)
     }
 }
 
@@ -99,15 +103,9 @@ fn tell_all<R: Source, W: Sink>(
     reader: &mut R,
     writer: &mut W,
 ) -> Result<(), CmdFault> {
-    let Setting {
-        alloc,
-        cells,
-        limit,
-        profile,
-    } = setting;
-    let mut segmenter = segmenter(alloc, cells, limit, profile)?;
+    let mut segmenter = setting.segmenter()?;
     for _ in 0..ROOM {
-        let Some(line) = told_next(alloc, &mut segmenter, reader)? else {
+        let Some(line) = told_next(setting.alloc, &mut segmenter, reader)? else {
             return Ok(());
         };
         write_line_to(writer, line.as_str())?;
