@@ -1,6 +1,8 @@
 //! Devices over readers and writers of std that move one byte a call, over more calls than a short test makes.
 
+use crate::calls::{same, same_answer};
 use lbk_feed::{Device, Failed, Sink, Source};
+use std::alloc::{AllocError, Global};
 use std::io;
 use std::io::{ErrorKind, Read, Write};
 use std::process::Abort;
@@ -65,35 +67,55 @@ fn wanted(call: u64, interrupted: &[u64]) -> Result<usize, Failed> {
     }
 }
 
-// Each call of the device is one call of the reader: none is left out, and none is made again.
-fn check_reads(rt: &impl Abort, calls: u64, interrupted: &[u64]) {
-    let mut device = Device::new(OneByOne {
+/// A device over a reader and writer with this interrupted.
+fn device(interrupted: &[u64]) -> Device<OneByOne<'_>> {
+    Device::new(OneByOne {
         calls: 0,
         interrupted,
-    });
-    for call in 0..calls {
-        let mut buf = [0; 4];
-        let outcome = device.read(&mut buf);
-        assert_eq!(rt; outcome, wanted(call, interrupted), "read {call}");
-        if outcome.is_ok() {
-            assert_eq!(rt; buf, [byte_of(call), 0, 0, 0], "read {call}");
-        }
+    })
+}
+
+fn check_read(rt: &impl Abort, device: &mut Device<OneByOne<'_>>, call: u64, interrupted: &[u64]) {
+    let mut buf = [0; 4];
+    let outcome = device.read(&mut buf);
+    same_answer(rt, outcome, wanted(call, interrupted), call);
+    if outcome.is_ok() {
+        same_answer(rt, buf, [byte_of(call), 0, 0, 0], call);
     }
-    assert_eq!(rt; device.reads(), calls);
-    assert_eq!(rt; Source::failures(&device), interrupted.len() as u64);
+}
+
+// Each call of the device is one call of the reader: none is left out, and none is made again.
+fn check_reads(rt: &impl Abort, calls: u64, interrupted: &[u64]) {
+    let mut device = device(interrupted);
+    for call in 0..calls {
+        check_read(rt, &mut device, call, interrupted);
+    }
+    same(rt, device.reads(), calls, "reads");
+    same(
+        rt,
+        Source::failures(&device),
+        interrupted.len() as u64,
+        "failures",
+    );
     assert!(rt; !device.ended());
 }
 
+fn check_write(rt: &impl Abort, device: &mut Device<OneByOne<'_>>, call: u64, interrupted: &[u64]) {
+    let outcome = device.write(b"abc");
+    same_answer(rt, outcome, wanted(call, interrupted), call);
+}
+
 fn check_writes(rt: &impl Abort, calls: u64, interrupted: &[u64]) {
-    let mut device = Device::new(OneByOne {
-        calls: 0,
-        interrupted,
-    });
+    let mut device = device(interrupted);
     for call in 0..calls {
-        let outcome = device.write(b"abc");
-        assert_eq!(rt; outcome, wanted(call, interrupted), "write {call}");
+        check_write(rt, &mut device, call, interrupted);
     }
-    assert_eq!(rt; Sink::failures(&device), interrupted.len() as u64);
+    same(
+        rt,
+        Sink::failures(&device),
+        interrupted.len() as u64,
+        "failures",
+    );
 }
 
 #[test]
@@ -111,11 +133,17 @@ fn writes(rt: HostRuntime) {
 fn interrupted_calls(rt: HostRuntime) -> Result<(), Fail> {
     check_reads(&rt, 2000, &[0, 1000]);
     check_writes(&rt, 2000, &[0, 1000]);
-    let mut many = Vec::new(rt.alloc());
-    for call in 0..200u64 {
-        many.push(3 * call)?;
-    }
+    let many = every_third(rt.alloc())?;
     check_reads(&rt, 2000, &many);
     check_writes(&rt, 2000, &many);
     Ok(())
+}
+
+/// Two hundred numbers of calls.
+fn every_third(alloc: Global) -> Result<Vec<u64>, AllocError> {
+    let mut many = Vec::new(alloc);
+    for call in 0..200u64 {
+        many.push(3 * call)?;
+    }
+    Ok(many)
 }

@@ -1,11 +1,14 @@
 //! The sample files, range by range: what the tables say of the first and the last code of each, and of the code on
 //! either side.
 
+use crate::calls::{
+    LAST_CODE, category_of, east_asian_of, is_pictographic, line_break_of, same_at, tables_of,
+};
 use lbk_tests_rows::property_files::SAMPLES;
 use lbk_ucd::{Category, EastAsian, LineBreak, Tables};
+use std::alloc::{AllocError, Global};
+use std::process::Abort;
 use std::test::Fail;
-
-const LAST_CODE: u32 = 0x10FFFF;
 
 /// First code, last code and line break of each range, and the defaults behind them.
 const LINE_BREAKS: &[(u32, u32, LineBreak)] = &[
@@ -154,54 +157,67 @@ fn around(first: u32, last: u32) -> [u32; 4] {
     ]
 }
 
+/// The codes around each of these ranges.
+fn codes<T: Copy>(alloc: Global, ranges: &[(u32, u32, T)]) -> Result<Vec<u32>, AllocError> {
+    let mut codes = Vec::new(alloc);
+    for (first, last, _) in ranges {
+        codes.extend_from_slice(&around(*first, *last))?;
+    }
+    Ok(codes)
+}
+
+fn check_line_break(rt: &impl Abort, tables: &Tables, code: u32) {
+    let value = line_break_of(rt, tables, code);
+    same_at(rt, Some(value), value_at(LINE_BREAKS, code), code);
+}
+
 #[test]
 fn line_breaks(rt: HostRuntime) -> Result<(), Fail> {
-    let tables = Tables::read(rt.alloc(), SAMPLES)?;
-    for (first, last, _) in LINE_BREAKS {
-        for code in around(*first, *last) {
-            assert!(rt; code <= LAST_CODE);
-            let value = tables.line_break(code);
-            assert_eq!(rt; Some(value), value_at(LINE_BREAKS, code), "at {code:x}");
-        }
+    let tables = tables_of(rt.alloc(), SAMPLES)?;
+    for code in &codes(rt.alloc(), LINE_BREAKS)? {
+        check_line_break(&rt, &tables, *code);
     }
     Ok(())
+}
+
+fn check_width(rt: &impl Abort, tables: &Tables, code: u32) {
+    let value = east_asian_of(rt, tables, code);
+    same_at(rt, Some(value), value_at(WIDTHS, code), code);
 }
 
 #[test]
 fn widths(rt: HostRuntime) -> Result<(), Fail> {
-    let tables = Tables::read(rt.alloc(), SAMPLES)?;
-    for (first, last, _) in WIDTHS {
-        for code in around(*first, *last) {
-            assert!(rt; code <= LAST_CODE);
-            let value = tables.east_asian(code);
-            assert_eq!(rt; Some(value), value_at(WIDTHS, code), "at {code:x}");
-        }
+    let tables = tables_of(rt.alloc(), SAMPLES)?;
+    for code in &codes(rt.alloc(), WIDTHS)? {
+        check_width(&rt, &tables, *code);
     }
     Ok(())
+}
+
+fn check_category(rt: &impl Abort, tables: &Tables, code: u32) {
+    let value = category_of(rt, tables, code);
+    same_at(rt, Some(value), value_at(CATEGORIES, code), code);
 }
 
 #[test]
 fn categories(rt: HostRuntime) -> Result<(), Fail> {
-    let tables = Tables::read(rt.alloc(), SAMPLES)?;
-    for (first, last, _) in CATEGORIES {
-        for code in around(*first, *last) {
-            assert!(rt; code <= LAST_CODE);
-            let value = tables.category(code);
-            assert_eq!(rt; Some(value), value_at(CATEGORIES, code), "at {code:x}");
-        }
+    let tables = tables_of(rt.alloc(), SAMPLES)?;
+    for code in &codes(rt.alloc(), CATEGORIES)? {
+        check_category(&rt, &tables, *code);
     }
     Ok(())
 }
 
+fn check_pictograph(rt: &impl Abort, tables: &Tables, code: u32) {
+    let value = is_pictographic(rt, tables, code);
+    same_at(rt, Some(value), value_at(PICTOGRAPHS, code), code);
+}
+
 #[test]
 fn pictographs(rt: HostRuntime) -> Result<(), Fail> {
-    let tables = Tables::read(rt.alloc(), SAMPLES)?;
-    for (first, last, _) in PICTOGRAPHS {
-        for code in around(*first, *last) {
-            assert!(rt; code <= LAST_CODE);
-            let value = tables.is_pictographic(code);
-            assert_eq!(rt; Some(value), value_at(PICTOGRAPHS, code), "at {code:x}");
-        }
+    let tables = tables_of(rt.alloc(), SAMPLES)?;
+    for code in &codes(rt.alloc(), PICTOGRAPHS)? {
+        check_pictograph(&rt, &tables, *code);
     }
     Ok(())
 }
