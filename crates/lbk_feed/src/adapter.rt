@@ -13,8 +13,8 @@ use std::io::{Read, Write};
 /// A call that was interrupted fails, and so does a write that takes no byte of a list that is not empty.
 ///
 /// ```rust
-/// let mut reader = Device::new(rt.stdin());
-/// let mut writer = Device::new(rt.stdout());
+/// let mut room = [0; 5];
+/// let mut device = Device::new(room.as_mut_slice());
 /// ```
 #[derive(Drop)]
 pub struct Device<D> {
