@@ -1,0 +1,140 @@
+//! What `break_text` answers and refuses: the lines of `show`, without the rules' numbers, are what was read back.
+
+use lbk_cmd::{BreakFault, CellsFault, CmdFault, SAMPLE_FILES, break_text};
+use lbk_feed::Source;
+use lbk_feed::devices::MemorySource;
+use lbk_notation::{Form, TestLine, push_line};
+use lbk_passage::PassageFault;
+use lbk_rules::Profile;
+use lbk_tests_rows::property_files::line_break_alone;
+use lbk_tests_rows::shown::{BOTH, FIRST, SECOND};
+use lbk_ucd::{Files, UcdCause, UcdFault, Which};
+use std::alloc::{AllocError, Global};
+use std::process::Abort;
+use std::test::Fail;
+
+const LIMIT: u32 = 65_536;
+
+/// `break_text` without its contract.
+fn broken(
+    alloc: Global,
+    files: Files<'_>,
+    source: &mut MemorySource<'_>,
+    limit: u32,
+    profile: Profile,
+) -> Result<Vec<TestLine>, BreakFault> {
+    break_text(alloc, files, source, limit, profile)
+}
+
+/// The lines written again, each with a line end.
+fn written(alloc: Global, lines: &[TestLine]) -> Result<Vec<u8>, AllocError> {
+    let mut text = Vec::new(alloc);
+    for line in lines {
+        push_line(&mut text, line.scalars(), line.marks(), Form::Kinds)?;
+        text.push(b'\n')?;
+    }
+    Ok(text)
+}
+
+/// Lines without the tab and the comment at the end of each.
+fn without_rules(alloc: Global, lines: &str) -> Result<Vec<u8>, AllocError> {
+    let mut text = Vec::new(alloc);
+    let mut in_comment = false;
+    for byte in lines.as_bytes() {
+        in_comment = *byte == b'\t' || in_comment && *byte != b'\n';
+        if !in_comment {
+            text.push(*byte)?;
+        }
+    }
+    Ok(text)
+}
+
+/// Checks a text in reads of `size` bytes.
+fn check(
+    rt: &impl Abort,
+    alloc: Global,
+    text: &str,
+    lines: &str,
+    profile: Profile,
+    size: usize,
+) -> Result<(), Fail> {
+    let sizes = [size];
+    let mut source = MemorySource::cut(text.as_bytes(), &sizes);
+    let found = written(
+        alloc,
+        &broken(alloc, SAMPLE_FILES, &mut source, LIMIT, profile)?,
+    )?;
+    let want = without_rules(alloc, lines)?;
+    assert_eq!(rt; found.as_slice(), want.as_slice(), "{text:?} by {size}");
+    Ok(())
+}
+
+/// Checks rows in a profile, in reads of `size` bytes.
+fn check_rows(
+    rt: &impl Abort,
+    alloc: Global,
+    rows: &[(&str, &str)],
+    profile: Profile,
+    size: usize,
+) -> Result<(), Fail> {
+    for (text, lines) in rows {
+        check(rt, alloc, text, lines, profile, size)?;
+    }
+    Ok(())
+}
+
+#[test]
+fn texts(rt: HostRuntime) -> Result<(), Fail> {
+    check_rows(&rt, rt.alloc(), &BOTH[..5], Profile::First, 1)?;
+    check_rows(&rt, rt.alloc(), &BOTH[2..3], Profile::Second, 2)?;
+    check_rows(&rt, rt.alloc(), &FIRST, Profile::First, 4096)?;
+    check_rows(&rt, rt.alloc(), &SECOND, Profile::Second, 1)
+}
+
+/// Checks that a text is refused by the sample files, and why.
+fn refuses(
+    rt: &impl Abort,
+    alloc: Global,
+    source: &mut MemorySource<'_>,
+    limit: u32,
+    want: PassageFault,
+) {
+    let fault = broken(alloc, SAMPLE_FILES, source, limit, Profile::First).err();
+    assert_eq!(rt; fault, Some(BreakFault::Text(CmdFault::Passage(want))));
+}
+
+#[test]
+fn refused_texts(rt: HostRuntime) -> Result<(), Fail> {
+    for (text, limit, want) in [
+        (
+            b"a\nb\xFF".as_slice(),
+            LIMIT,
+            PassageFault::NotUtf8 { at: 3 },
+        ),
+        (b"ab", 0, PassageFault::Limit),
+        (b"ab", 16_777_217, PassageFault::Limit),
+        (b"\nab", 1, PassageFault::ParagraphTooLong { start: 1 }),
+    ] {
+        refuses(&rt, rt.alloc(), &mut MemorySource::new(text), limit, want);
+    }
+    for read in 0..5 {
+        let mut source = MemorySource::cut(b"a\r\nb", &[1]).failing_at(read);
+        refuses(&rt, rt.alloc(), &mut source, LIMIT, PassageFault::Read);
+    }
+    Ok(())
+}
+
+#[test]
+fn refused_files(rt: HostRuntime) -> Result<(), Fail> {
+    let files = line_break_alone(b"# LineBreak-15.0.0.txt\n0041;XY\n");
+    let mut source = MemorySource::new(b"ab");
+    let fault = broken(rt.alloc(), files, &mut source, LIMIT, Profile::First).err();
+    let refusal = UcdFault {
+        file: Which::LineBreak,
+        line: 2,
+        cause: UcdCause::UnknownValue,
+    };
+    assert_eq!(&rt; fault, Some(BreakFault::Files(CellsFault::Tables(refusal))));
+    assert_eq!(&rt; source.reads(), 0);
+    Ok(())
+}
