@@ -1,8 +1,8 @@
 //! The machines and the breaks of texts say of every short list of cells what the evaluator says.
 
 use crate::calls::{
-    cell_of, decided, decided_in, has_step_table, late_step, pages_of, start_late, step, step_over,
-    stepper, tables_of,
+    cell_of, decided, decided_in, has_step_table, late_step, pages_by, start_late, step, step_over,
+    stepper,
 };
 use lbk_breaks::{Break, Breaks};
 use lbk_rules::{Cell, CellPages, Class, Kind, Machine, Out, Profile, Quote, Verdict};
@@ -271,18 +271,27 @@ fn pages_with(
     files: Files<'_>,
     scalars: &[Scalar],
 ) -> Result<CellPages, Fail> {
-    let tables = tables_of(alloc, files)?;
-    let pages = pages_of(alloc, &tables)?;
+    let pages = pages_by(alloc, files)?;
     assert!(rt; has_step_table(&pages));
-    for (c, cell) in scalars {
-        assert!(rt; cell_of(&pages, *c) == *cell, "{c:?}");
-    }
+    check_cells(rt, &pages, scalars);
     Ok(pages)
+}
+
+fn check_cells(rt: &impl Abort, pages: &CellPages, scalars: &[Scalar]) {
+    for (c, cell) in scalars {
+        assert!(rt; cell_of(pages, *c) == *cell, "{c:?}");
+    }
+}
+
+/// The pages by which each cell comes once.
+fn pages_of_each_once(rt: &impl Abort, alloc: Global) -> Result<CellPages, Fail> {
+    let scalars = each_once(alloc)?;
+    pages_with(rt, alloc, EACH_ONCE, &scalars)
 }
 
 #[test]
 fn stepper_by_rows(rt: HostRuntime) -> Result<(), Fail> {
-    let pages = pages_with(&rt, rt.alloc(), EACH_ONCE, &each_once(rt.alloc())?)?;
+    let pages = pages_of_each_once(&rt, rt.alloc())?;
     let texts = texts_of_three(&rt, rt.alloc())?;
     check_steppers(&rt, &pages, &texts);
     Ok(())
@@ -333,7 +342,7 @@ fn check_breaks(
 
 #[test]
 fn breaks_by_rows(rt: HostRuntime) -> Result<(), Fail> {
-    let pages = pages_with(&rt, rt.alloc(), EACH_ONCE, &each_once(rt.alloc())?)?;
+    let pages = pages_of_each_once(&rt, rt.alloc())?;
     for text in &texts_of_three(&rt, rt.alloc())? {
         check_breaks(&rt, rt.alloc(), &pages, Profile::First, text)?;
         check_breaks(&rt, rt.alloc(), &pages, Profile::Second, text)?;

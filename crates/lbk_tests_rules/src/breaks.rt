@@ -1,7 +1,7 @@
 //! The breaks of texts in memory over the sample files, in both profiles, from sources with and without a table of
 //! steps and in blocks of all sizes.
 
-use crate::calls::{decided_in, has_step_table, pages_of, same, tables_of};
+use crate::calls::{decided_in, has_step_table, pages_by, same, tables_of};
 use lbk_breaks::{Break, Breaks};
 use lbk_rules::{CellSource, Kind, Profile, Rule, Verdict};
 use lbk_tests_rows::cells::cells_of;
@@ -213,10 +213,14 @@ fn check_source<C: CellSource>(
 
 #[test]
 fn breaks_of_texts(rt: HostRuntime) -> Result<(), Fail> {
-    let tables = tables_of(rt.alloc(), SAMPLES)?;
-    check_source(&rt, rt.alloc(), &tables)?;
-    let pages = pages_of(rt.alloc(), &tables)?;
+    let pages = pages_by(rt.alloc(), SAMPLES)?;
     assert!(&rt; has_step_table(&pages));
     check_source(&rt, rt.alloc(), &pages)?;
+    Ok(())
+}
+
+#[test]
+fn breaks_of_texts_by_tables(rt: HostRuntime) -> Result<(), Fail> {
+    check_source(&rt, rt.alloc(), &tables_of(rt.alloc(), SAMPLES)?)?;
     Ok(())
 }

@@ -7,7 +7,9 @@ use lbk_rules::{
 };
 use lbk_ucd::{Files, Tables, UcdFault};
 use std::alloc::{AllocError, Global};
+use std::fmt::Debug;
 use std::process::Abort;
+use std::test::Fail;
 
 pub fn tables_of(alloc: Global, files: Files<'_>) -> Result<Tables, UcdFault> {
     Tables::read(alloc, files)
@@ -15,6 +17,12 @@ pub fn tables_of(alloc: Global, files: Files<'_>) -> Result<Tables, UcdFault> {
 
 pub fn pages_of(alloc: Global, tables: &Tables) -> Result<CellPages, AllocError> {
     CellPages::build(alloc, tables)
+}
+
+/// The pages of these files.
+pub fn pages_by(alloc: Global, files: Files<'_>) -> Result<CellPages, Fail> {
+    let tables = tables_of(alloc, files)?;
+    Ok(pages_of(alloc, &tables)?)
 }
 
 pub fn cell_of<C: CellSource>(source: &C, c: char) -> Cell {
@@ -60,4 +68,14 @@ pub fn step_over<C: CellSource>(stepper: &mut Stepper<'_, C>, c: char) -> Out {
 /// Compares what was found of a text with what is wanted.
 pub fn same(rt: &impl Abort, found: &str, want: &str, by: &str, text: &str) {
     assert_eq!(rt; found, want, "{by}: {text:?}");
+}
+
+/// Compares what was found of this with what is wanted.
+pub fn same_value<T: Copy + PartialEq + Debug>(rt: &impl Abort, found: T, want: T, what: &str) {
+    assert_eq!(rt; found, want, "{what}");
+}
+
+/// Compares what was found at a position with what is wanted.
+pub fn same_at<T: Copy + PartialEq + Debug>(rt: &impl Abort, found: T, want: T, k: usize) {
+    assert_eq!(rt; found, want, "at {k}");
 }

@@ -1,7 +1,7 @@
 //! What the rules say of the positions of texts over the sample files: the evaluator in both profiles, and the machines.
 
 use crate::calls::{
-    cell_of, decided, decided_in, late_step, pages_of, same, start_late, step_over, stepper,
+    cell_of, decided, decided_in, late_step, pages_by, same, start_late, step_over, stepper,
     tables_of,
 };
 use lbk_rules::{
@@ -234,10 +234,13 @@ fn check_source<C: CellSource>(
 
 #[test]
 fn sample_rows(rt: HostRuntime) -> Result<(), Fail> {
-    let tables = tables_of(rt.alloc(), SAMPLES)?;
-    check_source(&rt, rt.alloc(), &tables)?;
-    let pages = pages_of(rt.alloc(), &tables)?;
-    check_source(&rt, rt.alloc(), &pages)?;
+    check_source(&rt, rt.alloc(), &pages_by(rt.alloc(), SAMPLES)?)?;
+    Ok(())
+}
+
+#[test]
+fn sample_rows_by_tables(rt: HostRuntime) -> Result<(), Fail> {
+    check_source(&rt, rt.alloc(), &tables_of(rt.alloc(), SAMPLES)?)?;
     Ok(())
 }
 
@@ -272,10 +275,9 @@ fn check_class(rt: &impl Abort, pages: &CellPages, c: char, class: Class) {
 
 #[test]
 fn edges_of_rows(rt: HostRuntime) -> Result<(), Fail> {
-    let tables = tables_of(rt.alloc(), line_break_alone(EDGES_FILE))?;
-    let pages = pages_of(rt.alloc(), &tables)?;
-    for (c, class) in EDGES {
-        check_class(&rt, &pages, c, class);
+    let pages = pages_by(rt.alloc(), line_break_alone(EDGES_FILE))?;
+    for (c, class) in &EDGES {
+        check_class(&rt, &pages, *c, *class);
     }
     Ok(())
 }
@@ -283,10 +285,13 @@ fn edges_of_rows(rt: HostRuntime) -> Result<(), Fail> {
 #[test]
 fn default_of_all(rt: HostRuntime) -> Result<(), Fail> {
     let file = line_break_alone(b"# @missing: 0000..10FFFF; CB");
-    let tables = tables_of(rt.alloc(), file)?;
-    let pages = pages_of(rt.alloc(), &tables)?;
-    for c in '\0'..=char::MAX {
-        check_class(&rt, &pages, c, Class::ContingentBreak);
-    }
+    check_all(&rt, &pages_by(rt.alloc(), file)?, Class::ContingentBreak);
     Ok(())
+}
+
+/// All scalars are of this class.
+fn check_all(rt: &impl Abort, pages: &CellPages, class: Class) {
+    for c in '\0'..=char::MAX {
+        check_class(rt, pages, c, class);
+    }
 }

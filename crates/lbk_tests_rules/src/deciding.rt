@@ -1,6 +1,6 @@
 //! What the evaluator and the machines answer, kinds and all, over a list of cells, and the cell that properties come to.
 
-use crate::calls::{decided, decided_in, late_step, start_late, step};
+use crate::calls::{decided, decided_in, late_step, same_at, same_value, start_late, step};
 use lbk_rules::{
     Cell, Class, End, Kind, Machine, Out, Profile, Quote, Rule, Verdict, decide_all, decide_all_in,
     resolve,
@@ -53,15 +53,11 @@ fn first_profile(rt: HostRuntime) {
     });
     let mut machine = Machine::start();
     for k in 0..5 {
-        same(&rt, decided(&rt, &cells, k), want[k], k);
-        same(&rt, step(&mut machine, cells[k]), want[k], k);
+        same_at(&rt, decided(&rt, &cells, k), want[k], k);
+        same_at(&rt, step(&mut machine, cells[k]), want[k], k);
     }
-    same(&rt, decided(&rt, &cells, 5), END, 5);
-    same(&rt, machine.finish(), END, 5);
-}
-
-fn same(rt: &impl Abort, found: Verdict, want: Verdict, k: usize) {
-    assert_eq!(rt; found, want, "at {k}");
+    same_at(&rt, decided(&rt, &cells, 5), END, 5);
+    same_at(&rt, machine.finish(), END, 5);
 }
 
 #[test]
@@ -74,7 +70,7 @@ fn first_profile_at_once(rt: HostRuntime) {
 
     let mut verdicts = [END; 6];
     decide_all(&cells, &mut verdicts);
-    assert_eq!(rt; verdicts, want);
+    same_value(&rt, verdicts, want, "verdicts");
 }
 
 #[test]
@@ -82,7 +78,7 @@ fn second_profile(rt: HostRuntime) {
     let cells = quoted();
     let want = verdicts_of_quoted(no(Rule::Lb15b));
     for k in 0..6 {
-        same(&rt, decided_in(&rt, Profile::Second, &cells, k), want[k], k);
+        same_at(&rt, decided_in(&rt, Profile::Second, &cells, k), want[k], k);
     }
 }
 
@@ -91,8 +87,9 @@ fn second_profile_at_once(rt: HostRuntime) {
     let cells = quoted();
     let want = verdicts_of_quoted(no(Rule::Lb15b));
     let mut verdicts = [END; 6];
-    assert_eq!(rt; decide_all_in(Profile::Second, &cells, &mut verdicts), 6);
-    assert_eq!(rt; verdicts, want);
+    let count = decide_all_in(Profile::Second, &cells, &mut verdicts);
+    same_value(&rt, count, 6, "positions");
+    same_value(&rt, verdicts, want, "verdicts");
 }
 
 /// The answer of a step by which no held position comes.
@@ -103,9 +100,8 @@ fn at_once(rule: Rule) -> Out {
     }
 }
 
-// The position before the quotation mark waits for the comma.
-#[test]
-fn held_position(rt: HostRuntime) {
+/// What the steps over these cells answer.
+fn outs_of_quoted() -> [Out; 5] {
     let held = Out {
         now: None,
         late: None,
@@ -114,25 +110,31 @@ fn held_position(rt: HostRuntime) {
         now: Some(no(Rule::Lb13)),
         late: Some((2, no(Rule::Lb15b))),
     };
-    let outs = [
+    [
         at_once(Rule::Lb2),
         at_once(Rule::Lb7),
         held,
         at_once(Rule::Lb9),
         answered,
-    ];
+    ]
+}
+
+// The position before the quotation mark waits for the comma.
+#[test]
+fn held_position(rt: HostRuntime) {
+    let outs = outs_of_quoted();
     let cells = quoted();
     let mut machine = start_late(Profile::Second);
     for k in 0..5u64 {
         let out = late_step(&rt, &mut machine, k, cells[k as usize]);
-        assert_eq!(rt; out, outs[k as usize], "at {k}");
+        same_at(&rt, out, outs[k as usize], k as usize);
     }
-    assert_eq!(rt; machine.steps(), 5);
+    same_value(&rt, machine.steps(), 5, "steps");
     let end = End {
         late: None,
         end: END,
     };
-    assert_eq!(rt; machine.finish(), end);
+    same_value(&rt, machine.finish(), end, "the end");
 }
 
 #[test]
@@ -143,21 +145,26 @@ fn complex_context(rt: HostRuntime) {
         Category::Mn,
         false,
     );
-    assert_eq!(rt; cell, plain(Class::CombiningMark));
+    same_value(&rt, cell, plain(Class::CombiningMark), "its cell");
 }
 
 #[test]
 fn rules_by_number(rt: HostRuntime) {
-    assert_eq!(&rt; Rule::numbered(14), Some(Rule::Lb15));
-    assert_eq!(&rt; Rule::numbered(37), Some(Rule::Lb31));
-    assert_eq!(&rt; Rule::numbered(38), None);
+    same_value(&rt, Rule::numbered(14), Some(Rule::Lb15), "rule 14");
+    same_value(&rt, Rule::numbered(37), Some(Rule::Lb31), "rule 37");
+    same_value(&rt, Rule::numbered(38), None, "rule 38");
+}
+
+/// Whether a cell of this class closes the quotation, where that is known.
+fn check_unit(rt: &impl Abort, class: Class, closes: Option<bool>) {
+    same_value(rt, plain(class).unit_closes(false), closes, "unit");
 }
 
 #[test]
 fn units_behind_a_quotation_mark(rt: HostRuntime) {
-    assert_eq!(&rt; plain(Class::InfixNumeric).unit_closes(false), Some(true));
-    assert_eq!(&rt; plain(Class::Alphabetic).unit_closes(false), Some(false));
-    assert_eq!(&rt; plain(Class::CombiningMark).unit_closes(false), None);
+    check_unit(&rt, Class::InfixNumeric, Some(true));
+    check_unit(&rt, Class::Alphabetic, Some(false));
+    check_unit(&rt, Class::CombiningMark, None);
     assert!(&rt; plain(Class::Space).leaves_fresh());
     assert!(&rt; !plain(Class::Alphabetic).leaves_fresh());
 }

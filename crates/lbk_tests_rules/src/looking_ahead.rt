@@ -1,6 +1,6 @@
 //! The labels of texts over the sample files by machines that look ahead, in both profiles.
 
-use crate::calls::{pages_of, same, tables_of};
+use crate::calls::{pages_by, same};
 use lbk_rules::{AheadMachine, CellPages, CellSource, Profile, RowMachine, Rule};
 use lbk_tests_rows::property_files::SAMPLES;
 use lbk_tests_rows::texts::{FIRST, SECOND};
@@ -86,8 +86,7 @@ fn check_machines(
 
 #[test]
 fn machines_that_look_ahead(rt: HostRuntime) -> Result<(), Fail> {
-    let tables = tables_of(rt.alloc(), SAMPLES)?;
-    let pages = pages_of(rt.alloc(), &tables)?;
+    let pages = pages_by(rt.alloc(), SAMPLES)?;
     check_machines(&rt, rt.alloc(), &pages, Profile::First, &FIRST)?;
     check_machines(&rt, rt.alloc(), &pages, Profile::Second, &SECOND)
 }

@@ -54,18 +54,22 @@ fn one_ideograph(alloc: Global, code: char) -> Result<String, AllocError> {
     Ok(file)
 }
 
+fn check_edge(rt: &impl Abort, alloc: Global, code: char, others: [char; 3]) -> Result<(), Fail> {
+    let file = one_ideograph(alloc, code)?;
+    let rows = [
+        (code, Class::Ideographic),
+        (others[0], Class::ContingentBreak),
+        (others[1], Class::ContingentBreak),
+        (others[2], Class::ContingentBreak),
+    ];
+    check(rt, alloc, file.as_bytes(), &rows)
+}
+
 // One code is ideographic, and all others are contingent breaks.
 #[test]
 fn page_edges(rt: HostRuntime) -> Result<(), Fail> {
-    for (code, [first, second, third]) in EDGES {
-        let file = one_ideograph(rt.alloc(), code)?;
-        let rows = [
-            (code, Class::Ideographic),
-            (first, Class::ContingentBreak),
-            (second, Class::ContingentBreak),
-            (third, Class::ContingentBreak),
-        ];
-        check(&rt, rt.alloc(), file.as_bytes(), &rows)?;
+    for (code, others) in &EDGES {
+        check_edge(&rt, rt.alloc(), *code, *others)?;
     }
     Ok(())
 }

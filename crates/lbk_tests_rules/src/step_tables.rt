@@ -1,17 +1,15 @@
 //! Cells have a table of steps, whatever the files say: without it the answers are the same, and slow.
 
+use crate::calls::{has_step_table, pages_by};
 use crate::pages::striped;
-use lbk_rules::{CellPages, CellSource};
 use lbk_tests_rows::property_files::{NO_FILES, SAMPLES, line_break_alone};
-use lbk_ucd::{Files, Tables};
+use lbk_ucd::Files;
 use std::alloc::Global;
 use std::test::Fail;
 
 /// Whether the cells of these files have a table of steps.
 fn has_table(alloc: Global, files: Files<'_>) -> Result<bool, Fail> {
-    let tables = Tables::read(alloc, files)?;
-    let pages = CellPages::build(alloc, &tables)?;
-    Ok(pages.step_table().is_some())
+    Ok(has_step_table(&pages_by(alloc, files)?))
 }
 
 // No page, some, and some 4,000 that differ from one another.
