@@ -9,7 +9,7 @@ use crate::codes::verdict_of;
 use crate::facts::Left;
 use crate::flat_table::{FlatStep, HELD};
 use crate::kind_table::KindTable;
-use crate::kinds::cell_of_kind;
+use crate::kinds::{KINDS, cell_of_kind};
 use crate::rows::Rows;
 use crate::runs::CellRuns;
 use crate::verdicts::{Profile, Verdict};
@@ -28,11 +28,14 @@ pub struct StepTable {
 #[derive(Clone, Copy, Debug)]
 pub struct RowMachine<'a> {
     pub(crate) kinds: &'a KindTable,
+    /// The kinds of all codes, at hand so that a loop reads them without asking the table where they are.
+    kind_of_code: &'a [u8],
     rows: &'a Rows,
     profile: Profile,
     /// The steps of the profile.
     steps: &'a [FlatStep],
     row: usize,
+    ghost of_kinds: { kind_of_code.now ≡ kinds.now.kinds.items },
     ghost in_rows: { IsRowOf rows.now row },
     ghost of_profile: { steps.now ≡ steps_in profile rows.now.first.items rows.now.second.items },
 }
@@ -64,6 +67,7 @@ impl StepTable {
     {
         RowMachine {
             kinds: &self.kinds,
+            kind_of_code: &self.kinds.kinds,
             rows: &self.rows,
             profile,
             steps: self.rows.steps(profile),
@@ -79,6 +83,7 @@ impl<'a> RowMachine<'a> {
     ghost use Rattle.lbk_rules.specs.Codes.{IsCode, verdict_coded};
     ghost use Rattle.lbk_rules.specs.Facts.{facts};
     ghost use Rattle.lbk_rules.specs.Held.{is_15b, is_held};
+    ghost use Rattle.lbk_rules.specs.KindTable.{kind_at};
     ghost use Rattle.lbk_rules.specs.Normal.{normal};
     ghost use Rattle.lbk_rules.specs.RowFits.{RowFits};
     ghost use Rattle.lbk_rules.specs.RowMachineFits.{RowMachineFits, normals};
@@ -138,7 +143,17 @@ impl<'a> RowMachine<'a> {
             → RowMachineFits self.now profile cell taken
             → is_15b (verdict_coded result.code).rule ≡ true → result.code ≡ HELD }
     {
-        *step_of(self.steps, self.row, self.kinds.of(c) as usize)
+        *step_of(self.steps, self.row, self.kind(c) as usize)
+    }
+
+    /// The kind of `c`.
+    #[inline(always)]
+    #[tactic(auto, unfolding(crate::specs::KindTable::kind_at))]
+    fn kind(&self, c: char) -> u8
+        ensures kind { result ≡ kind_at self.now.kinds.now c }
+        ensures few { result < KINDS }
+    {
+        self.kind_of_code[c as usize]
     }
 
     /// What it knows of the cells that it has taken.

@@ -14,16 +14,16 @@ pub returns-clause-row : goal.returns-clause-row
 returns-clause-row c =
     let machine = c.args.self.now in
     let rows = machine.rows.now in
-    let read = subst (λ s. c.step_of.result.now ≡ get_or s (machine.row + c.of.result) no_flat_step) machine.of_profile c.step_of.ensures in
-    let known = step_at machine.profile rows.lefts.items rows.first.items rows.second.items machine.row c.of.result c.step_of.result.now rows.decided machine.in_rows c.of.ensures.few read in
+    let read = subst (λ s. c.step_of.result.now ≡ get_or s (machine.row + c.kind.result) no_flat_step) machine.of_profile c.step_of.ensures in
+    let known = step_at machine.profile rows.lefts.items rows.first.items rows.second.items machine.row c.kind.result c.step_of.result.now rows.decided machine.in_rows c.kind.ensures.few read in
     known.starts
 
 pub returns-clause-coded : goal.returns-clause-coded
 returns-clause-coded c =
     let machine = c.args.self.now in
     let rows = machine.rows.now in
-    let read = subst (λ s. c.step_of.result.now ≡ get_or s (machine.row + c.of.result) no_flat_step) machine.of_profile c.step_of.ensures in
-    let known = step_at machine.profile rows.lefts.items rows.first.items rows.second.items machine.row c.of.result c.step_of.result.now rows.decided machine.in_rows c.of.ensures.few read in
+    let read = subst (λ s. c.step_of.result.now ≡ get_or s (machine.row + c.kind.result) no_flat_step) machine.of_profile c.step_of.ensures in
+    let known = step_at machine.profile rows.lefts.items rows.first.items rows.second.items machine.row c.kind.result c.step_of.result.now rows.decided machine.in_rows c.kind.ensures.few read in
     known.coded
 
 pub returns-clause-leads : goal.returns-clause-leads
@@ -32,9 +32,9 @@ returns-clause-leads c = λ profile cell taken fits.
     let machine = c.args.self.now in
     let rows = machine.rows.now in
     let side = reverse (normals cell taken) in
-    let same = kind_same machine.kinds.now cell c.args.c c.of.result fits.kinds_same c.ranges.c.0 c.of.ensures.kind in
-    let read = subst (λ s. c.step_of.result.now ≡ get_or s (machine.row + c.of.result) no_flat_step) machine.of_profile c.step_of.ensures in
-    let known = step_at machine.profile rows.lefts.items rows.first.items rows.second.items machine.row c.of.result c.step_of.result.now rows.decided machine.in_rows c.of.ensures.few read in
+    let same = kind_same machine.kinds.now cell c.args.c c.kind.result fits.kinds_same c.ranges.c.0 c.kind.ensures.kind in
+    let read = subst (λ s. c.step_of.result.now ≡ get_or s (machine.row + c.kind.result) no_flat_step) machine.of_profile c.step_of.ensures in
+    let known = step_at machine.profile rows.lefts.items rows.first.items rows.second.items machine.row c.kind.result c.step_of.result.now rows.decided machine.in_rows c.kind.ensures.few read in
     sym (known.leads side (sym fits.row_same)) ∙ ap (λ n. facts (n ∷ side)) same ∙ ap facts (sym (normals-back cell taken c.args.c))
 
 pub returns-clause-so_far : goal.returns-clause-so_far
@@ -43,12 +43,12 @@ returns-clause-so_far c = λ profile cell taken fits.
     let machine = c.args.self.now in
     let rows = machine.rows.now in
     let side = reverse (normals cell taken) in
-    let same = kind_same machine.kinds.now cell c.args.c c.of.result fits.kinds_same c.ranges.c.0 c.of.ensures.kind in
-    let read = subst (λ s. c.step_of.result.now ≡ get_or s (machine.row + c.of.result) no_flat_step) machine.of_profile c.step_of.ensures in
-    let known = step_at machine.profile rows.lefts.items rows.first.items rows.second.items machine.row c.of.result c.step_of.result.now rows.decided machine.in_rows c.of.ensures.few read in
+    let same = kind_same machine.kinds.now cell c.args.c c.kind.result fits.kinds_same c.ranges.c.0 c.kind.ensures.kind in
+    let read = subst (λ s. c.step_of.result.now ≡ get_or s (machine.row + c.kind.result) no_flat_step) machine.of_profile c.step_of.ensures in
+    let known = step_at machine.profile rows.lefts.items rows.first.items rows.second.items machine.row c.kind.result c.step_of.result.now rows.decided machine.in_rows c.kind.ensures.few read in
     so_far-normal profile cell taken c.args.c (verdict_coded c.step_of.result.now.code)
     (known.so_far side (sym fits.row_same)
-    ∙ ap (λ p. from_cells p side (kind_cell c.of.result ∷ [])) fits.profile_same
+    ∙ ap (λ p. from_cells p side (kind_cell c.kind.result ∷ [])) fits.profile_same
     ∙ ap (λ n. from_cells profile side (n ∷ [])) same)
 
 pub returns-clause-held : goal.returns-clause-held
@@ -56,6 +56,6 @@ unfolding RowFits
 returns-clause-held c = λ profile cell taken fits.
     let machine = c.args.self.now in
     let rows = machine.rows.now in
-    let read = subst (λ s. c.step_of.result.now ≡ get_or s (machine.row + c.of.result) no_flat_step) machine.of_profile c.step_of.ensures in
-    let known = step_at machine.profile rows.lefts.items rows.first.items rows.second.items machine.row c.of.result c.step_of.result.now rows.decided machine.in_rows c.of.ensures.few read in
+    let read = subst (λ s. c.step_of.result.now ≡ get_or s (machine.row + c.kind.result) no_flat_step) machine.of_profile c.step_of.ensures in
+    let known = step_at machine.profile rows.lefts.items rows.first.items rows.second.items machine.row c.kind.result c.step_of.result.now rows.decided machine.in_rows c.kind.ensures.few read in
     known.held (reverse (normals cell taken)) (sym fits.row_same)
