@@ -2,6 +2,8 @@
 #![tactic(auto)]
 
 #[cfg(test)]
+mod broken_text;
+#[cfg(test)]
 mod command_rows;
 #[cfg(test)]
 mod commands;
