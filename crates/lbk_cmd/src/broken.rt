@@ -55,8 +55,9 @@ impl From<CmdFault> for BreakFault {
 /// `limit` is the most bytes of a paragraph, 1 to 16,777,216. The lines of the whole text are held in memory.
 ///
 /// ```rust
-/// let mut reader = MemorySource::new(b"ab cd");
-/// let lines = break_text(rt.alloc(), SAMPLE_FILES, &mut reader, 65_536, Profile::First)?;
+/// let mut reader = MemorySource::new(b"ab cd\nef");
+/// let profile = Profile::First;
+/// let passages = break_text(rt.alloc(), SAMPLE_FILES, &mut reader, 65_536, profile)?;
 /// ```
 pub fn break_text<R: Source>(
     alloc: Global,
