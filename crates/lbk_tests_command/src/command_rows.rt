@@ -171,7 +171,7 @@ fn check_refused(
 ) -> Result<(), Fail> {
     let mut source = source;
     let (written, fault) = want;
-    let (ending, writer) = ended(alloc, words, &mut source, room)?;
+    let (ending, writer, _) = ended(alloc, words, &mut source, room)?;
     assert_eq!(rt; writer.bytes(), written);
     assert_eq!(rt; ending.status(), 1);
     check_fault(rt, &ending, fault);
