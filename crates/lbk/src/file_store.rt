@@ -10,22 +10,30 @@ use std::fs::File;
 use std::io::ErrorKind;
 
 /// The files of the system, by their names. It tells nothing of what they hold.
-#[derive(Clone, Copy)]
+#[derive(Drop)]
 pub struct FileStore<'a> {
     rt: &'a HostRuntime,
     notes: &'a Notes,
+    loads: u64,
 }
 
 impl<'a> FileStore<'a> {
     pub fn new(rt: &'a HostRuntime, notes: &'a Notes) -> FileStore<'a> {
-        FileStore { rt, notes }
+        FileStore {
+            rt,
+            notes,
+            loads: 0,
+        }
     }
 }
 
-impl<'a> Store for FileStore<'a> {
+impl Store for FileStore<'_> {
     ghost file = { λ store name. None };
 
-    fn load(&self, alloc: Global, name: &str, most: usize) -> Result<Vec<u8>, LoadFault> {
+    ghost load_count = { λ store. store.loads };
+
+    fn load(&mut self, alloc: Global, name: &str, most: usize) -> Result<Vec<u8>, LoadFault> {
+        self.loads = self.loads.saturating_add(1);
         match self.notes.noted(File::open(self.rt, name)) {
             Ok(file) => {
                 let mut file = Device::new(Noting::new(file, self.notes));
@@ -34,5 +42,9 @@ impl<'a> Store for FileStore<'a> {
             Err(error) if error.kind() == ErrorKind::OutOfMemory => Err(LoadFault::Memory),
             Err(_) => Err(LoadFault::Unreadable),
         }
+    }
+
+    fn loads(&self) -> u64 {
+        self.loads
     }
 }

@@ -53,8 +53,8 @@ fn run_on_devices(rt: &HostRuntime, words: &[&str], notes: &Notes) -> Ending {
     };
     let mut reader = Device::new(Input::new(rt.stdin(), kind, notes));
     let mut writer = Device::new(Noting::new(rt.stdout(), notes));
-    let store = FileStore::new(rt, notes);
-    run(rt.alloc(), words, &store, &mut reader, &mut writer)
+    let mut store = FileStore::new(rt, notes);
+    run(rt.alloc(), words, &mut store, &mut reader, &mut writer)
 }
 
 /// The words behind the program's name.

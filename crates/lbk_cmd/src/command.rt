@@ -1,6 +1,6 @@
 //! A run of the program, from its words to its ending.
 
-ghost use Rattle.std.specs.Prelude.{◌≡◌, ◌≢◌, ◌⊎◌, Bool, [], Some, map};
+ghost use Rattle.std.specs.Prelude.{◌≡◌, ◌≢◌, ◌+◌, ◌≤◌, ◌⊎◌, Bool, [], Some, map};
 ghost use Rattle.lbk_rules.specs.CellPages.{page_cell};
 ghost use Rattle.lbk_words.specs.Accepted.{AreAccepted};
 ghost use Rattle.lbk_words.specs.Task.{Task, task_by};
@@ -24,12 +24,13 @@ use std::alloc::Global;
 /// 65,536 bytes.
 ///
 /// The answer says how the run ended. `Help` and `Usage` come for words that ask for no engine, and `Refused` has the
-/// fault of the step that failed: nothing was read or written where that was a file.
+/// fault of the step that failed: nothing was read or written where that was a file. A file is loaded only for words
+/// that are accepted.
 #[tactic(none)]
 pub fn run<'a, S: Store, R: Source, W: Sink>(
     alloc: Global,
     words: &'a [&'a str],
-    store: &S,
+    store: &mut S,
     reader: &mut R,
     writer: &mut W,
 ) -> Ending
@@ -38,13 +39,13 @@ pub fn run<'a, S: Store, R: Source, W: Sink>(
         (devices_of (R.unread reader.new) (R.read_count reader.new) (R.failure_count reader.new) (R.has_ended reader.new) (W.written writer.new) (W.failure_count writer.new))
         result }
     ensures plain { (task : Task) → IsPlainFor task (map (λ w. w.now) words.entry.now)
-        → Performs (S.file store.now) task
+        → Performs (S.file store.old) task
         (devices_of (R.unread reader.old) (R.read_count reader.old) (R.failure_count reader.old) (R.has_ended reader.old) (W.written writer.old) (W.failure_count writer.old))
         (devices_of (R.unread reader.new) (R.read_count reader.new) (R.failure_count reader.new) (R.has_ended reader.new) (W.written writer.new) (W.failure_count writer.new))
         result }
     ensures accepted { (task : Task) → words.entry.now ≢ [] → AreAccepted (map (λ w. w.now) words.entry.now)
         → task_by (map (λ w. w.now) words.entry.now) ≡ Some task
-        → Performs (S.file store.now) task
+        → Performs (S.file store.old) task
         (devices_of (R.unread reader.old) (R.read_count reader.old) (R.failure_count reader.old) (R.has_ended reader.old) (W.written writer.old) (W.failure_count writer.old))
         (devices_of (R.unread reader.new) (R.read_count reader.new) (R.failure_count reader.new) (R.has_ended reader.new) (W.written writer.new) (W.failure_count writer.new))
         result }
@@ -53,6 +54,10 @@ pub fn run<'a, S: Store, R: Source, W: Sink>(
         (devices_of (R.unread reader.old) (R.read_count reader.old) (R.failure_count reader.old) (R.has_ended reader.old) (W.written writer.old) (W.failure_count writer.old))
         (devices_of (R.unread reader.new) (R.read_count reader.new) (R.failure_count reader.new) (R.has_ended reader.new) (W.written writer.new) (W.failure_count writer.new))
         result }
+    ensures unloaded { (words.entry.now ≡ []) ⊎ (¬ (AreAccepted (map (λ w. w.now) words.entry.now)))
+        → S.load_count store.new ≡ S.load_count store.old }
+    ensures loads { S.load_count store.new ≤ S.load_count store.old + 4 }
+    ensures files { S.file store.new ≡ S.file store.old }
 {
     if words.is_empty() {
         return show_samples(alloc, reader, writer);

@@ -1,1 +1,2 @@
+mod LastFile
 mod Samples

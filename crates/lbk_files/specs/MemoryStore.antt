@@ -9,6 +9,10 @@ use Rattle.lbk_files.specs.declared.memory_store.MemoryStore.{MemoryStore}
 abbrev pub named_files : MemoryStore → List (Bor (List ℕ) × Bor (List ℕ))
 named_files store = store.files.now
 
+-- how many loads were made
+abbrev pub loads_of : MemoryStore → ℕ
+loads_of store = store.loads
+
 -- what the first file of a name holds
 abbrev pub contents_of : List (Bor (List ℕ) × Bor (List ℕ)) → List ℕ → Option (List ℕ)
 contents_of files name = option_map (λ file. file.1.now) (find (λ file. bytes_eq file.0.now name) files)

@@ -1,6 +1,6 @@
 //! The four files that words name, loaded in order and read.
 
-ghost use Rattle.std.specs.Prelude.{MatchResult};
+ghost use Rattle.std.specs.Prelude.{◌≡◌, ◌+◌, ◌≤◌, MatchResult};
 ghost use Rattle.lbk_rules.specs.CellPages.{page_cell};
 ghost use Rattle.lbk_files.specs.FileFault.{AreCellsFrom, IsFileFault, IsLoaded};
 ghost use Rattle.lbk_files.specs.Named.{IsOneFault, files_of, joined, told_of};
@@ -25,10 +25,12 @@ use std::alloc::Global;
 pub fn load_cells<S: Store>(
     alloc: Global,
     names: &FileNames<'_>,
-    store: &S,
+    store: &mut S,
 ) -> Result<CellPages, CellsFault>
-    ensures { MatchResult result (λ pages. AreCellsFrom (files_of (S.file store.now) (files_of_names names.now)) (page_cell pages))
-        (IsFileFault (files_of (S.file store.now) (files_of_names names.now))) }
+    ensures loaded { MatchResult result (λ pages. AreCellsFrom (files_of (S.file store.old) (files_of_names names.now)) (page_cell pages))
+        (IsFileFault (files_of (S.file store.old) (files_of_names names.now))) }
+    ensures files { S.file store.new ≡ S.file store.old }
+    ensures loads { S.load_count store.new ≤ S.load_count store.old + 4 }
 {
     let line_break = load_file(alloc, names.line_break, store, Which::LineBreak)?;
     let east_asian = load_file(alloc, names.east_asian, store, Which::EastAsianWidth)?;
@@ -49,11 +51,13 @@ pub fn load_cells<S: Store>(
 fn load_file<S: Store>(
     alloc: Global,
     file: FileName<'_>,
-    store: &S,
+    store: &mut S,
     which: Which,
 ) -> Result<Vec<u8>, CellsFault>
-    ensures { MatchResult result (λ bytes. IsLoaded which (told_of (S.file store.now) which (named_of file.entry)) bytes.items)
-        (IsOneFault which (told_of (S.file store.now) which (named_of file.entry))) }
+    ensures loaded { MatchResult result (λ bytes. IsLoaded which (told_of (S.file store.old) which (named_of file.entry)) bytes.items)
+        (IsOneFault which (told_of (S.file store.old) which (named_of file.entry))) }
+    ensures files { S.file store.new ≡ S.file store.old }
+    ensures loads { S.load_count store.new ≤ S.load_count store.old + 1 }
 {
     match file {
         FileName::Given(name) => load_named(alloc, name, store, which),
@@ -65,11 +69,13 @@ fn load_file<S: Store>(
 fn load_claimed<S: Store>(
     alloc: Global,
     folder: &str,
-    store: &S,
+    store: &mut S,
     which: Which,
 ) -> Result<Vec<u8>, CellsFault>
-    ensures { MatchResult result (λ bytes. IsLoaded which (told_of (S.file store.now) which (in_folder folder.now)) bytes.items)
-        (IsOneFault which (told_of (S.file store.now) which (in_folder folder.now))) }
+    ensures loaded { MatchResult result (λ bytes. IsLoaded which (told_of (S.file store.old) which (in_folder folder.now)) bytes.items)
+        (IsOneFault which (told_of (S.file store.old) which (in_folder folder.now))) }
+    ensures files { S.file store.new ≡ S.file store.old }
+    ensures loads { S.load_count store.new ≤ S.load_count store.old + 1 }
 {
     let Ok(name) = joined(alloc, folder, which) else {
         return Err(CellsFault::Memory);
@@ -86,11 +92,13 @@ fn load_claimed<S: Store>(
 fn load_named<S: Store>(
     alloc: Global,
     name: &str,
-    store: &S,
+    store: &mut S,
     which: Which,
 ) -> Result<Vec<u8>, CellsFault>
-    ensures { MatchResult result (λ bytes. IsLoaded which (told_of (S.file store.now) which (given name.now)) bytes.items)
-        (IsOneFault which (told_of (S.file store.now) which (given name.now))) }
+    ensures loaded { MatchResult result (λ bytes. IsLoaded which (told_of (S.file store.old) which (given name.now)) bytes.items)
+        (IsOneFault which (told_of (S.file store.old) which (given name.now))) }
+    ensures files { S.file store.new ≡ S.file store.old }
+    ensures loads { S.load_count store.new ≤ S.load_count store.old + 1 }
 {
     // One byte more is loaded, so that a longer file is refused as too long.
     match store.load(alloc, name, LONGEST_FILE) {

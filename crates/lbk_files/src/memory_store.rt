@@ -1,7 +1,7 @@
 //! A store over memory.
 
 ghost use Rattle.std.specs.Prelude.{◌≡◌, Some, option_map};
-ghost use Rattle.lbk_files.specs.MemoryStore.{contents_of, named_files};
+ghost use Rattle.lbk_files.specs.MemoryStore.{contents_of, loads_of, named_files};
 
 use super::store::{LoadFault, Store};
 use std::alloc::Global;
@@ -16,19 +16,21 @@ use std::alloc::Global;
 ///     ("M", SAMPLE_FILES.emoji),
 ///     ("B", BAD_ROW),
 /// ];
-/// let store = MemoryStore::new(files.as_slice());
+/// let mut store = MemoryStore::new(files.as_slice());
 /// ```
-#[derive(Clone, Copy)]
+#[derive(Drop)]
 pub struct MemoryStore<'a> {
     files: &'a [(&'a str, &'a [u8])],
+    loads: u64,
 }
 
 impl<'a> MemoryStore<'a> {
     /// The files of these names, each with its bytes. Any other name cannot be read.
     pub fn new(files: &'a [(&'a str, &'a [u8])]) -> MemoryStore<'a>
-        ensures { named_files result ≡ files.entry.now }
+        ensures files { named_files result ≡ files.entry.now }
+        ensures loads { loads_of result ≡ 0 }
     {
-        MemoryStore { files }
+        MemoryStore { files, loads: 0 }
     }
 
     /// What the file of a name holds.
@@ -44,14 +46,21 @@ impl<'a> MemoryStore<'a> {
     }
 }
 
-impl<'a> Store for MemoryStore<'a> {
+impl Store for MemoryStore<'_> {
     ghost file = { λ store name. Some (contents_of (named_files store) name) };
 
-    fn load(&self, alloc: Global, name: &str, most: usize) -> Result<Vec<u8>, LoadFault> {
+    ghost load_count = { λ store. loads_of store };
+
+    fn load(&mut self, alloc: Global, name: &str, most: usize) -> Result<Vec<u8>, LoadFault> {
+        self.loads = self.loads.saturating_add(1);
         let Some(contents) = self.contents(name) else {
             return Err(LoadFault::Unreadable);
         };
         let len = contents.len().min(most + 1);
         Vec::from_slice(alloc, &contents[..len]).map_err(|_| LoadFault::Memory)
+    }
+
+    fn loads(&self) -> u64 {
+        self.loads
     }
 }

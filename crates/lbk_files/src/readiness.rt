@@ -1,6 +1,6 @@
 //! From the words to an engine with the cells that it decides by.
 
-ghost use Rattle.std.specs.Prelude.{◌≡◌, Some, MatchResult, map};
+ghost use Rattle.std.specs.Prelude.{◌≡◌, ◌+◌, ◌≤◌, Some, MatchResult, map};
 ghost use Rattle.lbk_words.specs.Accepted.{AreAccepted};
 ghost use Rattle.lbk_words.specs.Task.{Task, task_by, task_of};
 ghost use Rattle.lbk_words.specs.PlainWords.{IsPlainFor};
@@ -24,14 +24,21 @@ pub struct Ready {
 /// Reads the words, loads the files that they name, and reads these.
 ///
 /// `Help` and `Usage` come for words that are no order. `Refused` is the first step that fails.
-pub fn prepare<'a, S: Store>(alloc: Global, words: &'a [&'a str], store: &S) -> Result<Ready, Stop>
+pub fn prepare<'a, S: Store>(
+    alloc: Global,
+    words: &'a [&'a str],
+    store: &mut S,
+) -> Result<Ready, Stop>
     ensures plain { (task : Task) → IsPlainFor task (map (λ w. w.now) words.entry.now)
-        → MatchResult result (IsReadyFor (S.file store.now) task) (IsStoppedAt (S.file store.now) task) }
+        → MatchResult result (IsReadyFor (S.file store.old) task) (IsStoppedAt (S.file store.old) task) }
     ensures accepted { (task : Task) → AreAccepted (map (λ w. w.now) words.entry.now)
         → task_by (map (λ w. w.now) words.entry.now) ≡ Some task
-        → MatchResult result (IsReadyFor (S.file store.now) task) (IsStoppedAt (S.file store.now) task) }
+        → MatchResult result (IsReadyFor (S.file store.old) task) (IsStoppedAt (S.file store.old) task) }
     ensures others { ¬ (AreAccepted (map (λ w. w.now) words.entry.now))
         → MatchResult result (λ ready. ⊥) (IsStoppedByWords (map (λ w. w.now) words.entry.now)) }
+    ensures unloaded { ¬ (AreAccepted (map (λ w. w.now) words.entry.now)) → S.load_count store.new ≡ S.load_count store.old }
+    ensures loads { S.load_count store.new ≤ S.load_count store.old + 4 }
+    ensures files { S.file store.new ≡ S.file store.old }
 {
     match parse(alloc, words) {
         Ok(order) => made_ready(alloc, &order, store),
@@ -41,8 +48,10 @@ pub fn prepare<'a, S: Store>(alloc: Global, words: &'a [&'a str], store: &S) -> 
     }
 }
 
-fn made_ready<S: Store>(alloc: Global, order: &Order<'_>, store: &S) -> Result<Ready, Stop>
-    ensures { MatchResult result (IsReadyFor (S.file store.now) (task_of order.now)) (IsStoppedAt (S.file store.now) (task_of order.now)) }
+fn made_ready<S: Store>(alloc: Global, order: &Order<'_>, store: &mut S) -> Result<Ready, Stop>
+    ensures made { MatchResult result (IsReadyFor (S.file store.old) (task_of order.now)) (IsStoppedAt (S.file store.old) (task_of order.now)) }
+    ensures loads { S.load_count store.new ≤ S.load_count store.old + 4 }
+    ensures files { S.file store.new ≡ S.file store.old }
 {
     match load_cells(alloc, &order.files, store) {
         Ok(cells) => Ok(Ready {

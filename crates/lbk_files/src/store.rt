@@ -1,6 +1,7 @@
 //! Where files come from.
 
-ghost use Rattle.std.specs.Prelude.{ℕ, ◌+◌, ◌-◌, ◌^◌, ◌<◌, ◌≤◌, List, Option, vec_len, IfOk, MatchResult};
+ghost use Rattle.std.specs.Prelude.{◌≡◌, ℕ, ◌+◌, ◌-◌, ◌^◌, ◌<◌, ◌≤◌, List, Option, vec_len, IfOk, MatchResult};
+ghost use Rattle.lbk_feed.specs.Devices.{count_up};
 ghost use Rattle.lbk_files.specs.Store.{IsFront, IsLoadFault};
 
 use std::alloc::Global;
@@ -14,16 +15,27 @@ pub enum LoadFault {
     Memory,
 }
 
-/// Files by their names.
+/// Files by their names, whose loads are counted.
+///
+/// The count stays at `u64::MAX` once it is there.
 pub trait Store {
     // What the file of a name holds, where the store tells it; `None` in it is a file that cannot be read.
     ghost file: { Self → List ℕ → Option (Option (List ℕ)) };
 
+    ghost load_count: { Self → ℕ };
+
     /// The first `most + 1` bytes of a file, or all of them if it has fewer.
     ///
-    /// `Unreadable` comes where it cannot be opened or read, `Memory` where memory could not grow.
-    fn load(&self, alloc: Global, name: &str, most: usize) -> Result<Vec<u8>, LoadFault>
+    /// `Unreadable` comes where it cannot be opened or read, `Memory` where memory could not grow. No load changes what
+    /// the store tells.
+    fn load(&mut self, alloc: Global, name: &str, most: usize) -> Result<Vec<u8>, LoadFault>
         requires { most < 2 ^ 64 - 1 }
-        ensures loaded { MatchResult result (λ bytes. IsFront (file self.now name.now) most bytes.items) (IsLoadFault (file self.now name.now)) }
-        ensures within { IfOk result (λ bytes. vec_len bytes ≤ most + 1) };
+        ensures loaded { MatchResult result (λ bytes. IsFront (file self.old name.now) most bytes.items) (IsLoadFault (file self.old name.now)) }
+        ensures within { IfOk result (λ bytes. vec_len bytes ≤ most + 1) }
+        ensures files { file self.new ≡ file self.old }
+        ensures loads { load_count self.new ≡ count_up (load_count self.old) };
+
+    /// How many loads were made, those that failed among them.
+    fn loads(&self) -> u64
+        ensures { result ≡ load_count self.now };
 }

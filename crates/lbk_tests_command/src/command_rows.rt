@@ -172,7 +172,7 @@ fn check_refused(
 ) -> Result<(), Fail> {
     let mut source = source;
     let (written, fault) = want;
-    let (ending, writer) = ended(alloc, words, &mut source, room)?;
+    let (ending, writer, _) = ended(alloc, words, &mut source, room)?;
     same(rt, &writer.bytes(), &written, words);
     same(rt, &ending.status(), &1, words);
     check_fault(rt, &ending, fault);

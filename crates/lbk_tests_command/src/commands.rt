@@ -1,6 +1,6 @@
 //! The program's runs by their words, over files, readers and writers in memory.
 
-use lbk_cmd::{CmdFault, Ending, MemoryStore, RunFault, SAMPLE_FILES, run};
+use lbk_cmd::{CmdFault, Ending, MemoryStore, RunFault, SAMPLE_FILES, Store, run};
 use lbk_feed::devices::{MemorySink, MemorySource};
 use lbk_notation::Report;
 use lbk_passage::PassageFault;
@@ -37,14 +37,14 @@ pub fn words(
     Ok(words)
 }
 
-/// How a run ends over the sample files and one bad file `B`. It promises nothing, so that the tests see nothing of what
+/// How a run ends over the sample files and one bad file `B`, and how often it loaded a file. It promises nothing, so that the tests see nothing of what
 /// `run` promises.
 fn ended_into(
     alloc: Global,
     words: &[&'static str],
     reader: &mut MemorySource<'_>,
     writer: &mut MemorySink,
-) -> Ending {
+) -> (Ending, u64) {
     let files = [
         ("L", SAMPLE_FILES.line_break),
         ("E", SAMPLE_FILES.east_asian),
@@ -52,20 +52,21 @@ fn ended_into(
         ("M", SAMPLE_FILES.emoji),
         ("B", BAD_ROW),
     ];
-    let store = MemoryStore::new(files.as_slice());
-    run(alloc, words, &store, reader, writer)
+    let mut store = MemoryStore::new(files.as_slice());
+    let ending = run(alloc, words, &mut store, reader, writer);
+    (ending, store.loads())
 }
 
-/// How such a run ends, and what it wrote into so much room.
+/// How such a run ends, what it wrote into so much room, and how often it loaded a file.
 pub fn ended(
     alloc: Global,
     words: &[&'static str],
     reader: &mut MemorySource<'_>,
     room: usize,
-) -> Result<(Ending, MemorySink), AllocError> {
+) -> Result<(Ending, MemorySink, u64), AllocError> {
     let mut writer = MemorySink::new(alloc, room)?;
-    let ending = ended_into(alloc, words, reader, &mut writer);
-    Ok((ending, writer))
+    let (ending, loads) = ended_into(alloc, words, reader, &mut writer);
+    Ok((ending, writer, loads))
 }
 
 /// Compares what was found with what is wanted.
@@ -83,7 +84,7 @@ pub fn check(
     status: u8,
 ) -> Result<Ending, Fail> {
     let mut reader = MemorySource::new(input.as_bytes());
-    let (ending, writer) = ended(alloc, words, &mut reader, ROOM)?;
+    let (ending, writer, _) = ended(alloc, words, &mut reader, ROOM)?;
     same(rt, &writer.bytes(), &text.as_bytes(), words);
     same(rt, &ending.status(), &status, words);
     Ok(ending)
@@ -350,4 +351,28 @@ fn file_left_out(rt: HostRuntime) -> Result<(), Fail> {
         check_left_out(&rt, rt.alloc(), engine)?;
     }
     Ok(())
+}
+
+/// Compares how often a run by these words loads a file.
+fn check_loads(
+    rt: &impl Abort,
+    alloc: Global,
+    words: &[&'static str],
+    want: u64,
+) -> Result<(), Fail> {
+    let (_, _, loads) = ended(alloc, words, &mut MemorySource::new(b"ab cd"), ROOM)?;
+    assert_eq!(rt; loads, want, "{words:?}");
+    Ok(())
+}
+
+// No file is loaded without words or for refused ones, and none behind the first that cannot be read.
+#[test]
+fn counted_loads(rt: HostRuntime) -> Result<(), Fail> {
+    let alloc = rt.alloc();
+    check_loads(&rt, alloc, &[], 0)?;
+    check_loads(&rt, alloc, &["show", "--help"], 0)?;
+    check_loads(&rt, alloc, &words(alloc, "show", &["--limit", "0"])?, 0)?;
+    check_loads(&rt, alloc, &MISSING, 2)?;
+    check_loads(&rt, alloc, &BAD, 4)?;
+    check_loads(&rt, alloc, &words(alloc, "replay", &[])?, 4)
 }

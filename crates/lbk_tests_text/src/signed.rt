@@ -103,8 +103,8 @@ fn ended(
         ("C", SAMPLE_FILES.category),
         ("M", SAMPLE_FILES.emoji),
     ];
-    let store = MemoryStore::new(files.as_slice());
-    run(alloc, words, &store, source, sink)
+    let mut store = MemoryStore::new(files.as_slice());
+    run(alloc, words, &mut store, source, sink)
 }
 
 const WORDS: [&str; 11] = [

@@ -227,7 +227,7 @@ pub fn read_front(
 
 pub fn load(
     alloc: Global,
-    store: &MemoryStore<'_>,
+    store: &mut MemoryStore<'_>,
     name: &str,
     most: u16,
 ) -> Result<Vec<u8>, LoadFault> {
@@ -237,7 +237,7 @@ pub fn load(
     answer
 }
 
-pub fn prepare(alloc: Global, words: Words, store: &MemoryStore<'_>) -> Result<Ready, Stop> {
+pub fn prepare(alloc: Global, words: Words, store: &mut MemoryStore<'_>) -> Result<Ready, Stop> {
     begin(alloc);
     let answer = lbk_files::prepare(alloc, words, store);
     end(alloc);
@@ -247,7 +247,7 @@ pub fn prepare(alloc: Global, words: Words, store: &MemoryStore<'_>) -> Result<R
 pub fn run(
     alloc: Global,
     words: Words,
-    store: &MemoryStore<'_>,
+    store: &mut MemoryStore<'_>,
     bytes: &[u8],
     sink: &mut MemorySink,
 ) -> Ending {

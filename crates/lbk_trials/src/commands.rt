@@ -49,11 +49,13 @@ fn store() -> MemoryStore<'static> {
 }
 
 pub fn load(alloc: Global, name: &str, most: u16) -> Result<String> {
-    told(alloc, &calls::load(alloc, &store(), name, most))
+    let mut store = store();
+    told(alloc, &calls::load(alloc, &mut store, name, most))
 }
 
 pub fn prepared(alloc: Global, words: Words) -> Result<String> {
-    match calls::prepare(alloc, words, &store()) {
+    let mut store = store();
+    match calls::prepare(alloc, words, &mut store) {
         Ok(ready) => ready_told(alloc, &ready),
         Err(stop) => fault_told(alloc, &stop),
     }
@@ -69,6 +71,7 @@ fn ready_told(alloc: Global, ready: &Ready) -> Result<String> {
 pub fn run(alloc: Global, words: Words, input: Text) -> Result<String> {
     let bytes = input.bytes(alloc)?;
     let mut sink = sink_of(alloc)?;
-    let ending = calls::run(alloc, words, &store(), &bytes, &mut sink);
+    let mut store = store();
+    let ending = calls::run(alloc, words, &mut store, &bytes, &mut sink);
     answer_told(alloc, &ending, sink.bytes())
 }

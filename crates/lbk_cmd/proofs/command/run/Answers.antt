@@ -1,4 +1,4 @@
-use Rattle.std.proofs.Common.{◌∙◌, inl, sym, refl}
+use Rattle.std.proofs.Common.{◌∙◌, inl, inr, sym, refl, arith}
 use Rattle.lbk_cmd.proofs.Runs.{no_first, no_words, ready_performs, some_words}
 use Rattle.lbk_cmd.proofs.command.run.Goals as goal
 
@@ -51,3 +51,34 @@ returns-in-Err-clause-accepted g c task some accepted asks =
 
 pub returns-in-Err-clause-others : goal.returns-in-Err-clause-others
 returns-in-Err-clause-others g c some other = (c.in-Err.stop, c.in-Err.ensures.others other, c.from.ensures, refl)
+
+pub returns-in-Ok-clause-unloaded : goal.returns-in-Ok-clause-unloaded
+returns-in-Ok-clause-unloaded g c (inl none) =
+    absurd (some_words c.args.words.now (sym c.is_empty.ensures ∙ c.if-is_empty.false) none)
+returns-in-Ok-clause-unloaded g c (inr other) = c.in-Ok.ensures.unloaded other
+
+pub returns-in-Err-clause-unloaded : goal.returns-in-Err-clause-unloaded
+returns-in-Err-clause-unloaded g c (inl none) =
+    absurd (some_words c.args.words.now (sym c.is_empty.ensures ∙ c.if-is_empty.false) none)
+returns-in-Err-clause-unloaded g c (inr other) = c.in-Err.ensures.unloaded other
+
+pub returns-in-Err-clause-loads : goal.returns-in-Err-clause-loads
+returns-in-Err-clause-loads g c = c.in-Err.ensures.loads
+
+pub returns-in-Err-clause-files : goal.returns-in-Err-clause-files
+returns-in-Err-clause-files g c = c.in-Err.ensures.files
+
+pub returns-in-Ok-clause-loads : goal.returns-in-Ok-clause-loads
+returns-in-Ok-clause-loads g c = c.in-Ok.ensures.loads
+
+pub returns-in-Ok-clause-files : goal.returns-in-Ok-clause-files
+returns-in-Ok-clause-files g c = c.in-Ok.ensures.files
+
+pub returns-then-is_empty-clause-unloaded : goal.returns-then-is_empty-clause-unloaded
+returns-then-is_empty-clause-unloaded g c refused = refl
+
+pub returns-then-is_empty-clause-loads : goal.returns-then-is_empty-clause-loads
+returns-then-is_empty-clause-loads g c = omega arith
+
+pub returns-then-is_empty-clause-files : goal.returns-then-is_empty-clause-files
+returns-then-is_empty-clause-files g c = refl

@@ -9,12 +9,12 @@ some_same s t e = cc
 pub returns-in-Ok-clause-plain : goal.returns-in-Ok-clause-plain
 returns-in-Ok-clause-plain g c task plain =
     subst (λ (t : Task). MatchResult c.made_ready.result (IsReadyFor (g.S.Store.file c.args.store.now) t) (IsStoppedAt (g.S.Store.file c.args.store.now) t))
-    (c.in-Ok.ensures.plain task plain) c.made_ready.ensures
+    (c.in-Ok.ensures.plain task plain) c.made_ready.ensures.made
 
 pub returns-in-Ok-clause-accepted : goal.returns-in-Ok-clause-accepted
 returns-in-Ok-clause-accepted g c task accepted asks =
     subst (λ (t : Task). MatchResult c.made_ready.result (IsReadyFor (g.S.Store.file c.args.store.now) t) (IsStoppedAt (g.S.Store.file c.args.store.now) t))
-    (some_same _ _ (sym c.in-Ok.ensures.task ∙ asks)) c.made_ready.ensures
+    (some_same _ _ (sym c.in-Ok.ensures.task ∙ asks)) c.made_ready.ensures.made
 
 pub returns-in-Err-Help-clause-plain : goal.returns-in-Err-Help-clause-plain
 returns-in-Err-Help-clause-plain g c task plain = let other = c.in-Err-Help.ensures.plain task plain in absurd (cc other)
