@@ -37,10 +37,10 @@ fn marked(
         ("U/emoji/emoji-data.txt", EMOJI.as_bytes()),
         ("N", NO_SPACES.as_bytes()),
     ];
-    let store = MemoryStore::new(files.as_slice());
+    let mut store = MemoryStore::new(files.as_slice());
     let mut reader = MemorySource::new(b"ab cd".as_slice());
     let mut writer = MemorySink::new(alloc, ROOM)?;
-    let ending = run(alloc, words, &store, &mut reader, &mut writer);
+    let ending = run(alloc, words, &mut store, &mut reader, &mut writer);
     Ok((ending, writer))
 }
 
