@@ -10,6 +10,10 @@ fn of_feeds() {
     lbk_feed::laws::faults_exclude_each_other();
 }
 
+fn of_words() {
+    lbk_words::laws::accepted_words_ask_for_a_task();
+}
+
 fn of_the_program() {
     lbk_cmd::laws::shown_lines();
     lbk_cmd::laws::headline();
@@ -71,6 +75,7 @@ fn of_test_files() {
 #[test]
 fn laws() {
     of_feeds();
+    of_words();
     of_the_program();
     of_property_files();
     of_rules_and_paragraphs();

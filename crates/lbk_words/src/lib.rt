@@ -1,6 +1,7 @@
 //! The words of the command line: what they ask for, or why they ask for nothing.
 #![tactic(auto)]
 
+pub mod laws;
 mod options;
 mod order;
 mod reading;
