@@ -7,10 +7,10 @@ mod message;
 mod noting;
 
 use file_store::FileStore;
+use lbk_args::{WordsFault, parse};
 use lbk_cmd::{CmdFault, Ending, RunFault, run};
 use lbk_feed::Device;
 use lbk_notation::ReplayFault;
-use lbk_words::{WordsFault, parse};
 use message::Message;
 use noting::{Input, InputKind, Notes, Noting};
 use std::io::ErrorKind;

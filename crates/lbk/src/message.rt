@@ -1,11 +1,11 @@
 //! What a person reads where a run is refused.
 
+use lbk_args::{DEFAULT_LIMIT, Engine, FileName, FileNames, Order};
 use lbk_cmd::{ClaimCause, CmdFault, RunFault};
 use lbk_files::name_in_database;
 use lbk_notation::ReplayFault;
 use lbk_passage::PassageFault;
 use lbk_ucd::{UcdCause, UcdFault, Which};
-use lbk_words::{DEFAULT_LIMIT, Engine, FileName, FileNames, Order};
 use std::fmt;
 use std::io::ErrorKind;
 

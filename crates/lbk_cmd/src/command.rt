@@ -2,9 +2,9 @@
 
 ghost use Rattle.std.specs.Prelude.{◌≡◌, ◌≢◌, ◌+◌, ◌≤◌, ◌⊎◌, Bool, [], Some, map};
 ghost use Rattle.lbk_rules.specs.CellPages.{page_cell};
-ghost use Rattle.lbk_words.specs.Accepted.{AreAccepted};
-ghost use Rattle.lbk_words.specs.Task.{Task, task_by};
-ghost use Rattle.lbk_words.specs.PlainWords.{IsPlainFor};
+ghost use Rattle.lbk_args.specs.Accepted.{AreAccepted};
+ghost use Rattle.lbk_args.specs.Task.{Task, task_by};
+ghost use Rattle.lbk_args.specs.PlainWords.{IsPlainFor};
 ghost use Rattle.lbk_files.specs.Ready.{IsStoppedByWords};
 ghost use Rattle.lbk_cmd.specs.Devices.{devices_of};
 ghost use Rattle.lbk_cmd.specs.Ending.{ending_of_text};
@@ -12,11 +12,11 @@ ghost use Rattle.lbk_cmd.specs.Acts.{EngineRuns, Performs, ShowsSamples, StopsBe
 
 use super::ending::Ending;
 use super::engine::{mark, segment, show};
+use lbk_args::{DEFAULT_LIMIT, Engine};
 use lbk_feed::{Sink, Source};
 use lbk_files::{Ready, Store, prepare, sample_cells};
 use lbk_notation::{Form, replay};
 use lbk_rules::Profile;
-use lbk_words::{DEFAULT_LIMIT, Engine};
 use std::alloc::Global;
 
 /// Runs the engine that the words behind the program's name ask for, by the files that they name, from the reader to

@@ -3,7 +3,7 @@ use Rattle.std.proofs.Common.{◌≡◌, ◌∙◌, ℕ, List, Option, Result, O
 use Rattle.std.specs.Result.{IsErrAnd}
 use Rattle.lbk_ucd.specs.declared.values.Which.TheVariants.{LineBreak, EastAsianWidth, Category, Emoji}
 use Rattle.lbk_rules.specs.declared.pages.CellPages.{CellPages}
-use Rattle.lbk_words.specs.Task.{NamedFiles}
+use Rattle.lbk_args.specs.Task.{NamedFiles}
 use Rattle.lbk_files.specs.FileFault.{FourFiles, IsFileFault, IsLoaded}
 use Rattle.lbk_files.specs.Named.{IsOneFault, files_of, told_of}
 use Rattle.lbk_files.specs.declared.faults.CellsFault.{CellsFault}

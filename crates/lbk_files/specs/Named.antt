@@ -2,7 +2,7 @@
 use Rattle.std.specs.Prelude.{◌≡◌, ℕ, List, ◌∷◌, ◌++◌, Option, true, false, ⊤, codes}
 use Rattle.lbk_ucd.specs.declared.values.Which.{Which}
 use Rattle.lbk_ucd.specs.declared.values.Which.TheVariants.{LineBreak, EastAsianWidth, Category, Emoji}
-use Rattle.lbk_words.specs.Task.{Named, NamedFiles, given, in_folder}
+use Rattle.lbk_args.specs.Task.{Named, NamedFiles, given, in_folder}
 use Rattle.lbk_files.specs.Store.{IsUnreadable}
 use Rattle.lbk_files.specs.FileFault.{FourFiles, IsUnlikeItsClaim, Told}
 use Rattle.lbk_files.specs.declared.faults.CellsFault.{CellsFault}

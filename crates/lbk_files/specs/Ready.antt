@@ -1,9 +1,9 @@
 -- What the words of the program come to before an engine runs.
 use Rattle.std.specs.Prelude.{◌≡◌, ℕ, List, Option}
 use Rattle.lbk_rules.specs.CellPages.{page_cell}
-use Rattle.lbk_words.specs.Accepted.{faults_of}
-use Rattle.lbk_words.specs.Refusal.{HasFault, IsCallForHelp, IsMistake}
-use Rattle.lbk_words.specs.Task.{Task}
+use Rattle.lbk_args.specs.Accepted.{faults_of}
+use Rattle.lbk_args.specs.Refusal.{HasFault, IsCallForHelp, IsMistake}
+use Rattle.lbk_args.specs.Task.{Task}
 use Rattle.lbk_files.specs.FileFault.{AreCellsFrom, IsFileFault}
 use Rattle.lbk_files.specs.Named.{files_of}
 use Rattle.lbk_files.specs.declared.faults.CellsFault.TheVariants.{Memory}

@@ -4,16 +4,16 @@ ghost use Rattle.std.specs.Prelude.{◌≡◌, ◌+◌, ◌≤◌, MatchResult};
 ghost use Rattle.lbk_rules.specs.CellPages.{page_cell};
 ghost use Rattle.lbk_files.specs.FileFault.{AreCellsFrom, IsFileFault, IsLoaded};
 ghost use Rattle.lbk_files.specs.Named.{IsOneFault, files_of, joined, told_of};
-ghost use Rattle.lbk_words.specs.Task.{files_of_names, given, in_folder, named_of};
+ghost use Rattle.lbk_args.specs.Task.{files_of_names, given, in_folder, named_of};
 
 use super::cells::read_cells;
 use super::database::joined;
 use super::faults::CellsFault;
 use super::published::check_claim;
 use super::store::{LoadFault, Store};
+use lbk_args::{FileName, FileNames};
 use lbk_rules::CellPages;
 use lbk_ucd::{Files, LONGEST_FILE, Which};
-use lbk_words::{FileName, FileNames};
 use std::alloc::Global;
 
 /// The cells of the files that are named: they are loaded in the order of `Files`, then read.

@@ -1,16 +1,16 @@
 //! From the words to an engine with the cells that it decides by.
 
 ghost use Rattle.std.specs.Prelude.{◌≡◌, ◌+◌, ◌≤◌, Some, MatchResult, map};
-ghost use Rattle.lbk_words.specs.Accepted.{AreAccepted};
-ghost use Rattle.lbk_words.specs.Task.{Task, task_by, task_of};
-ghost use Rattle.lbk_words.specs.PlainWords.{IsPlainFor};
+ghost use Rattle.lbk_args.specs.Accepted.{AreAccepted};
+ghost use Rattle.lbk_args.specs.Task.{Task, task_by, task_of};
+ghost use Rattle.lbk_args.specs.PlainWords.{IsPlainFor};
 ghost use Rattle.lbk_files.specs.Ready.{IsReadyFor, IsStoppedAt, IsStoppedByWords};
 
 use super::faults::{CellsFault, Stop};
 use super::loading::load_cells;
 use super::store::Store;
+use lbk_args::{Engine, Order, WordsFault, parse};
 use lbk_rules::{CellPages, Profile};
-use lbk_words::{Engine, Order, WordsFault, parse};
 use std::alloc::Global;
 
 /// An engine with its option, the profile and the cells of the files.

@@ -11,7 +11,7 @@ fn of_feeds() {
 }
 
 fn of_words() {
-    lbk_words::laws::accepted_words_ask_for_a_task();
+    lbk_args::laws::accepted_words_ask_for_a_task();
 }
 
 fn of_the_program() {

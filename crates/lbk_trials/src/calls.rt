@@ -6,6 +6,7 @@ use crate::commands::Words;
 use crate::counting::{begin, end};
 use crate::inputs::{Input, source_of};
 use anyhow::{Result, ensure};
+use lbk_args::{Order, WordsFault};
 use lbk_cmd::{CmdFault, Ending};
 use lbk_feed::Source;
 use lbk_feed::devices::{MemorySink, MemorySource};
@@ -14,7 +15,6 @@ use lbk_notation::{Form, LineFault, Mark, ReplayFault, Report, TestLine};
 use lbk_passage::{Passage, PassageFault, Segmenter};
 use lbk_rules::{CellPages, Profile, Verdict};
 use lbk_ucd::{Files, Tables, UcdFault};
-use lbk_words::{Order, WordsFault};
 use std::alloc::{AllocError, Global};
 
 pub fn sink(alloc: Global, room: u16) -> Result<MemorySink, AllocError> {
@@ -209,7 +209,7 @@ pub fn replay(
 
 pub fn parse(alloc: Global, words: Words) -> Result<Order<'static>, WordsFault> {
     begin(alloc);
-    let answer = lbk_words::parse(alloc, words);
+    let answer = lbk_args::parse(alloc, words);
     end(alloc);
     answer
 }

@@ -32,7 +32,7 @@ pub enum Trial {
     PushScalar(char, Form),
     /// `push_mark`.
     PushMark(Mark, Form),
-    /// `lbk_words::parse`.
+    /// `lbk_args::parse`.
     Parse(Words),
     /// `read_front`, of one byte more than this.
     Front(Text, u16),

@@ -1,4 +1,4 @@
-use Rattle.lbk_words.specs.Task.{files_of_names}
+use Rattle.lbk_args.specs.Task.{files_of_names}
 use Rattle.lbk_files.proofs.LastFile.{handed_on, last_fault}
 use Rattle.lbk_files.proofs.loading.load_cells.Goals as goal
 

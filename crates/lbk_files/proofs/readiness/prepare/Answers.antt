@@ -1,5 +1,5 @@
 use Rattle.std.proofs.Common.{◌≡◌, ◌∙◌, Some, MatchResult, sym, subst}
-use Rattle.lbk_words.specs.Task.{Task}
+use Rattle.lbk_args.specs.Task.{Task}
 use Rattle.lbk_files.specs.Ready.{IsReadyFor, IsStoppedAt}
 use Rattle.lbk_files.proofs.readiness.prepare.Goals as goal
 

@@ -6,13 +6,13 @@ use Rattle.clap.specs.Words.{Row, Text, first_of, one_of, subcommand_of}
 use Rattle.clap.specs.ValueTests.{is_numeral}
 use Rattle.lbk_rules.specs.declared.verdicts.Profile.{Profile}
 use Rattle.lbk_rules.specs.declared.verdicts.Profile.TheVariants.{First, Second}
-use Rattle.lbk_words.specs.Command.{lbk_app, default_limit}
-use Rattle.lbk_words.specs.declared.order.Engine.{Engine}
-use Rattle.lbk_words.specs.declared.order.Engine.TheVariants.{Mark, Show, Segment, Replay}
-use Rattle.lbk_words.specs.declared.order.FileName.{FileName}
-use Rattle.lbk_words.specs.declared.order.FileName.TheVariants.{Given, InFolder}
-use Rattle.lbk_words.specs.declared.order.FileNames.{FileNames}
-use Rattle.lbk_words.specs.declared.order.Order.{Order}
+use Rattle.lbk_args.specs.Command.{lbk_app, default_limit}
+use Rattle.lbk_args.specs.declared.order.Engine.{Engine}
+use Rattle.lbk_args.specs.declared.order.Engine.TheVariants.{Mark, Show, Segment, Replay}
+use Rattle.lbk_args.specs.declared.order.FileName.{FileName}
+use Rattle.lbk_args.specs.declared.order.FileName.TheVariants.{Given, InFolder}
+use Rattle.lbk_args.specs.declared.order.FileNames.{FileNames}
+use Rattle.lbk_args.specs.declared.order.Order.{Order}
 
 -- how a property file is named: by an option of its own, or by the folder that it is in
 pub data Named : Type 0 where

@@ -3,8 +3,8 @@ use Rattle.std.specs.Prelude.{◌≡◌, ◌≢◌, ◌⊎◌, ⊤}
 use Rattle.clap.specs.Words.{IsAmong, Kinds}
 use Rattle.clap.specs.declared.error.kind.ErrorKind.{ErrorKind}
 use Rattle.clap.specs.declared.error.kind.ErrorKind.TheVariants.{DisplayHelp, DisplayVersion, OutOfMemory}
-use Rattle.lbk_words.specs.declared.order.WordsFault.{WordsFault}
-use Rattle.lbk_words.specs.declared.order.WordsFault.TheVariants.{Help, Usage, Memory}
+use Rattle.lbk_args.specs.declared.order.WordsFault.{WordsFault}
+use Rattle.lbk_args.specs.declared.order.WordsFault.TheVariants.{Help, Usage, Memory}
 
 -- a call for help or for the version
 abbrev pub IsCallForHelp : ErrorKind → Type 0

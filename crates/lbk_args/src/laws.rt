@@ -2,8 +2,8 @@
 
 ghost use Rattle.std.specs.Prelude.{◌≡◌, List, Some};
 ghost use Rattle.clap.specs.Words.{Text};
-ghost use Rattle.lbk_words.specs.Accepted.{AreAccepted};
-ghost use Rattle.lbk_words.specs.Task.{Task, task_by};
+ghost use Rattle.lbk_args.specs.Accepted.{AreAccepted};
+ghost use Rattle.lbk_args.specs.Task.{Task, task_by};
 
 /// Words that are accepted ask for a task, so a promise of each task that accepted words ask for is one of all accepted
 /// words.

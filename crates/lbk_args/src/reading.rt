@@ -3,10 +3,10 @@
 ghost use Rattle.std.specs.Prelude.{◌≡◌, [], ◌∷◌, None, Some, IfOk, IfErr, MatchOption, MatchResult, map, option_map};
 ghost use Rattle.clap.specs.Words.{first_of, found_of, kind_of, one_of, rows_of};
 ghost use Rattle.clap.specs.declared.error.kind.ErrorKind.TheVariants.{MissingRequiredArgument};
-ghost use Rattle.lbk_words.specs.Accepted.{AreAccepted, faults_of};
-ghost use Rattle.lbk_words.specs.Task.{Task, engine_in, files_in, files_of_names, kinds_in, limit_in, named_in, named_of, number_or, own_or_folder, profile_in, task_by, task_in, task_of};
-ghost use Rattle.lbk_words.specs.PlainWords.{IsPlainFor};
-ghost use Rattle.lbk_words.specs.Refusal.{IsRefusalBy};
+ghost use Rattle.lbk_args.specs.Accepted.{AreAccepted, faults_of};
+ghost use Rattle.lbk_args.specs.Task.{Task, engine_in, files_in, files_of_names, kinds_in, limit_in, named_in, named_of, number_or, own_or_folder, profile_in, task_by, task_in, task_of};
+ghost use Rattle.lbk_args.specs.PlainWords.{IsPlainFor};
+ghost use Rattle.lbk_args.specs.Refusal.{IsRefusalBy};
 
 use super::options::command;
 use super::order::{Engine, FileName, FileNames, Order, WordsFault};

@@ -1,10 +1,10 @@
 use Rattle.std.proofs.Common.{◌≡◌, [], ◌∷◌, Option, None, Some, refl}
 use Rattle.clap.specs.Kinds.{or_else}
 use Rattle.clap.specs.Words.{Kinds, fault_of}
-use Rattle.lbk_words.specs.Command.{lbk_app}
-use Rattle.lbk_words.specs.Accepted.{unnamed_fault}
-use Rattle.lbk_words.specs.Task.{Task, task_by}
-use Rattle.lbk_words.proofs.laws.accepted_words_ask_for_a_task.Goals as goal
+use Rattle.lbk_args.specs.Command.{lbk_app}
+use Rattle.lbk_args.specs.Accepted.{unnamed_fault}
+use Rattle.lbk_args.specs.Task.{Task, task_by}
+use Rattle.lbk_args.proofs.laws.accepted_words_ask_for_a_task.Goals as goal
 
 -- where nothing is wrong, there is a task
 asks : (faults : Kinds) (found : Option Task) → or_else faults (unnamed_fault found) ≡ [] → (task : Task) × (found ≡ Some task)

@@ -7,7 +7,7 @@ use Rattle.clap.specs.Simple.{App, Shape, entered, names_of}
 use Rattle.clap.specs.Kinds.{Kinds, or_else}
 use Rattle.clap.specs.Faults.{built_fault, check_fault, defaults_fault, entered_fault, level_fault, settle_fault, step_fault, turn_fault, walk_fault, word_fault}
 use Rattle.clap.proofs.WalkLemmas.{walk_stopped}
-use Rattle.lbk_words.specs.PlainWords.{IsPlainName}
+use Rattle.lbk_args.specs.PlainWords.{IsPlainName}
 
 -- ---- a name behind an option
 

@@ -3,8 +3,8 @@ use Rattle.std.specs.Prelude.{◌≡◌, List, [], ◌∷◌, Option, None, Some
 use Rattle.clap.specs.Kinds.{or_else}
 use Rattle.clap.specs.Words.{Kinds, Text, fault_of}
 use Rattle.clap.specs.declared.error.kind.ErrorKind.TheVariants.{MissingRequiredArgument}
-use Rattle.lbk_words.specs.Command.{lbk_app}
-use Rattle.lbk_words.specs.Task.{Task, task_by}
+use Rattle.lbk_args.specs.Command.{lbk_app}
+use Rattle.lbk_args.specs.Task.{Task, task_by}
 
 -- words that `clap` takes ask for no task where a property file is not named
 abbrev pub unnamed_fault : Option Task → Kinds

@@ -2,13 +2,13 @@ use Rattle.std.proofs.Common.{◌≡◌, ◌∙◌, ℕ, List, None, true, map, 
 use Rattle.std.specs.Prelude.{option_map}
 use Rattle.std.specs.Borrow.{Bor}
 use Rattle.clap.specs.Words.{App, app_of, fault_of, found_of, is_simple, is_simple_and_free, kind_of, rows_of, subcommand_of}
-use Rattle.lbk_words.specs.Command.{lbk_app}
-use Rattle.lbk_words.specs.Refusal.{IsRefusalBy}
-use Rattle.lbk_words.specs.Accepted.{unnamed_fault}
-use Rattle.lbk_words.specs.Task.{task_by, task_of}
-use Rattle.lbk_words.proofs.Found.{asked, found_pair, not_none, only_memory, refused_by, some_same, unnamed_only, widened}
-use Rattle.lbk_words.proofs.Plain.{Performs, performs, plain_performs}
-use Rattle.lbk_words.proofs.reading.parse.Goals as goal
+use Rattle.lbk_args.specs.Command.{lbk_app}
+use Rattle.lbk_args.specs.Refusal.{IsRefusalBy}
+use Rattle.lbk_args.specs.Accepted.{unnamed_fault}
+use Rattle.lbk_args.specs.Task.{task_by, task_of}
+use Rattle.lbk_args.proofs.Found.{asked, found_pair, not_none, only_memory, refused_by, some_same, unnamed_only, widened}
+use Rattle.lbk_args.proofs.Plain.{Performs, performs, plain_performs}
+use Rattle.lbk_args.proofs.reading.parse.Goals as goal
 
 -- the command line is one of clap's simple ones
 simple : is_simple lbk_app ≡ true

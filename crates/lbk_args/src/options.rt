@@ -2,8 +2,8 @@
 
 ghost use Rattle.std.specs.Prelude.{◌≡◌, false, IfOk, codes};
 ghost use Rattle.clap.specs.Words.{app_of, rule_of};
-ghost use Rattle.lbk_words.specs.Local.{IsLocal};
-ghost use Rattle.lbk_words.specs.Command.{value_rule, number_rule, flag_rule, greatest_limit, profile_rule, folder_app, widths_app, files_app, limited_app, replay_app, bare_app, app_to_mark, app_to_show, app_to_segment, lbk_app};
+ghost use Rattle.lbk_args.specs.Local.{IsLocal};
+ghost use Rattle.lbk_args.specs.Command.{value_rule, number_rule, flag_rule, greatest_limit, profile_rule, folder_app, widths_app, files_app, limited_app, replay_app, bare_app, app_to_mark, app_to_show, app_to_segment, lbk_app};
 
 use clap::builder::ValueParser;
 use clap::{Arg, ArgAction, Command};

@@ -8,12 +8,12 @@ use Rattle.clap.specs.declared.error.kind.ErrorKind.{ErrorKind}
 use Rattle.clap.specs.declared.error.kind.ErrorKind.TheVariants.{MissingRequiredArgument, OutOfMemory}
 use Rattle.clap.specs.declared.parser.matches.ArgMatches.TheViews.{out-SubCommand}
 use Rattle.clap.specs.declared.parser.matches.SubCommand.{SubCommand}
-use Rattle.lbk_words.specs.declared.order.WordsFault.{WordsFault}
-use Rattle.lbk_words.specs.declared.order.WordsFault.TheVariants.{Help, Usage, Memory}
-use Rattle.lbk_words.specs.Accepted.{faults_of, unnamed_fault}
-use Rattle.lbk_words.specs.Command.{lbk_app}
-use Rattle.lbk_words.specs.Task.{Task, task_by, task_in}
-use Rattle.lbk_words.specs.Refusal.{HasFault, IsCallForHelp, IsMistake, IsRefusalBy}
+use Rattle.lbk_args.specs.declared.order.WordsFault.{WordsFault}
+use Rattle.lbk_args.specs.declared.order.WordsFault.TheVariants.{Help, Usage, Memory}
+use Rattle.lbk_args.specs.Accepted.{faults_of, unnamed_fault}
+use Rattle.lbk_args.specs.Command.{lbk_app}
+use Rattle.lbk_args.specs.Task.{Task, task_by, task_in}
+use Rattle.lbk_args.specs.Refusal.{HasFault, IsCallForHelp, IsMistake, IsRefusalBy}
 
 -- the name of a subcommand stands before its rows
 name_first : {Z : Type 0} (o : Option (Box SubCommand Z)) → option_map (λ b. (out-SubCommand (box_value b)).name.now) o ≡ option_map (λ p. p.0) (subcommand_rows o)

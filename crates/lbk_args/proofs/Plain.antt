@@ -11,14 +11,14 @@ use Rattle.clap.specs.declared.parser.matches.ValueSource.TheVariants.{CommandLi
 use Rattle.clap.proofs.OnLiterals.{clap_on_literals}
 use Rattle.lbk_rules.specs.declared.verdicts.Profile.{Profile}
 use Rattle.lbk_rules.specs.declared.verdicts.Profile.TheVariants.{First, Second}
-use Rattle.lbk_words.specs.declared.order.Engine.{Engine}
-use Rattle.lbk_words.specs.declared.order.Engine.TheVariants.{Mark, Show, Segment, Replay}
-use Rattle.lbk_words.specs.Accepted.{faults_of, unnamed_fault}
-use Rattle.lbk_words.specs.Command.{flag_rule, greatest_limit, lbk_app, limited_app, number_rule, profile_rule, replay_app, value_rule}
-use Rattle.lbk_words.specs.PlainWords.{AreEngineWords, AreFolderWords, AreFourWords, AreKindsWords, AreLimitWords, AreProfileWords, IsPlainFor, IsPlainName, folder_files, given_files, name_of_engine, profile_word}
-use Rattle.lbk_words.specs.Task.{NamedFiles, Task, files_in, limit_in, number_or, profile_in, task_by, task_in}
-use Rattle.lbk_words.proofs.Numerals.{limit_plain, limit_read, limit_taken}
-use Rattle.lbk_words.proofs.Steps.{Enters, Takes, Walks, between, done, entered_clean, entered_rows, pair, step, taken}
+use Rattle.lbk_args.specs.declared.order.Engine.{Engine}
+use Rattle.lbk_args.specs.declared.order.Engine.TheVariants.{Mark, Show, Segment, Replay}
+use Rattle.lbk_args.specs.Accepted.{faults_of, unnamed_fault}
+use Rattle.lbk_args.specs.Command.{flag_rule, greatest_limit, lbk_app, limited_app, number_rule, profile_rule, replay_app, value_rule}
+use Rattle.lbk_args.specs.PlainWords.{AreEngineWords, AreFolderWords, AreFourWords, AreKindsWords, AreLimitWords, AreProfileWords, IsPlainFor, IsPlainName, folder_files, given_files, name_of_engine, profile_word}
+use Rattle.lbk_args.specs.Task.{NamedFiles, Task, files_in, limit_in, number_or, profile_in, task_by, task_in}
+use Rattle.lbk_args.proofs.Numerals.{limit_plain, limit_read, limit_taken}
+use Rattle.lbk_args.proofs.Steps.{Enters, Takes, Walks, between, done, entered_clean, entered_rows, pair, step, taken}
 
 -- ---- a subcommand as it is built
 

@@ -8,7 +8,7 @@ use Rattle.std.specs.Str.Parse.{AllDigits, ParsesUnsigned, ParsesBool, digits_va
 use Rattle.std.proofs.lemmas.Slice.Eq.{bytes_eq-Decides}
 use Rattle.clap.specs.Words.{ReadsOne, Text}
 use Rattle.clap.proofs.WalkLemmas.{both}
-use Rattle.lbk_words.specs.Task.{is_number, is_true, number_or}
+use Rattle.lbk_args.specs.Task.{is_number, is_true, number_or}
 
 digits_pass : (ds : List ℕ) → AllDigits 10 ds → list_all (λ d. nat_lt (digit_value d) 10) ds ≡ true
 digits_pass [] h = refl

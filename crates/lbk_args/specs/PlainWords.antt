@@ -4,10 +4,10 @@ use Rattle.std.specs.Fmt.{decimal}
 use Rattle.clap.specs.Words.{Text}
 use Rattle.lbk_rules.specs.declared.verdicts.Profile.{Profile}
 use Rattle.lbk_rules.specs.declared.verdicts.Profile.TheVariants.{First, Second}
-use Rattle.lbk_words.specs.Command.{default_limit, greatest_limit}
-use Rattle.lbk_words.specs.Task.{NamedFiles, Task, given, in_folder}
-use Rattle.lbk_words.specs.declared.order.Engine.{Engine}
-use Rattle.lbk_words.specs.declared.order.Engine.TheVariants.{Mark, Show, Segment, Replay}
+use Rattle.lbk_args.specs.Command.{default_limit, greatest_limit}
+use Rattle.lbk_args.specs.Task.{NamedFiles, Task, given, in_folder}
+use Rattle.lbk_args.specs.declared.order.Engine.{Engine}
+use Rattle.lbk_args.specs.declared.order.Engine.TheVariants.{Mark, Show, Segment, Replay}
 
 -- a file's name that is not empty and does not begin with `-` (45)
 abbrev pub IsPlainName : Text → Type 0
