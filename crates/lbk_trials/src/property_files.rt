@@ -104,10 +104,19 @@ fn defaults(alloc: Global, values: [&str; 4]) -> Result<Vec<u8>, AllocError> {
         let first = 100 * (k % 4) + 1000 * (k / 4);
         let last = 50_000 - 300 * k;
         let value = values[k as usize % 4];
-        let line = format!(in alloc; "# @missing: {first:04X}..{last:04X}; {value}\n")?;
-        file.extend_from_slice(line.as_bytes())?;
+        push_default(alloc, &mut file, (first, last), value)?;
     }
     Ok(file)
+}
+
+fn push_default(
+    alloc: Global,
+    file: &mut Vec<u8>,
+    (first, last): (u32, u32),
+    value: &str,
+) -> Result<(), AllocError> {
+    let line = format!(in alloc; "# @missing: {first:04X}..{last:04X}; {value}\n")?;
+    file.extend_from_slice(line.as_bytes())
 }
 
 fn many_rows(alloc: Global) -> Result<Made, AllocError> {
@@ -123,12 +132,14 @@ fn many_rows(alloc: Global) -> Result<Made, AllocError> {
 fn rows(alloc: Global, values: [&str; 2]) -> Result<Vec<u8>, AllocError> {
     let mut file = Vec::new(alloc);
     for k in 0..ROWS {
-        let code = 3 * k;
-        let value = values[k as usize % 2];
-        let line = format!(in alloc; "{code:04X};{value}\n")?;
-        file.extend_from_slice(line.as_bytes())?;
+        push_row(alloc, &mut file, 3 * k, values[k as usize % 2])?;
     }
     Ok(file)
+}
+
+fn push_row(alloc: Global, file: &mut Vec<u8>, code: u32, value: &str) -> Result<(), AllocError> {
+    let line = format!(in alloc; "{code:04X};{value}\n")?;
+    file.extend_from_slice(line.as_bytes())
 }
 
 /// A row for each bit of a page's number, so that no two pages are alike.
@@ -137,9 +148,7 @@ fn many_pages(alloc: Global) -> Result<Vec<u8>, AllocError> {
     for page in 0..PAGES {
         for bit in 0..11 {
             if page >> bit & 1 == 1 {
-                let code = 256 * page + bit;
-                let line = format!(in alloc; "{code:04X};ID\n")?;
-                file.extend_from_slice(line.as_bytes())?;
+                push_row(alloc, &mut file, 256 * page + bit, "ID")?;
             }
         }
     }
