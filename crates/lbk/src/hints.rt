@@ -4,6 +4,10 @@
 pub const SAMPLES: &str =
     "these are sample data, for a first look; for real text: lbk mark --ucd FOLDER < TEXT";
 
+/// What is said where text is waited for on a terminal.
+pub const WAITING: &str =
+    "text is read from the terminal, to the end of input (Ctrl-D at the start of a line)";
+
 /// What is said where words name a file of text.
 pub const TEXT_ON_INPUT: &str = "text is read from standard input: lbk mark --ucd FOLDER < ";
 

@@ -5,6 +5,7 @@ mod file_store;
 mod hints;
 mod message;
 mod noting;
+mod prompted;
 
 use file_store::FileStore;
 use lbk_args::{WordsFault, parse};
@@ -13,6 +14,7 @@ use lbk_feed::Device;
 use lbk_notation::ReplayFault;
 use message::Message;
 use noting::{Input, InputKind, Notes, Noting};
+use prompted::Prompted;
 use std::io::ErrorKind;
 use std::process::ExitCode;
 use std::{env, io};
@@ -51,7 +53,7 @@ fn run_on_devices(rt: &HostRuntime, words: &[&str], notes: &Notes) -> Ending {
     } else {
         InputKind::Text
     };
-    let mut reader = Device::new(Input::new(rt.stdin(), kind, notes));
+    let mut reader = Device::new(Input::new(Prompted::new(rt), kind, notes));
     let mut writer = Device::new(Noting::new(rt.stdout(), notes));
     let mut store = FileStore::new(rt, notes);
     run(rt.alloc(), words, &mut store, &mut reader, &mut writer)
