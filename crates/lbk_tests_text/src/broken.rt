@@ -8,6 +8,7 @@ use lbk_passage::PassageFault;
 use lbk_rules::Profile;
 use lbk_tests_rows::property_files::line_break_alone;
 use lbk_tests_rows::shown::{BOTH, FIRST, SECOND};
+use lbk_tests_runs::calls::{cut_source, same, source_of};
 use lbk_ucd::{Files, UcdCause, UcdFault, Which};
 use std::alloc::{AllocError, Global};
 use std::process::Abort;
@@ -49,6 +50,20 @@ fn without_rules(alloc: Global, lines: &str) -> Result<Vec<u8>, AllocError> {
     Ok(text)
 }
 
+/// Compares what was read back with the lines of `show`.
+fn check_lines(
+    rt: &impl Abort,
+    alloc: Global,
+    found: &[TestLine],
+    lines: &str,
+    of: &(&str, usize),
+) -> Result<(), Fail> {
+    let found = written(alloc, found)?;
+    let want = without_rules(alloc, lines)?;
+    same(rt, &found.as_slice(), &want.as_slice(), of);
+    Ok(())
+}
+
 /// Checks a text in reads of `size` bytes.
 fn check(
     rt: &impl Abort,
@@ -59,14 +74,9 @@ fn check(
     size: usize,
 ) -> Result<(), Fail> {
     let sizes = [size];
-    let mut source = MemorySource::cut(text.as_bytes(), &sizes);
-    let found = written(
-        alloc,
-        &broken(alloc, SAMPLE_FILES, &mut source, LIMIT, profile)?,
-    )?;
-    let want = without_rules(alloc, lines)?;
-    assert_eq!(rt; found.as_slice(), want.as_slice(), "{text:?} by {size}");
-    Ok(())
+    let mut source = cut_source(text.as_bytes(), &sizes);
+    let found = broken(alloc, SAMPLE_FILES, &mut source, LIMIT, profile)?;
+    check_lines(rt, alloc, &found, lines, &(text, size))
 }
 
 /// Checks rows in a profile, in reads of `size` bytes.
@@ -100,41 +110,48 @@ fn refuses(
     want: PassageFault,
 ) {
     let fault = broken(alloc, SAMPLE_FILES, source, limit, Profile::First).err();
-    assert_eq!(rt; fault, Some(BreakFault::Text(CmdFault::Passage(want))));
+    let want = BreakFault::Text(CmdFault::Passage(want));
+    same(rt, &fault, &Some(want), &limit);
+}
+
+static REFUSED: [(&[u8], u32, PassageFault); 4] = [
+    (b"a\nb\xFF", LIMIT, PassageFault::NotUtf8 { at: 3 }),
+    (b"ab", 0, PassageFault::Limit),
+    (b"ab", 16_777_217, PassageFault::Limit),
+    (b"\nab", 1, PassageFault::ParagraphTooLong { start: 1 }),
+];
+
+fn check_refused(rt: &impl Abort, alloc: Global) {
+    for (text, limit, want) in &REFUSED {
+        refuses(rt, alloc, &mut cut_source(text, &[]), *limit, *want);
+    }
+}
+
+fn check_failed_read(rt: &impl Abort, alloc: Global, read: u64) {
+    let mut source = source_of(b"a\r\nb", &[1], Some(read));
+    refuses(rt, alloc, &mut source, LIMIT, PassageFault::Read);
 }
 
 #[test]
-fn refused_texts(rt: HostRuntime) -> Result<(), Fail> {
-    for (text, limit, want) in [
-        (
-            b"a\nb\xFF".as_slice(),
-            LIMIT,
-            PassageFault::NotUtf8 { at: 3 },
-        ),
-        (b"ab", 0, PassageFault::Limit),
-        (b"ab", 16_777_217, PassageFault::Limit),
-        (b"\nab", 1, PassageFault::ParagraphTooLong { start: 1 }),
-    ] {
-        refuses(&rt, rt.alloc(), &mut MemorySource::new(text), limit, want);
-    }
+fn refused_texts(rt: HostRuntime) {
+    check_refused(&rt, rt.alloc());
     for read in 0..5 {
-        let mut source = MemorySource::cut(b"a\r\nb", &[1]).failing_at(read);
-        refuses(&rt, rt.alloc(), &mut source, LIMIT, PassageFault::Read);
+        check_failed_read(&rt, rt.alloc(), read);
     }
-    Ok(())
 }
 
+const REFUSAL: UcdFault = UcdFault {
+    file: Which::LineBreak,
+    line: 2,
+    cause: UcdCause::UnknownValue,
+};
+
 #[test]
-fn refused_files(rt: HostRuntime) -> Result<(), Fail> {
+fn refused_files(rt: HostRuntime) {
     let files = line_break_alone(b"# LineBreak-15.0.0.txt\n0041;XY\n");
-    let mut source = MemorySource::new(b"ab");
+    let mut source = cut_source(b"ab", &[]);
     let fault = broken(rt.alloc(), files, &mut source, LIMIT, Profile::First).err();
-    let refusal = UcdFault {
-        file: Which::LineBreak,
-        line: 2,
-        cause: UcdCause::UnknownValue,
-    };
-    assert_eq!(&rt; fault, Some(BreakFault::Files(CellsFault::Tables(refusal))));
-    assert_eq!(&rt; source.reads(), 0);
-    Ok(())
+    let want = BreakFault::Files(CellsFault::Tables(REFUSAL));
+    same(&rt, &fault, &Some(want), &"a bad row");
+    same(&rt, &source.reads(), &0, &"a bad row");
 }

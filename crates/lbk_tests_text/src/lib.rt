@@ -6,10 +6,6 @@ mod broken;
 #[cfg(test)]
 mod calls;
 #[cfg(test)]
-mod cuts;
-#[cfg(test)]
-mod hostile;
-#[cfg(test)]
 mod laws;
 #[cfg(test)]
 mod lines;
@@ -18,8 +14,6 @@ mod passages;
 #[cfg(test)]
 mod replayed;
 #[cfg(test)]
-mod runs;
-#[cfg(test)]
 mod segment_lines;
 #[cfg(test)]
 mod segmented;
@@ -27,7 +21,3 @@ mod segmented;
 mod shown;
 #[cfg(test)]
 mod signed;
-#[cfg(test)]
-mod stopped_writers;
-#[cfg(test)]
-mod tasks;

@@ -1,12 +1,13 @@
 //! Lines of the notation: what is read, refused, written and marked.
 
-use crate::calls::{line_of, marked, same, sample_cells, written_line};
+use crate::calls::{line_of, marked, written_line};
 use lbk_notation::{
     Form, LineFault, Mark, TestLine, laws, mark_of, push_line, push_mark, push_passage_line,
     push_scalar, read_back, read_passage_line,
 };
 use lbk_rules::{Cell, CellPages, Kind, Profile, Rule, Verdict, decide_all_in};
 use lbk_tests_rows::cells::cells_of;
+use lbk_tests_runs::calls::{same, sample_cells};
 use std::alloc::{AllocError, Global};
 use std::process::Abort;
 use std::test::Fail;
@@ -105,7 +106,7 @@ fn check(
     let answer = line_of(alloc, bytes, form);
     match want {
         Want::Line(text) => check_line(rt, alloc, answer?, form, text)?,
-        Want::Nothing => assert!(rt; answer?.is_none(), "a line in {bytes:?}"),
+        Want::Nothing => same(rt, &answer?.is_none(), &true, &bytes),
         Want::Bad(at) => check_fault(rt, bytes, answer, *at),
     }
     Ok(())
@@ -139,16 +140,29 @@ fn comment(alloc: Global, length: usize) -> Result<Vec<u8>, AllocError> {
     Ok(line)
 }
 
+fn check_comment(rt: &impl Abort, alloc: Global, bytes: &[u8]) -> Result<(), Fail> {
+    same(
+        rt,
+        &line_of(alloc, bytes, Form::Plain)?.is_none(),
+        &true,
+        &bytes.len(),
+    );
+    Ok(())
+}
+
+/// A comment of one byte more than a line may have.
+fn check_longest(rt: &impl Abort, alloc: Global, longer: &[u8]) -> Result<(), Fail> {
+    let too_long = line_of(alloc, longer, Form::Plain).err();
+    same(rt, &too_long, &Some(LineFault::LineTooLong), &"a line");
+    check_comment(rt, alloc, longer.get(..268_435_456).ok_or("no line")?)
+}
+
 #[test]
 fn long_lines(rt: HostRuntime) -> Result<(), Fail> {
     let line = comment(rt.alloc(), 16_777_217)?;
-    assert!(rt; line_of(rt.alloc(), &line, Form::Plain)?.is_none());
+    check_comment(&rt, rt.alloc(), &line)?;
     let longer = comment(rt.alloc(), 268_435_457)?;
-    let longest = longer.get(..268_435_456).ok_or("no line")?;
-    assert!(rt; line_of(rt.alloc(), longest, Form::Plain)?.is_none());
-    let too_long = line_of(rt.alloc(), &longer, Form::Plain).err();
-    same(&rt, &too_long, &Some(LineFault::LineTooLong), &"a line");
-    Ok(())
+    check_longest(&rt, rt.alloc(), &longer)
 }
 
 /// Compares what a line has.
@@ -265,17 +279,21 @@ fn check_both(
     Ok(())
 }
 
+fn check_all_marked(rt: &impl Abort, alloc: Global, cells: &CellPages) -> Result<(), Fail> {
+    for row in &MARKED {
+        check_both(rt, alloc, cells, *row)?;
+    }
+    let plain = (cells, Profile::First, Form::Plain);
+    let want = "× 0061 × 0062 × 0020 ÷ 0063 × 0064 ÷";
+    check_marked(rt, alloc, plain, "ab cd", want)?;
+    Ok(())
+}
+
 #[test]
 fn marking(rt: HostRuntime) -> Result<(), Fail> {
     let cells = sample_cells(rt.alloc())?;
-    for row in &MARKED {
-        check_both(&rt, rt.alloc(), &cells, *row)?;
-    }
-    let plain = (&cells, Profile::First, Form::Plain);
-    let want = "× 0061 × 0062 × 0020 ÷ 0063 × 0064 ÷";
-    check_marked(&rt, rt.alloc(), plain, "ab cd", want)?;
     check_kinds(&rt);
-    Ok(())
+    check_all_marked(&rt, rt.alloc(), &cells)
 }
 
 fn check_kinds(rt: &impl Abort) {

@@ -1,18 +1,17 @@
 //! The passages that a segmenter gives up to its limit and before a fault, in both profiles and however the reads are
 //! cut, and what it answers then.
 
-use crate::calls::{
-    cut_source, has_next, has_step_table, next_passage, same, sample_cells, sample_tables,
-    source_of,
-};
-use crate::segmented::push_told;
-use crate::tasks::Setting;
+use crate::calls::{has_step_table, sample_tables};
 use lbk_cmd::CmdFault;
 use lbk_feed::Source;
 use lbk_feed::devices::MemorySource;
 use lbk_passage::{Passage, PassageFault, Segmenter};
 use lbk_rules::{CellPages, CellSource, Profile, Rule};
 use lbk_tests_rows::texts::{FIRST, SECOND};
+use lbk_tests_runs::calls::{cut_source, next_passage, same, sample_cells, source_of};
+use lbk_tests_runs::runs::check_spent;
+use lbk_tests_runs::tasks::Setting;
+use lbk_tests_runs::told::push_told;
 use lbk_ucd::Tables;
 use std::alloc::{AllocError, Global};
 use std::fmt::Write;
@@ -83,18 +82,6 @@ fn check_text(
     row: &Row,
 ) {
     same(rt, &next_text(segmenter, source), &want, row);
-}
-
-/// Calls three times more behind a fault.
-pub fn check_spent<R: Source>(
-    rt: &impl Abort,
-    segmenter: &mut Segmenter<'_, CellPages>,
-    reader: &mut R,
-) {
-    for _ in 0..3 {
-        let again = has_next(segmenter, reader);
-        same(rt, &again, &Err(PassageFault::Spent), &"a fault");
-    }
 }
 
 /// Compares the passages that come first, and those given before the fault, which is answered once.
@@ -198,28 +185,38 @@ fn next_end<'a, R: Source>(
 }
 
 fn check_limit(rt: &impl Abort, setting: Setting<'_>) {
-    let refused = setting.segmenter();
-    assert!(rt; matches!(refused, Err(PassageFault::Limit)));
+    same(
+        rt,
+        &setting.segmenter().err(),
+        &Some(PassageFault::Limit),
+        &setting.limit,
+    );
+}
+
+/// The passages of a text, and that none follows.
+static THREE: [Option<(&str, Rule)>; 4] = [
+    Some(("ab\r\n", Rule::Lb5)),
+    Some(("abc\r", Rule::Lb5)),
+    Some(("b", Rule::Lb3)),
+    None,
+];
+
+fn check_three(
+    rt: &impl Abort,
+    segmenter: &mut Segmenter<'_, CellPages>,
+) -> Result<(), PassageFault> {
+    let mut source = cut_source(b"ab\r\nabc\rb", &[]);
+    for want in &THREE {
+        let found = next_end(segmenter, &mut source)?;
+        same(rt, &found, want, &"three passages");
+    }
+    Ok(())
 }
 
 /// A text of three passages, of which the longest has as many bytes as a paragraph may have.
-fn check_within(rt: &impl Abort, setting: Setting<'_>) -> Result<(), PassageFault> {
-    let mut source = cut_source(b"ab\r\nabc\rb", &[]);
-    let mut segmenter = Setting {
-        limit: 4,
-        ..setting
-    }
-    .segmenter()?;
-    for want in [
-        Some(("ab\r\n", Rule::Lb5)),
-        Some(("abc\r", Rule::Lb5)),
-        Some(("b", Rule::Lb3)),
-        None,
-    ] {
-        let found = next_end(&mut segmenter, &mut source)?;
-        same(rt, &found, &want, &"three passages");
-    }
-    Ok(())
+fn check_within(rt: &impl Abort, setting: Setting<'_>) -> Result<(), Fail> {
+    let mut segmenter = setting.segmenter()?;
+    Ok(check_three(rt, &mut segmenter)?)
 }
 
 #[test]
@@ -227,15 +224,15 @@ fn limits(rt: HostRuntime) -> Result<(), Fail> {
     let cells = sample_cells(rt.alloc())?;
     let setting = Setting::new(rt.alloc(), &cells, Profile::First);
     for limit in [0, 16_777_217] {
-        let refused = Setting { limit, ..setting }.segmenter();
-        assert!(&rt; matches!(refused, Err(PassageFault::Limit)));
+        check_limit(&rt, Setting { limit, ..setting });
     }
-    let four = Setting {
-        limit: 4,
-        ..setting
-    };
-    check_within(&rt, four)?;
-    Ok(())
+    check_within(
+        &rt,
+        Setting {
+            limit: 4,
+            ..setting
+        },
+    )
 }
 
 /// Writes all that is known of the next passage, or that there is none.
@@ -302,14 +299,27 @@ fn check_rows(
     Ok(())
 }
 
+fn check_all_rows(
+    rt: &impl Abort,
+    alloc: Global,
+    tables: &Tables,
+    pages: &CellPages,
+) -> Result<(), Fail> {
+    same(rt, &has_step_table(tables), &false, &"tables");
+    same(rt, &has_step_table(pages), &true, &"pages");
+    check_rows(rt, alloc, tables, pages, &FIRST)?;
+    check_rows(rt, alloc, tables, pages, &SECOND)?;
+    Ok(())
+}
+
+fn check_tables(rt: &impl Abort, alloc: Global, tables: &Tables) -> Result<(), Fail> {
+    let pages = sample_cells(alloc)?;
+    check_all_rows(rt, alloc, tables, &pages)
+}
+
 /// The tables have no table of steps, and the pages have one.
 #[test]
 fn without_a_table_of_steps(rt: HostRuntime) -> Result<(), Fail> {
     let tables = sample_tables(rt.alloc())?;
-    let pages = sample_cells(rt.alloc())?;
-    assert!(rt; !has_step_table(&tables));
-    assert!(rt; has_step_table(&pages));
-    check_rows(&rt, rt.alloc(), &tables, &pages, &FIRST)?;
-    check_rows(&rt, rt.alloc(), &tables, &pages, &SECOND)?;
-    Ok(())
+    check_tables(&rt, rt.alloc(), &tables)
 }

@@ -1,13 +1,14 @@
 //! What a replay of test files writes and answers, over devices in memory.
 
-use crate::calls::{line_of, outcome_of, same, sample_cells};
-use crate::runs::{Run, whole};
-use crate::tasks::{End, ROOM, Setting, Task};
+use crate::calls::{line_of, outcome_of};
 use lbk_feed::Source;
 use lbk_feed::devices::{MemorySink, RepeatedSource};
 use lbk_notation::{Form, Mark, Outcome, ReplayFault, Report, TestLine, replay};
 use lbk_rules::{CellPages, Kind, Profile, Rule, Verdict};
 use lbk_tests_rows::replayed::{FOUR_LINES, KINDS, PLAIN, QUOTED, Row};
+use lbk_tests_runs::calls::{same, sample_cells};
+use lbk_tests_runs::runs::{Run, whole};
+use lbk_tests_runs::tasks::{End, ROOM, Setting, Task};
 use std::alloc::{AllocError, Global};
 use std::process::Abort;
 use std::test::Fail;
@@ -98,15 +99,24 @@ fn check_line(rt: &impl Abort, cells: &CellPages, line: &TestLine, profile: Prof
     same(rt, &found, &differ, &profile);
 }
 
+/// The line that these bytes tell differs in both profiles.
+fn check_differs(
+    rt: &impl Abort,
+    alloc: Global,
+    cells: &CellPages,
+    bytes: &[u8],
+) -> Result<(), Fail> {
+    let line = line_of(alloc, bytes, Form::Plain)?.ok_or("no line")?;
+    check_line(rt, cells, &line, Profile::First);
+    check_line(rt, cells, &line, Profile::Second);
+    Ok(())
+}
+
 #[test]
 fn lines(rt: HostRuntime) -> Result<(), Fail> {
     let cells = sample_cells(rt.alloc())?;
     let bytes = "× 0061 ÷ 0062 ÷".as_bytes();
-    let line = line_of(rt.alloc(), bytes, Form::Plain)?.ok_or("no line")?;
-    for profile in [Profile::First, Profile::Second] {
-        check_line(&rt, &cells, &line, profile);
-    }
-    Ok(())
+    check_differs(&rt, rt.alloc(), &cells, bytes)
 }
 
 /// The sizes of reads, the one that fails, and what is written before it. The second LF stands at byte 37.
@@ -173,15 +183,19 @@ fn check_repeated(
     Ok(())
 }
 
+fn check_long_lines(rt: &impl Abort, alloc: Global, cells: &CellPages) -> Result<(), Fail> {
+    let line = (b'#', 268_435_456);
+    check_repeated(rt, alloc, cells, line, (None, "T 0 0 0 0\n"))?;
+    let longer = (b'#', 268_435_457);
+    let written = "R 1 long\nT 1 0 0 1\n";
+    check_repeated(rt, alloc, cells, longer, (None, written))?;
+    Ok(())
+}
+
 #[test]
 fn longest_line(rt: HostRuntime) -> Result<(), Fail> {
     let cells = sample_cells(rt.alloc())?;
-    let line = (b'#', 268_435_456);
-    check_repeated(&rt, rt.alloc(), &cells, line, (None, "T 0 0 0 0\n"))?;
-    let longer = (b'#', 268_435_457);
-    let written = "R 1 long\nT 1 0 0 1\n";
-    check_repeated(&rt, rt.alloc(), &cells, longer, (None, written))?;
-    Ok(())
+    check_long_lines(&rt, rt.alloc(), &cells)
 }
 
 #[test]

@@ -1,66 +1,17 @@
 //! The segments and pieces that a segmenter gives over the sample files, in both profiles and however the reads are
 //! cut.
 
-use crate::calls::{cut_source, has_next, next_passage, same, sample_cells};
-use crate::tasks::Setting;
 use lbk_cmd::CmdFault;
-use lbk_feed::Source;
 use lbk_feed::devices::MemorySource;
-use lbk_passage::{Passage, PassageFault, Piece, Segment, Segmenter};
+use lbk_passage::{Passage, PassageFault, Segment, Segmenter};
 use lbk_rules::{CellPages, Kind, Profile, Rule};
+use lbk_tests_rows::segmented::{BOTH, Row};
+use lbk_tests_runs::calls::{cut_source, has_next, next_passage, same, sample_cells};
+use lbk_tests_runs::tasks::Setting;
+use lbk_tests_runs::told::told_next;
 use std::alloc::{AllocError, Global};
-use std::fmt::Write;
 use std::process::Abort;
 use std::test::Fail;
-
-/// A text, and of each of its passages: `P`, its start, its length and the rule at its end; `S`, start, end, kind and
-/// rule of a segment; `W`, start and end of a word; `p`, those of another piece.
-pub type Row = (&'static str, &'static [&'static str]);
-
-/// What both profiles say.
-pub static BOTH: [Row; 11] = [
-    ("", &[]),
-    (
-        "ab cd",
-        &["P 0 5 3 S 0 3 May 18 S 3 5 Must 3 W 0 2 p 2 3 W 3 5"],
-    ),
-    (
-        "a\r\nb",
-        &[
-            "P 0 3 5 S 0 3 Must 5 W 0 1 p 1 3",
-            "P 3 1 3 S 0 1 Must 3 W 0 1",
-        ],
-    ),
-    (
-        "\n\n",
-        &["P 0 1 5 S 0 1 Must 5 p 0 1", "P 1 1 3 S 0 1 Must 3 p 0 1"],
-    ),
-    (
-        "abc\rb",
-        &[
-            "P 0 4 5 S 0 4 Must 5 W 0 3 p 3 4",
-            "P 4 1 3 S 0 1 Must 3 W 0 1",
-        ],
-    ),
-    ("can't", &["P 0 5 3 S 0 5 Must 3 W 0 5"]),
-    ("1,2", &["P 0 3 3 S 0 3 Must 3 W 0 3"]),
-    ("$ !", &["P 0 3 3 S 0 3 Must 3 p 0 1 p 1 2 p 2 3"]),
-    (
-        "e\u{301} b",
-        &["P 0 5 3 S 0 4 May 18 S 4 5 Must 3 W 0 3 p 3 4 W 4 5"],
-    ),
-    (
-        "a \u{2019}\u{301}b",
-        &["P 0 8 3 S 0 2 May 18 S 2 8 Must 3 W 0 1 p 1 2 p 2 7 W 7 8"],
-    ),
-    (
-        "a \u{2019}a \u{2019}b\nc",
-        &[
-            "P 0 12 5 S 0 2 May 18 S 2 7 May 18 S 7 12 Must 5 W 0 1 p 1 2 p 2 5 W 5 6 p 6 7 p 7 10 W 10 11 p 11 12",
-            "P 12 1 3 S 0 1 Must 3 W 0 1",
-        ],
-    ),
-];
 
 /// What the first says.
 static FIRST: [Row; 3] = [
@@ -102,54 +53,6 @@ static SECOND: [Row; 6] = [
         ],
     ),
 ];
-
-fn push_start(line: &mut String, passage: &Passage<'_>) -> Result<(), AllocError> {
-    let end = passage.end.rule.label();
-    write!(line, "P {} {} {end}", passage.start, passage.text.len())?;
-    Ok(())
-}
-
-fn push_segment(line: &mut String, segment: &Segment) -> Result<(), AllocError> {
-    let (start, end, kind) = (segment.start, segment.end, segment.kind);
-    write!(line, " S {start} {end} {kind:?} {}", segment.rule.label())?;
-    Ok(())
-}
-
-fn push_piece(line: &mut String, piece: &Piece) -> Result<(), AllocError> {
-    let name = if piece.word { 'W' } else { 'p' };
-    write!(line, " {name} {} {}", piece.start, piece.end)?;
-    Ok(())
-}
-
-/// Adds what is told of a passage.
-pub fn push_told(line: &mut String, passage: &Passage<'_>) -> Result<(), AllocError> {
-    push_start(line, passage)?;
-    for segment in passage.segments {
-        push_segment(line, segment)?;
-    }
-    for piece in passage.pieces {
-        push_piece(line, piece)?;
-    }
-    Ok(())
-}
-
-fn told(alloc: Global, passage: &Passage<'_>) -> Result<String, AllocError> {
-    let mut line = String::new(alloc);
-    push_told(&mut line, passage)?;
-    Ok(line)
-}
-
-/// What is told of the next passage, if there is one.
-pub fn told_next<R: Source>(
-    alloc: Global,
-    segmenter: &mut Segmenter<'_, CellPages>,
-    reader: &mut R,
-) -> Result<Option<String>, CmdFault> {
-    match next_passage(segmenter, reader)? {
-        Some(passage) => Ok(Some(told(alloc, &passage)?)),
-        None => Ok(None),
-    }
-}
 
 fn check_told(rt: &impl Abort, found: Option<String>, want: &str, row: &Row) {
     match found {

@@ -16,7 +16,7 @@ pub type Words = &'static [&'static str];
 const BAD_ROW: &[u8] = b"0061;AK\n";
 
 /// The sample files, and a file of one bad row.
-const FILES: &[(&str, &[u8])] = &[
+static FILES: [(&str, &[u8]); 5] = [
     ("L", SAMPLE_LINE_BREAK),
     ("E", SAMPLE_EAST_ASIAN),
     ("C", SAMPLE_CATEGORY),
@@ -45,7 +45,7 @@ fn front_told(alloc: Global, front: &[u8], reads: u64) -> Result<String> {
 
 /// These by their names.
 fn store() -> MemoryStore<'static> {
-    MemoryStore::new(FILES)
+    MemoryStore::new(&FILES)
 }
 
 pub fn load(alloc: Global, name: &str, most: u16) -> Result<String> {

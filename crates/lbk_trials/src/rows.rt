@@ -180,7 +180,7 @@ const LIMIT: u32 = 65_536;
 
 const HUGE_LIMIT: u32 = 100_000;
 
-/// Kinds of calls. Each has a table of rows of its own, since a function that names a long one is dear to prove.
+/// Kinds of calls. Each has a table of rows of its own.
 #[derive(Clone, Copy)]
 pub enum Group {
     /// Sinks and property files.
@@ -216,14 +216,14 @@ pub const GROUPS: [Group; 8] = [
 impl Group {
     pub fn rows(self) -> &'static [Row] {
         match self {
-            Group::Files => files(),
-            Group::Passages => passages(),
-            Group::Lines => lines(),
-            Group::Pushes => pushes(),
-            Group::Engines => engines(),
-            Group::Words => words(),
-            Group::Runs => runs(),
-            Group::Quiet => quiet(),
+            Group::Files => &FILES,
+            Group::Passages => &PASSAGES,
+            Group::Lines => &LINES,
+            Group::Pushes => &PUSHES,
+            Group::Engines => &ENGINES,
+            Group::Words => &WORDS,
+            Group::Runs => &RUNS,
+            Group::Quiet => &QUIET,
         }
     }
 
@@ -248,7 +248,7 @@ pub fn trial_of(name: &str) -> Option<Trial> {
     None
 }
 
-const FILES: &[Row] = &[
+static FILES: [Row; 14] = [
     ("sink/64", Trial::Sink(64)),
     ("tables/samples", Trial::Tables(PropertyFiles::Samples)),
     ("tables/overlap", Trial::Tables(PropertyFiles::Overlap)),
@@ -277,11 +277,7 @@ const FILES: &[Row] = &[
     ("cells/many-pages", Trial::Cells(PropertyFiles::ManyPages)),
 ];
 
-fn files() -> &'static [Row] {
-    FILES
-}
-
-const PASSAGES: &[Row] = &[
+static PASSAGES: [Row; 23] = [
     ("segmenter/16", Trial::NewSegmenter(16)),
     ("segmenter/0", Trial::NewSegmenter(0)),
     ("segmenter/1", Trial::NewSegmenter(1)),
@@ -343,11 +339,7 @@ const PASSAGES: &[Row] = &[
     ),
 ];
 
-fn passages() -> &'static [Row] {
-    PASSAGES
-}
-
-const LINES: &[Row] = &[
+static LINES: [Row; 21] = [
     ("read-line/kinds", Trial::ReadLine(KINDS_LINE, Form::Kinds)),
     (
         "read-line/comment",
@@ -410,11 +402,7 @@ const LINES: &[Row] = &[
     ("mark-text/huge", Trial::OnText(HUGE, OnText::MarkText)),
 ];
 
-fn lines() -> &'static [Row] {
-    LINES
-}
-
-const PUSHES: &[Row] = &[
+static PUSHES: [Row; 10] = [
     (
         "push-line/return",
         Trial::OnText(RETURN, OnText::PushLine(Form::Kinds)),
@@ -451,11 +439,7 @@ const PUSHES: &[Row] = &[
     ("push-mark/kinds", Trial::PushMark(Mark::Must, Form::Kinds)),
 ];
 
-fn pushes() -> &'static [Row] {
-    PUSHES
-}
-
-const ENGINES: &[Row] = &[
+static ENGINES: [Row; 29] = [
     ("show/empty", Trial::OnText(EMPTY, OnText::Show(LIMIT))),
     (
         "show/two-words",
@@ -550,11 +534,7 @@ const ENGINES: &[Row] = &[
     ),
 ];
 
-fn engines() -> &'static [Row] {
-    ENGINES
-}
-
-const WORDS: &[Row] = &[
+static WORDS: [Row; 17] = [
     ("parse/none", Trial::Parse(&[])),
     ("parse/show", Trial::Parse(FILES_SHOW)),
     ("parse/show-profile-2", Trial::Parse(FILES_SHOW_SECOND)),
@@ -574,11 +554,7 @@ const WORDS: &[Row] = &[
     ("prepare/bad-row", Trial::Prepare(FILES_SHOW_BAD)),
 ];
 
-fn words() -> &'static [Row] {
-    WORDS
-}
-
-const RUNS: &[Row] = &[
+static RUNS: [Row; 13] = [
     ("run/none", Trial::Run(&[], TWO_WORDS)),
     ("run/show", Trial::Run(FILES_SHOW, TWO_WORDS)),
     ("run/show-long", Trial::Run(FILES_SHOW, LONG)),
@@ -603,11 +579,7 @@ const RUNS: &[Row] = &[
     ("run/wrong", Trial::Run(WRONG, EMPTY)),
 ];
 
-fn runs() -> &'static [Row] {
-    RUNS
-}
-
-const QUIET: &[Row] = &[
+static QUIET: [Row; 14] = [
     ("quiet/feed", Trial::Quiet(Quiet::Feed(LONG))),
     (
         "quiet/feed-ill-formed",
@@ -632,7 +604,3 @@ const QUIET: &[Row] = &[
     ),
     ("quiet/status", Trial::Quiet(Quiet::Status)),
 ];
-
-fn quiet() -> &'static [Row] {
-    QUIET
-}

@@ -1,12 +1,6 @@
 //! Readers that fail at each place, faults after which nothing comes any more, scalars over the edges of blocks, and the
 //! greatest sizes.
 
-use crate::calls::{
-    cut_source, has_next, next_passage, next_sizes, same, sample_cells, source_of, take_piece,
-};
-use crate::passages::check_spent;
-use crate::runs::{Run, whole};
-use crate::tasks::{LIMIT, Setting, Task};
 use lbk_feed::devices::RepeatedSource;
 use lbk_feed::{Device, Feed, FeedFault, Source};
 use lbk_notation::Form;
@@ -14,6 +8,11 @@ use lbk_passage::{PassageFault, Segmenter};
 use lbk_rules::{CellPages, Profile, Rule};
 use lbk_tests_rows::reads::SIZES;
 use lbk_tests_rows::replayed::FOUR_LINES;
+use lbk_tests_runs::calls::{
+    cut_source, has_next, next_passage, next_sizes, same, sample_cells, source_of, take_piece,
+};
+use lbk_tests_runs::runs::{Run, check_spent, whole};
+use lbk_tests_runs::tasks::{LIMIT, Setting, Task};
 use std::alloc::{AllocError, Global};
 use std::io::{self, Read};
 use std::process::Abort;
@@ -92,16 +91,18 @@ fn check_failed_reads(
     Ok(())
 }
 
+fn check_all_failed_reads(rt: &impl Abort, setting: Setting<'_>) -> Result<(), Fail> {
+    for (task, input, outputs) in &FAILED_READS {
+        check_failed_reads(rt, setting, whole(*task, input.as_bytes()), outputs)?;
+    }
+    Ok(())
+}
+
 // The last read is the one that would tell the end.
 #[test]
 fn failed_reads(rt: HostRuntime) -> Result<(), Fail> {
     let cells = sample_cells(rt.alloc())?;
-    let setting = Setting::new(rt.alloc(), &cells, Profile::First);
-    for (task, input, outputs) in &FAILED_READS {
-        let run = whole(*task, input.as_bytes());
-        check_failed_reads(&rt, setting, run, outputs)?;
-    }
-    Ok(())
+    check_all_failed_reads(&rt, Setting::new(rt.alloc(), &cells, Profile::First))
 }
 
 /// Takes all pieces up to a fault.
@@ -171,7 +172,9 @@ fn check_spent_segmenter<R: Source>(
 }
 
 /// A text, the read of one byte that fails, if one does, the limit of a paragraph, and the fault.
-static SPENT: [(&[u8], Option<u64>, u32, PassageFault); 3] = [
+type Spent = (&'static [u8], Option<u64>, u32, PassageFault);
+
+static SPENT: [Spent; 3] = [
     (b"a\nb\nc\nd", Some(4), LIMIT, PassageFault::Read),
     (
         b"a\nb\xFFc\nd",
@@ -187,19 +190,23 @@ static SPENT: [(&[u8], Option<u64>, u32, PassageFault); 3] = [
     ),
 ];
 
+fn check_spent_row(rt: &impl Abort, setting: Setting<'_>, row: &Spent) -> Result<(), PassageFault> {
+    let (text, failing, limit, fault) = *row;
+    let mut source = source_of(text, &[1], failing);
+    check_spent_segmenter(rt, Setting { limit, ..setting }, &mut source, fault)
+}
+
+fn check_all_spent(rt: &impl Abort, setting: Setting<'_>) -> Result<(), Fail> {
+    for row in &SPENT {
+        check_spent_row(rt, setting, row)?;
+    }
+    Ok(())
+}
+
 #[test]
 fn spent_segmenters(rt: HostRuntime) -> Result<(), Fail> {
     let cells = sample_cells(rt.alloc())?;
-    let setting = Setting::new(rt.alloc(), &cells, Profile::First);
-    for (text, failing, limit, fault) in &SPENT {
-        let mut source = source_of(text, &[1], *failing);
-        let limited = Setting {
-            limit: *limit,
-            ..setting
-        };
-        check_spent_segmenter(&rt, limited, &mut source, *fault)?;
-    }
-    Ok(())
+    check_all_spent(&rt, Setting::new(rt.alloc(), &cells, Profile::First))
 }
 
 /// A reader without an end: lines of 65,535 letters.
@@ -218,14 +225,17 @@ impl Read for Lines {
     }
 }
 
+fn check_lines(rt: &impl Abort, setting: Setting<'_>) -> Result<(), Fail> {
+    let mut lines = Device::new(Lines { column: 0 });
+    check_spent_segmenter(rt, setting, &mut lines, PassageFault::TextTooLong)?;
+    Ok(())
+}
+
 /// It takes more than a thousand million bytes, and so some seconds.
 #[test]
 fn segmenter_spent_by_too_long_a_text(rt: HostRuntime) -> Result<(), Fail> {
     let cells = sample_cells(rt.alloc())?;
-    let setting = Setting::new(rt.alloc(), &cells, Profile::First);
-    let mut lines = Device::new(Lines { column: 0 });
-    check_spent_segmenter(&rt, setting, &mut lines, PassageFault::TextTooLong)?;
-    Ok(())
+    check_lines(&rt, Setting::new(rt.alloc(), &cells, Profile::First))
 }
 
 /// The length of the next passage, if there is one.
@@ -272,16 +282,38 @@ fn check_sizes(
     Ok(())
 }
 
+/// As many letters, and these bytes behind them.
+fn text_behind(alloc: Global, n: usize, bytes: &[u8]) -> Result<Vec<u8>, AllocError> {
+    let mut text = vec![in alloc; b'a'; n]?;
+    text.extend_from_slice(bytes)?;
+    Ok(text)
+}
+
+/// The whole text is one passage, and it is ill-formed at `n` without its last byte or its last two.
+fn check_cut_off(
+    rt: &impl Abort,
+    setting: Setting<'_>,
+    text: &[u8],
+    n: usize,
+) -> Result<(), PassageFault> {
+    let fault = PassageFault::NotUtf8 { at: n as u64 };
+    for cut in [1, 2] {
+        let shorter = text.get(..n.saturating_add(cut)).unwrap_or(text);
+        check_sizes(rt, setting, shorter, Err(fault))?;
+    }
+    check_sizes(rt, setting, text, Ok(Some(n.saturating_add(3))))
+}
+
 /// A scalar of three bytes behind `n` others, cut off and whole.
 fn check_scalar_behind(rt: &impl Abort, setting: Setting<'_>, n: usize) -> Result<(), Fail> {
-    let mut text = vec![in setting.alloc; b'a'; n]?;
-    let fault = PassageFault::NotUtf8 { at: n as u64 };
-    text.push(0xE2)?;
-    check_sizes(rt, setting, &text, Err(fault))?;
-    text.push(0x82)?;
-    check_sizes(rt, setting, &text, Err(fault))?;
-    text.push(0xAC)?;
-    check_sizes(rt, setting, &text, Ok(Some(n.saturating_add(3))))?;
+    let text = text_behind(setting.alloc, n, b"\xE2\x82\xAC")?;
+    Ok(check_cut_off(rt, setting, &text, n)?)
+}
+
+fn check_scalars_behind(rt: &impl Abort, setting: Setting<'_>) -> Result<(), Fail> {
+    for n in 4090..=4100 {
+        check_scalar_behind(rt, setting, n)?;
+    }
     Ok(())
 }
 
@@ -289,11 +321,7 @@ fn check_scalar_behind(rt: &impl Abort, setting: Setting<'_>, n: usize) -> Resul
 #[test]
 fn scalars_over_a_block_edge(rt: HostRuntime) -> Result<(), Fail> {
     let cells = sample_cells(rt.alloc())?;
-    let setting = Setting::new(rt.alloc(), &cells, Profile::First);
-    for n in 4090..=4100 {
-        check_scalar_behind(&rt, setting, n)?;
-    }
-    Ok(())
+    check_scalars_behind(&rt, Setting::new(rt.alloc(), &cells, Profile::First))
 }
 
 /// Where the next passage begins, its length and the rule at its end, if there is one.
@@ -324,22 +352,23 @@ fn check_two(
     Ok(())
 }
 
-fn text_over_the_edge(alloc: Global) -> Result<Vec<u8>, AllocError> {
-    let mut text = vec![in alloc; b'a'; 4095]?;
-    text.extend_from_slice(b"\r\nb")?;
-    Ok(text)
+fn check_line_end(rt: &impl Abort, setting: Setting<'_>) -> Result<(), Fail> {
+    let text = text_behind(setting.alloc, 4095, b"\r\nb")?;
+    check_two_in_all_sizes(rt, setting, &text)
+}
+
+fn check_two_in_all_sizes(rt: &impl Abort, setting: Setting<'_>, text: &[u8]) -> Result<(), Fail> {
+    for size in SIZES {
+        check_two(rt, setting, text, size)?;
+    }
+    Ok(())
 }
 
 // CR ends a block and LF begins the next.
 #[test]
 fn line_end_over_a_block_edge(rt: HostRuntime) -> Result<(), Fail> {
     let cells = sample_cells(rt.alloc())?;
-    let setting = Setting::new(rt.alloc(), &cells, Profile::First);
-    let text = text_over_the_edge(rt.alloc())?;
-    for size in SIZES {
-        check_two(&rt, setting, &text, size)?;
-    }
-    Ok(())
+    check_line_end(&rt, Setting::new(rt.alloc(), &cells, Profile::First))
 }
 
 /// The one passage of as many bytes as a paragraph may have, which is one segment and one piece.
@@ -353,6 +382,14 @@ fn check_greatest(rt: &impl Abort, setting: Setting<'_>) -> Result<(), PassageFa
     Ok(())
 }
 
+fn check_round_the_greatest(rt: &impl Abort, setting: Setting<'_>) -> Result<(), Fail> {
+    check_greatest(rt, setting)?;
+    let mut longer = RepeatedSource::new(b'a', 16_777_217);
+    let fault = PassageFault::ParagraphTooLong { start: 0 };
+    check_spent_segmenter(rt, setting, &mut longer, fault)?;
+    Ok(())
+}
+
 // At the greatest limit, and one byte past it.
 #[test]
 fn greatest_passage(rt: HostRuntime) -> Result<(), Fail> {
@@ -361,9 +398,5 @@ fn greatest_passage(rt: HostRuntime) -> Result<(), Fail> {
         limit: 16_777_216,
         ..Setting::new(rt.alloc(), &cells, Profile::First)
     };
-    check_greatest(&rt, setting)?;
-    let mut longer = RepeatedSource::new(b'a', 16_777_217);
-    let fault = PassageFault::ParagraphTooLong { start: 0 };
-    check_spent_segmenter(&rt, setting, &mut longer, fault)?;
-    Ok(())
+    check_round_the_greatest(&rt, setting)
 }

@@ -1,11 +1,11 @@
 //! Runs of a task over bytes in memory, and what has to come of them.
 
-use crate::calls::{memory_sink, same, sample_cells, source_of};
+use crate::calls::{has_next, memory_sink, same, sample_cells, source_of};
 use crate::tasks::{End, ROOM, Setting, Task};
 use lbk_feed::Source;
 use lbk_feed::devices::MemorySink;
-use lbk_passage::PassageFault;
-use lbk_rules::Profile;
+use lbk_passage::{PassageFault, Segmenter};
+use lbk_rules::{CellPages, Profile};
 use std::alloc::{AllocError, Global};
 use std::process::Abort;
 use std::test::Fail;
@@ -149,4 +149,16 @@ pub fn check_refused(
         check_refused_text(rt, setting, task, row)?;
     }
     Ok(())
+}
+
+/// Calls three times more behind a fault.
+pub fn check_spent<R: Source>(
+    rt: &impl Abort,
+    segmenter: &mut Segmenter<'_, CellPages>,
+    reader: &mut R,
+) {
+    for _ in 0..3 {
+        let again = has_next(segmenter, reader);
+        same(rt, &again, &Err(PassageFault::Spent), &"a fault");
+    }
 }

@@ -1,14 +1,13 @@
 //! However the reads cut a worked text or test file, the passages, the output and the report are those of a single
 //! read: in two reads and in three at every place, and in one byte a read.
 
-use crate::calls::{same, sample_cells};
-use crate::runs::{Ran, Run, whole};
-use crate::segmented;
-use crate::tasks::{Setting, Task};
 use lbk_feed::Sink;
 use lbk_notation::Form;
 use lbk_rules::{CellPages, Profile};
-use lbk_tests_rows::{replayed, shown, texts};
+use lbk_tests_rows::{replayed, segmented, shown, texts};
+use lbk_tests_runs::calls::{same, sample_cells};
+use lbk_tests_runs::runs::{Ran, Run, whole};
+use lbk_tests_runs::tasks::{Setting, Task};
 use std::alloc::{AllocError, Global};
 use std::process::Abort;
 use std::test::Fail;
@@ -131,15 +130,18 @@ fn check_shown(rt: &impl Abort, alloc: Global, cells: &CellPages) -> Result<(), 
     check_texts(rt, alloc, cells, &shown::SECOND)
 }
 
+fn check_all_texts(rt: &impl Abort, alloc: Global, cells: &CellPages) -> Result<(), Fail> {
+    check_rules(rt, alloc, cells)?;
+    check_shown(rt, alloc, cells)?;
+    check_texts(rt, alloc, cells, &segmented::BOTH)?;
+    check_ill_formed(rt, alloc, cells)?;
+    Ok(())
+}
+
 #[test]
 fn texts(rt: HostRuntime) -> Result<(), Fail> {
-    let alloc = rt.alloc();
-    let cells = sample_cells(alloc)?;
-    check_rules(&rt, alloc, &cells)?;
-    check_shown(&rt, alloc, &cells)?;
-    check_texts(&rt, alloc, &cells, &segmented::BOTH)?;
-    check_ill_formed(&rt, alloc, &cells)?;
-    Ok(())
+    let cells = sample_cells(rt.alloc())?;
+    check_all_texts(&rt, rt.alloc(), &cells)
 }
 
 /// Test files beside those that are replayed elsewhere: the front of a byte order mark, which is a bad line; one
@@ -171,12 +173,15 @@ fn check_files(rt: &impl Abort, alloc: Global, cells: &CellPages) -> Result<(), 
     check_both(rt, alloc, cells, &OF_FILES, replayed::QUOTED.as_bytes())
 }
 
+fn check_all_files(rt: &impl Abort, alloc: Global, cells: &CellPages) -> Result<(), Fail> {
+    check_files(rt, alloc, cells)?;
+    check_rows(rt, alloc, cells, &replayed::PLAIN)?;
+    check_rows(rt, alloc, cells, &replayed::KINDS)?;
+    Ok(())
+}
+
 #[test]
 fn files(rt: HostRuntime) -> Result<(), Fail> {
-    let alloc = rt.alloc();
-    let cells = sample_cells(alloc)?;
-    check_files(&rt, alloc, &cells)?;
-    check_rows(&rt, alloc, &cells, &replayed::PLAIN)?;
-    check_rows(&rt, alloc, &cells, &replayed::KINDS)?;
-    Ok(())
+    let cells = sample_cells(rt.alloc())?;
+    check_all_files(&rt, rt.alloc(), &cells)
 }

@@ -1,12 +1,12 @@
 //! A writer that stops: for each n below the length of the output exactly the first n bytes went out, and the answer is
 //! a failed write.
 
-use crate::calls::{cut_source, memory_sink, same, sample_cells};
-use crate::tasks::{End, Setting, Task};
 use lbk_feed::{Device, Sink};
 use lbk_notation::Form;
 use lbk_rules::Profile;
 use lbk_tests_rows::replayed::{FOUR_LINES, FOUR_LINES_TEXT};
+use lbk_tests_runs::calls::{cut_source, memory_sink, same, sample_cells};
+use lbk_tests_runs::tasks::{End, Setting, Task};
 use std::alloc::AllocError;
 use std::process::Abort;
 use std::test::Fail;
@@ -74,15 +74,18 @@ fn check_all_sinks(rt: &impl Abort, setting: Setting<'_>, row: Row) -> Result<()
     Ok(())
 }
 
+fn check_into_sinks(rt: &impl Abort, setting: Setting<'_>) -> Result<(), Fail> {
+    for row in &RUNS {
+        check_all_sinks(rt, setting, *row)?;
+    }
+    Ok(())
+}
+
 // A write takes one byte, a few, or all, until n bytes were taken.
 #[test]
 fn sinks(rt: HostRuntime) -> Result<(), Fail> {
     let cells = sample_cells(rt.alloc())?;
-    let setting = Setting::new(rt.alloc(), &cells, Profile::First);
-    for row in &RUNS {
-        check_all_sinks(&rt, setting, *row)?;
-    }
-    Ok(())
+    check_into_sinks(&rt, Setting::new(rt.alloc(), &cells, Profile::First))
 }
 
 fn check_writer(
@@ -108,13 +111,16 @@ fn check_writers(rt: &impl Abort, setting: Setting<'_>, row: Row) -> Result<(), 
     Ok(())
 }
 
+fn check_into_writers(rt: &impl Abort, setting: Setting<'_>) -> Result<(), Fail> {
+    for row in &RUNS {
+        check_writers(rt, setting, *row)?;
+    }
+    Ok(())
+}
+
 // A writer of std over n bytes takes no byte once they are full, which is no failure of its own.
 #[test]
 fn writers_of_std(rt: HostRuntime) -> Result<(), Fail> {
     let cells = sample_cells(rt.alloc())?;
-    let setting = Setting::new(rt.alloc(), &cells, Profile::First);
-    for row in &RUNS {
-        check_writers(&rt, setting, *row)?;
-    }
-    Ok(())
+    check_into_writers(&rt, Setting::new(rt.alloc(), &cells, Profile::First))
 }

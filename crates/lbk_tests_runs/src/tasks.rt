@@ -1,7 +1,7 @@
 //! What reads a text or a test file and writes, by a name that a table can hold.
 
 use crate::calls::{mark_to, replay_to, segment_to, show_to, write_line_to};
-use crate::segmented::told_next;
+use crate::told::told_next;
 use lbk_cmd::CmdFault;
 use lbk_feed::{Sink, Source};
 use lbk_notation::{Form, ReplayFault, Report};

@@ -1,0 +1,8 @@
+//! What the crates of tests over texts and test files share: tasks by name, runs of them over bytes in memory, passages as
+//! tests tell them, and calls without their contracts.
+#![tactic(auto)]
+
+pub mod calls;
+pub mod runs;
+pub mod tasks;
+pub mod told;
