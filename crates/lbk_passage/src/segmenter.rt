@@ -10,7 +10,8 @@ use crate::faults::{LIMIT_MAX, PassageFault};
 use crate::paragraph::Paragraph;
 use crate::passage::{Passage, Piece, Segment};
 use crate::pieces::cut_words;
-use crate::segments::cut_lines;
+use crate::segments::{BLOCK, NO_BREAKS, cut_lines};
+use lbk_breaks::Break;
 use lbk_feed::Source;
 use lbk_rules::{CellSource, Profile, Verdict};
 use std::alloc::{AllocError, Global};
@@ -32,6 +33,8 @@ pub struct Segmenter<'a, C: CellSource> {
     cells: &'a C,
     profile: Profile,
     paragraph: Paragraph,
+    /// Where breaks are found into.
+    block: [Break; BLOCK],
     segments: Vec<Segment>,
     pieces: Vec<Piece>,
     ghost whole: { paragraph.is_held ≡ true → IsWhole (C.cell_of cells.now) paragraph },
@@ -68,6 +71,7 @@ impl<'a, C: CellSource> Segmenter<'a, C> {
             cells,
             profile,
             paragraph,
+            block: NO_BREAKS,
             segments: Vec::new(alloc),
             pieces: Vec::new(alloc),
         })
@@ -101,7 +105,9 @@ impl<'a, C: CellSource> Segmenter<'a, C> {
             return Ok(None);
         };
         let text = self.paragraph.text();
-        if cut_lines(self.cells, self.profile, text, end, &mut self.segments).is_err() {
+        let block = &mut self.block;
+        let segments = &mut self.segments;
+        if cut_lines(self.cells, self.profile, text, end, block, segments).is_err() {
             return Err(PassageFault::Memory);
         }
         if cut_words(self.cells, text, &mut self.pieces).is_err() {
