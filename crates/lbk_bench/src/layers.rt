@@ -73,7 +73,7 @@ pub const LAYERS: [Layer; 17] = [
 const BLOCK: usize = 1024;
 
 /// How many it holds in the segmenter.
-const SEGMENTS: usize = 16;
+const SEGMENTS: usize = 64;
 
 const NO_BREAK: Break = Break {
     at: 0,
@@ -215,24 +215,29 @@ fn by_breaks(cells: &CellPages, profile: Profile, text: &str) -> u64 {
 /// The loop of the segmenter, over each passage.
 fn segments(alloc: Global, material: &Material) -> Result<u64> {
     let mut segments = Vec::new(alloc);
+    let mut block = [NO_BREAK; SEGMENTS];
     let mut count = 0u64;
     for (start, end) in &material.passages {
         let Some(text) = material.text.get(*start..*end) else {
             bail!("a passage that is not of the text");
         };
         segments.clear();
-        cut(&material.cells, text, &mut segments)?;
+        cut(&material.cells, text, &mut block, &mut segments)?;
         count = count.wrapping_add(segments.len() as u64);
     }
     Ok(count)
 }
 
-fn cut(cells: &CellPages, text: &str, segments: &mut Vec<Segment>) -> Result<()> {
+fn cut(
+    cells: &CellPages,
+    text: &str,
+    block: &mut [Break; SEGMENTS],
+    segments: &mut Vec<Segment>,
+) -> Result<()> {
     let mut breaks = Breaks::new(cells, text, Profile::First);
-    let mut block = [NO_BREAK; SEGMENTS];
     let mut start = 0;
     for _ in 0..u64::MAX {
-        let some = breaks.fill(&mut block);
+        let some = breaks.fill(block);
         if some == 0 {
             break;
         }

@@ -7,6 +7,7 @@ mod ending;
 mod engine;
 mod faults;
 pub mod laws;
+mod line;
 mod segmented;
 mod shown;
 mod signed;

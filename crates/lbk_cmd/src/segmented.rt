@@ -1,10 +1,11 @@
 //! The lines that `segment` writes of a passage.
 
-ghost use Rattle.std.specs.Prelude.{◌≡◌, ◌+◌, ◌<◌, ◌≤◌, ◌^◌, ◌++◌, ◌∷◌, [], length, decimal, OnOk};
+ghost use Rattle.std.specs.Prelude.{◌≡◌, ◌+◌, ◌<◌, ◌≤◌, ◌^◌, ◌++◌, ◌∷◌, [], length, OnOk};
 ghost use Rattle.std.specs.List.{flat_map};
+ghost use Rattle.lbk_cmd.specs.Line.{written};
 ghost use Rattle.lbk_cmd.specs.Segment.{kind_name, part, passage_lines, segment_line, word_line};
 
-use itoa::Buffer;
+use crate::line::Line;
 use lbk_passage::{Passage, Piece, Segment};
 use lbk_rules::Kind;
 use std::alloc::AllocError;
@@ -18,8 +19,9 @@ pub fn push_segmented(out: &mut Vec<u8>, passage: &Passage<'_>) -> Result<(), Al
         (length passage.now.text.now) passage.now.segments.now passage.now.pieces.now) }
 {
     let start = passage.start;
-    push_part(out, b'P', start, start + passage.text.len() as u64)?;
-    out.push(b'\n')?;
+    let mut line = Line::new();
+    put_part(&mut line, b'P', start, start + passage.text.len() as u64);
+    out.extend_from_slice(line.as_slice())?;
     push_segments(out, start, passage.segments)?;
     push_words(out, start, passage.pieces)?;
     Ok(())
@@ -49,12 +51,14 @@ fn push_segment(out: &mut Vec<u8>, start: u64, segment: &Segment) -> Result<(), 
     requires { start ≤ 2 ^ 62 }
     ensures { OnOk result (out.new.items ≡ out.old.items ++ segment_line start segment.now) }
 {
+    let mut line = Line::new();
+    line.put_text(segment.rule.label());
+    line.put_byte(b' ');
+    line.put_text(kind_name(segment.kind));
+    line.put_byte(b' ');
     let from = start + u64::from(segment.start);
-    push_part(out, b'S', from, start + u64::from(segment.end))?;
-    push_word_of(out, kind_name(segment.kind))?;
-    push_word_of(out, segment.rule.label())?;
-    out.push(b'\n')?;
-    Ok(())
+    put_part(&mut line, b'S', from, start + u64::from(segment.end));
+    out.extend_from_slice(line.as_slice())
 }
 
 /// A piece that is no word has no line.
@@ -65,34 +69,22 @@ fn push_word(out: &mut Vec<u8>, start: u64, piece: &Piece) -> Result<(), AllocEr
     if !piece.word {
         return Ok(());
     }
+    let mut line = Line::new();
     let from = start + u64::from(piece.start);
-    push_part(out, b'W', from, start + u64::from(piece.end))?;
-    out.push(b'\n')?;
-    Ok(())
+    put_part(&mut line, b'W', from, start + u64::from(piece.end));
+    out.extend_from_slice(line.as_slice())
 }
 
-fn push_part(out: &mut Vec<u8>, letter: u8, start: u64, end: u64) -> Result<(), AllocError>
-    ensures { OnOk result (out.new.items ≡ out.old.items ++ part (letter ∷ []) start end) }
+/// Puts the letter of a line and two offsets in front.
+fn put_part(line: &mut Line, letter: u8, start: u64, end: u64)
+    requires { 43 ≤ line.old.start }
+    ensures { written line.new ≡ part (letter ∷ []) start end ++ written line.old }
 {
-    out.push(letter)?;
-    push_number(out, start)?;
-    push_number(out, end)
-}
-
-/// A space and a number.
-fn push_number(out: &mut Vec<u8>, number: u64) -> Result<(), AllocError>
-    ensures { OnOk result (out.new.items ≡ out.old.items ++ (32 ∷ decimal number)) }
-{
-    let mut buffer = Buffer::new();
-    push_word_of(out, buffer.format(number))
-}
-
-/// A space and a text.
-fn push_word_of(out: &mut Vec<u8>, text: &str) -> Result<(), AllocError>
-    ensures { OnOk result (out.new.items ≡ out.old.items ++ (32 ∷ text.now)) }
-{
-    out.push(b' ')?;
-    out.extend_from_slice(text.as_bytes())
+    line.put_number(end);
+    line.put_byte(b' ');
+    line.put_number(start);
+    line.put_byte(b' ');
+    line.put_byte(letter);
 }
 
 fn kind_name(kind: Kind) -> &'static str

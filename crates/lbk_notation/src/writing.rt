@@ -1,6 +1,6 @@
 //! Writing a line of the notation.
 
-ghost use Rattle.std.specs.Prelude.{◌≡◌, ◌+◌, ◌<◌, ◌++◌, ◌∷◌, Option, Some, length, IfOk, OnOk, EachIndex, slice_index};
+ghost use Rattle.std.specs.Prelude.{◌≡◌, ◌+◌, ◌/◌, ◌%◌, ◌<◌, ◌≤◌, ◌++◌, ◌∷◌, [], Option, Some, length, IfOk, OnOk, EachIndex, slice_index};
 ghost use Rattle.std.specs.Char.{IsScalar};
 ghost use Rattle.lbk_notation.specs.Grammar.{IsLine, digit_byte, mark_bytes};
 ghost use Rattle.lbk_notation.specs.Line.{Line};
@@ -55,9 +55,15 @@ pub fn push_scalar(
     ensures { OnOk result (text.new.items
         ≡ text.old.items ++ (32 ∷ (token scalar ++ (32 ∷ mark_bytes (shown form mark))))) }
 {
-    text.push(b' ')?;
-    push_token(text, scalar)?;
-    text.push(b' ')?;
+    let code = u32::from(scalar);
+    if code < 0x1_0000 {
+        let [first, second, third, last] = four_digits(code);
+        text.extend_from_slice(&[b' ', first, second, third, last, b' '])?;
+    } else {
+        text.push(b' ')?;
+        push_long_token(text, code)?;
+        text.push(b' ')?;
+    }
     push_mark(text, mark, form)
 }
 
@@ -65,30 +71,37 @@ pub fn push_scalar(
 pub fn push_mark(text: &mut Vec<u8>, mark: Mark, form: Form) -> Result<(), AllocError>
     ensures { OnOk result (text.new.items ≡ text.old.items ++ mark_bytes (shown form mark)) }
 {
-    let bytes = match (form, mark) {
-        (_, Mark::No) => "×",
-        (Form::Kinds, Mark::Must) => "!",
-        (Form::Plain, Mark::Must) | (_, Mark::May) => "÷",
-    };
-    text.extend_from_slice(bytes.as_bytes())
+    // Each has a call of its own, which knows how many bytes it puts.
+    match (form, mark) {
+        (_, Mark::No) => text.extend_from_slice("×".as_bytes()),
+        (Form::Kinds, Mark::Must) => text.extend_from_slice("!".as_bytes()),
+        (Form::Plain, Mark::Must) | (_, Mark::May) => text.extend_from_slice("÷".as_bytes()),
+    }
 }
 
-/// Puts a scalar's token at the end of the text: four hex digits, or five or six where it needs them.
-fn push_token(text: &mut Vec<u8>, scalar: char) -> Result<(), AllocError>
-    ensures { OnOk result (text.new.items ≡ text.old.items ++ token scalar) }
+/// Puts the token of a scalar that four hex digits do not tell at the end of the text: five, or six where it needs them.
+fn push_long_token(text: &mut Vec<u8>, code: u32) -> Result<(), AllocError>
+    requires { (0x1_0000 ≤ code) × (code < 0x11_0000) }
+    ensures { OnOk result (text.new.items ≡ text.old.items ++ token code) }
 {
-    let code = u32::from(scalar);
     if code >= 0x10_0000 {
         text.push(digit_byte(code / 0x10_0000))?;
     }
-    if code >= 0x1_0000 {
-        text.push(digit_byte(code / 0x1_0000 % 16))?;
-    }
-    text.push(digit_byte(code / 0x1000 % 16))?;
-    text.push(digit_byte(code / 0x100 % 16))?;
-    text.push(digit_byte(code / 0x10 % 16))?;
-    text.push(digit_byte(code % 16))?;
-    Ok(())
+    text.push(digit_byte(code / 0x1_0000 % 16))?;
+    text.extend_from_slice(&four_digits(code))
+}
+
+/// The last four hex digits of a number.
+fn four_digits(code: u32) -> [u8; 4]
+    ensures { result ≡ digit_byte (code / 0x1000 % 16) ∷ digit_byte (code / 0x100 % 16) ∷ digit_byte (code / 0x10 % 16)
+        ∷ digit_byte (code % 16) ∷ [] }
+{
+    [
+        digit_byte(code / 0x1000 % 16),
+        digit_byte(code / 0x100 % 16),
+        digit_byte(code / 0x10 % 16),
+        digit_byte(code % 16),
+    ]
 }
 
 /// The upper-case hex digit of a number below 16.

@@ -12,5 +12,6 @@ pub mod Running
 pub mod Finding
 pub mod Staying
 pub mod Taking
+pub mod Passing
 pub mod SegmentLemmas
 pub mod Together

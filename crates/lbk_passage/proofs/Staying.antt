@@ -21,25 +21,6 @@ module _ (cell : ℕ → Cell) where
       → ends_at (last_class cell last xs) (cell c).class ≡ false → stays cell last (xs ++ c ∷ []) ≡ true
   stays-snoc last xs c a ends = stays-append last xs (c ∷ []) a (and-true _ _ (ap not ends) refl)
 
--- the turn of a loop that takes a list one after another
-pub record IsTurn (all taken : List ℕ) (x : ℕ) : Type 0 where
-  pub rest : List ℕ
-  pub is : all ≡ taken ++ x ∷ rest
-
-get_or-past : (xs rest : List ℕ) (r d : ℕ) → get_or (xs ++ r ∷ rest) (length xs) d ≡ r
-get_or-past [] rest r d = refl
-get_or-past (x ∷ xs) rest r d = get_or-past xs rest r d
-
-pub turn : (all taken : List ℕ) (x : ℕ) → ((rest : List ℕ) × (taken ++ rest ≡ all)) → (length taken < length all) × (x ≡ get_or all (length taken) x)
-    → IsTurn all taken x
-turn all taken x front here = by front.0 front.1
-  where
-    by : (rest : List ℕ) → taken ++ rest ≡ all → IsTurn all taken x
-    by [] is = absurd (omega (arith, ap length (sym (append-nil taken) ∙ is), here.0))
-    by (r ∷ rest) is =
-        let same : x ≡ r = here.1 ∙ ap (λ l. get_or l (length taken) x) (sym is) ∙ get_or-past taken rest r x in
-        record { rest = rest; is = sym is ∙ ap (λ y. taken ++ y ∷ rest) (sym same) }
-
 pub length-encode_more : (xs : List ℕ) (c : ℕ) → length (encode_utf8_all (xs ++ c ∷ [])) ≡ length (encode_utf8_all xs) + length (encode_utf8 c)
 length-encode_more xs c =
     ap length (encodes-append xs (c ∷ [])) ∙ length-append (encode_utf8_all xs) (encode_utf8_all (c ∷ [])) ∙ ap (λ l. length (encode_utf8_all xs) + length l) (append-nil (encode_utf8 c))

@@ -21,7 +21,7 @@ pub fn ends_at(last: Option<Class>, next: Class) -> bool
 
 /// Whether a line must end after a scalar of this class, but for a line feed after a carriage return.
 #[tactic(auto, unfolding(lbk_rules::specs::Classes::is))]
-fn ends_line(class: Class) -> bool
+pub fn ends_line(class: Class) -> bool
     ensures { result ≡ ends_line class }
 {
     matches!(

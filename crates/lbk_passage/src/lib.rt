@@ -10,6 +10,7 @@ pub mod laws;
 mod paragraph;
 mod passage;
 mod pieces;
+mod quiet;
 mod reach;
 mod segmenter;
 mod segments;

@@ -1,9 +1,11 @@
 //! How far a paragraph reaches into a piece of text.
 
-ghost use Rattle.std.specs.Prelude.{◌≡◌, ◌≤◌, IsUtf8, length};
-ghost use Rattle.lbk_rules.specs.declared.cells.Cell.{Cell};
+ghost use Rattle.std.specs.Prelude.{◌≡◌, ◌≤◌, Option};
+ghost use Rattle.lbk_rules.specs.declared.classes.Class.{Class};
+ghost use Rattle.lbk_passage.specs.Quiet.{AreQuiet, Passes, class_behind, is_end};
 
-use crate::ends::ends_at;
+use crate::ends::{ends_at, ends_line};
+use crate::quiet::QuietBytes;
 use lbk_rules::{CellSource, Class};
 
 /// Why a paragraph reaches no further into a piece.
@@ -27,34 +29,109 @@ pub struct Reach {
 
 ghost use Rattle.lbk_passage.specs.Gathering.{Reaches};
 
+/// A place in a piece up to which all belongs to a paragraph, and the class of the scalar before it.
+#[derive(Clone, Copy)]
+struct Place {
+    len: usize,
+    last: Option<Class>,
+}
+
+impl Place {
+    fn stops(self, stop: Stop) -> Reach
+        ensures { (result.len ≡ self.len) × (result.last ≡ self.last) × (result.stop ≡ stop) }
+    {
+        Reach {
+            len: self.len,
+            last: self.last,
+            stop,
+        }
+    }
+}
+
 /// How far a paragraph that stands at a scalar of class `last` reaches into `piece`, where `room` bytes are left.
-pub fn reach_in<C: CellSource>(cells: &C, last: Option<Class>, piece: &str, room: usize) -> Reach
+pub fn reach_in<C: CellSource>(
+    cells: &C,
+    quiet: &QuietBytes,
+    last: Option<Class>,
+    piece: &str,
+    room: usize,
+) -> Reach
+    requires { AreQuiet (C.cell_of cells.now) quiet.now.is_quiet }
     ensures { Reaches (C.cell_of cells.now) last piece.now room result }
 {
-    let mut last = last;
-    let mut len = 0;
-    for c in piece.chars() {
+    let mut here = Place { len: 0, last };
+    loop {
+        here = pass_quiet(cells, quiet, piece, room, here);
+        let mut scalars = piece[here.len..].chars();
+        let Some(c) = scalars.next() else {
+            return here.stops(Stop::PieceEnds);
+        };
         let class = cells.cell(c).class;
-        if ends_at(last, class) {
-            return Reach {
-                len,
-                last,
-                stop: Stop::LineEnds,
-            };
+        if ends_at(here.last, class) {
+            return here.stops(Stop::LineEnds);
         }
-        if c.len_utf8() > room - len {
-            return Reach {
-                len,
-                last,
-                stop: Stop::NoRoom,
-            };
+        let next = piece.len() - scalars.as_str().len();
+        if next > room {
+            return here.stops(Stop::NoRoom);
         }
-        len += c.len_utf8();
-        last = Some(class);
+        here = Place {
+            len: next,
+            last: Some(class),
+        };
     }
-    Reach {
+}
+
+/// Passes over scalars of one byte, where no line must end behind any, nor behind the one before them.
+#[inline(always)]
+fn pass_quiet<C: CellSource>(
+    cells: &C,
+    quiet: &QuietBytes,
+    piece: &str,
+    room: usize,
+    here: Place,
+) -> Place
+    requires { AreQuiet (C.cell_of cells.now) quiet.now.is_quiet }
+    ensures passes { (first : Option Class) → Passes (C.cell_of cells.now) first piece.now room here.len here.last
+        → Passes (C.cell_of cells.now) first piece.now room result.len result.last }
+    ensures onward { here.len ≤ result.len }
+{
+    if is_end(here.last) {
+        return here;
+    }
+    let bytes = piece.as_bytes();
+    let most = bytes.len().min(room);
+    let mut len = here.len;
+    let mut seen = None;
+    while len < most {
+        let byte = bytes[len];
+        if !quiet.has(byte) {
+            break;
+        }
+        seen = Some(byte);
+        len += 1;
+    }
+    Place {
         len,
-        last,
-        stop: Stop::PieceEnds,
+        last: class_behind(cells, here.last, seen),
+    }
+}
+
+/// Whether a line must end behind a scalar of this class, if there is one, but for a line feed.
+fn is_end(last: Option<Class>) -> bool
+    ensures { result ≡ is_end last }
+{
+    match last {
+        None => false,
+        Some(class) => ends_line(class),
+    }
+}
+
+/// The class of the byte seen last, or `last` where none was.
+fn class_behind<C: CellSource>(cells: &C, last: Option<Class>, seen: Option<u8>) -> Option<Class>
+    ensures { result ≡ class_behind (C.cell_of cells.now) last seen }
+{
+    match seen {
+        None => last,
+        Some(byte) => Some(cells.cell(char::from(byte)).class),
     }
 }

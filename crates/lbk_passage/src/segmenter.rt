@@ -4,13 +4,16 @@ ghost use Rattle.std.specs.Prelude.{◌≡◌, [], ◌≤◌, ◌<◌, ◌+◌, 
 ghost use Rattle.std.specs.Borrow.{sem};
 ghost use Rattle.std.specs.Io.BufRead.{Rests};
 ghost use Rattle.std.specs.Str.{chars};
+ghost use Rattle.lbk_passage.specs.Quiet.{AreQuiet};
 ghost use Rattle.lbk_passage.specs.Stays.{IsWhole};
 
 use crate::faults::{LIMIT_MAX, PassageFault};
 use crate::paragraph::Paragraph;
 use crate::passage::{Passage, Piece, Segment};
 use crate::pieces::cut_words;
-use crate::segments::cut_lines;
+use crate::quiet::QuietBytes;
+use crate::segments::{BLOCK, NO_BREAKS, cut_lines};
+use lbk_breaks::Break;
 use lbk_feed::Source;
 use lbk_rules::{CellSource, Profile, Verdict};
 use std::alloc::{AllocError, Global};
@@ -31,9 +34,13 @@ use std::alloc::{AllocError, Global};
 pub struct Segmenter<'a, C: CellSource> {
     cells: &'a C,
     profile: Profile,
+    quiet: QuietBytes,
     paragraph: Paragraph,
+    /// Where breaks are found into.
+    block: [Break; BLOCK],
     segments: Vec<Segment>,
     pieces: Vec<Piece>,
+    ghost told: { AreQuiet (C.cell_of cells.now) quiet.is_quiet },
     ghost whole: { paragraph.is_held ≡ true → IsWhole (C.cell_of cells.now) paragraph },
 }
 
@@ -67,7 +74,9 @@ impl<'a, C: CellSource> Segmenter<'a, C> {
         Ok(Segmenter {
             cells,
             profile,
+            quiet: QuietBytes::of(cells),
             paragraph,
+            block: NO_BREAKS,
             segments: Vec::new(alloc),
             pieces: Vec::new(alloc),
         })
@@ -97,11 +106,13 @@ impl<'a, C: CellSource> Segmenter<'a, C> {
         // `Read` is the answer exactly where a read failed.
         ensures failures { R.failure_count reader.new ≡ failures_with (R.failure_count reader.old) (fault_in result) }
     {
-        let Some(end) = self.paragraph.fill(reader, self.cells)? else {
+        let Some(end) = self.paragraph.fill(reader, self.cells, &self.quiet)? else {
             return Ok(None);
         };
         let text = self.paragraph.text();
-        if cut_lines(self.cells, self.profile, text, end, &mut self.segments).is_err() {
+        let block = &mut self.block;
+        let segments = &mut self.segments;
+        if cut_lines(self.cells, self.profile, text, end, block, segments).is_err() {
             return Err(PassageFault::Memory);
         }
         if cut_words(self.cells, text, &mut self.pieces).is_err() {

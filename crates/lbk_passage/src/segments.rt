@@ -14,21 +14,24 @@ use lbk_rules::{CellSource, Kind, Profile, Rule, Verdict};
 use std::alloc::AllocError;
 
 /// How many breaks are found at a time.
-const BLOCK: usize = 16;
+pub(crate) const BLOCK: usize = 64;
 
-const NO_BREAK: Break = Break {
+/// A block that nothing was found into. It is filled again and again, since to make one costs as much as some breaks do.
+pub(crate) const NO_BREAKS: [Break; BLOCK] = [Break {
     at: 0,
     kind: Kind::No,
     rule: Rule::Lb31,
-};
+}; BLOCK];
 
 /// Writes the segments of a passage in place of what the list held: those of its text alone, the last with the
-/// verdict `end` (UAX #14, section 6). Where memory could not grow the list holds some of them.
+/// verdict `end` (UAX #14, section 6). What the block held and holds is of no account. Where memory could not grow the
+/// list holds some of them.
 pub fn cut_lines<C: CellSource>(
     cells: &C,
     profile: Profile,
     text: &str,
     end: Verdict,
+    block: &mut [Break; BLOCK],
     segments: &mut Vec<Segment>,
 ) -> Result<(), AllocError>
     requires { length text.now < 2 ^ 32 }
@@ -36,7 +39,7 @@ pub fn cut_lines<C: CellSource>(
         ≡ segments_of (ended end (marks profile (C.cell_of cells.now) (chars text.now)))) }
 {
     segments.clear();
-    cut_alone(cells, profile, text, segments)?;
+    cut_alone(cells, profile, text, block, segments)?;
     match segments.pop() {
         None => Ok(()),
         Some(last) => push_ended(segments, last, end),
@@ -62,6 +65,7 @@ fn cut_alone<C: CellSource>(
     cells: &C,
     profile: Profile,
     text: &str,
+    block: &mut [Break; BLOCK],
     segments: &mut Vec<Segment>,
 ) -> Result<(), AllocError>
     requires { length text.now < 2 ^ 32 }
@@ -69,10 +73,9 @@ fn cut_alone<C: CellSource>(
         ≡ segments.old.items ++ cut_at 0 (breaks profile (C.cell_of cells.now) (chars text.now))) }
 {
     let mut breaks = Breaks::new(cells, text, profile);
-    let mut block = [NO_BREAK; BLOCK];
     let mut start = 0;
     loop {
-        let count = breaks.fill(&mut block);
+        let count = breaks.fill(block);
         if count == 0 {
             return Ok(());
         }

@@ -1,86 +1,72 @@
-use Rattle.std.proofs.Common.{◌≡◌, Some, false, ◌∷◌, [], refl, sym, ap, ◌∙◌, arith, append_assoc, append-nil}
-use Rattle.std.specs.Str.{chars}
-use Rattle.std.proofs.lemmas.List.{map-id}
-use Rattle.std.proofs.lemmas.Str.{length-encode}
-use Rattle.std.proofs.lemmas.Iterator.{YieldsList-from_chars}
-use Rattle.std.proofs.lemmas.Iterator.Consumers.{YieldsList-turn, YieldsList-end}
-use Rattle.lbk_passage.specs.Stays.{ends_at, last_class}
-use Rattle.lbk_passage.proofs.Staying.{IsTurn, turn, stays-snoc, last_class-append, length-encode_more}
+use Rattle.std.proofs.Common.{◌≡◌, ◌+◌, ◌++◌, ◌<◌, false, true, [], length, drop, encode_utf8, chars, sym, ap, ◌∙◌, arith}
+use Rattle.std.proofs.lemmas.List.{nil_from_length}
+use Rattle.std.proofs.lemmas.Str.{chars-nil}
+use Rattle.lbk_breaks.proofs.FillingLemmas.{reads}
+use Rattle.lbk_passage.specs.Stays.{ends_at}
+use Rattle.lbk_passage.proofs.Passing.{Passes-none, Passes-more, Passes-stops}
 use Rattle.lbk_passage.proofs.reach.reach_in.Goals as goal
+
+pub loop-c-init : goal.loop-c-init
+loop-c-init g c = Passes-none (g.C.CellSource.cell_of c.args.cells.now) c.args.last c.args.piece.now c.args.room c.utf8.piece
+
+pub range_from-requires : goal.range_from-requires
+range_from-requires g c = λ _. (c.pass_quiet-here.ensures.passes c.args.last c.loop-c.invariant).place
+
+pub returns-in_default : goal.returns-in_default
+returns-in_default g c =
+    let here = c.pass_quiet-here.result in
+    let piece = c.args.piece.now in
+    let empty : length (drop here.len piece) ≡ 0 =
+    ap length (sym (c.chars-scalars.ensures.rest ∙ c.range_from.ensures.value)) ∙ c.in_default.ensures.steps.0.0 in
+    let none : chars (drop here.len piece) ≡ [] = ap chars (nil_from_length (drop here.len piece) empty) ∙ chars-nil in
+    Passes-stops (g.C.CellSource.cell_of c.args.cells.now) c.args.last piece c.args.room c.utf8.piece here.len here.last c.stops.result
+    (c.pass_quiet-here.ensures.passes c.args.last c.loop-c.invariant) (c.stops.ensures.0, c.stops.ensures.1)
+    (rw c.stops.ensures.2 none)
 
 pub returns-then-ends_at : goal.returns-then-ends_at
 returns-then-ends_at g c =
-    let t : IsTurn (chars c.args.piece.now) c.loop-c.yielded c.in-Some.c =
-    turn (chars c.args.piece.now) c.loop-c.yielded c.in-Some.c c.loop-c.invariant.all
-    (YieldsList-turn (YieldsList-from_chars c.args.piece.now c.utf8.piece cc) c.loop-c.yielded _ c.loop-c.yielded_by _ _ c.in-Some.c c.in-Some.is c.next.ensures.steps) in
-    record {
-      taken = c.loop-c.yielded;
-      rest = c.in-Some.c ∷ t.rest;
-      all = t.is;
-      len = c.loop-c.invariant.len;
-      within = c.loop-c.invariant.within;
-      none_ends = c.loop-c.invariant.none_ends;
-      last_is = c.loop-c.invariant.last_is;
-      stop = (
-        c.in-Some.c,
-        t.rest,
-        refl,
-        ap (λ k. ends_at c.loop-c.last k.class) (sym c.cell-class.ensures) ∙ sym c.ends_at.ensures ∙ c.if-ends_at.true,
-      );
-    }
+    let cell = g.C.CellSource.cell_of c.args.cells.now in
+    let here = c.pass_quiet-here.result in
+    let piece = c.args.piece.now in
+    let passes = c.pass_quiet-here.ensures.passes c.args.last c.loop-c.invariant in
+    let scalar = c.in-Some.c in
+    let more = c.next.new.self.rest.now in
+    let splits : drop here.len piece ≡ encode_utf8 scalar ++ more =
+    sym (c.chars-scalars.ensures.rest ∙ c.range_from.ensures.value) ∙ c.in-Some.ensures.steps.0 in
+    let r = reads piece more here.len scalar c.utf8.piece passes.place splits in
+    let ends : ends_at here.last (cell scalar).class ≡ true =
+    ap (λ k. ends_at here.last k.class) (sym c.cell-class.ensures) ∙ sym c.ends_at.ensures ∙ c.if-ends_at.true in
+    Passes-stops cell c.args.last piece c.args.room c.utf8.piece here.len here.last c.stops-then-ends_at.result passes
+    (c.stops-then-ends_at.ensures.0, c.stops-then-ends_at.ensures.1) (rw c.stops-then-ends_at.ensures.2 (scalar, chars more, r.begins, ends))
 
-pub returns-then-len_utf8-room : goal.returns-then-len_utf8-room
-returns-then-len_utf8-room g c =
-    let t : IsTurn (chars c.args.piece.now) c.loop-c.yielded c.in-Some.c =
-    turn (chars c.args.piece.now) c.loop-c.yielded c.in-Some.c c.loop-c.invariant.all
-    (YieldsList-turn (YieldsList-from_chars c.args.piece.now c.utf8.piece cc) c.loop-c.yielded _ c.loop-c.yielded_by _ _ c.in-Some.c c.in-Some.is c.next.ensures.steps) in
-    let long = length-encode c.in-Some.c in
-    record {
-      taken = c.loop-c.yielded;
-      rest = c.in-Some.c ∷ t.rest;
-      all = t.is;
-      len = c.loop-c.invariant.len;
-      within = c.loop-c.invariant.within;
-      none_ends = c.loop-c.invariant.none_ends;
-      last_is = c.loop-c.invariant.last_is;
-      stop = (
-        c.in-Some.c,
-        t.rest,
-        refl,
-        ap (λ k. ends_at c.loop-c.last k.class) (sym c.cell-class.ensures) ∙ sym c.ends_at.ensures ∙ c.if-ends_at.false,
-        omega (arith, c.len_utf8.ensures.value, c.if-len_utf8-room.true, c.loop-c.invariant.within),
-      );
-    }
+pub returns-then-next-room : goal.returns-then-next-room
+returns-then-next-room g c =
+    let cell = g.C.CellSource.cell_of c.args.cells.now in
+    let here = c.pass_quiet-here.result in
+    let piece = c.args.piece.now in
+    let passes = c.pass_quiet-here.ensures.passes c.args.last c.loop-c.invariant in
+    let scalar = c.in-Some.c in
+    let more = c.as_str.result.now in
+    let splits : drop here.len piece ≡ encode_utf8 scalar ++ more =
+    sym (c.chars-scalars.ensures.rest ∙ c.range_from.ensures.value) ∙ c.in-Some.ensures.steps.0 ∙ ap (λ bytes. encode_utf8 scalar ++ bytes) (sym c.as_str.ensures) in
+    let r = reads piece more here.len scalar c.utf8.piece passes.place splits in
+    let none : ends_at here.last (cell scalar).class ≡ false =
+    ap (λ k. ends_at here.last k.class) (sym c.cell-class.ensures) ∙ sym c.ends_at.ensures ∙ c.if-ends_at.false in
+    let long : c.args.room < here.len + length (encode_utf8 scalar) = omega (arith, r.next_is, c.if-next-room.true) in
+    Passes-stops cell c.args.last piece c.args.room c.utf8.piece here.len here.last c.stops-then-next-room.result passes
+    (c.stops-then-next-room.ensures.0, c.stops-then-next-room.ensures.1) (rw c.stops-then-next-room.ensures.2 (scalar, chars more, r.begins, none, long))
 
 pub loop-c-preserved : goal.loop-c-preserved
 loop-c-preserved g c =
     let cell = g.C.CellSource.cell_of c.args.cells.now in
-    let t : IsTurn (chars c.args.piece.now) c.loop-c.yielded c.in-Some.c =
-    turn (chars c.args.piece.now) c.loop-c.yielded c.in-Some.c c.loop-c.invariant.all
-    (YieldsList-turn (YieldsList-from_chars c.args.piece.now c.utf8.piece cc) c.loop-c.yielded _ c.loop-c.yielded_by _ _ c.in-Some.c c.in-Some.is c.next.ensures.steps) in
-    let long = length-encode c.in-Some.c in
-    let more = length-encode_more c.loop-c.yielded c.in-Some.c in
-    let none : ends_at (last_class cell c.args.last c.loop-c.yielded) (cell c.in-Some.c).class ≡ false =
-    ap (λ k. ends_at k (cell c.in-Some.c).class) (sym c.loop-c.invariant.last_is)
-    ∙ ap (λ k. ends_at c.loop-c.last k.class) (sym c.cell-class.ensures) ∙ sym c.ends_at.ensures ∙ c.if-ends_at.false in
-    record {
-      can = tt;
-      ends = tt;
-      all = (t.rest, append_assoc c.loop-c.yielded (c.in-Some.c ∷ []) t.rest ∙ sym t.is);
-      len = omega (arith, c.len_utf8.ensures.value, c.loop-c.invariant.len);
-      within = omega (arith, c.if-len_utf8-room.false, c.loop-c.invariant.within);
-      none_ends = stays-snoc cell c.args.last c.loop-c.yielded c.in-Some.c c.loop-c.invariant.none_ends none;
-      last_is = ap (λ k. Some k.class) c.cell-class.ensures ∙ sym (last_class-append cell c.args.last c.loop-c.yielded (c.in-Some.c ∷ []));
-    }
-
-pub returns : goal.returns
-returns g c = record {
-  taken = c.loop-c.yielded;
-  rest = [];
-  all = sym ((YieldsList-end (YieldsList-from_chars c.args.piece.now c.utf8.piece cc) c.loop-c.yielded _ c.loop-c.yielded_by _ _ c.in-None.is c.next.ensures.steps).0) ∙ map-id c.loop-c.yielded ∙ sym (append-nil c.loop-c.yielded);
-  len = c.loop-c.invariant.len;
-  within = c.loop-c.invariant.within;
-  none_ends = c.loop-c.invariant.none_ends;
-  last_is = c.loop-c.invariant.last_is;
-  stop = refl;
-}
+    let here = c.pass_quiet-here.result in
+    let piece = c.args.piece.now in
+    let passes = c.pass_quiet-here.ensures.passes c.args.last c.loop-c.invariant in
+    let scalar = c.in-Some.c in
+    let more = c.as_str.result.now in
+    let splits : drop here.len piece ≡ encode_utf8 scalar ++ more =
+    sym (c.chars-scalars.ensures.rest ∙ c.range_from.ensures.value) ∙ c.in-Some.ensures.steps.0 ∙ ap (λ bytes. encode_utf8 scalar ++ bytes) (sym c.as_str.ensures) in
+    let none : ends_at here.last (cell scalar).class ≡ false =
+    ap (λ k. ends_at here.last k.class) (sym c.cell-class.ensures) ∙ sym c.ends_at.ensures ∙ c.if-ends_at.false in
+    rw c.cell-class.ensures (Passes-more cell c.args.last piece c.args.room c.utf8.piece here.len here.last scalar more passes splits none
+    (omega (arith, c.if-next-room.false)))

@@ -12,7 +12,7 @@ returns-then-self-clause-fills g c = λ profile. Fills-spent (g.C.CellSource.cel
 
 pub returns-then-self-2-clause-fills : goal.returns-then-self-2-clause-fills
 returns-then-self-2-clause-fills g c =
-    λ profile. Fills-held (g.C.CellSource.cell_of c.args.cells.now) profile c.args.self.now _ _ _ c.if-self-2.true c.if-self.false (c.requires c.if-self-2.true)
+    λ profile. Fills-held (g.C.CellSource.cell_of c.args.cells.now) profile c.args.self.now _ _ _ c.if-self-2.true c.if-self.false (c.requires.whole c.if-self-2.true)
 
 pub returns-in_err-end-clause-fills : goal.returns-in_err-end-clause-fills
 returns-in_err-end-clause-fills g c = λ profile.
@@ -42,7 +42,7 @@ returns-then-self-clause-again g c = λ profile done unspent. absurd (false≢tr
 pub returns-then-self-2-clause-again : goal.returns-then-self-2-clause-again
 returns-then-self-2-clause-again g c = λ profile done unspent.
     ap Ok (whole_done (g.C.CellSource.cell_of c.args.cells.now) profile c.args.self.now (ap (λ b. b || c.args.self.now.is_spent) c.if-self-2.true)
-    (c.requires c.if-self-2.true) done)
+    (c.requires.whole c.if-self-2.true) done)
 
 pub returns-in_err-end-clause-again : goal.returns-in_err-end-clause-again
 returns-in_err-end-clause-again g c = λ profile done unspent.
