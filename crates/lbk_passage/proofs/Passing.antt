@@ -7,7 +7,7 @@ use Rattle.lbk_rules.specs.declared.classes.Class.{Class}
 use Rattle.lbk_rules.specs.declared.cells.Cell.{Cell}
 use Rattle.lbk_breaks.proofs.FillingLemmas.{reads}
 use Rattle.lbk_passage.specs.Gathering.{Reaches, StopsBefore}
-use Rattle.lbk_passage.specs.Quiet.{Passes, is_end}
+use Rattle.lbk_passage.specs.Flags.{Passes, is_end}
 use Rattle.lbk_passage.specs.Stays.{ends_at}
 use Rattle.lbk_passage.specs.declared.reach.Reach.{Reach}
 use Rattle.lbk_passage.proofs.Staying.{stays-snoc, last_class-append, length-encode_more}
@@ -16,6 +16,14 @@ use Rattle.lbk_passage.proofs.Staying.{stays-snoc, last_class-append, length-enc
 pub calm : (last : Option Class) (next : Class) → is_end last ≡ false → ends_at last next ≡ false
 calm None next quiet = refl
 calm (Some last) next quiet = ap (λ b. b && not (CR last && LF next)) quiet
+
+-- a scalar of one byte at the front of a text
+pub chars-byte : (text : List ℕ) → IsUtf8 text → 0 < length text → slice_index_or text 0 0 < 128
+    → chars text ≡ slice_index_or text 0 0 ∷ chars (drop 1 text)
+chars-byte text utf8 some ascii =
+    let byte = slice_index_or text 0 0 in
+    (reads text (drop 1 text) 0 byte utf8 (IsCharBoundary-from_drop text 0 (omega arith) utf8)
+    (drop_more text 0 0 some ∙ ap (λ l. l ++ drop 1 text) (sym (encode_ascii byte ascii)))).begins
 
 module _ (cell : ℕ → Cell) (first : Option Class) (piece : List ℕ) (room : ℕ) (utf8 : IsUtf8 piece) where
   -- one more scalar

@@ -12,6 +12,6 @@ pub mod Runs
 -- What only carries proofs.
 pub mod Faults
 pub mod Stays
-pub mod Quiet
+pub mod Flags
 pub mod Gathering
 pub mod Cuts

@@ -6,11 +6,11 @@
 
 mod ends;
 mod faults;
+mod flags;
 pub mod laws;
 mod paragraph;
 mod passage;
 mod pieces;
-mod quiet;
 mod reach;
 mod segmenter;
 mod segments;

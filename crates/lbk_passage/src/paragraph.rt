@@ -4,7 +4,7 @@ ghost use Rattle.std.specs.Prelude.{◌≤◌, ◌≡◌, ◌&&◌, not, false, 
 
 use crate::ends::end_before;
 use crate::faults::{PassageFault, from_feed};
-use crate::quiet::QuietBytes;
+use crate::flags::ByteFlags;
 use crate::reach::{Reach, Stop, reach_in};
 use lbk_feed::{Feed, Source};
 use lbk_rules::{CellSource, Class, Verdict};
@@ -32,7 +32,7 @@ impl Paragraph {
     ghost use Rattle.std.specs.Prelude.{ℕ, ◌-◌, ◌+◌, ◌<◌, ◌∷◌, true, [], drop, length, OnOk, IfOk, string_bytes};
     ghost use Rattle.lbk_passage.specs.State.{state_with, new_state};
     ghost use Rattle.lbk_passage.specs.Stays.{IsWhole};
-    ghost use Rattle.lbk_passage.specs.Quiet.{AreQuiet};
+    ghost use Rattle.lbk_passage.specs.Flags.{AreQuiet};
     ghost use Rattle.lbk_passage.specs.Gathering.{Takes, Settles, Gathering, Gathers, Fills, IsSame};
     ghost use Rattle.lbk_passage.specs.Next.{IsDone, failures_with, fault_in};
     ghost use Rattle.lbk_rules.specs.declared.cells.Cell.{Cell};
@@ -83,9 +83,9 @@ impl Paragraph {
         &mut self,
         reader: &mut R,
         cells: &C,
-        quiet: &QuietBytes,
+        flags: &ByteFlags,
     ) -> Result<Option<Verdict>, PassageFault>
-        requires quiet { AreQuiet (C.cell_of cells.now) quiet.now.is_quiet }
+        requires quiet { AreQuiet (C.cell_of cells.now) flags.now.is_quiet }
         requires whole { self.old.is_held ≡ true → IsWhole (C.cell_of cells.now) self.old }
         ensures fills { (profile : Profile) → Fills (C.cell_of cells.now) profile self.old self.new
             (R.unread reader.old) (R.unread reader.new) (R.has_ended reader.old) (R.has_ended reader.new)
@@ -108,7 +108,7 @@ impl Paragraph {
             return Ok(self.end);
         }
         self.text.clear();
-        let end = self.gather(reader, cells, quiet)?;
+        let end = self.gather(reader, cells, flags)?;
         self.end = end;
         self.is_held = true;
         Ok(end)
@@ -119,9 +119,9 @@ impl Paragraph {
         &mut self,
         reader: &mut R,
         cells: &C,
-        quiet: &QuietBytes,
+        flags: &ByteFlags,
     ) -> Result<Option<Verdict>, PassageFault>
-        requires quiet { AreQuiet (C.cell_of cells.now) quiet.now.is_quiet }
+        requires quiet { AreQuiet (C.cell_of cells.now) flags.now.is_quiet }
         requires fresh { string_bytes self.old.text ≡ [] }
         requires open_end { self.old.is_held ≡ false }
         requires unspent { self.old.is_spent ≡ false }
@@ -134,7 +134,7 @@ impl Paragraph {
     {
         let mut last = None;
         while self.settle(reader)? {
-            let reach = self.take(cells, quiet, last);
+            let reach = self.take(cells, flags, last);
             last = reach.last;
             match reach.stop {
                 Stop::PieceEnds => {}
@@ -164,13 +164,13 @@ impl Paragraph {
     }
 
     /// Takes of the piece that is ready what belongs to the paragraph, behind a scalar of class `last`.
-    fn take<C: CellSource>(&mut self, cells: &C, quiet: &QuietBytes, last: Option<Class>) -> Reach
-        requires { AreQuiet (C.cell_of cells.now) quiet.now.is_quiet }
+    fn take<C: CellSource>(&mut self, cells: &C, flags: &ByteFlags, last: Option<Class>) -> Reach
+        requires { AreQuiet (C.cell_of cells.now) flags.now.is_quiet }
         ensures { Takes (C.cell_of cells.now) last self.old self.new result }
     {
         let ready = self.feed.ready();
         let room = self.limit as usize - self.text.len();
-        let reach = reach_in(cells, quiet, last, ready, room);
+        let reach = reach_in(cells, flags, last, ready, room);
         if self.text.push_str(&ready[..reach.len]).is_err() {
             unreachable!();
         }

@@ -1,8 +1,10 @@
 //! The pieces of a passage.
 
 ghost use Rattle.std.specs.Prelude.{◌≡◌, ◌<◌, ◌^◌, length, OnOk};
+ghost use Rattle.lbk_passage.specs.Flags.{AreLetters};
 ghost use Rattle.lbk_passage.specs.Pieces.{is_word, pieces_of};
 
+use crate::flags::ByteFlags;
 use crate::passage::Piece;
 use lbk_rules::CellSource;
 use std::alloc::AllocError;
@@ -12,26 +14,33 @@ use unicode_segmentation::UnicodeSegmentation;
 /// list holds some of them.
 pub fn cut_words<C: CellSource>(
     cells: &C,
+    flags: &ByteFlags,
     text: &str,
     pieces: &mut Vec<Piece>,
 ) -> Result<(), AllocError>
-    requires { length text.now < 2 ^ 32 }
+    requires letters { AreLetters (C.cell_of cells.now) flags.now.is_letter }
+    requires few { length text.now < 2 ^ 32 }
     ensures { OnOk result (pieces.new.items ≡ pieces_of (C.cell_of cells.now) text.now) }
 {
     pieces.clear();
     let mut start = 0;
     for piece in text.split_word_bounds() {
         let end = start + piece.len() as u32;
-        let word = is_word(cells, piece);
+        let word = is_word(cells, flags, piece);
         pieces.push(Piece { start, end, word })?;
         start = end;
     }
     Ok(())
 }
 
-/// Whether a piece holds a letter or a number.
-fn is_word<C: CellSource>(cells: &C, piece: &str) -> bool
+/// Whether a piece holds a letter or a number. Where its first byte is one, it does.
+fn is_word<C: CellSource>(cells: &C, flags: &ByteFlags, piece: &str) -> bool
+    requires { AreLetters (C.cell_of cells.now) flags.now.is_letter }
     ensures { result ≡ is_word (C.cell_of cells.now) piece.now }
 {
+    let bytes = piece.as_bytes();
+    if !bytes.is_empty() && flags.is_letter(bytes[0]) {
+        return true;
+    }
     piece.chars().any(|c| cells.cell(c).letter)
 }

@@ -2,10 +2,10 @@
 
 ghost use Rattle.std.specs.Prelude.{◌≡◌, ◌≤◌, Option};
 ghost use Rattle.lbk_rules.specs.declared.classes.Class.{Class};
-ghost use Rattle.lbk_passage.specs.Quiet.{AreQuiet, Passes, class_behind, is_end};
+ghost use Rattle.lbk_passage.specs.Flags.{AreQuiet, Passes, class_behind, is_end};
 
 use crate::ends::{ends_at, ends_line};
-use crate::quiet::QuietBytes;
+use crate::flags::ByteFlags;
 use lbk_rules::{CellSource, Class};
 
 /// Why a paragraph reaches no further into a piece.
@@ -51,17 +51,17 @@ impl Place {
 /// How far a paragraph that stands at a scalar of class `last` reaches into `piece`, where `room` bytes are left.
 pub fn reach_in<C: CellSource>(
     cells: &C,
-    quiet: &QuietBytes,
+    flags: &ByteFlags,
     last: Option<Class>,
     piece: &str,
     room: usize,
 ) -> Reach
-    requires { AreQuiet (C.cell_of cells.now) quiet.now.is_quiet }
+    requires { AreQuiet (C.cell_of cells.now) flags.now.is_quiet }
     ensures { Reaches (C.cell_of cells.now) last piece.now room result }
 {
     let mut here = Place { len: 0, last };
     loop {
-        here = pass_quiet(cells, quiet, piece, room, here);
+        here = pass_quiet(cells, flags, piece, room, here);
         let mut scalars = piece[here.len..].chars();
         let Some(c) = scalars.next() else {
             return here.stops(Stop::PieceEnds);
@@ -85,12 +85,12 @@ pub fn reach_in<C: CellSource>(
 #[inline(always)]
 fn pass_quiet<C: CellSource>(
     cells: &C,
-    quiet: &QuietBytes,
+    flags: &ByteFlags,
     piece: &str,
     room: usize,
     here: Place,
 ) -> Place
-    requires { AreQuiet (C.cell_of cells.now) quiet.now.is_quiet }
+    requires { AreQuiet (C.cell_of cells.now) flags.now.is_quiet }
     ensures passes { (first : Option Class) → Passes (C.cell_of cells.now) first piece.now room here.len here.last
         → Passes (C.cell_of cells.now) first piece.now room result.len result.last }
     ensures onward { here.len ≤ result.len }
@@ -104,7 +104,7 @@ fn pass_quiet<C: CellSource>(
     let mut seen = None;
     while len < most {
         let byte = bytes[len];
-        if !quiet.has(byte) {
+        if !flags.is_quiet(byte) {
             break;
         }
         seen = Some(byte);

@@ -4,14 +4,14 @@ ghost use Rattle.std.specs.Prelude.{◌≡◌, [], ◌≤◌, ◌<◌, ◌+◌, 
 ghost use Rattle.std.specs.Borrow.{sem};
 ghost use Rattle.std.specs.Io.BufRead.{Rests};
 ghost use Rattle.std.specs.Str.{chars};
-ghost use Rattle.lbk_passage.specs.Quiet.{AreQuiet};
+ghost use Rattle.lbk_passage.specs.Flags.{AreLetters, AreQuiet};
 ghost use Rattle.lbk_passage.specs.Stays.{IsWhole};
 
 use crate::faults::{LIMIT_MAX, PassageFault};
+use crate::flags::ByteFlags;
 use crate::paragraph::Paragraph;
 use crate::passage::{Passage, Piece, Segment};
 use crate::pieces::cut_words;
-use crate::quiet::QuietBytes;
 use crate::segments::{BLOCK, NO_BREAKS, cut_lines};
 use lbk_breaks::Break;
 use lbk_feed::Source;
@@ -34,13 +34,14 @@ use std::alloc::{AllocError, Global};
 pub struct Segmenter<'a, C: CellSource> {
     cells: &'a C,
     profile: Profile,
-    quiet: QuietBytes,
+    flags: ByteFlags,
     paragraph: Paragraph,
     /// Where breaks are found into.
     block: [Break; BLOCK],
     segments: Vec<Segment>,
     pieces: Vec<Piece>,
-    ghost told: { AreQuiet (C.cell_of cells.now) quiet.is_quiet },
+    ghost quiet: { AreQuiet (C.cell_of cells.now) flags.is_quiet },
+    ghost letters: { AreLetters (C.cell_of cells.now) flags.is_letter },
     ghost whole: { paragraph.is_held ≡ true → IsWhole (C.cell_of cells.now) paragraph },
 }
 
@@ -74,7 +75,7 @@ impl<'a, C: CellSource> Segmenter<'a, C> {
         Ok(Segmenter {
             cells,
             profile,
-            quiet: QuietBytes::of(cells),
+            flags: ByteFlags::of(cells),
             paragraph,
             block: NO_BREAKS,
             segments: Vec::new(alloc),
@@ -106,7 +107,7 @@ impl<'a, C: CellSource> Segmenter<'a, C> {
         // `Read` is the answer exactly where a read failed.
         ensures failures { R.failure_count reader.new ≡ failures_with (R.failure_count reader.old) (fault_in result) }
     {
-        let Some(end) = self.paragraph.fill(reader, self.cells, &self.quiet)? else {
+        let Some(end) = self.paragraph.fill(reader, self.cells, &self.flags)? else {
             return Ok(None);
         };
         let text = self.paragraph.text();
@@ -115,7 +116,7 @@ impl<'a, C: CellSource> Segmenter<'a, C> {
         if cut_lines(self.cells, self.profile, text, end, block, segments).is_err() {
             return Err(PassageFault::Memory);
         }
-        if cut_words(self.cells, text, &mut self.pieces).is_err() {
+        if cut_words(self.cells, &self.flags, text, &mut self.pieces).is_err() {
             return Err(PassageFault::Memory);
         }
         self.paragraph.release();

@@ -1,5 +1,5 @@
 use Rattle.std.proofs.Common.{◌≡◌, ◌<◌, true, false, slice_index_or, length, rules, ap, arith}
-use Rattle.lbk_passage.specs.Quiet.{class_behind}
+use Rattle.lbk_passage.specs.Flags.{class_behind}
 use Rattle.lbk_passage.proofs.Passing.{Passes-byte}
 use Rattle.lbk_passage.proofs.reach.pass_quiet.Goals as goal
 
@@ -10,7 +10,7 @@ loop-len-preserved g c =
     let len = c.loop-len.len in
     let byte = slice_index_or c.as_bytes-bytes.result.now len 0 in
     let few : byte < 256 = search rules in
-    let on : slice_index_or c.args.quiet.now.is_quiet byte false ≡ true = search rules in
+    let on : slice_index_or c.args.flags.now.is_quiet byte false ≡ true = search rules in
     let told = c.requires byte few on in
     let same : byte ≡ slice_index_or piece len 0 = ap (λ l. slice_index_or l len 0) c.as_bytes-bytes.ensures.value in
     let within : len < length piece = search rules in

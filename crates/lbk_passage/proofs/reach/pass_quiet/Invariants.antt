@@ -1,6 +1,6 @@
 use Rattle.std.proofs.Common.{◌≡◌, ◌≤◌, ◌-◌, false, Option}
 use Rattle.lbk_rules.specs.declared.classes.Class.{Class}
-use Rattle.lbk_passage.specs.Quiet.{Passes, class_behind, is_end}
+use Rattle.lbk_passage.specs.Flags.{Passes, class_behind, is_end}
 use Rattle.lbk_passage.proofs.reach.pass_quiet.Given as goal
 
 abbrev pub invariant-loop-len : goal.invariant-loop-len

@@ -1,5 +1,5 @@
 use Rattle.std.proofs.Common.{◌-◌, length}
-use Rattle.lbk_passage.specs.Quiet.{Passes}
+use Rattle.lbk_passage.specs.Flags.{Passes}
 use Rattle.lbk_passage.proofs.reach.reach_in.Given as goal
 
 abbrev pub invariant-loop-c : goal.invariant-loop-c

@@ -4,9 +4,9 @@ use Rattle.lbk_passage.proofs.segmenter.Segmenter.new.Goals as goal
 
 pub invariant_of-result-clause-whole : goal.invariant_of-result-clause-whole
 invariant_of-result-clause-whole g c = λ held. absurd (false≢true (
-  sym (ap (λ s. s.is_settled) (c.in-Ok.ensures.state (g.C.CellSource.cell_of c.args.cells.now) c.args.profile))
-  ∙ ap (λ b. b || c.in-Ok.paragraph.is_spent) held
-  ))
+    sym (ap (λ s. s.is_settled) (c.in-Ok.ensures.state (g.C.CellSource.cell_of c.args.cells.now) c.args.profile))
+    ∙ ap (λ b. b || c.in-Ok.paragraph.is_spent) held
+    ))
 
 pub returns-clause-state : goal.returns-clause-state
 returns-clause-state g c = c.in-Ok.ensures.state (g.C.CellSource.cell_of c.args.cells.now) c.args.profile

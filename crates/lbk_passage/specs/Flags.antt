@@ -1,4 +1,4 @@
--- Scalars of one byte, behind which no line must end.
+-- Scalars of one byte: those behind which no line must end, and those that are letters.
 use Rattle.std.specs.Prelude.{◌≡◌, ℕ, ◌<◌, ◌≤◌, Bool, true, false, List, ◌++◌, Option, Some, None, length, slice_index_or, encode_utf8_all, drop}
 use Rattle.std.specs.Str.{chars, IsCharBoundary}
 use Rattle.lbk_rules.specs.declared.classes.Class.{Class}
@@ -9,6 +9,10 @@ use Rattle.lbk_passage.specs.Stays.{stays, last_class}
 -- each byte of which the list has true is a scalar by itself, behind which no line must end
 abbrev pub AreQuiet : (ℕ → Cell) → List Bool → Type 0
 AreQuiet cell is_quiet = (byte : ℕ) → byte < 256 → slice_index_or is_quiet byte false ≡ true → (byte < 128) × (ends_line (cell byte).class ≡ false)
+
+-- each byte of which the list has true is a scalar by itself, and a letter or a number
+abbrev pub AreLetters : (ℕ → Cell) → List Bool → Type 0
+AreLetters cell is_letter = (byte : ℕ) → byte < 256 → slice_index_or is_letter byte false ≡ true → (byte < 128) × ((cell byte).letter ≡ true)
 
 -- a line must end behind a scalar of this class, whatever comes, but for a line feed
 abbrev pub is_end : Option Class → Bool
