@@ -1,21 +1,22 @@
 //! `lbk`: where a text may break and where it must, and the rules that decide it.
 #![tactic(auto)]
 
-mod file_store;
 mod hints;
 mod message;
 mod noting;
+mod system_files;
 
-use file_store::FileStore;
 use lbk_args::{WordsFault, parse};
 use lbk_cmd::{CmdFault, Ending, RunFault, run};
 use lbk_feed::Device;
+use lbk_files::FileStore;
 use lbk_notation::ReplayFault;
 use message::Message;
 use noting::{Input, InputKind, Notes, Noting};
 use std::io::ErrorKind;
 use std::process::ExitCode;
 use std::{env, io};
+use system_files::SystemFiles;
 
 const REFUSED: u8 = 1;
 
@@ -53,7 +54,8 @@ fn run_on_devices(rt: &HostRuntime, words: &[&str], notes: &Notes) -> Ending {
     };
     let mut reader = Device::new(Input::new(rt.stdin(), kind, notes));
     let mut writer = Device::new(Noting::new(rt.stdout(), notes));
-    let mut store = FileStore::new(rt, notes);
+    let files = SystemFiles::new(rt, notes);
+    let mut store = FileStore::new(&files);
     run(rt.alloc(), words, &mut store, &mut reader, &mut writer)
 }
 
