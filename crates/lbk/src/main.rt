@@ -1,16 +1,16 @@
 //! `lbk`: where a text may break and where it must, and the rules that decide it.
 #![tactic(auto)]
 
-mod file_store;
 mod hints;
 mod message;
 mod noting;
 mod prompted;
+mod system_files;
 
-use file_store::FileStore;
 use lbk_args::{WordsFault, parse};
 use lbk_cmd::{CmdFault, Ending, RunFault, run};
 use lbk_feed::Device;
+use lbk_files::FileStore;
 use lbk_notation::ReplayFault;
 use message::Message;
 use noting::{Input, InputKind, Notes, Noting};
@@ -18,6 +18,7 @@ use prompted::Prompted;
 use std::io::ErrorKind;
 use std::process::ExitCode;
 use std::{env, io};
+use system_files::SystemFiles;
 
 const REFUSED: u8 = 1;
 
@@ -55,7 +56,8 @@ fn run_on_devices(rt: &HostRuntime, words: &[&str], notes: &Notes) -> Ending {
     };
     let mut reader = Device::new(Input::new(Prompted::new(rt), kind, notes));
     let mut writer = Device::new(Noting::new(rt.stdout(), notes));
-    let mut store = FileStore::new(rt, notes);
+    let files = SystemFiles::new(rt, notes);
+    let mut store = FileStore::new(&files);
     run(rt.alloc(), words, &mut store, &mut reader, &mut writer)
 }
 

@@ -24,7 +24,7 @@ use Rattle.lbk_args.specs.Task.{Task}
 use Rattle.lbk_files.specs.declared.faults.CellsFault.{CellsFault}
 use Rattle.lbk_files.specs.declared.faults.Stop.{Stop}
 use Rattle.lbk_files.specs.SampleFiles.{AreSampleCells, IsSampleFault}
-use Rattle.lbk_files.specs.FileFault.{AreCellsFrom}
+use Rattle.lbk_files.specs.FileFault.{AreCellsFrom, LoadCounts}
 use Rattle.lbk_files.specs.Named.{files_of}
 use Rattle.lbk_files.specs.Ready.{IsStoppedAt}
 use Rattle.lbk_cmd.specs.declared.faults.CmdFault.{CmdFault}
@@ -93,6 +93,6 @@ EngineRuns (Replay kinds) profile cell before after ending =
     (answer : Result Report ReplayFault) × Replays cell (form_of kinds) profile before after answer × (ending ≡ ending_of_replay answer)
 
 -- a task: its files stop the run, or its engine runs with its option and profile on the cells of the files
-abbrev pub Performs : (List ℕ → Option (Option (List ℕ))) → Task → Devices → Devices → Ending → Type 0
-Performs file task before after ending = StopsBefore (IsStoppedAt file task) before after ending
+abbrev pub Performs : (List ℕ → Option (Option (List ℕ))) → Task → LoadCounts → LoadCounts → Devices → Devices → Ending → Type 0
+Performs file task counts counts' before after ending = StopsBefore (IsStoppedAt file task counts counts') before after ending
     ⊎ ((cell : ℕ → Cell) × AreCellsFrom (files_of file task.files) cell × EngineRuns task.engine task.profile cell before after ending)

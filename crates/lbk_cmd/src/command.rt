@@ -1,13 +1,15 @@
 //! A run of the program, from its words to its ending.
 
-ghost use Rattle.std.specs.Prelude.{◌≡◌, ◌≢◌, ◌+◌, ◌≤◌, ◌⊎◌, Bool, [], Some, map};
+ghost use Rattle.std.specs.Prelude.{◌≡◌, ◌≢◌, ◌+◌, ◌<◌, ◌≤◌, ◌⊎◌, Bool, [], Some, map};
 ghost use Rattle.lbk_rules.specs.CellPages.{page_cell};
 ghost use Rattle.lbk_args.specs.Accepted.{AreAccepted};
 ghost use Rattle.lbk_args.specs.Task.{Task, task_by};
 ghost use Rattle.lbk_args.specs.PlainWords.{IsPlainFor};
+ghost use Rattle.lbk_files.specs.FileFault.{counts_of};
 ghost use Rattle.lbk_files.specs.Ready.{IsStoppedByWords};
 ghost use Rattle.lbk_cmd.specs.Devices.{devices_of};
 ghost use Rattle.lbk_cmd.specs.Ending.{ending_of_text};
+ghost use Rattle.lbk_cmd.specs.declared.ending.RunFault.TheVariants.{Memory};
 ghost use Rattle.lbk_cmd.specs.Acts.{EngineRuns, Performs, ShowsSamples, StopsBefore, form_of};
 
 use super::ending::Ending;
@@ -25,7 +27,8 @@ use std::alloc::Global;
 ///
 /// The answer says how the run ended. `Help` and `Usage` come for words that ask for no engine, and `Refused` has the
 /// fault of the step that failed: nothing was read or written where that was a file. A file is loaded only for words
-/// that are accepted.
+/// that are accepted. `Memory` comes before any load, where a load was refused memory, or for lawful files once all
+/// four are loaded.
 #[tactic(none)]
 pub fn run<'a, S: Store, R: Source, W: Sink>(
     alloc: Global,
@@ -40,12 +43,14 @@ pub fn run<'a, S: Store, R: Source, W: Sink>(
         result }
     ensures plain { (task : Task) → IsPlainFor task (map (λ w. w.now) words.entry.now)
         → Performs (S.file store.old) task
+        (counts_of (S.load_count store.old) (S.refusal_count store.old)) (counts_of (S.load_count store.new) (S.refusal_count store.new))
         (devices_of (R.unread reader.old) (R.read_count reader.old) (R.failure_count reader.old) (R.has_ended reader.old) (W.written writer.old) (W.failure_count writer.old))
         (devices_of (R.unread reader.new) (R.read_count reader.new) (R.failure_count reader.new) (R.has_ended reader.new) (W.written writer.new) (W.failure_count writer.new))
         result }
     ensures accepted { (task : Task) → words.entry.now ≢ [] → AreAccepted (map (λ w. w.now) words.entry.now)
         → task_by (map (λ w. w.now) words.entry.now) ≡ Some task
         → Performs (S.file store.old) task
+        (counts_of (S.load_count store.old) (S.refusal_count store.old)) (counts_of (S.load_count store.new) (S.refusal_count store.new))
         (devices_of (R.unread reader.old) (R.read_count reader.old) (R.failure_count reader.old) (R.has_ended reader.old) (W.written writer.old) (W.failure_count writer.old))
         (devices_of (R.unread reader.new) (R.read_count reader.new) (R.failure_count reader.new) (R.has_ended reader.new) (W.written writer.new) (W.failure_count writer.new))
         result }
@@ -56,6 +61,7 @@ pub fn run<'a, S: Store, R: Source, W: Sink>(
         result }
     ensures unloaded { (words.entry.now ≡ []) ⊎ (¬ (AreAccepted (map (λ w. w.now) words.entry.now)))
         → S.load_count store.new ≡ S.load_count store.old }
+    ensures refused { S.refusal_count store.old < S.refusal_count store.new → result ≡ Ending.Refused Memory }
     ensures loads { S.load_count store.new ≤ S.load_count store.old + 4 }
     ensures files { S.file store.new ≡ S.file store.old }
 {

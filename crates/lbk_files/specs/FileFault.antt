@@ -1,5 +1,6 @@
 -- The four files of a task, loaded in order, then read: what they come to.
-use Rattle.std.specs.Prelude.{ℕ, Bool, List, Option, IsTrue, ⊤}
+use Rattle.std.specs.Prelude.{◌≡◌, ◌⊎◌, ℕ, Bool, List, Option, IsTrue}
+use Rattle.lbk_feed.specs.Runs.{HasFailed}
 use Rattle.lbk_ucd.specs.declared.tables.Files.{Files}
 use Rattle.lbk_ucd.specs.declared.values.Which.{Which}
 use Rattle.lbk_ucd.specs.declared.values.Which.TheVariants.{LineBreak, EastAsianWidth, Category, Emoji}
@@ -68,9 +69,22 @@ pub record AreCellsFrom (four : FourFiles) (cell : ℕ → Cell) : Type 0 where
   pub lawful : AreLawful files
   pub cells : AreCellsOf files cell
 
--- a file cannot be read or is not what it claims, or all are loaded and refused; want of memory may come at each step
-abbrev pub IsFileFault : FourFiles → CellsFault → Type 0
-IsFileFault four (Load which) = IsFirst four which (λ file. IsUnreadable file.contents)
-IsFileFault four (Claim which cause) = IsFirst four which (IsUnlikeItsClaim which cause)
-IsFileFault four (Tables fault) = (files : Files) × AreLoaded four files × IsRefused files fault
-IsFileFault four Memory = ⊤
+-- how many loads a store has made, and how many of these were refused memory
+pub record LoadCounts : Type 0 where
+  pub made : ℕ
+  pub refused : ℕ
+
+abbrev pub counts_of : ℕ → ℕ → LoadCounts
+counts_of made refused = record { made = made; refused = refused }
+
+-- out of memory comes before any load, in a load, or once all four files are loaded and lawful
+abbrev pub IsOutOfMemory : FourFiles → LoadCounts → LoadCounts → Type 0
+IsOutOfMemory four before after =
+    (after.made ≡ before.made) ⊎ (HasFailed before.refused after.refused ⊎ ((files : Files) × AreLoaded four files × AreLawful files))
+
+-- a file cannot be read or is not what it claims, or all are loaded and refused; or out of memory
+abbrev pub IsFileFault : FourFiles → LoadCounts → LoadCounts → CellsFault → Type 0
+IsFileFault four before after (Load which) = IsFirst four which (λ file. IsUnreadable file.contents)
+IsFileFault four before after (Claim which cause) = IsFirst four which (IsUnlikeItsClaim which cause)
+IsFileFault four before after (Tables fault) = (files : Files) × AreLoaded four files × IsRefused files fault
+IsFileFault four before after Memory = IsOutOfMemory four before after

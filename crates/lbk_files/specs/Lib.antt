@@ -3,8 +3,11 @@ pub use Rattle.lbk_rules.specs.Cells
 pub mod CellsRefusal
 pub mod Store
 pub mod MemoryStore
+pub mod FileStore
 pub mod Published
 pub mod FileFault
 pub mod Named
 pub mod SampleFiles
 pub mod Ready
+-- What only carries proofs.
+pub mod Places

@@ -13,6 +13,10 @@ named_files store = store.files.now
 abbrev pub loads_of : MemoryStore → ℕ
 loads_of store = store.loads
 
+-- how many of them were refused memory
+abbrev pub refusals_of : MemoryStore → ℕ
+refusals_of store = store.refusals
+
 -- what the first file of a name holds
 abbrev pub contents_of : List (Bor (List ℕ) × Bor (List ℕ)) → List ℕ → Option (List ℕ)
 contents_of files name = option_map (λ file. file.1.now) (find (λ file. bytes_eq file.0.now name) files)

@@ -4,7 +4,7 @@ use Rattle.lbk_rules.specs.CellPages.{page_cell}
 use Rattle.lbk_args.specs.Accepted.{faults_of}
 use Rattle.lbk_args.specs.Refusal.{HasFault, IsCallForHelp, IsMistake}
 use Rattle.lbk_args.specs.Task.{Task}
-use Rattle.lbk_files.specs.FileFault.{AreCellsFrom, IsFileFault}
+use Rattle.lbk_files.specs.FileFault.{AreCellsFrom, IsFileFault, LoadCounts}
 use Rattle.lbk_files.specs.Named.{files_of}
 use Rattle.lbk_files.specs.declared.faults.CellsFault.TheVariants.{Memory}
 use Rattle.lbk_files.specs.declared.faults.Stop.{Stop}
@@ -18,10 +18,10 @@ pub record IsReadyFor (file : List ℕ → Option (Option (List ℕ))) (task : T
   pub cells : AreCellsFrom (files_of file task.files) (page_cell ready.cells)
 
 -- a task stops at its files alone
-abbrev pub IsStoppedAt : (List ℕ → Option (Option (List ℕ))) → Task → Stop → Type 0
-IsStoppedAt file task (Help text) = ⊥
-IsStoppedAt file task (Usage text) = ⊥
-IsStoppedAt file task (Refused fault) = IsFileFault (files_of file task.files) fault
+abbrev pub IsStoppedAt : (List ℕ → Option (Option (List ℕ))) → Task → LoadCounts → LoadCounts → Stop → Type 0
+IsStoppedAt file task before after (Help text) = ⊥
+IsStoppedAt file task before after (Usage text) = ⊥
+IsStoppedAt file task before after (Refused fault) = IsFileFault (files_of file task.files) before after fault
 
 -- words that are not accepted: help for a call for it, usage for a mistake, or want of memory
 abbrev pub IsStoppedByWords : List (List ℕ) → Stop → Type 0

@@ -1,5 +1,6 @@
 -- What a load answers, by what the store tells of the file.
-use Rattle.std.specs.Prelude.{◌≡◌, ℕ, ◌+◌, List, take, Option, None, Some, ⊤}
+use Rattle.std.specs.Prelude.{◌≡◌, ℕ, ◌+◌, List, take, Option, None, Some, Result, Ok, Err, ⊤}
+use Rattle.lbk_feed.specs.Devices.{count_up}
 use Rattle.lbk_files.specs.declared.store.LoadFault.{LoadFault}
 use Rattle.lbk_files.specs.declared.store.LoadFault.TheVariants.{Unreadable, Memory}
 
@@ -18,3 +19,9 @@ IsUnreadable (Some (Some contents)) = ⊥
 abbrev pub IsLoadFault : Option (Option (List ℕ)) → LoadFault → Type 0
 IsLoadFault file Unreadable = IsUnreadable file
 IsLoadFault file Memory = ⊤
+
+-- how many loads were refused memory, after one more that answered r
+abbrev pub refusals_after : {T : Type 0} → ℕ → Result T LoadFault → ℕ
+refusals_after n (Ok _) = n
+refusals_after n (Err Unreadable) = n
+refusals_after n (Err Memory) = count_up n

@@ -1,6 +1,6 @@
 //! The front of a reader's bytes.
 
-ghost use Rattle.std.specs.Prelude.{◌≡◌, ◌+◌, ◌-◌, ◌^◌, ◌<◌, ◌≤◌, take, vec_len, Err, IfOk, IfSome, IsErrOf};
+ghost use Rattle.std.specs.Prelude.{◌≡◌, ◌+◌, ◌-◌, ◌^◌, ◌<◌, ◌≤◌, take, vec_len, Err, IfOk, IfSome, IsErrOf, IsTrue};
 ghost use Rattle.lbk_feed.specs.Devices.{count_up};
 
 use super::store::LoadFault;
@@ -20,6 +20,7 @@ pub fn read_front<R: Source>(
     requires { most < 2 ^ 64 - 1 }
     ensures front { IfOk result (λ bytes. IfSome (R.unread reader.old) (λ all. bytes.items ≡ take (most + 1) all)) }
     ensures within { IfOk result (λ bytes. vec_len bytes ≤ most + 1) }
+    ensures ended { IfOk result (λ bytes. vec_len bytes < most + 1 → IsTrue (R.has_ended reader.new)) }
     ensures reads { R.read_count reader.new ≤ R.read_count reader.old + (most + 1) }
     ensures failed { IsErrOf result LoadFault.Unreadable → R.failure_count reader.new ≡ count_up (R.failure_count reader.old) }
     ensures failure { R.failure_count reader.old < R.failure_count reader.new → result ≡ Err LoadFault.Unreadable }

@@ -1,17 +1,18 @@
 //! The four files that words name, loaded in order and read.
 
-ghost use Rattle.std.specs.Prelude.{◌≡◌, ◌+◌, ◌≤◌, MatchResult};
+ghost use Rattle.std.specs.Prelude.{◌≡◌, ◌+◌, ◌<◌, ◌≤◌, Err, MatchResult, true};
 ghost use Rattle.lbk_rules.specs.CellPages.{page_cell};
-ghost use Rattle.lbk_files.specs.FileFault.{AreCellsFrom, IsFileFault, IsLoaded};
-ghost use Rattle.lbk_files.specs.Named.{IsOneFault, files_of, joined, told_of};
-ghost use Rattle.lbk_args.specs.Task.{files_of_names, given, in_folder, named_of};
+ghost use Rattle.lbk_files.specs.FileFault.{AreCellsFrom, IsFileFault, IsLoaded, counts_of};
+ghost use Rattle.lbk_files.specs.Named.{IsOneFault, files_of, told_of};
+ghost use Rattle.lbk_files.specs.Places.{files_at, refusals_by, told_at};
+ghost use Rattle.lbk_args.specs.Task.{files_of_names, given};
 
 use super::cells::read_cells;
-use super::database::joined;
 use super::faults::CellsFault;
+use super::places::{Place, Places, places_of};
 use super::published::check_claim;
 use super::store::{LoadFault, Store};
-use lbk_args::{FileName, FileNames};
+use lbk_args::FileNames;
 use lbk_rules::CellPages;
 use lbk_ucd::{Files, LONGEST_FILE, Which};
 use std::alloc::Global;
@@ -20,22 +21,45 @@ use std::alloc::Global;
 ///
 /// A file of a folder has to be what it claims: it names itself and Unicode 15.0 at its beginning, and has its last line.
 ///
-/// `Load` names the first file that cannot be read, and `Claim` the first that is not what it claims. `Tables` and `Memory` come as in `read_cells`, and `Memory` also where a
-/// load could not grow.
+/// `Load` names the first file that cannot be read, and `Claim` the first that is not what it claims. `Tables` comes as
+/// in `read_cells`. `Memory` comes before any load, for the names of the files of a folder; where a load was refused
+/// memory; or for lawful files, once all four are loaded.
 pub fn load_cells<S: Store>(
     alloc: Global,
     names: &FileNames<'_>,
     store: &mut S,
 ) -> Result<CellPages, CellsFault>
     ensures loaded { MatchResult result (λ pages. AreCellsFrom (files_of (S.file store.old) (files_of_names names.now)) (page_cell pages))
-        (IsFileFault (files_of (S.file store.old) (files_of_names names.now))) }
+        (IsFileFault (files_of (S.file store.old) (files_of_names names.now))
+        (counts_of (S.load_count store.old) (S.refusal_count store.old)) (counts_of (S.load_count store.new) (S.refusal_count store.new))) }
+    ensures refused { S.refusal_count store.old < S.refusal_count store.new → result ≡ Err CellsFault.Memory }
     ensures files { S.file store.new ≡ S.file store.old }
     ensures loads { S.load_count store.new ≤ S.load_count store.old + 4 }
 {
-    let line_break = load_file(alloc, names.line_break, store, Which::LineBreak)?;
-    let east_asian = load_file(alloc, names.east_asian, store, Which::EastAsianWidth)?;
-    let category = load_file(alloc, names.category, store, Which::Category)?;
-    let emoji = load_file(alloc, names.emoji, store, Which::Emoji)?;
+    // All names are made before the first load.
+    match places_of(alloc, names) {
+        Ok(places) => load_places(alloc, &places, store),
+        Err(_) => Err(CellsFault::Memory),
+    }
+}
+
+/// The cells of the files at these places.
+fn load_places<S: Store>(
+    alloc: Global,
+    places: &Places<'_>,
+    store: &mut S,
+) -> Result<CellPages, CellsFault>
+    ensures loaded { MatchResult result (λ pages. AreCellsFrom (files_at (S.file store.old) places.now) (page_cell pages))
+        (IsFileFault (files_at (S.file store.old) places.now)
+        (counts_of (S.load_count store.old) (S.refusal_count store.old)) (counts_of (S.load_count store.new) (S.refusal_count store.new))) }
+    ensures refused { S.refusal_count store.old < S.refusal_count store.new → result ≡ Err CellsFault.Memory }
+    ensures files { S.file store.new ≡ S.file store.old }
+    ensures loads { S.load_count store.new ≤ S.load_count store.old + 4 }
+{
+    let line_break = load_file(alloc, &places.line_break, store, Which::LineBreak)?;
+    let east_asian = load_file(alloc, &places.east_asian, store, Which::EastAsianWidth)?;
+    let category = load_file(alloc, &places.category, store, Which::Category)?;
+    let emoji = load_file(alloc, &places.emoji, store, Which::Emoji)?;
     read_cells(
         alloc,
         Files {
@@ -47,40 +71,39 @@ pub fn load_cells<S: Store>(
     )
 }
 
-/// The bytes of one file, by the name of its option or in the folder.
+/// The bytes of the file at a place.
 fn load_file<S: Store>(
     alloc: Global,
-    file: FileName<'_>,
+    place: &Place<'_>,
     store: &mut S,
     which: Which,
 ) -> Result<Vec<u8>, CellsFault>
-    ensures loaded { MatchResult result (λ bytes. IsLoaded which (told_of (S.file store.old) which (named_of file.entry)) bytes.items)
-        (IsOneFault which (told_of (S.file store.old) which (named_of file.entry))) }
+    ensures loaded { MatchResult result (λ bytes. IsLoaded which (told_at (S.file store.old) place.now) bytes.items)
+        (IsOneFault which (told_at (S.file store.old) place.now)) }
+    ensures refusals { S.refusal_count store.new ≡ refusals_by (S.refusal_count store.old) result }
     ensures files { S.file store.new ≡ S.file store.old }
     ensures loads { S.load_count store.new ≤ S.load_count store.old + 1 }
 {
-    match file {
-        FileName::Given(name) => load_named(alloc, name, store, which),
-        FileName::InFolder(folder) => load_claimed(alloc, folder, store, which),
+    match place {
+        Place::Given(name) => load_named(alloc, name, store, which),
+        Place::InFolder(name) => load_claimed(alloc, name.as_str(), store, which),
     }
 }
 
-/// The bytes of a file of a folder, which has to be what it claims.
+/// The bytes of the file of this name, which has to be what it claims.
 fn load_claimed<S: Store>(
     alloc: Global,
-    folder: &str,
+    name: &str,
     store: &mut S,
     which: Which,
 ) -> Result<Vec<u8>, CellsFault>
-    ensures loaded { MatchResult result (λ bytes. IsLoaded which (told_of (S.file store.old) which (in_folder folder.now)) bytes.items)
-        (IsOneFault which (told_of (S.file store.old) which (in_folder folder.now))) }
+    ensures loaded { MatchResult result (λ bytes. IsLoaded which (record { contents = S.file store.old name.now; is_claimed = true }) bytes.items)
+        (IsOneFault which (record { contents = S.file store.old name.now; is_claimed = true })) }
+    ensures refusals { S.refusal_count store.new ≡ refusals_by (S.refusal_count store.old) result }
     ensures files { S.file store.new ≡ S.file store.old }
     ensures loads { S.load_count store.new ≤ S.load_count store.old + 1 }
 {
-    let Ok(name) = joined(alloc, folder, which) else {
-        return Err(CellsFault::Memory);
-    };
-    let bytes = load_named(alloc, name.as_str(), store, which)?;
+    let bytes = load_named(alloc, name, store, which)?;
     match check_claim(which, &bytes) {
         Ok(()) => Ok(bytes),
         Err(cause) => Err(CellsFault::Claim(which, cause)),
@@ -97,6 +120,7 @@ fn load_named<S: Store>(
 ) -> Result<Vec<u8>, CellsFault>
     ensures loaded { MatchResult result (λ bytes. IsLoaded which (told_of (S.file store.old) which (given name.now)) bytes.items)
         (IsOneFault which (told_of (S.file store.old) which (given name.now))) }
+    ensures refusals { S.refusal_count store.new ≡ refusals_by (S.refusal_count store.old) result }
     ensures files { S.file store.new ≡ S.file store.old }
     ensures loads { S.load_count store.new ≤ S.load_count store.old + 1 }
 {

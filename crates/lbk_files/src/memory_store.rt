@@ -1,7 +1,7 @@
 //! A store over memory.
 
 ghost use Rattle.std.specs.Prelude.{◌≡◌, Some, option_map};
-ghost use Rattle.lbk_files.specs.MemoryStore.{contents_of, loads_of, named_files};
+ghost use Rattle.lbk_files.specs.MemoryStore.{contents_of, loads_of, named_files, refusals_of};
 
 use super::store::{LoadFault, Store};
 use std::alloc::Global;
@@ -22,6 +22,7 @@ use std::alloc::Global;
 pub struct MemoryStore<'a> {
     files: &'a [(&'a str, &'a [u8])],
     loads: u64,
+    refusals: u64,
 }
 
 impl<'a> MemoryStore<'a> {
@@ -29,8 +30,13 @@ impl<'a> MemoryStore<'a> {
     pub fn new(files: &'a [(&'a str, &'a [u8])]) -> MemoryStore<'a>
         ensures files { named_files result ≡ files.entry.now }
         ensures loads { loads_of result ≡ 0 }
+        ensures refusals { refusals_of result ≡ 0 }
     {
-        MemoryStore { files, loads: 0 }
+        MemoryStore {
+            files,
+            loads: 0,
+            refusals: 0,
+        }
     }
 
     /// What the file of a name holds.
@@ -51,16 +57,26 @@ impl Store for MemoryStore<'_> {
 
     ghost load_count = { λ store. loads_of store };
 
+    ghost refusal_count = { λ store. refusals_of store };
+
     fn load(&mut self, alloc: Global, name: &str, most: usize) -> Result<Vec<u8>, LoadFault> {
         self.loads = self.loads.saturating_add(1);
         let Some(contents) = self.contents(name) else {
             return Err(LoadFault::Unreadable);
         };
         let len = contents.len().min(most + 1);
-        Vec::from_slice(alloc, &contents[..len]).map_err(|_| LoadFault::Memory)
+        let Ok(bytes) = Vec::from_slice(alloc, &contents[..len]) else {
+            self.refusals = self.refusals.saturating_add(1);
+            return Err(LoadFault::Memory);
+        };
+        Ok(bytes)
     }
 
     fn loads(&self) -> u64 {
         self.loads
+    }
+
+    fn refusals(&self) -> u64 {
+        self.refusals
     }
 }

@@ -1,9 +1,10 @@
 //! From the words to an engine with the cells that it decides by.
 
-ghost use Rattle.std.specs.Prelude.{◌≡◌, ◌+◌, ◌≤◌, Some, MatchResult, map};
+ghost use Rattle.std.specs.Prelude.{◌≡◌, ◌+◌, ◌<◌, ◌≤◌, Some, Err, MatchResult, map};
 ghost use Rattle.lbk_args.specs.Accepted.{AreAccepted};
 ghost use Rattle.lbk_args.specs.Task.{Task, task_by, task_of};
 ghost use Rattle.lbk_args.specs.PlainWords.{IsPlainFor};
+ghost use Rattle.lbk_files.specs.FileFault.{counts_of};
 ghost use Rattle.lbk_files.specs.Ready.{IsReadyFor, IsStoppedAt, IsStoppedByWords};
 
 use super::faults::{CellsFault, Stop};
@@ -23,19 +24,23 @@ pub struct Ready {
 
 /// Reads the words, loads the files that they name, and reads these.
 ///
-/// `Help` and `Usage` come for words that are no order. `Refused` is the first step that fails.
+/// `Help` and `Usage` come for words that are no order. `Refused` is the first step that fails: its `Memory` comes
+/// before any load, in a load, or for lawful files once all four are loaded.
 pub fn prepare<'a, S: Store>(
     alloc: Global,
     words: &'a [&'a str],
     store: &mut S,
 ) -> Result<Ready, Stop>
     ensures plain { (task : Task) → IsPlainFor task (map (λ w. w.now) words.entry.now)
-        → MatchResult result (IsReadyFor (S.file store.old) task) (IsStoppedAt (S.file store.old) task) }
+        → MatchResult result (IsReadyFor (S.file store.old) task) (IsStoppedAt (S.file store.old) task
+        (counts_of (S.load_count store.old) (S.refusal_count store.old)) (counts_of (S.load_count store.new) (S.refusal_count store.new))) }
     ensures accepted { (task : Task) → AreAccepted (map (λ w. w.now) words.entry.now)
         → task_by (map (λ w. w.now) words.entry.now) ≡ Some task
-        → MatchResult result (IsReadyFor (S.file store.old) task) (IsStoppedAt (S.file store.old) task) }
+        → MatchResult result (IsReadyFor (S.file store.old) task) (IsStoppedAt (S.file store.old) task
+        (counts_of (S.load_count store.old) (S.refusal_count store.old)) (counts_of (S.load_count store.new) (S.refusal_count store.new))) }
     ensures others { ¬ (AreAccepted (map (λ w. w.now) words.entry.now))
         → MatchResult result (λ ready. ⊥) (IsStoppedByWords (map (λ w. w.now) words.entry.now)) }
+    ensures refused { S.refusal_count store.old < S.refusal_count store.new → result ≡ Err (Stop.Refused CellsFault.Memory) }
     ensures unloaded { ¬ (AreAccepted (map (λ w. w.now) words.entry.now)) → S.load_count store.new ≡ S.load_count store.old }
     ensures loads { S.load_count store.new ≤ S.load_count store.old + 4 }
     ensures files { S.file store.new ≡ S.file store.old }
@@ -49,7 +54,9 @@ pub fn prepare<'a, S: Store>(
 }
 
 fn made_ready<S: Store>(alloc: Global, order: &Order<'_>, store: &mut S) -> Result<Ready, Stop>
-    ensures made { MatchResult result (IsReadyFor (S.file store.old) (task_of order.now)) (IsStoppedAt (S.file store.old) (task_of order.now)) }
+    ensures made { MatchResult result (IsReadyFor (S.file store.old) (task_of order.now)) (IsStoppedAt (S.file store.old) (task_of order.now)
+        (counts_of (S.load_count store.old) (S.refusal_count store.old)) (counts_of (S.load_count store.new) (S.refusal_count store.new))) }
+    ensures refused { S.refusal_count store.old < S.refusal_count store.new → result ≡ Err (Stop.Refused CellsFault.Memory) }
     ensures loads { S.load_count store.new ≤ S.load_count store.old + 4 }
     ensures files { S.file store.new ≡ S.file store.old }
 {

@@ -2,7 +2,7 @@
 
 ghost use Rattle.std.specs.Prelude.{◌≡◌, ℕ, ◌+◌, ◌-◌, ◌^◌, ◌<◌, ◌≤◌, List, Option, vec_len, IfOk, MatchResult};
 ghost use Rattle.lbk_feed.specs.Devices.{count_up};
-ghost use Rattle.lbk_files.specs.Store.{IsFront, IsLoadFault};
+ghost use Rattle.lbk_files.specs.Store.{IsFront, IsLoadFault, refusals_after};
 
 use std::alloc::Global;
 
@@ -15,14 +15,16 @@ pub enum LoadFault {
     Memory,
 }
 
-/// Files by their names, whose loads are counted.
+/// Files by their names, whose loads are counted, and of these the ones that were refused memory.
 ///
-/// The count stays at `u64::MAX` once it is there.
+/// A count stays at `u64::MAX` once it is there.
 pub trait Store {
     // What the file of a name holds, where the store tells it; `None` in it is a file that cannot be read.
     ghost file: { Self → List ℕ → Option (Option (List ℕ)) };
 
     ghost load_count: { Self → ℕ };
+
+    ghost refusal_count: { Self → ℕ };
 
     /// The first `most + 1` bytes of a file, or all of them if it has fewer.
     ///
@@ -33,9 +35,14 @@ pub trait Store {
         ensures loaded { MatchResult result (λ bytes. IsFront (file self.old name.now) most bytes.items) (IsLoadFault (file self.old name.now)) }
         ensures within { IfOk result (λ bytes. vec_len bytes ≤ most + 1) }
         ensures files { file self.new ≡ file self.old }
-        ensures loads { load_count self.new ≡ count_up (load_count self.old) };
+        ensures loads { load_count self.new ≡ count_up (load_count self.old) }
+        ensures refusals { refusal_count self.new ≡ refusals_after (refusal_count self.old) result };
 
     /// How many loads were made, those that failed among them.
     fn loads(&self) -> u64
         ensures { result ≡ load_count self.now };
+
+    /// How many loads were refused memory.
+    fn refusals(&self) -> u64
+        ensures { result ≡ refusal_count self.now };
 }

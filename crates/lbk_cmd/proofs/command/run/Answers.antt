@@ -1,5 +1,6 @@
-use Rattle.std.proofs.Common.{◌∙◌, inl, inr, sym, refl, arith}
-use Rattle.lbk_cmd.proofs.Runs.{no_first, no_words, ready_performs, some_words}
+use Rattle.std.proofs.Common.{◌∙◌, ap, inl, inr, sym, refl, arith}
+use Rattle.lbk_cmd.specs.Ending.{ending_of_stop}
+use Rattle.lbk_cmd.proofs.Runs.{no_first, no_words, ready_performs, same_stop, some_words}
 use Rattle.lbk_cmd.proofs.command.run.Goals as goal
 
 pub invariant_of-ready : goal.invariant_of-ready
@@ -27,12 +28,12 @@ returns-in-Ok-clause-samples g c none =
 
 pub returns-in-Ok-clause-plain : goal.returns-in-Ok-clause-plain
 returns-in-Ok-clause-plain g c task plain =
-    ready_performs (g.S.Store.file c.args.store.now) task c.in-Ok.ready _ _ c.perform.result
+    ready_performs (g.S.Store.file c.args.store.now) task _ _ c.in-Ok.ready _ _ c.perform.result
     (c.in-Ok.ensures.plain task plain) c.perform.ensures
 
 pub returns-in-Ok-clause-accepted : goal.returns-in-Ok-clause-accepted
 returns-in-Ok-clause-accepted g c task some accepted asks =
-    ready_performs (g.S.Store.file c.args.store.now) task c.in-Ok.ready _ _ c.perform.result
+    ready_performs (g.S.Store.file c.args.store.now) task _ _ c.in-Ok.ready _ _ c.perform.result
     (c.in-Ok.ensures.accepted task accepted asks) c.perform.ensures
 
 pub returns-in-Ok-clause-others : goal.returns-in-Ok-clause-others
@@ -82,3 +83,12 @@ returns-then-is_empty-clause-loads g c = omega arith
 
 pub returns-then-is_empty-clause-files : goal.returns-then-is_empty-clause-files
 returns-then-is_empty-clause-files g c = refl
+
+pub returns-then-is_empty-clause-refused : goal.returns-then-is_empty-clause-refused
+returns-then-is_empty-clause-refused g c more = absurd (omega arith)
+
+pub returns-in-Ok-clause-refused : goal.returns-in-Ok-clause-refused
+returns-in-Ok-clause-refused g c more = let other = c.in-Ok.ensures.refused more in absurd (cc other)
+
+pub returns-in-Err-clause-refused : goal.returns-in-Err-clause-refused
+returns-in-Err-clause-refused g c more = c.from.ensures ∙ ap ending_of_stop (same_stop _ _ _ refl (c.in-Err.ensures.refused more))

@@ -1,0 +1,98 @@
+//! Files that are opened by their names, as a store.
+
+ghost use Rattle.std.specs.Prelude.{◌≡◌, ℕ, ◌+◌, ◌-◌, ◌^◌, ◌<◌, ◌≤◌, List, Option, vec_len, IfOk, MatchResult};
+ghost use Rattle.lbk_feed.specs.Devices.{count_up};
+ghost use Rattle.lbk_files.specs.FileStore.{AreLeft, loads_of, opener_of, refusals_of, tells};
+ghost use Rattle.lbk_files.specs.Store.{IsFront, IsLoadFault, refusals_after};
+
+use super::front::read_front;
+use super::store::{LoadFault, Store};
+use lbk_feed::Source;
+use std::alloc::Global;
+
+/// Opens files by their names, to be read from their beginning.
+pub trait Opens {
+    type File: Source + Drop;
+
+    // What the file of a name holds, where this is told; `None` in it is a file that cannot be opened.
+    ghost contents: { Self → List ℕ → Option (Option (List ℕ)) };
+
+    /// Opens the file of a name.
+    ///
+    /// `Unreadable` comes where it cannot be opened, `Memory` where memory could not grow for that.
+    fn open(&self, name: &str) -> Result<Self::File, LoadFault>
+        ensures { IfOk result (λ file. AreLeft (contents self.now name.now) (Self.File.unread file)) };
+}
+
+/// A store that opens each file and reads the first bytes of it. As a store it tells nothing of what files hold, since a
+/// read may fail.
+#[derive(Drop)]
+pub struct FileStore<'a, O> {
+    opener: &'a O,
+    loads: u64,
+    refusals: u64,
+}
+
+impl<'a, O> FileStore<'a, O> {
+    /// The files that `opener` opens.
+    pub fn new(opener: &'a O) -> FileStore<'a, O>
+        ensures loads { loads_of result ≡ 0 }
+        ensures refusals { refusals_of result ≡ 0 }
+    {
+        FileStore {
+            opener,
+            loads: 0,
+            refusals: 0,
+        }
+    }
+}
+
+impl<'a, O: Opens> Store for FileStore<'a, O> {
+    ghost file = { λ store. tells store };
+
+    ghost load_count = { λ store. loads_of store };
+
+    ghost refusal_count = { λ store. refusals_of store };
+
+    /// The first `most + 1` bytes of a file that was opened, or all of them if it has fewer.
+    fn load(&mut self, alloc: Global, name: &str, most: usize) -> Result<Vec<u8>, LoadFault>
+        requires { most < 2 ^ 64 - 1 }
+        ensures front { IfOk result (λ bytes. IsFront (O.contents (opener_of self.old) name.now) most bytes.items) }
+        ensures opener { opener_of self.new ≡ opener_of self.old }
+        ensures loaded { MatchResult result (λ bytes. IsFront (tells self.old name.now) most bytes.items) (IsLoadFault (tells self.old name.now)) }
+        ensures within { IfOk result (λ bytes. vec_len bytes ≤ most + 1) }
+        ensures files { tells self.new ≡ tells self.old }
+        ensures loads { loads_of self.new ≡ count_up (loads_of self.old) }
+        ensures refusals { refusals_of self.new ≡ refusals_after (refusals_of self.old) result }
+    {
+        self.loads = self.loads.saturating_add(1);
+        let loaded = front_of(alloc, self.opener, name, most);
+        if matches!(loaded, Err(LoadFault::Memory)) {
+            self.refusals = self.refusals.saturating_add(1);
+        }
+        loaded
+    }
+
+    fn loads(&self) -> u64 {
+        self.loads
+    }
+
+    fn refusals(&self) -> u64 {
+        self.refusals
+    }
+}
+
+/// The first `most + 1` bytes of the file of a name, or all of them if it has fewer.
+fn front_of<O: Opens>(
+    alloc: Global,
+    opener: &O,
+    name: &str,
+    most: usize,
+) -> Result<Vec<u8>, LoadFault>
+    requires { most < 2 ^ 64 - 1 }
+    ensures front { IfOk result (λ bytes. IsFront (O.contents opener.now name.now) most bytes.items) }
+    ensures within { IfOk result (λ bytes. vec_len bytes ≤ most + 1) }
+{
+    let mut file = opener.open(name)?;
+    read_front(alloc, &mut file, most)
+}
