@@ -1,6 +1,6 @@
 //! The scalars of one, two and three bytes, read without a call.
 
-ghost use Rattle.std.specs.Prelude.{◌≡◌, ◌<◌, ◌≤◌, true, length, slice_index, IfSome};
+ghost use Rattle.std.specs.Prelude.{◌≡◌, ◌<◌, ◌≤◌, true, length, IfSome};
 ghost use Rattle.bstr.specs.Utf8.{code_of_2, code_of_3, continues, decoded, good, second};
 
 /// A scalar value and how many bytes it takes.
@@ -10,10 +10,30 @@ pub(crate) struct Scalar {
     pub(crate) size: usize,
 }
 
-/// The scalar at the front of some bytes, if it takes at most three (Unicode Standard, table 3-7). None comes where it
-/// takes four, or where none stands there.
+/// How many bytes a scalar takes, if at most three.
+#[derive(Clone, Copy)]
+pub(crate) enum Width {
+    One,
+    Two,
+    Three,
+}
+
+/// The scalar of this width at the front of some bytes (Unicode Standard, table 3-7). None comes where none stands there.
 #[inline(always)]
-pub(crate) fn quick_scalar(bytes: &[u8]) -> Option<Scalar>
+pub(crate) fn scalar_of(width: Width, bytes: &[u8]) -> Option<Scalar>
+    requires { 0 < length bytes.now }
+    ensures { IfSome result (λ scalar. decoded bytes.now ≡ good scalar.code scalar.size) }
+{
+    match width {
+        Width::One => scalar_of_one(bytes),
+        Width::Two => scalar_of_two(bytes),
+        Width::Three => scalar_of_three(bytes),
+    }
+}
+
+/// The scalar of one byte at the front of some bytes.
+#[inline(always)]
+fn scalar_of_one(bytes: &[u8]) -> Option<Scalar>
     requires { 0 < length bytes.now }
     ensures { IfSome result (λ scalar. decoded bytes.now ≡ good scalar.code scalar.size) }
 {
@@ -24,24 +44,20 @@ pub(crate) fn quick_scalar(bytes: &[u8]) -> Option<Scalar>
             size: 1,
         });
     }
-    if first < 0xE0 {
-        return scalar_of_two(bytes);
-    }
-    if first < 0xF0 {
-        return scalar_of_three(bytes);
-    }
     None
 }
 
 /// The scalar of two bytes at the front of some bytes.
 #[inline(always)]
 fn scalar_of_two(bytes: &[u8]) -> Option<Scalar>
-    requires some { 0 < length bytes.now }
-    requires lead { (0x80 ≤ slice_index bytes.now 0) × (slice_index bytes.now 0 < 0xE0) }
+    requires { 0 < length bytes.now }
     ensures { IfSome result (λ scalar. decoded bytes.now ≡ good scalar.code scalar.size) }
 {
     let first = bytes[0];
     if first < 0xC2 {
+        return None;
+    }
+    if 0xDF < first {
         return None;
     }
     if bytes.len() < 2 {
@@ -60,14 +76,19 @@ fn scalar_of_two(bytes: &[u8]) -> Option<Scalar>
 /// The scalar of three bytes at the front of some bytes.
 #[inline(always)]
 fn scalar_of_three(bytes: &[u8]) -> Option<Scalar>
-    requires some { 0 < length bytes.now }
-    requires lead { (0xE0 ≤ slice_index bytes.now 0) × (slice_index bytes.now 0 < 0xF0) }
+    requires { 0 < length bytes.now }
     ensures { IfSome result (λ scalar. decoded bytes.now ≡ good scalar.code scalar.size) }
 {
+    let first = bytes[0];
+    if first < 0xE0 {
+        return None;
+    }
+    if 0xEF < first {
+        return None;
+    }
     if bytes.len() < 3 {
         return None;
     }
-    let first = bytes[0];
     let next = bytes[1];
     if !is_second_of_three(first, next) {
         return None;

@@ -12,7 +12,7 @@ ghost use Rattle.lbk_c.specs.Reached.{AreSwift, Reached};
 ghost use Rattle.lbk_c.specs.Shown.{given_in};
 
 use crate::ahead::code_ahead;
-use crate::decoding::quick_scalar;
+use crate::decoding::{Width, scalar_of};
 use crate::interface::Found;
 use crate::progress::Progress;
 use crate::steps::{CODES, step_at, steps_of};
@@ -61,11 +61,59 @@ fn quick(
         → Reached profile cell lefts text.now all start (given_in out.old start.count)
         → Reached profile cell lefts text.now all result (given_in out.new result.count) }
 {
+    let mut from = start.at;
+    let mut here = runs(kinds, steps, start, text, out);
+    while from < here.at && here.at < text.len() {
+        from = here.at;
+        here = runs(kinds, steps, here, text, out);
+    }
+    here
+}
+
+/// A run of scalars of each width, one behind the other. Each may be empty.
+#[inline(always)]
+fn runs(
+    kinds: &[u8; CODES],
+    steps: &[FlatStep; STEPS],
+    start: Progress,
+    text: &[u8],
+    out: &mut [Found],
+) -> Progress
+    requires { (start.count ≤ length out.old) × (start.row < 65536) × (start.at ≤ length text.now) }
+    ensures within { (result.count ≤ length out.old) × (result.row < 65536) × (result.at ≤ length text.now) }
+    ensures onward { start.at ≤ result.at }
+    ensures reached { (profile : Profile) (cell : ℕ → Cell) (lefts : List Left) (all : List Break) → AreSwift profile lefts steps.now → AreFlatKinds kinds.now cell
+        → Reached profile cell lefts text.now all start (given_in out.old start.count)
+        → Reached profile cell lefts text.now all result (given_in out.new result.count) }
+{
+    let behind_one = run(Width::One, kinds, steps, start, text, out);
+    let behind_two = run(Width::Two, kinds, steps, behind_one, text, out);
+    run(Width::Three, kinds, steps, behind_two, text, out)
+}
+
+/// A run of scalars of one width. In a text most scalars have the width of the one before, so a loop of its own for each
+/// width seldom goes where the processor does not expect it.
+#[inline(always)]
+fn run(
+    width: Width,
+    kinds: &[u8; CODES],
+    steps: &[FlatStep; STEPS],
+    start: Progress,
+    text: &[u8],
+    out: &mut [Found],
+) -> Progress
+    requires { (start.count ≤ length out.old) × (start.row < 65536) × (start.at ≤ length text.now) }
+    ensures within { (result.count ≤ length out.old) × (result.row < 65536) × (result.at ≤ length text.now) }
+    ensures onward { start.at ≤ result.at }
+    ensures reached { (profile : Profile) (cell : ℕ → Cell) (lefts : List Left) (all : List Break) → AreSwift profile lefts steps.now → AreFlatKinds kinds.now cell
+        → Reached profile cell lefts text.now all start (given_in out.old start.count)
+        → Reached profile cell lefts text.now all result (given_in out.new result.count) }
+{
     let mut count = start.count;
     let mut row = start.row;
     let mut at = start.at;
     while count < out.len() && at < text.len() {
-        let Some(scalar) = quick_scalar(&text[at..]) else {
+        let Some(scalar) = scalar_of(width, &text[at..]) else {
             break;
         };
         let step = step_at(steps, row, kinds[scalar.code as usize]);

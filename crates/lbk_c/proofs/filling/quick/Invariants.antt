@@ -8,16 +8,17 @@ use Rattle.lbk_c.specs.Reached.{AreSwift, Reached}
 use Rattle.lbk_c.specs.Shown.{given_in}
 use Rattle.lbk_c.proofs.filling.quick.Given as goal
 
-abbrev pub invariant-loop-count : goal.invariant-loop-count
-invariant-loop-count l = record {
-  room : l.count ≤ length l.out;
-  row : l.row < 65536;
-  within : l.at ≤ length l.text;
-  onward : l.initial.at ≤ l.at;
+abbrev pub invariant-loop-from : goal.invariant-loop-from
+invariant-loop-from l = record {
+  room : l.here.count ≤ length l.out;
+  row : l.here.row < 65536;
+  within : l.here.at ≤ length l.text;
+  onward : l.fn.start.at ≤ l.from;
+  ahead : l.from ≤ l.here.at;
   reached : (profile : Profile) (cell : ℕ → Cell) (lefts : List Left) (all : List Break) → AreSwift profile lefts l.steps → AreFlatKinds l.kinds cell
-      → Reached profile cell lefts l.text all (record { count = l.initial.count; row = l.initial.row; at = l.initial.at }) (given_in l.initial.out l.initial.count)
-      → Reached profile cell lefts l.text all (record { count = l.count; row = l.row; at = l.at }) (given_in l.out l.count);
+      → Reached profile cell lefts l.text all l.fn.start (given_in l.fn.out l.fn.start.count)
+      → Reached profile cell lefts l.text all l.here (given_in l.out l.here.count);
 }
 
-abbrev pub decreases-loop-count : goal.decreases-loop-count
-decreases-loop-count l = length l.text - l.at
+abbrev pub decreases-loop-from : goal.decreases-loop-from
+decreases-loop-from l = length l.text - l.from

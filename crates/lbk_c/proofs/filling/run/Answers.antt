@@ -1,7 +1,7 @@
 use Rattle.std.proofs.Common.{arith}
 use Rattle.lbk_c.proofs.LoopLemmas.{Reached-swift}
 use Rattle.lbk_c.proofs.PieceLemmas.{reads}
-use Rattle.lbk_c.proofs.filling.quick.Goals as goal
+use Rattle.lbk_c.proofs.filling.run.Goals as goal
 
 pub bounds-kinds-scalar : goal.bounds-kinds-scalar
 bounds-kinds-scalar c =
