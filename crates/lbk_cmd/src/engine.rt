@@ -1,17 +1,16 @@
 //! The engines: each reads a text to its end, and writes its lines of every passage.
 
-ghost use Rattle.std.specs.Prelude.{◌≡◌, ℕ, ◌+◌, ◌<◌, ◌≤◌, ◌↔◌, ◌++◌, List, length, IsUtf8, IsTrue, IfSome, OnOk, IsErrOf};
-ghost use Rattle.std.specs.Str.{chars};
-ghost use Rattle.std.specs.Io.KnownBytes.{Appends, IsAtEnd};
+ghost use Rattle.std.specs.Prelude.{◌≡◌, ◌+◌, ◌<◌, ◌≤◌, ◌↔◌, ◌++◌, List, length, IsTrue, OnOk, IsErrOf};
+ghost use Rattle.std.specs.Io.KnownBytes.{IsAtEnd};
 ghost use Rattle.lbk_feed.specs.Runs.{HasFailed, Ran};
 ghost use Rattle.lbk_passage.specs.Marks.{Marked};
 ghost use Rattle.lbk_passage.specs.Next.{IsPassage, IsPlaced};
-ghost use Rattle.lbk_passage.specs.Passages.{passages};
 ghost use Rattle.lbk_passage.specs.State.{State, IsLimit};
-ghost use Rattle.lbk_cmd.specs.Engines.{engine_of, lines_of, marking, showing, segmenting};
+ghost use Rattle.lbk_cmd.specs.Acts.{Marks, Segments, Shows};
+ghost use Rattle.lbk_cmd.specs.Devices.{devices_of};
+ghost use Rattle.lbk_cmd.specs.Engines.{engine_of, lines_of};
 ghost use Rattle.lbk_cmd.specs.Run.{IsRun, is_failed_read};
 ghost use Rattle.lbk_cmd.specs.Signing.{IsCut};
-ghost use Rattle.lbk_cmd.specs.Texts.{show_text, segment_text, signed_text};
 
 use super::faults::CmdFault;
 use super::segmented::push_segmented;
@@ -34,26 +33,10 @@ pub fn mark<R: Source, W: Sink, C: CellSource>(
     limit: u32,
     profile: Profile,
 ) -> Result<(), CmdFault>
-    // What is written of an input that the reader tells.
-    ensures shown { OnOk result (IfSome (R.unread reader.old) (λ input. IsUtf8 input
-        × Appends (W.written writer.old) (W.written writer.new) (signed_text (C.cell_of cells.now) (passages profile (C.cell_of cells.now) (chars input))))) }
-    ensures ended { OnOk result (IsTrue (R.has_ended reader.new) × IsAtEnd (R.unread reader.new)) }
-
-    // What was read and what was written, whatever the answer.
-    ensures run { Ran (is_failed_read result) (R.unread reader.old) (R.unread reader.new) (W.written writer.old)
-        (W.written writer.new) (IsRun (marking (C.cell_of cells.now) profile limit) (R.read_count reader.old)
-        (R.read_count reader.new) (R.has_ended reader.new) result) }
-    ensures reads { R.read_count reader.new ≤ R.read_count reader.old + 1073741825 }
-
-    // When each refusal comes that the bytes do not tell.
-    ensures limit { IsErrOf result (CmdFault.Passage PassageFault.Limit) ↔ (¬ (IsLimit limit)) }
-    ensures read { IsErrOf result (CmdFault.Passage PassageFault.Read)
-        → HasFailed (R.failure_count reader.old) (R.failure_count reader.new) }
-    ensures read_failed { R.failure_count reader.old < R.failure_count reader.new
-        → result ≡ Err (CmdFault.Passage PassageFault.Read) }
-    ensures write { IsErrOf result CmdFault.Write
-        → HasFailed (W.failure_count writer.old) (W.failure_count writer.new) }
-    ensures write_failed { W.failure_count writer.old < W.failure_count writer.new → result ≡ Err CmdFault.Write }
+    ensures { Marks (C.cell_of cells.now) limit profile
+        (devices_of (R.unread reader.old) (R.read_count reader.old) (R.failure_count reader.old) (R.has_ended reader.old) (W.written writer.old) (W.failure_count writer.old))
+        (devices_of (R.unread reader.new) (R.read_count reader.new) (R.failure_count reader.new) (R.has_ended reader.new) (W.written writer.new) (W.failure_count writer.new))
+        result }
 {
     write_lines(Lines::Signed, alloc, reader, writer, cells, limit, profile)
 }
@@ -72,26 +55,10 @@ pub fn show<R: Source, W: Sink, C: CellSource>(
     limit: u32,
     profile: Profile,
 ) -> Result<(), CmdFault>
-    // What is written of an input that the reader tells.
-    ensures shown { OnOk result (IfSome (R.unread reader.old) (λ input. IsUtf8 input
-        × Appends (W.written writer.old) (W.written writer.new) (show_text (passages profile (C.cell_of cells.now) (chars input))))) }
-    ensures ended { OnOk result (IsTrue (R.has_ended reader.new) × IsAtEnd (R.unread reader.new)) }
-
-    // What was read and what was written, whatever the answer.
-    ensures run { Ran (is_failed_read result) (R.unread reader.old) (R.unread reader.new) (W.written writer.old)
-        (W.written writer.new) (IsRun (showing (C.cell_of cells.now) profile limit) (R.read_count reader.old)
-        (R.read_count reader.new) (R.has_ended reader.new) result) }
-    ensures reads { R.read_count reader.new ≤ R.read_count reader.old + 1073741825 }
-
-    // When each refusal comes that the bytes do not tell.
-    ensures limit { IsErrOf result (CmdFault.Passage PassageFault.Limit) ↔ (¬ (IsLimit limit)) }
-    ensures read { IsErrOf result (CmdFault.Passage PassageFault.Read)
-        → HasFailed (R.failure_count reader.old) (R.failure_count reader.new) }
-    ensures read_failed { R.failure_count reader.old < R.failure_count reader.new
-        → result ≡ Err (CmdFault.Passage PassageFault.Read) }
-    ensures write { IsErrOf result CmdFault.Write
-        → HasFailed (W.failure_count writer.old) (W.failure_count writer.new) }
-    ensures write_failed { W.failure_count writer.old < W.failure_count writer.new → result ≡ Err CmdFault.Write }
+    ensures { Shows (C.cell_of cells.now) limit profile
+        (devices_of (R.unread reader.old) (R.read_count reader.old) (R.failure_count reader.old) (R.has_ended reader.old) (W.written writer.old) (W.failure_count writer.old))
+        (devices_of (R.unread reader.new) (R.read_count reader.new) (R.failure_count reader.new) (R.has_ended reader.new) (W.written writer.new) (W.failure_count writer.new))
+        result }
 {
     write_lines(Lines::Shown, alloc, reader, writer, cells, limit, profile)
 }
@@ -109,27 +76,10 @@ pub fn segment<R: Source, W: Sink, C: CellSource>(
     limit: u32,
     profile: Profile,
 ) -> Result<(), CmdFault>
-    // What is written of an input that the reader tells.
-    ensures shown { OnOk result (IfSome (R.unread reader.old) (λ input. IsUtf8 input
-        × Appends (W.written writer.old) (W.written writer.new)
-        (segment_text (C.cell_of cells.now) (passages profile (C.cell_of cells.now) (chars input))))) }
-    ensures ended { OnOk result (IsTrue (R.has_ended reader.new) × IsAtEnd (R.unread reader.new)) }
-
-    // What was read and what was written, whatever the answer.
-    ensures run { Ran (is_failed_read result) (R.unread reader.old) (R.unread reader.new) (W.written writer.old)
-        (W.written writer.new) (IsRun (segmenting (C.cell_of cells.now) profile limit) (R.read_count reader.old)
-        (R.read_count reader.new) (R.has_ended reader.new) result) }
-    ensures reads { R.read_count reader.new ≤ R.read_count reader.old + 1073741825 }
-
-    // When each refusal comes that the bytes do not tell.
-    ensures limit { IsErrOf result (CmdFault.Passage PassageFault.Limit) ↔ (¬ (IsLimit limit)) }
-    ensures read { IsErrOf result (CmdFault.Passage PassageFault.Read)
-        → HasFailed (R.failure_count reader.old) (R.failure_count reader.new) }
-    ensures read_failed { R.failure_count reader.old < R.failure_count reader.new
-        → result ≡ Err (CmdFault.Passage PassageFault.Read) }
-    ensures write { IsErrOf result CmdFault.Write
-        → HasFailed (W.failure_count writer.old) (W.failure_count writer.new) }
-    ensures write_failed { W.failure_count writer.old < W.failure_count writer.new → result ≡ Err CmdFault.Write }
+    ensures { Segments (C.cell_of cells.now) limit profile
+        (devices_of (R.unread reader.old) (R.read_count reader.old) (R.failure_count reader.old) (R.has_ended reader.old) (W.written writer.old) (W.failure_count writer.old))
+        (devices_of (R.unread reader.new) (R.read_count reader.new) (R.failure_count reader.new) (R.has_ended reader.new) (W.written writer.new) (W.failure_count writer.new))
+        result }
 {
     write_lines(
         Lines::Segmented,

@@ -15,14 +15,4 @@ returns-in-Err-Write-clause-refused g c =
     (devices_of (source.unread c.show.new.reader) (source.read_count c.show.new.reader) (source.failure_count c.show.new.reader) (source.has_ended c.show.new.reader)
     (Some (inner_of c.show.new.writer).items) (failures_of c.show.new.writer))
     c.show.result (c.in-Err-Write.is ∙ ap Err c.in-Err-Write.field-0-is)
-    (record {
-      shown = c.show.ensures.shown;
-      ended = c.show.ensures.ended;
-      run = c.show.ensures.run;
-      reads = c.show.ensures.reads;
-      limit = c.show.ensures.limit;
-      read = c.show.ensures.read;
-      read_failed = c.show.ensures.read_failed;
-      write = c.show.ensures.write;
-      write_failed = c.show.ensures.write_failed;
-    })
+    c.show.ensures

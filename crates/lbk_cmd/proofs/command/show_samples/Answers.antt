@@ -12,17 +12,7 @@ returns-in-Ok g c = inr (
   c.in-Ok.ensures,
   (
     c.show.result,
-    record {
-      shown = c.show.ensures.shown;
-      ended = c.show.ensures.ended;
-      run = c.show.ensures.run;
-      reads = c.show.ensures.reads;
-      limit = c.show.ensures.limit;
-      read = c.show.ensures.read;
-      read_failed = c.show.ensures.read_failed;
-      write = c.show.ensures.write;
-      write_failed = c.show.ensures.write_failed;
-    },
+    c.show.ensures,
     c.of_text.ensures,
   ),
 )
