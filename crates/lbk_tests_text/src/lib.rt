@@ -1,18 +1,10 @@
-//! Tests of passages, lines, replays and the engines over devices in memory. Most are tables of rows with answers from outside.
+//! Tests of passages and of the engines over devices in memory. Most are tables of rows with answers from outside.
 #![tactic(auto)]
 
 #[cfg(test)]
-mod broken;
-#[cfg(test)]
 mod calls;
 #[cfg(test)]
-mod laws;
-#[cfg(test)]
-mod lines;
-#[cfg(test)]
 mod passages;
-#[cfg(test)]
-mod replayed;
 #[cfg(test)]
 mod segment_lines;
 #[cfg(test)]
