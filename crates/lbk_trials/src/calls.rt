@@ -7,10 +7,10 @@ use crate::counting::{begin, end};
 use crate::inputs::{Input, source_of};
 use anyhow::{Result, ensure};
 use lbk_args::{Order, WordsFault};
-use lbk_cmd::{CmdFault, Ending};
+use lbk_cmd::{BreakFault, CmdFault, Ending};
 use lbk_feed::Source;
 use lbk_feed::devices::{MemorySink, MemorySource};
-use lbk_files::{CellsFault, LoadFault, MemoryStore, Ready, Stop, Store};
+use lbk_files::{CellsFault, LoadFault, MemoryStore, Ready, SAMPLE_FILES, Stop, Store};
 use lbk_notation::{Form, LineFault, Mark, ReplayFault, Report, TestLine};
 use lbk_passage::{Passage, PassageFault, Segmenter};
 use lbk_rules::{CellPages, Profile, Verdict};
@@ -189,6 +189,19 @@ pub fn segment(
     let mut source = source_of(&input.bytes);
     begin(alloc);
     let answer = lbk_cmd::segment(alloc, &mut source, sink, &input.cells, limit, profile);
+    end(alloc);
+    answer
+}
+
+pub fn break_text(
+    alloc: Global,
+    input: &Input,
+    limit: u32,
+    profile: Profile,
+) -> Result<Vec<TestLine>, BreakFault> {
+    let mut source = source_of(&input.bytes);
+    begin(alloc);
+    let answer = lbk_cmd::break_text(alloc, SAMPLE_FILES, &mut source, limit, profile);
     end(alloc);
     answer
 }

@@ -1,10 +1,10 @@
-//! `show`, `segment` and `replay`: what they answer, and what went out; and the sink that it goes to.
+//! `show`, `segment` and `replay`: what they answer, and what went out; the sink that it goes to; and `break_text`.
 
 use crate::calls;
 use crate::inputs::{Input, sink_of};
-use crate::told::{answer_told, fault_told};
+use crate::told::{answer_told, fault_told, line_told};
 use anyhow::Result;
-use lbk_notation::Form;
+use lbk_notation::{Form, TestLine};
 use lbk_rules::Profile;
 use std::alloc::Global;
 
@@ -24,6 +24,23 @@ pub fn replay(alloc: Global, input: &Input, form: Form, profile: Profile) -> Res
     let mut sink = sink_of(alloc)?;
     let answer = calls::replay(alloc, input, &mut sink, form, profile);
     answer_told(alloc, &answer, sink.bytes())
+}
+
+pub fn break_text(alloc: Global, input: &Input, limit: u32, profile: Profile) -> Result<String> {
+    match calls::break_text(alloc, input, limit, profile) {
+        Ok(lines) => lines_told(alloc, &lines),
+        Err(fault) => fault_told(alloc, &fault),
+    }
+}
+
+fn lines_told(alloc: Global, lines: &[TestLine]) -> Result<String> {
+    let count = lines.len();
+    let mut text = format!(in alloc; "Ok: {count} lines\n")?;
+    for line in lines {
+        let line = line_told(alloc, line)?;
+        text.push_str(&line)?;
+    }
+    Ok(text)
 }
 
 pub fn sink(alloc: Global, room: u16) -> Result<String> {

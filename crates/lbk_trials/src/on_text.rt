@@ -26,6 +26,8 @@ pub enum OnText {
     Show(u32),
     /// `segment` with a limit.
     Segment(u32),
+    /// `break_text` with a limit.
+    BreakText(u32),
     /// `replay`.
     Replay(Form),
     /// `decide`, `decide_in`, `decide_all`, `decide_all_in`, which take no memory.
@@ -55,6 +57,7 @@ impl OnText {
             OnText::PushPassageLine => pushes::passage_line(alloc, input, profile),
             OnText::Show(limit) => engines::show(alloc, input, limit, profile),
             OnText::Segment(limit) => engines::segment(alloc, input, limit, profile),
+            OnText::BreakText(limit) => engines::break_text(alloc, input, limit, profile),
             OnText::Replay(form) => engines::replay(alloc, input, form, profile),
             OnText::Decide => verdicts::decided(alloc, input, profile),
             OnText::Machines => verdicts::machines(alloc, input, profile),

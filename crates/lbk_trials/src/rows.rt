@@ -439,7 +439,27 @@ static PUSHES: [Row; 10] = [
     ("push-mark/kinds", Trial::PushMark(Mark::Must, Form::Kinds)),
 ];
 
-static ENGINES: [Row; 29] = [
+static ENGINES: [Row; 34] = [
+    (
+        "break-text/empty",
+        Trial::OnText(EMPTY, OnText::BreakText(LIMIT)),
+    ),
+    (
+        "break-text/two-words",
+        Trial::OnText(TWO_WORDS, OnText::BreakText(LIMIT)),
+    ),
+    (
+        "break-text/quoted",
+        Trial::OnText(QUOTED, OnText::BreakText(LIMIT)),
+    ),
+    (
+        "break-text/long",
+        Trial::OnText(LONG, OnText::BreakText(LIMIT)),
+    ),
+    (
+        "break-text/ill-formed",
+        Trial::OnText(Text::Bytes(b"a\nb\xFF"), OnText::BreakText(LIMIT)),
+    ),
     ("show/empty", Trial::OnText(EMPTY, OnText::Show(LIMIT))),
     (
         "show/two-words",
