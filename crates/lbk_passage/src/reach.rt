@@ -61,7 +61,6 @@ pub fn reach_in<C: CellSource>(
 {
     let mut here = Place { len: 0, last };
     loop {
-        here = pass_quiet(cells, flags, piece, room, here);
         let mut scalars = piece[here.len..].chars();
         let Some(c) = scalars.next() else {
             return here.stops(Stop::PieceEnds);
@@ -78,6 +77,10 @@ pub fn reach_in<C: CellSource>(
             len: next,
             last: Some(class),
         };
+        // Scalars of one byte come in runs.
+        if c.is_ascii() {
+            here = pass_quiet(cells, flags, piece, room, here);
+        }
     }
 }
 

@@ -10,25 +10,25 @@ pub loop-c-init : goal.loop-c-init
 loop-c-init g c = Passes-none (g.C.CellSource.cell_of c.args.cells.now) c.args.last c.args.piece.now c.args.room c.utf8.piece
 
 pub range_from-requires : goal.range_from-requires
-range_from-requires g c = λ _. (c.pass_quiet-here.ensures.passes c.args.last c.loop-c.invariant).place
+range_from-requires g c = λ _. c.loop-c.invariant.place
 
 pub returns-in_default : goal.returns-in_default
 returns-in_default g c =
-    let here = c.pass_quiet-here.result in
+    let here = c.loop-c.here in
     let piece = c.args.piece.now in
     let empty : length (drop here.len piece) ≡ 0 =
     ap length (sym (c.chars-scalars.ensures.rest ∙ c.range_from.ensures.value)) ∙ c.in_default.ensures.steps.0.0 in
     let none : chars (drop here.len piece) ≡ [] = ap chars (nil_from_length (drop here.len piece) empty) ∙ chars-nil in
     Passes-stops (g.C.CellSource.cell_of c.args.cells.now) c.args.last piece c.args.room c.utf8.piece here.len here.last c.stops.result
-    (c.pass_quiet-here.ensures.passes c.args.last c.loop-c.invariant) (c.stops.ensures.0, c.stops.ensures.1)
+    c.loop-c.invariant (c.stops.ensures.0, c.stops.ensures.1)
     (rw c.stops.ensures.2 none)
 
 pub returns-then-ends_at : goal.returns-then-ends_at
 returns-then-ends_at g c =
     let cell = g.C.CellSource.cell_of c.args.cells.now in
-    let here = c.pass_quiet-here.result in
+    let here = c.loop-c.here in
     let piece = c.args.piece.now in
-    let passes = c.pass_quiet-here.ensures.passes c.args.last c.loop-c.invariant in
+    let passes = c.loop-c.invariant in
     let scalar = c.in-Some.c in
     let more = c.next.new.self.rest.now in
     let splits : drop here.len piece ≡ encode_utf8 scalar ++ more =
@@ -42,9 +42,9 @@ returns-then-ends_at g c =
 pub returns-then-next-room : goal.returns-then-next-room
 returns-then-next-room g c =
     let cell = g.C.CellSource.cell_of c.args.cells.now in
-    let here = c.pass_quiet-here.result in
+    let here = c.loop-c.here in
     let piece = c.args.piece.now in
-    let passes = c.pass_quiet-here.ensures.passes c.args.last c.loop-c.invariant in
+    let passes = c.loop-c.invariant in
     let scalar = c.in-Some.c in
     let more = c.as_str.result.now in
     let splits : drop here.len piece ≡ encode_utf8 scalar ++ more =
@@ -59,9 +59,9 @@ returns-then-next-room g c =
 pub loop-c-preserved : goal.loop-c-preserved
 loop-c-preserved g c =
     let cell = g.C.CellSource.cell_of c.args.cells.now in
-    let here = c.pass_quiet-here.result in
+    let here = c.loop-c.here in
     let piece = c.args.piece.now in
-    let passes = c.pass_quiet-here.ensures.passes c.args.last c.loop-c.invariant in
+    let passes = c.loop-c.invariant in
     let scalar = c.in-Some.c in
     let more = c.as_str.result.now in
     let splits : drop here.len piece ≡ encode_utf8 scalar ++ more =
@@ -70,3 +70,18 @@ loop-c-preserved g c =
     ap (λ k. ends_at here.last k.class) (sym c.cell-class.ensures) ∙ sym c.ends_at.ensures ∙ c.if-ends_at.false in
     rw c.cell-class.ensures (Passes-more cell c.args.last piece c.args.room c.utf8.piece here.len here.last scalar more passes splits none
     (omega (arith, c.if-next-room.false)))
+
+pub loop-c-preserved-then-is_ascii : goal.loop-c-preserved-then-is_ascii
+loop-c-preserved-then-is_ascii g c =
+    let cell = g.C.CellSource.cell_of c.args.cells.now in
+    let here = c.loop-c.here in
+    let piece = c.args.piece.now in
+    let passes = c.loop-c.invariant in
+    let scalar = c.in-Some.c in
+    let more = c.as_str.result.now in
+    let splits : drop here.len piece ≡ encode_utf8 scalar ++ more =
+    sym (c.chars-scalars.ensures.rest ∙ c.range_from.ensures.value) ∙ c.in-Some.ensures.steps.0 ∙ ap (λ bytes. encode_utf8 scalar ++ bytes) (sym c.as_str.ensures) in
+    let none : ends_at here.last (cell scalar).class ≡ false =
+    ap (λ k. ends_at here.last k.class) (sym c.cell-class.ensures) ∙ sym c.ends_at.ensures ∙ c.if-ends_at.false in
+    c.pass_quiet-here.ensures.passes c.args.last (rw c.cell-class.ensures (Passes-more cell c.args.last piece c.args.room c.utf8.piece here.len here.last scalar more passes splits none
+    (omega (arith, c.if-next-room.false))))
