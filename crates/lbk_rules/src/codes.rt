@@ -56,52 +56,7 @@ fn place_of_rule(rule: Rule) -> u16
     rule as u16
 }
 
-/// The kinds in their order.
-const KINDS: [Kind; 3] = [Kind::No, Kind::May, Kind::Must];
-
-/// The rules in their order.
-const RULES: [Rule; 38] = [
-    Rule::Lb2,
-    Rule::Lb3,
-    Rule::Lb4,
-    Rule::Lb5,
-    Rule::Lb6,
-    Rule::Lb7,
-    Rule::Lb8,
-    Rule::Lb8a,
-    Rule::Lb9,
-    Rule::Lb11,
-    Rule::Lb12,
-    Rule::Lb12a,
-    Rule::Lb13,
-    Rule::Lb14,
-    Rule::Lb15,
-    Rule::Lb15a,
-    Rule::Lb15b,
-    Rule::Lb16,
-    Rule::Lb17,
-    Rule::Lb18,
-    Rule::Lb19,
-    Rule::Lb20,
-    Rule::Lb21,
-    Rule::Lb21a,
-    Rule::Lb21b,
-    Rule::Lb22,
-    Rule::Lb23,
-    Rule::Lb23a,
-    Rule::Lb24,
-    Rule::Lb25,
-    Rule::Lb26,
-    Rule::Lb27,
-    Rule::Lb28,
-    Rule::Lb29,
-    Rule::Lb30,
-    Rule::Lb30a,
-    Rule::Lb30b,
-    Rule::Lb31,
-];
-
-// Lists that are read by place, in place of a match: a match with an arm that is never reached is compiled as a test.
+// The numbers are those of the variants, so LLVM makes no code of these two matches.
 
 /// The kind of this place among the kinds.
 #[inline(always)]
@@ -109,7 +64,12 @@ fn kind_numbered(number: u16) -> Kind
     requires { number < 3 }
     ensures { result ≡ kind_numbered number }
 {
-    KINDS[number as usize]
+    match number {
+        0 => Kind::No,
+        1 => Kind::May,
+        2 => Kind::Must,
+        _ => unreachable!(),
+    }
 }
 
 /// The rule of this place among the rules.
@@ -118,5 +78,45 @@ fn rule_numbered(number: u16) -> Rule
     requires { number < 38 }
     ensures { result ≡ rule_numbered number }
 {
-    RULES[number as usize]
+    match number {
+        0 => Rule::Lb2,
+        1 => Rule::Lb3,
+        2 => Rule::Lb4,
+        3 => Rule::Lb5,
+        4 => Rule::Lb6,
+        5 => Rule::Lb7,
+        6 => Rule::Lb8,
+        7 => Rule::Lb8a,
+        8 => Rule::Lb9,
+        9 => Rule::Lb11,
+        10 => Rule::Lb12,
+        11 => Rule::Lb12a,
+        12 => Rule::Lb13,
+        13 => Rule::Lb14,
+        14 => Rule::Lb15,
+        15 => Rule::Lb15a,
+        16 => Rule::Lb15b,
+        17 => Rule::Lb16,
+        18 => Rule::Lb17,
+        19 => Rule::Lb18,
+        20 => Rule::Lb19,
+        21 => Rule::Lb20,
+        22 => Rule::Lb21,
+        23 => Rule::Lb21a,
+        24 => Rule::Lb21b,
+        25 => Rule::Lb22,
+        26 => Rule::Lb23,
+        27 => Rule::Lb23a,
+        28 => Rule::Lb24,
+        29 => Rule::Lb25,
+        30 => Rule::Lb26,
+        31 => Rule::Lb27,
+        32 => Rule::Lb28,
+        33 => Rule::Lb29,
+        34 => Rule::Lb30,
+        35 => Rule::Lb30a,
+        36 => Rule::Lb30b,
+        37 => Rule::Lb31,
+        _ => unreachable!(),
+    }
 }
