@@ -70,8 +70,34 @@ impl<'a> RowStepper<'a> {
     /// Takes the next scalar: the verdict of the position before it, unless that is held, and that of
     /// the position that was held until now, where the scalar heads the unit after its quotation mark. It answers so for
     /// the first 18,446,744,073,709,551,615 scalars of a text.
-    #[inline]
+    #[inline(always)]
     pub fn step(&mut self, c: char) -> Out
+        ensures now { (profile : Profile) (cell : ℕ → Cell) (taken : List ℕ) (more : List Cell)
+            → RowStepperFits self.old profile cell taken
+            → result.now ≡ now_at profile (map cell taken) (cell c ∷ more) }
+        ensures late { (profile : Profile) (cell : ℕ → Cell) (taken : List ℕ) (more : List Cell)
+            → RowStepperFits self.old profile cell taken
+            → result.late ≡ late_at profile (map cell taken) (cell c) more }
+        ensures fits { (profile : Profile) (cell : ℕ → Cell) (taken : List ℕ)
+            → RowStepperFits self.old profile cell taken → length taken < 18446744073709551615
+            → RowStepperFits self.new profile cell (taken ++ c ∷ []) }
+    {
+        let mut machine = self.machine;
+        let verdict = machine.step(c);
+        if self.held.is_none() && !verdict.rule.is_15b() {
+            self.machine = machine;
+            self.steps = self.steps.saturating_add(1);
+            return Out {
+                now: Some(verdict),
+                late: None,
+            };
+        }
+        self.step_with_held(c)
+    }
+
+    /// The same where a position is held before the step or behind it, which is rare.
+    #[inline(never)]
+    fn step_with_held(&mut self, c: char) -> Out
         ensures now { (profile : Profile) (cell : ℕ → Cell) (taken : List ℕ) (more : List Cell)
             → RowStepperFits self.old profile cell taken
             → result.now ≡ now_at profile (map cell taken) (cell c ∷ more) }
@@ -85,12 +111,6 @@ impl<'a> RowStepper<'a> {
         let before = *self;
         let verdict = self.machine.step(c);
         self.steps = self.steps.saturating_add(1);
-        if before.held.is_none() && !verdict.rule.is_15b() {
-            return Out {
-                now: Some(verdict),
-                late: None,
-            };
-        }
         self.held = before.holding(c, verdict.rule.is_15b());
         Out {
             now: unless_held(verdict),
@@ -129,7 +149,6 @@ impl<'a> RowStepper<'a> {
     }
 
     /// The answer that `c` brings with it: none, if it heads no unit.
-    #[inline(never)]
     fn late(self, c: char) -> Option<(u64, Verdict)>
         ensures { (profile : Profile) (cell : ℕ → Cell) (taken : List ℕ) (more : List Cell)
             → RowStepperFits self.entry profile cell taken
@@ -146,7 +165,6 @@ impl<'a> RowStepper<'a> {
     }
 
     /// What it holds once `c` was taken. `holds`: the position before `c` is held.
-    #[inline(never)]
     fn holding(self, c: char, holds: bool) -> Option<HeldRow>
         ensures { (profile : Profile) (cell : ℕ → Cell) (taken : List ℕ)
             → RowStepperFits self.entry profile cell taken

@@ -55,7 +55,7 @@ impl<'a, C: CellSource> Stepper<'a, C> {
     /// Takes the next scalar: the verdict of the position before it, unless that is held, and that of the position
     /// that was held until now, where the scalar heads the unit after its quotation mark. It answers so for the first
     /// 18,446,744,073,709,551,615 scalars of a text.
-    #[inline]
+    #[inline(always)]
     pub fn step(&mut self, c: char) -> Out
         ensures now { (profile : Profile) (cell : ℕ → Cell) (taken : List ℕ) (more : List Cell)
             → StepperFits C.cell_of self.old profile cell taken → length taken < 18446744073709551615

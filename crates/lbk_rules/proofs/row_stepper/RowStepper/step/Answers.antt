@@ -44,22 +44,3 @@ returns-then-not-is_15b-clause-fits c = λ profile cell taken fits few.
       held_same = subst (λ h. Holds profile h (waiting profile (reverse (normals cell (taken ++ c.args.c ∷ []))))) (sym none)
           (subst (λ s. Holds profile None (waiting profile s)) (sym (normals-back cell taken c.args.c)) calm);
     }
-
-pub returns-clause-now : goal.returns-clause-now
-returns-clause-now c = λ profile cell taken more fits.
-    c.unless_held.ensures
-    ∙ now-told profile cell taken c.args.c more c.step-verdict.result
-    (c.step-verdict.ensures.held profile cell taken more fits.machine_fits)
-    (c.step-verdict.ensures.decides profile cell taken more fits.machine_fits)
-
-pub returns-clause-fits : goal.returns-clause-fits
-returns-clause-fits c = λ profile cell taken fits few.
-    let counted = fits.steps_same in
-    let more = length_push taken c.args.c in
-    record {
-      machine_fits = c.step-verdict.ensures.fits profile cell taken fits.machine_fits;
-      steps_same = omega (arith, c.saturating_add-self.ensures);
-      held_same = subst (λ s. Holds profile c.holding-self.result (waiting profile s)) (sym (normals-back cell taken c.args.c))
-          (c.holding-self.ensures profile cell taken fits
-          (c.step-verdict.ensures.held profile cell taken [] fits.machine_fits ∙ sym c.is_15b-2.ensures));
-    }
