@@ -18,6 +18,11 @@ pub enum LoadFault {
 /// Files by their names, whose loads are counted, and of these the ones that were refused memory.
 ///
 /// A count stays at `u64::MAX` once it is there.
+///
+/// ```rust
+/// let ending = run(alloc, words, &mut store, reader, writer);
+/// (ending, store.loads())
+/// ```
 pub trait Store {
     // What the file of a name holds, where the store tells it; `None` in it is a file that cannot be read.
     ghost file: { Self → List ℕ → Option (Option (List ℕ)) };
