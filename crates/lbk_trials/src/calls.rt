@@ -40,7 +40,7 @@ pub fn pages(alloc: Global, tables: &Tables) -> Result<CellPages, AllocError> {
 
 pub fn cells(alloc: Global, files: Files<'_>) -> Result<CellPages, CellsFault> {
     begin(alloc);
-    let answer = lbk_files::read_cells(alloc, files);
+    let answer = bare_cells(alloc, files);
     end(alloc);
     answer
 }
@@ -63,7 +63,7 @@ pub fn next<'s>(
     source: &mut MemorySource<'_>,
 ) -> Result<Option<Passage<'s>>, PassageFault> {
     begin(alloc);
-    let answer = segmenter.next(source);
+    let answer = bare_next(segmenter, source);
     end(alloc);
     answer
 }
@@ -215,14 +215,14 @@ pub fn replay(
 ) -> Result<Report, ReplayFault> {
     let mut source = source_of(&input.bytes);
     begin(alloc);
-    let answer = lbk_notation::replay(alloc, &mut source, sink, &input.cells, form, profile);
+    let answer = bare_replay(alloc, &mut source, sink, &input.cells, form, profile);
     end(alloc);
     answer
 }
 
 pub fn parse(alloc: Global, words: Words) -> Result<Order<'static>, WordsFault> {
     begin(alloc);
-    let answer = lbk_args::parse(alloc, words);
+    let answer = bare_parse(alloc, words);
     end(alloc);
     answer
 }
@@ -266,7 +266,45 @@ pub fn run(
 ) -> Ending {
     let mut source = source_of(bytes);
     begin(alloc);
-    let ending = lbk_cmd::run(alloc, words, store, &mut source, sink);
+    let ending = bare_run(alloc, words, store, &mut source, sink);
     end(alloc);
     ending
+}
+
+// A call and no more, so that what it promises is not carried over the end of the count.
+
+fn bare_next<'s>(
+    segmenter: &'s mut Segmenter<'_, CellPages>,
+    source: &mut MemorySource<'_>,
+) -> Result<Option<Passage<'s>>, PassageFault> {
+    segmenter.next(source)
+}
+
+fn bare_run(
+    alloc: Global,
+    words: Words,
+    store: &mut MemoryStore<'_>,
+    source: &mut MemorySource<'_>,
+    sink: &mut MemorySink,
+) -> Ending {
+    lbk_cmd::run(alloc, words, store, source, sink)
+}
+
+fn bare_parse(alloc: Global, words: Words) -> Result<Order<'static>, WordsFault> {
+    lbk_args::parse(alloc, words)
+}
+
+fn bare_replay(
+    alloc: Global,
+    source: &mut MemorySource<'_>,
+    sink: &mut MemorySink,
+    cells: &CellPages,
+    form: Form,
+    profile: Profile,
+) -> Result<Report, ReplayFault> {
+    lbk_notation::replay(alloc, source, sink, cells, form, profile)
+}
+
+fn bare_cells(alloc: Global, files: Files<'_>) -> Result<CellPages, CellsFault> {
+    lbk_files::read_cells(alloc, files)
 }

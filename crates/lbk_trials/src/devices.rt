@@ -87,9 +87,7 @@ pub fn device(alloc: Global) -> Result<String> {
 /// What a device over a reader answers, and what it counts.
 #[derive(Clone, Copy)]
 struct Reads {
-    first: Result<usize, Failed>,
-    second: Result<usize, Failed>,
-    third: Result<usize, Failed>,
+    answers: [Result<usize, Failed>; 3],
     reads: u64,
     ended: bool,
     failures: u64,
@@ -99,9 +97,7 @@ impl Reads {
     fn make() -> Reads {
         let mut reader = Device::new(b"bytes of a reader".as_slice());
         Reads {
-            first: read(&mut reader),
-            second: read(&mut reader),
-            third: read(&mut reader),
+            answers: [read(&mut reader), read(&mut reader), read(&mut reader)],
             reads: reader.reads(),
             ended: reader.ended(),
             failures: Source::failures(&reader),
@@ -109,21 +105,34 @@ impl Reads {
     }
 
     fn told(self, alloc: Global) -> Result<String, AllocError> {
-        let Reads {
-            first,
-            second,
-            third,
-            reads,
-            ended,
-            ..
-        } = self;
-        format!(in alloc; "{first:?} {second:?} {third:?} {reads} {ended}")
+        let mut told = String::new(alloc);
+        for answer in &self.answers {
+            tell_read(&mut told, answer)?;
+        }
+        tell_counts(&mut told, self.reads, self.ended)?;
+        Ok(told)
     }
+}
+
+fn tell_read(told: &mut String, answer: &Result<usize, Failed>) -> Result<(), AllocError> {
+    write!(told, "{answer:?} ")
+}
+
+fn tell_counts(told: &mut String, reads: u64, ended: bool) -> Result<(), AllocError> {
+    write!(told, "{reads} {ended}")
 }
 
 fn read(reader: &mut Device<&[u8]>) -> Result<usize, Failed> {
     let mut block = [0u8; 16];
     reader.read(&mut block)
+}
+
+fn write_some(writer: &mut Device<Vec<u8>>, bytes: &[u8]) -> Result<usize, Failed> {
+    writer.write(bytes)
+}
+
+fn write_whole(writer: &mut Device<Vec<u8>>, bytes: &[u8]) -> Result<(), Failed> {
+    write_all(writer, bytes)
 }
 
 /// What a device over a writer answers, and what it counts.
@@ -138,8 +147,8 @@ impl Writes {
     fn make(room: Vec<u8>) -> Writes {
         let mut writer = Device::new(room);
         Writes {
-            first: writer.write(b"bytes of "),
-            all: write_all(&mut writer, b"a writer"),
+            first: write_some(&mut writer, b"bytes of "),
+            all: write_whole(&mut writer, b"a writer"),
             failures: Sink::failures(&writer),
         }
     }

@@ -89,7 +89,10 @@ pub fn sink_of(alloc: Global) -> Result<MemorySink, AllocError> {
 
 /// The tables of files that are lawful.
 pub fn tables_of(alloc: Global, files: Files<'_>) -> Result<Tables> {
-    Tables::read(alloc, files).map_err(|_| anyhow!("the files of this row are refused"))
+    match Tables::read(alloc, files) {
+        Ok(tables) => Ok(tables),
+        Err(_) => Err(anyhow!("the files of this row are refused")),
+    }
 }
 
 /// The cells by the sample files.
@@ -99,7 +102,10 @@ pub fn cells(alloc: Global) -> Result<CellPages> {
 
 /// The text of these bytes, which are well-formed.
 pub fn text_of(bytes: &[u8]) -> Result<&str> {
-    str::from_utf8(bytes).map_err(|_| anyhow!("the text of this row is not UTF-8"))
+    match str::from_utf8(bytes) {
+        Ok(text) => Ok(text),
+        Err(_) => Err(anyhow!("the text of this row is not UTF-8")),
+    }
 }
 
 const BLANK: Verdict = Verdict {

@@ -39,9 +39,10 @@ fn segmenter_of(
     limit: u32,
     profile: Profile,
 ) -> Result<Segmenter<'_, CellPages>> {
-    Segmenter::new(alloc, cells, limit, profile).map_err(|_| anyhow!(
-        "the limit of this row is refused"
-    ))
+    match Segmenter::new(alloc, cells, limit, profile) {
+        Ok(segmenter) => Ok(segmenter),
+        Err(_) => Err(anyhow!("the limit of this row is refused")),
+    }
 }
 
 fn all_told(
