@@ -4,7 +4,7 @@ use lbk_args::{DEFAULT_LIMIT, Engine, FileName, FileNames, Order};
 use lbk_cmd::{ClaimCause, CmdFault, RunFault};
 use lbk_files::name_in_database;
 use lbk_notation::ReplayFault;
-use lbk_passage::PassageFault;
+use lbk_passage::{LIMIT_MAX, PassageFault};
 use lbk_ucd::{UcdCause, UcdFault, Which};
 use std::fmt;
 use std::io::ErrorKind;
@@ -174,8 +174,9 @@ impl<'a> Message<'a> {
         fault: PassageFault,
     ) -> fmt::Result {
         match fault {
-            PassageFault::Limit => write!(f, "the limit of a paragraph is 1 to 16777216 bytes"),
-            PassageFault::Memory => write!(f, "out of memory"),
+            PassageFault::Limit | PassageFault::Memory => {
+                write!(f, "{}", CmdFault::Passage(fault))
+            }
             PassageFault::Read | PassageFault::Spent => {
                 write!(f, "standard input cannot be read{}", self.why())
             }
@@ -189,7 +190,7 @@ impl<'a> Message<'a> {
             PassageFault::ParagraphTooLong { start } => write!(
                 f,
                 "standard input: byte {start}: the paragraph from here on has more than {} bytes; \
-                 --limit raises the limit, up to 16777216",
+                 --limit raises the limit, up to {LIMIT_MAX}",
                 self.limit()
             ),
         }
