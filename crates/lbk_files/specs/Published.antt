@@ -1,9 +1,11 @@
 -- What a property file of Unicode 15.0 says of itself, at its beginning and at its end.
-use Rattle.std.specs.Prelude.{ℕ, ◌-◌, ◌≤◌, List, length, codes}
-use Rattle.bstr.specs.Find.{OccursAt}
+use Rattle.std.specs.Prelude.{◌≡◌, ℕ, ◌-◌, ◌+◌, ◌≤◌, ◌++◌, ◌∷◌, ◌⊎◌, List, Some, drop, length, codes}
+use Rattle.std.specs.Str.Parse.{IsNumeral, digits_value, without_leading_plus}
+use Rattle.bstr.specs.Find.{FindsNeedle, OccursAt}
 use Rattle.bstr.specs.Text.{Contains}
 use Rattle.lbk_ucd.specs.declared.values.Which.{Which}
 use Rattle.lbk_ucd.specs.declared.values.Which.TheVariants.{LineBreak, EastAsianWidth, Category, Emoji}
+use Rattle.lbk_files.specs.declared.published.Version.{Version as Numbers}
 use Rattle.lbk_files.specs.declared.published.ClaimCause.{ClaimCause}
 use Rattle.lbk_files.specs.declared.published.ClaimCause.TheVariants.{Title, Version, End}
 
@@ -39,8 +41,45 @@ pub record IsAsClaimed (which : Which) (bytes : List ℕ) : Type 0 where
   pub names : NamesItself which bytes
   pub ends : HasEnd which bytes
 
+-- a text begins with the digits of a number, and the rest stands behind them
+abbrev pub BeginsWithNumber : List ℕ → ℕ → List ℕ → Type 0
+BeginsWithNumber text number rest = (digits : List ℕ) × (text ≡ digits ++ rest) × IsNumeral 10 (without_leading_plus digits)
+    × (number ≡ digits_value 10 (without_leading_plus digits))
+
+-- the third number of a version, where a text stands behind the first two
+abbrev pub EndsVersion : List ℕ → ℕ → Type 0
+EndsVersion text update = ((rest : List ℕ) × (behind : List ℕ) × (text ≡ 46 ∷ rest) × BeginsWithNumber rest update behind) ⊎ (update ≡ 0)
+
+-- a text begins with a version: two numbers with a dot between them, and a third behind a second dot, or else 0
+abbrev pub BeginsWithVersion : List ℕ → Numbers → Type 0
+BeginsWithVersion text version = (rest : List ℕ) × BeginsWithNumber text version.major (46 ∷ rest)
+    × ((behind : List ℕ) × BeginsWithNumber rest version.minor behind × EndsVersion behind version.update)
+
+-- what a file of any version begins with
+abbrev pub name_before_version : Which → List ℕ
+name_before_version LineBreak = codes "# LineBreak-"
+name_before_version EastAsianWidth = codes "# EastAsianWidth-"
+name_before_version Category = codes "# DerivedGeneralCategory-"
+name_before_version Emoji = codes "# emoji-data"
+
+-- what stands before the version of a file
+abbrev pub words_before_version : Which → List ℕ
+words_before_version Emoji = codes "\n# Used with Emoji Version "
+words_before_version which = name_before_version which
+
+-- the file names itself, and this version behind the first words that stand before one
+pub record NamesVersion (which : Which) (bytes : List ℕ) (version : Numbers) : Type 0 where
+  pub begins : OccursAt bytes (name_before_version which) 0
+  pub told : (at : ℕ) × FindsNeedle bytes (words_before_version which) 0 (Some at)
+      × BeginsWithVersion (drop (at + length (words_before_version which)) bytes) version
+
+-- the file does not name itself and the version 15.0, and names this version
+pub record IsOfVersion (which : Which) (bytes : List ℕ) (version : Numbers) : Type 0 where
+  pub other : ¬ (NamesItself which bytes)
+  pub names : NamesVersion which bytes version
+
 -- why a file is not
 abbrev pub IsClaimCause : Which → List ℕ → ClaimCause → Type 0
 IsClaimCause which bytes Title = ¬ (NamesItself which bytes)
-IsClaimCause which bytes (Version version) = ¬ (NamesItself which bytes)
+IsClaimCause which bytes (Version version) = IsOfVersion which bytes version
 IsClaimCause which bytes End = NamesItself which bytes × (¬ (HasEnd which bytes))

@@ -1,7 +1,7 @@
 //! What a property file of Unicode 15.0 says of itself.
 
-ghost use Rattle.std.specs.Prelude.{◌≡◌, ◌↔◌, IsTrue, MatchResult};
-ghost use Rattle.lbk_files.specs.Published.{HasEnd, IsAsClaimed, IsClaimCause, NamesItself, last_line, title, version_line};
+ghost use Rattle.std.specs.Prelude.{◌≡◌, ◌↔◌, IfSome, IsTrue, MatchResult};
+ghost use Rattle.lbk_files.specs.Published.{BeginsWithNumber, BeginsWithVersion, HasEnd, IsAsClaimed, IsClaimCause, NamesItself, NamesVersion, last_line, name_before_version, title, version_line, words_before_version};
 
 use bstr::ByteSlice;
 use lbk_ucd::Which;
@@ -104,16 +104,22 @@ fn other_file(which: Which, bytes: &[u8]) -> ClaimCause
 }
 
 /// The version that a file of this name has.
-fn version_in(which: Which, bytes: &[u8]) -> Option<Version> {
-    let behind_name = bytes.strip_prefix(name_before_version(which).as_bytes())?;
-    let text = match which {
-        Which::Emoji => {
-            let at = behind_name.find(EMOJI_VERSION)?;
-            &behind_name[at + EMOJI_VERSION.len()..]
-        }
-        _ => behind_name,
-    };
-    let (major, rest) = number(text)?;
+fn version_in(which: Which, bytes: &[u8]) -> Option<Version>
+    ensures { IfSome result (λ version. NamesVersion which bytes.now version) }
+{
+    if !bytes.starts_with_str(name_before_version(which).as_bytes()) {
+        return None;
+    }
+    let words = words_before_version(which).as_bytes();
+    let at = bytes.find(words)?;
+    version_at(&bytes[at + words.len()..])
+}
+
+/// The version that bytes begin with.
+fn version_at(bytes: &[u8]) -> Option<Version>
+    ensures { IfSome result (λ version. BeginsWithVersion bytes.now version) }
+{
+    let (major, rest) = number(bytes)?;
     let (minor, rest) = number(rest.strip_prefix(b".".as_slice())?)?;
     let update = match rest.strip_prefix(b".".as_slice()).and_then(number) {
         Some((update, _)) => update,
@@ -126,10 +132,10 @@ fn version_in(which: Which, bytes: &[u8]) -> Option<Version> {
     })
 }
 
-const EMOJI_VERSION: &[u8] = b"\n# Used with Emoji Version ";
-
 /// What a file of any version begins with.
-fn name_before_version(which: Which) -> &'static str {
+fn name_before_version(which: Which) -> &'static str
+    ensures { result.now ≡ name_before_version which }
+{
     match which {
         Which::LineBreak => "# LineBreak-",
         Which::EastAsianWidth => "# EastAsianWidth-",
@@ -138,8 +144,20 @@ fn name_before_version(which: Which) -> &'static str {
     }
 }
 
+/// What stands before the version of a file.
+fn words_before_version(which: Which) -> &'static str
+    ensures { result.now ≡ words_before_version which }
+{
+    match which {
+        Which::Emoji => "\n# Used with Emoji Version ",
+        _ => name_before_version(which),
+    }
+}
+
 /// The number that bytes begin with, and what stands behind it.
-fn number(bytes: &[u8]) -> Option<(u32, &[u8])> {
+fn number(bytes: &[u8]) -> Option<(u32, &[u8])>
+    ensures { IfSome result (λ read. BeginsWithNumber bytes.now read.0 read.1.now) }
+{
     let len = bytes
         .iter()
         .position(|byte| !byte.is_ascii_digit())
