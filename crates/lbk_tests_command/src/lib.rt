@@ -8,15 +8,11 @@ mod command_rows;
 #[cfg(test)]
 mod commands;
 #[cfg(test)]
-mod device_calls;
-#[cfg(test)]
 mod folder;
 #[cfg(test)]
 mod guide;
 #[cfg(test)]
 mod passages_of_a_reader;
-#[cfg(test)]
-mod sizes;
 #[cfg(test)]
 mod test_lines;
 #[cfg(test)]

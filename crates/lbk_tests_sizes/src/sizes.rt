@@ -1,19 +1,15 @@
 //! Texts of many sizes, with ample memory: each comes to its value, and none to want of memory.
 
-use lbk_cmd::{SAMPLE_FILES, read_cells};
 use lbk_feed::devices::MemorySource;
 use lbk_notation::{Form, LineFault, TestLine, mark_text, read_back};
 use lbk_passage::{PassageFault, Segmenter};
 use lbk_rules::{CellPages, Profile};
+use lbk_tests_runs::calls::sample_cells;
 use std::alloc::{AllocError, Global};
 use std::process::Abort;
 use std::test::Fail;
 
 const GREATEST_LIMIT: u32 = 16_777_216;
-
-fn sample_cells(alloc: Global) -> Result<CellPages, Fail> {
-    Ok(read_cells(alloc, SAMPLE_FILES)?)
-}
 
 /// Two sizes between each power of two up to the 16th and the next, as a linear congruence draws them.
 fn sizes(alloc: Global) -> Result<Vec<u32>, AllocError> {

@@ -1,6 +1,5 @@
 //! How often the engines read and write: in blocks, and once for each passage or line.
 
-use crate::commands::words;
 use lbk_cmd::{Ending, MemoryStore, SAMPLE_FILES, run};
 use lbk_feed::devices::MemorySource;
 use lbk_feed::{Device, Source};
@@ -8,6 +7,21 @@ use std::alloc::{AllocError, Global};
 use std::io::{self, Write};
 use std::process::Abort;
 use std::test::Fail;
+
+/// The words of an engine over the four sample files.
+fn words(engine: &'static str) -> [&'static str; 9] {
+    [
+        engine,
+        "--line-break",
+        "L",
+        "--east-asian",
+        "E",
+        "--category",
+        "C",
+        "--emoji",
+        "M",
+    ]
+}
 
 /// A writer that takes all, and counts its calls.
 #[derive(Drop)]
@@ -65,9 +79,8 @@ static ROWS: [Row; 4] = [
 
 fn check(rt: &impl Abort, alloc: Global, row: Row) -> Result<(), Fail> {
     let (engine, line, writes, status) = row;
-    let words = words(alloc, engine, &[])?;
     let input = repeated(alloc, line, TIMES)?;
-    let (ending, writer, reads) = counted(alloc, &words, input.as_bytes());
+    let (ending, writer, reads) = counted(alloc, &words(engine), input.as_bytes());
     assert!(rt; ending.status() == status, "{engine} ends with {ending:?}");
     assert!(rt;
         writer.calls == writes,
