@@ -1,11 +1,12 @@
 //! However the reads cut a worked text or test file, the passages, the output and the report are those of a single
 //! read: in two reads and in three at every place, and in one byte a read.
 
+use crate::checks::same;
 use lbk_feed::Sink;
 use lbk_notation::Form;
 use lbk_rules::{CellPages, Profile};
 use lbk_tests_rows::{replayed, segmented, shown, texts};
-use lbk_tests_runs::calls::{same, sample_cells};
+use lbk_tests_runs::calls::sample_cells;
 use lbk_tests_runs::runs::{Ran, Run, whole};
 use lbk_tests_runs::tasks::{Setting, Task};
 use std::alloc::{AllocError, Global};

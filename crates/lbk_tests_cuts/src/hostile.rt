@@ -1,6 +1,7 @@
 //! Readers that fail at each place, faults after which nothing comes any more, scalars over the edges of blocks, and the
 //! greatest sizes.
 
+use crate::checks::{check_run, check_spent, same};
 use lbk_feed::devices::RepeatedSource;
 use lbk_feed::{Device, Feed, FeedFault, Source};
 use lbk_notation::Form;
@@ -9,9 +10,9 @@ use lbk_rules::{CellPages, Profile, Rule};
 use lbk_tests_rows::reads::SIZES;
 use lbk_tests_rows::replayed::FOUR_LINES;
 use lbk_tests_runs::calls::{
-    cut_source, has_next, next_passage, next_sizes, same, sample_cells, source_of, take_piece,
+    cut_source, has_next, next_passage, next_sizes, sample_cells, source_of, take_piece,
 };
-use lbk_tests_runs::runs::{Run, check_spent, whole};
+use lbk_tests_runs::runs::{Run, whole};
 use lbk_tests_runs::tasks::{LIMIT, Setting, Task};
 use std::alloc::{AllocError, Global};
 use std::io::{self, Read};
@@ -74,7 +75,7 @@ fn check_failed_read(
         failing: Some(read),
         ..run
     };
-    let ran = run.check(rt, setting, run.task.failed_read(), written)?;
+    let ran = check_run(rt, run, setting, run.task.failed_read(), written)?;
     same(rt, &ran.reads, &read.saturating_add(1), &run);
     Ok(())
 }

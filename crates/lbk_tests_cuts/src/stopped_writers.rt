@@ -1,11 +1,12 @@
 //! A writer that stops: for each n below the length of the output exactly the first n bytes went out, and the answer is
 //! a failed write.
 
+use crate::checks::same;
 use lbk_feed::{Device, Sink};
 use lbk_notation::Form;
 use lbk_rules::Profile;
 use lbk_tests_rows::replayed::{FOUR_LINES, FOUR_LINES_TEXT};
-use lbk_tests_runs::calls::{cut_source, memory_sink, same, sample_cells};
+use lbk_tests_runs::calls::{cut_source, memory_sink, sample_cells};
 use lbk_tests_runs::tasks::{End, Setting, Task};
 use std::alloc::AllocError;
 use std::process::Abort;

@@ -1,5 +1,6 @@
 //! What `break_text` answers and refuses: the lines of `show`, without the rules' numbers, are what was read back.
 
+use crate::checks::same;
 use lbk_cmd::{BreakFault, CellsFault, CmdFault, SAMPLE_FILES, break_text};
 use lbk_feed::Source;
 use lbk_feed::devices::MemorySource;
@@ -8,7 +9,7 @@ use lbk_passage::PassageFault;
 use lbk_rules::Profile;
 use lbk_tests_rows::property_files::line_break_alone;
 use lbk_tests_rows::shown::{BOTH, FIRST, SECOND};
-use lbk_tests_runs::calls::{cut_source, same, source_of};
+use lbk_tests_runs::calls::{cut_source, source_of};
 use lbk_ucd::{Files, UcdCause, UcdFault, Which};
 use std::alloc::{AllocError, Global};
 use std::process::Abort;

@@ -1,13 +1,14 @@
 //! Lines of the notation: what is read, refused, written and marked.
 
 use crate::calls::{line_of, marked, written_line};
+use crate::checks::same;
 use lbk_notation::{
     Form, LineFault, Mark, TestLine, laws, mark_of, push_line, push_mark, push_passage_line,
     push_scalar, read_back, read_passage_line,
 };
 use lbk_rules::{Cell, CellPages, Kind, Profile, Rule, Verdict, decide_all_in};
 use lbk_tests_rows::cells::cells_of;
-use lbk_tests_runs::calls::{same, sample_cells};
+use lbk_tests_runs::calls::sample_cells;
 use std::alloc::{AllocError, Global};
 use std::process::Abort;
 use std::test::Fail;

@@ -1,12 +1,13 @@
 //! What a replay of test files writes and answers, over devices in memory.
 
 use crate::calls::{line_of, outcome_of};
+use crate::checks::{check_run, same};
 use lbk_feed::Source;
 use lbk_feed::devices::{MemorySink, RepeatedSource};
 use lbk_notation::{Form, Mark, Outcome, ReplayFault, Report, TestLine, replay};
 use lbk_rules::{CellPages, Kind, Profile, Rule, Verdict};
 use lbk_tests_rows::replayed::{FOUR_LINES, KINDS, PLAIN, QUOTED, Row};
-use lbk_tests_runs::calls::{same, sample_cells};
+use lbk_tests_runs::calls::sample_cells;
 use lbk_tests_runs::runs::{Run, whole};
 use lbk_tests_runs::tasks::{End, ROOM, Setting, Task};
 use std::alloc::{AllocError, Global};
@@ -38,7 +39,7 @@ fn check(
             sizes,
             ..whole(Task::Replay(form), file)
         };
-        let ran = run.check(rt, setting, end, written)?;
+        let ran = check_run(rt, run, setting, end, written)?;
         assert!(rt; ran.ended);
     }
     Ok(())
@@ -140,7 +141,7 @@ fn check_failed_read(
         failing: Some(failing),
         ..whole(Task::Replay(Form::Plain), FOUR_LINES.as_bytes())
     };
-    let ran = run.check(rt, setting, run.task.failed_read(), written)?;
+    let ran = check_run(rt, run, setting, run.task.failed_read(), written)?;
     same(rt, &ran.reads, &failing.saturating_add(1), &run);
     Ok(())
 }

@@ -9,14 +9,7 @@ use lbk_notation::{Form, ReplayFault, Report, replay};
 use lbk_passage::{Passage, PassageFault, Segmenter};
 use lbk_rules::{CellPages, CellSource};
 use std::alloc::{AllocError, Global};
-use std::fmt::Debug;
-use std::process::Abort;
 use std::test::Fail;
-
-/// Compares what was found of something with what is wanted.
-pub fn same<T: PartialEq + Debug, D: Debug>(rt: &impl Abort, found: &T, want: &T, of: &D) {
-    assert!(rt; found == want, "{found:?} in place of {want:?}: {of:?}");
-}
 
 /// The cells of the sample files.
 pub fn sample_cells(alloc: Global) -> Result<CellPages, Fail> {

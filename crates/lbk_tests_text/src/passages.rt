@@ -2,14 +2,14 @@
 //! cut, and what it answers then.
 
 use crate::calls::{has_step_table, sample_tables};
+use crate::checks::{check_spent, same};
 use lbk_cmd::CmdFault;
 use lbk_feed::Source;
 use lbk_feed::devices::MemorySource;
 use lbk_passage::{Passage, PassageFault, Segmenter};
 use lbk_rules::{CellPages, CellSource, Profile, Rule};
 use lbk_tests_rows::texts::{FIRST, SECOND};
-use lbk_tests_runs::calls::{cut_source, next_passage, same, sample_cells, source_of};
-use lbk_tests_runs::runs::check_spent;
+use lbk_tests_runs::calls::{cut_source, next_passage, sample_cells, source_of};
 use lbk_tests_runs::tasks::Setting;
 use lbk_tests_runs::told::push_told;
 use lbk_ucd::Tables;

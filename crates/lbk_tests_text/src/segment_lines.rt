@@ -1,9 +1,9 @@
 //! What `segment` writes and refuses, over devices in memory.
 
+use crate::checks::{Refused, check_refused, check_texts};
 use lbk_passage::PassageFault;
 use lbk_rules::Profile;
 use lbk_tests_rows::segment_lines::{BOTH, FIRST, SECOND};
-use lbk_tests_runs::runs::{Refused, check_refused, check_texts};
 use lbk_tests_runs::tasks::{LIMIT, Task};
 use std::test::Fail;
 

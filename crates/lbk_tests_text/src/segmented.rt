@@ -1,12 +1,13 @@
 //! The segments and pieces that a segmenter gives over the sample files, in both profiles and however the reads are
 //! cut.
 
+use crate::checks::same;
 use lbk_cmd::CmdFault;
 use lbk_feed::devices::MemorySource;
 use lbk_passage::{Passage, PassageFault, Segment, Segmenter};
 use lbk_rules::{CellPages, Kind, Profile, Rule};
 use lbk_tests_rows::segmented::{BOTH, Row};
-use lbk_tests_runs::calls::{cut_source, has_next, next_passage, same, sample_cells};
+use lbk_tests_runs::calls::{cut_source, has_next, next_passage, sample_cells};
 use lbk_tests_runs::tasks::Setting;
 use lbk_tests_runs::told::told_next;
 use std::alloc::{AllocError, Global};

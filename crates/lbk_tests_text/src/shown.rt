@@ -1,11 +1,12 @@
 //! What `show` writes and refuses, over devices in memory.
 
+use crate::checks::{Refused, check_refused, check_texts, same};
 use lbk_cmd::CmdFault;
 use lbk_passage::PassageFault;
 use lbk_rules::Profile;
 use lbk_tests_rows::shown::{BOTH, FIRST, SECOND};
-use lbk_tests_runs::calls::{same, sample_cells};
-use lbk_tests_runs::runs::{Refused, check_refused, check_texts, whole};
+use lbk_tests_runs::calls::sample_cells;
+use lbk_tests_runs::runs::whole;
 use lbk_tests_runs::tasks::{End, LIMIT, Setting, Task};
 use std::alloc::AllocError;
 use std::process::Abort;

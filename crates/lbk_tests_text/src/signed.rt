@@ -1,11 +1,11 @@
 //! What `mark` writes and refuses, over devices in memory.
 
+use crate::checks::{Refused, check_refused, check_texts, same};
 use lbk_cmd::{Ending, MemoryStore, SAMPLE_FILES, run};
 use lbk_feed::devices::{MemorySink, MemorySource};
 use lbk_passage::PassageFault;
 use lbk_rules::Profile;
-use lbk_tests_runs::calls::{cut_source, memory_sink, same};
-use lbk_tests_runs::runs::{Refused, check_refused, check_texts};
+use lbk_tests_runs::calls::{cut_source, memory_sink};
 use lbk_tests_runs::tasks::{ROOM, Task};
 use std::alloc::{AllocError, Global};
 use std::process::Abort;
