@@ -11,9 +11,13 @@ greatest_limit = 16777216
 abbrev pub default_limit : ℕ
 default_limit = 65536
 
+-- an option of a long name
+abbrev pub long_rule : Text → Rule
+long_rule name = record (new_rule name) { long = Some name }
+
 -- an option that takes a value
 abbrev pub value_rule : Text → Rule
-value_rule name = record (new_rule name) { long = Some name; action = Some Set; value_names = 1 }
+value_rule name = record (long_rule name) { action = Some Set; value_names = 1 }
 
 -- an option with a number of a range
 abbrev pub number_rule : Text → ℕ → Text → Rule
@@ -24,7 +28,7 @@ number_rule name most default = record (value_rule name) {
 
 -- a flag
 abbrev pub flag_rule : Text → Rule
-flag_rule name = record (new_rule name) { long = Some name; action = Some SetTrue }
+flag_rule name = record (long_rule name) { action = Some SetTrue }
 
 -- a subcommand with the folder of the property files
 abbrev pub folder_app : Text → App

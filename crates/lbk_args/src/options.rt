@@ -3,7 +3,7 @@
 ghost use Rattle.std.specs.Prelude.{◌≡◌, false, IfOk, codes};
 ghost use Rattle.clap.specs.Words.{app_of, rule_of};
 ghost use Rattle.lbk_args.specs.Local.{IsLocal};
-ghost use Rattle.lbk_args.specs.Command.{value_rule, number_rule, flag_rule, greatest_limit, profile_rule, folder_app, widths_app, files_app, limited_app, replay_app, bare_app, app_to_mark, app_to_show, app_to_segment, lbk_app};
+ghost use Rattle.lbk_args.specs.Command.{long_rule, value_rule, number_rule, flag_rule, greatest_limit, profile_rule, folder_app, widths_app, files_app, limited_app, replay_app, bare_app, app_to_mark, app_to_show, app_to_segment, lbk_app};
 
 use clap::builder::ValueParser;
 use clap::{Arg, ArgAction, Command};
@@ -78,13 +78,20 @@ too long; `T lines agreed differed refused` stands at the end. Example:
   D 1 1 ÷ × 28
   T 1 0 1 0";
 
+/// An option of this name, which is what stands behind `--` too.
+fn long_option<'a>(alloc: Global, name: &'a str) -> Arg<'a>
+    ensures rule { rule_of result ≡ long_rule name.entry.now }
+    ensures local { result.global ≡ false }
+{
+    Arg::new(alloc, name).long(name)
+}
+
 /// An option of this name that takes a value.
 fn value_option<'a>(alloc: Global, name: &'a str, value: &'a str) -> Arg<'a>
     ensures rule { rule_of result ≡ value_rule name.entry.now }
     ensures local { result.global ≡ false }
 {
-    Arg::new(alloc, name)
-        .long(name)
+    long_option(alloc, name)
         .action(ArgAction::Set)
         .value_name(value)
 }
@@ -139,8 +146,7 @@ fn kinds_option<'a>(alloc: Global) -> Arg<'a>
     ensures rule { rule_of result ≡ flag_rule (codes "kinds") }
     ensures local { result.global ≡ false }
 {
-    Arg::new(alloc, "kinds")
-        .long("kinds")
+    long_option(alloc, "kinds")
         .action(ArgAction::SetTrue)
         .help("Marks tell ! from ÷; without it ÷ stands for every break")
 }

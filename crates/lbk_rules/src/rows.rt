@@ -132,18 +132,28 @@ fn hint_slot(left: Left) -> usize
     ensures { result < HINTS }
 {
     let units = left.units;
-    let flags = usize::from(units.last.wide)
-        + 2 * usize::from(units.last.pict_cn)
-        + 4 * usize::from(units.hebrew_behind)
-        + 8 * usize::from(units.odd_indicators)
-        + 16 * usize::from(units.opens_quotation)
-        + 32 * usize::from(left.past_zero_width)
-        + 64 * (units.last.quote as usize);
-    let mut sum = flags;
+    let mut sum = flags_of(left);
     for class in [left.last, units.last.class, units.before_spaces] {
         sum = sum.wrapping_mul(38).wrapping_add(class as usize);
     }
     sum % HINTS
+}
+
+/// A number of all that is known but the classes.
+fn flags_of(left: Left) -> usize {
+    let units = left.units;
+    let mut sum = units.last.quote as usize;
+    for flag in [
+        units.last.wide,
+        units.last.pict_cn,
+        units.hebrew_behind,
+        units.odd_indicators,
+        units.opens_quotation,
+        left.past_zero_width,
+    ] {
+        sum = sum.wrapping_mul(2).wrapping_add(usize::from(flag));
+    }
+    sum
 }
 
 /// The row that knows this, put behind the others where there is none. `hint` is the row to look at
