@@ -8,7 +8,7 @@ use Rattle.clap.specs.Words.{Text}
 use Rattle.clap.specs.Kinds.{value_kinds}
 use Rattle.clap.specs.declared.builder.value_parser.ValueParser.TheVariants.{Unsigned}
 use Rattle.clap.proofs.KindLemmas.{value_kinds-ok}
-use Rattle.lbk_args.specs.Command.{greatest_limit}
+use Rattle.lbk_feed.specs.Text.{greatest_limit}
 use Rattle.lbk_args.specs.PlainWords.{IsPlainName}
 use Rattle.lbk_args.specs.Task.{number_or}
 use Rattle.lbk_args.proofs.Values.{number_parsed}

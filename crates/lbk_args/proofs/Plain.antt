@@ -14,7 +14,8 @@ use Rattle.lbk_rules.specs.declared.verdicts.Profile.TheVariants.{First, Second}
 use Rattle.lbk_args.specs.declared.order.Engine.{Engine}
 use Rattle.lbk_args.specs.declared.order.Engine.TheVariants.{Mark, Show, Segment, Replay}
 use Rattle.lbk_args.specs.Accepted.{faults_of, unnamed_fault}
-use Rattle.lbk_args.specs.Command.{flag_rule, greatest_limit, lbk_app, limited_app, number_rule, profile_rule, replay_app, value_rule}
+use Rattle.lbk_feed.specs.Text.{greatest_limit}
+use Rattle.lbk_args.specs.Command.{default_limit, default_limit_text, flag_rule, lbk_app, limited_app, number_rule, profile_rule, replay_app, value_rule}
 use Rattle.lbk_args.specs.PlainWords.{AreEngineWords, AreFolderWords, AreFourWords, AreKindsWords, AreLimitWords, AreProfileWords, IsPlainFor, IsPlainName, folder_files, given_files, name_of_engine, profile_word}
 use Rattle.lbk_args.specs.Task.{NamedFiles, Task, files_in, limit_in, number_or, profile_in, task_by, task_in}
 use Rattle.lbk_args.proofs.Numerals.{limit_plain, limit_read, limit_taken}
@@ -172,7 +173,7 @@ replay_performs words rows task takes same =
 -- ---- the words behind the files
 
 abbrev limit_rule : Rule
-limit_rule = built_rule (number_rule (codes "limit") greatest_limit (codes "65536"))
+limit_rule = built_rule (number_rule (codes "limit") greatest_limit default_limit_text)
 
 abbrev built_profile_rule : Rule
 built_profile_rule = built_rule profile_rule
@@ -374,7 +375,7 @@ limited_plain name (folder u) limit profile own last plain (inr number) (inl fir
   rows = _;
   takes = limited_limit name (folder u) (decimal limit) plain (limit_plain limit number.2) (limit_taken limit number.1 number.2);
   files_are = refl;
-  limit_is = sym (limit_read 65536 limit number.2);
+  limit_is = sym (limit_read default_limit limit number.2);
   profile_is = refl;
 })
 limited_plain name (folder u) limit profile own last plain (inr number) (inr given) = rw (number.0, given) (record {
@@ -382,7 +383,7 @@ limited_plain name (folder u) limit profile own last plain (inr number) (inr giv
   takes = limited_both name (folder u) (decimal limit) (profile_word profile) plain (limit_plain limit number.2) (limit_taken limit number.1 number.2)
       (profile_plain profile) (profile_taken profile);
   files_are = refl;
-  limit_is = sym (limit_read 65536 limit number.2);
+  limit_is = sym (limit_read default_limit limit number.2);
   profile_is = profile_read profile;
 })
 limited_plain name (four l e c m) limit profile own last plain (inl none) (inl first) = rw (none.0, first.0, none.1, first.1) (record {
@@ -403,7 +404,7 @@ limited_plain name (four l e c m) limit profile own last plain (inr number) (inl
   rows = _;
   takes = limited_limit name (four l e c m) (decimal limit) plain (limit_plain limit number.2) (limit_taken limit number.1 number.2);
   files_are = refl;
-  limit_is = sym (limit_read 65536 limit number.2);
+  limit_is = sym (limit_read default_limit limit number.2);
   profile_is = refl;
 })
 limited_plain name (four l e c m) limit profile own last plain (inr number) (inr given) = rw (number.0, given) (record {
@@ -411,7 +412,7 @@ limited_plain name (four l e c m) limit profile own last plain (inr number) (inr
   takes = limited_both name (four l e c m) (decimal limit) (profile_word profile) plain (limit_plain limit number.2) (limit_taken limit number.1 number.2)
       (profile_plain profile) (profile_taken profile);
   files_are = refl;
-  limit_is = sym (limit_read 65536 limit number.2);
+  limit_is = sym (limit_read default_limit limit number.2);
   profile_is = profile_read profile;
 })
 

@@ -1,15 +1,16 @@
 -- The command line: the subcommands, and the options that each has.
 use Rattle.std.specs.Prelude.{ℕ, true, [], ◌∷◌, Some, codes}
+use Rattle.lbk_feed.specs.Text.{greatest_limit}
 use Rattle.clap.specs.Words.{App, Rule, Text, new_app, new_rule, with_rule, with_subcommand}
 use Rattle.clap.specs.declared.builder.action.ArgAction.TheVariants.{Set, SetTrue}
 use Rattle.clap.specs.declared.builder.value_parser.ValueParser.TheVariants.{Unsigned}
 
--- the greatest limit of a paragraph, and the one where none is given, in bytes
-abbrev pub greatest_limit : ℕ
-greatest_limit = 16777216
-
+-- the limit of a paragraph where none is given, in bytes, and as the command line has it
 abbrev pub default_limit : ℕ
 default_limit = 65536
+
+abbrev pub default_limit_text : Text
+default_limit_text = codes "65536"
 
 -- an option of a long name
 abbrev pub long_rule : Text → Rule
@@ -49,7 +50,7 @@ profile_rule = number_rule (codes "profile") 2 (codes "1")
 -- `mark`, `show` and `segment`
 abbrev pub limited_app : Text → App
 limited_app name = with_rule (with_rule (files_app name)
-    (number_rule (codes "limit") greatest_limit (codes "65536"))) profile_rule
+    (number_rule (codes "limit") greatest_limit default_limit_text)) profile_rule
 
 -- `replay`
 abbrev pub replay_app : App

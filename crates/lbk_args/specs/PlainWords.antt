@@ -4,7 +4,8 @@ use Rattle.std.specs.Fmt.{decimal}
 use Rattle.clap.specs.Words.{Text}
 use Rattle.lbk_rules.specs.declared.verdicts.Profile.{Profile}
 use Rattle.lbk_rules.specs.declared.verdicts.Profile.TheVariants.{First, Second}
-use Rattle.lbk_args.specs.Command.{default_limit, greatest_limit}
+use Rattle.lbk_feed.specs.Text.{greatest_limit}
+use Rattle.lbk_args.specs.Command.{default_limit}
 use Rattle.lbk_args.specs.Task.{NamedFiles, Task, given, in_folder}
 use Rattle.lbk_args.specs.declared.order.Engine.{Engine}
 use Rattle.lbk_args.specs.declared.order.Engine.TheVariants.{Mark, Show, Segment, Replay}

@@ -2,14 +2,14 @@
 
 ghost use Rattle.std.specs.Prelude.{◌≡◌, false, IfOk, codes};
 ghost use Rattle.clap.specs.Words.{app_of, rule_of};
+ghost use Rattle.lbk_feed.specs.Text.{greatest_limit};
 ghost use Rattle.lbk_args.specs.Local.{IsLocal};
-ghost use Rattle.lbk_args.specs.Command.{long_rule, value_rule, number_rule, flag_rule, greatest_limit, profile_rule, folder_app, widths_app, files_app, limited_app, replay_app, bare_app, app_to_mark, app_to_show, app_to_segment, lbk_app};
+ghost use Rattle.lbk_args.specs.Command.{long_rule, value_rule, number_rule, default_limit_text, flag_rule, profile_rule, folder_app, widths_app, files_app, limited_app, replay_app, bare_app, app_to_mark, app_to_show, app_to_segment, lbk_app};
 
 use clap::builder::ValueParser;
 use clap::{Arg, ArgAction, Command};
+use lbk_feed::LIMIT_MAX;
 use std::alloc::{AllocError, Global};
-
-const GREATEST_LIMIT: u64 = 16_777_216;
 
 const VERSION: &str = "0.1.0 (breaks by UAX #14 of Unicode 15.0, words by UAX #29 of Unicode 18.0)";
 
@@ -125,10 +125,10 @@ fn number_option<'a>(alloc: Global, name: &'a str, most: u64, default: &'a str) 
 }
 
 fn limit_option<'a>(alloc: Global) -> Arg<'a>
-    ensures rule { rule_of result ≡ number_rule (codes "limit") greatest_limit (codes "65536") }
+    ensures rule { rule_of result ≡ number_rule (codes "limit") greatest_limit default_limit_text }
     ensures local { result.global ≡ false }
 {
-    number_option(alloc, "limit", GREATEST_LIMIT, "65536").help(
+    number_option(alloc, "limit", u64::from(LIMIT_MAX), "65536").help(
         "The most bytes of a paragraph, 1 to 16777216",
     )
 }

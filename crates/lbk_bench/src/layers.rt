@@ -1,13 +1,13 @@
 //! The layers, each as one run over the whole text.
 
 use crate::dropped::Dropped;
-use crate::material::{LIMIT, Material};
+use crate::material::Material;
 use anyhow::{Result, bail};
 use lbk_breaks::Breaks;
 use lbk_cmd::{segment, show};
 use lbk_feed::devices::MemorySource;
 use lbk_notation::{Form, replay};
-use lbk_passage::{Segment, Segmenter};
+use lbk_passage::{LIMIT_MAX, Segment, Segmenter};
 use lbk_rules::{
     Break, CellPages, CellSource, Class, Kind, LateMachine, Machine, Profile, Rule, Stepper,
     Verdict,
@@ -257,7 +257,7 @@ fn cut(
 
 fn passages(alloc: Global, cells: &CellPages, text: &str) -> Result<u64> {
     let mut source = MemorySource::new(text.as_bytes());
-    let Ok(mut segmenter) = Segmenter::new(alloc, cells, LIMIT, Profile::First) else {
+    let Ok(mut segmenter) = Segmenter::new(alloc, cells, LIMIT_MAX, Profile::First) else {
         bail!("no room for a paragraph");
     };
     let mut count = 0u64;
@@ -274,7 +274,7 @@ fn passages(alloc: Global, cells: &CellPages, text: &str) -> Result<u64> {
 fn shown(alloc: Global, cells: &CellPages, text: &str) -> Result<u64> {
     let mut source = MemorySource::new(text.as_bytes());
     let mut sink = Dropped;
-    match show(alloc, &mut source, &mut sink, cells, LIMIT, Profile::First) {
+    match show(alloc, &mut source, &mut sink, cells, LIMIT_MAX, Profile::First) {
         Ok(()) => Ok(0),
         Err(_) => bail!("the text cannot be shown"),
     }
@@ -283,7 +283,7 @@ fn shown(alloc: Global, cells: &CellPages, text: &str) -> Result<u64> {
 fn segmented(alloc: Global, cells: &CellPages, text: &str) -> Result<u64> {
     let mut source = MemorySource::new(text.as_bytes());
     let mut sink = Dropped;
-    match segment(alloc, &mut source, &mut sink, cells, LIMIT, Profile::First) {
+    match segment(alloc, &mut source, &mut sink, cells, LIMIT_MAX, Profile::First) {
         Ok(()) => Ok(0),
         Err(_) => bail!("the text cannot be cut"),
     }

@@ -3,7 +3,7 @@
 use anyhow::{Context, Result, bail};
 use lbk_cmd::show;
 use lbk_feed::devices::{MemorySink, MemorySource};
-use lbk_passage::Segmenter;
+use lbk_passage::{LIMIT_MAX, Segmenter};
 use lbk_rules::{CellPages, Profile};
 use lbk_ucd::{Files, Tables};
 use std::alloc::Global;
@@ -11,9 +11,6 @@ use std::fs;
 
 /// The most bytes of a text that the layers run over.
 const TEXT_MOST: usize = 1_000_000;
-
-/// The greatest limit of a paragraph.
-pub const LIMIT: u32 = 16_777_216;
 
 /// Room for what `show` writes of a text: for each byte at most a scalar of four digits, a mark, a label and
 /// their spaces.
@@ -96,7 +93,7 @@ impl Material {
 
 fn passages_of(alloc: Global, cells: &CellPages, text: &str) -> Result<Vec<(usize, usize)>> {
     let mut source = MemorySource::new(text.as_bytes());
-    let Ok(mut segmenter) = Segmenter::new(alloc, cells, LIMIT, Profile::First) else {
+    let Ok(mut segmenter) = Segmenter::new(alloc, cells, LIMIT_MAX, Profile::First) else {
         bail!("no room for a paragraph");
     };
     let mut passages = Vec::new(alloc);
@@ -118,7 +115,7 @@ fn passages_of(alloc: Global, cells: &CellPages, text: &str) -> Result<Vec<(usiz
 fn shown_of(alloc: Global, cells: &CellPages, text: &str) -> Result<Vec<u8>> {
     let mut source = MemorySource::new(text.as_bytes());
     let mut sink = MemorySink::new(alloc, SHOWN_MOST)?;
-    if show(alloc, &mut source, &mut sink, cells, LIMIT, Profile::First).is_err() {
+    if show(alloc, &mut source, &mut sink, cells, LIMIT_MAX, Profile::First).is_err() {
         bail!("the text cannot be shown");
     }
     let mut shown = Vec::new(alloc);

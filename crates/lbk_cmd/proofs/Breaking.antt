@@ -11,6 +11,7 @@ use Rattle.lbk_rules.specs.declared.verdicts.Profile.{Profile}
 use Rattle.lbk_passage.specs.Marks.{Marked, scalars_of, text_of}
 use Rattle.lbk_passage.specs.Passages.{passages}
 use Rattle.lbk_passage.proofs.Together.{passages-scalars}
+use Rattle.lbk_feed.specs.Text.{greatest_limit}
 use Rattle.lbk_notation.specs.Line.{Line}
 use Rattle.lbk_files.specs.Cells.{AreCellsOf}
 use Rattle.lbk_cmd.specs.Acts.{Shows}
@@ -38,14 +39,14 @@ chars_scalars bytes utf8 = all_scalars (chars bytes) (scalars-chars bytes utf8)
 
 -- a limit that is not refused
 few_bytes : (cell : ℕ → Cell) (limit : ℕ) (profile : Profile) (before after : Devices)
-    → Shows cell limit profile before after (Ok tt) → limit ≤ 16777216
+    → Shows cell limit profile before after (Ok tt) → limit ≤ greatest_limit
 few_bytes cell limit profile before after shows =
-    elim (cases_lt 16777216 limit) [
+    elim (cases_lt greatest_limit limit) [
       | inl high ↦ absurd (let refused = shows.limit.1 (λ is. omega (arith, is.1, high)) in let no : ⊥ = cc in no)
       | inr low ↦ low
     ]
 
-all_readable : (limit : ℕ) (given : List (List Marked)) → limit ≤ 16777216 → AllScalars (flat_map scalars_of given)
+all_readable : (limit : ℕ) (given : List (List Marked)) → limit ≤ greatest_limit → AllScalars (flat_map scalars_of given)
     → AllByRecursion (λ ms. length (text_of ms) ≤ limit) given → AllByRecursion IsReadable given
 all_readable limit [] low all within = tt
 all_readable limit (ms ∷ given) low all within =

@@ -3,6 +3,7 @@ use Rattle.std.specs.Prelude.{◌≡◌, ◌⊎◌, ◌+◌, ◌<◌, ◌≤◌,
 use Rattle.std.specs.Str.{chars}
 use Rattle.std.specs.Io.KnownBytes.{Appends, IsAtEnd}
 use Rattle.lbk_feed.specs.Runs.{HasFailed, Ran}
+use Rattle.lbk_feed.specs.Text.{longest_text}
 use Rattle.lbk_passage.specs.Passages.{passages}
 use Rattle.lbk_passage.specs.State.{IsLimit}
 use Rattle.lbk_passage.specs.declared.faults.PassageFault.{PassageFault}
@@ -37,7 +38,7 @@ pub record TextRuns (text : List ℕ → List ℕ) (engine : TextEngine) (before
   pub shown : OnOk answer (IfSome before.unread (λ input. IsUtf8 input × Appends before.written after.written (text input)))
   pub ended : OnOk answer (IsTrue after.has_ended × IsAtEnd after.unread)
   pub run : Ran (is_failed_read answer) before.unread after.unread before.written after.written (IsRun engine before.reads after.reads after.has_ended answer)
-  pub reads : after.reads ≤ before.reads + 1073741825
+  pub reads : after.reads ≤ before.reads + (longest_text + 1)
   pub limit : IsErrOf answer (CmdFault.Passage PassageFault.Limit) ↔ (¬ (IsLimit engine.limit))
   pub read : IsErrOf answer (CmdFault.Passage PassageFault.Read) → HasFailed before.failed_reads after.failed_reads
   pub read_failed : before.failed_reads < after.failed_reads → answer ≡ Err (CmdFault.Passage PassageFault.Read)
@@ -64,7 +65,7 @@ pub record Replays (cell : ℕ → Cell) (form : Form) (profile : Profile) (befo
   pub read_failed : before.failed_reads < after.failed_reads → answer ≡ Err ReplayFault.Read
   pub write : IsErrOf answer ReplayFault.Write → HasFailed before.failed_writes after.failed_writes
   pub write_failed : before.failed_writes < after.failed_writes → answer ≡ Err ReplayFault.Write
-  pub reads : after.reads ≤ before.reads + 1073741825
+  pub reads : after.reads ≤ before.reads + (longest_text + 1)
 
 -- `--kinds`
 abbrev pub form_of : Bool → Form

@@ -2,6 +2,7 @@
 use Rattle.std.specs.Prelude.{◌≡◌, ℕ, ◌≤◌, List, length, map, Option, IfSome}
 use Rattle.std.specs.Char.{IsScalar}
 use Rattle.std.specs.List.{AllByRecursion, flat_map}
+use Rattle.lbk_feed.specs.Text.{greatest_limit}
 use Rattle.lbk_passage.specs.Marks.{Marked, scalars_of, text_of}
 use Rattle.lbk_notation.specs.Line.{Line}
 use Rattle.lbk_notation.specs.Shown.{passage_line}
@@ -22,7 +23,7 @@ line_of ms = passage_line (scalars_of ms) (verdicts_of ms)
 -- its line is read back
 pub record IsReadable (ms : List Marked) : Type 0 where
   pub scalars : AllByRecursion (λ scalar. IsScalar scalar) (scalars_of ms)
-  pub few : length (text_of ms) ≤ 16777216
+  pub few : length (text_of ms) ≤ greatest_limit
 
 -- the text is the lines of the passages
 pub record AreShown (text : List ℕ) (passages : List (List Marked)) : Type 0 where

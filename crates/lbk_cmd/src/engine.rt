@@ -3,6 +3,7 @@
 ghost use Rattle.std.specs.Prelude.{◌≡◌, ◌+◌, ◌<◌, ◌≤◌, ◌↔◌, ◌++◌, List, length, IsTrue, OnOk, IsErrOf};
 ghost use Rattle.std.specs.Io.KnownBytes.{IsAtEnd};
 ghost use Rattle.lbk_feed.specs.Runs.{HasFailed, Ran};
+ghost use Rattle.lbk_feed.specs.Text.{longest_text};
 ghost use Rattle.lbk_passage.specs.Marks.{Marked};
 ghost use Rattle.lbk_passage.specs.Next.{IsPassage, IsPlaced};
 ghost use Rattle.lbk_passage.specs.State.{State, IsLimit};
@@ -117,7 +118,7 @@ fn write_lines<R: Source, W: Sink, C: CellSource>(
     ensures run { Ran (is_failed_read result) (R.unread reader.old) (R.unread reader.new) (W.written writer.old)
         (W.written writer.new) (IsRun (engine_of lines (C.cell_of cells.now) profile limit) (R.read_count reader.old)
         (R.read_count reader.new) (R.has_ended reader.new) result) }
-    ensures reads { R.read_count reader.new ≤ R.read_count reader.old + 1073741825 }
+    ensures reads { R.read_count reader.new ≤ R.read_count reader.old + (longest_text + 1) }
     ensures limit { IsErrOf result (CmdFault.Passage PassageFault.Limit) ↔ (¬ (IsLimit limit)) }
     ensures read { IsErrOf result (CmdFault.Passage PassageFault.Read)
         → HasFailed (R.failure_count reader.old) (R.failure_count reader.new) }

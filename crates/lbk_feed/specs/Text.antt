@@ -35,6 +35,10 @@ IsOpen bs = IsCutScalar (after_prefix bs)
 abbrev pub longest_text : ℕ
 longest_text = 1073741824
 
+-- the most bytes that a limit may give a paragraph: 2 to the power of 24
+abbrev pub greatest_limit : ℕ
+greatest_limit = 16777216
+
 -- the bytes that a text may have: the first 1,073,741,824
 abbrev pub counted : List ℕ → List ℕ
 counted bs = take longest_text bs

@@ -1,8 +1,5 @@
 //! Why a feed stops.
 
-/// The most bytes of a text: 2 to the power of 30.
-pub const TEXT_MAX: u64 = 1_073_741_824;
-
 /// Why a feed stops before the end of its text.
 #[derive(Clone, Copy, Debug, PartialEq, Eq)]
 pub enum FeedFault {

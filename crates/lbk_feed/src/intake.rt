@@ -6,8 +6,9 @@ ghost use Rattle.lbk_feed.specs.Block.{items};
 ghost use Rattle.lbk_feed.specs.Judge.{IsJudged};
 
 use crate::block::Block;
-use crate::faults::{FeedFault, TEXT_MAX};
+use crate::faults::FeedFault;
 use crate::judge::{Stop, judge};
+use crate::limits::TEXT_MAX;
 use crate::traits::{Failed, Source};
 use std::str;
 

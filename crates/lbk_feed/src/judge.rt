@@ -5,7 +5,7 @@ ghost use Rattle.std.specs.Str.Lossy.{utf8_valid_len};
 ghost use Rattle.lbk_feed.specs.Text.{after_prefix};
 ghost use Rattle.lbk_feed.specs.Judge.{in_reach, stop_of};
 
-use crate::faults::TEXT_MAX;
+use crate::limits::TEXT_MAX;
 use simdutf8::compat;
 
 /// What follows a longest well-formed prefix.

@@ -1,13 +1,18 @@
 //! Laws over the definitions of well-formed bytes: each function's contract is one, and it does nothing.
 
 ghost use Rattle.std.specs.Prelude.{◌≡◌, ℕ, Bool, List, ◌++◌, IsUtf8};
-ghost use Rattle.lbk_feed.specs.Text.{longest_text, well_formed_prefix, IsLongestText, IsNotUtf8At, IsTooLong};
+ghost use Rattle.lbk_feed.specs.Text.{greatest_limit, longest_text, well_formed_prefix, IsLongestText, IsNotUtf8At, IsTooLong};
 
-use crate::faults::TEXT_MAX;
+use crate::limits::{LIMIT_MAX, TEXT_MAX};
 
 /// The constant of the code is the number of the definitions, the most bytes of a text.
 pub fn text_max()
     ensures { TEXT_MAX ≡ longest_text }
+{}
+
+/// So is that of the most bytes that a limit may give a paragraph.
+pub fn limit_max()
+    ensures { LIMIT_MAX ≡ greatest_limit }
 {}
 
 /// The well-formed prefix of any bytes is a text, and no longer prefix of them is one.

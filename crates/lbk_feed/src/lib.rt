@@ -8,13 +8,15 @@ mod faults;
 mod intake;
 mod judge;
 pub mod laws;
+mod limits;
 mod pieces;
 mod tally;
 mod traits;
 mod writes;
 
 pub use adapter::Device;
-pub use faults::{FeedFault, TEXT_MAX};
+pub use faults::FeedFault;
+pub use limits::{LIMIT_MAX, TEXT_MAX};
 pub use pieces::Feed;
 pub use traits::{Failed, Sink, Source};
 pub use writes::write_all;

@@ -17,6 +17,7 @@ use Rattle.lbk_notation.specs.declared.progress.Progress.{Progress}
 use Rattle.lbk_notation.specs.Progress.{Ends, HasRead, Stands, StandsAtEnd, Uses, is_read_fault_of}
 use Rattle.lbk_notation.specs.Replay.{IsEndedText, IsReplay, IsReplayText, IsReplayed, IsStoppedReplay, is_read_fault}
 use Rattle.lbk_notation.specs.ReplayText.{total_text}
+use Rattle.lbk_notation.specs.Stream.{longest_stream}
 
 -- what was written of the lines ended
 pub Stands-text : (cell : ℕ → Cell) (form : Form) (profile : Profile) (progress : Progress) (used out : List ℕ)
@@ -259,7 +260,7 @@ Took-failed (Some all) (Some rest) (Some left) read consumed kept = ((rest, cons
 
 -- a read failed
 pub Ran-failed : (cell : ℕ → Cell) (form : Form) (profile : Profile) (progress : Progress) (unread between unread' written written' : Option (List ℕ))
-    → ReadsSoFar cell form profile progress unread between written written' → KeepsIfTold between unread' → progress.taken ≤ 1073741824
+    → ReadsSoFar cell form profile progress unread between written written' → KeepsIfTold between unread' → progress.taken ≤ longest_stream
     → Ran true unread unread' written written' (HasRead cell form profile (Err Read))
 Ran-failed cell form profile progress unread between unread' written written' reads kept few = record {
   read = reads.read;
@@ -293,13 +294,13 @@ pub Ran-long : (cell : ℕ → Cell) (form : Form) (profile : Profile) (middle n
     (unread between unread' written between' written' : Option (List ℕ)) (done : Unit {0})
     → ReadsSoFar cell form profile middle unread between written between' → Consumes between unread' bytes
     → Uses cell form profile middle new counted between' written' (Ok done) → bytes ≡ counted ++ rest → 0 < length rest
-    → middle.taken + length counted ≡ 1073741824 → Ran false unread unread' written written' (HasRead cell form profile (Err StreamTooLong))
+    → middle.taken + length counted ≡ longest_stream → Ran false unread unread' written written' (HasRead cell form profile (Err StreamTooLong))
 Ran-long cell form profile middle new bytes counted rest unread between unread' written between' written' done reads consumed uses split some full =
     let taken = reads.stands.taken in
-    let size : length (reads.read ++ counted) ≡ 1073741824 = omega (arith, length-append reads.read counted) in
+    let size : length (reads.read ++ counted) ≡ longest_stream = omega (arith, length-append reads.read counted) in
     let whole : reads.read ++ bytes ≡ (reads.read ++ counted) ++ rest = ap (λ b. reads.read ++ b) split ∙ sym (append_assoc reads.read counted rest) in
-    let front : take 1073741824 (reads.read ++ bytes) ≡ reads.read ++ counted =
-    ap (take 1073741824) whole ∙ ap (λ n. take n ((reads.read ++ counted) ++ rest)) (sym size) ∙ take-append_seam (reads.read ++ counted) rest in
+    let front : take longest_stream (reads.read ++ bytes) ≡ reads.read ++ counted =
+    ap (take longest_stream) whole ∙ ap (λ n. take n ((reads.read ++ counted) ++ rest)) (sym size) ∙ take-append_seam (reads.read ++ counted) rest in
     let many : length (reads.read ++ bytes) ≡ length (reads.read ++ counted) + length rest = ap length whole ∙ length-append (reads.read ++ counted) rest in
     record {
       read = reads.read ++ bytes;
@@ -314,7 +315,7 @@ Ran-long cell form profile middle new bytes counted rest unread between unread' 
     }
 
 stopped-fault : (cell : ℕ → Cell) (form : Form) (profile : Profile) (ended : Type 0) (fault : ReplayFault) (read out : List ℕ) → (fault ≡ Memory) ⊎ (fault ≡ Write)
-    → IsStoppedReplay cell form profile ended (take 1073741824 read) out → IsReplay cell form profile ended (Err fault) read out
+    → IsStoppedReplay cell form profile ended (take longest_stream read) out → IsReplay cell form profile ended (Err fault) read out
 stopped-fault cell form profile ended fault read out (inl memory) is = subst (λ (f : ReplayFault). IsReplay cell form profile ended (Err f) read out) (sym memory) is
 stopped-fault cell form profile ended fault read out (inr write) is = subst (λ (f : ReplayFault). IsReplay cell form profile ended (Err f) read out) (sym write) is
 
@@ -327,13 +328,13 @@ pub Ran-stopped : (cell : ℕ → Cell) (form : Form) (profile : Profile) (middl
     (unread between unread' written between' written' : Option (List ℕ)) (fault : ReplayFault)
     → ReadsSoFar cell form profile middle unread between written between' → Consumes between unread' bytes
     → Uses cell form profile middle new counted between' written' (Err fault) → bytes ≡ counted ++ rest
-    → middle.taken + length counted ≤ 1073741824 → (fault ≡ Memory) ⊎ (fault ≡ Write)
+    → middle.taken + length counted ≤ longest_stream → (fault ≡ Memory) ⊎ (fault ≡ Write)
     → Ran (is_read_fault_of (Err fault)) unread unread' written written' (HasRead cell form profile (Err fault))
 Ran-stopped cell form profile middle new bytes counted rest unread between unread' written between' written' fault reads consumed uses split few only =
     let taken = reads.stands.taken in
-    let size : length (reads.read ++ counted) ≤ 1073741824 = omega (arith, length-append reads.read counted) in
+    let size : length (reads.read ++ counted) ≤ longest_stream = omega (arith, length-append reads.read counted) in
     let whole : reads.read ++ bytes ≡ (reads.read ++ counted) ++ rest = ap (λ b. reads.read ++ b) split ∙ sym (append_assoc reads.read counted rest) in
-    let front = ap (take 1073741824) whole ∙ take-past 1073741824 (reads.read ++ counted) rest size in
+    let front = ap (take longest_stream) whole ∙ take-past longest_stream (reads.read ++ counted) rest size in
     subst (λ (failed : Bool). Ran failed unread unread' written written' (HasRead cell form profile (Err fault))) (sym (no_read fault only)) (record {
       read = reads.read ++ bytes;
       out = reads.out ++ uses.text;
@@ -341,7 +342,7 @@ Ran-stopped cell form profile middle new bytes counted rest unread between unrea
       put = Appends-trans written between' written' reads.out uses.text reads.put uses.put;
       so = stopped-fault cell form profile ⊥ fault (reads.read ++ bytes) (reads.out ++ uses.text) only
           (subst (λ (r : List ℕ). IsStoppedReplay cell form profile ⊥ r (reads.out ++ uses.text)) (sym front)
-          (stopped-longer cell form profile ⊥ (reads.read ++ counted) (take (1073741824 - length (reads.read ++ counted)) rest) (reads.out ++ uses.text)
+          (stopped-longer cell form profile ⊥ (reads.read ++ counted) (take (longest_stream - length (reads.read ++ counted)) rest) (reads.out ++ uses.text)
           (uses.so reads.read reads.out reads.stands)));
     })
 
@@ -366,12 +367,12 @@ Ran-fault cell form profile ended fault unread unread' written written' ran = re
 }
 
 end_of : (cell : ℕ → Cell) (form : Form) (profile : Profile) (ended : Type 0) (progress : Progress) (result : Result Report ReplayFault) (read out : List ℕ)
-    → ended → length read ≤ 1073741824 → IfErr result (λ fault. (fault ≡ Memory) ⊎ (fault ≡ Write))
+    → ended → length read ≤ longest_stream → IfErr result (λ fault. (fault ≡ Memory) ⊎ (fault ≡ Write))
     → MatchResult result (λ report. IsReplayText cell form profile read report out) (λ _. IsStoppedReplay cell form profile (Unit {0}) read out)
     → (is_read_fault result ≡ false) × IsReplay cell form profile ended result read out
 end_of cell form profile ended progress (Ok report) read out is few only text = (refl, (few, text))
 end_of cell form profile ended progress (Err fault) read out is few only stopped =
-    let whole : take 1073741824 read ≡ read = take_all 1073741824 read few in (
+    let whole : take longest_stream read ≡ read = take_all longest_stream read few in (
       sym (same_fault fault) ∙ no_read fault only,
       stopped-fault cell form profile ended fault read out only
           (subst (λ (r : List ℕ). IsStoppedReplay cell form profile ended r out) (sym whole) (stopped-ended cell form profile (Unit {0}) ended read out (λ _. is) stopped)),
@@ -379,12 +380,12 @@ end_of cell form profile ended progress (Err fault) read out is few only stopped
 
 -- the file was read to its end
 pub Ran-finished : (cell : ℕ → Cell) (form : Form) (profile : Profile) (ended : Type 0) (progress : Progress) (result : Result Report ReplayFault)
-    (unread unread' written between written' : Option (List ℕ)) → ended → progress.taken ≤ 1073741824
+    (unread unread' written between written' : Option (List ℕ)) → ended → progress.taken ≤ longest_stream
     → IfErr result (λ fault. (fault ≡ Memory) ⊎ (fault ≡ Write))
     → Ran false unread unread' written between (HasRead cell form profile (Ok progress)) → Ends cell form profile progress between written' result
     → Ran (is_read_fault result) unread unread' written written' (IsReplay cell form profile ended result)
 Ran-finished cell form profile ended progress result unread unread' written between written' is few only ran ends =
-    let short : length ran.read ≤ 1073741824 = omega (arith, ran.so.taken) in
+    let short : length ran.read ≤ longest_stream = omega (arith, ran.so.taken) in
     let end = end_of cell form profile ended progress result ran.read (ran.out ++ ends.text) is short only (ends.so ran.read ran.out ran.so) in
     subst (λ (failed : Bool). Ran failed unread unread' written written' (IsReplay cell form profile ended result)) (sym end.0) (record {
       read = ran.read;

@@ -1,10 +1,11 @@
 -- The lines of a test file.
 use Rattle.std.specs.Prelude.{◌≢◌, ℕ, ◌==◌, ◌&&◌, if◌then◌else◌, List, [], ◌∷◌, ◌++◌}
 use Rattle.std.specs.List.{AllByRecursion}
+use Rattle.lbk_feed.specs.Text.{longest_text}
 
--- the most bytes of a file that is replayed
+-- the most bytes of a file that is replayed: as many as of a text
 abbrev pub longest_stream : ℕ
-longest_stream = 1073741824
+longest_stream = longest_text
 
 abbrev pub byte_order_mark : List ℕ
 byte_order_mark = 0xEF ∷ 0xBB ∷ 0xBF ∷ []

@@ -4,6 +4,7 @@ ghost use Rattle.std.specs.Prelude.{◌≡◌, ◌+◌, ◌<◌, ◌≤◌, ◌�
 ghost use Rattle.std.specs.Io.KnownBytes.{Appends, IsAtEnd};
 ghost use Rattle.lbk_notation.specs.Progress.{Ends, HasRead, Uses, is_read_fault_of};
 ghost use Rattle.lbk_notation.specs.Replay.{IsReplay, IsReplayed, is_read_fault};
+ghost use Rattle.lbk_notation.specs.Stream.{longest_stream};
 ghost use Rattle.lbk_feed.specs.Runs.{HasFailed, Ran};
 
 use super::findings::{ReplayFault, Report};
@@ -57,7 +58,7 @@ pub fn replay<R: Source, W: Sink, C: CellSource>(
     ensures read_failed { R.failure_count reader.old < R.failure_count reader.new → result ≡ Err ReplayFault.Read }
     ensures write { IsErrOf result ReplayFault.Write → HasFailed (W.failure_count writer.old) (W.failure_count writer.new) }
     ensures write_failed { W.failure_count writer.old < W.failure_count writer.new → result ≡ Err ReplayFault.Write }
-    ensures reads { R.read_count reader.new ≤ R.read_count reader.old + 1073741825 }
+    ensures reads { R.read_count reader.new ≤ R.read_count reader.old + (longest_stream + 1) }
 {
     let replayer = Replayer {
         cells,
@@ -83,7 +84,7 @@ fn read_all<R: Source, W: Sink, C: CellSource>(
     ensures write { IsErrOf result ReplayFault.Write → HasFailed (W.failure_count writer.old) (W.failure_count writer.new) }
     ensures write_failed { W.failure_count writer.old < W.failure_count writer.new → result ≡ Err ReplayFault.Write }
     ensures none_failed { OnOk result (W.failure_count writer.new ≡ W.failure_count writer.old) }
-    ensures reads { R.read_count reader.new ≤ R.read_count reader.old + 1073741825 }
+    ensures reads { R.read_count reader.new ≤ R.read_count reader.old + (longest_stream + 1) }
 {
     let mut progress = Progress::new(alloc);
     let mut block = [0u8; BLOCK];
@@ -110,7 +111,7 @@ fn take_all<W: Sink, C: CellSource>(
     progress: &mut Progress,
     bytes: &[u8],
 ) -> Result<(), ReplayFault>
-    requires { progress.old.taken + length bytes.now ≤ 1073741824 }
+    requires { progress.old.taken + length bytes.now ≤ longest_stream }
     ensures uses { Uses (C.cell_of replayer.now.cells.now) replayer.now.form replayer.now.profile progress.old progress.new
         bytes.now (W.written writer.old) (W.written writer.new) result }
     ensures taken { OnOk result (progress.new.taken ≡ progress.old.taken + length bytes.now) }
@@ -133,7 +134,7 @@ fn take<W: Sink, C: CellSource>(
     progress: &mut Progress,
     byte: u8,
 ) -> Result<(), ReplayFault>
-    requires { progress.old.taken < 1073741824 }
+    requires { progress.old.taken < longest_stream }
     ensures uses { Uses (C.cell_of replayer.now.cells.now) replayer.now.form replayer.now.profile progress.old progress.new
         (byte ∷ []) (W.written writer.old) (W.written writer.new) result }
     ensures taken { progress.new.taken ≡ progress.old.taken + 1 }

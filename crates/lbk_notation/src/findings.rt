@@ -1,6 +1,7 @@
 //! What a line of a test file comes to.
 
 ghost use Rattle.std.specs.Prelude.{◌≡◌, ◌+◌, ◌<◌};
+ghost use Rattle.lbk_notation.specs.Stream.{longest_stream};
 ghost use Rattle.lbk_notation.specs.declared.findings.ReplayFault.TheVariants.{Memory};
 
 use super::marks::Mark;
@@ -94,7 +95,7 @@ impl Report {
 
     /// One line more.
     pub(crate) fn count(&mut self, finding: Finding)
-        requires few { self.old.lines < 1073741824 }
+        requires few { self.old.lines < longest_stream }
         requires sum { self.old.agreed + self.old.differed + self.old.refused ≡ self.old.lines }
         ensures { self.new ≡ counted self.old finding }
     {

@@ -2,6 +2,8 @@
 
 ghost use Rattle.std.specs.Prelude.{◌≡◌, ◌≢◌, ◌⊎◌, ℕ, ◌+◌, ◌<◌, ◌≤◌, List, [], ◌∷◌, ◌++◌, length, true, false, OnOk, IfOk, IfErr};
 ghost use Rattle.std.specs.Bool.{OnTrue, OnFalse};
+ghost use Rattle.lbk_notation.specs.Fault.{longest};
+ghost use Rattle.lbk_notation.specs.Stream.{longest_stream};
 
 use super::findings::{Finding, ReplayFault, Report, STREAM_MAX};
 use super::reading::LONGEST;
@@ -24,8 +26,8 @@ pub struct Progress {
     taken: u32,
     number: u32,
     report: Report,
-    ghost within: { taken ≤ 1073741824 },
-    ghost short: { length line.items ≤ 268435456 },
+    ghost within: { taken ≤ longest_stream },
+    ghost short: { length line.items ≤ longest },
     ghost few: { number + length line.items ≤ taken },
     ghost long: { is_long ≡ true → number < taken },
     ghost counted: { report.lines ≤ number },
@@ -40,7 +42,7 @@ impl Progress {
     ghost use Rattle.lbk_notation.specs.Findings.{IsFinding};
     ghost use Rattle.lbk_notation.specs.Progress.{Holds, Settles, Stands, StandsAtEnd};
     ghost use Rattle.lbk_notation.specs.ReplayText.{total_text};
-    ghost use Rattle.lbk_notation.specs.Stream.{byte_order_mark, longest_stream};
+    ghost use Rattle.lbk_notation.specs.Stream.{byte_order_mark};
 
     /// Nothing is taken yet.
     pub fn new(alloc: Global) -> Progress

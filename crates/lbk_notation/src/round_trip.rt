@@ -4,6 +4,7 @@ ghost use Rattle.std.specs.Prelude.{◌≡◌, ◌+◌, ◌<◌, ◌≤◌, ◌�
 ghost use Rattle.std.specs.Char.{IsScalar};
 ghost use Rattle.std.specs.List.{AllByRecursion};
 ghost use Rattle.std.specs.Str.{encode_utf8_all};
+ghost use Rattle.lbk_feed.specs.Text.{greatest_limit};
 ghost use Rattle.lbk_notation.specs.Fault.{IsFault, longest};
 ghost use Rattle.lbk_notation.specs.Grammar.{IsLine};
 ghost use Rattle.lbk_notation.specs.declared.marks.Form.TheVariants.{Kinds};
@@ -44,7 +45,7 @@ pub fn read_passage_line(alloc: Global, bytes: &[u8]) -> Result<Option<TestLine>
         → IfOk result (λ read. read ≡ Some (passage_marks scalars verdicts)) }
     ensures fault { (scalars : List ℕ) (verdicts : List Verdict) → bytes.now ≡ passage_line scalars verdicts
         → length verdicts ≡ length scalars + 1 → AllByRecursion (λ scalar. IsScalar scalar) scalars
-        → length (encode_utf8_all scalars) ≤ 16777216 → IfErr result (λ fault. fault ≡ Memory) }
+        → length (encode_utf8_all scalars) ≤ greatest_limit → IfErr result (λ fault. fault ≡ Memory) }
 {
     read_line(alloc, bytes, Form::Kinds)
 }

@@ -1,12 +1,13 @@
 -- A segmenter as its callers see it.
 use Rattle.std.specs.Prelude.{ℕ, ◌-◌, ◌≤◌, Bool, false, ◌||◌, List, [], ◌++◌, length, string_bytes, if◌then◌else◌}
+use Rattle.lbk_feed.specs.Text.{greatest_limit}
 use Rattle.lbk_rules.specs.declared.cells.Cell.{Cell}
 use Rattle.lbk_rules.specs.declared.verdicts.Profile.{Profile}
 use Rattle.lbk_passage.specs.declared.paragraph.Paragraph.{Paragraph}
 
--- a limit counts bytes, and is 1 to 16,777,216
+-- a limit counts bytes, and is 1 to the greatest
 abbrev pub IsLimit : ℕ → Type 0
-IsLimit limit = (1 ≤ limit) × (limit ≤ 16777216)
+IsLimit limit = (1 ≤ limit) × (limit ≤ greatest_limit)
 
 -- the cells and the profile that it decides by, and its limit; how many bytes of text the passages given have, the
 -- bytes that were read and not given, whether a read gave no byte, whether what the next call answers was seen

@@ -5,9 +5,6 @@ ghost use Rattle.lbk_passage.specs.Faults.{passage_fault};
 
 use lbk_feed::FeedFault;
 
-/// The most bytes that a limit may give a paragraph.
-pub const LIMIT_MAX: u32 = 16_777_216;
-
 /// Why a segmenter is refused, or gives no passage.
 #[derive(Clone, Copy, Debug, PartialEq, Eq)]
 pub enum PassageFault {

@@ -15,6 +15,7 @@ mod reach;
 mod segmenter;
 mod segments;
 
-pub use faults::{LIMIT_MAX, PassageFault};
+pub use faults::PassageFault;
+pub use lbk_feed::LIMIT_MAX;
 pub use passage::{Passage, Piece, Segment};
 pub use segmenter::Segmenter;

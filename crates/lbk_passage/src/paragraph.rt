@@ -1,6 +1,7 @@
 //! The text of one paragraph, gathered from the pieces of a feed.
 
 ghost use Rattle.std.specs.Prelude.{◌≤◌, ◌≡◌, ◌&&◌, not, false, string_len, string_capacity};
+ghost use Rattle.lbk_feed.specs.Text.{greatest_limit};
 
 use crate::ends::end_before;
 use crate::faults::{PassageFault, from_feed};
@@ -21,7 +22,7 @@ pub struct Paragraph {
     /// Whether its end was found, and it was not given.
     is_held: bool,
     is_spent: bool,
-    ghost few: { limit ≤ 16777216 },
+    ghost few: { limit ≤ greatest_limit },
     ghost room: { limit ≤ string_capacity text },
     ghost within: { string_len text ≤ limit },
     ghost given: { string_len text ≤ feed.given },
@@ -40,7 +41,7 @@ impl Paragraph {
 
     /// A paragraph of at most `limit` bytes, for which room is reserved.
     pub fn new(alloc: Global, limit: u32) -> Result<Paragraph, AllocError>
-        requires { limit ≤ 16777216 }
+        requires { limit ≤ greatest_limit }
         ensures state { IfOk result (λ p. (cell : ℕ → Cell) (profile : Profile) → state_with cell profile p ≡ new_state cell profile limit) }
         ensures room { IfOk result (λ p. string_capacity p.text ≡ limit) }
     {
@@ -58,7 +59,7 @@ impl Paragraph {
     pub fn text(&self) -> &str
         ensures text { result.now ≡ string_bytes self.now.text }
         ensures few { length result.now ≤ self.now.limit }
-        ensures limit { self.now.limit ≤ 16777216 }
+        ensures limit { self.now.limit ≤ greatest_limit }
     {
         self.text.as_str()
     }

@@ -7,14 +7,14 @@ ghost use Rattle.std.specs.Str.{chars};
 ghost use Rattle.lbk_passage.specs.Flags.{AreLetters, AreQuiet};
 ghost use Rattle.lbk_passage.specs.Stays.{IsWhole};
 
-use crate::faults::{LIMIT_MAX, PassageFault};
+use crate::faults::PassageFault;
 use crate::flags::ByteFlags;
 use crate::paragraph::Paragraph;
 use crate::passage::{Passage, Piece, Segment};
 use crate::pieces::cut_words;
 use crate::segments::{BLOCK, NO_BREAKS, cut_lines};
 use lbk_breaks::Break;
-use lbk_feed::Source;
+use lbk_feed::{LIMIT_MAX, Source};
 use lbk_rules::{CellSource, Profile, Verdict};
 use std::alloc::{AllocError, Global};
 

@@ -5,7 +5,7 @@ use crate::checks::{check_run, check_spent, same};
 use lbk_feed::devices::RepeatedSource;
 use lbk_feed::{Device, Feed, FeedFault, Source};
 use lbk_notation::Form;
-use lbk_passage::{PassageFault, Segmenter};
+use lbk_passage::{LIMIT_MAX, PassageFault, Segmenter};
 use lbk_rules::{CellPages, Profile, Rule};
 use lbk_tests_rows::reads::SIZES;
 use lbk_tests_rows::replayed::FOUR_LINES;
@@ -396,7 +396,7 @@ fn check_round_the_greatest(rt: &impl Abort, setting: Setting<'_>) -> Result<(),
 fn greatest_passage(rt: HostRuntime) -> Result<(), Fail> {
     let cells = sample_cells(rt.alloc())?;
     let setting = Setting {
-        limit: 16_777_216,
+        limit: LIMIT_MAX,
         ..Setting::new(rt.alloc(), &cells, Profile::First)
     };
     check_round_the_greatest(&rt, setting)

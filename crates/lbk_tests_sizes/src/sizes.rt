@@ -2,14 +2,12 @@
 
 use lbk_feed::devices::MemorySource;
 use lbk_notation::{Form, LineFault, TestLine, mark_text, read_back};
-use lbk_passage::{PassageFault, Segmenter};
+use lbk_passage::{LIMIT_MAX, PassageFault, Segmenter};
 use lbk_rules::{CellPages, Profile};
 use lbk_tests_runs::calls::sample_cells;
 use std::alloc::{AllocError, Global};
 use std::process::Abort;
 use std::test::Fail;
-
-const GREATEST_LIMIT: u32 = 16_777_216;
 
 /// Two sizes between each power of two up to the 16th and the next, as a linear congruence draws them.
 fn sizes(alloc: Global) -> Result<Vec<u32>, AllocError> {
@@ -58,7 +56,7 @@ fn passage_counts(
     text: &str,
 ) -> Result<Option<(usize, usize)>, PassageFault> {
     let mut source = MemorySource::new(text.as_bytes());
-    let mut segmenter = Segmenter::new(alloc, cells, GREATEST_LIMIT, Profile::Second)?;
+    let mut segmenter = Segmenter::new(alloc, cells, LIMIT_MAX, Profile::Second)?;
     match segmenter.next(&mut source)? {
         Some(passage) => Ok(Some((passage.segments.len(), passage.pieces.len()))),
         None => Ok(None),

@@ -1,4 +1,5 @@
-use Rattle.std.proofs.Common.{◌≡◌, ◌-◌}
+use Rattle.std.proofs.Common.{◌≡◌, ◌+◌, ◌-◌}
+use Rattle.lbk_feed.specs.Text.{longest_text}
 use Rattle.lbk_passage.specs.Shown.{state_of}
 use Rattle.lbk_cmd.specs.Engines.{engine_of}
 use Rattle.lbk_cmd.proofs.Looping.{Going}
@@ -15,4 +16,4 @@ invariant-loop-text g l = record {
 }
 
 abbrev pub decreases-loop-text : goal.decreases-loop-text
-decreases-loop-text g l = 1073741825 - (state_of g.C.CellSource.cell_of l.segmenter).start
+decreases-loop-text g l = longest_text + 1 - (state_of g.C.CellSource.cell_of l.segmenter).start

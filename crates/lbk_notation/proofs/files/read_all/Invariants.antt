@@ -1,4 +1,5 @@
 use Rattle.std.proofs.Common.{◌≡◌, ◌+◌, ◌-◌, ◌≤◌}
+use Rattle.lbk_notation.specs.Stream.{longest_stream}
 use Rattle.lbk_notation.proofs.RunLemmas.{ReadsSoFar}
 use Rattle.lbk_notation.proofs.files.read_all.Given as goal
 
@@ -13,4 +14,4 @@ invariant-loop-count g l = record {
 }
 
 abbrev pub decreases-loop-count : goal.decreases-loop-count
-decreases-loop-count g l = 1073741824 - l.progress.taken
+decreases-loop-count g l = longest_stream - l.progress.taken
