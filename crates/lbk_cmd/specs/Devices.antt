@@ -1,5 +1,7 @@
 -- A reader and a writer at one moment.
-use Rattle.std.specs.Prelude.{ℕ, Bool, List, Option}
+use Rattle.std.specs.Prelude.{ℕ, Bool, List, Option, None}
+use Rattle.lbk_feed.specs.declared.traits.Source.{Ghosts as SourceMembers}
+use Rattle.lbk_feed.specs.declared.traits.Sink.{Ghosts as SinkMembers}
 
 -- what a reader has still to give and what a writer has taken, where they tell it, with what they counted
 pub record Devices : Type 0 where
@@ -10,12 +12,24 @@ pub record Devices : Type 0 where
   pub written : Option (List ℕ)
   pub failed_writes : ℕ
 
-abbrev pub devices_of : Option (List ℕ) → ℕ → ℕ → Bool → Option (List ℕ) → ℕ → Devices
-devices_of unread reads failed_reads has_ended written failed_writes = record {
-  unread = unread;
-  reads = reads;
-  failed_reads = failed_reads;
-  has_ended = has_ended;
-  written = written;
-  failed_writes = failed_writes;
+-- a reader and a writer, by the ghost members of their types
+abbrev pub devices_of : {R W : Type 0} → SourceMembers R → SinkMembers W → R → W → Devices
+devices_of source sink reader writer = record {
+  unread = source.unread reader;
+  reads = source.read_count reader;
+  failed_reads = source.failure_count reader;
+  has_ended = source.has_ended reader;
+  written = sink.written writer;
+  failed_writes = sink.failure_count writer;
+}
+
+-- a reader, and a writer that tells nothing and did not fail
+abbrev pub reader_alone : {R : Type 0} → SourceMembers R → R → Devices
+reader_alone source reader = record {
+  unread = source.unread reader;
+  reads = source.read_count reader;
+  failed_reads = source.failure_count reader;
+  has_ended = source.has_ended reader;
+  written = None;
+  failed_writes = 0;
 }

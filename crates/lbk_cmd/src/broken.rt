@@ -1,14 +1,14 @@
 //! A text broken in one call: from the bytes of four property files and of a text to what is read back of the lines
 //! that `show` writes.
 
-ghost use Rattle.std.specs.Prelude.{◌≡◌, ◌++◌, ◌∷◌, List, None, Ok, Err, IfNone, IfSome, IfOk, IfErr, OnOk};
+ghost use Rattle.std.specs.Prelude.{◌≡◌, ◌++◌, ◌∷◌, List, Ok, Err, IfNone, IfSome, IfOk, IfErr, OnOk};
 ghost use Rattle.lbk_rules.specs.CellPages.{page_cell};
 ghost use Rattle.lbk_notation.specs.Stream.{HasNoLineEnd};
 ghost use Rattle.lbk_passage.specs.Marks.{Marked};
 ghost use Rattle.lbk_cmd.specs.Acts.{Shows};
 ghost use Rattle.lbk_cmd.specs.Broken.{IsBroken, IsBreakFault, ShowsBy};
 ghost use Rattle.lbk_cmd.specs.declared.broken.BreakFault.TheVariants.{Files as files_fault, Text as text_fault};
-ghost use Rattle.lbk_cmd.specs.Devices.{devices_of};
+ghost use Rattle.lbk_cmd.specs.Devices.{reader_alone};
 ghost use Rattle.lbk_cmd.specs.Engines.{showing};
 ghost use Rattle.lbk_cmd.specs.ReadBack.{AreReadable, IsReadable, IsShown, Say, SayOf, line_of};
 
@@ -71,12 +71,9 @@ pub fn break_text<R: Source>(
 
     // What was read, and why a text is refused.
     ensures done { OnOk result (ShowsBy files.entry limit profile
-        (devices_of (R.unread reader.old) (R.read_count reader.old) (R.failure_count reader.old) (R.has_ended reader.old) None 0)
-        (devices_of (R.unread reader.new) (R.read_count reader.new) (R.failure_count reader.new) (R.has_ended reader.new) None 0)
-        (Ok (tt {0}))) }
+        (reader_alone R.Source reader.old) (reader_alone R.Source reader.new) (Ok (tt {0}))) }
     ensures refused { IfErr result (IsBreakFault files.entry limit profile
-        (devices_of (R.unread reader.old) (R.read_count reader.old) (R.failure_count reader.old) (R.has_ended reader.old) None 0)
-        (devices_of (R.unread reader.new) (R.read_count reader.new) (R.failure_count reader.new) (R.has_ended reader.new) None 0)) }
+        (reader_alone R.Source reader.old) (reader_alone R.Source reader.new)) }
 {
     let cells = read_cells(alloc, files)?;
     let text = shown_text(alloc, reader, &cells, limit, profile)?;
@@ -94,13 +91,9 @@ fn shown_text<R: Source>(
 ) -> Result<Vec<u8>, CmdFault>
     ensures whole { IfOk result (λ text. IsShown (showing (page_cell cells.now) profile limit) (R.unread reader.old) text.items) }
     ensures done { OnOk result (Shows (page_cell cells.now) limit profile
-        (devices_of (R.unread reader.old) (R.read_count reader.old) (R.failure_count reader.old) (R.has_ended reader.old) None 0)
-        (devices_of (R.unread reader.new) (R.read_count reader.new) (R.failure_count reader.new) (R.has_ended reader.new) None 0)
-        (Ok (tt {0}))) }
+        (reader_alone R.Source reader.old) (reader_alone R.Source reader.new) (Ok (tt {0}))) }
     ensures refused { IfErr result (λ fault. Shows (page_cell cells.now) limit profile
-        (devices_of (R.unread reader.old) (R.read_count reader.old) (R.failure_count reader.old) (R.has_ended reader.old) None 0)
-        (devices_of (R.unread reader.new) (R.read_count reader.new) (R.failure_count reader.new) (R.has_ended reader.new) None 0)
-        (Err fault)) }
+        (reader_alone R.Source reader.old) (reader_alone R.Source reader.new) (Err fault)) }
 {
     let mut writer = Device::new(Vec::new(alloc));
     match show(alloc, reader, &mut writer, cells, limit, profile) {

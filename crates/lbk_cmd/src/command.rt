@@ -38,27 +38,19 @@ pub fn run<'a, S: Store, R: Source, W: Sink>(
     writer: &mut W,
 ) -> Ending
     ensures samples { words.entry.now ≡ [] → ShowsSamples
-        (devices_of (R.unread reader.old) (R.read_count reader.old) (R.failure_count reader.old) (R.has_ended reader.old) (W.written writer.old) (W.failure_count writer.old))
-        (devices_of (R.unread reader.new) (R.read_count reader.new) (R.failure_count reader.new) (R.has_ended reader.new) (W.written writer.new) (W.failure_count writer.new))
-        result }
+        (devices_of R.Source W.Sink reader.old writer.old) (devices_of R.Source W.Sink reader.new writer.new) result }
     ensures plain { (task : Task) → IsPlainFor task (map (λ w. w.now) words.entry.now)
         → Performs (S.file store.old) task
         (counts_of (S.load_count store.old) (S.refusal_count store.old)) (counts_of (S.load_count store.new) (S.refusal_count store.new))
-        (devices_of (R.unread reader.old) (R.read_count reader.old) (R.failure_count reader.old) (R.has_ended reader.old) (W.written writer.old) (W.failure_count writer.old))
-        (devices_of (R.unread reader.new) (R.read_count reader.new) (R.failure_count reader.new) (R.has_ended reader.new) (W.written writer.new) (W.failure_count writer.new))
-        result }
+        (devices_of R.Source W.Sink reader.old writer.old) (devices_of R.Source W.Sink reader.new writer.new) result }
     ensures accepted { (task : Task) → words.entry.now ≢ [] → AreAccepted (map (λ w. w.now) words.entry.now)
         → task_by (map (λ w. w.now) words.entry.now) ≡ Some task
         → Performs (S.file store.old) task
         (counts_of (S.load_count store.old) (S.refusal_count store.old)) (counts_of (S.load_count store.new) (S.refusal_count store.new))
-        (devices_of (R.unread reader.old) (R.read_count reader.old) (R.failure_count reader.old) (R.has_ended reader.old) (W.written writer.old) (W.failure_count writer.old))
-        (devices_of (R.unread reader.new) (R.read_count reader.new) (R.failure_count reader.new) (R.has_ended reader.new) (W.written writer.new) (W.failure_count writer.new))
-        result }
+        (devices_of R.Source W.Sink reader.old writer.old) (devices_of R.Source W.Sink reader.new writer.new) result }
     ensures others { words.entry.now ≢ [] → ¬ (AreAccepted (map (λ w. w.now) words.entry.now))
         → StopsBefore (IsStoppedByWords (map (λ w. w.now) words.entry.now))
-        (devices_of (R.unread reader.old) (R.read_count reader.old) (R.failure_count reader.old) (R.has_ended reader.old) (W.written writer.old) (W.failure_count writer.old))
-        (devices_of (R.unread reader.new) (R.read_count reader.new) (R.failure_count reader.new) (R.has_ended reader.new) (W.written writer.new) (W.failure_count writer.new))
-        result }
+        (devices_of R.Source W.Sink reader.old writer.old) (devices_of R.Source W.Sink reader.new writer.new) result }
     ensures unloaded { (words.entry.now ≡ []) ⊎ (¬ (AreAccepted (map (λ w. w.now) words.entry.now)))
         → S.load_count store.new ≡ S.load_count store.old }
     ensures refused { S.refusal_count store.old < S.refusal_count store.new → result ≡ Ending.Refused Memory }
@@ -78,9 +70,7 @@ pub fn run<'a, S: Store, R: Source, W: Sink>(
 #[tactic(none)]
 fn show_samples<R: Source, W: Sink>(alloc: Global, reader: &mut R, writer: &mut W) -> Ending
     ensures { ShowsSamples
-        (devices_of (R.unread reader.old) (R.read_count reader.old) (R.failure_count reader.old) (R.has_ended reader.old) (W.written writer.old) (W.failure_count writer.old))
-        (devices_of (R.unread reader.new) (R.read_count reader.new) (R.failure_count reader.new) (R.has_ended reader.new) (W.written writer.new) (W.failure_count writer.new))
-        result }
+        (devices_of R.Source W.Sink reader.old writer.old) (devices_of R.Source W.Sink reader.new writer.new) result }
 {
     match sample_cells(alloc) {
         Ok(cells) => Ending::of_text(show(
@@ -104,9 +94,7 @@ fn perform<R: Source, W: Sink>(
     writer: &mut W,
 ) -> Ending
     ensures { EngineRuns ready.now.engine ready.now.profile (page_cell ready.now.cells)
-        (devices_of (R.unread reader.old) (R.read_count reader.old) (R.failure_count reader.old) (R.has_ended reader.old) (W.written writer.old) (W.failure_count writer.old))
-        (devices_of (R.unread reader.new) (R.read_count reader.new) (R.failure_count reader.new) (R.has_ended reader.new) (W.written writer.new) (W.failure_count writer.new))
-        result }
+        (devices_of R.Source W.Sink reader.old writer.old) (devices_of R.Source W.Sink reader.new writer.new) result }
 {
     let cells = &ready.cells;
     match ready.engine {

@@ -35,9 +35,7 @@ pub fn mark<R: Source, W: Sink, C: CellSource>(
     profile: Profile,
 ) -> Result<(), CmdFault>
     ensures { Marks (C.cell_of cells.now) limit profile
-        (devices_of (R.unread reader.old) (R.read_count reader.old) (R.failure_count reader.old) (R.has_ended reader.old) (W.written writer.old) (W.failure_count writer.old))
-        (devices_of (R.unread reader.new) (R.read_count reader.new) (R.failure_count reader.new) (R.has_ended reader.new) (W.written writer.new) (W.failure_count writer.new))
-        result }
+        (devices_of R.Source W.Sink reader.old writer.old) (devices_of R.Source W.Sink reader.new writer.new) result }
 {
     write_lines(Lines::Signed, alloc, reader, writer, cells, limit, profile)
 }
@@ -57,9 +55,7 @@ pub fn show<R: Source, W: Sink, C: CellSource>(
     profile: Profile,
 ) -> Result<(), CmdFault>
     ensures { Shows (C.cell_of cells.now) limit profile
-        (devices_of (R.unread reader.old) (R.read_count reader.old) (R.failure_count reader.old) (R.has_ended reader.old) (W.written writer.old) (W.failure_count writer.old))
-        (devices_of (R.unread reader.new) (R.read_count reader.new) (R.failure_count reader.new) (R.has_ended reader.new) (W.written writer.new) (W.failure_count writer.new))
-        result }
+        (devices_of R.Source W.Sink reader.old writer.old) (devices_of R.Source W.Sink reader.new writer.new) result }
 {
     write_lines(Lines::Shown, alloc, reader, writer, cells, limit, profile)
 }
@@ -78,9 +74,7 @@ pub fn segment<R: Source, W: Sink, C: CellSource>(
     profile: Profile,
 ) -> Result<(), CmdFault>
     ensures { Segments (C.cell_of cells.now) limit profile
-        (devices_of (R.unread reader.old) (R.read_count reader.old) (R.failure_count reader.old) (R.has_ended reader.old) (W.written writer.old) (W.failure_count writer.old))
-        (devices_of (R.unread reader.new) (R.read_count reader.new) (R.failure_count reader.new) (R.has_ended reader.new) (W.written writer.new) (W.failure_count writer.new))
-        result }
+        (devices_of R.Source W.Sink reader.old writer.old) (devices_of R.Source W.Sink reader.new writer.new) result }
 {
     write_lines(
         Lines::Segmented,

@@ -1,7 +1,7 @@
-use Rattle.std.proofs.Common.{None, ap, subst, sym, ◌∙◌}
+use Rattle.std.proofs.Common.{ap, subst, sym, ◌∙◌}
 use Rattle.std.proofs.lemmas.Result.{err_from_is_err_and}
 use Rattle.lbk_rules.specs.CellPages.{page_cell}
-use Rattle.lbk_cmd.specs.Devices.{devices_of}
+use Rattle.lbk_cmd.specs.Devices.{reader_alone}
 use Rattle.lbk_cmd.specs.ReadBack.{AreReadable, Say}
 use Rattle.lbk_cmd.specs.declared.broken.BreakFault.TheVariants.{Text as text_fault}
 use Rattle.lbk_cmd.proofs.Breaking.{broken, out_of_memory, readable}
@@ -15,11 +15,9 @@ read_lines-requires g c =
 
 pub returns-in_err-lines-clause-refused : goal.returns-in_err-lines-clause-refused
 returns-in_err-lines-clause-refused g c =
-    let source = g.R.Source in
     let exit = err_from_is_err_and c.from_residual-in_err-lines.result c.from_residual-in_err-lines.ensures.1 in
     out_of_memory c.args.files (page_cell c.in_ok-cells.cells) c.args.limit c.args.profile
-    (devices_of (source.unread c.args.reader.now) (source.read_count c.args.reader.now) (source.failure_count c.args.reader.now) (source.has_ended c.args.reader.now) None 0)
-    (devices_of (source.unread c.shown_text.new.reader) (source.read_count c.shown_text.new.reader) (source.failure_count c.shown_text.new.reader) (source.has_ended c.shown_text.new.reader) None 0)
+    (reader_alone g.R.Source c.args.reader.now) (reader_alone g.R.Source c.shown_text.new.reader)
     c.from_residual-in_err-lines.result exit.0 exit.1 (exit.2 ∙ ap text_fault c.in_err-lines.ensures.fault)
     c.in_ok-cells.ensures.cells c.in_ok-text.ensures.done
 
