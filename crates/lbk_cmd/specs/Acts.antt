@@ -8,9 +8,9 @@ use Rattle.lbk_passage.specs.Passages.{passages}
 use Rattle.lbk_passage.specs.State.{IsLimit}
 use Rattle.lbk_passage.specs.declared.faults.PassageFault.{PassageFault}
 use Rattle.lbk_notation.specs.Replay.{IsReplay, IsReplayed, is_read_fault}
-use Rattle.lbk_cmd.specs.Engines.{marking, segmenting, showing}
+use Rattle.lbk_cmd.specs.Engines.{engine_of, lines_of, marking, segmenting, showing}
 use Rattle.lbk_cmd.specs.Run.{Engine as TextEngine, IsRun, is_failed_read}
-use Rattle.lbk_cmd.specs.Texts.{segment_text, show_text, signed_text}
+use Rattle.lbk_cmd.specs.Texts.{lines_from, segment_text, show_text, signed_text}
 use Rattle.lbk_rules.specs.declared.cells.Cell.{Cell}
 use Rattle.lbk_rules.specs.declared.verdicts.Profile.{Profile}
 use Rattle.lbk_rules.specs.declared.verdicts.Profile.TheVariants.{First}
@@ -30,6 +30,7 @@ use Rattle.lbk_files.specs.Named.{files_of}
 use Rattle.lbk_files.specs.Ready.{IsStoppedAt}
 use Rattle.lbk_cmd.specs.declared.faults.CmdFault.{CmdFault}
 use Rattle.lbk_cmd.specs.declared.ending.Ending.{Ending}
+use Rattle.lbk_cmd.specs.declared.engine.Lines.{Lines}
 use Rattle.lbk_cmd.specs.Devices.{Devices}
 use Rattle.lbk_cmd.specs.Ending.{ending_of_files, ending_of_replay, ending_of_stop, ending_of_text}
 
@@ -44,6 +45,11 @@ pub record TextRuns (text : List ℕ → List ℕ) (engine : TextEngine) (before
   pub read_failed : before.failed_reads < after.failed_reads → answer ≡ Err (CmdFault.Passage PassageFault.Read)
   pub write : IsErrOf answer CmdFault.Write → HasFailed before.failed_writes after.failed_writes
   pub write_failed : before.failed_writes < after.failed_writes → answer ≡ Err CmdFault.Write
+
+-- the same, by the lines that are written of each passage
+abbrev pub Writes : Lines → (ℕ → Cell) → ℕ → Profile → Devices → Devices → Result (Unit {0}) CmdFault → Type 0
+Writes lines cell limit profile =
+    TextRuns (λ input. lines_from (lines_of lines cell) 0 (passages profile cell (chars input))) (engine_of lines cell profile limit)
 
 abbrev pub Marks : (ℕ → Cell) → ℕ → Profile → Devices → Devices → Result (Unit {0}) CmdFault → Type 0
 Marks cell limit profile = TextRuns (λ input. signed_text cell (passages profile cell (chars input))) (marking cell profile limit)

@@ -1,16 +1,12 @@
 //! The engines: each reads a text to its end, and writes its lines of every passage.
 
-ghost use Rattle.std.specs.Prelude.{◌≡◌, ◌+◌, ◌<◌, ◌≤◌, ◌↔◌, ◌++◌, List, length, IsTrue, OnOk, IsErrOf};
-ghost use Rattle.std.specs.Io.KnownBytes.{IsAtEnd};
-ghost use Rattle.lbk_feed.specs.Runs.{HasFailed, Ran};
-ghost use Rattle.lbk_feed.specs.Text.{longest_text};
+ghost use Rattle.std.specs.Prelude.{◌≡◌, ◌++◌, List, length, OnOk};
 ghost use Rattle.lbk_passage.specs.Marks.{Marked};
 ghost use Rattle.lbk_passage.specs.Next.{IsPassage, IsPlaced};
-ghost use Rattle.lbk_passage.specs.State.{State, IsLimit};
-ghost use Rattle.lbk_cmd.specs.Acts.{Marks, Segments, Shows};
+ghost use Rattle.lbk_passage.specs.State.{State};
+ghost use Rattle.lbk_cmd.specs.Acts.{Marks, Segments, Shows, Writes};
 ghost use Rattle.lbk_cmd.specs.Devices.{devices_of};
-ghost use Rattle.lbk_cmd.specs.Engines.{engine_of, lines_of};
-ghost use Rattle.lbk_cmd.specs.Run.{IsRun, is_failed_read};
+ghost use Rattle.lbk_cmd.specs.Engines.{lines_of};
 ghost use Rattle.lbk_cmd.specs.Signing.{IsCut};
 
 use super::faults::CmdFault;
@@ -18,7 +14,7 @@ use super::segmented::push_segmented;
 use super::shown::{decide, push_shown};
 use super::signed::push_signed;
 use lbk_feed::{Sink, Source, write_all};
-use lbk_passage::{Passage, PassageFault, Segmenter};
+use lbk_passage::{Passage, Segmenter};
 use lbk_rules::{CellSource, Profile, Verdict};
 use std::alloc::{AllocError, Global};
 
@@ -108,19 +104,8 @@ fn write_lines<R: Source, W: Sink, C: CellSource>(
     limit: u32,
     profile: Profile,
 ) -> Result<(), CmdFault>
-    ensures ended { OnOk result (IsTrue (R.has_ended reader.new) × IsAtEnd (R.unread reader.new)) }
-    ensures run { Ran (is_failed_read result) (R.unread reader.old) (R.unread reader.new) (W.written writer.old)
-        (W.written writer.new) (IsRun (engine_of lines (C.cell_of cells.now) profile limit) (R.read_count reader.old)
-        (R.read_count reader.new) (R.has_ended reader.new) result) }
-    ensures reads { R.read_count reader.new ≤ R.read_count reader.old + (longest_text + 1) }
-    ensures limit { IsErrOf result (CmdFault.Passage PassageFault.Limit) ↔ (¬ (IsLimit limit)) }
-    ensures read { IsErrOf result (CmdFault.Passage PassageFault.Read)
-        → HasFailed (R.failure_count reader.old) (R.failure_count reader.new) }
-    ensures read_failed { R.failure_count reader.old < R.failure_count reader.new
-        → result ≡ Err (CmdFault.Passage PassageFault.Read) }
-    ensures write { IsErrOf result CmdFault.Write
-        → HasFailed (W.failure_count writer.old) (W.failure_count writer.new) }
-    ensures write_failed { W.failure_count writer.old < W.failure_count writer.new → result ≡ Err CmdFault.Write }
+    ensures { Writes lines (C.cell_of cells.now) limit profile
+        (devices_of R.Source W.Sink reader.old writer.old) (devices_of R.Source W.Sink reader.new writer.new) result }
 {
     let mut segmenter = Segmenter::new(alloc, cells, limit, profile)?;
     let mut verdicts = Vec::new(alloc);
