@@ -1,16 +1,15 @@
 //! However the reads cut a worked text or test file, the passages, the output and the report are those of a single
 //! read: in two reads and in three at every place, and in one byte a read.
 
-use crate::checks::same;
 use lbk_feed::Sink;
 use lbk_notation::Form;
 use lbk_rules::{CellPages, Profile};
 use lbk_tests_rows::{replayed, segmented, shown, texts};
 use lbk_tests_runs::calls::sample_cells;
+use lbk_tests_runs::checks::same;
 use lbk_tests_runs::runs::{Ran, Run, whole};
 use lbk_tests_runs::tasks::{Setting, Task};
-use std::alloc::{AllocError, Global};
-use std::process::Abort;
+use std::alloc::Global;
 use std::test::Fail;
 
 const OF_TEXTS: [Task; 4] = [Task::Passages, Task::Mark, Task::Show, Task::Segment];
@@ -18,87 +17,53 @@ const OF_TEXTS: [Task; 4] = [Task::Passages, Task::Mark, Task::Show, Task::Segme
 const OF_FILES: [Task; 2] = [Task::Replay(Form::Plain), Task::Replay(Form::Kinds)];
 
 /// Runs over reads of these sizes, and compares.
-fn check_cut(
-    rt: &impl Abort,
-    setting: Setting<'_>,
-    run: Run<'_>,
-    sizes: &[usize],
-    want: &Ran,
-) -> Result<(), AllocError> {
+fn check_cut(setting: Setting<'_>, run: Run<'_>, sizes: &[usize], want: &Ran) -> Result<(), Fail> {
     let run = Run { sizes, ..run };
     let cut = run.ran(setting)?;
-    same(rt, &cut.end, &want.end, &run);
-    same(rt, &cut.sink.bytes(), &want.sink.bytes(), &run);
-    Ok(())
+    same(&cut.end, &want.end, &run)?;
+    same(&cut.sink.bytes(), &want.sink.bytes(), &run)
 }
 
 /// Cuts at this place and at each behind it; the last size is that of all reads that follow.
-fn check_cut_at(
-    rt: &impl Abort,
-    setting: Setting<'_>,
-    run: Run<'_>,
-    first: usize,
-    want: &Ran,
-) -> Result<(), AllocError> {
+fn check_cut_at(setting: Setting<'_>, run: Run<'_>, first: usize, want: &Ran) -> Result<(), Fail> {
     for second in 1..=run.input.len() {
         let sizes = [first, second, usize::MAX];
-        check_cut(rt, setting, run, &sizes, want)?;
+        check_cut(setting, run, &sizes, want)?;
     }
     Ok(())
 }
 
 /// Cuts in each way.
-fn check_task(
-    rt: &impl Abort,
-    setting: Setting<'_>,
-    task: Task,
-    input: &[u8],
-) -> Result<(), AllocError> {
+fn check_task(setting: Setting<'_>, task: Task, input: &[u8]) -> Result<(), Fail> {
     let run = whole(task, input);
     let want = run.ran(setting)?;
-    same(rt, &want.sink.failures(), &0, &run);
-    check_cut(rt, setting, run, &[1], &want)?;
+    same(&want.sink.failures(), &0, &run)?;
+    check_cut(setting, run, &[1], &want)?;
     for first in 1..=input.len() {
-        check_cut_at(rt, setting, run, first, &want)?;
+        check_cut_at(setting, run, first, &want)?;
     }
     Ok(())
 }
 
-fn check(
-    rt: &impl Abort,
-    setting: Setting<'_>,
-    tasks: &[Task],
-    input: &[u8],
-) -> Result<(), AllocError> {
+fn check(setting: Setting<'_>, tasks: &[Task], input: &[u8]) -> Result<(), Fail> {
     for task in tasks {
-        check_task(rt, setting, *task, input)?;
+        check_task(setting, *task, input)?;
     }
     Ok(())
 }
 
 /// In both profiles.
-fn check_both(
-    rt: &impl Abort,
-    alloc: Global,
-    cells: &CellPages,
-    tasks: &[Task],
-    input: &[u8],
-) -> Result<(), AllocError> {
+fn check_both(alloc: Global, cells: &CellPages, tasks: &[Task], input: &[u8]) -> Result<(), Fail> {
     for profile in [Profile::First, Profile::Second] {
-        check(rt, Setting::new(alloc, cells, profile), tasks, input)?;
+        check(Setting::new(alloc, cells, profile), tasks, input)?;
     }
     Ok(())
 }
 
 /// The texts of a table.
-fn check_texts<T: Copy>(
-    rt: &impl Abort,
-    alloc: Global,
-    cells: &CellPages,
-    rows: &[(&str, T)],
-) -> Result<(), AllocError> {
+fn check_texts<T: Copy>(alloc: Global, cells: &CellPages, rows: &[(&str, T)]) -> Result<(), Fail> {
     for (text, _) in rows {
-        check_both(rt, alloc, cells, &OF_TEXTS, text.as_bytes())?;
+        check_both(alloc, cells, &OF_TEXTS, text.as_bytes())?;
     }
     Ok(())
 }
@@ -113,36 +78,35 @@ static ILL_FORMED: [&[u8]; 6] = [
     b"\xEF\xBB\xBFa\r\rb\xC0\x80",
 ];
 
-fn check_ill_formed(rt: &impl Abort, alloc: Global, cells: &CellPages) -> Result<(), AllocError> {
+fn check_ill_formed(alloc: Global, cells: &CellPages) -> Result<(), Fail> {
     let setting = Setting::new(alloc, cells, Profile::First);
     for text in &ILL_FORMED {
-        check(rt, setting, &OF_TEXTS, text)?;
+        check(setting, &OF_TEXTS, text)?;
     }
     Ok(())
 }
 
-fn check_rules(rt: &impl Abort, alloc: Global, cells: &CellPages) -> Result<(), AllocError> {
-    check_texts(rt, alloc, cells, &texts::FIRST)?;
-    check_texts(rt, alloc, cells, &texts::SECOND)
+fn check_rules(alloc: Global, cells: &CellPages) -> Result<(), Fail> {
+    check_texts(alloc, cells, &texts::FIRST)?;
+    check_texts(alloc, cells, &texts::SECOND)
 }
 
-fn check_shown(rt: &impl Abort, alloc: Global, cells: &CellPages) -> Result<(), AllocError> {
-    check_texts(rt, alloc, cells, &shown::BOTH)?;
-    check_texts(rt, alloc, cells, &shown::SECOND)
+fn check_shown(alloc: Global, cells: &CellPages) -> Result<(), Fail> {
+    check_texts(alloc, cells, &shown::BOTH)?;
+    check_texts(alloc, cells, &shown::SECOND)
 }
 
-fn check_all_texts(rt: &impl Abort, alloc: Global, cells: &CellPages) -> Result<(), Fail> {
-    check_rules(rt, alloc, cells)?;
-    check_shown(rt, alloc, cells)?;
-    check_texts(rt, alloc, cells, &segmented::BOTH)?;
-    check_ill_formed(rt, alloc, cells)?;
-    Ok(())
+fn check_all_texts(alloc: Global, cells: &CellPages) -> Result<(), Fail> {
+    check_rules(alloc, cells)?;
+    check_shown(alloc, cells)?;
+    check_texts(alloc, cells, &segmented::BOTH)?;
+    check_ill_formed(alloc, cells)
 }
 
 #[test]
 fn texts(rt: HostRuntime) -> Result<(), Fail> {
     let cells = sample_cells(rt.alloc())?;
-    check_all_texts(&rt, rt.alloc(), &cells)
+    check_all_texts(rt.alloc(), &cells)
 }
 
 /// Test files beside those that are replayed elsewhere: the front of a byte order mark, which is a bad line; one
@@ -155,34 +119,28 @@ static FILES: [&[u8]; 5] = [
     b"# a\r\n \t\r\n\xC3\xB7\r\n",
 ];
 
-fn check_rows(
-    rt: &impl Abort,
-    alloc: Global,
-    cells: &CellPages,
-    rows: &[replayed::Row],
-) -> Result<(), AllocError> {
+fn check_rows(alloc: Global, cells: &CellPages, rows: &[replayed::Row]) -> Result<(), Fail> {
     for (file, _, _) in rows {
-        check_both(rt, alloc, cells, &OF_FILES, file.as_bytes())?;
+        check_both(alloc, cells, &OF_FILES, file.as_bytes())?;
     }
     Ok(())
 }
 
-fn check_files(rt: &impl Abort, alloc: Global, cells: &CellPages) -> Result<(), AllocError> {
+fn check_files(alloc: Global, cells: &CellPages) -> Result<(), Fail> {
     for file in &FILES {
-        check_both(rt, alloc, cells, &OF_FILES, file)?;
+        check_both(alloc, cells, &OF_FILES, file)?;
     }
-    check_both(rt, alloc, cells, &OF_FILES, replayed::QUOTED.as_bytes())
+    check_both(alloc, cells, &OF_FILES, replayed::QUOTED.as_bytes())
 }
 
-fn check_all_files(rt: &impl Abort, alloc: Global, cells: &CellPages) -> Result<(), Fail> {
-    check_files(rt, alloc, cells)?;
-    check_rows(rt, alloc, cells, &replayed::PLAIN)?;
-    check_rows(rt, alloc, cells, &replayed::KINDS)?;
-    Ok(())
+fn check_all_files(alloc: Global, cells: &CellPages) -> Result<(), Fail> {
+    check_files(alloc, cells)?;
+    check_rows(alloc, cells, &replayed::PLAIN)?;
+    check_rows(alloc, cells, &replayed::KINDS)
 }
 
 #[test]
 fn files(rt: HostRuntime) -> Result<(), Fail> {
     let cells = sample_cells(rt.alloc())?;
-    check_all_files(&rt, rt.alloc(), &cells)
+    check_all_files(rt.alloc(), &cells)
 }

@@ -1,7 +1,6 @@
 //! Readers that fail at each place, faults after which nothing comes any more, scalars over the edges of blocks, and the
 //! greatest sizes.
 
-use crate::checks::{check_run, check_spent, same};
 use lbk_feed::devices::RepeatedSource;
 use lbk_feed::{Device, Feed, FeedFault, Source};
 use lbk_notation::Form;
@@ -12,11 +11,11 @@ use lbk_tests_rows::replayed::FOUR_LINES;
 use lbk_tests_runs::calls::{
     cut_source, has_next, next_passage, next_sizes, sample_cells, source_of, take_piece,
 };
+use lbk_tests_runs::checks::{check_run, check_spent, same};
 use lbk_tests_runs::runs::{Run, whole};
 use lbk_tests_runs::tasks::{LIMIT, Setting, Task};
 use std::alloc::{AllocError, Global};
 use std::io::{self, Read};
-use std::process::Abort;
 use std::test::Fail;
 
 /// What is run on an input in reads of one byte, and all that went out once so many bytes were read.
@@ -64,37 +63,34 @@ fn written_after<'a>(outputs: &[(u64, &'a str)], read: u64) -> &'a str {
 
 /// Fails the read of this number.
 fn check_failed_read(
-    rt: &impl Abort,
     setting: Setting<'_>,
     run: Run<'_>,
     read: u64,
     written: &str,
-) -> Result<(), AllocError> {
+) -> Result<(), Fail> {
     let run = Run {
         sizes: &[1],
         failing: Some(read),
         ..run
     };
-    let ran = check_run(rt, run, setting, run.task.failed_read(), written)?;
-    same(rt, &ran.reads, &read.saturating_add(1), &run);
-    Ok(())
+    let ran = check_run(run, setting, run.task.failed_read(), written)?;
+    same(&ran.reads, &read.saturating_add(1), &run)
 }
 
 fn check_failed_reads(
-    rt: &impl Abort,
     setting: Setting<'_>,
     run: Run<'_>,
     outputs: &[(u64, &str)],
-) -> Result<(), AllocError> {
+) -> Result<(), Fail> {
     for read in 0..=run.input.len() as u64 {
-        check_failed_read(rt, setting, run, read, written_after(outputs, read))?;
+        check_failed_read(setting, run, read, written_after(outputs, read))?;
     }
     Ok(())
 }
 
-fn check_all_failed_reads(rt: &impl Abort, setting: Setting<'_>) -> Result<(), Fail> {
+fn check_all_failed_reads(setting: Setting<'_>) -> Result<(), Fail> {
     for (task, input, outputs) in &FAILED_READS {
-        check_failed_reads(rt, setting, whole(*task, input.as_bytes()), outputs)?;
+        check_failed_reads(setting, whole(*task, input.as_bytes()), outputs)?;
     }
     Ok(())
 }
@@ -103,7 +99,7 @@ fn check_all_failed_reads(rt: &impl Abort, setting: Setting<'_>) -> Result<(), F
 #[test]
 fn failed_reads(rt: HostRuntime) -> Result<(), Fail> {
     let cells = sample_cells(rt.alloc())?;
-    check_all_failed_reads(&rt, Setting::new(rt.alloc(), &cells, Profile::First))
+    check_all_failed_reads(Setting::new(rt.alloc(), &cells, Profile::First))
 }
 
 /// Takes all pieces up to a fault.
@@ -116,31 +112,31 @@ fn take_pieces<R: Source>(feed: &mut Feed, reader: &mut R) -> Result<bool, FeedF
     Ok(true)
 }
 
-fn check_spent_piece<R: Source>(rt: &impl Abort, feed: &mut Feed, reader: &mut R) {
+fn check_spent_piece<R: Source>(feed: &mut Feed, reader: &mut R) -> Result<(), Fail> {
     let again = take_piece(feed, reader);
-    same(rt, &again, &Err(FeedFault::Spent), &"a fault");
+    same(&again, &Err(FeedFault::Spent), &"a fault")
 }
 
 /// Takes all pieces up to a fault, which is the one wanted, and calls three times more.
-fn check_spent_feed<R: Source>(rt: &impl Abort, reader: &mut R, want: FeedFault) {
+fn check_spent_feed<R: Source>(reader: &mut R, want: FeedFault) -> Result<(), Fail> {
     let mut feed = Feed::new();
-    same(rt, &take_pieces(&mut feed, reader), &Err(want), &"a feed");
+    same(&take_pieces(&mut feed, reader), &Err(want), &"a feed")?;
     let reads = reader.reads();
     for _ in 0..3 {
-        check_spent_piece(rt, &mut feed, reader);
+        check_spent_piece(&mut feed, reader)?;
     }
-    same(rt, &reader.reads(), &reads, &want);
+    same(&reader.reads(), &reads, &want)
 }
 
 // Each reader could go on.
 #[test]
-fn spent_feeds(rt: HostRuntime) {
+fn spent_feeds(_rt: HostRuntime) -> Result<(), Fail> {
     let mut failing = source_of(b"abcdef", &[1], Some(2));
-    check_spent_feed(&rt, &mut failing, FeedFault::Read);
+    check_spent_feed(&mut failing, FeedFault::Read)?;
     let mut ill_formed = cut_source(b"ab\xFFcdef", &[1]);
-    check_spent_feed(&rt, &mut ill_formed, FeedFault::NotUtf8 { at: 2 });
+    check_spent_feed(&mut ill_formed, FeedFault::NotUtf8 { at: 2 })?;
     let mut too_long = RepeatedSource::new(b'a', 1_073_741_830);
-    check_spent_feed(&rt, &mut too_long, FeedFault::TextTooLong);
+    check_spent_feed(&mut too_long, FeedFault::TextTooLong)
 }
 
 /// Takes all passages up to a fault.
@@ -158,18 +154,16 @@ fn take_passages<R: Source>(
 
 /// Takes all passages up to a fault, which is the one wanted, and calls three times more.
 fn check_spent_segmenter<R: Source>(
-    rt: &impl Abort,
     setting: Setting<'_>,
     reader: &mut R,
     want: PassageFault,
-) -> Result<(), PassageFault> {
+) -> Result<(), Fail> {
     let mut segmenter = setting.segmenter()?;
     let found = take_passages(&mut segmenter, reader);
-    same(rt, &found, &Err(want), &"a segmenter");
+    same(&found, &Err(want), &"a segmenter")?;
     let reads = reader.reads();
-    check_spent(rt, &mut segmenter, reader);
-    same(rt, &reader.reads(), &reads, &want);
-    Ok(())
+    check_spent(&mut segmenter, reader)?;
+    same(&reader.reads(), &reads, &want)
 }
 
 /// A text, the read of one byte that fails, if one does, the limit of a paragraph, and the fault.
@@ -191,15 +185,15 @@ static SPENT: [Spent; 3] = [
     ),
 ];
 
-fn check_spent_row(rt: &impl Abort, setting: Setting<'_>, row: &Spent) -> Result<(), PassageFault> {
+fn check_spent_row(setting: Setting<'_>, row: &Spent) -> Result<(), Fail> {
     let (text, failing, limit, fault) = *row;
     let mut source = source_of(text, &[1], failing);
-    check_spent_segmenter(rt, Setting { limit, ..setting }, &mut source, fault)
+    check_spent_segmenter(Setting { limit, ..setting }, &mut source, fault)
 }
 
-fn check_all_spent(rt: &impl Abort, setting: Setting<'_>) -> Result<(), Fail> {
+fn check_all_spent(setting: Setting<'_>) -> Result<(), Fail> {
     for row in &SPENT {
-        check_spent_row(rt, setting, row)?;
+        check_spent_row(setting, row)?;
     }
     Ok(())
 }
@@ -207,7 +201,7 @@ fn check_all_spent(rt: &impl Abort, setting: Setting<'_>) -> Result<(), Fail> {
 #[test]
 fn spent_segmenters(rt: HostRuntime) -> Result<(), Fail> {
     let cells = sample_cells(rt.alloc())?;
-    check_all_spent(&rt, Setting::new(rt.alloc(), &cells, Profile::First))
+    check_all_spent(Setting::new(rt.alloc(), &cells, Profile::First))
 }
 
 /// A reader without an end: lines of 65,535 letters.
@@ -226,17 +220,16 @@ impl Read for Lines {
     }
 }
 
-fn check_lines(rt: &impl Abort, setting: Setting<'_>) -> Result<(), Fail> {
+fn check_lines(setting: Setting<'_>) -> Result<(), Fail> {
     let mut lines = Device::new(Lines { column: 0 });
-    check_spent_segmenter(rt, setting, &mut lines, PassageFault::TextTooLong)?;
-    Ok(())
+    check_spent_segmenter(setting, &mut lines, PassageFault::TextTooLong)
 }
 
 /// It takes more than a thousand million bytes, and so some seconds.
 #[test]
 fn segmenter_spent_by_too_long_a_text(rt: HostRuntime) -> Result<(), Fail> {
     let cells = sample_cells(rt.alloc())?;
-    check_lines(&rt, Setting::new(rt.alloc(), &cells, Profile::First))
+    check_lines(Setting::new(rt.alloc(), &cells, Profile::First))
 }
 
 /// The length of the next passage, if there is one.
@@ -252,33 +245,31 @@ fn next_length<R: Source>(
 
 /// Compares the length of the one passage of a text in reads of a size, or the fault in its place.
 fn check_one(
-    rt: &impl Abort,
     setting: Setting<'_>,
     text: &[u8],
     size: usize,
     want: Result<Option<usize>, PassageFault>,
-) -> Result<(), PassageFault> {
+) -> Result<(), Fail> {
     let sizes = [size];
     let mut source = cut_source(text, &sizes);
     let mut segmenter = setting.segmenter()?;
     let found = next_length(&mut segmenter, &mut source);
-    same(rt, &found, &want, &size);
+    same(&found, &want, &size)?;
     if found.is_ok() {
         let last = has_next(&mut segmenter, &mut source);
-        same(rt, &last, &Ok(false), &size);
+        same(&last, &Ok(false), &size)?;
     }
     Ok(())
 }
 
 /// In reads of all sizes.
 fn check_sizes(
-    rt: &impl Abort,
     setting: Setting<'_>,
     text: &[u8],
     want: Result<Option<usize>, PassageFault>,
-) -> Result<(), PassageFault> {
+) -> Result<(), Fail> {
     for size in SIZES {
-        check_one(rt, setting, text, size, want)?;
+        check_one(setting, text, size, want)?;
     }
     Ok(())
 }
@@ -291,29 +282,24 @@ fn text_behind(alloc: Global, n: usize, bytes: &[u8]) -> Result<Vec<u8>, AllocEr
 }
 
 /// The whole text is one passage, and it is ill-formed at `n` without its last byte or its last two.
-fn check_cut_off(
-    rt: &impl Abort,
-    setting: Setting<'_>,
-    text: &[u8],
-    n: usize,
-) -> Result<(), PassageFault> {
+fn check_cut_off(setting: Setting<'_>, text: &[u8], n: usize) -> Result<(), Fail> {
     let fault = PassageFault::NotUtf8 { at: n as u64 };
     for cut in [1, 2] {
         let shorter = text.get(..n.saturating_add(cut)).unwrap_or(text);
-        check_sizes(rt, setting, shorter, Err(fault))?;
+        check_sizes(setting, shorter, Err(fault))?;
     }
-    check_sizes(rt, setting, text, Ok(Some(n.saturating_add(3))))
+    check_sizes(setting, text, Ok(Some(n.saturating_add(3))))
 }
 
 /// A scalar of three bytes behind `n` others, cut off and whole.
-fn check_scalar_behind(rt: &impl Abort, setting: Setting<'_>, n: usize) -> Result<(), Fail> {
+fn check_scalar_behind(setting: Setting<'_>, n: usize) -> Result<(), Fail> {
     let text = text_behind(setting.alloc, n, b"\xE2\x82\xAC")?;
-    Ok(check_cut_off(rt, setting, &text, n)?)
+    check_cut_off(setting, &text, n)
 }
 
-fn check_scalars_behind(rt: &impl Abort, setting: Setting<'_>) -> Result<(), Fail> {
+fn check_scalars_behind(setting: Setting<'_>) -> Result<(), Fail> {
     for n in 4090..=4100 {
-        check_scalar_behind(rt, setting, n)?;
+        check_scalar_behind(setting, n)?;
     }
     Ok(())
 }
@@ -322,7 +308,7 @@ fn check_scalars_behind(rt: &impl Abort, setting: Setting<'_>) -> Result<(), Fai
 #[test]
 fn scalars_over_a_block_edge(rt: HostRuntime) -> Result<(), Fail> {
     let cells = sample_cells(rt.alloc())?;
-    check_scalars_behind(&rt, Setting::new(rt.alloc(), &cells, Profile::First))
+    check_scalars_behind(Setting::new(rt.alloc(), &cells, Profile::First))
 }
 
 /// Where the next passage begins, its length and the rule at its end, if there is one.
@@ -337,30 +323,25 @@ fn next_outline<R: Source>(
 }
 
 /// The two passages of a text in reads of a size.
-fn check_two(
-    rt: &impl Abort,
-    setting: Setting<'_>,
-    text: &[u8],
-    size: usize,
-) -> Result<(), PassageFault> {
+fn check_two(setting: Setting<'_>, text: &[u8], size: usize) -> Result<(), Fail> {
     let sizes = [size];
     let mut source = cut_source(text, &sizes);
     let mut segmenter = setting.segmenter()?;
     for want in [Some((0, 4097, Rule::Lb5)), Some((4097, 1, Rule::Lb3)), None] {
         let found = next_outline(&mut segmenter, &mut source)?;
-        same(rt, &found, &want, &size);
+        same(&found, &want, &size)?;
     }
     Ok(())
 }
 
-fn check_line_end(rt: &impl Abort, setting: Setting<'_>) -> Result<(), Fail> {
+fn check_line_end(setting: Setting<'_>) -> Result<(), Fail> {
     let text = text_behind(setting.alloc, 4095, b"\r\nb")?;
-    check_two_in_all_sizes(rt, setting, &text)
+    check_two_in_all_sizes(setting, &text)
 }
 
-fn check_two_in_all_sizes(rt: &impl Abort, setting: Setting<'_>, text: &[u8]) -> Result<(), Fail> {
+fn check_two_in_all_sizes(setting: Setting<'_>, text: &[u8]) -> Result<(), Fail> {
     for size in SIZES {
-        check_two(rt, setting, text, size)?;
+        check_two(setting, text, size)?;
     }
     Ok(())
 }
@@ -369,26 +350,25 @@ fn check_two_in_all_sizes(rt: &impl Abort, setting: Setting<'_>, text: &[u8]) ->
 #[test]
 fn line_end_over_a_block_edge(rt: HostRuntime) -> Result<(), Fail> {
     let cells = sample_cells(rt.alloc())?;
-    check_line_end(&rt, Setting::new(rt.alloc(), &cells, Profile::First))
+    check_line_end(Setting::new(rt.alloc(), &cells, Profile::First))
 }
 
 /// The one passage of as many bytes as a paragraph may have, which is one segment and one piece.
-fn check_greatest(rt: &impl Abort, setting: Setting<'_>) -> Result<(), PassageFault> {
+fn check_greatest(setting: Setting<'_>) -> Result<(), Fail> {
     let mut source = RepeatedSource::new(b'a', u64::from(setting.limit));
     let mut segmenter = setting.segmenter()?;
     for want in [Some([setting.limit as usize, 1, 1]), None] {
         let found = next_sizes(&mut segmenter, &mut source)?;
-        same(rt, &found, &want, &"the greatest passage");
+        same(&found, &want, &"the greatest passage")?;
     }
     Ok(())
 }
 
-fn check_round_the_greatest(rt: &impl Abort, setting: Setting<'_>) -> Result<(), Fail> {
-    check_greatest(rt, setting)?;
+fn check_round_the_greatest(setting: Setting<'_>) -> Result<(), Fail> {
+    check_greatest(setting)?;
     let mut longer = RepeatedSource::new(b'a', 16_777_217);
     let fault = PassageFault::ParagraphTooLong { start: 0 };
-    check_spent_segmenter(rt, setting, &mut longer, fault)?;
-    Ok(())
+    check_spent_segmenter(setting, &mut longer, fault)
 }
 
 // At the greatest limit, and one byte past it.
@@ -399,5 +379,5 @@ fn greatest_passage(rt: HostRuntime) -> Result<(), Fail> {
         limit: LIMIT_MAX,
         ..Setting::new(rt.alloc(), &cells, Profile::First)
     };
-    check_round_the_greatest(&rt, setting)
+    check_round_the_greatest(setting)
 }

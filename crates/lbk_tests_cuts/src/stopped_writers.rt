@@ -1,15 +1,13 @@
 //! A writer that stops: for each n below the length of the output exactly the first n bytes went out, and the answer is
 //! a failed write.
 
-use crate::checks::same;
 use lbk_feed::{Device, Sink};
 use lbk_notation::Form;
 use lbk_rules::Profile;
 use lbk_tests_rows::replayed::{FOUR_LINES, FOUR_LINES_TEXT};
 use lbk_tests_runs::calls::{cut_source, memory_sink, sample_cells};
+use lbk_tests_runs::checks::same;
 use lbk_tests_runs::tasks::{End, Setting, Task};
-use std::alloc::AllocError;
-use std::process::Abort;
 use std::test::Fail;
 
 /// What is run, its input, and what it writes.
@@ -31,53 +29,41 @@ static RUNS: [Row; 4] = [
 ];
 
 /// Compares how a run into so much room ended, how many writes failed, and what went out.
-fn check(rt: &impl Abort, row: Row, room: usize, end: End, failures: u64, written: &[u8]) {
+fn check(row: Row, room: usize, end: End, failures: u64, written: &[u8]) -> Result<(), Fail> {
     let (task, _, output) = row;
     let stopped = room < output.len();
     let run = (task, room);
-    same(rt, &(end == task.failed_write()), &stopped, &run);
-    same(rt, &failures, &u64::from(stopped), &run);
-    same(rt, &Some(written), &output.as_bytes().get(..room), &run);
+    same(&(end == task.failed_write()), &stopped, &run)?;
+    same(&failures, &u64::from(stopped), &run)?;
+    same(&Some(written), &output.as_bytes().get(..room), &run)
 }
 
-fn check_sink(
-    rt: &impl Abort,
-    setting: Setting<'_>,
-    row: Row,
-    room: usize,
-    most: usize,
-) -> Result<(), AllocError> {
+fn check_sink(setting: Setting<'_>, row: Row, room: usize, most: usize) -> Result<(), Fail> {
     let (task, input, _) = row;
     let mut source = cut_source(input.as_bytes(), &[]);
     let mut sink = memory_sink(setting.alloc, room, most)?;
     let end = task.run(setting, &mut source, &mut sink);
-    check(rt, row, room, end, sink.failures(), sink.bytes());
-    Ok(())
+    check(row, room, end, sink.failures(), sink.bytes())
 }
 
 /// A write takes at most this many bytes.
-fn check_sinks(
-    rt: &impl Abort,
-    setting: Setting<'_>,
-    row: Row,
-    most: usize,
-) -> Result<(), AllocError> {
+fn check_sinks(setting: Setting<'_>, row: Row, most: usize) -> Result<(), Fail> {
     for room in 0..=row.2.len() {
-        check_sink(rt, setting, row, room, most)?;
+        check_sink(setting, row, room, most)?;
     }
     Ok(())
 }
 
-fn check_all_sinks(rt: &impl Abort, setting: Setting<'_>, row: Row) -> Result<(), AllocError> {
+fn check_all_sinks(setting: Setting<'_>, row: Row) -> Result<(), Fail> {
     for most in [1, 7, usize::MAX] {
-        check_sinks(rt, setting, row, most)?;
+        check_sinks(setting, row, most)?;
     }
     Ok(())
 }
 
-fn check_into_sinks(rt: &impl Abort, setting: Setting<'_>) -> Result<(), Fail> {
+fn check_into_sinks(setting: Setting<'_>) -> Result<(), Fail> {
     for row in &RUNS {
-        check_all_sinks(rt, setting, *row)?;
+        check_all_sinks(setting, *row)?;
     }
     Ok(())
 }
@@ -86,35 +72,29 @@ fn check_into_sinks(rt: &impl Abort, setting: Setting<'_>) -> Result<(), Fail> {
 #[test]
 fn sinks(rt: HostRuntime) -> Result<(), Fail> {
     let cells = sample_cells(rt.alloc())?;
-    check_into_sinks(&rt, Setting::new(rt.alloc(), &cells, Profile::First))
+    check_into_sinks(Setting::new(rt.alloc(), &cells, Profile::First))
 }
 
-fn check_writer(
-    rt: &impl Abort,
-    setting: Setting<'_>,
-    row: Row,
-    room: usize,
-) -> Result<(), AllocError> {
+fn check_writer(setting: Setting<'_>, row: Row, room: usize) -> Result<(), Fail> {
     let (task, input, _) = row;
     let mut taken = vec![in setting.alloc; 0u8; room]?;
     let mut source = cut_source(input.as_bytes(), &[]);
     let mut device = Device::new(taken.as_mut_slice());
     let end = task.run(setting, &mut source, &mut device);
     let failures = device.failures();
-    check(rt, row, room, end, failures, &taken);
-    Ok(())
+    check(row, room, end, failures, &taken)
 }
 
-fn check_writers(rt: &impl Abort, setting: Setting<'_>, row: Row) -> Result<(), AllocError> {
+fn check_writers(setting: Setting<'_>, row: Row) -> Result<(), Fail> {
     for room in 0..=row.2.len() {
-        check_writer(rt, setting, row, room)?;
+        check_writer(setting, row, room)?;
     }
     Ok(())
 }
 
-fn check_into_writers(rt: &impl Abort, setting: Setting<'_>) -> Result<(), Fail> {
+fn check_into_writers(setting: Setting<'_>) -> Result<(), Fail> {
     for row in &RUNS {
-        check_writers(rt, setting, *row)?;
+        check_writers(setting, *row)?;
     }
     Ok(())
 }
@@ -123,5 +103,5 @@ fn check_into_writers(rt: &impl Abort, setting: Setting<'_>) -> Result<(), Fail>
 #[test]
 fn writers_of_std(rt: HostRuntime) -> Result<(), Fail> {
     let cells = sample_cells(rt.alloc())?;
-    check_into_writers(&rt, Setting::new(rt.alloc(), &cells, Profile::First))
+    check_into_writers(Setting::new(rt.alloc(), &cells, Profile::First))
 }

@@ -1,6 +1,5 @@
 //! What `break_text` answers and refuses: the lines of `show`, without the rules' numbers, are what was read back.
 
-use crate::checks::same;
 use lbk_cmd::{BreakFault, CellsFault, CmdFault, SAMPLE_FILES, break_text};
 use lbk_feed::Source;
 use lbk_feed::devices::MemorySource;
@@ -10,12 +9,11 @@ use lbk_rules::Profile;
 use lbk_tests_rows::property_files::line_break_alone;
 use lbk_tests_rows::shown::{BOTH, FIRST, SECOND};
 use lbk_tests_runs::calls::{cut_source, source_of};
+use lbk_tests_runs::checks::same;
+use lbk_tests_runs::tasks::LIMIT;
 use lbk_ucd::{Files, UcdCause, UcdFault, Which};
 use std::alloc::{AllocError, Global};
-use std::process::Abort;
 use std::test::Fail;
-
-const LIMIT: u32 = 65_536;
 
 /// `break_text` without its contract.
 fn broken(
@@ -53,7 +51,6 @@ fn without_rules(alloc: Global, lines: &str) -> Result<Vec<u8>, AllocError> {
 
 /// Compares what was read back with the lines of `show`.
 fn check_lines(
-    rt: &impl Abort,
     alloc: Global,
     found: &[TestLine],
     lines: &str,
@@ -61,13 +58,11 @@ fn check_lines(
 ) -> Result<(), Fail> {
     let found = written(alloc, found)?;
     let want = without_rules(alloc, lines)?;
-    same(rt, &found.as_slice(), &want.as_slice(), of);
-    Ok(())
+    same(&found.as_slice(), &want.as_slice(), of)
 }
 
 /// Checks a text in reads of `size` bytes.
 fn check(
-    rt: &impl Abort,
     alloc: Global,
     text: &str,
     lines: &str,
@@ -77,42 +72,40 @@ fn check(
     let sizes = [size];
     let mut source = cut_source(text.as_bytes(), &sizes);
     let found = broken(alloc, SAMPLE_FILES, &mut source, LIMIT, profile)?;
-    check_lines(rt, alloc, &found, lines, &(text, size))
+    check_lines(alloc, &found, lines, &(text, size))
 }
 
 /// Checks rows in a profile, in reads of `size` bytes.
 fn check_rows(
-    rt: &impl Abort,
     alloc: Global,
     rows: &[(&str, &str)],
     profile: Profile,
     size: usize,
 ) -> Result<(), Fail> {
     for (text, lines) in rows {
-        check(rt, alloc, text, lines, profile, size)?;
+        check(alloc, text, lines, profile, size)?;
     }
     Ok(())
 }
 
 #[test]
 fn texts(rt: HostRuntime) -> Result<(), Fail> {
-    check_rows(&rt, rt.alloc(), &BOTH[..5], Profile::First, 1)?;
-    check_rows(&rt, rt.alloc(), &BOTH[2..3], Profile::Second, 2)?;
-    check_rows(&rt, rt.alloc(), &FIRST, Profile::First, 4096)?;
-    check_rows(&rt, rt.alloc(), &SECOND, Profile::Second, 1)
+    check_rows(rt.alloc(), &BOTH[..5], Profile::First, 1)?;
+    check_rows(rt.alloc(), &BOTH[2..3], Profile::Second, 2)?;
+    check_rows(rt.alloc(), &FIRST, Profile::First, 4096)?;
+    check_rows(rt.alloc(), &SECOND, Profile::Second, 1)
 }
 
 /// Checks that a text is refused by the sample files, and why.
 fn refuses(
-    rt: &impl Abort,
     alloc: Global,
     source: &mut MemorySource<'_>,
     limit: u32,
     want: PassageFault,
-) {
+) -> Result<(), Fail> {
     let fault = broken(alloc, SAMPLE_FILES, source, limit, Profile::First).err();
     let want = BreakFault::Text(CmdFault::Passage(want));
-    same(rt, &fault, &Some(want), &limit);
+    same(&fault, &Some(want), &limit)
 }
 
 static REFUSED: [(&[u8], u32, PassageFault); 4] = [
@@ -122,23 +115,25 @@ static REFUSED: [(&[u8], u32, PassageFault); 4] = [
     (b"\nab", 1, PassageFault::ParagraphTooLong { start: 1 }),
 ];
 
-fn check_refused(rt: &impl Abort, alloc: Global) {
+fn check_refused(alloc: Global) -> Result<(), Fail> {
     for (text, limit, want) in &REFUSED {
-        refuses(rt, alloc, &mut cut_source(text, &[]), *limit, *want);
+        refuses(alloc, &mut cut_source(text, &[]), *limit, *want)?;
     }
+    Ok(())
 }
 
-fn check_failed_read(rt: &impl Abort, alloc: Global, read: u64) {
+fn check_failed_read(alloc: Global, read: u64) -> Result<(), Fail> {
     let mut source = source_of(b"a\r\nb", &[1], Some(read));
-    refuses(rt, alloc, &mut source, LIMIT, PassageFault::Read);
+    refuses(alloc, &mut source, LIMIT, PassageFault::Read)
 }
 
 #[test]
-fn refused_texts(rt: HostRuntime) {
-    check_refused(&rt, rt.alloc());
+fn refused_texts(rt: HostRuntime) -> Result<(), Fail> {
+    check_refused(rt.alloc())?;
     for read in 0..5 {
-        check_failed_read(&rt, rt.alloc(), read);
+        check_failed_read(rt.alloc(), read)?;
     }
+    Ok(())
 }
 
 const REFUSAL: UcdFault = UcdFault {
@@ -148,11 +143,11 @@ const REFUSAL: UcdFault = UcdFault {
 };
 
 #[test]
-fn refused_files(rt: HostRuntime) {
+fn refused_files(rt: HostRuntime) -> Result<(), Fail> {
     let files = line_break_alone(b"# LineBreak-15.0.0.txt\n0041;XY\n");
     let mut source = cut_source(b"ab", &[]);
     let fault = broken(rt.alloc(), files, &mut source, LIMIT, Profile::First).err();
     let want = BreakFault::Files(CellsFault::Tables(REFUSAL));
-    same(&rt, &fault, &Some(want), &"a bad row");
-    same(&rt, &source.reads(), &0, &"a bad row");
+    same(&fault, &Some(want), &"a bad row")?;
+    same(&source.reads(), &0, &"a bad row")
 }

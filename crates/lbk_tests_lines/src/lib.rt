@@ -7,8 +7,6 @@ mod broken;
 #[cfg(test)]
 mod calls;
 #[cfg(test)]
-mod checks;
-#[cfg(test)]
 mod laws;
 #[cfg(test)]
 mod lines;

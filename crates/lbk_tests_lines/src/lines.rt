@@ -1,7 +1,6 @@
 //! Lines of the notation: what is read, refused, written and marked.
 
 use crate::calls::{line_of, marked, written_line};
-use crate::checks::same;
 use lbk_notation::{
     Form, LineFault, Mark, TestLine, laws, mark_of, push_line, push_mark, push_passage_line,
     push_scalar, read_back, read_passage_line,
@@ -9,8 +8,8 @@ use lbk_notation::{
 use lbk_rules::{Cell, CellPages, Kind, Profile, Rule, Verdict, decide_all_in};
 use lbk_tests_rows::cells::cells_of;
 use lbk_tests_runs::calls::sample_cells;
+use lbk_tests_runs::checks::same;
 use std::alloc::{AllocError, Global};
-use std::process::Abort;
 use std::test::Fail;
 
 /// What `read_line` answers: a line, told by its writing in the same form, none, or the place where it
@@ -69,67 +68,47 @@ static KINDS: [(&str, Want); 5] = [
     ("× \r÷", Want::Bad(4)),
 ];
 
-fn same_text(rt: &impl Abort, found: &[u8], want: &str) {
-    same(rt, &found, &want.as_bytes(), &want);
+fn same_text(found: &[u8], want: &str) -> Result<(), Fail> {
+    same(&found, &want.as_bytes(), &want)
 }
 
-fn check_line(
-    rt: &impl Abort,
-    alloc: Global,
-    line: Option<TestLine>,
-    form: Form,
-    want: &str,
-) -> Result<(), Fail> {
+fn check_line(alloc: Global, line: Option<TestLine>, form: Form, want: &str) -> Result<(), Fail> {
     let line = line.ok_or("no line")?;
-    same_text(rt, &written_line(alloc, &line, form)?, want);
-    Ok(())
+    same_text(&written_line(alloc, &line, form)?, want)
 }
 
 fn check_fault(
-    rt: &impl Abort,
     bytes: &[u8],
     answer: Result<Option<TestLine>, LineFault>,
     at: u32,
-) {
+) -> Result<(), Fail> {
     match answer {
-        Ok(_) => panic!(rt; "accepted: {bytes:?}"),
-        Err(fault) => same(rt, &fault, &LineFault::Bad { at }, &bytes),
+        Ok(_) => Err(Fail::new(format_args!("accepted: {bytes:?}"))),
+        Err(fault) => same(&fault, &LineFault::Bad { at }, &bytes),
     }
 }
 
-fn check(
-    rt: &impl Abort,
-    alloc: Global,
-    bytes: &[u8],
-    form: Form,
-    want: &Want,
-) -> Result<(), Fail> {
+fn check(alloc: Global, bytes: &[u8], form: Form, want: &Want) -> Result<(), Fail> {
     let answer = line_of(alloc, bytes, form);
     match want {
-        Want::Line(text) => check_line(rt, alloc, answer?, form, text)?,
-        Want::Nothing => same(rt, &answer?.is_none(), &true, &bytes),
-        Want::Bad(at) => check_fault(rt, bytes, answer, *at),
+        Want::Line(text) => check_line(alloc, answer?, form, text),
+        Want::Nothing => same(&answer?.is_none(), &true, &bytes),
+        Want::Bad(at) => check_fault(bytes, answer, *at),
     }
-    Ok(())
 }
 
-fn check_rows(
-    rt: &impl Abort,
-    alloc: Global,
-    form: Form,
-    rows: &[(&str, Want)],
-) -> Result<(), Fail> {
+fn check_rows(alloc: Global, form: Form, rows: &[(&str, Want)]) -> Result<(), Fail> {
     for (line, want) in rows {
-        check(rt, alloc, line.as_bytes(), form, want)?;
+        check(alloc, line.as_bytes(), form, want)?;
     }
     Ok(())
 }
 
 #[test]
 fn reading(rt: HostRuntime) -> Result<(), Fail> {
-    check_rows(&rt, rt.alloc(), Form::Plain, &PLAIN)?;
-    check_rows(&rt, rt.alloc(), Form::Kinds, &KINDS)?;
-    check(&rt, rt.alloc(), b"\xC3\x80", Form::Plain, &Want::Bad(1))
+    check_rows(rt.alloc(), Form::Plain, &PLAIN)?;
+    check_rows(rt.alloc(), Form::Kinds, &KINDS)?;
+    check(rt.alloc(), b"\xC3\x80", Form::Plain, &Want::Bad(1))
 }
 
 /// A comment of this many bytes.
@@ -141,35 +120,33 @@ fn comment(alloc: Global, length: usize) -> Result<Vec<u8>, AllocError> {
     Ok(line)
 }
 
-fn check_comment(rt: &impl Abort, alloc: Global, bytes: &[u8]) -> Result<(), Fail> {
+fn check_comment(alloc: Global, bytes: &[u8]) -> Result<(), Fail> {
     same(
-        rt,
         &line_of(alloc, bytes, Form::Plain)?.is_none(),
         &true,
         &bytes.len(),
-    );
-    Ok(())
+    )
 }
 
 /// A comment of one byte more than a line may have.
-fn check_longest(rt: &impl Abort, alloc: Global, longer: &[u8]) -> Result<(), Fail> {
+fn check_longest(alloc: Global, longer: &[u8]) -> Result<(), Fail> {
     let too_long = line_of(alloc, longer, Form::Plain).err();
-    same(rt, &too_long, &Some(LineFault::LineTooLong), &"a line");
-    check_comment(rt, alloc, longer.get(..268_435_456).ok_or("no line")?)
+    same(&too_long, &Some(LineFault::LineTooLong), &"a line")?;
+    check_comment(alloc, longer.get(..268_435_456).ok_or("no line")?)
 }
 
 #[test]
 fn long_lines(rt: HostRuntime) -> Result<(), Fail> {
     let line = comment(rt.alloc(), 16_777_217)?;
-    check_comment(&rt, rt.alloc(), &line)?;
+    check_comment(rt.alloc(), &line)?;
     let longer = comment(rt.alloc(), 268_435_457)?;
-    check_longest(&rt, rt.alloc(), &longer)
+    check_longest(rt.alloc(), &longer)
 }
 
 /// Compares what a line has.
-fn check_parts(rt: &impl Abort, line: &TestLine, scalars: &[char], marks: &[Mark]) {
-    same(rt, &line.scalars(), &scalars, &"scalars");
-    same(rt, &line.marks(), &marks, &"marks");
+fn check_parts(line: &TestLine, scalars: &[char], marks: &[Mark]) -> Result<(), Fail> {
+    same(&line.scalars(), &scalars, &"scalars")?;
+    same(&line.marks(), &marks, &"marks")
 }
 
 /// Writes a line piece by piece.
@@ -189,25 +166,18 @@ fn behind(alloc: Global, line: &TestLine, form: Form) -> Result<Vec<u8>, AllocEr
 }
 
 /// Checks what is written of a line.
-fn check_written(
-    rt: &impl Abort,
-    alloc: Global,
-    line: &TestLine,
-    form: Form,
-    text: &str,
-) -> Result<(), Fail> {
-    same_text(rt, &written_line(alloc, line, form)?, text);
-    same_text(rt, &by_pieces(alloc, form)?, text);
+fn check_written(alloc: Global, line: &TestLine, form: Form, text: &str) -> Result<(), Fail> {
+    same_text(&written_line(alloc, line, form)?, text)?;
+    same_text(&by_pieces(alloc, form)?, text)?;
     let behind = behind(alloc, line, form)?;
-    same_text(rt, behind.get(1..).unwrap_or(b"nothing"), text);
-    check_again(rt, alloc, line, form)
+    same_text(behind.get(1..).unwrap_or(b"nothing"), text)?;
+    check_again(alloc, line, form)
 }
 
 /// Checks that a line is read back.
-fn check_again(rt: &impl Abort, alloc: Global, line: &TestLine, form: Form) -> Result<(), Fail> {
+fn check_again(alloc: Global, line: &TestLine, form: Form) -> Result<(), Fail> {
     let again = read_back(alloc, line, form)?.ok_or("no line")?;
-    same(rt, &again.scalars(), &line.scalars(), &"a line");
-    Ok(())
+    same(&again.scalars(), &line.scalars(), &"a line")
 }
 
 /// The line of one scalar that the tests write.
@@ -220,12 +190,11 @@ fn one_scalar(alloc: Global) -> Result<TestLine, Fail> {
 #[test]
 fn writing(rt: HostRuntime) -> Result<(), Fail> {
     let line = one_scalar(rt.alloc())?;
-    check_parts(&rt, &line, &['\u{1F466}'], &[Mark::No, Mark::Must]);
-    check_written(&rt, rt.alloc(), &line, Form::Kinds, "× 1F466 !")?;
-    check_written(&rt, rt.alloc(), &line, Form::Plain, "× 1F466 ÷")?;
+    check_parts(&line, &['\u{1F466}'], &[Mark::No, Mark::Must])?;
+    check_written(rt.alloc(), &line, Form::Kinds, "× 1F466 !")?;
+    check_written(rt.alloc(), &line, Form::Plain, "× 1F466 ÷")?;
     let none = TestLine::new(Vec::new(rt.alloc()), Vec::new(rt.alloc()));
-    assert!(rt; none.is_none());
-    Ok(())
+    same(&none.is_none(), &true, &"a line of nothing")
 }
 
 /// Texts, and what is marked in the first profile and in the second.
@@ -255,51 +224,47 @@ static MARKED: [(&str, &str, &str); 5] = [
 
 /// Checks what is marked in a text.
 fn check_marked(
-    rt: &impl Abort,
     alloc: Global,
     setting: (&CellPages, Profile, Form),
     text: &str,
     want: &str,
-) -> Result<(), AllocError> {
+) -> Result<(), Fail> {
     let (cells, profile, form) = setting;
     let line = marked(alloc, cells, text, profile)?;
-    same_text(rt, &written_line(alloc, &line, form)?, want);
-    Ok(())
+    same_text(&written_line(alloc, &line, form)?, want)
 }
 
 /// Checks what is marked in a text in both profiles.
 fn check_both(
-    rt: &impl Abort,
     alloc: Global,
     cells: &CellPages,
     (text, first, second): (&str, &str, &str),
-) -> Result<(), AllocError> {
+) -> Result<(), Fail> {
     for (profile, want) in [(Profile::First, first), (Profile::Second, second)] {
-        check_marked(rt, alloc, (cells, profile, Form::Kinds), text, want)?;
+        check_marked(alloc, (cells, profile, Form::Kinds), text, want)?;
     }
     Ok(())
 }
 
-fn check_all_marked(rt: &impl Abort, alloc: Global, cells: &CellPages) -> Result<(), Fail> {
+fn check_all_marked(alloc: Global, cells: &CellPages) -> Result<(), Fail> {
     for row in &MARKED {
-        check_both(rt, alloc, cells, *row)?;
+        check_both(alloc, cells, *row)?;
     }
     let plain = (cells, Profile::First, Form::Plain);
     let want = "× 0061 × 0062 × 0020 ÷ 0063 × 0064 ÷";
-    check_marked(rt, alloc, plain, "ab cd", want)?;
-    Ok(())
+    check_marked(alloc, plain, "ab cd", want)
 }
 
 #[test]
 fn marking(rt: HostRuntime) -> Result<(), Fail> {
     let cells = sample_cells(rt.alloc())?;
-    check_kinds(&rt);
-    check_all_marked(&rt, rt.alloc(), &cells)
+    check_kinds()?;
+    check_all_marked(rt.alloc(), &cells)
 }
 
-fn check_kinds(rt: &impl Abort) {
+fn check_kinds() -> Result<(), Fail> {
     let marks = [mark_of(Kind::No), mark_of(Kind::May), mark_of(Kind::Must)];
-    same(rt, &marks, &[Mark::No, Mark::May, Mark::Must], &"kinds");
+    same(&marks, &[Mark::No, Mark::May, Mark::Must], &"kinds")
 }
 
 const BLANK: Verdict = Verdict {
@@ -315,13 +280,10 @@ fn verdicts_of(alloc: Global, cells: &[Cell]) -> Result<Vec<Verdict>, AllocError
 }
 
 /// The line of a passage.
-fn passage_line(
-    rt: &impl Abort,
-    alloc: Global,
-    scalars: &[char],
-    verdicts: &[Verdict],
-) -> Result<Vec<u8>, AllocError> {
-    assert!(rt; verdicts.len() == scalars.len() + 1);
+fn passage_line(alloc: Global, scalars: &[char], verdicts: &[Verdict]) -> Result<Vec<u8>, Fail> {
+    if verdicts.len() != scalars.len() + 1 {
+        return Err(Fail::new("verdicts for other positions"));
+    }
     let mut shown = Vec::new(alloc);
     push_passage_line(&mut shown, scalars, verdicts)?;
     Ok(shown)
@@ -335,12 +297,11 @@ fn laws_of_lines() {
     laws::passage_lines();
 }
 
-fn check_passage_line(rt: &impl Abort, alloc: Global, shown: &[u8]) -> Result<(), Fail> {
-    same_text(rt, shown, "× 0061 × 000D × 000A !\t# 2 6 5 3");
+fn check_passage_line(alloc: Global, shown: &[u8]) -> Result<(), Fail> {
+    same_text(shown, "× 0061 × 000D × 000A !\t# 2 6 5 3")?;
     let line = read_passage_line(alloc, shown)?.ok_or("no line")?;
     let marks = [Mark::No, Mark::No, Mark::No, Mark::Must];
-    check_parts(rt, &line, &['a', '\r', '\n'], &marks);
-    Ok(())
+    check_parts(&line, &['a', '\r', '\n'], &marks)
 }
 
 #[test]
@@ -348,7 +309,7 @@ fn lines_of_passages(rt: HostRuntime) -> Result<(), Fail> {
     let source = sample_cells(rt.alloc())?;
     let cells = cells_of(rt.alloc(), &source, "a\r\n")?;
     let verdicts = verdicts_of(rt.alloc(), &cells)?;
-    let shown = passage_line(&rt, rt.alloc(), &['a', '\r', '\n'], &verdicts)?;
+    let shown = passage_line(rt.alloc(), &['a', '\r', '\n'], &verdicts)?;
     laws_of_lines();
-    check_passage_line(&rt, rt.alloc(), &shown)
+    check_passage_line(rt.alloc(), &shown)
 }

@@ -1,17 +1,16 @@
 //! What a replay of test files writes and answers, over devices in memory.
 
 use crate::calls::{line_of, outcome_of};
-use crate::checks::{check_run, same};
 use lbk_feed::Source;
 use lbk_feed::devices::{MemorySink, RepeatedSource};
 use lbk_notation::{Form, Mark, Outcome, ReplayFault, Report, TestLine, replay};
 use lbk_rules::{CellPages, Kind, Profile, Rule, Verdict};
 use lbk_tests_rows::replayed::{FOUR_LINES, KINDS, PLAIN, QUOTED, Row};
 use lbk_tests_runs::calls::sample_cells;
+use lbk_tests_runs::checks::{check_run, same};
 use lbk_tests_runs::runs::{Run, whole};
 use lbk_tests_runs::tasks::{End, ROOM, Setting, Task};
 use std::alloc::{AllocError, Global};
-use std::process::Abort;
 use std::test::Fail;
 
 fn report_of(counts: [u32; 4]) -> Report {
@@ -26,52 +25,45 @@ fn report_of(counts: [u32; 4]) -> Report {
 
 /// Replays a file in reads of some sizes.
 fn check(
-    rt: &impl Abort,
     setting: Setting<'_>,
     form: Form,
     file: &[u8],
     written: &str,
     counts: [u32; 4],
-) -> Result<(), AllocError> {
+) -> Result<(), Fail> {
     let end = End::File(Ok(report_of(counts)));
     for sizes in [[1].as_slice(), &[2], &[3], &[7], &[]] {
         let run = Run {
             sizes,
             ..whole(Task::Replay(form), file)
         };
-        let ran = check_run(rt, run, setting, end, written)?;
-        assert!(rt; ran.ended);
+        let ran = check_run(run, setting, end, written)?;
+        same(&ran.ended, &true, &run)?;
     }
     Ok(())
 }
 
-fn check_rows(
-    rt: &impl Abort,
-    setting: Setting<'_>,
-    form: Form,
-    rows: &[Row],
-) -> Result<(), AllocError> {
+fn check_rows(setting: Setting<'_>, form: Form, rows: &[Row]) -> Result<(), Fail> {
     for (file, text, counts) in rows {
-        check(rt, setting, form, file.as_bytes(), text, *counts)?;
+        check(setting, form, file.as_bytes(), text, *counts)?;
     }
     Ok(())
 }
 
-fn check_profile(rt: &impl Abort, setting: Setting<'_>) -> Result<(), AllocError> {
-    check_rows(rt, setting, Form::Plain, &PLAIN)?;
-    check_rows(rt, setting, Form::Kinds, &KINDS)?;
+fn check_profile(setting: Setting<'_>) -> Result<(), Fail> {
+    check_rows(setting, Form::Plain, &PLAIN)?;
+    check_rows(setting, Form::Kinds, &KINDS)?;
     // The front of a byte order mark is a line, and a bad one.
     let text = "R 1 0\nT 1 0 0 1\n";
-    check(rt, setting, Form::Plain, b"\xEF\xBB", text, [1, 0, 0, 1])
+    check(setting, Form::Plain, b"\xEF\xBB", text, [1, 0, 0, 1])
 }
 
 #[test]
 fn files(rt: HostRuntime) -> Result<(), Fail> {
     let alloc = rt.alloc();
     let cells = sample_cells(alloc)?;
-    check_profile(&rt, Setting::new(alloc, &cells, Profile::First))?;
-    check_profile(&rt, Setting::new(alloc, &cells, Profile::Second))?;
-    Ok(())
+    check_profile(Setting::new(alloc, &cells, Profile::First))?;
+    check_profile(Setting::new(alloc, &cells, Profile::Second))
 }
 
 #[test]
@@ -82,12 +74,12 @@ fn file_that_profiles_tell_apart(rt: HostRuntime) -> Result<(), Fail> {
         (Profile::Second, "D 1 3 ÷ × 9\nT 1 0 1 0\n"),
     ] {
         let setting = Setting::new(rt.alloc(), &cells, profile);
-        check_rows(&rt, setting, Form::Plain, &[(QUOTED, text, [1, 0, 1, 0])])?;
+        check_rows(setting, Form::Plain, &[(QUOTED, text, [1, 0, 1, 0])])?;
     }
     Ok(())
 }
 
-fn check_line(rt: &impl Abort, cells: &CellPages, line: &TestLine, profile: Profile) {
+fn check_line(cells: &CellPages, line: &TestLine, profile: Profile) -> Result<(), Fail> {
     let differ = Outcome::Differ {
         position: 1,
         file: Mark::May,
@@ -97,27 +89,21 @@ fn check_line(rt: &impl Abort, cells: &CellPages, line: &TestLine, profile: Prof
         },
     };
     let found = outcome_of(cells, line, Form::Plain, profile);
-    same(rt, &found, &differ, &profile);
+    same(&found, &differ, &profile)
 }
 
 /// The line that these bytes tell differs in both profiles.
-fn check_differs(
-    rt: &impl Abort,
-    alloc: Global,
-    cells: &CellPages,
-    bytes: &[u8],
-) -> Result<(), Fail> {
+fn check_differs(alloc: Global, cells: &CellPages, bytes: &[u8]) -> Result<(), Fail> {
     let line = line_of(alloc, bytes, Form::Plain)?.ok_or("no line")?;
-    check_line(rt, cells, &line, Profile::First);
-    check_line(rt, cells, &line, Profile::Second);
-    Ok(())
+    check_line(cells, &line, Profile::First)?;
+    check_line(cells, &line, Profile::Second)
 }
 
 #[test]
 fn lines(rt: HostRuntime) -> Result<(), Fail> {
     let cells = sample_cells(rt.alloc())?;
     let bytes = "× 0061 ÷ 0062 ÷".as_bytes();
-    check_differs(&rt, rt.alloc(), &cells, bytes)
+    check_differs(rt.alloc(), &cells, bytes)
 }
 
 /// The sizes of reads, the one that fails, and what is written before it. The second LF stands at byte 37.
@@ -130,20 +116,15 @@ static FAILED_READS: [FailedRead; 4] = [
     (&[], 1, "D 2 1 ÷ × 28\nR 3 7\n"),
 ];
 
-fn check_failed_read(
-    rt: &impl Abort,
-    setting: Setting<'_>,
-    row: &FailedRead,
-) -> Result<(), AllocError> {
+fn check_failed_read(setting: Setting<'_>, row: &FailedRead) -> Result<(), Fail> {
     let (sizes, failing, written) = *row;
     let run = Run {
         sizes,
         failing: Some(failing),
         ..whole(Task::Replay(Form::Plain), FOUR_LINES.as_bytes())
     };
-    let ran = check_run(rt, run, setting, run.task.failed_read(), written)?;
-    same(rt, &ran.reads, &failing.saturating_add(1), &run);
-    Ok(())
+    let ran = check_run(run, setting, run.task.failed_read(), written)?;
+    same(&ran.reads, &failing.saturating_add(1), &run)
 }
 
 #[test]
@@ -151,7 +132,7 @@ fn failing_reads(rt: HostRuntime) -> Result<(), Fail> {
     let cells = sample_cells(rt.alloc())?;
     let setting = Setting::new(rt.alloc(), &cells, Profile::First);
     for row in &FAILED_READS {
-        check_failed_read(&rt, setting, row)?;
+        check_failed_read(setting, row)?;
     }
     Ok(())
 }
@@ -171,32 +152,29 @@ fn replayed<R: Source>(
 
 /// Replays one byte again and again, and compares whether it is refused, and what is written.
 fn check_repeated(
-    rt: &impl Abort,
     alloc: Global,
     cells: &CellPages,
     (byte, count): (u8, u64),
     (refused, written): (Option<ReplayFault>, &str),
-) -> Result<(), AllocError> {
+) -> Result<(), Fail> {
     let mut source = RepeatedSource::new(byte, count);
     let (answer, sink) = replayed(alloc, cells, &mut source, Form::Plain, Profile::First)?;
-    same(rt, &answer.err(), &refused, &count);
-    same(rt, &sink.bytes(), &written.as_bytes(), &count);
-    Ok(())
+    same(&answer.err(), &refused, &count)?;
+    same(&sink.bytes(), &written.as_bytes(), &count)
 }
 
-fn check_long_lines(rt: &impl Abort, alloc: Global, cells: &CellPages) -> Result<(), Fail> {
+fn check_long_lines(alloc: Global, cells: &CellPages) -> Result<(), Fail> {
     let line = (b'#', 268_435_456);
-    check_repeated(rt, alloc, cells, line, (None, "T 0 0 0 0\n"))?;
+    check_repeated(alloc, cells, line, (None, "T 0 0 0 0\n"))?;
     let longer = (b'#', 268_435_457);
     let written = "R 1 long\nT 1 0 0 1\n";
-    check_repeated(rt, alloc, cells, longer, (None, written))?;
-    Ok(())
+    check_repeated(alloc, cells, longer, (None, written))
 }
 
 #[test]
 fn longest_line(rt: HostRuntime) -> Result<(), Fail> {
     let cells = sample_cells(rt.alloc())?;
-    check_long_lines(&rt, rt.alloc(), &cells)
+    check_long_lines(rt.alloc(), &cells)
 }
 
 #[test]
@@ -204,6 +182,5 @@ fn longest_stream(rt: HostRuntime) -> Result<(), Fail> {
     let cells = sample_cells(rt.alloc())?;
     let lines = (b'\n', 1_073_741_825);
     let want = (Some(ReplayFault::StreamTooLong), "");
-    check_repeated(&rt, rt.alloc(), &cells, lines, want)?;
-    Ok(())
+    check_repeated(rt.alloc(), &cells, lines, want)
 }

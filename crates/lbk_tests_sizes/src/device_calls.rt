@@ -1,27 +1,13 @@
 //! How often the engines read and write: in blocks, and once for each passage or line.
 
-use lbk_cmd::{Ending, MemoryStore, SAMPLE_FILES, run};
+use lbk_cmd::{Ending, MemoryStore, run};
 use lbk_feed::devices::MemorySource;
 use lbk_feed::{Device, Source};
+use lbk_tests_rows::property_files::{NAMED_SAMPLES, words_with};
 use std::alloc::{AllocError, Global};
 use std::io::{self, Write};
 use std::process::Abort;
 use std::test::Fail;
-
-/// The words of an engine over the four sample files.
-fn words(engine: &'static str) -> [&'static str; 9] {
-    [
-        engine,
-        "--line-break",
-        "L",
-        "--east-asian",
-        "E",
-        "--category",
-        "C",
-        "--emoji",
-        "M",
-    ]
-}
 
 /// A writer that takes all, and counts its calls.
 #[derive(Drop)]
@@ -42,13 +28,7 @@ impl Write for CountedWrites {
 
 /// How a run over the sample files ends, its writer, and how many reads it made.
 fn counted(alloc: Global, words: &[&'static str], input: &[u8]) -> (Ending, CountedWrites, u64) {
-    let files = [
-        ("L", SAMPLE_FILES.line_break),
-        ("E", SAMPLE_FILES.east_asian),
-        ("C", SAMPLE_FILES.category),
-        ("M", SAMPLE_FILES.emoji),
-    ];
-    let mut store = MemoryStore::new(files.as_slice());
+    let mut store = MemoryStore::new(NAMED_SAMPLES.as_slice());
     let mut reader = MemorySource::new(input);
     let mut writer = Device::new(CountedWrites { calls: 0 });
     let ending = run(alloc, words, &mut store, &mut reader, &mut writer);
@@ -80,7 +60,8 @@ static ROWS: [Row; 4] = [
 fn check(rt: &impl Abort, alloc: Global, row: Row) -> Result<(), Fail> {
     let (engine, line, writes, status) = row;
     let input = repeated(alloc, line, TIMES)?;
-    let (ending, writer, reads) = counted(alloc, &words(engine), input.as_bytes());
+    let words = words_with(alloc, engine, &[])?;
+    let (ending, writer, reads) = counted(alloc, &words, input.as_bytes());
     assert!(rt; ending.status() == status, "{engine} ends with {ending:?}");
     assert!(rt;
         writer.calls == writes,

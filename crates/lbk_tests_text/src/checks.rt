@@ -1,56 +1,28 @@
 //! Checks of what runs come to.
 
-use lbk_feed::Source;
-use lbk_passage::{PassageFault, Segmenter};
-use lbk_rules::{CellPages, Profile};
-use lbk_tests_runs::calls::{has_next, sample_cells};
-use lbk_tests_runs::runs::{Ran, Run, whole};
+use lbk_passage::PassageFault;
+use lbk_rules::Profile;
+use lbk_tests_runs::calls::sample_cells;
+use lbk_tests_runs::checks::check_run;
+use lbk_tests_runs::runs::{Run, whole};
 use lbk_tests_runs::tasks::{End, ROOM, Setting, Task};
-use std::alloc::{AllocError, Global};
-use std::fmt::Debug;
-use std::process::Abort;
+use std::alloc::Global;
 use std::test::Fail;
 
-/// Compares what was found of something with what is wanted.
-pub fn same<T: PartialEq + Debug, D: Debug>(rt: &impl Abort, found: &T, want: &T, of: &D) {
-    assert!(rt; found == want, "{found:?} in place of {want:?}: {of:?}");
-}
-
-/// Runs, and compares how it ended and what it wrote.
-fn check_run(
-    rt: &impl Abort,
-    run: Run<'_>,
-    setting: Setting<'_>,
-    end: End,
-    written: &str,
-) -> Result<Ran, AllocError> {
-    let ran = run.ran(setting)?;
-    same(rt, &ran.end, &end, &run);
-    same(rt, &ran.sink.bytes(), &written.as_bytes(), &run);
-    Ok(ran)
-}
-
 /// Checks what is written of a text, in reads of one, two and all bytes.
-fn check_text(
-    rt: &impl Abort,
-    setting: Setting<'_>,
-    task: Task,
-    text: &str,
-    written: &str,
-) -> Result<(), AllocError> {
+fn check_text(setting: Setting<'_>, task: Task, text: &str, written: &str) -> Result<(), Fail> {
     for sizes in [[1].as_slice(), &[2], &[ROOM]] {
         let run = Run {
             sizes,
             ..whole(task, text.as_bytes())
         };
-        let _ = check_run(rt, run, setting, End::Text(Ok(())), written)?;
+        let _ = check_run(run, setting, End::Text(Ok(())), written)?;
     }
     Ok(())
 }
 
 /// Checks what is written of texts in a profile.
 pub fn check_texts(
-    rt: &impl Abort,
     alloc: Global,
     task: Task,
     rows: &[(&str, &str)],
@@ -59,7 +31,7 @@ pub fn check_texts(
     let cells = sample_cells(alloc)?;
     let setting = Setting::new(alloc, &cells, profile);
     for (text, written) in rows {
-        check_text(rt, setting, task, text, written)?;
+        check_text(setting, task, text, written)?;
     }
     Ok(())
 }
@@ -75,12 +47,7 @@ pub type Refused = (
     &'static str,
 );
 
-fn check_refused_text(
-    rt: &impl Abort,
-    setting: Setting<'_>,
-    task: Task,
-    row: &Refused,
-) -> Result<(), AllocError> {
+fn check_refused_text(setting: Setting<'_>, task: Task, row: &Refused) -> Result<(), Fail> {
     let (input, limit, sizes, failing, fault, written) = *row;
     let run = Run {
         task,
@@ -89,7 +56,6 @@ fn check_refused_text(
         failing,
     };
     let _ = check_run(
-        rt,
         run,
         Setting { limit, ..setting },
         End::refused(fault),
@@ -100,7 +66,6 @@ fn check_refused_text(
 
 /// Checks texts that are refused in a profile.
 pub fn check_refused(
-    rt: &impl Abort,
     alloc: Global,
     task: Task,
     rows: &[Refused],
@@ -109,19 +74,7 @@ pub fn check_refused(
     let cells = sample_cells(alloc)?;
     let setting = Setting::new(alloc, &cells, profile);
     for row in rows {
-        check_refused_text(rt, setting, task, row)?;
+        check_refused_text(setting, task, row)?;
     }
     Ok(())
-}
-
-/// Calls three times more behind a fault.
-pub fn check_spent<R: Source>(
-    rt: &impl Abort,
-    segmenter: &mut Segmenter<'_, CellPages>,
-    reader: &mut R,
-) {
-    for _ in 0..3 {
-        let again = has_next(segmenter, reader);
-        same(rt, &again, &Err(PassageFault::Spent), &"a fault");
-    }
 }

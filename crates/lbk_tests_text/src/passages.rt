@@ -2,7 +2,6 @@
 //! cut, and what it answers then.
 
 use crate::calls::{has_step_table, sample_tables};
-use crate::checks::{check_spent, same};
 use lbk_cmd::CmdFault;
 use lbk_feed::Source;
 use lbk_feed::devices::MemorySource;
@@ -10,12 +9,12 @@ use lbk_passage::{Passage, PassageFault, Segmenter};
 use lbk_rules::{CellPages, CellSource, Profile, Rule};
 use lbk_tests_rows::texts::{FIRST, SECOND};
 use lbk_tests_runs::calls::{cut_source, next_passage, sample_cells, source_of};
+use lbk_tests_runs::checks::{check_spent, same};
 use lbk_tests_runs::tasks::Setting;
 use lbk_tests_runs::told::push_told;
 use lbk_ucd::Tables;
 use std::alloc::{AllocError, Global};
 use std::fmt::Write;
-use std::process::Abort;
 use std::test::Fail;
 
 /// A text, the limit of a paragraph, the starts and texts of the passages given, and the fault that follows them.
@@ -75,74 +74,54 @@ fn next_text<'a, R: Source>(
 
 /// Compares what comes next.
 fn check_text(
-    rt: &impl Abort,
     segmenter: &mut Segmenter<'_, CellPages>,
     source: &mut MemorySource<'_>,
     want: Result<Option<(u64, &str)>, PassageFault>,
     row: &Row,
-) {
-    same(rt, &next_text(segmenter, source), &want, row);
+) -> Result<(), Fail> {
+    same(&next_text(segmenter, source), &want, row)
 }
 
 /// Compares the passages that come first, and those given before the fault, which is answered once.
 fn check(
-    rt: &impl Abort,
     alloc: Global,
     cells: &CellPages,
     profile: Profile,
     source: MemorySource<'_>,
     row: &Row,
-) -> Result<(), PassageFault> {
+) -> Result<(), Fail> {
     let mut source = source;
     let (_, limit, passages, fault) = *row;
     let mut segmenter = Segmenter::new(alloc, cells, limit, profile)?;
     for want in passages {
-        check_text(rt, &mut segmenter, &mut source, Ok(Some(*want)), row);
+        check_text(&mut segmenter, &mut source, Ok(Some(*want)), row)?;
     }
-    check_text(rt, &mut segmenter, &mut source, Err(fault), row);
-    check_spent(rt, &mut segmenter, &mut source);
-    Ok(())
+    check_text(&mut segmenter, &mut source, Err(fault), row)?;
+    check_spent(&mut segmenter, &mut source)
 }
 
 /// Compares in both profiles, in reads of these sizes, the last of them for all that follow.
-fn check_cut(
-    rt: &impl Abort,
-    alloc: Global,
-    cells: &CellPages,
-    sizes: &[usize],
-    row: &Row,
-) -> Result<(), PassageFault> {
+fn check_cut(alloc: Global, cells: &CellPages, sizes: &[usize], row: &Row) -> Result<(), Fail> {
     for profile in [Profile::First, Profile::Second] {
         let source = cut_source(row.0, sizes);
-        check(rt, alloc, cells, profile, source, row)?;
+        check(alloc, cells, profile, source, row)?;
     }
     Ok(())
 }
 
 /// The first read has this length, and the second each.
-fn check_cut_at(
-    rt: &impl Abort,
-    alloc: Global,
-    cells: &CellPages,
-    first: usize,
-    row: &Row,
-) -> Result<(), PassageFault> {
+fn check_cut_at(alloc: Global, cells: &CellPages, first: usize, row: &Row) -> Result<(), Fail> {
     for second in 1..=row.0.len() {
         let sizes = [first, second, usize::MAX];
-        check_cut(rt, alloc, cells, &sizes, row)?;
+        check_cut(alloc, cells, &sizes, row)?;
     }
     Ok(())
 }
 
-fn check_cuts(
-    rt: &impl Abort,
-    alloc: Global,
-    cells: &CellPages,
-    row: &Row,
-) -> Result<(), PassageFault> {
-    check_cut(rt, alloc, cells, &[1], row)?;
+fn check_cuts(alloc: Global, cells: &CellPages, row: &Row) -> Result<(), Fail> {
+    check_cut(alloc, cells, &[1], row)?;
     for first in 1..=row.0.len() {
-        check_cut_at(rt, alloc, cells, first, row)?;
+        check_cut_at(alloc, cells, first, row)?;
     }
     Ok(())
 }
@@ -152,7 +131,7 @@ fn check_cuts(
 fn faults(rt: HostRuntime) -> Result<(), Fail> {
     let cells = sample_cells(rt.alloc())?;
     for row in &FAULTS {
-        check_cuts(&rt, rt.alloc(), &cells, row)?;
+        check_cuts(rt.alloc(), &cells, row)?;
     }
     Ok(())
 }
@@ -168,7 +147,7 @@ fn failed_reads(rt: HostRuntime) -> Result<(), Fail> {
     let cells = sample_cells(rt.alloc())?;
     for row in &FAILED_READS {
         let source = source_of(row.0, &[], Some(1));
-        check(&rt, rt.alloc(), &cells, Profile::First, source, row)?;
+        check(rt.alloc(), &cells, Profile::First, source, row)?;
     }
     Ok(())
 }
@@ -184,13 +163,12 @@ fn next_end<'a, R: Source>(
     }
 }
 
-fn check_limit(rt: &impl Abort, setting: Setting<'_>) {
+fn check_limit(setting: Setting<'_>) -> Result<(), Fail> {
     same(
-        rt,
         &setting.segmenter().err(),
         &Some(PassageFault::Limit),
         &setting.limit,
-    );
+    )
 }
 
 /// The passages of a text, and that none follows.
@@ -201,22 +179,19 @@ static THREE: [Option<(&str, Rule)>; 4] = [
     None,
 ];
 
-fn check_three(
-    rt: &impl Abort,
-    segmenter: &mut Segmenter<'_, CellPages>,
-) -> Result<(), PassageFault> {
+fn check_three(segmenter: &mut Segmenter<'_, CellPages>) -> Result<(), Fail> {
     let mut source = cut_source(b"ab\r\nabc\rb", &[]);
     for want in &THREE {
         let found = next_end(segmenter, &mut source)?;
-        same(rt, &found, want, &"three passages");
+        same(&found, want, &"three passages")?;
     }
     Ok(())
 }
 
 /// A text of three passages, of which the longest has as many bytes as a paragraph may have.
-fn check_within(rt: &impl Abort, setting: Setting<'_>) -> Result<(), Fail> {
+fn check_within(setting: Setting<'_>) -> Result<(), Fail> {
     let mut segmenter = setting.segmenter()?;
-    Ok(check_three(rt, &mut segmenter)?)
+    check_three(&mut segmenter)
 }
 
 #[test]
@@ -224,15 +199,12 @@ fn limits(rt: HostRuntime) -> Result<(), Fail> {
     let cells = sample_cells(rt.alloc())?;
     let setting = Setting::new(rt.alloc(), &cells, Profile::First);
     for limit in [0, 16_777_217] {
-        check_limit(&rt, Setting { limit, ..setting });
+        check_limit(Setting { limit, ..setting })?;
     }
-    check_within(
-        &rt,
-        Setting {
-            limit: 4,
-            ..setting
-        },
-    )
+    check_within(Setting {
+        limit: 4,
+        ..setting
+    })
 }
 
 /// Writes all that is known of the next passage, or that there is none.
@@ -271,55 +243,42 @@ fn passages_of<C: CellSource>(
 }
 
 /// The passages of a text by two sources of the same cells.
-fn check_same(
-    rt: &impl Abort,
-    alloc: Global,
-    tables: &Tables,
-    pages: &CellPages,
-    text: &str,
-) -> Result<(), CmdFault> {
+fn check_same(alloc: Global, tables: &Tables, pages: &CellPages, text: &str) -> Result<(), Fail> {
     for profile in [Profile::First, Profile::Second] {
         let want = passages_of(alloc, tables, profile, text)?;
         let found = passages_of(alloc, pages, profile, text)?;
-        same(rt, &found.as_str(), &want.as_str(), &text);
+        same(&found.as_str(), &want.as_str(), &text)?;
     }
     Ok(())
 }
 
 fn check_rows(
-    rt: &impl Abort,
     alloc: Global,
     tables: &Tables,
     pages: &CellPages,
     rows: &[(&str, &str)],
-) -> Result<(), CmdFault> {
+) -> Result<(), Fail> {
     for (text, _) in rows {
-        check_same(rt, alloc, tables, pages, text)?;
+        check_same(alloc, tables, pages, text)?;
     }
     Ok(())
 }
 
-fn check_all_rows(
-    rt: &impl Abort,
-    alloc: Global,
-    tables: &Tables,
-    pages: &CellPages,
-) -> Result<(), Fail> {
-    same(rt, &has_step_table(tables), &false, &"tables");
-    same(rt, &has_step_table(pages), &true, &"pages");
-    check_rows(rt, alloc, tables, pages, &FIRST)?;
-    check_rows(rt, alloc, tables, pages, &SECOND)?;
-    Ok(())
+fn check_all_rows(alloc: Global, tables: &Tables, pages: &CellPages) -> Result<(), Fail> {
+    same(&has_step_table(tables), &false, &"tables")?;
+    same(&has_step_table(pages), &true, &"pages")?;
+    check_rows(alloc, tables, pages, &FIRST)?;
+    check_rows(alloc, tables, pages, &SECOND)
 }
 
-fn check_tables(rt: &impl Abort, alloc: Global, tables: &Tables) -> Result<(), Fail> {
+fn check_tables(alloc: Global, tables: &Tables) -> Result<(), Fail> {
     let pages = sample_cells(alloc)?;
-    check_all_rows(rt, alloc, tables, &pages)
+    check_all_rows(alloc, tables, &pages)
 }
 
 /// The tables have no table of steps, and the pages have one.
 #[test]
 fn without_a_table_of_steps(rt: HostRuntime) -> Result<(), Fail> {
     let tables = sample_tables(rt.alloc())?;
-    check_tables(&rt, rt.alloc(), &tables)
+    check_tables(rt.alloc(), &tables)
 }

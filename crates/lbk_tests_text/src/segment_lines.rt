@@ -10,10 +10,10 @@ use std::test::Fail;
 #[test]
 fn texts(rt: HostRuntime) -> Result<(), Fail> {
     let task = Task::Segment;
-    check_texts(&rt, rt.alloc(), task, &BOTH, Profile::First)?;
-    check_texts(&rt, rt.alloc(), task, &BOTH, Profile::Second)?;
-    check_texts(&rt, rt.alloc(), task, &FIRST, Profile::First)?;
-    check_texts(&rt, rt.alloc(), task, &SECOND, Profile::Second)
+    check_texts(rt.alloc(), task, &BOTH, Profile::First)?;
+    check_texts(rt.alloc(), task, &BOTH, Profile::Second)?;
+    check_texts(rt.alloc(), task, &FIRST, Profile::First)?;
+    check_texts(rt.alloc(), task, &SECOND, Profile::Second)
 }
 
 static REFUSED: [Refused; 4] = [
@@ -39,5 +39,5 @@ static REFUSED: [Refused; 4] = [
 
 #[test]
 fn refusals(rt: HostRuntime) -> Result<(), Fail> {
-    check_refused(&rt, rt.alloc(), Task::Segment, &REFUSED, Profile::First)
+    check_refused(rt.alloc(), Task::Segment, &REFUSED, Profile::First)
 }

@@ -1,17 +1,15 @@
 //! The segments and pieces that a segmenter gives over the sample files, in both profiles and however the reads are
 //! cut.
 
-use crate::checks::same;
-use lbk_cmd::CmdFault;
 use lbk_feed::devices::MemorySource;
-use lbk_passage::{Passage, PassageFault, Segment, Segmenter};
+use lbk_passage::{Passage, Segment, Segmenter};
 use lbk_rules::{CellPages, Kind, Profile, Rule};
 use lbk_tests_rows::segmented::{BOTH, Row};
 use lbk_tests_runs::calls::{cut_source, has_next, next_passage, sample_cells};
+use lbk_tests_runs::checks::same;
 use lbk_tests_runs::tasks::Setting;
 use lbk_tests_runs::told::told_next;
 use std::alloc::{AllocError, Global};
-use std::process::Abort;
 use std::test::Fail;
 
 /// What the first says.
@@ -55,94 +53,85 @@ static SECOND: [Row; 6] = [
     ),
 ];
 
-fn check_told(rt: &impl Abort, found: Option<String>, want: &str, row: &Row) {
+fn check_told(found: Option<String>, want: &str, row: &Row) -> Result<(), Fail> {
     match found {
-        Some(line) => same(rt, &line.as_str(), &want, row),
-        None => assert!(rt; false, "no passage of {row:?}"),
+        Some(line) => same(&line.as_str(), &want, row),
+        None => Err(Fail::new(format_args!("no passage of {row:?}"))),
     }
 }
 
 /// No passage follows.
 fn check_end(
-    rt: &impl Abort,
     segmenter: &mut Segmenter<'_, CellPages>,
     source: &mut MemorySource<'_>,
-) {
-    same(rt, &has_next(segmenter, source), &Ok(false), &"the end");
+) -> Result<(), Fail> {
+    same(&has_next(segmenter, source), &Ok(false), &"the end")
 }
 
 /// Runs a segmenter over the text in reads of the sizes, and compares its passages.
-fn check(
-    rt: &impl Abort,
-    setting: Setting<'_>,
-    sizes: &[usize],
-    row: &Row,
-) -> Result<(), CmdFault> {
+fn check(setting: Setting<'_>, sizes: &[usize], row: &Row) -> Result<(), Fail> {
     let mut source = cut_source(row.0.as_bytes(), sizes);
     let mut segmenter = setting.segmenter()?;
     for want in row.1 {
         let found = told_next(setting.alloc, &mut segmenter, &mut source)?;
-        check_told(rt, found, want, row);
+        check_told(found, want, row)?;
     }
-    check_end(rt, &mut segmenter, &mut source);
-    check_end(rt, &mut segmenter, &mut source);
-    Ok(())
+    check_end(&mut segmenter, &mut source)?;
+    check_end(&mut segmenter, &mut source)
 }
 
 const CUTTINGS: [&[usize]; 6] = [&[1], &[2], &[3], &[7], &[4096], &[]];
 
-fn check_row(rt: &impl Abort, setting: Setting<'_>, row: &Row) -> Result<(), CmdFault> {
+fn check_row(setting: Setting<'_>, row: &Row) -> Result<(), Fail> {
     for sizes in CUTTINGS {
-        check(rt, setting, sizes, row)?;
+        check(setting, sizes, row)?;
     }
     Ok(())
 }
 
-fn check_rows(rt: &impl Abort, setting: Setting<'_>, rows: &[Row]) -> Result<(), CmdFault> {
+fn check_rows(setting: Setting<'_>, rows: &[Row]) -> Result<(), Fail> {
     for row in rows {
-        check_row(rt, setting, row)?;
+        check_row(setting, row)?;
     }
     Ok(())
 }
 
 /// The rows of both profiles, and those of one.
-fn check_profile(rt: &impl Abort, setting: Setting<'_>, rows: &[Row]) -> Result<(), CmdFault> {
-    check_rows(rt, setting, &BOTH)?;
-    check_rows(rt, setting, rows)
+fn check_profile(setting: Setting<'_>, rows: &[Row]) -> Result<(), Fail> {
+    check_rows(setting, &BOTH)?;
+    check_rows(setting, rows)
 }
 
 #[test]
 fn segments(rt: HostRuntime) -> Result<(), Fail> {
     let cells = sample_cells(rt.alloc())?;
     let first = Setting::new(rt.alloc(), &cells, Profile::First);
-    check_profile(&rt, first, &FIRST)?;
+    check_profile(first, &FIRST)?;
     let second = Setting::new(rt.alloc(), &cells, Profile::Second);
-    check_profile(&rt, second, &SECOND)?;
-    Ok(())
+    check_profile(second, &SECOND)
 }
 
-fn check_sizes(rt: &impl Abort, passage: &Passage<'_>) {
-    same(rt, &passage.text.len(), &4000, passage);
-    same(rt, &passage.segments.len(), &2000, passage);
-    same(rt, &passage.pieces.len(), &4000, passage);
+fn check_sizes(passage: &Passage<'_>) -> Result<(), Fail> {
+    same(&passage.text.len(), &4000, passage)?;
+    same(&passage.segments.len(), &2000, passage)?;
+    same(&passage.pieces.len(), &4000, passage)?;
     let last = Segment {
         start: 3998,
         end: 4000,
         kind: Kind::Must,
         rule: Rule::Lb3,
     };
-    same(rt, &passage.segments.last(), &Some(&last), passage);
+    same(&passage.segments.last(), &Some(&last), passage)
 }
 
-fn check_many(rt: &impl Abort, setting: Setting<'_>, text: &[u8]) -> Result<(), PassageFault> {
+fn check_many(setting: Setting<'_>, text: &[u8]) -> Result<(), Fail> {
     let mut source = cut_source(text, &[]);
     let mut segmenter = setting.segmenter()?;
     match next_passage(&mut segmenter, &mut source)? {
-        Some(passage) => check_sizes(rt, &passage),
-        None => assert!(rt; false, "no passage"),
+        Some(passage) => check_sizes(&passage)?,
+        None => return Err(Fail::new("no passage")),
     }
-    check_end(rt, &mut segmenter, &mut source);
-    Ok(())
+    check_end(&mut segmenter, &mut source)
 }
 
 fn many_words(alloc: Global) -> Result<Vec<u8>, AllocError> {
@@ -158,7 +147,7 @@ fn many_segments(rt: HostRuntime) -> Result<(), Fail> {
     let cells = sample_cells(rt.alloc())?;
     let text = many_words(rt.alloc())?;
     for profile in [Profile::First, Profile::Second] {
-        check_many(&rt, Setting::new(rt.alloc(), &cells, profile), &text)?;
+        check_many(Setting::new(rt.alloc(), &cells, profile), &text)?;
     }
     Ok(())
 }

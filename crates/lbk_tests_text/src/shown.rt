@@ -1,24 +1,23 @@
 //! What `show` writes and refuses, over devices in memory.
 
-use crate::checks::{Refused, check_refused, check_texts, same};
+use crate::checks::{Refused, check_refused, check_texts};
 use lbk_cmd::CmdFault;
 use lbk_passage::PassageFault;
 use lbk_rules::Profile;
 use lbk_tests_rows::shown::{BOTH, FIRST, SECOND};
 use lbk_tests_runs::calls::sample_cells;
+use lbk_tests_runs::checks::same;
 use lbk_tests_runs::runs::whole;
 use lbk_tests_runs::tasks::{End, LIMIT, Setting, Task};
-use std::alloc::AllocError;
-use std::process::Abort;
 use std::test::Fail;
 
 #[test]
 fn texts(rt: HostRuntime) -> Result<(), Fail> {
     let task = Task::Show;
-    check_texts(&rt, rt.alloc(), task, &BOTH, Profile::First)?;
-    check_texts(&rt, rt.alloc(), task, &BOTH, Profile::Second)?;
-    check_texts(&rt, rt.alloc(), task, &FIRST, Profile::First)?;
-    check_texts(&rt, rt.alloc(), task, &SECOND, Profile::Second)
+    check_texts(rt.alloc(), task, &BOTH, Profile::First)?;
+    check_texts(rt.alloc(), task, &BOTH, Profile::Second)?;
+    check_texts(rt.alloc(), task, &FIRST, Profile::First)?;
+    check_texts(rt.alloc(), task, &SECOND, Profile::Second)
 }
 
 static ILL_FORMED: [Refused; 3] = [
@@ -66,8 +65,8 @@ static FAILED_READS: [Refused; 5] = [
 #[test]
 fn refusals(rt: HostRuntime) -> Result<(), Fail> {
     let task = Task::Show;
-    check_refused(&rt, rt.alloc(), task, &ILL_FORMED, Profile::First)?;
-    check_refused(&rt, rt.alloc(), task, &FAILED_READS, Profile::Second)
+    check_refused(rt.alloc(), task, &ILL_FORMED, Profile::First)?;
+    check_refused(rt.alloc(), task, &FAILED_READS, Profile::Second)
 }
 
 /// A text, the limit of a paragraph, and the answer.
@@ -92,17 +91,11 @@ static LIMITS: [Limited; 8] = [
     ),
 ];
 
-fn check_limit(rt: &impl Abort, setting: Setting<'_>, row: &Limited) -> Result<(), AllocError> {
+fn check_limit(setting: Setting<'_>, row: &Limited) -> Result<(), Fail> {
     let (text, limit, want) = *row;
     let run = whole(Task::Show, text.as_bytes());
     let ran = run.ran(Setting { limit, ..setting })?;
-    same(
-        rt,
-        &ran.end,
-        &End::Text(want.map_err(CmdFault::Passage)),
-        &run,
-    );
-    Ok(())
+    same(&ran.end, &End::Text(want.map_err(CmdFault::Passage)), &run)
 }
 
 #[test]
@@ -110,7 +103,7 @@ fn limits(rt: HostRuntime) -> Result<(), Fail> {
     let cells = sample_cells(rt.alloc())?;
     let setting = Setting::new(rt.alloc(), &cells, Profile::First);
     for row in &LIMITS {
-        check_limit(&rt, setting, row)?;
+        check_limit(setting, row)?;
     }
     Ok(())
 }

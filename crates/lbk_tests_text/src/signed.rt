@@ -1,14 +1,15 @@
 //! What `mark` writes and refuses, over devices in memory.
 
-use crate::checks::{Refused, check_refused, check_texts, same};
-use lbk_cmd::{Ending, MemoryStore, SAMPLE_FILES, run};
+use crate::checks::{Refused, check_refused, check_texts};
+use lbk_cmd::{Ending, MemoryStore, run};
 use lbk_feed::devices::{MemorySink, MemorySource};
 use lbk_passage::PassageFault;
 use lbk_rules::Profile;
+use lbk_tests_rows::property_files::{NAMED_SAMPLES, words_with};
 use lbk_tests_runs::calls::{cut_source, memory_sink};
+use lbk_tests_runs::checks::same;
 use lbk_tests_runs::tasks::{ROOM, Task};
-use std::alloc::{AllocError, Global};
-use std::process::Abort;
+use std::alloc::Global;
 use std::test::Fail;
 
 /// What both profiles write of a text.
@@ -47,10 +48,10 @@ static SECOND: [(&str, &str); 2] = [
 #[test]
 fn texts(rt: HostRuntime) -> Result<(), Fail> {
     let task = Task::Mark;
-    check_texts(&rt, rt.alloc(), task, &BOTH, Profile::First)?;
-    check_texts(&rt, rt.alloc(), task, &BOTH, Profile::Second)?;
-    check_texts(&rt, rt.alloc(), task, &FIRST, Profile::First)?;
-    check_texts(&rt, rt.alloc(), task, &SECOND, Profile::Second)
+    check_texts(rt.alloc(), task, &BOTH, Profile::First)?;
+    check_texts(rt.alloc(), task, &BOTH, Profile::Second)?;
+    check_texts(rt.alloc(), task, &FIRST, Profile::First)?;
+    check_texts(rt.alloc(), task, &SECOND, Profile::Second)
 }
 
 static REFUSED: [Refused; 8] = [
@@ -87,7 +88,7 @@ static REFUSED: [Refused; 8] = [
 
 #[test]
 fn refusals(rt: HostRuntime) -> Result<(), Fail> {
-    check_refused(&rt, rt.alloc(), Task::Mark, &REFUSED, Profile::First)
+    check_refused(rt.alloc(), Task::Mark, &REFUSED, Profile::First)
 }
 
 /// How a run by words ends over the sample files.
@@ -97,48 +98,21 @@ fn ended(
     source: &mut MemorySource<'_>,
     sink: &mut MemorySink,
 ) -> Ending {
-    let files = [
-        ("L", SAMPLE_FILES.line_break),
-        ("E", SAMPLE_FILES.east_asian),
-        ("C", SAMPLE_FILES.category),
-        ("M", SAMPLE_FILES.emoji),
-    ];
-    let mut store = MemoryStore::new(files.as_slice());
+    let mut store = MemoryStore::new(NAMED_SAMPLES.as_slice());
     run(alloc, words, &mut store, source, sink)
 }
 
-const WORDS: [&str; 11] = [
-    "mark",
-    "--line-break",
-    "L",
-    "--east-asian",
-    "E",
-    "--category",
-    "C",
-    "--emoji",
-    "M",
-    "--limit",
-    "6",
-];
-
-fn check_words(
-    rt: &impl Abort,
-    alloc: Global,
-    text: &str,
-    out: &str,
-    status: u8,
-) -> Result<(), AllocError> {
+fn check_words(alloc: Global, text: &str, out: &str, status: u8) -> Result<(), Fail> {
     let mut source = cut_source(text.as_bytes(), &[]);
     let mut sink = memory_sink(alloc, ROOM, usize::MAX)?;
-    let ending = ended(alloc, &WORDS, &mut source, &mut sink);
-    same(rt, &ending.status(), &status, &text);
-    same(rt, &sink.bytes(), &out.as_bytes(), &text);
-    Ok(())
+    let words = words_with(alloc, "mark", &["--limit", "6"])?;
+    let ending = ended(alloc, &words, &mut source, &mut sink);
+    same(&ending.status(), &status, &text)?;
+    same(&sink.bytes(), &out.as_bytes(), &text)
 }
 
 #[test]
 fn by_words(rt: HostRuntime) -> Result<(), Fail> {
-    check_words(&rt, rt.alloc(), "ab cd\n", "ab ÷cd\n", 0)?;
-    check_words(&rt, rt.alloc(), "a\nabcdefg", "a\n", 1)?;
-    Ok(())
+    check_words(rt.alloc(), "ab cd\n", "ab ÷cd\n", 0)?;
+    check_words(rt.alloc(), "a\nabcdefg", "a\n", 1)
 }
