@@ -36,6 +36,7 @@ pub struct FileStore<'a, O> {
 impl<'a, O> FileStore<'a, O> {
     /// The files that `opener` opens.
     pub fn new(opener: &'a O) -> FileStore<'a, O>
+        ensures opener { opener_of result ≡ opener.entry.now }
         ensures loads { loads_of result ≡ 0 }
         ensures refusals { refusals_of result ≡ 0 }
     {
