@@ -4,6 +4,9 @@
 pub const SAMPLES: &str =
     "these are sample data, for a first look; for real text: lbk mark --ucd FOLDER < TEXT";
 
+/// What is said of words that are no text.
+pub const NOT_UTF_8: &str = "lbk: the words are not UTF-8\n";
+
 /// What is said where text is waited for on a terminal.
 pub const WAITING: &str =
     "text is read from the terminal, to the end of input (Ctrl-D at the start of a line)";

@@ -15,36 +15,32 @@ use lbk_notation::ReplayFault;
 use message::Message;
 use noting::{Input, InputKind, Notes, Noting};
 use prompted::Prompted;
+use std::alloc::{AllocError, Global};
 use std::io::ErrorKind;
 use std::process::ExitCode;
 use std::{env, io};
 use system_files::SystemFiles;
 
-const REFUSED: u8 = 1;
-
-const USAGE: u8 = 2;
-
 fn main(rt: HostRuntime) -> ExitCode {
-    let given = match words_given(&rt) {
+    let ending = run_and_tell(&rt);
+    ExitCode::from(ending.status())
+}
+
+/// A run by the words behind the program's name: how it ends, which a person was told.
+fn run_and_tell(rt: &HostRuntime) -> Ending {
+    let notes = Notes::new();
+    let given = match words_given(rt) {
         Ok(given) => given,
-        Err(error) if error.kind() == ErrorKind::OutOfMemory => return ended(&rt, REFUSED),
-        Err(_) => {
-            let _ = eprintln!(rt; "lbk: the words are not UTF-8");
-            return ExitCode::from(USAGE);
-        }
+        Err(ending) => return told(rt, &[], ending, &notes),
     };
-    let mut words = Vec::new(rt.alloc());
-    for word in &given {
-        if words.push(word.as_str()).is_err() {
-            return ended(&rt, REFUSED);
-        }
-    }
+    let Ok(words) = slices_of(rt.alloc(), &given) else {
+        return told(rt, &[], out_of_memory(), &notes);
+    };
     if words.is_empty() {
         let _ = eprintln!(rt; "lbk: {}", hints::SAMPLES);
     }
-    let notes = Notes::new();
-    let ending = run_on_devices(&rt, words.as_slice(), &notes);
-    told(&rt, words.as_slice(), &ending, &notes)
+    let ending = run_on_devices(rt, words.as_slice(), &notes);
+    told(rt, words.as_slice(), ending, &notes)
 }
 
 /// A run over the files of the system, from standard input to standard output.
@@ -61,31 +57,40 @@ fn run_on_devices(rt: &HostRuntime, words: &[&str], notes: &Notes) -> Ending {
     run(rt.alloc(), words, &mut store, &mut reader, &mut writer)
 }
 
-/// The words behind the program's name.
-fn words_given(rt: &HostRuntime) -> io::Result<Vec<String>> {
+/// The words behind the program's name, or how a run ends that cannot have them.
+fn words_given(rt: &HostRuntime) -> Result<Vec<String>, Ending> {
+    match collected(rt) {
+        Ok(words) => Ok(words),
+        Err(error) if error.kind() == ErrorKind::OutOfMemory => Err(out_of_memory()),
+        Err(_) => match String::from_str(rt.alloc(), hints::NOT_UTF_8) {
+            Ok(text) => Err(Ending::Usage { text }),
+            Err(_) => Err(out_of_memory()),
+        },
+    }
+}
+
+fn slices_of(alloc: Global, words: &[String]) -> Result<Vec<&str>, AllocError> {
+    words.iter().map(|word| word.as_str()).collect(alloc)
+}
+
+fn collected(rt: &HostRuntime) -> io::Result<Vec<String>> {
     let words = env::args(rt)?.skip(1).collect(rt.alloc())?;
     Ok(words)
 }
 
-/// Want of memory before the words were read, or where they are read again.
-fn ended(rt: &HostRuntime, status: u8) -> ExitCode {
-    let _ = eprintln!(rt; "lbk: out of memory");
-    ExitCode::from(status)
+fn out_of_memory() -> Ending {
+    Ending::Refused(RunFault::Memory)
 }
 
-/// Help goes to standard output, usage, errors and hints to standard error.
-fn told(rt: &HostRuntime, words: &[&str], ending: &Ending, notes: &Notes) -> ExitCode {
-    match ending {
-        Ending::Done => {}
+/// Tells how a run ends: help on standard output; usage, errors and hints on standard error. The answer is that ending,
+/// or a refused one where the help could not be written.
+fn told(rt: &HostRuntime, words: &[&str], ending: Ending, notes: &Notes) -> Ending {
+    let ending = with_help_written(rt, ending, notes);
+    match &ending {
+        Ending::Done | Ending::Help { .. } => {}
         Ending::Differs(report) => {
             if report.refused > 0 && notes.has_kinds.get() && !words.contains(&"--kinds") {
                 let _ = eprintln!(rt; "lbk: {}", hints::KINDS);
-            }
-        }
-        Ending::Help { text } => {
-            if let Err(error) = print!(rt; "{text}") {
-                notes.error.set(Some(error.kind()));
-                return refused(rt, words, RunFault::Cmd(CmdFault::Write), notes);
             }
         }
         Ending::Usage { text } => {
@@ -94,22 +99,32 @@ fn told(rt: &HostRuntime, words: &[&str], ending: &Ending, notes: &Notes) -> Exi
                 let _ = eprintln!(rt; "\n{}{file}", hints::TEXT_ON_INPUT);
             }
         }
-        Ending::Refused(fault) => return refused(rt, words, *fault, notes),
+        Ending::Refused(fault) => tell_refused(rt, words, *fault, notes),
     }
-    ExitCode::from(ending.status())
+    ending
+}
+
+/// Writes the text of a run that ends with help.
+fn with_help_written(rt: &HostRuntime, ending: Ending, notes: &Notes) -> Ending {
+    if let Ending::Help { text } = &ending {
+        if notes.noted(print!(rt; "{text}")).is_err() {
+            return Ending::Refused(RunFault::Cmd(CmdFault::Write));
+        }
+    }
+    ending
 }
 
 /// One line for a refused run; none where nobody reads the output any more.
-fn refused(rt: &HostRuntime, words: &[&str], fault: RunFault, notes: &Notes) -> ExitCode {
+fn tell_refused(rt: &HostRuntime, words: &[&str], fault: RunFault, notes: &Notes) {
     let reason = notes.error.get();
     if is_write(fault) && reason == Some(ErrorKind::BrokenPipe) {
-        return ExitCode::from(REFUSED);
+        return;
     }
-    let order = match parse(rt.alloc(), words) {
-        Ok(order) => Some(order),
+    let (fault, order) = match parse(rt.alloc(), words) {
+        Ok(order) => (fault, Some(order)),
         // Without them the message would name another file or limit.
-        Err(WordsFault::Memory) => return ended(rt, REFUSED),
-        Err(_) => None,
+        Err(WordsFault::Memory) => (RunFault::Memory, None),
+        Err(_) => (fault, None),
     };
     let message = Message {
         fault,
@@ -118,7 +133,6 @@ fn refused(rt: &HostRuntime, words: &[&str], fault: RunFault, notes: &Notes) -> 
         is_utf16: notes.is_utf16.get(),
     };
     let _ = eprintln!(rt; "lbk: {message}");
-    ExitCode::from(REFUSED)
 }
 
 /// Whether the output failed.
