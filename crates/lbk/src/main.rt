@@ -2,17 +2,15 @@
 #![tactic(auto)]
 
 mod hints;
-mod message;
 mod noting;
 mod prompted;
 mod system_files;
 
 use lbk_args::{WordsFault, parse};
-use lbk_cmd::{CmdFault, Ending, RunFault, run};
+use lbk_cmd::{Caller, CmdFault, Ending, Message, RunFault, run};
 use lbk_feed::Device;
 use lbk_files::FileStore;
 use lbk_notation::ReplayFault;
-use message::Message;
 use noting::{Input, InputKind, Notes, Noting};
 use prompted::Prompted;
 use std::alloc::{AllocError, Global};
@@ -120,15 +118,15 @@ fn tell_refused(rt: &HostRuntime, words: &[&str], fault: RunFault, notes: &Notes
     if is_write(fault) && reason == Some(ErrorKind::BrokenPipe) {
         return;
     }
-    let (fault, order) = match parse(rt.alloc(), words) {
-        Ok(order) => (fault, Some(order)),
+    let (fault, caller) = match parse(rt.alloc(), words) {
+        Ok(order) => (fault, Caller::Words(order)),
         // Without them the message would name another file or limit.
-        Err(WordsFault::Memory) => (RunFault::Memory, None),
-        Err(_) => (fault, None),
+        Err(WordsFault::Memory) => (RunFault::Memory, Caller::NoWords),
+        Err(_) => (fault, Caller::NoWords),
     };
     let message = Message {
         fault,
-        order,
+        caller,
         reason,
         is_utf16: notes.is_utf16.get(),
     };

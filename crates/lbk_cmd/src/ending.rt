@@ -4,6 +4,7 @@ ghost use Rattle.std.specs.Prelude.{◌≡◌};
 ghost use Rattle.lbk_cmd.specs.Ending.{ending_of_files, ending_of_replay, ending_of_text, status_of};
 
 use super::faults::CmdFault;
+use super::message::Message;
 use lbk_files::{CellsFault, ClaimCause, Stop};
 use lbk_notation::{ReplayFault, Report};
 use lbk_ucd::{UcdFault, Which};
@@ -13,22 +14,22 @@ use thiserror::Error;
 #[derive(Clone, Copy, Debug, PartialEq, Eq, Error)]
 pub enum RunFault {
     /// A property file cannot be opened or read.
-    #[error("{}", CellsFault::Load(*.0))]
+    #[error("{}", Message::of_call(*self))]
     Load(Which),
     /// A property file of a folder is not that of Unicode 15.0.
-    #[error("{}", CellsFault::Claim(*.0, *.1))]
+    #[error("{}", Message::of_call(*self))]
     Claim(Which, ClaimCause),
     /// The property files were refused at their first fault, or at a line where their tables could not grow.
-    #[error("{}", CellsFault::Tables(*.0))]
+    #[error("{}", Message::of_call(*self))]
     Tables(UcdFault),
     /// `mark`, `show` or `segment` stopped.
-    #[error("{0}")]
+    #[error("{}", Message::of_call(*self))]
     Cmd(CmdFault),
     /// `replay` stopped.
-    #[error("the replay stopped: {0:?}")]
+    #[error("{}", Message::of_call(*self))]
     Replay(ReplayFault),
     /// Any other growth of memory was refused.
-    #[error("out of memory")]
+    #[error("{}", Message::of_call(*self))]
     Memory,
 }
 

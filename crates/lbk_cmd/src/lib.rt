@@ -8,6 +8,7 @@ mod engine;
 mod faults;
 pub mod laws;
 mod line;
+mod message;
 mod segmented;
 mod shown;
 mod signed;
@@ -21,3 +22,4 @@ pub use lbk_files::{
     CellsFault, ClaimCause, LoadFault, MemoryStore, SAMPLE_FILES, Store, Version, read_cells,
     read_front,
 };
+pub use message::{Caller, Message};

@@ -8,7 +8,14 @@ use Rattle.lbk_files.specs.FileFault.{FourFiles, IsUnlikeItsClaim, Told}
 use Rattle.lbk_files.specs.declared.faults.CellsFault.{CellsFault}
 use Rattle.lbk_files.specs.declared.faults.CellsFault.TheVariants.{Load, Claim, Tables, Memory}
 
--- the name of each file in a folder of the Unicode Character Database
+-- the name of each file of the Unicode Character Database
+abbrev pub file_name : Which → List ℕ
+file_name LineBreak = codes "LineBreak.txt"
+file_name EastAsianWidth = codes "EastAsianWidth.txt"
+file_name Category = codes "DerivedGeneralCategory.txt"
+file_name Emoji = codes "emoji-data.txt"
+
+-- its name in a folder of that database
 abbrev pub name_in_database : Which → List ℕ
 name_in_database LineBreak = codes "LineBreak.txt"
 name_in_database EastAsianWidth = codes "EastAsianWidth.txt"

@@ -1,5 +1,7 @@
 //! Why there are no cells to decide by, and why no engine runs.
 
+use super::database::file_name;
+use super::named_fault::NamedFault;
 use super::published::ClaimCause;
 use lbk_ucd::{UcdFault, Which};
 use thiserror::Error;
@@ -8,17 +10,25 @@ use thiserror::Error;
 #[derive(Clone, Copy, Debug, PartialEq, Eq, Error)]
 pub enum CellsFault {
     /// The file cannot be opened or read.
-    #[error("property file {0:?}: it cannot be read")]
+    #[error("{}", named(*self, *.0))]
     Load(Which),
     /// The file has to be that of Unicode 15.0, and is not.
-    #[error("property file {0:?}: it is not that of Unicode 15.0: {1:?}")]
+    #[error("{}", named(*self, *.0))]
     Claim(Which, ClaimCause),
     /// The property files were refused at their first fault, or at a line where their tables could not grow.
-    #[error("property file {:?}, line {}: {:?}", .0.file, .0.line, .0.cause)]
+    #[error("{}", named(*self, .0.file))]
     Tables(UcdFault),
     /// A growth of memory was refused.
     #[error("out of memory")]
     Memory,
+}
+
+/// A fault behind the name that its file has in the Unicode Character Database.
+fn named(fault: CellsFault, which: Which) -> NamedFault<&'static str> {
+    NamedFault {
+        fault,
+        name: file_name(which),
+    }
 }
 
 /// Why no engine runs.

@@ -1,0 +1,226 @@
+//! What a person reads where a run is refused.
+
+use super::ending::RunFault;
+use super::faults::CmdFault;
+use lbk_args::{DEFAULT_LIMIT, Engine, FileName, FileNames, Order};
+use lbk_feed::TEXT_MAX;
+use lbk_files::{CellsFault, NamedFault, file_name, name_in_database};
+use lbk_notation::ReplayFault;
+use lbk_passage::{LIMIT_MAX, PassageFault};
+use lbk_ucd::Which;
+use std::fmt;
+use std::io::ErrorKind;
+
+/// Who asked for a run: by this its files and devices are named.
+#[derive(Clone, Copy)]
+pub enum Caller<'a> {
+    /// A call of a library, over any files, reader and writer.
+    Call,
+    /// The program without words, which goes by the sample files.
+    NoWords,
+    /// The words of the program, which ask for this.
+    Words(Order<'a>),
+}
+
+/// A fault in one line that a person can act on and an editor can jump by.
+///
+/// Lines of files count from 1, bytes of the text from 0.
+#[derive(Clone, Copy)]
+pub struct Message<'a> {
+    pub fault: RunFault,
+    pub caller: Caller<'a>,
+    /// The system's reason, where a file or a device failed.
+    pub reason: Option<ErrorKind>,
+    /// Whether the text begins as UTF-16 does.
+    pub is_utf16: bool,
+}
+
+impl<'a> fmt::Display for Message<'a> {
+    fn fmt<W: fmt::Write>(&self, f: &mut fmt::Formatter<W>) -> fmt::Result {
+        match self.fault {
+            RunFault::Load(which) => {
+                let why = Why(self.reason);
+                let fault = self.named(CellsFault::Load(which), which);
+                write!(f, "{fault}{why}")
+            }
+            RunFault::Claim(which, cause) => {
+                write!(f, "{}", self.named(CellsFault::Claim(which, cause), which))
+            }
+            RunFault::Tables(fault) => {
+                write!(f, "{}", self.named(CellsFault::Tables(fault), fault.file))
+            }
+            RunFault::Cmd(CmdFault::Passage(fault)) => self.passage_fault(f, fault),
+            RunFault::Replay(ReplayFault::Read) => self.unread(f),
+            RunFault::Replay(ReplayFault::StreamTooLong) => self.too_long(f),
+            RunFault::Cmd(CmdFault::Write) | RunFault::Replay(ReplayFault::Write) => {
+                write!(f, "{} cannot be written{}", self.output(), Why(self.reason))
+            }
+            RunFault::Cmd(CmdFault::Memory)
+            | RunFault::Replay(ReplayFault::Memory)
+            | RunFault::Memory => write!(f, "out of memory"),
+        }
+    }
+}
+
+const UTF_16_HINT: &str = "; it begins as UTF-16 does: iconv -f UTF-16 -t UTF-8 makes UTF-8 of it";
+
+impl<'a> Message<'a> {
+    /// The message of a call of a library.
+    pub(crate) fn of_call(fault: RunFault) -> Message<'a> {
+        Message {
+            fault,
+            caller: Caller::Call,
+            reason: None,
+            is_utf16: false,
+        }
+    }
+
+    /// A fault of the files behind the name that the caller has for its file.
+    fn named(&self, fault: CellsFault, which: Which) -> NamedFault<Name<'a>> {
+        let name = match self.caller {
+            Caller::Call => Name::Plain(which),
+            Caller::NoWords => Name::Sample(which),
+            Caller::Words(order) => match name_in(order.files, which) {
+                FileName::Given(name) => Name::Given(name),
+                FileName::InFolder(folder) => Name::InFolder(folder, which),
+            },
+        };
+        NamedFault { fault, name }
+    }
+
+    fn input(&self) -> &'static str {
+        match self.caller {
+            Caller::Call => "the input",
+            Caller::NoWords | Caller::Words(_) => "standard input",
+        }
+    }
+
+    fn output(&self) -> &'static str {
+        match self.caller {
+            Caller::Call => "the output",
+            Caller::NoWords | Caller::Words(_) => "standard output",
+        }
+    }
+
+    fn unread<W: fmt::Write>(&self, f: &mut fmt::Formatter<W>) -> fmt::Result {
+        write!(f, "{} cannot be read{}", self.input(), Why(self.reason))
+    }
+
+    fn too_long<W: fmt::Write>(&self, f: &mut fmt::Formatter<W>) -> fmt::Result {
+        write!(f, "{} has more than {TEXT_MAX} bytes", self.input())
+    }
+
+    fn passage_fault<W: fmt::Write>(
+        &self,
+        f: &mut fmt::Formatter<W>,
+        fault: PassageFault,
+    ) -> fmt::Result {
+        let input = self.input();
+        match fault {
+            PassageFault::Limit => {
+                write!(f, "the limit of a paragraph is 1 to {LIMIT_MAX} bytes")
+            }
+            PassageFault::Memory => write!(f, "out of memory"),
+            PassageFault::Read => self.unread(f),
+            PassageFault::NotUtf8 { at } => {
+                let hint = if self.is_utf16 { UTF_16_HINT } else { "" };
+                write!(f, "{input}: byte {at}: invalid UTF-8{hint}")
+            }
+            PassageFault::TextTooLong => self.too_long(f),
+            PassageFault::ParagraphTooLong { start } => {
+                write!(
+                    f,
+                    "{input}: byte {start}: the paragraph from here on has more "
+                )?;
+                match self.limit() {
+                    Some(limit) => write!(
+                        f,
+                        "than {limit} bytes; --limit raises the limit, up to {LIMIT_MAX}"
+                    ),
+                    None => write!(f, "bytes than the limit"),
+                }
+            }
+            PassageFault::Spent => write!(f, "an earlier call was refused"),
+        }
+    }
+
+    /// The most bytes of a paragraph, where the caller is the program.
+    fn limit(&self) -> Option<u32> {
+        match self.caller {
+            Caller::Call => None,
+            Caller::NoWords => Some(DEFAULT_LIMIT),
+            Caller::Words(order) => match order.engine {
+                Engine::Mark { limit } | Engine::Show { limit } | Engine::Segment { limit } => Some(
+                    limit,
+                ),
+                Engine::Replay { .. } => None,
+            },
+        }
+    }
+}
+
+fn name_in<'a>(files: FileNames<'a>, which: Which) -> FileName<'a> {
+    match which {
+        Which::LineBreak => files.line_break,
+        Which::EastAsianWidth => files.east_asian,
+        Which::Category => files.category,
+        Which::Emoji => files.emoji,
+    }
+}
+
+/// The system's reason, behind a colon where it tells one.
+#[derive(Clone, Copy)]
+struct Why(Option<ErrorKind>);
+
+impl fmt::Display for Why {
+    fn fmt<W: fmt::Write>(&self, f: &mut fmt::Formatter<W>) -> fmt::Result {
+        match self.0 {
+            None | Some(ErrorKind::Other | ErrorKind::Uncategorized) => Ok(()),
+            Some(ErrorKind::NotFound) => write!(f, ": no such file"),
+            Some(kind) => write!(f, ": {kind}"),
+        }
+    }
+}
+
+/// The name of a property file.
+#[derive(Clone, Copy)]
+enum Name<'a> {
+    /// That of the Unicode Character Database.
+    Plain(Which),
+    /// That of a sample file.
+    Sample(Which),
+    /// As it stands in the words.
+    Given(&'a str),
+    /// That of a file in a folder.
+    InFolder(&'a str, Which),
+}
+
+impl<'a> fmt::Display for Name<'a> {
+    fn fmt<W: fmt::Write>(&self, f: &mut fmt::Formatter<W>) -> fmt::Result {
+        match *self {
+            Name::Plain(which) => f.write_str(file_name(which)),
+            Name::Sample(which) => write!(f, "sample {}", file_name(which)),
+            Name::Given(name) => write!(f, "{}", OneLine(name)),
+            Name::InFolder(folder, which) => {
+                write!(f, "{}/{}", OneLine(folder), name_in_database(which))
+            }
+        }
+    }
+}
+
+/// A name in one line: a control character, as a line end, is written as `\u` and its code in braces.
+#[derive(Clone, Copy)]
+struct OneLine<'a>(&'a str);
+
+impl<'a> fmt::Display for OneLine<'a> {
+    fn fmt<W: fmt::Write>(&self, f: &mut fmt::Formatter<W>) -> fmt::Result {
+        for c in self.0.chars() {
+            if c.is_control() {
+                write!(f, "\\u{{{:x}}}", u32::from(c))?;
+            } else {
+                f.write_char(c)?;
+            }
+        }
+        Ok(())
+    }
+}
