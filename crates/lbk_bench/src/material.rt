@@ -4,7 +4,7 @@ use anyhow::{Context, Result, bail};
 use lbk_cmd::show;
 use lbk_feed::devices::{MemorySink, MemorySource};
 use lbk_passage::{LIMIT_MAX, Segmenter};
-use lbk_rules::{CellPages, Profile};
+use lbk_rules::{CellPages, CellSource, Profile};
 use lbk_ucd::{Files, Tables};
 use std::alloc::Global;
 use std::fs;
@@ -75,6 +75,10 @@ impl Material {
             bail!("a property file is refused");
         };
         let cells = CellPages::build(alloc, &tables)?;
+        // Without it each layer would give the same answers, and be slow.
+        if cells.step_table().is_none() {
+            bail!("the property files have no table of steps");
+        }
         let mut text = fs::read_to_string(rt, names.text).context("reading the text")?;
         let end = text.floor_char_boundary(TEXT_MOST);
         text.truncate(end);
