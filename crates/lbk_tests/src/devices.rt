@@ -152,6 +152,30 @@ fn readers_of_std(rt: HostRuntime) {
     check_reads(&rt, &mut device, &[Ok(""), Ok("")], 3, true);
 }
 
+// A device asks for as many bytes as there is room, and hands on as many as it is given.
+#[test]
+fn blocks_of_readers(rt: HostRuntime) {
+    let bytes = [b'a'; 5000];
+    let mut device = Device::new(bytes.as_slice());
+    let mut block = [0; 4096];
+    same(&rt, device.read(&mut block), Ok(4096), "a whole block");
+    same(&rt, device.read(&mut block), Ok(904), "the rest");
+}
+
+// It hands on all bytes at once, too.
+#[test]
+fn blocks_of_writers(rt: HostRuntime) {
+    let mut room = [0; 5000];
+    let mut device = Device::new(room.as_mut_slice());
+    same(&rt, device.write(&[b'a'; 4096]), Ok(4096), "a whole block");
+    same(
+        &rt,
+        device.write(&[b'a'; 4096]),
+        Ok(904),
+        "what there is room for",
+    );
+}
+
 /// Writes, and compares the answer.
 fn check_write<W: Sink>(rt: &impl Abort, sink: &mut W, text: &str, want: Result<usize, Failed>) {
     same(rt, sink.write(text.as_bytes()), want, text);
