@@ -8,6 +8,8 @@ mod command_rows;
 #[cfg(test)]
 mod commands;
 #[cfg(test)]
+mod faults_told;
+#[cfg(test)]
 mod folder;
 #[cfg(test)]
 mod guide;
