@@ -1,10 +1,11 @@
 //! The worked texts and test files through the program's words, in both profiles, and what refuses them.
 
-use crate::commands::{ROOM, check, check_fault, ended, same, words};
+use crate::commands::{ROOM, check, check_fault, ended, same};
 use lbk_cmd::{CmdFault, RunFault};
 use lbk_feed::devices::MemorySource;
 use lbk_notation::ReplayFault;
 use lbk_passage::PassageFault;
+use lbk_tests_rows::property_files::words_with;
 use lbk_tests_rows::replayed::{FOUR_LINES, QUOTED, Row};
 use lbk_tests_rows::{replayed, segment_lines, shown};
 use std::alloc::Global;
@@ -31,7 +32,7 @@ fn check_texts(
     options: &[&'static str],
     rows: &[(&str, &str)],
 ) -> Result<(), Fail> {
-    check_rows(rt, alloc, &words(alloc, engine, options)?, rows)
+    check_rows(rt, alloc, &words_with(alloc, engine, options)?, rows)
 }
 
 /// Rows of both profiles, of the first and of the second.
@@ -71,7 +72,7 @@ fn check_files(
     options: &[&'static str],
     rows: &[Row],
 ) -> Result<(), Fail> {
-    let words = words(alloc, "replay", options)?;
+    let words = words_with(alloc, "replay", options)?;
     for (file, text, counts) in rows {
         let [_, _, differed, refused] = *counts;
         let status = if differed == 0 && refused == 0 { 0 } else { 3 };
@@ -182,7 +183,7 @@ fn check_refused(
 /// In reads of one, two and all bytes.
 fn check_refused_text(rt: &impl Abort, alloc: Global, row: &Refused) -> Result<(), Fail> {
     let (engine, options, text, lines, fault) = *row;
-    let words = words(alloc, engine, options)?;
+    let words = words_with(alloc, engine, options)?;
     let fault = RunFault::Cmd(CmdFault::Passage(fault));
     let want = (lines.as_bytes(), fault);
     for sizes in [[1].as_slice(), &[2], &[]] {
@@ -203,7 +204,7 @@ fn refused_texts(rt: HostRuntime) -> Result<(), Fail> {
 /// The words of an engine, or none.
 fn words_of(alloc: Global, engine: Option<&'static str>) -> Result<Vec<&'static str>, Fail> {
     match engine {
-        Some(engine) => words(alloc, engine, &[]),
+        Some(engine) => Ok(words_with(alloc, engine, &[])?),
         None => Ok(Vec::new(alloc)),
     }
 }

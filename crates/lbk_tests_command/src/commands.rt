@@ -1,9 +1,11 @@
 //! The program's runs by their words, over files, readers and writers in memory.
 
-use lbk_cmd::{CmdFault, Ending, MemoryStore, RunFault, SAMPLE_FILES, Store, run};
+use lbk_args::DEFAULT_LIMIT;
+use lbk_cmd::{CmdFault, Ending, MemoryStore, RunFault, Store, run};
 use lbk_feed::devices::{MemorySink, MemorySource};
 use lbk_notation::Report;
-use lbk_passage::PassageFault;
+use lbk_passage::{LIMIT_MAX, PassageFault};
+use lbk_tests_rows::property_files::{NAMED_SAMPLES, words_with};
 use lbk_ucd::{UcdCause, UcdFault, Which};
 use std::alloc::{AllocError, Global};
 use std::fmt::Debug;
@@ -15,28 +17,6 @@ pub const ROOM: usize = 65_536;
 
 const BAD_ROW: &[u8] = b"0061;AK\n";
 
-/// The words of the four files, with `more` behind them.
-pub fn words(
-    alloc: Global,
-    engine: &'static str,
-    more: &[&'static str],
-) -> Result<Vec<&'static str>, Fail> {
-    let mut words = Vec::new(alloc);
-    words.extend_from_slice(&[
-        engine,
-        "--line-break",
-        "L",
-        "--east-asian",
-        "E",
-        "--category",
-        "C",
-        "--emoji",
-        "M",
-    ])?;
-    words.extend_from_slice(more)?;
-    Ok(words)
-}
-
 /// How a run ends over the sample files and one bad file `B`, and how often it loaded a file. It promises nothing, so that the tests see nothing of what
 /// `run` promises.
 fn ended_into(
@@ -45,13 +25,8 @@ fn ended_into(
     reader: &mut MemorySource<'_>,
     writer: &mut MemorySink,
 ) -> (Ending, u64) {
-    let files = [
-        ("L", SAMPLE_FILES.line_break),
-        ("E", SAMPLE_FILES.east_asian),
-        ("C", SAMPLE_FILES.category),
-        ("M", SAMPLE_FILES.emoji),
-        ("B", BAD_ROW),
-    ];
+    let [line_break, east_asian, category, emoji] = NAMED_SAMPLES;
+    let files = [line_break, east_asian, category, emoji, ("B", BAD_ROW)];
     let mut store = MemoryStore::new(files.as_slice());
     let ending = run(alloc, words, &mut store, reader, writer);
     (ending, store.loads())
@@ -100,7 +75,7 @@ pub fn check_engine(
     text: &str,
     status: u8,
 ) -> Result<Ending, Fail> {
-    let words = words(alloc, engine, options)?;
+    let words = words_with(alloc, engine, options)?;
     check(rt, alloc, &words, input, text, status)
 }
 
@@ -293,7 +268,7 @@ fn check_wrong(
     engine: &'static str,
     more: &[&'static str],
 ) -> Result<(), Fail> {
-    check_usage(rt, alloc, &words(alloc, engine, more)?)
+    check_usage(rt, alloc, &words_with(alloc, engine, more)?)
 }
 
 fn check_all_wrong(rt: &impl Abort, alloc: Global) -> Result<(), Fail> {
@@ -310,6 +285,25 @@ fn help_and_usage(rt: HostRuntime) -> Result<(), Fail> {
     for wrong in &WRONG_ALONE {
         check_usage(&rt, rt.alloc(), wrong)?;
     }
+    Ok(())
+}
+
+/// Whether a help says this.
+fn helps_with(ending: &Ending, told: &str) -> bool {
+    match ending {
+        Ending::Help { text } => text.contains(told),
+        _ => false,
+    }
+}
+
+// The help has the limits as literals.
+#[test]
+fn told_limits(rt: HostRuntime) -> Result<(), Fail> {
+    let ending = check(&rt, rt.alloc(), &["show", "--help"], "ab", "", 0)?;
+    let range = format!(in rt.alloc(); "1 to {LIMIT_MAX}")?;
+    assert!(&rt; helps_with(&ending, range.as_str()), "{ending:?}");
+    let default = format!(in rt.alloc(); "[default: {DEFAULT_LIMIT}]")?;
+    assert!(&rt; helps_with(&ending, default.as_str()), "{ending:?}");
     Ok(())
 }
 
@@ -335,7 +329,7 @@ fn without(
 
 /// Leaves out each of the four files.
 fn check_left_out(rt: &impl Abort, alloc: Global, engine: &'static str) -> Result<(), Fail> {
-    let all = words(alloc, engine, &[])?;
+    let all = words_with(alloc, engine, &[])?;
     for option in ["--line-break", "--east-asian", "--category", "--emoji"] {
         let fewer = without(alloc, &all, option)?;
         assert_eq!(rt; fewer.len(), 7);
@@ -371,8 +365,13 @@ fn counted_loads(rt: HostRuntime) -> Result<(), Fail> {
     let alloc = rt.alloc();
     check_loads(&rt, alloc, &[], 0)?;
     check_loads(&rt, alloc, &["show", "--help"], 0)?;
-    check_loads(&rt, alloc, &words(alloc, "show", &["--limit", "0"])?, 0)?;
+    check_loads(
+        &rt,
+        alloc,
+        &words_with(alloc, "show", &["--limit", "0"])?,
+        0,
+    )?;
     check_loads(&rt, alloc, &MISSING, 2)?;
     check_loads(&rt, alloc, &BAD, 4)?;
-    check_loads(&rt, alloc, &words(alloc, "replay", &[])?, 4)
+    check_loads(&rt, alloc, &words_with(alloc, "replay", &[])?, 4)
 }
