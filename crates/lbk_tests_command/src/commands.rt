@@ -1,11 +1,11 @@
 //! The program's runs by their words, over files, readers and writers in memory.
 
 use lbk_args::DEFAULT_LIMIT;
-use lbk_cmd::{CmdFault, Ending, MemoryStore, RunFault, Store, run};
+use lbk_cmd::{CmdFault, Ending, MemoryStore, RunFault, SAMPLE_FILES, Store, run};
 use lbk_feed::devices::{MemorySink, MemorySource};
 use lbk_notation::Report;
 use lbk_passage::{LIMIT_MAX, PassageFault};
-use lbk_tests_rows::property_files::{NAMED_SAMPLES, words_with};
+use lbk_tests_rows::property_files::words_with;
 use lbk_ucd::{UcdCause, UcdFault, Which};
 use std::alloc::{AllocError, Global};
 use std::fmt::Debug;
@@ -25,8 +25,13 @@ fn ended_into(
     reader: &mut MemorySource<'_>,
     writer: &mut MemorySink,
 ) -> (Ending, u64) {
-    let [line_break, east_asian, category, emoji] = NAMED_SAMPLES;
-    let files = [line_break, east_asian, category, emoji, ("B", BAD_ROW)];
+    let files = [
+        ("L", SAMPLE_FILES.line_break),
+        ("E", SAMPLE_FILES.east_asian),
+        ("C", SAMPLE_FILES.category),
+        ("M", SAMPLE_FILES.emoji),
+        ("B", BAD_ROW),
+    ];
     let mut store = MemoryStore::new(files.as_slice());
     let ending = run(alloc, words, &mut store, reader, writer);
     (ending, store.loads())
