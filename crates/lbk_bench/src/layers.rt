@@ -274,7 +274,14 @@ fn passages(alloc: Global, cells: &CellPages, text: &str) -> Result<u64> {
 fn shown(alloc: Global, cells: &CellPages, text: &str) -> Result<u64> {
     let mut source = MemorySource::new(text.as_bytes());
     let mut sink = Dropped;
-    match show(alloc, &mut source, &mut sink, cells, LIMIT_MAX, Profile::First) {
+    match show(
+        alloc,
+        &mut source,
+        &mut sink,
+        cells,
+        LIMIT_MAX,
+        Profile::First,
+    ) {
         Ok(()) => Ok(0),
         Err(_) => bail!("the text cannot be shown"),
     }
@@ -283,7 +290,14 @@ fn shown(alloc: Global, cells: &CellPages, text: &str) -> Result<u64> {
 fn segmented(alloc: Global, cells: &CellPages, text: &str) -> Result<u64> {
     let mut source = MemorySource::new(text.as_bytes());
     let mut sink = Dropped;
-    match segment(alloc, &mut source, &mut sink, cells, LIMIT_MAX, Profile::First) {
+    match segment(
+        alloc,
+        &mut source,
+        &mut sink,
+        cells,
+        LIMIT_MAX,
+        Profile::First,
+    ) {
         Ok(()) => Ok(0),
         Err(_) => bail!("the text cannot be cut"),
     }

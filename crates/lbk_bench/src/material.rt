@@ -119,7 +119,16 @@ fn passages_of(alloc: Global, cells: &CellPages, text: &str) -> Result<Vec<(usiz
 fn shown_of(alloc: Global, cells: &CellPages, text: &str) -> Result<Vec<u8>> {
     let mut source = MemorySource::new(text.as_bytes());
     let mut sink = MemorySink::new(alloc, SHOWN_MOST)?;
-    if show(alloc, &mut source, &mut sink, cells, LIMIT_MAX, Profile::First).is_err() {
+    if show(
+        alloc,
+        &mut source,
+        &mut sink,
+        cells,
+        LIMIT_MAX,
+        Profile::First,
+    )
+    .is_err()
+    {
         bail!("the text cannot be shown");
     }
     let mut shown = Vec::new(alloc);
