@@ -135,8 +135,8 @@ enum {
     LBK_CAUSE_OVERLAP = 6,       /* the row shares a code with an earlier row of the file */
     LBK_CAUSE_TOO_MANY_ROWS = 7, /* the line would be the 65,537th row or default of the file */
     LBK_CAUSE_OUT_OF_MEMORY = 8, /* the heap refused memory, at this line, or when all files were read (file and line are 0) */
-    LBK_CAUSE_TABLE_TOO_LARGE = 9 /* the rules need more steps than a table has. Those of this version do not, whatever the files;
-                                     that is tested and not proved. File and line are 0 */
+    LBK_CAUSE_TABLE_TOO_LARGE = 9 /* the rules need more steps than a table has, and it is proved that the cause comes only so. Those of
+                                     this version do not, whatever the files; that is tested and not proved. File and line are 0 */
 };
 
 /* One step of a table: numbers of the library's own. */

@@ -10,6 +10,7 @@ use Rattle.lbk_ucd.specs.declared.values.Which.TheVariants.{LineBreak, EastAsian
 use Rattle.lbk_ucd.specs.Files.{AreLawful, IsRefused}
 use Rattle.lbk_rules.specs.declared.flat_table.TableError.{TableError}
 use Rattle.lbk_rules.specs.declared.flat_table.TableError.TheVariants as refused
+use Rattle.lbk_rules.specs.EnoughRows.{HasReason}
 use Rattle.lbk_c.specs.declared.interface.Fault.{Fault}
 
 -- the number of a property file
@@ -55,4 +56,4 @@ files_of line_break east_asian category emoji = record {
 abbrev pub IsFaultOf : Files → Fault → Type 0
 IsFaultOf files fault =
     ((found : UcdFault) × IsRefused files found × (fault ≡ given_fault found))
-    ⊎ (AreLawful files × ((error : TableError) × (fault ≡ unmade_fault error)))
+    ⊎ (AreLawful files × ((error : TableError) × HasReason error × (fault ≡ unmade_fault error)))

@@ -17,7 +17,7 @@ use std::alloc::Global;
 /// emoji-data.txt (UAX #44, section 4.2), and answers zeros; or the first fault of the first file that has one.
 ///
 /// Cause 8 comes where a growth of memory was refused: at a line of a file, or at none while the table was made. Cause 9
-/// comes where the rules need more rows than a table has room for. After a fault the table is as it was.
+/// comes only where the rules need more rows than a table has room for. After a fault the table is as it was.
 #[unsafe(no_mangle)]
 pub extern "C" fn lbk_read(
     alloc: Global,

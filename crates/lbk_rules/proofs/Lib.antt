@@ -17,6 +17,7 @@ pub mod EndLemmas
 pub mod StepLemmas
 pub mod LeftLemmas
 pub mod RowsLemmas
+pub mod EnoughRowsLemmas
 pub mod NormalLemmas
 pub mod RowMachineLemmas
 pub mod HoldsLemmas

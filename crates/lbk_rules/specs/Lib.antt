@@ -20,6 +20,7 @@ pub mod Answers
 pub mod CellPages
 pub mod Chain
 pub mod Codes
+pub mod EnoughRows
 pub mod Facts
 pub mod Fits
 pub mod FlatTable

@@ -1,7 +1,9 @@
 //! The table of steps as plain numbers in one block, which a caller may keep where it likes.
 
-ghost use Rattle.std.specs.Prelude.{◌≡◌, ◌+◌, ◌*◌, ◌^◌, ℕ, ◌↔◌, IsTrue, IfOk, OnErr, fold, slice_index};
+ghost use Rattle.std.specs.Prelude.{◌≡◌, ◌+◌, ◌*◌, ◌^◌, ℕ, ◌↔◌, IsTrue, IfErr, IfOk, OnErr, fold, slice_index};
 ghost use Rattle.lbk_rules.specs.declared.cells.Cell.{Cell};
+ghost use Rattle.lbk_rules.specs.declared.flat_table.TableError.TheVariants.{Memory};
+ghost use Rattle.lbk_rules.specs.EnoughRows.{HasReason};
 ghost use Rattle.lbk_rules.specs.FlatTable.{AreFlatKinds, IsFlatOf, IsWhole, digest_of, digest_with, digest_with_step};
 ghost use Rattle.lbk_rules.specs.Normal.{normal};
 ghost use Rattle.lbk_rules.specs.Resolve.{cell_of_tables};
@@ -63,11 +65,13 @@ pub struct FlatTable {
 pub enum TableError {
     /// Memory was refused.
     Memory,
-    /// There are more rows than places can name. The rules of this version have fewer.
+    /// There are more rows than places can name. It comes only then, and the rules of this version have fewer.
     TooManyRows,
 }
 
 impl From<AllocError> for TableError {
+    ghost from_gives = { λ _ error. error ≡ Memory };
+
     fn from(_error: AllocError) -> TableError {
         TableError::Memory
     }
@@ -80,6 +84,7 @@ impl FlatTable {
         ensures table { IfOk result (λ _. IsFlatOf self.new (cell_of_tables tables.now)) }
         ensures whole { IfOk result (λ _. IsWhole self.new) }
         ensures untouched { OnErr result (self.new ≡ self.old) }
+        ensures refused { IfErr result HasReason }
     {
         self.fill_over(alloc, tables)
     }
@@ -89,6 +94,7 @@ impl FlatTable {
         ensures table { IfOk result (λ _. IsFlatOf self.new (C.cell_at source.now)) }
         ensures whole { IfOk result (λ _. IsWhole self.new) }
         ensures untouched { OnErr result (self.new ≡ self.old) }
+        ensures refused { IfErr result HasReason }
     {
         let kinds = KindTable::build(alloc, source)?;
         let Some(rows) = Rows::build(alloc)? else {

@@ -1,9 +1,10 @@
 //! The cells of all scalar values, in pages of 256 that are kept once where they are equal.
 
-ghost use Rattle.std.specs.Prelude.{◌≡◌, ℕ, ◌+◌, ◌*◌, ◌<◌, ◌≤◌, length, slice_index, Some, IfOk};
+ghost use Rattle.std.specs.Prelude.{◌≡◌, ℕ, ◌+◌, ◌*◌, ◌<◌, ◌≤◌, length, slice_index, None, Some, IfNone, IfOk, IfSome};
 ghost use Rattle.std.specs.Char.{IsScalar};
 ghost use Rattle.lbk_rules.specs.Pages.{AreDistinct, AreSame, IsPageOf, cell_in};
 ghost use Rattle.lbk_rules.specs.declared.step_table.StepTable.{StepTable};
+ghost use Rattle.lbk_rules.specs.EnoughRows.{RowsSuffice};
 ghost use Rattle.lbk_rules.specs.Normal.{normal};
 ghost use Rattle.lbk_rules.specs.RowMachineFits.{normal_in};
 
@@ -37,6 +38,7 @@ pub struct CellPages {
     ghost complete: { length numbers.items ≡ 4352 },
     ghost numbered: { (k : ℕ) → k < 4352 → slice_index numbers.items k < length pages.items },
     ghost distinct: { AreDistinct pages.items },
+    ghost given: { table ≡ None → ¬ RowsSuffice },
     ghost same: { (t : StepTable) (code : ℕ) → table ≡ Some t → IsScalar code
         → normal_in t code ≡ normal (cell_in numbers.items pages.items code) },
 }
@@ -85,6 +87,7 @@ impl CellPages {
 
 impl CellSource for CellPages {
     ghost use Rattle.lbk_rules.specs.CellPages.{page_cell};
+    ghost use Rattle.lbk_rules.specs.RowMachineFits.{IsTableOf};
 
     ghost cell_of = { page_cell };
 
@@ -96,7 +99,10 @@ impl CellSource for CellPages {
     }
 
     #[tactic(auto, unfolding(crate::specs::CellPages::page_cell, crate::specs::RowFits::AreKindsOf, crate::specs::RowMachineFits::IsTableOf, crate::specs::RowMachineFits::normal_in))]
-    fn step_table(&self) -> Option<&StepTable> {
+    fn step_table(&self) -> Option<&StepTable>
+        ensures over { IfSome result (λ table. IsTableOf table.now (page_cell self.now)) }
+        ensures none { IfNone result (¬ RowsSuffice) }
+    {
         match &self.table {
             Some(table) => Some(table),
             None => None,

@@ -1,12 +1,13 @@
 //! The rows of the table of steps, in both profiles.
 
-ghost use Rattle.std.specs.Prelude.{◌≡◌, ◌*◌, ◌<◌, ◌≤◌, ◌+◌, max, true, List, [], ◌∷◌, length, slice_index_or, IfOk, IfSome};
+ghost use Rattle.std.specs.Prelude.{◌≡◌, ◌≢◌, ◌*◌, ◌<◌, ◌≤◌, ◌+◌, max, true, List, [], ◌∷◌, length, slice_index_or, All, IfNone, IfOk, MatchOption};
 ghost use Rattle.lbk_rules.specs.declared.flat_table.TheConstants.{STEPS};
 ghost use Rattle.lbk_rules.specs.declared.rows.TheConstants.{MOST_ROWS};
 ghost use Rattle.lbk_rules.specs.declared.verdicts.Profile.TheVariants.{First, Second};
 ghost use Rattle.lbk_rules.specs.Chain.{from_cells};
 ghost use Rattle.lbk_rules.specs.Classes.{hard};
 ghost use Rattle.lbk_rules.specs.Codes.{IsCode, verdict_coded};
+ghost use Rattle.lbk_rules.specs.EnoughRows.{AreDifferent, IsKnown, RowsSuffice};
 ghost use Rattle.lbk_rules.specs.Facts.{facts};
 ghost use Rattle.lbk_rules.specs.FlatTable.{AreFlatSteps, steps_in};
 ghost use Rattle.lbk_rules.specs.Held.{is_15b};
@@ -51,7 +52,9 @@ impl Rows {
 
     /// The rows that the rules need. None comes where there are more than a place can name, an error where memory was
     /// refused.
-    pub(crate) fn build(alloc: Global) -> Result<Option<Rows>, AllocError> {
+    pub(crate) fn build(alloc: Global) -> Result<Option<Rows>, AllocError>
+        ensures { IfOk result (λ built. IfNone built (¬ RowsSuffice)) }
+    {
         let mut lefts = Vec::new(alloc);
         let mut first = Vec::with_capacity(alloc, STEPS)?;
         let mut second = Vec::with_capacity(alloc, STEPS)?;
@@ -163,6 +166,8 @@ fn row_of(lefts: &mut Vec<Left>, left: Left, hint: usize) -> Result<usize, Alloc
     ensures row { IfOk result (λ row. (row < length lefts.new.items)
         × (slice_index_or lefts.new.items row (facts []) ≡ left)) }
     ensures few { IfOk result (λ row. length lefts.new.items ≤ max (row + 1) (length lefts.old.items)) }
+    ensures known { All IsKnown lefts.old.items → IsKnown left → IfOk result (λ _. All IsKnown lefts.new.items) }
+    ensures different { AreDifferent lefts.old.items → IfOk result (λ _. AreDifferent lefts.new.items) }
 {
     if let Some(row) = find(lefts, left, hint) {
         return Ok(row);
@@ -174,7 +179,7 @@ fn row_of(lefts: &mut Vec<Left>, left: Left, hint: usize) -> Result<usize, Alloc
 
 /// The row that knows this, if there is one.
 fn find(lefts: &[Left], left: Left, hint: usize) -> Option<usize>
-    ensures { IfSome result (λ row. (row < length lefts.now)
+    ensures { MatchOption result (All (λ known. known ≢ left) lefts.now) (λ row. (row < length lefts.now)
         × (slice_index_or lefts.now row (facts []) ≡ left)) }
 {
     if hint < lefts.len() && lefts[hint] == left {

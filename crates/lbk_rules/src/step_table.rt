@@ -1,6 +1,7 @@
 //! The table of steps, and the machine that steps by it.
 
 ghost use Rattle.std.specs.Prelude.{◌≡◌, ◌+◌, ◌<◌, ℕ, List, [], ◌∷◌, ◌++◌, length, map, reverse, slice_index_or, true, false, IfNone, IfOk, IfSome};
+ghost use Rattle.lbk_rules.specs.EnoughRows.{RowsSuffice};
 ghost use Rattle.lbk_rules.specs.FlatTable.{no_flat_step, steps_in};
 ghost use Rattle.lbk_rules.specs.RowFits.{IsRowOf};
 
@@ -51,7 +52,8 @@ impl StepTable {
         alloc: Global,
         source: &C,
     ) -> Result<Option<StepTable>, AllocError>
-        ensures { IfOk result (λ built. IfSome built (λ table. IsTableOf table (C.cell_at source.now))) }
+        ensures table { IfOk result (λ built. IfSome built (λ table. IsTableOf table (C.cell_at source.now))) }
+        ensures none { IfOk result (λ built. IfNone built (¬ RowsSuffice)) }
     {
         let kinds = KindTable::build(alloc, source)?;
         let Some(rows) = Rows::build(alloc)? else {

@@ -56,7 +56,7 @@ invariant_of-result-clause-same g c =
     rw c.into_pages.ensures.kept
     (cell_in-filled cell_of numbers c.loop-k.kept.pages.items c.loop-k.k (omega arith) c.loop-k.invariant.filled code scalar) in
     λ table code is scalar.
-    let built : IfSome (Some table) (λ t. IsTableOf t cell_of) = subst (λ o. IfSome o (λ t. IsTableOf t cell_of)) is c.in_ok-table.ensures in
+    let built : IfSome (Some table) (λ t. IsTableOf t cell_of) = subst (λ o. IfSome o (λ t. IsTableOf t cell_of)) is c.in_ok-table.ensures.table in
     built code scalar ∙ ap normal (sym (filled code scalar))
 
 pub returns : goal.returns

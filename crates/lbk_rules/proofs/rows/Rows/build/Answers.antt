@@ -4,6 +4,7 @@ use Rattle.lbk_rules.specs.declared.flat_table.FlatStep.{FlatStep}
 use Rattle.lbk_rules.specs.declared.kinds.TheConstants.{KINDS}
 use Rattle.lbk_rules.specs.FlatTable.{AreFlatStepsTo, no_flat_step}
 use Rattle.lbk_rules.specs.Kinds.{kind_cell}
+use Rattle.lbk_rules.proofs.EnoughRowsLemmas.{known-next}
 use Rattle.lbk_rules.proofs.RowsLemmas.{AreFlatSteps-made, AreFlatSteps-padded, alike-push}
 use Rattle.lbk_rules.proofs.rows.Rows.build.Goals as goal
 
@@ -49,6 +50,10 @@ places-preserved c =
           subst (λ s. AreFlatStepsTo (length c.push-in-places.new.self.items) after c.push-in-places.new.self.items s) (sym pushed_2) in_first;
       within = rw (pushed, length_push) (omega arith);
       few = omega arith;
+      known = c.in_ok-row.ensures.known inv.known
+          (known-next before left c.then-then.result cell (c.len-in-places-2.result / KINDS) (c.len-in-places-3.result % KINDS)
+          inv.known (omega arith) c.index-left.ensures (omega arith) c.cell_of_kind-cell.ensures c.then-then.ensures);
+      different = c.in_ok-row.ensures.different inv.different;
     }
 
 pub invariant_of-result-clause-decided : goal.invariant_of-result-clause-decided
@@ -63,3 +68,14 @@ invariant_of-result-clause-decided c =
     AreFlatSteps-padded lefts first second c.resize.new.self.items c.resize-2.new.self.items (length first) whole inv.decided
     (λ k below. c.in_ok-resize.ensures.by_index.0 k no_flat_step (omega arith) (omega arith))
     (λ k below. c.in_ok-resize-2.ensures.by_index.0 k no_flat_step (omega arith) (omega arith))
+
+pub returns-then-row-ge-MOST_ROWS : goal.returns-then-row-ge-MOST_ROWS
+returns-then-row-ge-MOST_ROWS c = λ suffice.
+    let inv = c.places.invariant in
+    let found = c.in_ok-row.ensures.row in
+    let all = c.in_ok-row.ensures.known inv.known
+    (known-next c.places.lefts.items c.index-left.result.now c.then-then.result c.cell_of_kind-cell.result
+    (c.len-in-places-2.result / KINDS) (c.len-in-places-3.result % KINDS)
+    inv.known (omega arith) c.index-left.ensures (omega arith) c.cell_of_kind-cell.ensures c.then-then.ensures) in
+    let few = suffice c.row_of.new.lefts.items all (c.in_ok-row.ensures.different inv.different) in
+    absurd (omega (arith, found.0))

@@ -1,6 +1,8 @@
 use Rattle.std.proofs.Common.{◌≡◌, ◌*◌, ◌-◌, ◌≤◌, [], length}
+use Rattle.std.specs.Prelude.{All}
 use Rattle.lbk_rules.specs.declared.kinds.TheConstants.{KINDS}
 use Rattle.lbk_rules.specs.declared.rows.TheConstants.{MOST_ROWS}
+use Rattle.lbk_rules.specs.EnoughRows.{AreDifferent, IsKnown}
 use Rattle.lbk_rules.specs.Facts.{facts}
 use Rattle.lbk_rules.specs.FlatTable.{AreFlatStepsTo}
 use Rattle.lbk_rules.specs.Steps.{IsStart, left_at}
@@ -14,6 +16,8 @@ invariant-places l = record {
   decided : AreFlatStepsTo (length l.first.items) l.lefts.items l.first.items l.second.items;
   within : length l.first.items ≤ KINDS * length l.lefts.items;
   few : length l.lefts.items ≤ MOST_ROWS;
+  known : All IsKnown l.lefts.items;
+  different : AreDifferent l.lefts.items;
 }
 
 abbrev pub decreases-places : goal.decreases-places
