@@ -26,8 +26,8 @@ const END: u16 = 256 + 2;
 /// as many as the block holds, or all that are left. The text may be any bytes: each longest piece that begins no scalar is
 /// read as U+FFFD (Unicode Standard, section 3.9).
 ///
-/// Where the state is past the text or at its end, or names no profile, it stays and no break comes. What stands in the
-/// block behind the breaks is of no account.
+/// Where the block has no room, or the state is past the text or at its end, or names no profile, the state stays and no break
+/// comes. What stands in the block behind the breaks is of no account.
 #[unsafe(no_mangle)]
 pub extern "C" fn lbk_breaks(
     table: &FlatTable,
@@ -50,6 +50,7 @@ pub extern "C" fn lbk_breaks(
     ensures ended { 0 < state.old.ended → (result ≡ 0) × (state.new ≡ state.old) }
     ensures past { length text.now < state.old.at → (result ≡ 0) × (state.new ≡ state.old) }
     ensures unknown { 1 < state.old.profile → (result ≡ 0) × (state.new ≡ state.old) }
+    ensures no_room { length out.old ≡ 0 → (result ≡ 0) × (state.new ≡ state.old) }
 {
     let Some(profile) = going_profile(state, text.len()) else {
         return 0;
@@ -86,6 +87,7 @@ fn go_on(
     ensures goes { (cell : ℕ → Cell) (lefts : List Left) (to_come : List Break) → IsFlatBy lefts table.now cell
         → Reached profile cell lefts text.now to_come (from_state state.old) []
         → Goes profile cell lefts text.now to_come state.new (given_in out.new result) result (length out.old) }
+    ensures no_room { length out.old ≡ 0 → (result ≡ 0) × (state.new ≡ state.old) }
 {
     let start = Progress {
         count: 0,

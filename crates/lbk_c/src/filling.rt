@@ -31,6 +31,7 @@ pub(crate) fn fill(
     requires { (start.count ≤ length out.old) × (start.row < 65536) × (start.at ≤ length text.now) }
     ensures within { (result.count ≤ length out.old) × (result.row < 65536) × (result.at ≤ length text.now) }
     ensures stops { result.count < length out.old → result.at ≡ length text.now }
+    ensures no_room { length out.old ≡ 0 → result ≡ start }
     ensures reached { (cell : ℕ → Cell) (lefts : List Left) (all : List Break) → IsFlatBy lefts table.now cell
         → Reached profile cell lefts text.now all start (given_in out.old start.count)
         → Reached profile cell lefts text.now all result (given_in out.new result.count) }
@@ -57,6 +58,7 @@ fn quick(
     requires { (start.count ≤ length out.old) × (start.row < 65536) × (start.at ≤ length text.now) }
     ensures within { (result.count ≤ length out.old) × (result.row < 65536) × (result.at ≤ length text.now) }
     ensures onward { start.at ≤ result.at }
+    ensures no_room { length out.old ≡ 0 → result ≡ start }
     ensures reached { (profile : Profile) (cell : ℕ → Cell) (lefts : List Left) (all : List Break) → AreSwift profile lefts steps.now → AreFlatKinds kinds.now cell
         → Reached profile cell lefts text.now all start (given_in out.old start.count)
         → Reached profile cell lefts text.now all result (given_in out.new result.count) }
@@ -82,6 +84,7 @@ fn runs(
     requires { (start.count ≤ length out.old) × (start.row < 65536) × (start.at ≤ length text.now) }
     ensures within { (result.count ≤ length out.old) × (result.row < 65536) × (result.at ≤ length text.now) }
     ensures onward { start.at ≤ result.at }
+    ensures no_room { length out.old ≡ 0 → result ≡ start }
     ensures reached { (profile : Profile) (cell : ℕ → Cell) (lefts : List Left) (all : List Break) → AreSwift profile lefts steps.now → AreFlatKinds kinds.now cell
         → Reached profile cell lefts text.now all start (given_in out.old start.count)
         → Reached profile cell lefts text.now all result (given_in out.new result.count) }
@@ -105,6 +108,7 @@ fn run(
     requires { (start.count ≤ length out.old) × (start.row < 65536) × (start.at ≤ length text.now) }
     ensures within { (result.count ≤ length out.old) × (result.row < 65536) × (result.at ≤ length text.now) }
     ensures onward { start.at ≤ result.at }
+    ensures no_room { length out.old ≡ 0 → result ≡ start }
     ensures reached { (profile : Profile) (cell : ℕ → Cell) (lefts : List Left) (all : List Break) → AreSwift profile lefts steps.now → AreFlatKinds kinds.now cell
         → Reached profile cell lefts text.now all start (given_in out.old start.count)
         → Reached profile cell lefts text.now all result (given_in out.new result.count) }

@@ -11,6 +11,7 @@ loop-here-init c =
       room = omega (arith, within.0);
       row = within.1;
       within = within.2;
+      no_room = λ none. quick.ensures.no_room (omega arith);
       reached = λ cell lefts all flat start.
           quick.ensures.reached c.args.profile cell lefts all
           (subst (AreSwift c.args.profile lefts) (sym c.steps_of-steps.ensures) (flat-swift c.args.profile lefts c.args.table.now cell flat)) flat.kinds start;
@@ -25,6 +26,7 @@ loop-here-preserved c =
       room = omega (arith, within.0);
       row = within.1;
       within = within.2;
+      no_room = λ none. absurd (omega arith);
       reached = λ cell lefts all flat start.
           quick.ensures.reached c.args.profile cell lefts all
           (subst (AreSwift c.args.profile lefts) (sym c.steps_of-steps.ensures) (flat-swift c.args.profile lefts c.args.table.now cell flat)) flat.kinds

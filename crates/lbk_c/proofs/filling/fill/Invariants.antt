@@ -1,4 +1,4 @@
-use Rattle.std.proofs.Common.{◌-◌, ◌<◌, ◌≤◌, ℕ, List, length}
+use Rattle.std.proofs.Common.{◌≡◌, ◌-◌, ◌<◌, ◌≤◌, ℕ, List, length}
 use Rattle.lbk_rules.specs.declared.breaks.Break.{Break}
 use Rattle.lbk_rules.specs.declared.cells.Cell.{Cell}
 use Rattle.lbk_rules.specs.declared.facts.Left.{Left}
@@ -12,6 +12,7 @@ invariant-loop-here l = record {
   room : l.here.count ≤ length l.out;
   row : l.here.row < 65536;
   within : l.here.at ≤ length l.text;
+  no_room : length l.out ≡ 0 → l.here ≡ l.fn.start;
   reached : (cell : ℕ → Cell) (lefts : List Left) (all : List Break) → IsFlatBy lefts l.fn.table cell
       → Reached l.fn.profile cell lefts l.text all l.fn.start (given_in l.fn.out l.fn.start.count)
       → Reached l.fn.profile cell lefts l.text all l.here (given_in l.out l.here.count);

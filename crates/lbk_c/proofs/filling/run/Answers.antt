@@ -30,6 +30,7 @@ loop-count-preserved c =
       row = omega arith;
       within = r.within;
       onward = omega (arith, l.invariant.onward);
+      no_room = λ none. absurd (omega arith);
       reached = λ profile cell lefts all swift are_kinds start.
           Reached-swift profile cell lefts c.args.text.now all c.args.steps.now c.args.kinds.now l.out put.new.out l.count put.result l.row l.at s.code s.size step
           swift are_kinds r inside c.step_at-step.ensures c.if-step-eq-HELD.false put.ensures.front (l.invariant.reached profile cell lefts all swift are_kinds start);
