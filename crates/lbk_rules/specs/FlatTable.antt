@@ -7,7 +7,7 @@ use Rattle.lbk_rules.specs.declared.flat_table.FlatStep.{FlatStep}
 use Rattle.lbk_rules.specs.declared.flat_table.FlatTable.{FlatTable}
 use Rattle.lbk_rules.specs.declared.flat_table.TheConstants.{HELD, LAYOUT}
 use Rattle.lbk_rules.specs.declared.kinds.TheConstants.{KINDS}
-use Rattle.lbk_rules.specs.declared.verdicts.Profile.{Profile}
+use Rattle.lbk_rules.specs.declared.rows.Step.{Step}
 use Rattle.lbk_rules.specs.declared.verdicts.Profile.TheVariants.{First, Second}
 use Rattle.lbk_rules.specs.Chain.{from_cells}
 use Rattle.lbk_rules.specs.Classes.{hard}
@@ -17,7 +17,7 @@ use Rattle.lbk_rules.specs.Held.{is_15b}
 use Rattle.lbk_rules.specs.Kinds.{kind_cell}
 use Rattle.lbk_rules.specs.Normal.{normal, normals}
 use Rattle.lbk_rules.specs.Sides.{Side, leaves_closed}
-use Rattle.lbk_rules.specs.Steps.{IsStart, left_at}
+use Rattle.lbk_rules.specs.Steps.{IsStart, left_at, no_step}
 use Rattle.lbk_rules.specs.Units.{units_after}
 
 -- The step from what is known, by a cell, in the first profile and in the other: the place of the row that knows of the
@@ -39,25 +39,28 @@ pub record IsFlatStep (lefts : List Left) (left : Left) (cell : Cell) (one other
       → verdict_coded one.code ≡ from_cells Second side (cell ∷ more)
   pub held : is_15b (verdict_coded other.code).rule ≡ true → other.code ≡ HELD
 
+-- the step by number is the other; a verdict by rule 15b has but one number
+pub record IsNumbered (step : Step) (flat : FlatStep) : Type 0 where
+  pub coded : IsCode flat.code
+  pub same : flat.next ≡ step.next
+  pub held : is_15b step.verdict.rule ≡ true → flat.code ≡ HELD
+  pub told : is_15b step.verdict.rule ≡ false → verdict_coded flat.code ≡ step.verdict
+
 -- a step that stands nowhere
 abbrev pub no_flat_step : FlatStep
 no_flat_step = record { code = 0; next = 0 }
 
--- at each of the first places is the step of its row and of its kind, in both profiles
-abbrev pub AreFlatStepsTo : ℕ → List Left → List FlatStep → List FlatStep → Type 0
-AreFlatStepsTo count lefts first second =
-    (place : ℕ) → place < count
+-- so it is of all these steps
+abbrev pub AreNumbered : List Step → List FlatStep → Type 0
+AreNumbered steps flat =
+    (place : ℕ) → place < length steps → IsNumbered (slice_index_or steps place no_step) (slice_index_or flat place no_flat_step)
+
+-- at the places of all rows is the step of its row and of its kind, in both profiles
+abbrev pub AreFlatSteps : List Left → List FlatStep → List FlatStep → Type 0
+AreFlatSteps lefts first second =
+    (place : ℕ) → place < KINDS * length lefts
     → IsFlatStep lefts (left_at lefts place) (kind_cell (place % KINDS))
     (slice_index_or first place no_flat_step) (slice_index_or second place no_flat_step)
-
--- so it is at the places of all rows
-abbrev pub AreFlatSteps : List Left → List FlatStep → List FlatStep → Type 0
-AreFlatSteps lefts first second = AreFlatStepsTo (KINDS * length lefts) lefts first second
-
--- the steps of a profile
-abbrev pub steps_in : Profile → List FlatStep → List FlatStep → List FlatStep
-steps_in First first second = first
-steps_in Second first second = second
 
 -- these kinds are those of the cells that `cell` gives
 abbrev pub AreFlatKinds : List ℕ → (ℕ → Cell) → Type 0

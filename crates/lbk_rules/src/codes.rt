@@ -18,26 +18,12 @@ impl Rule {
     }
 }
 
-/// The number of a verdict: 256 times the place of its rule among the rules, and that of its kind among the kinds. So a
-/// verdict is read from a table, and written to a block, at once.
+/// The number of a verdict: 256 times the place of its rule among the rules, and that of its kind among the kinds.
 pub(crate) fn code_of(verdict: Verdict) -> u16
     ensures verdict { verdict_coded result ≡ verdict }
     ensures coded { IsCode result }
 {
     256 * place_of_rule(verdict.rule) + place_of_kind(verdict.kind)
-}
-
-/// The verdict of a number.
-#[inline(always)]
-#[tactic(auto, unfolding(crate::specs::Codes::verdict_coded))]
-pub(crate) fn verdict_of(code: u16) -> Verdict
-    requires { IsCode code }
-    ensures { result ≡ verdict_coded code }
-{
-    Verdict {
-        kind: kind_numbered(code % 256),
-        rule: rule_numbered(code / 256),
-    }
 }
 
 /// The place of a kind among the kinds.
@@ -54,22 +40,6 @@ fn place_of_rule(rule: Rule) -> u16
     ensures few { result < 38 }
 {
     rule as u16
-}
-
-// The numbers are those of the variants, so LLVM makes no code of these two matches.
-
-/// The kind of this place among the kinds.
-#[inline(always)]
-fn kind_numbered(number: u16) -> Kind
-    requires { number < 3 }
-    ensures { result ≡ kind_numbered number }
-{
-    match number {
-        0 => Kind::No,
-        1 => Kind::May,
-        2 => Kind::Must,
-        _ => unreachable!(),
-    }
 }
 
 /// The rule of this place among the rules.

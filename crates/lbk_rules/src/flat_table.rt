@@ -1,17 +1,18 @@
 //! The table of steps as plain numbers in one block, which a caller may keep where it likes.
 
-ghost use Rattle.std.specs.Prelude.{◌≡◌, ◌+◌, ◌*◌, ◌^◌, ℕ, ◌↔◌, IsTrue, IfErr, IfOk, OnErr, fold, slice_index};
+ghost use Rattle.std.specs.Prelude.{◌≡◌, ◌+◌, ◌*◌, ◌^◌, ℕ, ◌↔◌, IsTrue, IfErr, IfOk, OnErr, fold, length, slice_index};
 ghost use Rattle.lbk_rules.specs.declared.cells.Cell.{Cell};
 ghost use Rattle.lbk_rules.specs.declared.flat_table.TableError.TheVariants.{Memory};
 ghost use Rattle.lbk_rules.specs.EnoughRows.{HasReason};
-ghost use Rattle.lbk_rules.specs.FlatTable.{AreFlatKinds, IsFlatOf, IsWhole, digest_of, digest_with, digest_with_step};
+ghost use Rattle.lbk_rules.specs.FlatTable.{AreFlatKinds, AreNumbered, IsFlatOf, IsNumbered, IsWhole, digest_of, digest_with, digest_with_step};
 ghost use Rattle.lbk_rules.specs.Normal.{normal};
 ghost use Rattle.lbk_rules.specs.Resolve.{cell_of_tables};
 
 use crate::cells::Cell;
+use crate::codes::code_of;
 use crate::kind_table::KindTable;
 use crate::kinds::{KINDS, cell_of_kind};
-use crate::rows::Rows;
+use crate::rows::{Rows, Step};
 use crate::runs::CellRuns;
 use lbk_ucd::Tables;
 use std::alloc::{AllocError, Global};
@@ -100,8 +101,8 @@ impl FlatTable {
         let Some(rows) = Rows::build(alloc)? else {
             return Err(TableError::TooManyRows);
         };
-        self.first.copy_from_slice(&rows.first);
-        self.second.copy_from_slice(&rows.second);
+        number_steps(&rows.first, &mut self.first);
+        number_steps(&rows.second, &mut self.second);
         self.kinds.copy_from_slice(&kinds.kinds);
         self.layout = LAYOUT;
         self.digest = self.digest_now();
@@ -131,6 +132,31 @@ impl FlatTable {
         ensures { (cell : ℕ → Cell) → AreFlatKinds self.now.kinds cell → result ≡ normal (cell c) }
     {
         cell_of_kind(self.kinds[c as usize] % KINDS as u8)
+    }
+}
+
+/// Puts the steps with the numbers of their verdicts.
+fn number_steps(steps: &[Step], flat: &mut [FlatStep])
+    requires { length flat.old ≡ length steps.now }
+    ensures { AreNumbered steps.now flat.new }
+{
+    for (place, step) in flat.iter_mut().enumerate() {
+        *step = numbered(steps[place]);
+    }
+}
+
+/// The step with the number of its verdict.
+fn numbered(step: Step) -> FlatStep
+    ensures { IsNumbered step result }
+{
+    let code = if step.verdict.rule.is_15b() {
+        HELD
+    } else {
+        code_of(step.verdict)
+    };
+    FlatStep {
+        code,
+        next: step.next,
     }
 }
 

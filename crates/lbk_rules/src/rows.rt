@@ -6,21 +6,17 @@ ghost use Rattle.lbk_rules.specs.declared.rows.TheConstants.{MOST_ROWS};
 ghost use Rattle.lbk_rules.specs.declared.verdicts.Profile.TheVariants.{First, Second};
 ghost use Rattle.lbk_rules.specs.Chain.{from_cells};
 ghost use Rattle.lbk_rules.specs.Classes.{hard};
-ghost use Rattle.lbk_rules.specs.Codes.{IsCode, verdict_coded};
 ghost use Rattle.lbk_rules.specs.EnoughRows.{AreDifferent, IsKnown, RowsSuffice};
 ghost use Rattle.lbk_rules.specs.Facts.{facts};
-ghost use Rattle.lbk_rules.specs.FlatTable.{AreFlatSteps, steps_in};
-ghost use Rattle.lbk_rules.specs.Held.{is_15b};
 ghost use Rattle.lbk_rules.specs.Sides.{Side, leaves_closed};
-ghost use Rattle.lbk_rules.specs.Steps.{Extends, IsStart, left_at};
+ghost use Rattle.lbk_rules.specs.Steps.{AreSteps, Extends, IsStart, left_at, steps_in};
 ghost use Rattle.lbk_rules.specs.Units.{units_after};
 
 use crate::cells::Cell;
-use crate::codes::code_of;
 use crate::facts::Left;
-use crate::flat_table::{FlatStep, HELD, STEPS};
+use crate::flat_table::STEPS;
 use crate::kinds::{KINDS, cell_of_kind};
-use crate::verdicts::Profile;
+use crate::verdicts::{Kind, Profile, Rule, Verdict};
 use std::alloc::{AllocError, Global};
 
 /// How many rows a table may have at most, so that the place of each fits a `u16`.
@@ -29,21 +25,36 @@ const MOST_ROWS: usize = 65_536 / KINDS;
 /// How many hints are kept on where a row is.
 const HINTS: usize = 1021;
 
+/// What happens at a cell of some kind after some cells.
+#[derive(Clone, Copy, Debug)]
+pub(crate) struct Step {
+    /// The verdict before the cell. In the second profile, that where what follows leaves a closing quotation mark closed.
+    pub(crate) verdict: Verdict,
+    /// The place at which the row after the cell begins.
+    pub(crate) next: u16,
+}
+
 /// A row for each thing that can be known of the cells so far, with a step in either profile for each kind of cell.
 #[derive(Debug, Drop)]
 pub(crate) struct Rows {
     lefts: Vec<Left>,
-    pub(crate) first: Vec<FlatStep>,
-    pub(crate) second: Vec<FlatStep>,
+    pub(crate) first: Vec<Step>,
+    pub(crate) second: Vec<Step>,
     ghost whole: { (length first.items ≡ STEPS) × (length second.items ≡ STEPS) },
     ghost begins: { IsStart lefts.items 0 },
     ghost start: { left_at lefts.items 0 ≡ facts [] },
     ghost few: { length lefts.items ≤ MOST_ROWS },
-    ghost decided: { AreFlatSteps lefts.items first.items second.items },
+    ghost decided: { AreSteps lefts.items first.items second.items },
 }
 
 /// What stands behind the steps of the last row.
-const NO_STEP: FlatStep = FlatStep { code: 0, next: 0 };
+const NO_STEP: Step = Step {
+    verdict: Verdict {
+        kind: Kind::No,
+        rule: Rule::Lb2,
+    },
+    next: 0,
+};
 
 impl Rows {
     ghost use Rattle.lbk_rules.specs.declared.cells.Cell.{Cell};
@@ -71,10 +82,13 @@ impl Rows {
             }
             hints[slot] = row as u16;
             let next = (KINDS * row) as u16;
-            let one = first_code(left, cell);
-            let other = second_code(left, cell);
-            first.push(FlatStep { code: one, next })?;
-            second.push(FlatStep { code: other, next })?;
+            let one = first_verdict(left, cell);
+            let other = second_verdict(left, cell);
+            first.push(Step { verdict: one, next })?;
+            second.push(Step {
+                verdict: other,
+                next,
+            })?;
         }
         first.resize(STEPS, NO_STEP)?;
         second.resize(STEPS, NO_STEP)?;
@@ -86,7 +100,7 @@ impl Rows {
     }
 
     /// The steps of a profile.
-    pub(crate) fn steps(&self, profile: Profile) -> &[FlatStep]
+    pub(crate) fn steps(&self, profile: Profile) -> &[Step]
         ensures { result.now ≡ steps_in profile self.now.first.items self.now.second.items }
     {
         match profile {
@@ -106,28 +120,19 @@ impl Rows {
     }
 }
 
-/// The number of the verdict before a cell in the first profile.
-fn first_code(left: Left, cell: Cell) -> u16
-    ensures coded { IsCode result }
-    ensures decides { (side more : Side) → facts side ≡ left → verdict_coded result ≡ from_cells First side (cell ∷ more) }
+/// The verdict before a cell in the first profile.
+fn first_verdict(left: Left, cell: Cell) -> Verdict
+    ensures { (side more : Side) → facts side ≡ left → result ≡ from_cells First side (cell ∷ more) }
 {
-    code_of(left.verdict(Profile::First, cell, false))
+    left.verdict(Profile::First, cell, false)
 }
 
-/// The number of the verdict before a cell in the second profile, where what follows leaves a closing quotation mark
-/// closed.
-fn second_code(left: Left, cell: Cell) -> u16
-    ensures coded { IsCode result }
-    ensures closes { (side more : Side) → facts side ≡ left → leaves_closed (units_after (hard cell.class) more) ≡ true
-        → verdict_coded result ≡ from_cells Second side (cell ∷ more) }
-    ensures held { is_15b (verdict_coded result).rule ≡ true → result ≡ HELD }
+/// The verdict before a cell in the second profile, where what follows leaves a closing quotation mark closed.
+fn second_verdict(left: Left, cell: Cell) -> Verdict
+    ensures { (side more : Side) → facts side ≡ left → leaves_closed (units_after (hard cell.class) more) ≡ true
+        → result ≡ from_cells Second side (cell ∷ more) }
 {
-    let verdict = left.verdict(Profile::Second, cell, true);
-    if verdict.rule.is_15b() {
-        HELD
-    } else {
-        code_of(verdict)
-    }
+    left.verdict(Profile::Second, cell, true)
 }
 
 /// The place of a hint on where the row is that knows this, mostly its own.

@@ -2,16 +2,14 @@
 
 ghost use Rattle.std.specs.Prelude.{◌≡◌, ◌+◌, ◌<◌, ℕ, List, [], ◌∷◌, ◌++◌, length, map, reverse, slice_index_or, true, false, IfNone, IfOk, IfSome};
 ghost use Rattle.lbk_rules.specs.EnoughRows.{RowsSuffice};
-ghost use Rattle.lbk_rules.specs.FlatTable.{no_flat_step, steps_in};
 ghost use Rattle.lbk_rules.specs.RowFits.{IsRowOf};
+ghost use Rattle.lbk_rules.specs.Steps.{no_step, steps_in};
 
 use crate::cells::Cell;
-use crate::codes::verdict_of;
 use crate::facts::Left;
-use crate::flat_table::{FlatStep, HELD};
 use crate::kind_table::KindTable;
 use crate::kinds::{KINDS, cell_of_kind};
-use crate::rows::Rows;
+use crate::rows::{Rows, Step};
 use crate::runs::CellRuns;
 use crate::verdicts::{Profile, Verdict};
 use std::alloc::{AllocError, Global};
@@ -34,7 +32,7 @@ pub struct RowMachine<'a> {
     rows: &'a Rows,
     profile: Profile,
     /// The steps of the profile.
-    steps: &'a [FlatStep],
+    steps: &'a [Step],
     row: usize,
     ghost of_kinds: { kind_of_code.now ≡ kinds.now.kinds.items },
     ghost in_rows: { IsRowOf rows.now row },
@@ -82,7 +80,6 @@ impl<'a> RowMachine<'a> {
     ghost use Rattle.lbk_rules.specs.declared.cells.Cell.{Cell};
     ghost use Rattle.lbk_rules.specs.declared.verdicts.Profile.{Profile};
     ghost use Rattle.lbk_rules.specs.Chain.{from_cells};
-    ghost use Rattle.lbk_rules.specs.Codes.{IsCode, verdict_coded};
     ghost use Rattle.lbk_rules.specs.Facts.{facts};
     ghost use Rattle.lbk_rules.specs.Held.{is_15b, is_held};
     ghost use Rattle.lbk_rules.specs.KindTable.{kind_at};
@@ -107,7 +104,7 @@ impl<'a> RowMachine<'a> {
     {
         let step = self.step_by(c);
         self.row = step.next as usize;
-        verdict_of(step.code)
+        step.verdict
     }
 
     /// Takes the next scalar, if what follows does not decide the position before it: the verdict there. None comes where
@@ -120,30 +117,29 @@ impl<'a> RowMachine<'a> {
         ensures fits { (profile : Profile) (cell : ℕ → Cell) (taken : List ℕ)
             → RowMachineFits self.old profile cell taken
             → IfSome result (λ _. RowMachineFits self.new profile cell (taken ++ c ∷ [])) }
+        ensures held { (profile : Profile) (cell : ℕ → Cell) (taken : List ℕ) (more : List Cell)
+            → RowMachineFits self.old profile cell taken
+            → IfNone result (is_held profile (map cell taken) (cell c ∷ more) ≡ true) }
         ensures stays { IfNone result (self.new ≡ self.old) }
     {
         let step = self.step_by(c);
-        if step.code == HELD {
+        if step.verdict.rule.is_15b() {
             return None;
         }
         self.row = step.next as usize;
-        Some(verdict_of(step.code))
+        Some(step.verdict)
     }
 
     /// The step by `c`, of which the verdict is that where nothing follows.
     #[inline(always)]
-    fn step_by(&self, c: char) -> FlatStep
+    fn step_by(&self, c: char) -> Step
         ensures row { IsRowOf self.now.rows.now result.next }
-        ensures coded { IsCode result.code }
         ensures leads { (profile : Profile) (cell : ℕ → Cell) (taken : List ℕ)
             → RowMachineFits self.now profile cell taken
             → RowFits self.now.rows.now result.next (normals cell (taken ++ c ∷ [])) }
         ensures so_far { (profile : Profile) (cell : ℕ → Cell) (taken : List ℕ)
             → RowMachineFits self.now profile cell taken
-            → verdict_coded result.code ≡ from_cells profile (reverse (map cell taken)) (cell c ∷ []) }
-        ensures held { (profile : Profile) (cell : ℕ → Cell) (taken : List ℕ)
-            → RowMachineFits self.now profile cell taken
-            → is_15b (verdict_coded result.code).rule ≡ true → result.code ≡ HELD }
+            → result.verdict ≡ from_cells profile (reverse (map cell taken)) (cell c ∷ []) }
     {
         *step_of(self.steps, self.row, self.kind(c) as usize)
     }
@@ -197,9 +193,9 @@ impl<'a> RowMachine<'a> {
 
 /// The step of a kind in a row. The kind is counted first, so that only the read itself waits for the row.
 #[inline(always)]
-fn step_of(steps: &[FlatStep], row: usize, kind: usize) -> &FlatStep
+fn step_of(steps: &[Step], row: usize, kind: usize) -> &Step
     requires { row + kind < length steps.now }
-    ensures { result.now ≡ slice_index_or steps.now (row + kind) no_flat_step }
+    ensures { result.now ≡ slice_index_or steps.now (row + kind) no_step }
 {
     &steps[kind..][row]
 }

@@ -108,6 +108,7 @@ impl Rule {
 
 impl Rule {
     /// Whether it is rule 15b, which looks past the unit on the right.
+    #[inline(always)]
     pub(crate) fn is_15b(self) -> bool
         ensures { result ≡ is_15b self }
     {

@@ -1,6 +1,7 @@
-use Rattle.std.proofs.Common.{refl, ◌∙◌}
-use Rattle.lbk_rules.specs.FlatTable.{digest_of}
+use Rattle.std.proofs.Common.{refl, subst, ◌∙◌, arith}
+use Rattle.lbk_rules.specs.FlatTable.{AreNumbered, digest_of}
 use Rattle.lbk_rules.specs.KindTable.{kind_at}
+use Rattle.lbk_rules.proofs.RowsLemmas.{AreFlatSteps-numbered}
 use Rattle.lbk_rules.proofs.flat_table.FlatTable.fill_over.Goals as goal
 
 pub returns-clause-table : goal.returns-clause-table
@@ -11,8 +12,11 @@ returns-clause-table g c =
       record {
         begins = rows.begins;
         start = rows.start;
-        steps = rw (c.copy_from_slice.ensures.after ∙ c.deref.ensures.value, c.copy_from_slice-2.ensures.after ∙ c.deref-2.ensures.value) rows.decided;
-        kinds = rw (c.copy_from_slice-3.ensures.after ∙ c.deref-3.ensures.value)
+        steps = AreFlatSteps-numbered rows.lefts.items rows.first.items rows.second.items c.number_steps.new.flat c.number_steps-2.new.flat rows.decided
+            (omega arith) (omega arith)
+            (subst (λ s. AreNumbered s c.number_steps.new.flat) c.deref.ensures.value c.number_steps.ensures)
+            (subst (λ s. AreNumbered s c.number_steps-2.new.flat) c.deref-2.ensures.value c.number_steps-2.ensures);
+        kinds = rw (c.copy_from_slice.ensures.after ∙ c.deref-3.ensures.value)
             (λ code scalar. (c.in_ok-kinds.kinds.few code, c.in_ok-kinds.ensures code scalar));
       },
     )

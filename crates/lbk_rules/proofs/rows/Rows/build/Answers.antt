@@ -1,11 +1,11 @@
 use Rattle.std.proofs.Common.{◌≡◌, ◌*◌, ◌/◌, ◌%◌, ◌<◌, [], ◌∷◌, ◌++◌, length, get_or, sym, ap, subst, ◌∙◌, arith}
 use Rattle.std.proofs.lemmas.List.{length_push}
-use Rattle.lbk_rules.specs.declared.flat_table.FlatStep.{FlatStep}
 use Rattle.lbk_rules.specs.declared.kinds.TheConstants.{KINDS}
-use Rattle.lbk_rules.specs.FlatTable.{AreFlatStepsTo, no_flat_step}
+use Rattle.lbk_rules.specs.declared.rows.Step.{Step}
 use Rattle.lbk_rules.specs.Kinds.{kind_cell}
+use Rattle.lbk_rules.specs.Steps.{AreStepsTo, no_step}
 use Rattle.lbk_rules.proofs.EnoughRowsLemmas.{known-next}
-use Rattle.lbk_rules.proofs.RowsLemmas.{AreFlatSteps-made, AreFlatSteps-padded, alike-push}
+use Rattle.lbk_rules.proofs.RowsLemmas.{AreSteps-made, AreSteps-padded, alike-push}
 use Rattle.lbk_rules.proofs.rows.Rows.build.Goals as goal
 
 pub places-preserved : goal.places-preserved
@@ -33,21 +33,20 @@ places-preserved c =
     subst (λ n. cell ≡ kind_cell (n % KINDS)) place_2 c.cell_of_kind-cell.ensures in
     let pushed = c.in_ok-push-2.ensures.items in
     let pushed_2 = c.in_ok-push-3.ensures.items in
-    let one = c.first_code-one.result in
-    let other = c.second_code-other.result in
-    let step : FlatStep = record { code = one; next = KINDS * row } in
-    let step_2 : FlatStep = record { code = other; next = KINDS * row } in
-    let made = AreFlatSteps-made before after first second left c.then-then.result cell one other row
+    let one = c.first_verdict-one.result in
+    let other = c.second_verdict-other.result in
+    let step : Step = record { verdict = one; next = KINDS * row } in
+    let step_2 : Step = record { verdict = other; next = KINDS * row } in
+    let made = AreSteps-made before after first second left c.then-then.result cell one other row
     alike inv.decided within extends known kind found.0 found.1 c.then-then.ensures
-    c.first_code-one.ensures.coded c.first_code-one.ensures.decides
-    c.second_code-other.ensures.coded c.second_code-other.ensures.closes c.second_code-other.ensures.held in
+    c.first_verdict-one.ensures c.second_verdict-other.ensures in
     record {
       begins = (begins.0, omega (arith, begins.1));
       start = extends.kept 0 begins.1 ∙ inv.start;
       alike = ap length pushed_2 ∙ alike-push first second step step_2 alike ∙ sym (ap length pushed);
       decided =
-          let in_first = subst (λ f. AreFlatStepsTo (length f) after f (second ++ step_2 ∷ [])) (sym pushed) made in
-          subst (λ s. AreFlatStepsTo (length c.push-in-places.new.self.items) after c.push-in-places.new.self.items s) (sym pushed_2) in_first;
+          let in_first = subst (λ f. AreStepsTo (length f) after f (second ++ step_2 ∷ [])) (sym pushed) made in
+          subst (λ s. AreStepsTo (length c.push-in-places.new.self.items) after c.push-in-places.new.self.items s) (sym pushed_2) in_first;
       within = rw (pushed, length_push) (omega arith);
       few = omega arith;
       known = c.in_ok-row.ensures.known inv.known
@@ -65,9 +64,9 @@ invariant_of-result-clause-decided c =
     let whole : KINDS * length lefts ≡ length first = omega (arith, inv.within) in
     let few = inv.few in
     let alike = inv.alike in
-    AreFlatSteps-padded lefts first second c.resize.new.self.items c.resize-2.new.self.items (length first) whole inv.decided
-    (λ k below. c.in_ok-resize.ensures.by_index.0 k no_flat_step (omega arith) (omega arith))
-    (λ k below. c.in_ok-resize-2.ensures.by_index.0 k no_flat_step (omega arith) (omega arith))
+    AreSteps-padded lefts first second c.resize.new.self.items c.resize-2.new.self.items (length first) whole inv.decided
+    (λ k below. c.in_ok-resize.ensures.by_index.0 k no_step (omega arith) (omega arith))
+    (λ k below. c.in_ok-resize-2.ensures.by_index.0 k no_step (omega arith) (omega arith))
 
 pub returns-then-row-ge-MOST_ROWS : goal.returns-then-row-ge-MOST_ROWS
 returns-then-row-ge-MOST_ROWS c = λ suffice.

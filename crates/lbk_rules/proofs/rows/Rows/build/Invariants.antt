@@ -4,8 +4,7 @@ use Rattle.lbk_rules.specs.declared.kinds.TheConstants.{KINDS}
 use Rattle.lbk_rules.specs.declared.rows.TheConstants.{MOST_ROWS}
 use Rattle.lbk_rules.specs.EnoughRows.{AreDifferent, IsKnown}
 use Rattle.lbk_rules.specs.Facts.{facts}
-use Rattle.lbk_rules.specs.FlatTable.{AreFlatStepsTo}
-use Rattle.lbk_rules.specs.Steps.{IsStart, left_at}
+use Rattle.lbk_rules.specs.Steps.{AreStepsTo, IsStart, left_at}
 use Rattle.lbk_rules.proofs.rows.Rows.build.Given as goal
 
 abbrev pub invariant-places : goal.invariant-places
@@ -13,7 +12,7 @@ invariant-places l = record {
   begins : IsStart l.lefts.items 0;
   start : left_at l.lefts.items 0 ≡ facts [];
   alike : length l.second.items ≡ length l.first.items;
-  decided : AreFlatStepsTo (length l.first.items) l.lefts.items l.first.items l.second.items;
+  decided : AreStepsTo (length l.first.items) l.lefts.items l.first.items l.second.items;
   within : length l.first.items ≤ KINDS * length l.lefts.items;
   few : length l.lefts.items ≤ MOST_ROWS;
   known : All IsKnown l.lefts.items;

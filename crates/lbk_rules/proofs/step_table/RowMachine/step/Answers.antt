@@ -1,16 +1,15 @@
-use Rattle.std.proofs.Common.{◌∙◌}
 use Rattle.lbk_rules.proofs.RowMachineLemmas.{so_far-decides, so_far-held}
 use Rattle.lbk_rules.proofs.step_table.RowMachine.step.Goals as goal
 
 pub returns-clause-held : goal.returns-clause-held
 returns-clause-held c = λ profile cell taken more fits.
-    so_far-held profile cell taken c.args.c more c.verdict_of.result
-    (c.verdict_of.ensures ∙ c.step_by-step.ensures.so_far profile cell taken fits)
+    so_far-held profile cell taken c.args.c more c.step_by-step.result.verdict
+    (c.step_by-step.ensures.so_far profile cell taken fits)
 
 pub returns-clause-decides : goal.returns-clause-decides
 returns-clause-decides c = λ profile cell taken more fits.
-    so_far-decides profile cell taken c.args.c more c.verdict_of.result
-    (c.verdict_of.ensures ∙ c.step_by-step.ensures.so_far profile cell taken fits)
+    so_far-decides profile cell taken c.args.c more c.step_by-step.result.verdict
+    (c.step_by-step.ensures.so_far profile cell taken fits)
 
 pub returns-clause-fits : goal.returns-clause-fits
 returns-clause-fits c = λ profile cell taken fits. record {
