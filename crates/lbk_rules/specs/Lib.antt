@@ -22,6 +22,7 @@ pub mod Chain
 pub mod Codes
 pub mod EnoughRows
 pub mod Facts
+pub mod FirstBytes
 pub mod Fits
 pub mod FlatTable
 pub mod KindTable

@@ -82,6 +82,7 @@ const LETTER: Cell = Cell {
 /// Something that knows the cell of each scalar value.
 pub trait CellSource {
     ghost use Rattle.lbk_rules.specs.declared.cells.Cell.{Cell};
+    ghost use Rattle.lbk_rules.specs.FirstBytes.{AreQuiet};
     ghost use Rattle.lbk_rules.specs.RowMachineFits.{IsTableOf};
 
     ghost cell_of: { Self → ℕ → Cell };
@@ -95,5 +96,13 @@ pub trait CellSource {
         ensures { IfSome result (λ table. IsTableOf table.now (cell_of self.now)) }
     {
         None
+    }
+
+    /// For each byte whether it is known that a line must end behind no scalar that begins with it (UAX #14, rules LB4 and
+    /// LB5). A text is cut into paragraphs without it too, only slower.
+    fn quiet_first_bytes(&self) -> [bool; 256]
+        ensures { AreQuiet (cell_of self.now) result }
+    {
+        [false; 256]
     }
 }

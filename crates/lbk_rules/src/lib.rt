@@ -16,6 +16,7 @@ mod classes;
 mod codes;
 mod evaluator;
 mod facts;
+mod first_bytes;
 mod flat_table;
 mod forward;
 mod kind_table;

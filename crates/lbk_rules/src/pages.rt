@@ -3,6 +3,7 @@
 ghost use Rattle.std.specs.Prelude.{◌≡◌, ℕ, ◌+◌, ◌*◌, ◌<◌, ◌≤◌, length, slice_index, None, Some, IfNone, IfOk, IfSome};
 ghost use Rattle.std.specs.Char.{IsScalar};
 ghost use Rattle.lbk_rules.specs.Pages.{AreDistinct, AreSame, IsPageOf, cell_in};
+ghost use Rattle.lbk_rules.specs.FirstBytes.{AreQuiet};
 ghost use Rattle.lbk_rules.specs.declared.step_table.StepTable.{StepTable};
 ghost use Rattle.lbk_rules.specs.EnoughRows.{RowsSuffice};
 ghost use Rattle.lbk_rules.specs.Normal.{normal};
@@ -11,6 +12,7 @@ ghost use Rattle.lbk_rules.specs.RowMachineFits.{normal_in};
 mod kept;
 
 use crate::cells::{Cell, CellSource};
+use crate::first_bytes::quiet_first_bytes;
 use crate::runs::{CellRun, CellRuns};
 use crate::step_table::StepTable;
 use kept::Kept;
@@ -35,12 +37,15 @@ pub struct CellPages {
     pages: Vec<Page>,
     /// None comes only if there were more rows than a table can name.
     table: Option<StepTable>,
+    /// For each byte whether a line must end behind no scalar that begins with it.
+    quiet_first_bytes: [bool; 256],
     ghost complete: { length numbers.items ≡ 4352 },
     ghost numbered: { (k : ℕ) → k < 4352 → slice_index numbers.items k < length pages.items },
     ghost distinct: { AreDistinct pages.items },
     ghost given: { table ≡ None → ¬ RowsSuffice },
     ghost same: { (t : StepTable) (code : ℕ) → table ≡ Some t → IsScalar code
         → normal_in t code ≡ normal (cell_in numbers.items pages.items code) },
+    ghost quiet: { AreQuiet (cell_in numbers.items pages.items) quiet_first_bytes },
 }
 
 impl CellPages {
@@ -81,6 +86,7 @@ impl CellPages {
             numbers,
             pages: kept.into_pages(),
             table,
+            quiet_first_bytes: quiet_first_bytes(source),
         })
     }
 }
@@ -107,6 +113,11 @@ impl CellSource for CellPages {
             Some(table) => Some(table),
             None => None,
         }
+    }
+
+    #[tactic(auto, unfolding(crate::specs::CellPages::page_cell))]
+    fn quiet_first_bytes(&self) -> [bool; 256] {
+        self.quiet_first_bytes
     }
 }
 

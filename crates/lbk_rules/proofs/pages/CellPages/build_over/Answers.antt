@@ -2,6 +2,7 @@ use Rattle.std.proofs.Common.{◌≡◌, ℕ, ◌-◌, ◌∙◌, [], Some, IfSo
 use Rattle.std.proofs.lemmas.List.{get_or_default}
 use Rattle.std.specs.Char.{IsScalar}
 use Rattle.lbk_rules.specs.CellPages.{page_cell}
+use Rattle.lbk_rules.specs.Ends.{ends_line}
 use Rattle.lbk_rules.specs.Normal.{normal}
 use Rattle.lbk_rules.specs.Pages.{cell_in}
 use Rattle.lbk_rules.specs.RowFits.{AreKindsOf}
@@ -58,6 +59,14 @@ invariant_of-result-clause-same g c =
     λ table code is scalar.
     let built : IfSome (Some table) (λ t. IsTableOf t cell_of) = subst (λ o. IfSome o (λ t. IsTableOf t cell_of)) is c.in_ok-table.ensures.table in
     built code scalar ∙ ap normal (sym (filled code scalar))
+
+pub invariant_of-result-clause-quiet : goal.invariant_of-result-clause-quiet
+invariant_of-result-clause-quiet g c = λ code scalar on.
+    let cell_of = g.C.CellRuns.cell_at c.args.source.now in
+    let filled : cell_in c.loop-k.numbers.items c.into_pages.result.items code ≡ cell_of code =
+    rw c.into_pages.ensures.kept
+    (cell_in-filled cell_of c.loop-k.numbers.items c.loop-k.kept.pages.items c.loop-k.k (omega arith) c.loop-k.invariant.filled code scalar) in
+    ap (λ cell. ends_line cell.class) filled ∙ c.quiet_first_bytes.ensures code scalar on
 
 pub returns : goal.returns
 unfolding page_cell
