@@ -12,6 +12,7 @@ pub mod Running
 pub mod Finding
 pub mod Staying
 pub mod Taking
+pub mod FlagLemmas
 pub mod Passing
 pub mod SegmentLemmas
 pub mod Together

@@ -1,21 +1,42 @@
 -- How far scalars of a piece belong to its paragraph, one more of them at a time.
-use Rattle.std.proofs.Common.{◌≡◌, ℕ, ◌+◌, ◌-◌, ◌<◌, ◌≤◌, false, ◌&&◌, not, List, [], ◌∷◌, ◌++◌, length, drop, Option, None, Some, encode_utf8, IsUtf8, chars, slice_index_or, refl, sym, ap, subst, ◌∙◌, arith, append_assoc, length-drop}
-use Rattle.std.proofs.lemmas.List.{drop_more}
-use Rattle.std.proofs.lemmas.Str.{encode_ascii, IsCharBoundary-from_drop}
+use Rattle.std.proofs.Common.{◌≡◌, ℕ, ◌+◌, ◌-◌, ◌<◌, ◌≤◌, Bool, true, false, ◌&&◌, not, List, [], ◌∷◌, ◌++◌, length, take, drop, Option, None, Some, encode_utf8, encode_utf8_all, IsUtf8, IsCharBoundary, chars, slice_index_or, refl, sym, ap, subst, ◌∙◌, arith, inl, inr, append_assoc, append-nil, length-append, length-drop}
+use Rattle.std.specs.Char.{IsScalar}
+use Rattle.std.proofs.Math.Seq.{take-append_seam}
+use Rattle.std.proofs.Math.Utf8.{scalars}
+use Rattle.std.proofs.lemmas.Bool.{cases_lt, false≢true}
+use Rattle.std.proofs.lemmas.List.{drop_more, get_or-drop, get_or_append_left, length-take-le, take-append-drop}
+use Rattle.std.proofs.lemmas.Str.{encode_ascii, encode_same, encodes-append, encodes-chars, encodes_same, IsCharBoundary-at_seam, IsCharBoundary-from_drop, IsUtf8-between, IsUtf8-encode, IsUtf8-take}
 use Rattle.lbk_rules.specs.Classes.{CR, LF}
+use Rattle.lbk_rules.specs.FirstBytes.{first_byte}
 use Rattle.lbk_rules.specs.declared.classes.Class.{Class}
 use Rattle.lbk_rules.specs.declared.cells.Cell.{Cell}
 use Rattle.lbk_breaks.proofs.FillingLemmas.{reads}
 use Rattle.lbk_passage.specs.Gathering.{Reaches, StopsBefore}
-use Rattle.lbk_passage.specs.Flags.{Passes, is_end}
-use Rattle.lbk_passage.specs.Stays.{ends_at}
+use Rattle.lbk_passage.specs.Flags.{AreQuiet, ArePassed, Passes, is_end}
+use Rattle.lbk_passage.specs.Stays.{ends_at, last_class}
 use Rattle.lbk_passage.specs.declared.reach.Reach.{Reach}
+use Rattle.lbk_passage.proofs.Booleans.{both-left, both-right}
+use Rattle.lbk_passage.proofs.FlagLemmas.{some_bytes}
 use Rattle.lbk_passage.proofs.Staying.{stays-snoc, last_class-append, length-encode_more}
 
 -- no line must end before a scalar where none must behind the one before it
 pub calm : (last : Option Class) (next : Class) → is_end last ≡ false → ends_at last next ≡ false
 calm None next quiet = refl
 calm (Some last) next quiet = ap (λ b. b && not (CR last && LF next)) quiet
+
+-- where bytes were passed up to one that is not quiet, or up to a place where a scalar begins, one begins
+pub place-passed : (cell : ℕ → Cell) (is_quiet : List Bool) (piece : List ℕ) (k end : ℕ) → AreQuiet cell is_quiet → IsCharBoundary piece end → k ≤ end
+    → (k < end → slice_index_or is_quiet (slice_index_or piece k 0) false ≡ false) → IsCharBoundary piece k
+place-passed cell is_quiet piece k end are place within stops = elim (cases_lt k end) [
+  | inl less ↦ (
+    omega (arith, within, place.0),
+    λ below high. elim (cases_lt (slice_index_or piece k 0) 192) [
+      | inl low ↦ absurd (false≢true (sym (stops less) ∙ are.later (slice_index_or piece k 0) high low))
+      | inr enough ↦ enough
+    ],
+  )
+  | inr enough ↦ let same : end ≡ k = omega (arith, enough, within) in subst (IsCharBoundary piece) same place
+]
 
 -- a scalar of one byte at the front of a text
 pub chars-byte : (text : List ℕ) → IsUtf8 text → 0 < length text → slice_index_or text 0 0 < 128
@@ -55,16 +76,78 @@ module _ (cell : ℕ → Cell) (first : Option Class) (piece : List ℕ) (room :
     last_is = refl;
   }
 
-  -- one more of a byte
-  pub Passes-byte : (len : ℕ) (last : Option Class) (byte : ℕ) → Passes cell first piece room len last
-      → len < length piece → byte ≡ slice_index_or piece len 0 → byte < 128 → is_end last ≡ false → len < room
-      → Passes cell first piece room (len + 1) (Some (cell byte).class)
-  Passes-byte len last byte passes here is ascii quiet within =
-      let splits : drop len piece ≡ encode_utf8 byte ++ drop (len + 1) piece =
-      drop_more piece len 0 here ∙ ap (λ b. b ∷ drop (len + 1) piece) (sym is) ∙ ap (λ l. l ++ drop (len + 1) piece) (sym (encode_ascii byte ascii)) in
-      let next : length piece - length (drop (len + 1) piece) ≡ len + 1 = omega (arith, length-drop (len + 1) piece) in
-      subst (λ n. Passes cell first piece room n (Some (cell byte).class)) next
-      (Passes-more len last byte (drop (len + 1) piece) passes splits (calm last (cell byte).class quiet) (omega (arith, next)))
+  -- the scalars up to there are those of the bytes up to there
+  taken-is : (len : ℕ) (last : Option Class) (passes : Passes cell first piece room len last) → encode_utf8_all passes.taken ≡ take len piece
+  taken-is len last passes =
+      let left = encode_utf8_all passes.taken in
+      let right = encode_utf8_all (chars (drop len piece)) in
+      let parts : piece ≡ left ++ right =
+      sym (encodes-chars piece utf8) ∙ ap encode_utf8_all passes.all ∙ encodes-append passes.taken (chars (drop len piece)) in
+      sym (take-append_seam left right) ∙ ap (take (length left)) (sym parts) ∙ ap (λ n. take n piece) (sym passes.len_is)
+
+  -- the last of them is the scalar at the end of these bytes
+  pub Passes-last : (len : ℕ) (last : Option Class) (rest : List ℕ) (c : ℕ) → Passes cell first piece room len last → IsScalar c
+      → take len piece ≡ rest ++ encode_utf8 c → Passes cell first piece room len (Some (cell c).class)
+  Passes-last len last rest c passes is splits =
+      let seam = IsCharBoundary-at_seam (take len piece) rest (encode_utf8 c) splits (IsUtf8-encode c is) in
+      let text = subst IsUtf8 (ap (take (length rest)) splits ∙ take-append_seam rest (encode_utf8 c))
+      (IsUtf8-take (take len piece) (length rest) (IsUtf8-take piece len utf8 passes.place) seam) in
+      let spelt : encode_utf8_all (chars rest ++ c ∷ []) ≡ rest ++ encode_utf8 c =
+      encodes-append (chars rest) (c ∷ []) ∙ ap (λ l. l ++ encode_utf8_all (c ∷ [])) (encodes-chars rest text) ∙ ap (λ l. rest ++ l) (append-nil (encode_utf8 c)) in
+      let same : passes.taken ≡ chars rest ++ c ∷ [] =
+      encodes_same passes.taken (chars rest ++ c ∷ []) (taken-is len last passes ∙ splits ∙ sym spelt) in
+      subst (Passes cell first piece room len)
+      (passes.last_is ∙ ap (last_class cell first) same ∙ last_class-append cell first (chars rest) (c ∷ []))
+      passes
+
+  -- a scalar that stands before a place where one begins ends there or before
+  fits : (len next c : ℕ) (more : List ℕ) → IsCharBoundary piece len → IsCharBoundary piece next → len < next
+      → drop len piece ≡ encode_utf8 c ++ more → len + length (encode_utf8 c) ≤ next
+  fits len next c more here there before splits =
+      let text = IsUtf8-between piece len next utf8 (omega arith) here there in
+      let size : length (take (next - len) (drop len piece)) ≡ next - len =
+      length-take-le (next - len) (drop len piece) (omega (arith, length-drop len piece, there.0)) in
+      first_of text.0 text.1.1 size
+    where
+      first_of : (ds : List ℕ) → encode_utf8_all ds ≡ take (next - len) (drop len piece) → length (take (next - len) (drop len piece)) ≡ next - len
+          → len + length (encode_utf8 c) ≤ next
+      first_of [] spelt size = let none : 0 ≡ next - len = ap length spelt ∙ size in absurd (let impossible : ⊥ = omega (arith, none) in impossible)
+      first_of (d ∷ ds) spelt size =
+          let whole : drop len piece ≡ encode_utf8 d ++ (encode_utf8_all ds ++ drop (next - len) (drop len piece)) =
+          sym (take-append-drop (next - len) (drop len piece)) ∙ ap (λ l. l ++ drop (next - len) (drop len piece)) (sym spelt)
+          ∙ append_assoc (encode_utf8 d) (encode_utf8_all ds) (drop (next - len) (drop len piece)) in
+          let same = encode_same c d more (encode_utf8_all ds ++ drop (next - len) (drop len piece)) (sym splits ∙ whole) in
+          let long : length (encode_utf8 d) + length (encode_utf8_all ds) ≡ next - len =
+          sym (length-append (encode_utf8 d) (encode_utf8_all ds)) ∙ ap length spelt ∙ size in
+          omega (arith, ap (λ x. length (encode_utf8 x)) same.0, long)
+
+  -- all scalars up to a place where one begins, where each of their bytes tells that a line must end behind none
+  pub Passes-quiet : (is_quiet : List Bool) → AreQuiet cell is_quiet → (next : ℕ) → IsCharBoundary piece next → next ≤ room
+      → (cs : List ℕ) (len : ℕ) (last : Option Class) → Passes cell first piece room len last → is_end last ≡ false
+      → scalars cs ≡ true → drop len piece ≡ encode_utf8_all cs → len ≤ next → ArePassed is_quiet piece len next
+      → (final : Option Class) × Passes cell first piece room next final
+  Passes-quiet is_quiet are next there within [] len last passes calm_last all splits before passed =
+      let none : 0 ≡ length piece - len = sym (ap length splits) ∙ length-drop len piece in
+      let same : len ≡ next = omega (arith, none, there.0) in
+      (last, subst (λ n. Passes cell first piece room n last) same passes)
+  Passes-quiet is_quiet are next there within (c ∷ cs) len last passes calm_last all splits before passed = elim (cases_lt len next) [
+    | inl less ↦
+        let more = encode_utf8_all cs in
+        let size = length (encode_utf8 c) in
+        let r = reads piece more len c utf8 passes.place splits in
+        let some = some_bytes c in
+        let here : len ≡ len + 0 = omega arith in
+        let begins : slice_index_or piece len 0 ≡ first_byte c =
+        ap (λ k. slice_index_or piece k 0) here ∙ sym (get_or-drop len piece 0 0) ∙ ap (λ l. slice_index_or l 0 0) splits ∙ get_or_append_left (encode_utf8 c) more 0 0 some in
+        let quiet = are.first c (both-left _ _ all) (ap (λ b. slice_index_or is_quiet b false) (sym begins) ∙ passed len (omega arith) less) in
+        let ends = fits len next c more passes.place there less splits in
+        let at : length piece - length more ≤ next = omega (arith, r.next_is, ends) in
+        Passes-quiet is_quiet are next there within cs (length piece - length more) (Some (cell c).class)
+        (Passes-more len last c more passes splits (calm last (cell c).class calm_last) (omega (arith, at)))
+        quiet (both-right _ _ all) r.rest at
+        (λ k from to. passed k (omega (arith, from, r.next_is)) to)
+    | inr not_less ↦ let same : len ≡ next = omega (arith, not_less) in (last, subst (λ n. Passes cell first piece room n last) same passes)
+  ]
 
   -- and no more
   pub Passes-stops : (len : ℕ) (last : Option Class) (r : Reach) → Passes cell first piece room len last

@@ -1,14 +1,20 @@
--- Scalars of one byte: those behind which no line must end, and those that are letters.
+-- What bytes tell of scalars: that no line must end behind them, and that they are letters.
 use Rattle.std.specs.Prelude.{◌≡◌, ℕ, ◌<◌, ◌≤◌, Bool, true, false, List, ◌++◌, Option, Some, None, length, slice_index_or, encode_utf8_all, drop}
 use Rattle.std.specs.Str.{chars, IsCharBoundary}
 use Rattle.lbk_rules.specs.declared.classes.Class.{Class}
 use Rattle.lbk_rules.specs.declared.cells.Cell.{Cell}
 use Rattle.lbk_rules.specs.Ends.{ends_line}
+use Rattle.lbk_rules.specs.FirstBytes as FirstBytes
 use Rattle.lbk_passage.specs.Stays.{stays, last_class}
 
--- each byte of which the list has true is a scalar by itself, behind which no line must end
-abbrev pub AreQuiet : (ℕ → Cell) → List Bool → Type 0
-AreQuiet cell is_quiet = (byte : ℕ) → byte < 256 → slice_index_or is_quiet byte false ≡ true → (byte < 128) × (ends_line (cell byte).class ≡ false)
+-- a line must end behind no scalar whose first byte has true in the list, and each byte that continues a scalar has true
+pub record AreQuiet (cell : ℕ → Cell) (is_quiet : List Bool) : Type 0 where
+  pub first : FirstBytes.AreQuiet cell is_quiet
+  pub later : (byte : ℕ) → 128 ≤ byte → byte < 192 → slice_index_or is_quiet byte false ≡ true
+
+-- each byte from the place `start` to the place `end` has true in the list
+abbrev pub ArePassed : List Bool → List ℕ → ℕ → ℕ → Type 0
+ArePassed is_quiet bytes start end = (k : ℕ) → start ≤ k → k < end → slice_index_or is_quiet (slice_index_or bytes k 0) false ≡ true
 
 -- each byte of which the list has true is a scalar by itself, and a letter or a number
 abbrev pub AreLetters : (ℕ → Cell) → List Bool → Type 0
@@ -18,11 +24,6 @@ AreLetters cell is_letter = (byte : ℕ) → byte < 256 → slice_index_or is_le
 abbrev pub is_end : Option Class → Bool
 is_end None = false
 is_end (Some class) = ends_line class
-
--- the class of the last scalar: that of the byte seen last, or the one before all of them
-abbrev pub class_behind : (ℕ → Cell) → Option Class → Option ℕ → Option Class
-class_behind cell last None = last
-class_behind cell last (Some byte) = Some (cell byte).class
 
 -- the scalars of a piece up to the byte `len`, behind one of class `first`, belong to its paragraph, and the last of all
 -- is of class `last`

@@ -1,19 +1,26 @@
-//! What the cells say of the scalars of one byte.
+//! What bytes tell of the scalars that they belong to.
 
-ghost use Rattle.std.specs.Prelude.{◌≡◌, false, slice_index_or};
-ghost use Rattle.lbk_passage.specs.Flags.{AreLetters, AreQuiet};
+ghost use Rattle.std.specs.Prelude.{◌≡◌, ◌+◌, ◌<◌, ◌≤◌, true, false, length, slice_index_or};
+ghost use Rattle.lbk_passage.specs.Flags.{AreLetters, AreQuiet, ArePassed};
 
 use crate::ends::ends_line;
 use lbk_rules::CellSource;
 
 /// How many bytes are a scalar by themselves.
-const ASCII: u8 = 128;
+const ASCII: u8 = 0x80;
 
-/// For each byte whether it is a scalar by itself of which one thing is known. Most scalars of most texts are, and are told
-/// by one read.
+/// The first byte behind those that continue a scalar.
+const FIRST: u8 = 0xC0;
+
+/// How many bytes are told in one turn.
+const TURN: usize = 8;
+
+/// For each byte what it tells of its scalar. Most bytes of most texts tell enough, by one read.
 #[derive(Drop)]
 pub struct ByteFlags {
+    /// Whether it continues a scalar, or a line must end behind no scalar that begins with it.
     is_quiet: [bool; 256],
+    /// Whether it is a scalar by itself, and a letter or a number.
     is_letter: [bool; 256],
 }
 
@@ -23,7 +30,7 @@ impl ByteFlags {
         ensures quiet { AreQuiet (C.cell_of cells.now) result.is_quiet }
         ensures letters { AreLetters (C.cell_of cells.now) result.is_letter }
     {
-        let mut is_quiet = [false; 256];
+        let mut is_quiet = cells.quiet_first_bytes();
         let mut is_letter = [false; 256];
         let mut byte = 0u8;
         while byte < ASCII {
@@ -32,15 +39,50 @@ impl ByteFlags {
             is_letter[usize::from(byte)] = cell.letter;
             byte += 1;
         }
+        while byte < FIRST {
+            is_quiet[usize::from(byte)] = true;
+            byte += 1;
+        }
         ByteFlags {
             is_quiet,
             is_letter,
         }
     }
 
-    /// Whether a byte is a scalar after which no line must end.
+    /// Up to where the bytes from `start` on are quiet, `end` at most.
     #[inline(always)]
-    pub fn is_quiet(&self, byte: u8) -> bool
+    pub fn past_quiet(&self, bytes: &[u8], start: usize, end: usize) -> usize
+        requires order { start ≤ end }
+        requires end { end ≤ length bytes.now }
+        ensures within { (start ≤ result) × (result ≤ end) }
+        ensures passed { ArePassed self.now.is_quiet bytes.now start result }
+        ensures stops { result < end → slice_index_or self.now.is_quiet (slice_index_or bytes.now result 0) false ≡ false }
+    {
+        let mut at = start;
+        while end - at >= TURN && self.are_quiet(bytes, at) {
+            at += TURN;
+        }
+        while at < end && self.is_quiet(bytes[at]) {
+            at += 1;
+        }
+        at
+    }
+
+    /// Whether all bytes of a turn are quiet. It reads all of them, so that there is one branch for all.
+    #[inline(always)]
+    fn are_quiet(&self, bytes: &[u8], start: usize) -> bool
+        requires { start + 8 ≤ length bytes.now }
+        ensures { result ≡ true → ArePassed self.now.is_quiet bytes.now start (start + 8) }
+    {
+        let mut all = true;
+        for k in 0..TURN {
+            all = self.is_quiet(bytes[start + k]) & all;
+        }
+        all
+    }
+
+    #[inline(always)]
+    fn is_quiet(&self, byte: u8) -> bool
         ensures { result ≡ slice_index_or self.now.is_quiet byte false }
     {
         self.is_quiet[usize::from(byte)]

@@ -1,8 +1,8 @@
 //! How far a paragraph reaches into a piece of text.
 
-ghost use Rattle.std.specs.Prelude.{◌≡◌, ◌≤◌, Option};
+ghost use Rattle.std.specs.Prelude.{◌≡◌, ℕ, ◌≤◌, IsCharBoundary, Option};
 ghost use Rattle.lbk_rules.specs.declared.classes.Class.{Class};
-ghost use Rattle.lbk_passage.specs.Flags.{AreQuiet, Passes, class_behind, is_end};
+ghost use Rattle.lbk_passage.specs.Flags.{AreQuiet, Passes, is_end};
 
 use crate::ends::{ends_at, ends_line};
 use crate::flags::ByteFlags;
@@ -59,63 +59,60 @@ pub fn reach_in<C: CellSource>(
     requires { AreQuiet (C.cell_of cells.now) flags.now.is_quiet }
     ensures { Reaches (C.cell_of cells.now) last piece.now room result }
 {
+    let most = piece.floor_char_boundary(room);
     let mut here = Place { len: 0, last };
     loop {
-        let mut scalars = piece[here.len..].chars();
+        // Scalars behind which no line must end come in runs.
+        let quiet = pass_quiet(cells, flags, piece, most, here);
+        let mut scalars = piece[quiet.len..].chars();
         let Some(c) = scalars.next() else {
-            return here.stops(Stop::PieceEnds);
+            return quiet.stops(Stop::PieceEnds);
         };
         let class = cells.cell(c).class;
-        if ends_at(here.last, class) {
-            return here.stops(Stop::LineEnds);
+        if ends_at(quiet.last, class) {
+            return quiet.stops(Stop::LineEnds);
         }
         let next = piece.len() - scalars.as_str().len();
         if next > room {
-            return here.stops(Stop::NoRoom);
+            return quiet.stops(Stop::NoRoom);
         }
         here = Place {
             len: next,
             last: Some(class),
         };
-        // Scalars of one byte come in runs.
-        if c.is_ascii() {
-            here = pass_quiet(cells, flags, piece, room, here);
-        }
     }
 }
 
-/// Passes over scalars of one byte, where no line must end behind any, nor behind the one before them.
+/// Passes over scalars up to the byte `most`, where their bytes tell that a line must end behind none of them, nor behind
+/// the one before them.
 #[inline(always)]
 fn pass_quiet<C: CellSource>(
     cells: &C,
     flags: &ByteFlags,
     piece: &str,
-    room: usize,
+    most: usize,
     here: Place,
 ) -> Place
-    requires { AreQuiet (C.cell_of cells.now) flags.now.is_quiet }
-    ensures passes { (first : Option Class) → Passes (C.cell_of cells.now) first piece.now room here.len here.last
+    requires quiet { AreQuiet (C.cell_of cells.now) flags.now.is_quiet }
+    requires order { here.len ≤ most }
+    requires most { IsCharBoundary piece.now most }
+    ensures passes { (first : Option Class) (room : ℕ) → most ≤ room → Passes (C.cell_of cells.now) first piece.now room here.len here.last
         → Passes (C.cell_of cells.now) first piece.now room result.len result.last }
     ensures onward { here.len ≤ result.len }
 {
     if is_end(here.last) {
         return here;
     }
-    let bytes = piece.as_bytes();
-    let most = bytes.len().min(room);
-    let mut len = here.len;
-    let mut seen = None;
-    while len < most {
-        let byte = bytes[len];
-        if !flags.is_quiet(byte) {
-            break;
-        }
-        seen = Some(byte);
-        len += 1;
+    let len = flags.past_quiet(piece.as_bytes(), here.len, most);
+    if len == here.len {
+        return here;
     }
+    let Some(last) = piece[..len].chars().next_back() else {
+        return here;
+    };
     Place {
         len,
-        last: class_behind(cells, here.last, seen),
+        last: Some(cells.cell(last).class),
     }
 }
 
@@ -126,15 +123,5 @@ fn is_end(last: Option<Class>) -> bool
     match last {
         None => false,
         Some(class) => ends_line(class),
-    }
-}
-
-/// The class of the byte seen last, or `last` where none was.
-fn class_behind<C: CellSource>(cells: &C, last: Option<Class>, seen: Option<u8>) -> Option<Class>
-    ensures { result ≡ class_behind (C.cell_of cells.now) last seen }
-{
-    match seen {
-        None => last,
-        Some(byte) => Some(cells.cell(char::from(byte)).class),
     }
 }

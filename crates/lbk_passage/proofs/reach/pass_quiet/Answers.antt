@@ -1,23 +1,36 @@
-use Rattle.std.proofs.Common.{◌≡◌, ◌<◌, true, false, slice_index_or, length, rules, ap, arith}
-use Rattle.lbk_passage.specs.Flags.{class_behind}
-use Rattle.lbk_passage.proofs.Passing.{Passes-byte}
+use Rattle.std.proofs.Common.{◌≡◌, ◌++◌, ◌-◌, ◌<◌, false, drop, take, encode_utf8, chars, slice_index_or, rules, ap, sym, subst, ◌∙◌, arith}
+use Rattle.std.specs.Char.{IsScalar}
+use Rattle.std.proofs.lemmas.Str.{IsUtf8-drop, scalars-chars, encodes-chars}
+use Rattle.lbk_passage.specs.Flags.{ArePassed, is_end}
+use Rattle.lbk_passage.proofs.Passing.{Passes-last, Passes-quiet, place-passed}
 use Rattle.lbk_passage.proofs.reach.pass_quiet.Goals as goal
 
-pub loop-len-preserved : goal.loop-len-preserved
-loop-len-preserved g c =
+pub range-requires-clause-end_boundary : goal.range-requires-clause-end_boundary
+range-requires-clause-end_boundary g c =
+    place-passed (g.C.CellSource.cell_of c.args.cells.now) c.args.flags.now.is_quiet c.args.piece.now c.past_quiet-len.result c.args.most c.requires.quiet c.requires.most
+    c.past_quiet-len.ensures.within.1
+    (subst (λ l. c.past_quiet-len.result < c.args.most → slice_index_or c.args.flags.now.is_quiet (slice_index_or l c.past_quiet-len.result 0) false ≡ false)
+    c.as_bytes.ensures.value c.past_quiet-len.ensures.stops)
+
+pub returns-clause-passes : goal.returns-clause-passes
+returns-clause-passes g c = λ first room enough passes.
     let cell = g.C.CellSource.cell_of c.args.cells.now in
+    let is_quiet = c.args.flags.now.is_quiet in
     let piece = c.args.piece.now in
-    let len = c.loop-len.len in
-    let byte = slice_index_or c.as_bytes-bytes.result.now len 0 in
-    let few : byte < 256 = search rules in
-    let on : slice_index_or c.args.flags.now.is_quiet byte false ≡ true = search rules in
-    let told = c.requires byte few on in
-    let same : byte ≡ slice_index_or piece len 0 = ap (λ l. slice_index_or l len 0) c.as_bytes-bytes.ensures.value in
-    let within : len < length piece = search rules in
-    let room : len < c.args.room = search rules in
-    record {
-      passes = λ first before. Passes-byte cell first piece c.args.room c.utf8.piece len (class_behind cell c.args.here.last c.loop-len.seen) byte
-          (c.loop-len.invariant.passes first before) within same told.0 c.loop-len.invariant.calm room;
-      calm = told.1;
-      onward = omega (arith, c.loop-len.invariant.onward);
-    }
+    let here = c.args.here in
+    let len = c.past_quiet-len.result in
+    let within = c.past_quiet-len.ensures.within in
+    let place = place-passed cell is_quiet piece len c.args.most c.requires.quiet c.requires.most within.1
+    (subst (λ l. len < c.args.most → slice_index_or is_quiet (slice_index_or l len 0) false ≡ false) c.as_bytes.ensures.value c.past_quiet-len.ensures.stops) in
+    let text = IsUtf8-drop piece here.len c.utf8.piece passes.place in
+    let calm : is_end here.last ≡ false = sym c.is_end.ensures ∙ c.if-is_end.false in
+    let passed = subst (λ l. ArePassed is_quiet l here.len len) c.as_bytes.ensures.value c.past_quiet-len.ensures.passed in
+    let all = Passes-quiet cell first piece room c.utf8.piece is_quiet c.requires.quiet len place (omega (arith, within.1, enough))
+    (chars (drop here.len piece)) here.len here.last passes calm (scalars-chars (drop here.len piece) text)
+    (sym (encodes-chars (drop here.len piece) text)) within.0 passed in
+    let is_scalar : IsScalar c.in-Some.last = search rules in
+    let rest = c.next_back.new.self.rest.now in
+    let from_start : len - 0 ≡ len = omega arith in
+    let splits : take len piece ≡ rest ++ encode_utf8 c.in-Some.last =
+    ap (λ n. take n piece) (sym from_start) ∙ sym (c.chars.ensures.rest ∙ c.range.ensures.value) ∙ c.in-Some.ensures.steps in
+    rw c.cell.ensures (Passes-last cell first piece room c.utf8.piece len all.0 rest c.in-Some.last all.1 is_scalar splits)
