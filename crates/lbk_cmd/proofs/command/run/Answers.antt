@@ -5,7 +5,7 @@ use Rattle.lbk_cmd.proofs.command.run.Goals as goal
 
 pub invariant_of-ready : goal.invariant_of-ready
 invariant_of-ready g c =
-    let cells = c.in-Ok.ready.cells in record { complete = cells.complete; numbered = cells.numbered; distinct = cells.distinct; given = cells.given; same = cells.same }
+    let cells = c.in-Ok.ready.cells in record { complete = cells.complete; numbered = cells.numbered; distinct = cells.distinct; given = cells.given; same = cells.same; quiet = cells.quiet }
 
 pub returns-then-is_empty-clause-samples : goal.returns-then-is_empty-clause-samples
 returns-then-is_empty-clause-samples g c none = c.show_samples.ensures

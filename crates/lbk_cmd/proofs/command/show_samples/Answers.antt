@@ -4,7 +4,7 @@ use Rattle.lbk_cmd.proofs.command.show_samples.Goals as goal
 
 pub invariant_of-cells : goal.invariant_of-cells
 invariant_of-cells g c =
-    let cells = c.in-Ok.cells in record { complete = cells.complete; numbered = cells.numbered; distinct = cells.distinct; given = cells.given; same = cells.same }
+    let cells = c.in-Ok.cells in record { complete = cells.complete; numbered = cells.numbered; distinct = cells.distinct; given = cells.given; same = cells.same; quiet = cells.quiet }
 
 pub returns-in-Ok : goal.returns-in-Ok
 returns-in-Ok g c = inr (
