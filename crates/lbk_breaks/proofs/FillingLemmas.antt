@@ -1,12 +1,12 @@
 -- A block that is filled with breaks, scalar by scalar.
-use Rattle.std.proofs.Common.{◌≡◌, ℕ, ◌+◌, ◌-◌, ◌<◌, ◌≤◌, Bool, true, false, cond, not, List, [], ◌∷◌, ◌++◌, length, map, drop, take, append_assoc, refl, sym, ap, subst, ◌∙◌, arith}
+use Rattle.std.proofs.Common.{◌≡◌, get_or, ℕ, ◌+◌, ◌-◌, ◌<◌, ◌≤◌, Bool, true, false, cond, not, List, [], ◌∷◌, ◌++◌, length, map, drop, take, append_assoc, refl, sym, ap, subst, ◌∙◌, arith}
 use Rattle.std.specs.Char.{encode_utf8}
 use Rattle.std.specs.Int.{from_bool}
 use Rattle.std.specs.Str.{IsCharBoundary, IsUtf8, chars}
 use Rattle.std.proofs.Math.ListN.{set}
 use Rattle.std.proofs.Math.Seq.{drop-append_seam, drop-drop}
-use Rattle.std.proofs.lemmas.List.{append-nil, length-append, length-drop, take-set, take_more_set}
-use Rattle.std.proofs.lemmas.Str.{IsCharBoundary-from_drop, IsUtf8-drop, IsUtf8-past_char, chars_past_char}
+use Rattle.std.proofs.lemmas.List.{append-nil, drop_more, length-append, length-drop, take-set, take_more_set}
+use Rattle.std.proofs.lemmas.Str.{IsCharBoundary-from_drop, IsUtf8-drop, IsUtf8-past_char, chars_past_char, encode_ascii}
 use Rattle.lbk_rules.specs.declared.breaks.Break.{Break}
 use Rattle.lbk_rules.specs.declared.cells.Cell.{Cell}
 use Rattle.lbk_rules.specs.declared.verdicts.Profile.{Profile}
@@ -73,6 +73,17 @@ reads text more at c utf8 place splits =
       begins = chars_past_char (drop at text) more c here splits;
       place = IsCharBoundary-from_drop text (length text - length more) (omega arith) (subst IsUtf8 (sym rest) (IsUtf8-past_char (drop at text) more c here splits));
     }
+
+-- the same of a scalar of one byte
+pub reads-byte : (text : List ℕ) (at byte : ℕ) → IsUtf8 text → IsCharBoundary text at → at < length text → byte ≡ get_or text at 0 → byte < 128
+    → Reads text at byte (at + 1) (drop (at + 1) text)
+reads-byte text at byte utf8 place there is ascii =
+    let more = drop (at + 1) text in
+    let splits : drop at text ≡ encode_utf8 byte ++ more =
+    drop_more text at 0 there ∙ ap (λ b. b ∷ more) (sym is) ∙ ap (λ l. l ++ more) (sym (encode_ascii byte ascii)) in
+    let left = length-drop (at + 1) text in
+    let next_is : length text - length more ≡ at + 1 = omega arith in
+    subst (λ next. Reads text at byte next more) next_is (reads text more at byte utf8 place splits)
 
 pub Filled-step : (Fits Next : List ℕ → Type 0) (profile : Profile) (cell : ℕ → Cell) (text before : List ℕ) (start at next c : ℕ) (more : List ℕ) (given after : List Break) (verdict : Verdict)
     → ((taken : List ℕ) → Fits taken → verdict ≡ verdict_between_in profile (map cell taken) (cell c ∷ map cell (chars more)))

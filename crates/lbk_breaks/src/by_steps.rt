@@ -53,15 +53,24 @@ fn quick(machine: &mut RowMachine<'_>, text: &str, start: Progress, block: &mut 
     let mut count = start.count;
     let mut at = start.at;
     while count < block.len() && at < text.len() {
-        let mut scalars = text[at..].chars();
-        let Some(c) = scalars.next() else {
-            break;
-        };
-        let Some(verdict) = here.step_unless_held(c) else {
-            break;
-        };
-        count = put(block, count, at, verdict);
-        at = text.len() - scalars.as_str().len();
+        let byte = text.as_bytes()[at];
+        if byte < 0x80 {
+            let Some(verdict) = here.step_unless_held(char::from(byte)) else {
+                break;
+            };
+            count = put(block, count, at, verdict);
+            at += 1;
+        } else {
+            let mut scalars = text[at..].chars();
+            let Some(c) = scalars.next() else {
+                break;
+            };
+            let Some(verdict) = here.step_unless_held(c) else {
+                break;
+            };
+            count = put(block, count, at, verdict);
+            at = text.len() - scalars.as_str().len();
+        }
     }
     *machine = here;
     Progress { count, at }

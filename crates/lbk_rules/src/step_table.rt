@@ -130,18 +130,18 @@ impl<'a> RowMachine<'a> {
         Some(step.verdict)
     }
 
-    /// The step by `c`, of which the verdict is that where nothing follows.
+    /// The step by `c`, of which the verdict is that where nothing follows. It is not copied, so that the row is read alone.
     #[inline(always)]
-    fn step_by(&self, c: char) -> Step
-        ensures row { IsRowOf self.now.rows.now result.next }
+    fn step_by(&self, c: char) -> &'a Step
+        ensures row { IsRowOf self.now.rows.now result.now.next }
         ensures leads { (profile : Profile) (cell : ℕ → Cell) (taken : List ℕ)
             → RowMachineFits self.now profile cell taken
-            → RowFits self.now.rows.now result.next (normals cell (taken ++ c ∷ [])) }
+            → RowFits self.now.rows.now result.now.next (normals cell (taken ++ c ∷ [])) }
         ensures so_far { (profile : Profile) (cell : ℕ → Cell) (taken : List ℕ)
             → RowMachineFits self.now profile cell taken
-            → result.verdict ≡ from_cells profile (reverse (map cell taken)) (cell c ∷ []) }
+            → result.now.verdict ≡ from_cells profile (reverse (map cell taken)) (cell c ∷ []) }
     {
-        *step_of(self.steps, self.row, self.kind(c) as usize)
+        step_of(self.steps, self.row, self.kind(c) as usize)
     }
 
     /// The kind of `c`.
