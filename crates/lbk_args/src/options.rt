@@ -1,10 +1,10 @@
 //! The options and subcommands of the program, with their help.
 
 ghost use Rattle.std.specs.Prelude.{◌≡◌, false, IfOk, codes};
-ghost use Rattle.clap.specs.Words.{app_of, rule_of};
+ghost use Rattle.clap.specs.Words.{App, Rule, app_of, rule_of, with_rule, with_subcommand};
 ghost use Rattle.lbk_feed.specs.Text.{greatest_limit};
-ghost use Rattle.lbk_args.specs.Local.{IsLocal};
-ghost use Rattle.lbk_args.specs.Command.{long_rule, value_rule, number_rule, default_limit_text, flag_rule, profile_rule, folder_app, widths_app, files_app, limited_app, replay_app, bare_app, app_to_mark, app_to_show, app_to_segment, lbk_app};
+ghost use Rattle.lbk_args.specs.Local.{IsLocal, IsMade};
+ghost use Rattle.lbk_args.specs.Command.{long_rule, value_rule, number_rule, default_limit_text, flag_rule, profile_rule, files_app, limited_app, replay_app, bare_app, lbk_app};
 
 use clap::builder::ValueParser;
 use clap::{Arg, ArgAction, Command};
@@ -151,105 +151,98 @@ fn kinds_option<'a>(alloc: Global) -> Arg<'a>
         .help("Marks tell ! from ÷; without it ÷ stands for every break")
 }
 
-/// A subcommand with the option of the folder.
-fn with_folder<'a>(alloc: Global, name: &'a str) -> Result<Command<'a>, AllocError>
-    ensures app { IfOk result (λ c. app_of c ≡ folder_app name.entry.now) }
-    ensures local { IfOk result IsLocal }
+/// A command line, or that a growth of memory was refused for it.
+type Made<'a> = Result<Command<'a>, AllocError>;
+
+/// The command with one option more.
+///
+/// It takes what was made so far, error or not: a function that goes on with such a value and never leaves early is
+/// proved much faster than one with a `?` at each step.
+fn with_option<'a>(command: Made<'a>, option: Arg<'a>) -> Made<'a>
+    requires { option.global ≡ false }
+    ensures { (app : App) → (rule : Rule) → rule_of option.entry ≡ rule → IsMade app command.entry
+        → IsMade (with_rule app rule) result }
 {
-    Command::new(alloc, name).arg(folder_option(alloc))
+    command?.arg(option)
 }
 
-/// A subcommand with the options of the folder and of the first two files.
-fn with_widths<'a>(alloc: Global, name: &'a str) -> Result<Command<'a>, AllocError>
-    ensures app { IfOk result (λ c. app_of c ≡ widths_app name.entry.now) }
-    ensures local { IfOk result IsLocal }
+/// The command with one subcommand more.
+fn with_command<'a>(command: Made<'a>, added: Made<'a>) -> Made<'a>
+    ensures { (app : App) → (sub : App) → IsMade app command.entry → IsMade sub added.entry
+        → IsMade (with_subcommand app sub.top) result }
 {
-    with_folder(alloc, name)?
-        .arg(file_option(
-            alloc,
-            "line-break",
-            "LineBreak.txt, the classes of characters",
-        ))?
-        .arg(file_option(alloc, "east-asian", "EastAsianWidth.txt, the widths"))
-}
-
-/// A subcommand with the options of the four files.
-fn with_files<'a>(alloc: Global, name: &'a str) -> Result<Command<'a>, AllocError>
-    ensures app { IfOk result (λ c. app_of c ≡ files_app name.entry.now) }
-    ensures local { IfOk result IsLocal }
-{
-    with_widths(alloc, name)?
-        .arg(file_option(
-            alloc,
-            "category",
-            "DerivedGeneralCategory.txt, the general categories",
-        ))?
-        .arg(file_option(alloc, "emoji", "emoji-data.txt, the pictographs"))
+    command?.subcommand(added?)
 }
 
 /// The command with what its help says.
-fn described<'a>(
-    command: Command<'a>,
-    usage: &'a str,
-    about: &'a str,
-    after: &'a str,
-) -> Command<'a>
-    ensures app { app_of result ≡ app_of command.entry }
-    ensures local { IsLocal command.entry → IsLocal result }
+fn described<'a>(command: Made<'a>, usage: &'a str, about: &'a str, after: &'a str) -> Made<'a>
+    ensures { (app : App) → IsMade app command.entry → IsMade app result }
 {
-    command.override_usage(usage).about(about).after_help(after)
+    Ok(
+        command?
+            .override_usage(usage)
+            .about(about)
+            .after_help(after),
+    )
+}
+
+/// A subcommand with the options of the folder and of the four files.
+fn with_files<'a>(alloc: Global, name: &'a str) -> Made<'a>
+    ensures { IsMade (files_app name.entry.now) result }
+{
+    let command = with_option(Ok(Command::new(alloc, name)), folder_option(alloc));
+    let classes = "LineBreak.txt, the classes of characters";
+    let command = with_option(command, file_option(alloc, "line-break", classes));
+    let widths = "EastAsianWidth.txt, the widths";
+    let command = with_option(command, file_option(alloc, "east-asian", widths));
+    let categories = "DerivedGeneralCategory.txt, the general categories";
+    let command = with_option(command, file_option(alloc, "category", categories));
+    let pictographs = "emoji-data.txt, the pictographs";
+    with_option(command, file_option(alloc, "emoji", pictographs))
 }
 
 /// `mark`, `show` or `segment`.
-fn limited<'a>(alloc: Global, name: &'a str) -> Result<Command<'a>, AllocError>
-    ensures app { IfOk result (λ c. app_of c ≡ limited_app name.entry.now) }
-    ensures local { IfOk result IsLocal }
+fn limited<'a>(alloc: Global, name: &'a str) -> Made<'a>
+    ensures { IsMade (limited_app name.entry.now) result }
 {
-    with_files(alloc, name)?
-        .arg(limit_option(alloc))?
-        .arg(profile_option(alloc))
+    let command = with_option(with_files(alloc, name), limit_option(alloc));
+    with_option(command, profile_option(alloc))
 }
 
-fn mark<'a>(alloc: Global) -> Result<Command<'a>, AllocError>
-    ensures app { IfOk result (λ c. app_of c ≡ limited_app (codes "mark")) }
-    ensures local { IfOk result IsLocal }
+fn mark<'a>(alloc: Global) -> Made<'a>
+    ensures { IsMade (limited_app (codes "mark")) result }
 {
-    Ok(described(limited(alloc, "mark")?, MARK_USAGE, MARK_ABOUT, MARK_AFTER))
+    described(limited(alloc, "mark"), MARK_USAGE, MARK_ABOUT, MARK_AFTER)
 }
 
-fn show<'a>(alloc: Global) -> Result<Command<'a>, AllocError>
-    ensures app { IfOk result (λ c. app_of c ≡ limited_app (codes "show")) }
-    ensures local { IfOk result IsLocal }
+fn show<'a>(alloc: Global) -> Made<'a>
+    ensures { IsMade (limited_app (codes "show")) result }
 {
-    Ok(described(limited(alloc, "show")?, SHOW_USAGE, SHOW_ABOUT, SHOW_AFTER))
+    described(limited(alloc, "show"), SHOW_USAGE, SHOW_ABOUT, SHOW_AFTER)
 }
 
-fn segment<'a>(alloc: Global) -> Result<Command<'a>, AllocError>
-    ensures app { IfOk result (λ c. app_of c ≡ limited_app (codes "segment")) }
-    ensures local { IfOk result IsLocal }
+fn segment<'a>(alloc: Global) -> Made<'a>
+    ensures { IsMade (limited_app (codes "segment")) result }
 {
-    Ok(described(
-        limited(alloc, "segment")?,
+    described(
+        limited(alloc, "segment"),
         SEGMENT_USAGE,
         SEGMENT_ABOUT,
         SEGMENT_AFTER,
-    ))
+    )
 }
 
-fn replay<'a>(alloc: Global) -> Result<Command<'a>, AllocError>
-    ensures app { IfOk result (λ c. app_of c ≡ replay_app) }
-    ensures local { IfOk result IsLocal }
+fn replay<'a>(alloc: Global) -> Made<'a>
+    ensures { IsMade replay_app result }
 {
-    let replay = with_files(alloc, "replay")?
-        .arg(kinds_option(alloc))?
-        .arg(profile_option(alloc))?;
-    Ok(described(replay, REPLAY_USAGE, REPLAY_ABOUT, REPLAY_AFTER))
+    let command = with_option(with_files(alloc, "replay"), kinds_option(alloc));
+    let command = with_option(command, profile_option(alloc));
+    described(command, REPLAY_USAGE, REPLAY_ABOUT, REPLAY_AFTER)
 }
 
 /// The program with no subcommand yet.
-fn bare<'a>(alloc: Global) -> Result<Command<'a>, AllocError>
-    ensures app { IfOk result (λ c. app_of c ≡ bare_app) }
-    ensures local { IfOk result IsLocal }
+fn bare<'a>(alloc: Global) -> Made<'a>
+    ensures { IsMade bare_app result }
 {
     Command::new(alloc, "lbk")
         .about(ABOUT)
@@ -260,32 +253,13 @@ fn bare<'a>(alloc: Global) -> Result<Command<'a>, AllocError>
         .bin_name("lbk")
 }
 
-/// The program with its first subcommand. Each function here adds one: the proof of one that adds all takes minutes.
-fn with_mark<'a>(alloc: Global) -> Result<Command<'a>, AllocError>
-    ensures app { IfOk result (λ c. app_of c ≡ app_to_mark) }
-    ensures local { IfOk result IsLocal }
-{
-    bare(alloc)?.subcommand(mark(alloc)?)
-}
-
-fn with_show<'a>(alloc: Global) -> Result<Command<'a>, AllocError>
-    ensures app { IfOk result (λ c. app_of c ≡ app_to_show) }
-    ensures local { IfOk result IsLocal }
-{
-    with_mark(alloc)?.subcommand(show(alloc)?)
-}
-
-fn with_segment<'a>(alloc: Global) -> Result<Command<'a>, AllocError>
-    ensures app { IfOk result (λ c. app_of c ≡ app_to_segment) }
-    ensures local { IfOk result IsLocal }
-{
-    with_show(alloc)?.subcommand(segment(alloc)?)
-}
-
 /// The command line of the program.
 pub fn command<'a>(alloc: Global) -> Result<Command<'a>, AllocError>
     ensures app { IfOk result (λ c. app_of c ≡ lbk_app) }
     ensures local { IfOk result IsLocal }
 {
-    with_segment(alloc)?.subcommand(replay(alloc)?)
+    let command = with_command(bare(alloc), mark(alloc));
+    let command = with_command(command, show(alloc));
+    let command = with_command(command, segment(alloc));
+    with_command(command, replay(alloc))
 }
