@@ -12,24 +12,19 @@ use thiserror::Error;
 
 /// Why a run is refused.
 #[derive(Clone, Copy, Debug, PartialEq, Eq, Error)]
+#[error("{}", Message::of_call(*self))]
 pub enum RunFault {
     /// A property file cannot be opened or read.
-    #[error("{}", Message::of_call(*self))]
     Load(Which),
     /// A property file of a folder is not that of Unicode 15.0.
-    #[error("{}", Message::of_call(*self))]
     Claim(Which, ClaimCause),
     /// The property files were refused at their first fault, or at a line where their tables could not grow.
-    #[error("{}", Message::of_call(*self))]
     Tables(UcdFault),
     /// `mark`, `show` or `segment` stopped.
-    #[error("{}", Message::of_call(*self))]
     Cmd(CmdFault),
     /// `replay` stopped.
-    #[error("{}", Message::of_call(*self))]
     Replay(ReplayFault),
     /// Any other growth of memory was refused.
-    #[error("{}", Message::of_call(*self))]
     Memory,
 }
 

@@ -12,15 +12,13 @@ use thiserror::Error;
 
 /// Why an engine stopped.
 #[derive(Clone, Copy, Debug, PartialEq, Eq, Error)]
+#[error("{}", Message::of_call(RunFault::Cmd(*self)))]
 pub enum CmdFault {
     /// A passage was refused, or memory could not grow for it.
-    #[error("{}", Message::of_call(RunFault::Cmd(*self)))]
     Passage(PassageFault),
     /// The writer failed in this call.
-    #[error("{}", Message::of_call(RunFault::Cmd(*self)))]
     Write,
     /// Memory could not grow for what is written.
-    #[error("{}", Message::of_call(RunFault::Cmd(*self)))]
     Memory,
 }
 

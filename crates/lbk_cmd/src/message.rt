@@ -38,26 +38,20 @@ pub struct Message<'a> {
 impl<'a> fmt::Display for Message<'a> {
     fn fmt<W: fmt::Write>(&self, f: &mut fmt::Formatter<W>) -> fmt::Result {
         match self.fault {
-            RunFault::Load(which) => {
-                let why = Why(self.reason);
-                let fault = self.named(CellsFault::Load(which), which);
-                write!(f, "{fault}{why}")
-            }
-            RunFault::Claim(which, cause) => {
-                write!(f, "{}", self.named(CellsFault::Claim(which, cause), which))
-            }
-            RunFault::Tables(fault) => {
-                write!(f, "{}", self.named(CellsFault::Tables(fault), fault.file))
-            }
+            RunFault::Load(which) => self.unloaded(f, which),
+            RunFault::Claim(which, cause) => self
+                .named(CellsFault::Claim(which, cause), which)
+                .fmt(f),
+            RunFault::Tables(fault) => self.named(CellsFault::Tables(fault), fault.file).fmt(f),
             RunFault::Cmd(CmdFault::Passage(fault)) => self.passage_fault(f, fault),
             RunFault::Replay(ReplayFault::Read) => self.unread(f),
             RunFault::Replay(ReplayFault::StreamTooLong) => self.too_long(f),
-            RunFault::Cmd(CmdFault::Write) | RunFault::Replay(ReplayFault::Write) => {
-                write!(f, "{} cannot be written{}", self.output(), Why(self.reason))
-            }
+            RunFault::Cmd(CmdFault::Write) | RunFault::Replay(ReplayFault::Write) => self.unwritten(
+                f,
+            ),
             RunFault::Cmd(CmdFault::Memory)
             | RunFault::Replay(ReplayFault::Memory)
-            | RunFault::Memory => write!(f, "out of memory"),
+            | RunFault::Memory => f.write_str("out of memory"),
         }
     }
 }
@@ -102,6 +96,15 @@ impl<'a> Message<'a> {
         }
     }
 
+    fn unloaded<W: fmt::Write>(&self, f: &mut fmt::Formatter<W>, which: Which) -> fmt::Result {
+        let fault = self.named(CellsFault::Load(which), which);
+        write!(f, "{fault}{}", Why(self.reason))
+    }
+
+    fn unwritten<W: fmt::Write>(&self, f: &mut fmt::Formatter<W>) -> fmt::Result {
+        write!(f, "{} cannot be written{}", self.output(), Why(self.reason))
+    }
+
     fn unread<W: fmt::Write>(&self, f: &mut fmt::Formatter<W>) -> fmt::Result {
         write!(f, "{} cannot be read{}", self.input(), Why(self.reason))
     }
@@ -115,32 +118,40 @@ impl<'a> Message<'a> {
         f: &mut fmt::Formatter<W>,
         fault: PassageFault,
     ) -> fmt::Result {
-        let input = self.input();
         match fault {
             PassageFault::Limit => {
                 write!(f, "the limit of a paragraph is 1 to {LIMIT_MAX} bytes")
             }
-            PassageFault::Memory => write!(f, "out of memory"),
+            PassageFault::Memory => f.write_str("out of memory"),
             PassageFault::Read => self.unread(f),
-            PassageFault::NotUtf8 { at } => {
-                let hint = if self.is_utf16 { UTF_16_HINT } else { "" };
-                write!(f, "{input}: byte {at}: invalid UTF-8{hint}")
-            }
+            PassageFault::NotUtf8 { at } => self.not_utf8(f, at),
             PassageFault::TextTooLong => self.too_long(f),
-            PassageFault::ParagraphTooLong { start } => {
-                write!(
-                    f,
-                    "{input}: byte {start}: the paragraph from here on has more "
-                )?;
-                match self.limit() {
-                    Some(limit) => write!(
-                        f,
-                        "than {limit} bytes; --limit raises the limit, up to {LIMIT_MAX}"
-                    ),
-                    None => write!(f, "bytes than the limit"),
-                }
-            }
-            PassageFault::Spent => write!(f, "an earlier call was refused"),
+            PassageFault::ParagraphTooLong { start } => self.paragraph_too_long(f, start),
+            PassageFault::Spent => f.write_str("an earlier call was refused"),
+        }
+    }
+
+    fn not_utf8<W: fmt::Write>(&self, f: &mut fmt::Formatter<W>, at: u64) -> fmt::Result {
+        let hint = if self.is_utf16 { UTF_16_HINT } else { "" };
+        write!(f, "{}: byte {at}: invalid UTF-8{hint}", self.input())
+    }
+
+    fn paragraph_too_long<W: fmt::Write>(
+        &self,
+        f: &mut fmt::Formatter<W>,
+        start: u64,
+    ) -> fmt::Result {
+        let input = self.input();
+        write!(
+            f,
+            "{input}: byte {start}: the paragraph from here on has more "
+        )?;
+        match self.limit() {
+            Some(limit) => write!(
+                f,
+                "than {limit} bytes; --limit raises the limit, up to {LIMIT_MAX}"
+            ),
+            None => f.write_str("bytes than the limit"),
         }
     }
 
