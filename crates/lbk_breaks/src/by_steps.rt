@@ -1,6 +1,6 @@
 //! A block that is filled by the table of steps.
 
-ghost use Rattle.std.specs.Prelude.{◌≡◌, ℕ, ◌<◌, ◌≤◌, List, IsCharBoundary, length, take};
+ghost use Rattle.std.specs.Prelude.{◌≡◌, ℕ, ◌<◌, ◌≤◌, List, IfNone, IfSome, IsCharBoundary, length, take};
 ghost use Rattle.lbk_rules.specs.declared.cells.Cell.{Cell};
 ghost use Rattle.lbk_rules.specs.declared.verdicts.Profile.{Profile};
 ghost use Rattle.lbk_rules.specs.RowMachineFits.{RowMachineFits};
@@ -49,31 +49,79 @@ fn quick(machine: &mut RowMachine<'_>, text: &str, start: Progress, block: &mut 
         → Filled (RowMachineFits machine.old profile cell) profile cell text.now before from start.at (take start.count block.old)
         → Filled (RowMachineFits machine.new profile cell) profile cell text.now before from result.at (take result.count block.new) }
 {
-    let mut here = *machine;
+    let mut own = *machine;
+    let mut here = run_of_ascii(&mut own, text, start, block);
+    while here.count < block.len() && here.at < text.len() {
+        let Some(past) = take_unless_held(&mut own, text, here, block) else {
+            break;
+        };
+        here = run_of_ascii(&mut own, text, past, block);
+    }
+    *machine = own;
+    here
+}
+
+/// The same, and until a scalar of several bytes. Most scalars have one, so their loop is the shortest.
+#[inline(always)]
+fn run_of_ascii(
+    machine: &mut RowMachine<'_>,
+    text: &str,
+    start: Progress,
+    block: &mut [Break],
+) -> Progress
+    requires room { start.count ≤ length block.old }
+    requires place { IsCharBoundary text.now start.at }
+    ensures within { result.count ≤ length block.old }
+    ensures place { IsCharBoundary text.now result.at }
+    ensures onward { start.at ≤ result.at }
+    ensures filled { (profile : Profile) (cell : ℕ → Cell) (before : List ℕ) (from : ℕ)
+        → Filled (RowMachineFits machine.old profile cell) profile cell text.now before from start.at (take start.count block.old)
+        → Filled (RowMachineFits machine.new profile cell) profile cell text.now before from result.at (take result.count block.new) }
+{
     let mut count = start.count;
     let mut at = start.at;
     while count < block.len() && at < text.len() {
         let byte = text.as_bytes()[at];
-        if byte < 0x80 {
-            let Some(verdict) = here.step_unless_held(char::from(byte)) else {
-                break;
-            };
-            count = put(block, count, at, verdict);
-            at += 1;
-        } else {
-            let mut scalars = text[at..].chars();
-            let Some(c) = scalars.next() else {
-                break;
-            };
-            let Some(verdict) = here.step_unless_held(c) else {
-                break;
-            };
-            count = put(block, count, at, verdict);
-            at = text.len() - scalars.as_str().len();
+        if byte >= 0x80 {
+            break;
         }
+        let Some(verdict) = machine.step_unless_held(char::from(byte)) else {
+            break;
+        };
+        count = put(block, count, at, verdict);
+        at += 1;
     }
-    *machine = here;
     Progress { count, at }
+}
+
+/// Takes one scalar and writes the break before it. None comes where that position is held, and nothing is taken then.
+#[inline(always)]
+fn take_unless_held(
+    machine: &mut RowMachine<'_>,
+    text: &str,
+    here: Progress,
+    block: &mut [Break],
+) -> Option<Progress>
+    requires room { here.count < length block.old }
+    requires place { IsCharBoundary text.now here.at }
+    requires some { here.at < length text.now }
+    ensures within { IfSome result (λ past. past.count ≤ length block.old) }
+    ensures place { IfSome result (λ past. IsCharBoundary text.now past.at) }
+    ensures onward { IfSome result (λ past. here.at < past.at) }
+    ensures filled { (profile : Profile) (cell : ℕ → Cell) (before : List ℕ) (from : ℕ)
+        → Filled (RowMachineFits machine.old profile cell) profile cell text.now before from here.at (take here.count block.old)
+        → IfSome result (λ past. Filled (RowMachineFits machine.new profile cell) profile cell text.now before from past.at (take past.count block.new)) }
+    ensures stays { IfNone result ((machine.new ≡ machine.old) × (block.new ≡ block.old)) }
+{
+    let mut scalars = text[here.at..].chars();
+    let Some(c) = scalars.next() else {
+        unreachable!()
+    };
+    let verdict = machine.step_unless_held(c)?;
+    Some(Progress {
+        count: put(block, here.count, here.at, verdict),
+        at: text.len() - scalars.as_str().len(),
+    })
 }
 
 /// Takes one scalar, also where the position before it is held, and writes the break there.

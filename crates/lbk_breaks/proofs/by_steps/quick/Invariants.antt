@@ -6,15 +6,15 @@ use Rattle.lbk_rules.specs.RowMachineFits.{RowMachineFits}
 use Rattle.lbk_breaks.specs.Onward.{Filled}
 use Rattle.lbk_breaks.proofs.by_steps.quick.Given as goal
 
-abbrev pub invariant-loop-count : goal.invariant-loop-count
-invariant-loop-count l = record {
-  within : l.count ≤ length l.block;
-  place : IsCharBoundary l.text l.at;
-  onward : l.fn.start.at ≤ l.at;
+abbrev pub invariant-loop-here : goal.invariant-loop-here
+invariant-loop-here l = record {
+  within : l.here.count ≤ length l.block;
+  place : IsCharBoundary l.text l.here.at;
+  onward : l.fn.start.at ≤ l.here.at;
   filled : (profile : Profile) (cell : ℕ → Cell) (before : List ℕ) (from : ℕ)
       → Filled (RowMachineFits l.fn.machine profile cell) profile cell l.text before from l.fn.start.at (take l.fn.start.count l.fn.block)
-      → Filled (RowMachineFits l.here profile cell) profile cell l.text before from l.at (take l.count l.block);
+      → Filled (RowMachineFits l.own profile cell) profile cell l.text before from l.here.at (take l.here.count l.block);
 }
 
-abbrev pub decreases-loop-count : goal.decreases-loop-count
-decreases-loop-count l = length l.text - l.at
+abbrev pub decreases-loop-here : goal.decreases-loop-here
+decreases-loop-here l = length l.text - l.here.at
