@@ -5,29 +5,10 @@
 //! memory in turn and compares.
 #![tactic(auto)]
 
-mod breaks;
-mod calls;
-mod commands;
-mod counting;
-mod devices;
-mod digest;
-mod engines;
-mod inputs;
-mod lines;
-mod on_text;
-mod passages;
-mod property_files;
-mod pushes;
-mod quiet;
-mod rows;
-mod tables;
-mod told;
-mod trial;
-mod verdicts;
-
 use anyhow::Result;
 use lbk_rules::Profile;
-use rows::{GROUPS, Row, trial_of};
+use lbk_trials_rows::digest;
+use lbk_trials_rows::rows::{GROUPS, Row, trial_of};
 use std::env;
 use std::process::ExitCode;
 

@@ -52,7 +52,7 @@ pub fn segmenter(
     profile: Profile,
 ) -> Result<Segmenter<'_, CellPages>, PassageFault> {
     begin(alloc);
-    let answer = Segmenter::new(alloc, cells, limit, profile);
+    let answer = bare_segmenter(alloc, cells, limit, profile);
     end(alloc);
     answer
 }
@@ -272,6 +272,15 @@ pub fn run(
 }
 
 // A call and no more, so that what it promises is not carried over the end of the count.
+
+pub fn bare_segmenter(
+    alloc: Global,
+    cells: &CellPages,
+    limit: u32,
+    profile: Profile,
+) -> Result<Segmenter<'_, CellPages>, PassageFault> {
+    Segmenter::new(alloc, cells, limit, profile)
+}
 
 fn bare_next<'s>(
     segmenter: &'s mut Segmenter<'_, CellPages>,

@@ -39,7 +39,7 @@ fn segmenter_of(
     limit: u32,
     profile: Profile,
 ) -> Result<Segmenter<'_, CellPages>> {
-    match Segmenter::new(alloc, cells, limit, profile) {
+    match calls::bare_segmenter(alloc, cells, limit, profile) {
         Ok(segmenter) => Ok(segmenter),
         Err(_) => Err(anyhow!("the limit of this row is refused")),
     }
@@ -118,10 +118,14 @@ fn digest_of(passage: &Passage<'_>) -> u64 {
 
 fn add_segments(digest: &mut Digest, segments: &[Segment]) {
     for segment in segments {
-        digest.add(u64::from(segment.start));
-        digest.add(u64::from(segment.end));
-        digest.add_verdict(segment.kind, segment.rule);
+        add_segment(digest, segment);
     }
+}
+
+fn add_segment(digest: &mut Digest, segment: &Segment) {
+    digest.add(u64::from(segment.start));
+    digest.add(u64::from(segment.end));
+    digest.add_verdict(segment.kind, segment.rule);
 }
 
 fn add_pieces(digest: &mut Digest, pieces: &[Piece]) {

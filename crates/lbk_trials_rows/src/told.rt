@@ -3,8 +3,8 @@
 use crate::digest::Digest;
 use crate::inputs::text_of;
 use anyhow::Result;
-use lbk_notation::{LineFault, TestLine};
-use lbk_rules::{Cell, CellSource};
+use lbk_notation::{LineFault, Mark, TestLine};
+use lbk_rules::{Cell, CellSource, Class, Quote};
 use std::alloc::Global;
 use std::fmt::Debug;
 
@@ -34,9 +34,12 @@ pub fn read_told(alloc: Global, answer: Result<Option<TestLine>, LineFault>) -> 
 }
 
 pub fn line_told(alloc: Global, line: &TestLine) -> Result<String> {
-    let scalars = line.scalars();
-    let marks = line.marks();
+    let (scalars, marks) = parts_of(line);
     Ok(format!(in alloc; "Ok({scalars:?} {marks:?})\n")?)
+}
+
+fn parts_of(line: &TestLine) -> (&[char], &[Mark]) {
+    (line.scalars(), line.marks())
 }
 
 pub fn digest_told(alloc: Global, digest: Digest) -> Result<String> {
@@ -57,5 +60,13 @@ pub fn cells_told<C: CellSource>(alloc: Global, source: &C) -> Result<String> {
 /// A number for each cell.
 fn number_of(cell: Cell) -> u64 {
     let flags = u64::from(cell.wide) | u64::from(cell.pict_cn) << 1 | u64::from(cell.letter) << 2;
-    flags | (cell.quote as u64) << 3 | (cell.class as u64) << 5
+    flags | number_of_quote(cell.quote) << 3 | number_of_class(cell.class) << 5
+}
+
+fn number_of_quote(quote: Quote) -> u64 {
+    quote as u64
+}
+
+fn number_of_class(class: Class) -> u64 {
+    class as u64
 }

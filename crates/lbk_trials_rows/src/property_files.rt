@@ -42,12 +42,17 @@ impl Made {
     }
 
     fn of(alloc: Global, files: Files<'_>) -> Result<Made, AllocError> {
-        Ok(Made {
-            line_break: Vec::from_slice(alloc, files.line_break)?,
-            east_asian: Vec::from_slice(alloc, files.east_asian)?,
-            category: Vec::from_slice(alloc, files.category)?,
-            emoji: Vec::from_slice(alloc, files.emoji)?,
-        })
+        let mut made = Made::of_line_break(alloc, Vec::new(alloc));
+        made.add(files)?;
+        Ok(made)
+    }
+
+    /// Puts these files behind its own.
+    fn add(&mut self, files: Files<'_>) -> Result<(), AllocError> {
+        self.line_break.extend_from_slice(files.line_break)?;
+        self.east_asian.extend_from_slice(files.east_asian)?;
+        self.category.extend_from_slice(files.category)?;
+        self.emoji.extend_from_slice(files.emoji)
     }
 
     fn of_line_break(alloc: Global, line_break: Vec<u8>) -> Made {

@@ -216,14 +216,14 @@ pub const GROUPS: [Group; 8] = [
 impl Group {
     pub fn rows(self) -> &'static [Row] {
         match self {
-            Group::Files => &FILES,
-            Group::Passages => &PASSAGES,
-            Group::Lines => &LINES,
-            Group::Pushes => &PUSHES,
-            Group::Engines => &ENGINES,
-            Group::Words => &WORDS,
-            Group::Runs => &RUNS,
-            Group::Quiet => &QUIET,
+            Group::Files => files(),
+            Group::Passages => passages(),
+            Group::Lines => lines(),
+            Group::Pushes => pushes(),
+            Group::Engines => engines(),
+            Group::Words => words(),
+            Group::Runs => runs(),
+            Group::Quiet => quiet(),
         }
     }
 
@@ -235,6 +235,40 @@ impl Group {
         }
         None
     }
+}
+
+// Each names its table by itself: a function is read with all of each table that it names.
+
+fn files() -> &'static [Row] {
+    &FILES
+}
+
+fn passages() -> &'static [Row] {
+    &PASSAGES
+}
+
+fn lines() -> &'static [Row] {
+    &LINES
+}
+
+fn pushes() -> &'static [Row] {
+    &PUSHES
+}
+
+fn engines() -> &'static [Row] {
+    &ENGINES
+}
+
+fn words() -> &'static [Row] {
+    &WORDS
+}
+
+fn runs() -> &'static [Row] {
+    &RUNS
+}
+
+fn quiet() -> &'static [Row] {
+    &QUIET
 }
 
 /// What the row of this name tries.
