@@ -150,6 +150,20 @@ static BY_PROFILE: [Row; 2] = [
     ),
 ];
 
+// A text that `mark` writes by a limit, and one that it refuses behind the first passage.
+#[test]
+fn marked(rt: HostRuntime) -> Result<(), Fail> {
+    let words = words_with(rt.alloc(), "mark", &["--limit", "6"])?;
+    let _ = check(&rt, rt.alloc(), &words, "ab cd\n", "ab ÷cd\n", 0)?;
+    let _ = check(&rt, rt.alloc(), &words, "a\nabcdefg", "a\n", 1)?;
+    Ok(())
+}
+
+#[test]
+fn law_of_words() {
+    lbk_args::laws::accepted_words_ask_for_a_task();
+}
+
 #[test]
 fn second_profile(rt: HostRuntime) -> Result<(), Fail> {
     check_done(&rt, rt.alloc(), &BY_PROFILE)

@@ -1,26 +1,6 @@
-//! Tests of passages, of the engines, of lines, of replays and of what is read back, over devices in memory. Most are tables of rows
-//! with answers from outside.
+//! Tests of passages, of the engines, of lines, of replays and of what is read back: the checks of `lbk_tests_checks`, each
+//! as a test.
 #![tactic(auto)]
 
 #[cfg(test)]
-mod broken;
-#[cfg(test)]
-mod calls;
-#[cfg(test)]
-mod checks;
-#[cfg(test)]
-mod laws;
-#[cfg(test)]
-mod lines;
-#[cfg(test)]
-mod passages;
-#[cfg(test)]
-mod replayed;
-#[cfg(test)]
-mod segment_lines;
-#[cfg(test)]
-mod segmented;
-#[cfg(test)]
-mod shown;
-#[cfg(test)]
-mod signed;
+mod tests;

@@ -5,15 +5,15 @@ use lbk_passage::PassageFault;
 use lbk_rules::Profile;
 use lbk_tests_rows::segment_lines::{BOTH, FIRST, SECOND};
 use lbk_tests_runs::tasks::{LIMIT, Task};
+use std::alloc::Global;
 use std::test::Fail;
 
-#[test]
-fn texts(rt: HostRuntime) -> Result<(), Fail> {
+pub fn texts(alloc: Global) -> Result<(), Fail> {
     let task = Task::Segment;
-    check_texts(rt.alloc(), task, &BOTH, Profile::First)?;
-    check_texts(rt.alloc(), task, &BOTH, Profile::Second)?;
-    check_texts(rt.alloc(), task, &FIRST, Profile::First)?;
-    check_texts(rt.alloc(), task, &SECOND, Profile::Second)
+    check_texts(alloc, task, &BOTH, Profile::First)?;
+    check_texts(alloc, task, &BOTH, Profile::Second)?;
+    check_texts(alloc, task, &FIRST, Profile::First)?;
+    check_texts(alloc, task, &SECOND, Profile::Second)
 }
 
 static REFUSED: [Refused; 4] = [
@@ -37,7 +37,6 @@ static REFUSED: [Refused; 4] = [
     (b"a\nb", LIMIT, &[2], Some(1), PassageFault::Read, ""),
 ];
 
-#[test]
-fn refusals(rt: HostRuntime) -> Result<(), Fail> {
-    check_refused(rt.alloc(), Task::Segment, &REFUSED, Profile::First)
+pub fn refusals(alloc: Global) -> Result<(), Fail> {
+    check_refused(alloc, Task::Segment, &REFUSED, Profile::First)
 }

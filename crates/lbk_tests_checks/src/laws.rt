@@ -1,4 +1,4 @@
-//! The laws over definitions can be called.
+//! The laws over definitions can be called. That of the command line stands with the tests of it.
 
 use lbk_rules::annex;
 use lbk_ucd::LineBreak;
@@ -9,10 +9,6 @@ fn of_feeds() {
     lbk_feed::laws::prefix_is_longest_text();
     lbk_feed::laws::prefix_behind_a_text();
     lbk_feed::laws::faults_exclude_each_other();
-}
-
-fn of_words() {
-    lbk_args::laws::accepted_words_ask_for_a_task();
 }
 
 fn of_the_program() {
@@ -73,10 +69,8 @@ fn of_test_files() {
     lbk_notation::file_laws::settled_text_stays();
 }
 
-#[test]
-fn laws() {
+pub fn laws() {
     of_feeds();
-    of_words();
     of_the_program();
     of_property_files();
     of_rules_and_paragraphs();

@@ -102,12 +102,11 @@ fn check_profile(setting: Setting<'_>, rows: &[Row]) -> Result<(), Fail> {
     check_rows(setting, rows)
 }
 
-#[test]
-fn segments(rt: HostRuntime) -> Result<(), Fail> {
-    let cells = sample_cells(rt.alloc())?;
-    let first = Setting::new(rt.alloc(), &cells, Profile::First);
+pub fn segments(alloc: Global) -> Result<(), Fail> {
+    let cells = sample_cells(alloc)?;
+    let first = Setting::new(alloc, &cells, Profile::First);
     check_profile(first, &FIRST)?;
-    let second = Setting::new(rt.alloc(), &cells, Profile::Second);
+    let second = Setting::new(alloc, &cells, Profile::Second);
     check_profile(second, &SECOND)
 }
 
@@ -142,12 +141,11 @@ fn many_words(alloc: Global) -> Result<Vec<u8>, AllocError> {
     Ok(text)
 }
 
-#[test]
-fn many_segments(rt: HostRuntime) -> Result<(), Fail> {
-    let cells = sample_cells(rt.alloc())?;
-    let text = many_words(rt.alloc())?;
+pub fn many_segments(alloc: Global) -> Result<(), Fail> {
+    let cells = sample_cells(alloc)?;
+    let text = many_words(alloc)?;
     for profile in [Profile::First, Profile::Second] {
-        check_many(Setting::new(rt.alloc(), &cells, profile), &text)?;
+        check_many(Setting::new(alloc, &cells, profile), &text)?;
     }
     Ok(())
 }

@@ -127,11 +127,10 @@ fn check_cuts(alloc: Global, cells: &CellPages, row: &Row) -> Result<(), Fail> {
 }
 
 // Two and three reads of each length, and reads of one byte.
-#[test]
-fn faults(rt: HostRuntime) -> Result<(), Fail> {
-    let cells = sample_cells(rt.alloc())?;
+pub fn faults(alloc: Global) -> Result<(), Fail> {
+    let cells = sample_cells(alloc)?;
     for row in &FAULTS {
-        check_cuts(rt.alloc(), &cells, row)?;
+        check_cuts(alloc, &cells, row)?;
     }
     Ok(())
 }
@@ -142,12 +141,11 @@ static FAILED_READS: [Row; 2] = [
     (b"a\n", 65_536, &[], PassageFault::Read),
 ];
 
-#[test]
-fn failed_reads(rt: HostRuntime) -> Result<(), Fail> {
-    let cells = sample_cells(rt.alloc())?;
+pub fn failed_reads(alloc: Global) -> Result<(), Fail> {
+    let cells = sample_cells(alloc)?;
     for row in &FAILED_READS {
         let source = source_of(row.0, &[], Some(1));
-        check(rt.alloc(), &cells, Profile::First, source, row)?;
+        check(alloc, &cells, Profile::First, source, row)?;
     }
     Ok(())
 }
@@ -194,10 +192,9 @@ fn check_within(setting: Setting<'_>) -> Result<(), Fail> {
     check_three(&mut segmenter)
 }
 
-#[test]
-fn limits(rt: HostRuntime) -> Result<(), Fail> {
-    let cells = sample_cells(rt.alloc())?;
-    let setting = Setting::new(rt.alloc(), &cells, Profile::First);
+pub fn limits(alloc: Global) -> Result<(), Fail> {
+    let cells = sample_cells(alloc)?;
+    let setting = Setting::new(alloc, &cells, Profile::First);
     for limit in [0, 16_777_217] {
         check_limit(Setting { limit, ..setting })?;
     }
@@ -277,8 +274,7 @@ fn check_tables(alloc: Global, tables: &Tables) -> Result<(), Fail> {
 }
 
 /// The tables have no table of steps, and the pages have one.
-#[test]
-fn without_a_table_of_steps(rt: HostRuntime) -> Result<(), Fail> {
-    let tables = sample_tables(rt.alloc())?;
-    check_tables(rt.alloc(), &tables)
+pub fn without_a_table_of_steps(alloc: Global) -> Result<(), Fail> {
+    let tables = sample_tables(alloc)?;
+    check_tables(alloc, &tables)
 }

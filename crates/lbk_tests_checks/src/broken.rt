@@ -88,12 +88,11 @@ fn check_rows(
     Ok(())
 }
 
-#[test]
-fn texts(rt: HostRuntime) -> Result<(), Fail> {
-    check_rows(rt.alloc(), &BOTH[..5], Profile::First, 1)?;
-    check_rows(rt.alloc(), &BOTH[2..3], Profile::Second, 2)?;
-    check_rows(rt.alloc(), &FIRST, Profile::First, 4096)?;
-    check_rows(rt.alloc(), &SECOND, Profile::Second, 1)
+pub fn texts(alloc: Global) -> Result<(), Fail> {
+    check_rows(alloc, &BOTH[..5], Profile::First, 1)?;
+    check_rows(alloc, &BOTH[2..3], Profile::Second, 2)?;
+    check_rows(alloc, &FIRST, Profile::First, 4096)?;
+    check_rows(alloc, &SECOND, Profile::Second, 1)
 }
 
 /// Checks that a text is refused by the sample files, and why.
@@ -127,11 +126,10 @@ fn check_failed_read(alloc: Global, read: u64) -> Result<(), Fail> {
     refuses(alloc, &mut source, LIMIT, PassageFault::Read)
 }
 
-#[test]
-fn refused_texts(rt: HostRuntime) -> Result<(), Fail> {
-    check_refused(rt.alloc())?;
+pub fn refused_texts(alloc: Global) -> Result<(), Fail> {
+    check_refused(alloc)?;
     for read in 0..5 {
-        check_failed_read(rt.alloc(), read)?;
+        check_failed_read(alloc, read)?;
     }
     Ok(())
 }
@@ -142,11 +140,10 @@ const REFUSAL: UcdFault = UcdFault {
     cause: UcdCause::UnknownValue,
 };
 
-#[test]
-fn refused_files(rt: HostRuntime) -> Result<(), Fail> {
+pub fn refused_files(alloc: Global) -> Result<(), Fail> {
     let files = line_break_alone(b"# LineBreak-15.0.0.txt\n0041;XY\n");
     let mut source = cut_source(b"ab", &[]);
-    let fault = broken(rt.alloc(), files, &mut source, LIMIT, Profile::First).err();
+    let fault = broken(alloc, files, &mut source, LIMIT, Profile::First).err();
     let want = BreakFault::Files(CellsFault::Tables(REFUSAL));
     same(&fault, &Some(want), &"a bad row")?;
     same(&source.reads(), &0, &"a bad row")

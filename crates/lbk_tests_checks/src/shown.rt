@@ -9,15 +9,15 @@ use lbk_tests_runs::calls::sample_cells;
 use lbk_tests_runs::checks::same;
 use lbk_tests_runs::runs::whole;
 use lbk_tests_runs::tasks::{End, LIMIT, Setting, Task};
+use std::alloc::Global;
 use std::test::Fail;
 
-#[test]
-fn texts(rt: HostRuntime) -> Result<(), Fail> {
+pub fn texts(alloc: Global) -> Result<(), Fail> {
     let task = Task::Show;
-    check_texts(rt.alloc(), task, &BOTH, Profile::First)?;
-    check_texts(rt.alloc(), task, &BOTH, Profile::Second)?;
-    check_texts(rt.alloc(), task, &FIRST, Profile::First)?;
-    check_texts(rt.alloc(), task, &SECOND, Profile::Second)
+    check_texts(alloc, task, &BOTH, Profile::First)?;
+    check_texts(alloc, task, &BOTH, Profile::Second)?;
+    check_texts(alloc, task, &FIRST, Profile::First)?;
+    check_texts(alloc, task, &SECOND, Profile::Second)
 }
 
 static ILL_FORMED: [Refused; 3] = [
@@ -62,11 +62,10 @@ static FAILED_READS: [Refused; 5] = [
     ),
 ];
 
-#[test]
-fn refusals(rt: HostRuntime) -> Result<(), Fail> {
+pub fn refusals(alloc: Global) -> Result<(), Fail> {
     let task = Task::Show;
-    check_refused(rt.alloc(), task, &ILL_FORMED, Profile::First)?;
-    check_refused(rt.alloc(), task, &FAILED_READS, Profile::Second)
+    check_refused(alloc, task, &ILL_FORMED, Profile::First)?;
+    check_refused(alloc, task, &FAILED_READS, Profile::Second)
 }
 
 /// A text, the limit of a paragraph, and the answer.
@@ -98,10 +97,9 @@ fn check_limit(setting: Setting<'_>, row: &Limited) -> Result<(), Fail> {
     same(&ran.end, &End::Text(want.map_err(CmdFault::Passage)), &run)
 }
 
-#[test]
-fn limits(rt: HostRuntime) -> Result<(), Fail> {
-    let cells = sample_cells(rt.alloc())?;
-    let setting = Setting::new(rt.alloc(), &cells, Profile::First);
+pub fn limits(alloc: Global) -> Result<(), Fail> {
+    let cells = sample_cells(alloc)?;
+    let setting = Setting::new(alloc, &cells, Profile::First);
     for row in &LIMITS {
         check_limit(setting, row)?;
     }

@@ -58,22 +58,19 @@ fn check_profile(setting: Setting<'_>) -> Result<(), Fail> {
     check(setting, Form::Plain, b"\xEF\xBB", text, [1, 0, 0, 1])
 }
 
-#[test]
-fn files(rt: HostRuntime) -> Result<(), Fail> {
-    let alloc = rt.alloc();
+pub fn files(alloc: Global) -> Result<(), Fail> {
     let cells = sample_cells(alloc)?;
     check_profile(Setting::new(alloc, &cells, Profile::First))?;
     check_profile(Setting::new(alloc, &cells, Profile::Second))
 }
 
-#[test]
-fn file_that_profiles_tell_apart(rt: HostRuntime) -> Result<(), Fail> {
-    let cells = sample_cells(rt.alloc())?;
+pub fn file_that_profiles_tell_apart(alloc: Global) -> Result<(), Fail> {
+    let cells = sample_cells(alloc)?;
     for (profile, text) in [
         (Profile::First, "D 1 2 × ÷ 18\nT 1 0 1 0\n"),
         (Profile::Second, "D 1 3 ÷ × 9\nT 1 0 1 0\n"),
     ] {
-        let setting = Setting::new(rt.alloc(), &cells, profile);
+        let setting = Setting::new(alloc, &cells, profile);
         check_rows(setting, Form::Plain, &[(QUOTED, text, [1, 0, 1, 0])])?;
     }
     Ok(())
@@ -99,11 +96,10 @@ fn check_differs(alloc: Global, cells: &CellPages, bytes: &[u8]) -> Result<(), F
     check_line(cells, &line, Profile::Second)
 }
 
-#[test]
-fn lines(rt: HostRuntime) -> Result<(), Fail> {
-    let cells = sample_cells(rt.alloc())?;
+pub fn lines(alloc: Global) -> Result<(), Fail> {
+    let cells = sample_cells(alloc)?;
     let bytes = "× 0061 ÷ 0062 ÷".as_bytes();
-    check_differs(rt.alloc(), &cells, bytes)
+    check_differs(alloc, &cells, bytes)
 }
 
 /// The sizes of reads, the one that fails, and what is written before it. The second LF stands at byte 37.
@@ -127,10 +123,9 @@ fn check_failed_read(setting: Setting<'_>, row: &FailedRead) -> Result<(), Fail>
     same(&ran.reads, &failing.saturating_add(1), &run)
 }
 
-#[test]
-fn failing_reads(rt: HostRuntime) -> Result<(), Fail> {
-    let cells = sample_cells(rt.alloc())?;
-    let setting = Setting::new(rt.alloc(), &cells, Profile::First);
+pub fn failing_reads(alloc: Global) -> Result<(), Fail> {
+    let cells = sample_cells(alloc)?;
+    let setting = Setting::new(alloc, &cells, Profile::First);
     for row in &FAILED_READS {
         check_failed_read(setting, row)?;
     }
@@ -171,16 +166,14 @@ fn check_long_lines(alloc: Global, cells: &CellPages) -> Result<(), Fail> {
     check_repeated(alloc, cells, longer, (None, written))
 }
 
-#[test]
-fn longest_line(rt: HostRuntime) -> Result<(), Fail> {
-    let cells = sample_cells(rt.alloc())?;
-    check_long_lines(rt.alloc(), &cells)
+pub fn longest_line(alloc: Global) -> Result<(), Fail> {
+    let cells = sample_cells(alloc)?;
+    check_long_lines(alloc, &cells)
 }
 
-#[test]
-fn longest_stream(rt: HostRuntime) -> Result<(), Fail> {
-    let cells = sample_cells(rt.alloc())?;
+pub fn longest_stream(alloc: Global) -> Result<(), Fail> {
+    let cells = sample_cells(alloc)?;
     let lines = (b'\n', 1_073_741_825);
     let want = (Some(ReplayFault::StreamTooLong), "");
-    check_repeated(rt.alloc(), &cells, lines, want)
+    check_repeated(alloc, &cells, lines, want)
 }

@@ -104,11 +104,10 @@ fn check_rows(alloc: Global, form: Form, rows: &[(&str, Want)]) -> Result<(), Fa
     Ok(())
 }
 
-#[test]
-fn reading(rt: HostRuntime) -> Result<(), Fail> {
-    check_rows(rt.alloc(), Form::Plain, &PLAIN)?;
-    check_rows(rt.alloc(), Form::Kinds, &KINDS)?;
-    check(rt.alloc(), b"\xC3\x80", Form::Plain, &Want::Bad(1))
+pub fn reading(alloc: Global) -> Result<(), Fail> {
+    check_rows(alloc, Form::Plain, &PLAIN)?;
+    check_rows(alloc, Form::Kinds, &KINDS)?;
+    check(alloc, b"\xC3\x80", Form::Plain, &Want::Bad(1))
 }
 
 /// A comment of this many bytes.
@@ -135,12 +134,11 @@ fn check_longest(alloc: Global, longer: &[u8]) -> Result<(), Fail> {
     check_comment(alloc, longer.get(..268_435_456).ok_or("no line")?)
 }
 
-#[test]
-fn long_lines(rt: HostRuntime) -> Result<(), Fail> {
-    let line = comment(rt.alloc(), 16_777_217)?;
-    check_comment(rt.alloc(), &line)?;
-    let longer = comment(rt.alloc(), 268_435_457)?;
-    check_longest(rt.alloc(), &longer)
+pub fn long_lines(alloc: Global) -> Result<(), Fail> {
+    let line = comment(alloc, 16_777_217)?;
+    check_comment(alloc, &line)?;
+    let longer = comment(alloc, 268_435_457)?;
+    check_longest(alloc, &longer)
 }
 
 /// Compares what a line has.
@@ -187,13 +185,12 @@ fn one_scalar(alloc: Global) -> Result<TestLine, Fail> {
     Ok(TestLine::new(scalars, marks).ok_or("refused")?)
 }
 
-#[test]
-fn writing(rt: HostRuntime) -> Result<(), Fail> {
-    let line = one_scalar(rt.alloc())?;
+pub fn writing(alloc: Global) -> Result<(), Fail> {
+    let line = one_scalar(alloc)?;
     check_parts(&line, &['\u{1F466}'], &[Mark::No, Mark::Must])?;
-    check_written(rt.alloc(), &line, Form::Kinds, "× 1F466 !")?;
-    check_written(rt.alloc(), &line, Form::Plain, "× 1F466 ÷")?;
-    let none = TestLine::new(Vec::new(rt.alloc()), Vec::new(rt.alloc()));
+    check_written(alloc, &line, Form::Kinds, "× 1F466 !")?;
+    check_written(alloc, &line, Form::Plain, "× 1F466 ÷")?;
+    let none = TestLine::new(Vec::new(alloc), Vec::new(alloc));
     same(&none.is_none(), &true, &"a line of nothing")
 }
 
@@ -255,11 +252,10 @@ fn check_all_marked(alloc: Global, cells: &CellPages) -> Result<(), Fail> {
     check_marked(alloc, plain, "ab cd", want)
 }
 
-#[test]
-fn marking(rt: HostRuntime) -> Result<(), Fail> {
-    let cells = sample_cells(rt.alloc())?;
+pub fn marking(alloc: Global) -> Result<(), Fail> {
+    let cells = sample_cells(alloc)?;
     check_kinds()?;
-    check_all_marked(rt.alloc(), &cells)
+    check_all_marked(alloc, &cells)
 }
 
 fn check_kinds() -> Result<(), Fail> {
@@ -304,12 +300,11 @@ fn check_passage_line(alloc: Global, shown: &[u8]) -> Result<(), Fail> {
     check_parts(&line, &['a', '\r', '\n'], &marks)
 }
 
-#[test]
-fn lines_of_passages(rt: HostRuntime) -> Result<(), Fail> {
-    let source = sample_cells(rt.alloc())?;
-    let cells = cells_of(rt.alloc(), &source, "a\r\n")?;
-    let verdicts = verdicts_of(rt.alloc(), &cells)?;
-    let shown = passage_line(rt.alloc(), &['a', '\r', '\n'], &verdicts)?;
+pub fn lines_of_passages(alloc: Global) -> Result<(), Fail> {
+    let source = sample_cells(alloc)?;
+    let cells = cells_of(alloc, &source, "a\r\n")?;
+    let verdicts = verdicts_of(alloc, &cells)?;
+    let shown = passage_line(alloc, &['a', '\r', '\n'], &verdicts)?;
     laws_of_lines();
-    check_passage_line(rt.alloc(), &shown)
+    check_passage_line(alloc, &shown)
 }
