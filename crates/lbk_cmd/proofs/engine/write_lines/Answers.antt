@@ -5,7 +5,7 @@ use Rattle.lbk_passage.specs.Next.{failures_with, fault_in}
 use Rattle.lbk_passage.specs.Shown.{state_of}
 use Rattle.lbk_cmd.specs.Engines.{engine_of, lines_of}
 use Rattle.lbk_cmd.proofs.Known.{known_whole}
-use Rattle.lbk_cmd.proofs.Looping.{Going-new, run_none, run_stopped, run_ended, run_out_of_memory, run_unwritten, run_goes_on}
+use Rattle.lbk_cmd.proofs.Looping.{Going-new, most_reads, run_none, run_stopped, run_ended, run_out_of_memory, run_unwritten, run_goes_on}
 use Rattle.lbk_cmd.proofs.Signing.{lent_cut}
 use Rattle.lbk_cmd.proofs.engine.write_lines.Goals as goal
 
@@ -43,7 +43,8 @@ returns-in_err-passage g c =
       run = run_stopped (engine_of c.args.lines (g.C.CellSource.cell_of c.args.cells.now) c.args.profile c.args.limit) _ _ _ _
           c.from_residual-in_err-passage.result _ _ _ _ _ _ _ _ _ c.next.result c.loop-text.invariant.going c.next.follows.holds-at-none
           c.in_err-passage.field-0.0 c.in_err-passage.was (exit.1 ∙ ap Err exit.2);
-      reads = search rules;
+      reads = most_reads (engine_of c.args.lines (g.C.CellSource.cell_of c.args.cells.now) c.args.profile c.args.limit) _ _ _ _ _ _ _ _ _ _ _ _
+          c.loop-text.invariant.going c.next.result c.next.follows.holds-at-none;
       limit = search rules;
       read = search rules;
       read_failed = search rules;
@@ -64,7 +65,8 @@ returns-in_err-push_lines g c =
       run = run_out_of_memory (engine_of c.args.lines (g.C.CellSource.cell_of c.args.cells.now) c.args.profile c.args.limit) _ _ _ _
           c.from_residual-in_err-push_lines.result _ _ _ _ _ _ _ _ _ c.next.result c.loop-text.invariant.going c.next.follows.holds-at-none
           c.in-Some.passage (c.in_ok-passage.was ∙ ap Ok c.in-Some.is) (exit.1 ∙ ap Err exit.2);
-      reads = search rules;
+      reads = most_reads (engine_of c.args.lines (g.C.CellSource.cell_of c.args.cells.now) c.args.profile c.args.limit) _ _ _ _ _ _ _ _ _ _ _ _
+          c.loop-text.invariant.going c.next.result c.next.follows.holds-at-none;
       limit = search rules;
       read = search rules;
       read_failed = search rules;
@@ -103,7 +105,8 @@ returns-in_err-write_all g c =
           c.deref.ensures.value ∙ c.in_ok-push_lines.ensures _ ms cell_is profile_is of
           ∙ ap (λ l. l ++ lines_of c.args.lines cell c.in-Some.passage.start ms) c.clear.ensures.items)
           _ (exit.1 ∙ ap Err exit.2) front.0 front.1;
-      reads = search rules;
+      reads = most_reads (engine_of c.args.lines (g.C.CellSource.cell_of c.args.cells.now) c.args.profile c.args.limit) _ _ _ _ _ _ _ _ _ _ _ _
+          c.loop-text.invariant.going c.next.result c.next.follows.holds-at-none;
       limit = search rules;
       read = search rules;
       read_failed = search rules;
@@ -123,7 +126,8 @@ returns g c =
           (Ok (tt {0})) _ _ _ _ run (search rules);
       ended = search rules;
       run = run;
-      reads = search rules;
+      reads = most_reads (engine_of c.args.lines (g.C.CellSource.cell_of c.args.cells.now) c.args.profile c.args.limit) _ _ _ _ _ _ _ _ _ _ _ _
+          c.loop-text.invariant.going c.next.result c.next.follows.holds-at-none;
       limit = search rules;
       read = search rules;
       read_failed = search rules;
