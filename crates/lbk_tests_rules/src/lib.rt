@@ -12,6 +12,8 @@ mod decided;
 #[cfg(test)]
 mod deciding;
 #[cfg(test)]
+mod first_bytes;
+#[cfg(test)]
 mod looking_ahead;
 #[cfg(test)]
 mod pages;
