@@ -5,7 +5,7 @@ use Rattle.std.proofs.lemmas.Str.{IsCharBoundary-start, char_from_byte, length-e
 use Rattle.lbk_rules.specs.declared.cells.Cell.{Cell}
 use Rattle.lbk_rules.specs.Ends.{ends_line}
 use Rattle.lbk_rules.specs.FirstBytes.{AreQuiet, first_byte}
-use Rattle.lbk_passage.specs.Flags.{AreLetters}
+use Rattle.lbk_passage.specs.Flags.{AreLettersTo}
 use Rattle.lbk_passage.proofs.Finding.{IsUtf8-scalar}
 
 pub some_bytes : (c : ℕ) → 0 < length (encode_utf8 c)
@@ -47,16 +47,17 @@ later-more quiet byte within before k from to = elim (cases_eq k byte) [
   | inr other ↦ get_or-set_other quiet byte k true false other ∙ before k from (omega (arith, other, to))
 ]
 
--- the flag of a scalar of one byte, by its own cell
-pub AreLetters-ascii : (cell : ℕ → Cell) (letters : List Bool) (byte : ℕ) → byte < 128 → byte < length letters → AreLetters cell letters
-    → AreLetters cell (set letters byte (cell byte).letter)
-AreLetters-ascii cell letters byte ascii within are k below on =
+-- one more scalar of one byte told by its own cell
+pub AreLetters-more : (cell : ℕ → Cell) (letters : List Bool) (byte : ℕ) → byte < length letters → AreLettersTo byte cell letters
+    → AreLettersTo (byte + 1) cell (set letters byte (cell byte).letter)
+AreLetters-more cell letters byte within are =
     let flag = (cell byte).letter in
-    elim (cases_eq k byte) [
-      | inl same ↦ (
-        omega (arith, same, ascii),
-        ap (λ j. (cell j).letter) same ∙ sym (get_or-set_same letters byte flag false within)
-            ∙ ap (λ j. slice_index_or (set letters byte flag) j false) (sym same) ∙ on,
-      )
-      | inr other ↦ are k below (sym (get_or-set_other letters byte k flag false other) ∙ on)
-    ]
+    record {
+      told = λ k below. elim (cases_eq k byte) [
+        | inl same ↦ ap (λ j. slice_index_or (set letters byte flag) j false) same ∙ get_or-set_same letters byte flag false within
+            ∙ ap (λ j. (cell j).letter) (sym same)
+        | inr other ↦ get_or-set_other letters byte k flag false other ∙ are.told k (omega (arith, other, below))
+      ];
+      others = λ k above below. get_or-set_other letters byte k flag false (λ same. let impossible : ⊥ = omega (arith, same, above) in impossible)
+          ∙ are.others k (omega (arith, above)) below;
+    }

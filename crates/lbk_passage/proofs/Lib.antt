@@ -1,6 +1,7 @@
 -- Lemmas that several proofs share.
 pub mod Booleans
 pub mod Cutting
+pub mod Letters
 pub mod Marking
 pub mod Reading
 pub mod Settling

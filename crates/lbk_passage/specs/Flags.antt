@@ -16,9 +16,14 @@ pub record AreQuiet (cell : ℕ → Cell) (is_quiet : List Bool) : Type 0 where
 abbrev pub ArePassed : List Bool → List ℕ → ℕ → ℕ → Type 0
 ArePassed is_quiet bytes start end = (k : ℕ) → start ≤ k → k < end → slice_index_or is_quiet (slice_index_or bytes k 0) false ≡ true
 
--- each byte of which the list has true is a scalar by itself, and a letter or a number
+-- each byte below `count` has true in the list exactly if it is a letter or a number, and the others have false
+pub record AreLettersTo (count : ℕ) (cell : ℕ → Cell) (is_letter : List Bool) : Type 0 where
+  pub told : (byte : ℕ) → byte < count → slice_index_or is_letter byte false ≡ (cell byte).letter
+  pub others : (byte : ℕ) → count ≤ byte → byte < 256 → slice_index_or is_letter byte false ≡ false
+
+-- so it is for the bytes that are scalars by themselves
 abbrev pub AreLetters : (ℕ → Cell) → List Bool → Type 0
-AreLetters cell is_letter = (byte : ℕ) → byte < 256 → slice_index_or is_letter byte false ≡ true → (byte < 128) × ((cell byte).letter ≡ true)
+AreLetters cell is_letter = AreLettersTo 128 cell is_letter
 
 -- a line must end behind a scalar of this class, whatever comes, but for a line feed
 abbrev pub is_end : Option Class → Bool

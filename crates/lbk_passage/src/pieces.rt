@@ -33,14 +33,18 @@ pub fn cut_words<C: CellSource>(
     Ok(())
 }
 
-/// Whether a piece holds a letter or a number. Where its first byte is one, it does.
+/// Whether a piece holds a letter or a number. Its first byte tells where it is one, or is all of the piece. One branch
+/// stands for both, since where most scalars have one byte nearly every piece is a word or a single mark.
 fn is_word<C: CellSource>(cells: &C, flags: &ByteFlags, piece: &str) -> bool
     requires { AreLetters (C.cell_of cells.now) flags.now.is_letter }
     ensures { result ≡ is_word (C.cell_of cells.now) piece.now }
 {
     let bytes = piece.as_bytes();
-    if !bytes.is_empty() && flags.is_letter(bytes[0]) {
-        return true;
+    if !bytes.is_empty() {
+        let letter = flags.is_letter(bytes[0]);
+        if letter | (bytes.len() == 1) {
+            return letter;
+        }
     }
     piece.chars().any(|c| cells.cell(c).letter)
 }

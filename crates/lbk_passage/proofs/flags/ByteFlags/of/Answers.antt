@@ -1,17 +1,19 @@
-use Rattle.std.proofs.Common.{◌≡◌, ◌<◌, false, true, not, length, set, slice_index_or, sym, ap, subst, ◌∙◌, arith, rules}
-use Rattle.std.proofs.lemmas.Bool.{false≢true}
+use Rattle.std.proofs.Common.{◌≡◌, ◌<◌, false, true, not, length, set, slice_index_or, ◌+◌, sym, ap, subst, ◌∙◌, arith, rules}
 use Rattle.std.proofs.lemmas.List.{get_or-replicate, length-replicate, length-set}
 use Rattle.lbk_rules.specs.Ends.{ends_line}
 use Rattle.lbk_rules.specs.FirstBytes.{AreQuiet}
-use Rattle.lbk_passage.specs.Flags.{AreLetters}
-use Rattle.lbk_passage.proofs.FlagLemmas.{AreLetters-ascii, AreQuiet-ascii, AreQuiet-later, later-more}
+use Rattle.lbk_passage.specs.Flags.{AreLettersTo}
+use Rattle.lbk_passage.proofs.FlagLemmas.{AreLetters-more, AreQuiet-ascii, AreQuiet-later, later-more}
 use Rattle.lbk_passage.proofs.flags.ByteFlags.of.Goals as goal
 
 pub loop-byte-init : goal.loop-byte-init
 loop-byte-init g c =
     record {
       quiet = c.quiet_first_bytes-is_quiet.ensures;
-      letters = λ byte few is. absurd (false≢true (sym (get_or-replicate 256 byte false false few) ∙ is));
+      letters = record {
+        told = λ byte none. absurd (omega (arith, none));
+        others = λ byte _ few. get_or-replicate 256 byte false false few;
+      };
       quiet_len = search rules;
       letters_len = length-replicate 256 false;
       within = omega arith;
@@ -30,8 +32,8 @@ loop-byte-preserved g c =
     record {
       quiet = subst (λ k. AreQuiet cell (set quiet k (not c.ends_line.result))) (sym c.from-in-loop-byte.ensures)
           (subst (λ b. AreQuiet cell (set quiet byte (not b))) ends (AreQuiet-ascii cell quiet byte c.loop-byte-test.true in_quiet c.loop-byte.invariant.quiet));
-      letters = subst (λ k. AreLetters cell (set letters k c.cell-cell.result.letter)) (sym c.from-in-loop-byte-2.ensures)
-          (subst (λ k. AreLetters cell (set letters byte k.letter)) (sym here) (AreLetters-ascii cell letters byte c.loop-byte-test.true in_letters c.loop-byte.invariant.letters));
+      letters = subst (λ k. AreLettersTo (byte + 1) cell (set letters k c.cell-cell.result.letter)) (sym c.from-in-loop-byte-2.ensures)
+          (subst (λ k. AreLettersTo (byte + 1) cell (set letters byte k.letter)) (sym here) (AreLetters-more cell letters byte in_letters c.loop-byte.invariant.letters));
       quiet_len = simp length-set c.loop-byte.invariant.quiet_len;
       letters_len = simp length-set c.loop-byte.invariant.letters_len;
       within = omega (arith, c.loop-byte-test.true);

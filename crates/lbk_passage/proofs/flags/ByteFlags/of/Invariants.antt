@@ -1,12 +1,12 @@
 use Rattle.std.proofs.Common.{◌≡◌, ℕ, ◌-◌, ◌<◌, ◌≤◌, true, false, length, slice_index_or}
 use Rattle.lbk_rules.specs.FirstBytes.{AreQuiet}
-use Rattle.lbk_passage.specs.Flags.{AreLetters}
+use Rattle.lbk_passage.specs.Flags.{AreLettersTo}
 use Rattle.lbk_passage.proofs.flags.ByteFlags.of.Given as goal
 
 abbrev pub invariant-loop-byte : goal.invariant-loop-byte
 invariant-loop-byte g l = record {
   quiet : AreQuiet (g.C.CellSource.cell_of l.cells) l.is_quiet;
-  letters : AreLetters (g.C.CellSource.cell_of l.cells) l.is_letter;
+  letters : AreLettersTo l.byte (g.C.CellSource.cell_of l.cells) l.is_letter;
   quiet_len : length l.is_quiet ≡ 256;
   letters_len : length l.is_letter ≡ 256;
   within : l.byte ≤ 128;

@@ -1,0 +1,62 @@
+-- What the first byte of a piece tells of whether it holds a letter or a number.
+use Rattle.std.proofs.Common.{◌≡◌, ℕ, ◌<◌, ◌≤◌, Bool, true, false, ◌||◌, List, [], ◌∷◌, ◌++◌, length, drop, chars, slice_index_or, encode_utf8, encode_utf8_all, IsUtf8, inl, inr, refl, sym, ap, ◌∙◌, arith, length-append}
+use Rattle.std.specs.Char.{len_utf8}
+use Rattle.std.specs.List.{list_any}
+use Rattle.std.proofs.lemmas.Bool.{cases_lt}
+use Rattle.std.proofs.lemmas.Bool.Decides.{nat_tests}
+use Rattle.std.proofs.Math.ListN.{drop_of_length-le}
+use Rattle.std.proofs.lemmas.Str.{byte_from_char, chars-nil, encodes-chars, length-encode}
+use Rattle.lbk_rules.specs.declared.cells.Cell.{Cell}
+use Rattle.lbk_passage.specs.Flags.{AreLetters}
+use Rattle.lbk_passage.specs.Pieces.{is_word}
+use Rattle.lbk_passage.proofs.Passing.{chars-byte}
+
+two_bytes : (c : ℕ) → 128 ≤ c → 2 ≤ len_utf8 c
+two_bytes c high = grind (arith, nat_tests)
+
+-- a text of one byte is a scalar of one byte
+one-ascii : (text : List ℕ) → IsUtf8 text → length text ≡ 1 → slice_index_or text 0 0 < 128
+one-ascii text utf8 one = go (chars text) (encodes-chars text utf8)
+  where
+    go : (cs : List ℕ) → encode_utf8_all cs ≡ text → slice_index_or text 0 0 < 128
+    go [] is = let impossible : ⊥ = omega (arith, ap length is, one) in absurd impossible
+    go (c ∷ cs) is = elim (cases_lt c 128) [
+      | inl low ↦ omega (arith, low, byte_from_char text (encode_utf8_all cs) c (sym is) low)
+      | inr high ↦
+          let long = ap length is in
+          let impossible : ⊥ = omega (arith, two_bytes c high, length-encode c, long, length-append (encode_utf8 c) (encode_utf8_all cs), one) in
+          absurd impossible
+    ]
+
+-- the flag of the first byte tells, where it is true or the byte is all of the piece
+pub letter-told : (cell : ℕ → Cell) (letters : List Bool) (piece : List ℕ) → IsUtf8 piece → AreLetters cell letters → 0 < length piece
+    → slice_index_or piece 0 0 < 256
+    → (slice_index_or letters (slice_index_or piece 0 0) false ≡ false → length piece ≡ 1)
+    → slice_index_or letters (slice_index_or piece 0 0) false ≡ is_word cell piece
+letter-told cell letters piece utf8 are some few alone = elim (cases_lt byte 128) [
+  | inl low ↦ go low flag refl
+  | inr high ↦
+      let only = one-ascii piece utf8 (alone (are.others byte high few)) in
+      let impossible : ⊥ = omega (arith, high, only) in
+      absurd impossible
+]
+  where
+    byte : ℕ
+    byte = slice_index_or piece 0 0
+
+    flag : Bool
+    flag = slice_index_or letters byte false
+
+    rest : Bool
+    rest = list_any (λ c. (cell c).letter) (chars (drop 1 piece))
+
+    any : byte < 128 → (cell byte).letter || rest ≡ is_word cell piece
+    any low = sym (ap (list_any (λ c. (cell c).letter)) (chars-byte piece utf8 some low))
+
+    go : byte < 128 → (b : Bool) → flag ≡ b → flag ≡ is_word cell piece
+    go low true is = is ∙ ap (λ l. l || rest) (sym (sym (are.told byte low) ∙ is)) ∙ any low
+    go low false is =
+        let short : length piece ≤ 1 = omega (arith, alone is) in
+        let none : rest ≡ false =
+        ap (λ l. list_any (λ c. (cell c).letter) (chars l)) (drop_of_length-le piece short) ∙ ap (list_any (λ c. (cell c).letter)) chars-nil in
+        is ∙ sym (ap (λ l. l || rest) (sym (are.told byte low) ∙ is) ∙ none) ∙ any low
