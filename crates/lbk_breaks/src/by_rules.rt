@@ -9,7 +9,9 @@ ghost use Rattle.lbk_breaks.specs.Onward.{Filled};
 use crate::filling::{Progress, put};
 use lbk_rules::{AheadMachine, Break, CellSource};
 
-/// Takes scalars of a text from the byte `start` on, as `by_steps::fill` does.
+/// Takes scalars of a text from the byte `start` on, as `by_steps::fill` does. It stands apart, so that a call that goes by
+/// steps has few registers to keep.
+#[inline(never)]
 pub(crate) fn fill<C: CellSource>(
     machine: &mut AheadMachine<'_, C>,
     text: &str,

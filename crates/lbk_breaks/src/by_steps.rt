@@ -124,7 +124,9 @@ fn take_unless_held(
     })
 }
 
-/// Takes one scalar, also where the position before it is held, and writes the break there.
+/// Takes one scalar, also where the position before it is held, and writes the break there. It is seldom called, and stands
+/// apart as `by_rules::fill` does.
+#[inline(never)]
 fn take_one(
     machine: &mut RowMachine<'_>,
     text: &str,

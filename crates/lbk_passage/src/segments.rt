@@ -76,10 +76,10 @@ fn cut_alone<C: CellSource>(
     let mut start = 0;
     loop {
         let count = breaks.fill(block);
-        if count == 0 {
+        start = cut_block(&block[..count], start, segments)?;
+        if count < BLOCK {
             return Ok(());
         }
-        start = cut_block(&block[..count], start, segments)?;
     }
 }
 
