@@ -13,7 +13,7 @@ use lbk_rules::{
     Verdict,
 };
 use lbk_ucd::Tables;
-use std::alloc::Global;
+use std::alloc::{AllocError, Global};
 use unicode_segmentation::UnicodeSegmentation;
 
 /// A part of the work.
@@ -228,21 +228,20 @@ fn segments(alloc: Global, material: &Material) -> Result<u64> {
     Ok(count)
 }
 
+/// One passage. The error is the segmenter's too: a large one would be written at each call.
 fn cut(
     cells: &CellPages,
     text: &str,
     block: &mut [Break; SEGMENTS],
     segments: &mut Vec<Segment>,
-) -> Result<()> {
+) -> Result<(), AllocError> {
     let mut breaks = Breaks::new(cells, text, Profile::First);
     let mut start = 0;
     for _ in 0..u64::MAX {
         let some = breaks.fill(block);
-        if some == 0 {
-            break;
-        }
         for found in &block[..some] {
-            let end = u32::try_from(found.at)?;
+            // A text has at most TEXT_MOST bytes.
+            let end = u32::try_from(found.at).unwrap_or(u32::MAX);
             segments.push(Segment {
                 start,
                 end,
@@ -250,6 +249,9 @@ fn cut(
                 rule: found.rule,
             })?;
             start = end;
+        }
+        if some < SEGMENTS {
+            break;
         }
     }
     Ok(())
