@@ -86,7 +86,7 @@ impl<'a> RowStepper<'a> {
         let verdict = machine.step(c);
         if self.held.is_none() && !verdict.rule.is_15b() {
             self.machine = machine;
-            self.steps = self.steps.saturating_add(1);
+            self.steps = self.steps.wrapping_add(1);
             return Out {
                 now: Some(verdict),
                 late: None,
@@ -95,8 +95,9 @@ impl<'a> RowStepper<'a> {
         self.step_with_held(c)
     }
 
-    /// The same where a position is held before the step or behind it, which is rare.
-    #[inline(never)]
+    /// The same where a position is held before the step or behind it, which is rare. Its values are set up here, and not in
+    /// `step`; and `holding` and `late`, which it calls, take the stepper by value, so that a loop has its own in registers.
+    #[inline(always)]
     fn step_with_held(&mut self, c: char) -> Out
         ensures now { (profile : Profile) (cell : ℕ → Cell) (taken : List ℕ) (more : List Cell)
             → RowStepperFits self.old profile cell taken
@@ -110,7 +111,7 @@ impl<'a> RowStepper<'a> {
     {
         let before = *self;
         let verdict = self.machine.step(c);
-        self.steps = self.steps.saturating_add(1);
+        self.steps = self.steps.wrapping_add(1);
         self.held = before.holding(c, verdict.rule.is_15b());
         Out {
             now: unless_held(verdict),
@@ -149,6 +150,8 @@ impl<'a> RowStepper<'a> {
     }
 
     /// The answer that `c` brings with it: none, if it heads no unit.
+    #[cold]
+    #[inline(never)]
     fn late(self, c: char) -> Option<(u64, Verdict)>
         ensures { (profile : Profile) (cell : ℕ → Cell) (taken : List ℕ) (more : List Cell)
             → RowStepperFits self.entry profile cell taken
@@ -165,6 +168,8 @@ impl<'a> RowStepper<'a> {
     }
 
     /// What it holds once `c` was taken. `holds`: the position before `c` is held.
+    #[cold]
+    #[inline(never)]
     fn holding(self, c: char, holds: bool) -> Option<HeldRow>
         ensures { (profile : Profile) (cell : ℕ → Cell) (taken : List ℕ)
             → RowStepperFits self.entry profile cell taken

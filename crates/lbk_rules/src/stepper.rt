@@ -1,7 +1,10 @@
 //! The positions of a text, decided scalar by scalar.
 
 ghost use Rattle.std.specs.Prelude.{◌≡◌, ℕ, ◌<◌, List, [], ◌∷◌, ◌++◌, length, map};
+ghost use Rattle.lbk_rules.specs.declared.cells.Cell.{Cell};
+ghost use Rattle.lbk_rules.specs.declared.verdicts.Profile.{Profile};
 ghost use Rattle.lbk_rules.specs.Held.{answer_at, late_at, now_at};
+ghost use Rattle.lbk_rules.specs.LateFits.{LateFits};
 ghost use Rattle.lbk_rules.specs.Verdict.{verdict_in};
 
 use crate::cells::CellSource;
@@ -26,30 +29,25 @@ use crate::verdicts::Profile;
 #[derive(Drop)]
 pub struct Stepper<'a, C: CellSource> {
     cells: &'a C,
-    way: Way<'a>,
-}
-
-/// How the positions are decided.
-#[derive(Clone, Copy)]
-enum Way<'a> {
-    ByRows(RowStepper<'a>),
-    ByRules(LateMachine),
+    /// Decides, if the source has a table of steps.
+    rows: Option<RowStepper<'a>>,
+    /// Decides where it has none. The two are fields of their own, so that a loop that steps has each in registers.
+    rules: LateMachine,
 }
 
 impl<'a, C: CellSource> Stepper<'a, C> {
     ghost use Rattle.lbk_rules.specs.StepperFits.{StepperFits};
-    ghost use Rattle.lbk_rules.specs.declared.cells.Cell.{Cell};
-    ghost use Rattle.lbk_rules.specs.declared.verdicts.Profile.{Profile};
 
     /// A stepper of this profile that has taken no scalar.
     pub fn start(cells: &'a C, profile: Profile) -> Stepper<'a, C>
         ensures { StepperFits C.cell_of result profile (C.cell_of cells.now) [] }
     {
-        let way = match cells.step_table() {
-            Some(table) => Way::ByRows(RowStepper::new(table.machine(profile), 0)),
-            None => Way::ByRules(LateMachine::start(profile)),
+        let rows = match cells.step_table() {
+            Some(table) => Some(RowStepper::new(table.machine(profile), 0)),
+            None => None,
         };
-        Stepper { cells, way }
+        let rules = LateMachine::start(profile);
+        Stepper { cells, rows, rules }
     }
 
     /// Takes the next scalar: the verdict of the position before it, unless that is held, and that of the position
@@ -67,14 +65,30 @@ impl<'a, C: CellSource> Stepper<'a, C> {
             → StepperFits C.cell_of self.old profile cell taken → length taken < 18446744073709551615
             → StepperFits C.cell_of self.new profile cell (taken ++ c ∷ []) }
     {
-        match &mut self.way {
-            Way::ByRows(stepper) => stepper.step(c),
-            Way::ByRules(machine) if machine.steps() == u64::MAX => Out {
-                now: None,
-                late: None,
-            },
-            Way::ByRules(machine) => machine.step(self.cells.cell(c)),
+        match &mut self.rows {
+            Some(stepper) => stepper.step(c),
+            None => self.step_by_rules(c),
         }
+    }
+
+    /// The same where the source has no table of steps. Its values are set up here, and not in `step`.
+    #[inline(always)]
+    fn step_by_rules(&mut self, c: char) -> Out
+        ensures now { (profile : Profile) (taken more : List Cell)
+            → LateFits self.old.rules profile taken → length taken < 18446744073709551615
+            → result.now ≡ now_at profile taken (C.cell_of self.old.cells.now c ∷ more) }
+        ensures late { (profile : Profile) (taken more : List Cell)
+            → LateFits self.old.rules profile taken → length taken < 18446744073709551615
+            → result.late ≡ late_at profile taken (C.cell_of self.old.cells.now c) more }
+        ensures fits { (profile : Profile) (taken : List Cell)
+            → LateFits self.old.rules profile taken → length taken < 18446744073709551615
+            → LateFits self.new.rules profile (taken ++ C.cell_of self.old.cells.now c ∷ []) }
+        ensures cells { self.new.cells.now ≡ self.old.cells.now }
+        ensures rows { self.new.rows ≡ self.old.rows }
+    {
+        let (rules, out) = next_by_rules(self.cells, self.rules, c);
+        self.rules = rules;
+        out
     }
 
     /// The verdict of the position after all scalars taken, where the text ends, and that of the position that was
@@ -87,9 +101,38 @@ impl<'a, C: CellSource> Stepper<'a, C> {
             → StepperFits C.cell_of self.now profile cell taken
             → result.end ≡ verdict_in profile (map cell taken) (length taken) }
     {
-        match &self.way {
-            Way::ByRows(stepper) => stepper.finish(),
-            Way::ByRules(machine) => machine.finish(),
+        match &self.rows {
+            Some(stepper) => stepper.finish(),
+            None => self.rules.finish(),
         }
     }
+}
+
+/// A step by the plain rules: the machine behind it, and what it answers. The machine is passed by value, so that a loop that
+/// steps has its stepper in registers.
+#[cold]
+#[inline(never)]
+fn next_by_rules<C: CellSource>(cells: &C, before: LateMachine, c: char) -> (LateMachine, Out)
+    ensures now { (profile : Profile) (taken more : List Cell)
+        → LateFits before profile taken → length taken < 18446744073709551615
+        → result.1.now ≡ now_at profile taken (C.cell_of cells.now c ∷ more) }
+    ensures late { (profile : Profile) (taken more : List Cell)
+        → LateFits before profile taken → length taken < 18446744073709551615
+        → result.1.late ≡ late_at profile taken (C.cell_of cells.now c) more }
+    ensures fits { (profile : Profile) (taken : List Cell)
+        → LateFits before profile taken → length taken < 18446744073709551615
+        → LateFits result.0 profile (taken ++ C.cell_of cells.now c ∷ []) }
+{
+    let mut machine = before;
+    if machine.steps() == u64::MAX {
+        return (
+            machine,
+            Out {
+                now: None,
+                late: None,
+            },
+        );
+    }
+    let out = machine.step(cells.cell(c));
+    (machine, out)
 }

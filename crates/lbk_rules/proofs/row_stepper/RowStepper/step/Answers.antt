@@ -40,7 +40,7 @@ returns-then-not-is_15b-clause-fits c = λ profile cell taken fits few.
     (subst (λ h. Holds profile h (waiting profile side)) none fits.held_same) in
     record {
       machine_fits = c.step-verdict.ensures.fits profile cell taken fits.machine_fits;
-      steps_same = omega (arith, c.saturating_add-self.ensures);
+      steps_same = omega arith;
       held_same = subst (λ h. Holds profile h (waiting profile (reverse (normals cell (taken ++ c.args.c ∷ []))))) (sym none)
           (subst (λ s. Holds profile None (waiting profile s)) (sym (normals-back cell taken c.args.c)) calm);
     }

@@ -18,7 +18,7 @@ returns-clause-fits c = λ profile cell taken fits few.
     let more = length_push taken c.args.c in
     record {
       machine_fits = c.step-verdict.ensures.fits profile cell taken fits.machine_fits;
-      steps_same = omega (arith, c.saturating_add-self.ensures);
+      steps_same = omega arith;
       held_same = subst (λ s. Holds profile c.holding-self.result (waiting profile s)) (sym (normals-back cell taken c.args.c))
           (c.holding-self.ensures profile cell taken fits
           (c.step-verdict.ensures.held profile cell taken [] fits.machine_fits ∙ sym c.is_15b.ensures));
