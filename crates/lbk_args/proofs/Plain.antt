@@ -9,8 +9,8 @@ use Rattle.clap.specs.Walk.{Held, Row, Rule, Text, Walk, finished, idle, nothing
 use Rattle.clap.specs.declared.builder.value_parser.ValueParser.TheVariants.{Unsigned}
 use Rattle.clap.specs.declared.parser.matches.ValueSource.TheVariants.{CommandLine}
 use Rattle.clap.proofs.OnLiterals.{clap_on_literals}
-use Rattle.lbk_rules.specs.declared.verdicts.Profile.{Profile}
-use Rattle.lbk_rules.specs.declared.verdicts.Profile.TheVariants.{First, Second}
+use Rattle.lbk_values.specs.declared.profile.Profile.{Profile}
+use Rattle.lbk_values.specs.declared.profile.Profile.TheVariants.{First, Second}
 use Rattle.lbk_args.specs.declared.order.Engine.{Engine}
 use Rattle.lbk_args.specs.declared.order.Engine.TheVariants.{Mark, Show, Segment, Replay}
 use Rattle.lbk_args.specs.Accepted.{faults_of, unnamed_fault}

@@ -1,6 +1,6 @@
 //! What a command line asks for.
 
-use lbk_rules::Profile;
+use lbk_values::Profile;
 
 /// How a property file is named.
 #[derive(Clone, Copy, Debug)]

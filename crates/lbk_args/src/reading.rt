@@ -12,7 +12,7 @@ use super::options::command;
 use super::order::{Engine, FileName, FileNames, Order, WordsFault};
 use clap::error::ErrorKind;
 use clap::{ArgMatches, Error};
-use lbk_rules::Profile;
+use lbk_values::Profile;
 use std::alloc::Global;
 
 /// The most bytes of a paragraph where the words give no limit.

@@ -8,7 +8,7 @@ use Rattle.std.proofs.lemmas.Str.{IsCharBoundary-start, chars-nil, encodes-chars
 use Rattle.std.proofs.Math.Seq.{drop-append-add, drop-append_seam, drop-length}
 use Rattle.lbk_rules.specs.declared.breaks.Break.{Break}
 use Rattle.lbk_rules.specs.declared.cells.Cell.{Cell}
-use Rattle.lbk_rules.specs.declared.verdicts.Profile.{Profile}
+use Rattle.lbk_values.specs.declared.profile.Profile.{Profile}
 use Rattle.lbk_rules.specs.declared.verdicts.Verdict.{Verdict}
 use Rattle.lbk_rules.specs.Breaks.{break_by, breaks, breaks_from, is_no}
 use Rattle.lbk_rules.specs.Marks.{Marked, marks_behind}

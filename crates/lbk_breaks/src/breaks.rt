@@ -6,7 +6,8 @@ ghost use Rattle.std.specs.Str.{chars};
 ghost use Rattle.lbk_rules.specs.Breaks.{breaks};
 
 use crate::walk::Walk;
-use lbk_rules::{Break, CellSource, Kind, Profile, Rule};
+use lbk_rules::{Break, Kind, Profile, Rule};
+use lbk_steps::CellSource;
 use std::marker::Model;
 
 /// The breaks of a text: its positions after the first where a line may or must end (UAX #14, section 3), the last

@@ -2,12 +2,13 @@
 
 ghost use Rattle.std.specs.Prelude.{◌≡◌, ℕ, ◌<◌, ◌≤◌, List, IfNone, IfSome, IsCharBoundary, length, take};
 ghost use Rattle.lbk_rules.specs.declared.cells.Cell.{Cell};
-ghost use Rattle.lbk_rules.specs.declared.verdicts.Profile.{Profile};
-ghost use Rattle.lbk_rules.specs.RowMachineFits.{RowMachineFits};
+ghost use Rattle.lbk_values.specs.declared.profile.Profile.{Profile};
+ghost use Rattle.lbk_steps.specs.RowMachineFits.{RowMachineFits};
 ghost use Rattle.lbk_breaks.specs.Onward.{Filled};
 
 use crate::filling::{Progress, put};
-use lbk_rules::{Break, RowMachine};
+use lbk_rules::Break;
+use lbk_steps::RowMachine;
 
 /// Takes scalars of a text from the byte `start` on, until the block is full or the text ends, and writes the breaks
 /// before them into the front of the block.

@@ -2,13 +2,14 @@
 
 ghost use Rattle.std.specs.Prelude.{◌≡◌, ℕ, ◌<◌, ◌≤◌, [], List, IsCharBoundary, false, length, map, take};
 ghost use Rattle.lbk_rules.specs.declared.cells.Cell.{Cell};
-ghost use Rattle.lbk_rules.specs.declared.verdicts.Profile.{Profile};
+ghost use Rattle.lbk_values.specs.declared.profile.Profile.{Profile};
 ghost use Rattle.lbk_rules.specs.Verdict.{verdict_between_in};
 ghost use Rattle.lbk_breaks.specs.Onward.{Filled, FillsTo};
 
 use crate::filling::{Progress, put};
 use crate::{by_rules, by_steps};
-use lbk_rules::{AheadMachine, Break, CellSource, Profile, RowMachine, Verdict};
+use lbk_rules::{Break, Profile, Verdict};
+use lbk_steps::{AheadMachine, CellSource, RowMachine};
 
 /// What decides the positions of a text: the table of steps of its source, or the plain rules where that has none.
 #[derive(Drop)]

@@ -14,13 +14,13 @@ use Rattle.bstr.proofs.lemmas.PieceLemmas.{pieces-nil, pieces-step}
 use Rattle.lbk_rules.specs.declared.breaks.Break.{Break}
 use Rattle.lbk_rules.specs.declared.cells.Cell.{Cell}
 use Rattle.lbk_rules.specs.declared.facts.Left.{Left}
-use Rattle.lbk_rules.specs.declared.flat_table.FlatTable.{FlatTable}
-use Rattle.lbk_rules.specs.declared.verdicts.Profile.{Profile}
-use Rattle.lbk_rules.specs.declared.verdicts.Profile.TheVariants.{First, Second}
+use Rattle.lbk_steps.specs.declared.flat_table.FlatTable.{FlatTable}
+use Rattle.lbk_values.specs.declared.profile.Profile.{Profile}
+use Rattle.lbk_values.specs.declared.profile.Profile.TheVariants.{First, Second}
 use Rattle.lbk_rules.specs.declared.verdicts.Verdict.{Verdict}
 use Rattle.lbk_rules.specs.Breaks.{break_by, breaks, breaks_from}
 use Rattle.lbk_rules.specs.Ends.{end_of_text}
-use Rattle.lbk_rules.specs.FlatTable.{IsFlatBy, IsFlatOf, KnowsTaken}
+use Rattle.lbk_steps.specs.FlatTable.{IsFlatBy, IsFlatOf, KnowsTaken}
 use Rattle.lbk_rules.specs.Marks.{marks, marks_behind}
 use Rattle.lbk_rules.specs.Verdict.{verdict_between_in}
 use Rattle.lbk_rules.proofs.EndLemmas.{must_at_length, start_of_text}

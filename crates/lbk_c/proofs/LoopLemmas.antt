@@ -5,18 +5,18 @@ use Rattle.bstr.specs.Utf8.{decoded, good, lossy_chars, or_replacement}
 use Rattle.lbk_rules.specs.declared.breaks.Break.{Break}
 use Rattle.lbk_rules.specs.declared.cells.Cell.{Cell}
 use Rattle.lbk_rules.specs.declared.facts.Left.{Left}
-use Rattle.lbk_rules.specs.declared.flat_table.FlatStep.{FlatStep}
-use Rattle.lbk_rules.specs.declared.flat_table.FlatTable.{FlatTable}
-use Rattle.lbk_rules.specs.declared.flat_table.TheConstants.{HELD}
-use Rattle.lbk_rules.specs.declared.verdicts.Profile.{Profile}
+use Rattle.lbk_steps.specs.declared.flat_table.FlatStep.{FlatStep}
+use Rattle.lbk_steps.specs.declared.flat_table.FlatTable.{FlatTable}
+use Rattle.lbk_steps.specs.declared.flat_table.TheConstants.{HELD}
+use Rattle.lbk_values.specs.declared.profile.Profile.{Profile}
 use Rattle.lbk_rules.specs.Codes.{IsCode, verdict_coded}
 use Rattle.lbk_rules.specs.Facts.{facts}
-use Rattle.lbk_rules.specs.FlatTable.{AreFlatKinds, IsFlatBy, KnowsTaken, no_flat_step}
-use Rattle.lbk_rules.specs.Kinds.{kind_cell}
+use Rattle.lbk_steps.specs.FlatTable.{AreFlatKinds, IsFlatBy, KnowsTaken, no_flat_step}
+use Rattle.lbk_steps.specs.Kinds.{kind_cell}
 use Rattle.lbk_rules.specs.Normal.{normal}
-use Rattle.lbk_rules.specs.RowMachineFits.{normals}
+use Rattle.lbk_steps.specs.RowMachineFits.{normals}
 use Rattle.lbk_rules.specs.Sides.{Side}
-use Rattle.lbk_rules.specs.Steps.{IsStart, left_at}
+use Rattle.lbk_steps.specs.Steps.{IsStart, left_at}
 use Rattle.lbk_rules.specs.Verdict.{verdict_between_in}
 use Rattle.lbk_c.specs.declared.interface.Found.{Found}
 use Rattle.lbk_c.specs.Bytes.{with_break}

@@ -7,11 +7,11 @@ use Rattle.bstr.specs.Utf8.{Decoded, decoded, lossy_chars, or_replacement, piece
 use Rattle.lbk_rules.specs.declared.breaks.Break.{Break}
 use Rattle.lbk_rules.specs.declared.cells.Cell.{Cell}
 use Rattle.lbk_rules.specs.declared.facts.Left.{Left}
-use Rattle.lbk_rules.specs.declared.verdicts.Profile.{Profile}
+use Rattle.lbk_values.specs.declared.profile.Profile.{Profile}
 use Rattle.lbk_rules.specs.declared.verdicts.Verdict.{Verdict}
 use Rattle.lbk_rules.specs.Breaks.{break_by, is_no}
 use Rattle.lbk_rules.specs.Codes.{kind_numbered}
-use Rattle.lbk_rules.specs.FlatTable.{KnowsTaken}
+use Rattle.lbk_steps.specs.FlatTable.{KnowsTaken}
 use Rattle.lbk_rules.specs.Verdict.{verdict_between_in}
 use Rattle.lbk_c.specs.declared.interface.Found.{Found}
 use Rattle.lbk_c.specs.declared.progress.Progress.{Progress}

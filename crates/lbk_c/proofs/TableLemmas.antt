@@ -7,9 +7,9 @@ use Rattle.lbk_ucd.specs.File.{property_of}
 use Rattle.lbk_ucd.specs.Names.{line_break_format, east_asian_format, category_format, emoji_format}
 use Rattle.lbk_ucd.specs.Tables.{line_break_of, east_asian_of, category_of, is_pictographic_of}
 use Rattle.lbk_rules.specs.declared.cells.Cell.{Cell}
-use Rattle.lbk_rules.specs.declared.flat_table.FlatTable.{FlatTable}
-use Rattle.lbk_rules.specs.Cells.{cell_of_files}
-use Rattle.lbk_rules.specs.FlatTable.{IsFlatOf}
+use Rattle.lbk_steps.specs.declared.flat_table.FlatTable.{FlatTable}
+use Rattle.lbk_steps.specs.Cells.{cell_of_files}
+use Rattle.lbk_steps.specs.FlatTable.{IsFlatOf}
 use Rattle.lbk_rules.specs.Normal.{normal}
 use Rattle.lbk_rules.specs.Resolve.{cell_of_properties, cell_of_tables}
 

@@ -5,12 +5,12 @@ use Rattle.lbk_ucd.specs.declared.fault.UcdCause.{UcdCause}
 use Rattle.lbk_ucd.specs.declared.fault.UcdCause.TheVariants.{FileTooLong, LineTooLong, RowSyntax, Range, UnknownValue, Overlap, TooManyRows, Memory}
 use Rattle.lbk_ucd.specs.declared.fault.UcdFault.{UcdFault}
 use Rattle.lbk_ucd.specs.declared.tables.Files.{Files}
-use Rattle.lbk_ucd.specs.declared.values.Which.{Which}
-use Rattle.lbk_ucd.specs.declared.values.Which.TheVariants.{LineBreak, EastAsianWidth, Category, Emoji}
+use Rattle.lbk_ucd.specs.declared.which.Which.{Which}
+use Rattle.lbk_ucd.specs.declared.which.Which.TheVariants.{LineBreak, EastAsianWidth, Category, Emoji}
 use Rattle.lbk_ucd.specs.Files.{AreLawful, IsRefused}
-use Rattle.lbk_rules.specs.declared.flat_table.TableError.{TableError}
-use Rattle.lbk_rules.specs.declared.flat_table.TableError.TheVariants as refused
-use Rattle.lbk_rules.specs.EnoughRows.{HasReason}
+use Rattle.lbk_steps.specs.declared.flat_table.TableError.{TableError}
+use Rattle.lbk_steps.specs.declared.flat_table.TableError.TheVariants as refused
+use Rattle.lbk_steps.specs.EnoughRows.{HasReason}
 use Rattle.lbk_c.specs.declared.interface.Fault.{Fault}
 
 -- the number of a property file

@@ -5,10 +5,10 @@ ghost use Rattle.std.specs.Str.{IsUtf8, chars};
 ghost use Rattle.lbk_rules.specs.declared.breaks.Break.{Break};
 ghost use Rattle.lbk_rules.specs.declared.cells.Cell.{Cell};
 ghost use Rattle.lbk_rules.specs.declared.facts.Left.{Left};
-ghost use Rattle.lbk_rules.specs.declared.verdicts.Profile.{Profile};
+ghost use Rattle.lbk_values.specs.declared.profile.Profile.{Profile};
 ghost use Rattle.lbk_rules.specs.Breaks.{break_by, breaks};
 ghost use Rattle.lbk_rules.specs.Ends.{end_of_text};
-ghost use Rattle.lbk_rules.specs.FlatTable.{IsFlatBy, IsFlatOf};
+ghost use Rattle.lbk_steps.specs.FlatTable.{IsFlatBy, IsFlatOf};
 ghost use Rattle.lbk_c.specs.Bytes.{breaks_of_bytes};
 ghost use Rattle.lbk_c.specs.Reached.{Comes, Goes, IsGoing, IsSpent, Reached, from_state};
 ghost use Rattle.lbk_c.specs.Shown.{given_in};
@@ -17,7 +17,8 @@ ghost use Rattle.lbk_c.specs.State.{profile_numbered, start_in};
 use crate::filling::{fill, put};
 use crate::interface::{Found, State};
 use crate::progress::Progress;
-use lbk_rules::{FlatTable, Profile};
+use lbk_rules::Profile;
+use lbk_steps::FlatTable;
 
 /// The number of the verdict at a text's end, by rule 3.
 const END: u16 = 256 + 2;

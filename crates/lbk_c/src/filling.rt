@@ -4,9 +4,9 @@ ghost use Rattle.std.specs.Prelude.{◌≡◌, ℕ, ◌<◌, ◌≤◌, ◌++◌
 ghost use Rattle.lbk_rules.specs.declared.breaks.Break.{Break};
 ghost use Rattle.lbk_rules.specs.declared.cells.Cell.{Cell};
 ghost use Rattle.lbk_rules.specs.declared.facts.Left.{Left};
-ghost use Rattle.lbk_rules.specs.declared.verdicts.Profile.{Profile};
+ghost use Rattle.lbk_values.specs.declared.profile.Profile.{Profile};
 ghost use Rattle.lbk_rules.specs.Codes.{IsCode, verdict_coded};
-ghost use Rattle.lbk_rules.specs.FlatTable.{AreFlatKinds, IsFlatBy};
+ghost use Rattle.lbk_steps.specs.FlatTable.{AreFlatKinds, IsFlatBy};
 ghost use Rattle.lbk_c.specs.Bytes.{with_break};
 ghost use Rattle.lbk_c.specs.Reached.{AreSwift, Reached};
 ghost use Rattle.lbk_c.specs.Shown.{given_in};
@@ -17,7 +17,8 @@ use crate::interface::Found;
 use crate::progress::Progress;
 use crate::steps::{CODES, step_at, steps_of};
 use bstr::decode_lossy;
-use lbk_rules::{FlatStep, FlatTable, HELD, Profile, STEPS};
+use lbk_rules::Profile;
+use lbk_steps::{FlatStep, FlatTable, HELD, STEPS};
 
 /// Goes on until the block is full or the text ends, and writes the breaks before the scalars taken behind those in the
 /// front of the block.

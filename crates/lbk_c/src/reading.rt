@@ -2,14 +2,14 @@
 
 ghost use Rattle.std.specs.Prelude.{◌≡◌, ◌<◌, ◌↔◌, ℕ, IsTrue};
 ghost use Rattle.lbk_ucd.specs.Files.{AreLawful};
-ghost use Rattle.lbk_rules.specs.Cells.{AreCellsOf};
+ghost use Rattle.lbk_steps.specs.Cells.{AreCellsOf};
 ghost use Rattle.lbk_rules.specs.declared.cells.Cell.{Cell};
-ghost use Rattle.lbk_rules.specs.FlatTable.{IsFlatOf, IsWhole};
+ghost use Rattle.lbk_steps.specs.FlatTable.{IsFlatOf, IsWhole};
 ghost use Rattle.lbk_c.specs.Faults.{IsFaultOf, files_of, no_fault};
 
 use crate::faults::{NO_FAULT, given_fault, unmade_fault};
 use crate::interface::Fault;
-use lbk_rules::FlatTable;
+use lbk_steps::FlatTable;
 use lbk_ucd::{Files, Tables};
 use std::alloc::Global;
 

@@ -1,10 +1,11 @@
 //! The steps of a table, in either profile.
 
 ghost use Rattle.std.specs.Prelude.{◌≡◌, ◌+◌, ◌<◌, slice_index_or};
-ghost use Rattle.lbk_rules.specs.FlatTable.{no_flat_step};
+ghost use Rattle.lbk_steps.specs.FlatTable.{no_flat_step};
 ghost use Rattle.lbk_c.specs.Reached.{steps_in};
 
-use lbk_rules::{FlatStep, FlatTable, Profile, STEPS};
+use lbk_rules::Profile;
+use lbk_steps::{FlatStep, FlatTable, STEPS};
 
 /// How many codes there are.
 pub(crate) const CODES: usize = 0x11_0000;

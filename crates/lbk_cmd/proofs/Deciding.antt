@@ -8,7 +8,7 @@ use Rattle.std.proofs.lemmas.List.{set-append_left, length-append, length-map, l
 use Rattle.std.proofs.lemmas.Str.{IsUtf8-past_char, chars-nil, chars_past_char, encodes-chars, len_utf8_bounds, length-encode}
 use Rattle.std.proofs.Math.Seq.{set-append_seam}
 use Rattle.lbk_rules.specs.declared.cells.Cell.{Cell}
-use Rattle.lbk_rules.specs.declared.verdicts.Profile.{Profile}
+use Rattle.lbk_values.specs.declared.profile.Profile.{Profile}
 use Rattle.lbk_rules.specs.declared.verdicts.Verdict.{Verdict}
 use Rattle.lbk_rules.specs.Answers.{written}
 use Rattle.lbk_rules.specs.Facts.{heads}

@@ -2,8 +2,8 @@
 use Rattle.std.proofs.Common.{◌≡◌, ℕ, true, false, suc, List, [], ◌∷◌, Option, Result, Err, map, length, inr, subst, refl, true≢false, eqb-true, arith}
 use Rattle.std.specs.Prelude.{◌==◌}
 use Rattle.std.specs.Borrow.{Bor}
-use Rattle.lbk_rules.specs.CellPages.{page_cell}
-use Rattle.lbk_rules.specs.declared.verdicts.Profile.{Profile}
+use Rattle.lbk_steps.specs.CellPages.{page_cell}
+use Rattle.lbk_values.specs.declared.profile.Profile.{Profile}
 use Rattle.lbk_args.specs.declared.order.Engine.{Engine}
 use Rattle.lbk_args.specs.Task.{Task}
 use Rattle.lbk_files.specs.declared.faults.Stop.{Stop}

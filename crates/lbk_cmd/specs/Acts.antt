@@ -12,8 +12,8 @@ use Rattle.lbk_cmd.specs.Engines.{engine_of, lines_of, marking, segmenting, show
 use Rattle.lbk_cmd.specs.Run.{Engine as TextEngine, IsRun, is_failed_read}
 use Rattle.lbk_cmd.specs.Texts.{lines_from, segment_text, show_text, signed_text}
 use Rattle.lbk_rules.specs.declared.cells.Cell.{Cell}
-use Rattle.lbk_rules.specs.declared.verdicts.Profile.{Profile}
-use Rattle.lbk_rules.specs.declared.verdicts.Profile.TheVariants.{First}
+use Rattle.lbk_values.specs.declared.profile.Profile.{Profile}
+use Rattle.lbk_values.specs.declared.profile.Profile.TheVariants.{First}
 use Rattle.lbk_notation.specs.declared.findings.Report.{Report}
 use Rattle.lbk_notation.specs.declared.findings.ReplayFault.{ReplayFault}
 use Rattle.lbk_notation.specs.declared.marks.Form.{Form}

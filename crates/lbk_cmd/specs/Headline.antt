@@ -2,7 +2,7 @@
 use Rattle.std.specs.Prelude.{◌≡◌, ℕ, List, Some}
 use Rattle.std.specs.List.{AllByRecursion, flat_map}
 use Rattle.lbk_ucd.specs.declared.tables.Files.{Files}
-use Rattle.lbk_rules.specs.declared.verdicts.Profile.{Profile}
+use Rattle.lbk_values.specs.declared.profile.Profile.{Profile}
 use Rattle.lbk_passage.specs.Breaks.{breaks}
 use Rattle.lbk_passage.specs.Laws.{EndsOnce, segment_breaks}
 use Rattle.lbk_passage.specs.Marks.{Marked, marks, scalars_of}

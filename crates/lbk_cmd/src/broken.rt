@@ -2,7 +2,7 @@
 //! that `show` writes.
 
 ghost use Rattle.std.specs.Prelude.{◌≡◌, ◌++◌, ◌∷◌, List, Ok, Err, IfNone, IfSome, IfOk, IfErr, OnOk};
-ghost use Rattle.lbk_rules.specs.CellPages.{page_cell};
+ghost use Rattle.lbk_steps.specs.CellPages.{page_cell};
 ghost use Rattle.lbk_notation.specs.Stream.{HasNoLineEnd};
 ghost use Rattle.lbk_passage.specs.Marks.{Marked};
 ghost use Rattle.lbk_cmd.specs.Acts.{Shows};
@@ -17,7 +17,8 @@ use super::faults::CmdFault;
 use lbk_feed::{Device, Source};
 use lbk_files::{CellsFault, read_cells};
 use lbk_notation::{LineFault, TestLine, read_passage_line};
-use lbk_rules::{CellPages, Profile};
+use lbk_rules::Profile;
+use lbk_steps::CellPages;
 use lbk_ucd::Files;
 use std::alloc::Global;
 use thiserror::Error;

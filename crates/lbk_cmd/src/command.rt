@@ -1,7 +1,7 @@
 //! A run of the program, from its words to its ending.
 
 ghost use Rattle.std.specs.Prelude.{◌≡◌, ◌≢◌, ◌+◌, ◌<◌, ◌≤◌, ◌⊎◌, Bool, [], Some, map};
-ghost use Rattle.lbk_rules.specs.CellPages.{page_cell};
+ghost use Rattle.lbk_steps.specs.CellPages.{page_cell};
 ghost use Rattle.lbk_args.specs.Accepted.{AreAccepted};
 ghost use Rattle.lbk_args.specs.Task.{Task, task_by};
 ghost use Rattle.lbk_args.specs.PlainWords.{IsPlainFor};

@@ -11,7 +11,7 @@ ghost use Rattle.lbk_passage.specs.Marks.{Marked, scalars_of, text_of};
 ghost use Rattle.lbk_cmd.specs.Show.{shown_passage, verdicts_of};
 ghost use Rattle.lbk_ucd.specs.declared.tables.Files.{Files};
 ghost use Rattle.lbk_rules.specs.declared.cells.Cell.{Cell};
-ghost use Rattle.lbk_rules.specs.declared.verdicts.Profile.{Profile};
+ghost use Rattle.lbk_values.specs.declared.profile.Profile.{Profile};
 ghost use Rattle.lbk_passage.specs.Passages.{passages};
 ghost use Rattle.lbk_files.specs.Cells.{AreCellsOf};
 ghost use Rattle.lbk_cmd.specs.Headline.{ArePassagesOf};

@@ -12,7 +12,8 @@ ghost use Rattle.lbk_cmd.specs.Show.{verdicts_of};
 ghost use Rattle.lbk_cmd.specs.Deciding.{placed};
 
 use lbk_notation::{Form, mark_of, push_mark, push_scalar};
-use lbk_rules::{CellSource, Kind, Profile, Rule, Stepper, Verdict};
+use lbk_rules::{Kind, Profile, Rule, Verdict};
+use lbk_steps::{CellSource, Stepper};
 use std::alloc::AllocError;
 
 /// Writes the verdicts of all positions of a passage in place of what the list held: those of its text alone, the

@@ -4,8 +4,8 @@ use Rattle.std.proofs.Math.Nat.{min-eq_left}
 use Rattle.std.specs.Result.{IsErrAnd}
 use Rattle.lbk_feed.specs.Devices.{count_up}
 use Rattle.lbk_feed.specs.Runs.{HasFailed}
-use Rattle.lbk_ucd.specs.declared.values.Which.TheVariants.{LineBreak, EastAsianWidth, Category, Emoji}
-use Rattle.lbk_rules.specs.declared.pages.CellPages.{CellPages}
+use Rattle.lbk_ucd.specs.declared.which.Which.TheVariants.{LineBreak, EastAsianWidth, Category, Emoji}
+use Rattle.lbk_steps.specs.declared.pages.CellPages.{CellPages}
 use Rattle.lbk_files.specs.FileFault.{FourFiles, IsFileFault, IsLoaded, LoadCounts}
 use Rattle.lbk_files.specs.Named.{IsOneFault}
 use Rattle.lbk_files.specs.Places.{files_at, refused_by, told_at}

@@ -2,11 +2,11 @@
 use Rattle.std.specs.Prelude.{◌≡◌, ◌⊎◌, ℕ, Bool, List, Option, IsTrue}
 use Rattle.lbk_feed.specs.Runs.{HasFailed}
 use Rattle.lbk_ucd.specs.declared.tables.Files.{Files}
-use Rattle.lbk_ucd.specs.declared.values.Which.{Which}
-use Rattle.lbk_ucd.specs.declared.values.Which.TheVariants.{LineBreak, EastAsianWidth, Category, Emoji}
+use Rattle.lbk_ucd.specs.declared.which.Which.{Which}
+use Rattle.lbk_ucd.specs.declared.which.Which.TheVariants.{LineBreak, EastAsianWidth, Category, Emoji}
 use Rattle.lbk_ucd.specs.Files.{AreLawful, IsRefused}
 use Rattle.lbk_rules.specs.declared.cells.Cell.{Cell}
-use Rattle.lbk_rules.specs.Cells.{AreCellsOf}
+use Rattle.lbk_steps.specs.Cells.{AreCellsOf}
 use Rattle.lbk_files.specs.Store.{IsFront, IsUnreadable}
 use Rattle.lbk_files.specs.Published.{IsAsClaimed, IsClaimCause}
 use Rattle.lbk_files.specs.declared.published.ClaimCause.{ClaimCause}

@@ -1,7 +1,7 @@
 -- The files that are named, and what a store tells of them.
 use Rattle.std.specs.Prelude.{◌≡◌, ℕ, List, ◌∷◌, ◌++◌, Option, true, false, ⊤, codes}
-use Rattle.lbk_ucd.specs.declared.values.Which.{Which}
-use Rattle.lbk_ucd.specs.declared.values.Which.TheVariants.{LineBreak, EastAsianWidth, Category, Emoji}
+use Rattle.lbk_ucd.specs.declared.which.Which.{Which}
+use Rattle.lbk_ucd.specs.declared.which.Which.TheVariants.{LineBreak, EastAsianWidth, Category, Emoji}
 use Rattle.lbk_args.specs.Task.{Named, NamedFiles, given, in_folder}
 use Rattle.lbk_files.specs.Store.{IsUnreadable}
 use Rattle.lbk_files.specs.FileFault.{FourFiles, IsUnlikeItsClaim, Told}

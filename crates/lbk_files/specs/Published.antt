@@ -3,8 +3,8 @@ use Rattle.std.specs.Prelude.{◌≡◌, ℕ, ◌-◌, ◌+◌, ◌≤◌, ◌++
 use Rattle.std.specs.Str.Parse.{IsNumeral, digits_value, without_leading_plus}
 use Rattle.bstr.specs.Find.{FindsNeedle, OccursAt}
 use Rattle.bstr.specs.Text.{Contains}
-use Rattle.lbk_ucd.specs.declared.values.Which.{Which}
-use Rattle.lbk_ucd.specs.declared.values.Which.TheVariants.{LineBreak, EastAsianWidth, Category, Emoji}
+use Rattle.lbk_ucd.specs.declared.which.Which.{Which}
+use Rattle.lbk_ucd.specs.declared.which.Which.TheVariants.{LineBreak, EastAsianWidth, Category, Emoji}
 use Rattle.lbk_files.specs.declared.published.Version.{Version as Numbers}
 use Rattle.lbk_files.specs.declared.published.ClaimCause.{ClaimCause}
 use Rattle.lbk_files.specs.declared.published.ClaimCause.TheVariants.{Title, Version, End}

@@ -1,7 +1,7 @@
 //! The four files that words name, loaded in order and read.
 
 ghost use Rattle.std.specs.Prelude.{◌≡◌, ◌+◌, ◌<◌, ◌≤◌, Err, MatchResult, true};
-ghost use Rattle.lbk_rules.specs.CellPages.{page_cell};
+ghost use Rattle.lbk_steps.specs.CellPages.{page_cell};
 ghost use Rattle.lbk_files.specs.FileFault.{AreCellsFrom, IsFileFault, IsLoaded, counts_of};
 ghost use Rattle.lbk_files.specs.Named.{IsOneFault, files_of, told_of};
 ghost use Rattle.lbk_files.specs.Places.{files_at, refusals_by, told_at};
@@ -13,7 +13,7 @@ use super::places::{Place, Places, places_of};
 use super::published::check_claim;
 use super::store::{LoadFault, Store};
 use lbk_args::FileNames;
-use lbk_rules::CellPages;
+use lbk_steps::CellPages;
 use lbk_ucd::{Files, LONGEST_FILE, Which};
 use std::alloc::Global;
 

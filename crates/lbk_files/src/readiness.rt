@@ -11,7 +11,8 @@ use super::faults::{CellsFault, Stop};
 use super::loading::load_cells;
 use super::store::Store;
 use lbk_args::{Engine, Order, WordsFault, parse};
-use lbk_rules::{CellPages, Profile};
+use lbk_rules::Profile;
+use lbk_steps::CellPages;
 use std::alloc::Global;
 
 /// An engine with its option, the profile and the cells of the files.

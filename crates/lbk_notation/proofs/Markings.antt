@@ -11,7 +11,7 @@ use Rattle.lbk_notation.specs.declared.marks.Mark.TheVariants.{No}
 use Rattle.lbk_notation.specs.Marked.{mark_of, mark_at, marks_in}
 use Rattle.lbk_notation.specs.Put.{put, mark_now}
 use Rattle.lbk_rules.specs.declared.cells.Cell.{Cell}
-use Rattle.lbk_rules.specs.declared.verdicts.Profile.{Profile}
+use Rattle.lbk_values.specs.declared.profile.Profile.{Profile}
 use Rattle.lbk_rules.specs.declared.verdicts.Verdict.{Verdict}
 use Rattle.lbk_rules.specs.Held.{late_at, now_at, answer_at}
 use Rattle.lbk_rules.specs.Verdict.{verdict_in}

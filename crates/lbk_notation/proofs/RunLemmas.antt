@@ -8,7 +8,7 @@ use Rattle.lbk_feed.specs.Devices.{KeepsIfTold}
 use Rattle.lbk_feed.specs.Runs.{Ran, Took}
 use Rattle.lbk_feed.specs.Runs.IsStopped.{midway, at_end}
 use Rattle.lbk_rules.specs.declared.cells.Cell.{Cell}
-use Rattle.lbk_rules.specs.declared.verdicts.Profile.{Profile}
+use Rattle.lbk_values.specs.declared.profile.Profile.{Profile}
 use Rattle.lbk_notation.specs.declared.findings.Report.{Report}
 use Rattle.lbk_notation.specs.declared.findings.ReplayFault.{ReplayFault}
 use Rattle.lbk_notation.specs.declared.findings.ReplayFault.TheVariants.{Read, Write, Memory, StreamTooLong}

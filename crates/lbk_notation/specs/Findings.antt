@@ -1,7 +1,7 @@
 -- What the lines of a test file come to.
 use Rattle.std.specs.Prelude.{ℕ, ◌≤◌, List, [], ◌∷◌, length, None, Some, ⊤}
 use Rattle.lbk_rules.specs.declared.cells.Cell.{Cell}
-use Rattle.lbk_rules.specs.declared.verdicts.Profile.{Profile}
+use Rattle.lbk_values.specs.declared.profile.Profile.{Profile}
 use Rattle.lbk_notation.specs.declared.fault.LineFault.TheVariants as Faults
 use Rattle.lbk_notation.specs.declared.findings.Finding.{Finding}
 use Rattle.lbk_notation.specs.declared.findings.Finding.TheVariants.{NoLine, Replayed, Bad, Long}

@@ -12,7 +12,8 @@ use super::marks::Form;
 use super::progress::Progress;
 use super::replayer::Replayer;
 use lbk_feed::{Sink, Source, write_all};
-use lbk_rules::{CellSource, Profile};
+use lbk_rules::Profile;
+use lbk_steps::CellSource;
 use std::alloc::Global;
 
 const BLOCK: usize = 4096;

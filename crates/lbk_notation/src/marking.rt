@@ -8,7 +8,8 @@ ghost use Rattle.lbk_notation.specs.Put.{put, mark_now};
 
 use super::line::TestLine;
 use super::marks::Mark;
-use lbk_rules::{CellSource, Kind, Profile, Stepper, Verdict};
+use lbk_rules::{Kind, Profile, Verdict};
+use lbk_steps::{CellSource, Stepper};
 use std::alloc::{AllocError, Global};
 
 /// The scalars of a text, and at each position what the rules say of it (UAX #14, section 6). An error comes where memory

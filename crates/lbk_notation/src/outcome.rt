@@ -8,7 +8,8 @@ ghost use Rattle.lbk_notation.specs.Outcome.{IsOutcome};
 use super::findings::Outcome;
 use super::line::TestLine;
 use super::marks::{Form, Mark};
-use lbk_rules::{CellSource, Kind, Profile, Stepper, Verdict};
+use lbk_rules::{Kind, Profile, Verdict};
+use lbk_steps::{CellSource, Stepper};
 
 /// Compares the marks of a line with what the rules of the profile say of its scalars (UAX #14, section 6).
 ///

@@ -9,7 +9,7 @@ use super::findings::{Finding, ReplayFault, Report, STREAM_MAX};
 use super::reading::LONGEST;
 use super::replayer::Replayer;
 use super::rows::{push_finding, push_total};
-use lbk_rules::CellSource;
+use lbk_steps::CellSource;
 use std::alloc::{AllocError, Global};
 
 const MARK: [u8; 3] = [0xEF, 0xBB, 0xBF];
@@ -36,7 +36,7 @@ pub struct Progress {
 
 impl Progress {
     ghost use Rattle.lbk_rules.specs.declared.cells.Cell.{Cell};
-    ghost use Rattle.lbk_rules.specs.declared.verdicts.Profile.{Profile};
+    ghost use Rattle.lbk_values.specs.declared.profile.Profile.{Profile};
     ghost use Rattle.lbk_notation.specs.declared.marks.Form.{Form};
     ghost use Rattle.lbk_notation.specs.Fault.{HasMarks};
     ghost use Rattle.lbk_notation.specs.Findings.{IsFinding};

@@ -9,7 +9,8 @@ use super::findings::{Finding, ReplayFault};
 use super::marks::Form;
 use super::outcome::replay_line;
 use super::reading::read_line;
-use lbk_rules::{CellSource, Profile};
+use lbk_rules::Profile;
+use lbk_steps::CellSource;
 use std::alloc::Global;
 
 /// What the lines of a file are compared with, and in which form.

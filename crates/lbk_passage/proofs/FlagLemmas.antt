@@ -4,7 +4,7 @@ use Rattle.std.proofs.lemmas.Bool.{cases_eq}
 use Rattle.std.proofs.lemmas.Str.{IsCharBoundary-start, char_from_byte, length-encode, len_utf8_bounds}
 use Rattle.lbk_rules.specs.declared.cells.Cell.{Cell}
 use Rattle.lbk_rules.specs.Ends.{ends_line}
-use Rattle.lbk_rules.specs.FirstBytes.{AreQuiet, first_byte}
+use Rattle.lbk_steps.specs.FirstBytes.{AreQuiet, first_byte}
 use Rattle.lbk_passage.specs.Flags.{AreLettersTo}
 use Rattle.lbk_passage.proofs.Finding.{IsUtf8-scalar}
 

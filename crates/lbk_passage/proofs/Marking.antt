@@ -5,7 +5,7 @@ use Rattle.lbk_rules.specs.declared.classes.Class.{Class}
 use Rattle.lbk_rules.specs.declared.cells.Cell.{Cell}
 use Rattle.lbk_rules.specs.declared.verdicts.Kind.{Kind}
 use Rattle.lbk_rules.specs.declared.verdicts.Kind.TheVariants.{No, May, Must}
-use Rattle.lbk_rules.specs.declared.verdicts.Profile.{Profile}
+use Rattle.lbk_values.specs.declared.profile.Profile.{Profile}
 use Rattle.lbk_rules.specs.declared.verdicts.Verdict.{Verdict}
 use Rattle.lbk_rules.specs.Ends.{ends_line, ends_between, end_after, end_of_text}
 use Rattle.lbk_rules.specs.Verdict.{verdict_between_in}

@@ -4,7 +4,7 @@ use Rattle.std.specs.Str.{chars, IsCharBoundary}
 use Rattle.lbk_rules.specs.declared.classes.Class.{Class}
 use Rattle.lbk_rules.specs.declared.cells.Cell.{Cell}
 use Rattle.lbk_rules.specs.Ends.{ends_line}
-use Rattle.lbk_rules.specs.FirstBytes as FirstBytes
+use Rattle.lbk_steps.specs.FirstBytes as FirstBytes
 use Rattle.lbk_passage.specs.Stays.{stays, last_class}
 
 -- a line must end behind no scalar whose first byte has true in the list, and each byte that continues a scalar has true

@@ -2,7 +2,7 @@
 use Rattle.std.specs.Prelude.{ℕ, ◌-◌, ◌≤◌, Bool, false, ◌||◌, List, [], ◌++◌, length, string_bytes, if◌then◌else◌}
 use Rattle.lbk_feed.specs.Text.{greatest_limit}
 use Rattle.lbk_rules.specs.declared.cells.Cell.{Cell}
-use Rattle.lbk_rules.specs.declared.verdicts.Profile.{Profile}
+use Rattle.lbk_values.specs.declared.profile.Profile.{Profile}
 use Rattle.lbk_passage.specs.declared.paragraph.Paragraph.{Paragraph}
 
 -- a limit counts bytes, and is 1 to the greatest

@@ -6,7 +6,7 @@ ghost use Rattle.std.specs.List.{AllByRecursion, flat_map};
 ghost use Rattle.std.specs.Str.{chars};
 ghost use Rattle.lbk_rules.specs.declared.cells.Cell.{Cell};
 ghost use Rattle.lbk_rules.specs.declared.verdicts.Kind.TheVariants.{Must};
-ghost use Rattle.lbk_rules.specs.declared.verdicts.Profile.{Profile};
+ghost use Rattle.lbk_values.specs.declared.profile.Profile.{Profile};
 ghost use Rattle.lbk_rules.specs.Verdict.{verdict_between_in};
 ghost use Rattle.lbk_passage.specs.declared.faults.PassageFault.{PassageFault};
 ghost use Rattle.lbk_passage.specs.Breaks.{breaks};

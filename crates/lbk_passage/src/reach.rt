@@ -6,7 +6,8 @@ ghost use Rattle.lbk_passage.specs.Flags.{AreQuiet, Passes, is_end};
 
 use crate::ends::{ends_at, ends_line};
 use crate::flags::ByteFlags;
-use lbk_rules::{CellSource, Class};
+use lbk_rules::Class;
+use lbk_steps::CellSource;
 
 /// Why a paragraph reaches no further into a piece.
 #[derive(Clone, Copy, PartialEq, Eq, Debug)]

@@ -10,7 +10,8 @@ ghost use Rattle.lbk_passage.specs.Segments.{segments_of};
 
 use crate::passage::Segment;
 use lbk_breaks::{Break, Breaks};
-use lbk_rules::{CellSource, Kind, Profile, Rule, Verdict};
+use lbk_rules::{Kind, Profile, Rule, Verdict};
+use lbk_steps::CellSource;
 use std::alloc::AllocError;
 
 /// How many breaks are found at a time.

@@ -7,8 +7,8 @@ use Rattle.std.proofs.lemmas.List.{length-set, length-reverse, reverse-reverse, 
 use Rattle.lbk_rules.specs.declared.classes.Class.{Class}
 use Rattle.lbk_rules.specs.declared.classes.Class.TheVariants.{Quotation}
 use Rattle.lbk_rules.specs.declared.cells.Cell.{Cell}
-use Rattle.lbk_rules.specs.declared.verdicts.Profile.{Profile}
-use Rattle.lbk_rules.specs.declared.verdicts.Profile.TheVariants.{First, Second}
+use Rattle.lbk_values.specs.declared.profile.Profile.{Profile}
+use Rattle.lbk_values.specs.declared.profile.Profile.TheVariants.{First, Second}
 use Rattle.lbk_rules.specs.declared.verdicts.Verdict.{Verdict}
 use Rattle.lbk_rules.specs.Answers.{count_of, written}
 use Rattle.lbk_rules.specs.Classes.{is, hard, mark, QU}

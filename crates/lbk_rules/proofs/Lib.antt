@@ -2,11 +2,7 @@ pub mod ChainLemmas
 pub mod FactsLemmas
 pub mod LookAheadLemmas
 pub mod MachineLemmas
-pub mod PagesLemmas
-pub mod PagesOfText
 pub mod ParagraphLemmas
-pub mod KindsLemmas
-pub mod AheadLemmas
 pub mod AnnexLemmas
 pub mod WritingLemmas
 pub mod HeldLemmas
@@ -15,9 +11,4 @@ pub mod CoverLemmas
 pub mod UnansweredLemmas
 pub mod EndLemmas
 pub mod StepLemmas
-pub mod LeftLemmas
-pub mod RowsLemmas
-pub mod EnoughRowsLemmas
 pub mod NormalLemmas
-pub mod RowMachineLemmas
-pub mod HoldsLemmas

@@ -5,8 +5,8 @@ use Rattle.std.proofs.lemmas.List.{drop-map, length-map, map-append, reverse-app
 use Rattle.lbk_rules.specs.declared.classes.Quote.{Quote}
 use Rattle.lbk_rules.specs.declared.classes.Quote.TheVariants.{Neither}
 use Rattle.lbk_rules.specs.declared.cells.Cell.{Cell}
-use Rattle.lbk_rules.specs.declared.verdicts.Profile.{Profile}
-use Rattle.lbk_rules.specs.declared.verdicts.Profile.TheVariants.{First, Second}
+use Rattle.lbk_values.specs.declared.profile.Profile.{Profile}
+use Rattle.lbk_values.specs.declared.profile.Profile.TheVariants.{First, Second}
 use Rattle.lbk_rules.specs.declared.verdicts.Verdict.{Verdict}
 use Rattle.lbk_rules.specs.Chain.{choose, from_11, from_cells}
 use Rattle.lbk_rules.specs.Classes.{Set, CP, OP, QU, hard, is, mark, none_of}

@@ -8,8 +8,8 @@ use Rattle.lbk_rules.specs.declared.cells.Cell.{Cell}
 use Rattle.lbk_rules.specs.declared.verdicts.Kind.{Kind}
 use Rattle.lbk_rules.specs.declared.verdicts.Kind.TheVariants.{No, May, Must}
 use Rattle.lbk_rules.specs.declared.verdicts.Rule.TheVariants.{Lb31}
-use Rattle.lbk_rules.specs.declared.verdicts.Profile.{Profile}
-use Rattle.lbk_rules.specs.declared.verdicts.Profile.TheVariants.{First, Second}
+use Rattle.lbk_values.specs.declared.profile.Profile.{Profile}
+use Rattle.lbk_values.specs.declared.profile.Profile.TheVariants.{First, Second}
 use Rattle.lbk_rules.specs.declared.verdicts.Verdict.{Verdict}
 use Rattle.lbk_rules.specs.Classes.{Set, ◌or◌, none_of, is, hard, mark, opens_after, BK, CR, LF, NL, SP, ZW, OP, QU, CL, CP, B2, HL, RI}
 use Rattle.lbk_rules.specs.Ends.{ends_line}

@@ -1,7 +1,7 @@
 -- The rule list read group by group, as the code reads it: each group hands on what it leaves open.
 use Rattle.std.specs.Prelude.{if◌then◌else◌, List, [], ◌∷◌}
 use Rattle.lbk_rules.specs.declared.verdicts.Verdict.{Verdict}
-use Rattle.lbk_rules.specs.declared.verdicts.Profile.{Profile}
+use Rattle.lbk_values.specs.declared.profile.Profile.{Profile}
 use Rattle.lbk_rules.specs.declared.verdicts.Kind.TheVariants.{May}
 use Rattle.lbk_rules.specs.declared.verdicts.Rule.TheVariants.{Lb31}
 use Rattle.lbk_rules.specs.declared.cells.Cell.{Cell}

@@ -1,7 +1,7 @@
 -- The few facts of the left side that the rules ask for.
 use Rattle.std.specs.Prelude.{◌≡◌, Bool, false, if◌then◌else◌, [], ◌∷◌}
-use Rattle.lbk_rules.specs.declared.verdicts.Profile.{Profile}
-use Rattle.lbk_rules.specs.declared.verdicts.Profile.TheVariants.{First, Second}
+use Rattle.lbk_values.specs.declared.profile.Profile.{Profile}
+use Rattle.lbk_values.specs.declared.profile.Profile.TheVariants.{First, Second}
 use Rattle.lbk_rules.specs.declared.facts.Left.{Left}
 use Rattle.lbk_rules.specs.declared.facts.Before.{Before}
 use Rattle.lbk_rules.specs.Classes.{ZW, HL}

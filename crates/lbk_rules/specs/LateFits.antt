@@ -3,7 +3,7 @@ use Rattle.std.specs.Prelude.{◌≡◌, ℕ, if◌then◌else◌, List, [], ◌
 use Rattle.lbk_rules.specs.declared.cells.Cell.{Cell}
 use Rattle.lbk_rules.specs.declared.late.Held.{Held}
 use Rattle.lbk_rules.specs.declared.late.LateMachine.{LateMachine}
-use Rattle.lbk_rules.specs.declared.verdicts.Profile.{Profile}
+use Rattle.lbk_values.specs.declared.profile.Profile.{Profile}
 use Rattle.lbk_rules.specs.Sides.{Side}
 use Rattle.lbk_rules.specs.Chain.{from_cells}
 use Rattle.lbk_rules.specs.Facts.{facts, heads}

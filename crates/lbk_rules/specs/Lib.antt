@@ -7,7 +7,6 @@ pub mod Verdict
 pub mod Marks
 pub mod Breaks
 pub mod Resolve
-pub mod Cells
 pub mod Labels
 pub mod Held
 pub mod Annex
@@ -15,22 +14,9 @@ pub mod Ends
 pub mod Once
 pub mod Normal
 -- What only carries proofs.
-pub mod AheadFits
 pub mod Answers
-pub mod CellPages
 pub mod Chain
 pub mod Codes
-pub mod EnoughRows
 pub mod Facts
-pub mod FirstBytes
 pub mod Fits
-pub mod FlatTable
-pub mod KindTable
-pub mod Kinds
 pub mod LateFits
-pub mod Pages
-pub mod RowFits
-pub mod RowMachineFits
-pub mod RowStepperFits
-pub mod StepperFits
-pub mod Steps

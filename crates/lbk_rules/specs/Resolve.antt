@@ -1,13 +1,11 @@
 -- The cell of a scalar value, by its four properties (UAX #14, section 6.1, rule LB1).
 use Rattle.std.specs.Prelude.{ℕ, Bool, true, false, ◌&&◌, if◌then◌else◌}
-use Rattle.lbk_ucd.specs.declared.values.LineBreak.{LineBreak}
-use Rattle.lbk_ucd.specs.declared.values.LineBreak.TheVariants as Property
-use Rattle.lbk_ucd.specs.declared.values.EastAsian.{EastAsian}
-use Rattle.lbk_ucd.specs.declared.values.EastAsian.TheVariants as Width
-use Rattle.lbk_ucd.specs.declared.values.Category.{Category}
-use Rattle.lbk_ucd.specs.declared.values.Category.TheVariants.{Lu, Ll, Lt, Lm, Lo, Nd, Nl, No, Mn, Mc, Pi, Pf, Cn}
-use Rattle.lbk_ucd.specs.declared.tables.Tables.{Tables}
-use Rattle.lbk_ucd.specs.Tables.{line_break_of, east_asian_of, category_of, is_pictographic_of}
+use Rattle.lbk_values.specs.declared.values.LineBreak.{LineBreak}
+use Rattle.lbk_values.specs.declared.values.LineBreak.TheVariants as Property
+use Rattle.lbk_values.specs.declared.values.EastAsian.{EastAsian}
+use Rattle.lbk_values.specs.declared.values.EastAsian.TheVariants as Width
+use Rattle.lbk_values.specs.declared.values.Category.{Category}
+use Rattle.lbk_values.specs.declared.values.Category.TheVariants.{Lu, Ll, Lt, Lm, Lo, Nd, Nl, No, Mn, Mc, Pi, Pf, Cn}
 use Rattle.lbk_rules.specs.declared.classes.Class.{Class}
 use Rattle.lbk_rules.specs.declared.classes.Class.TheVariants.{Alphabetic, BreakBoth, BreakAfter, BreakBefore, MandatoryBreak, ContingentBreak, ClosePunctuation, CombiningMark, CloseParenthesis, CarriageReturn, EBase, EModifier, Exclamation, Glue, H2, H3, HebrewLetter, Hyphen, Ideographic, Inseparable, InfixNumeric, JL, JT, JV, LineFeed, NextLine, Nonstarter, Numeric, OpenPunctuation, PostfixNumeric, PrefixNumeric, Quotation, RegionalIndicator, Space, BreakSymbols, WordJoiner, ZWSpace, ZWJ}
 use Rattle.lbk_rules.specs.declared.classes.Quote.{Quote}
@@ -101,8 +99,3 @@ cell_of_properties line_break east_asian category pictographic = record {
   quote = quote_of category;
   letter = is_letter_or_number category;
 }
-
--- the cell that tables give a scalar value
-unfoldable pub cell_of_tables : Tables → ℕ → Cell
-cell_of_tables tables code =
-    cell_of_properties (line_break_of tables code) (east_asian_of tables code) (category_of tables code) (is_pictographic_of tables code)

@@ -1,8 +1,8 @@
 -- What the rules say of each position of a list of cells (UAX #14, section 6).
 use Rattle.std.specs.Prelude.{ℕ, List, take, drop}
 use Rattle.lbk_rules.specs.declared.verdicts.Verdict.{Verdict}
-use Rattle.lbk_rules.specs.declared.verdicts.Profile.{Profile}
-use Rattle.lbk_rules.specs.declared.verdicts.Profile.TheVariants.{First}
+use Rattle.lbk_values.specs.declared.profile.Profile.{Profile}
+use Rattle.lbk_values.specs.declared.profile.Profile.TheVariants.{First}
 use Rattle.lbk_rules.specs.declared.cells.Cell.{Cell}
 use Rattle.lbk_rules.specs.Rules.{rule_list, first_match}
 

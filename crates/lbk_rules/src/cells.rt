@@ -1,4 +1,4 @@
-//! What the rules see of a scalar value, and sources of it.
+//! What the rules see of a scalar value.
 
 ghost use Rattle.std.specs.Prelude.{◌≡◌, ℕ, ◌&&◌, ◌||◌, not, Some, None, IfSome, if◌then◌else◌};
 ghost use Rattle.lbk_rules.specs.Classes.{closes_before, hard, is, mark, none_of};
@@ -6,7 +6,6 @@ ghost use Rattle.lbk_rules.specs.Sides.{opening, closing};
 ghost use Rattle.lbk_rules.specs.Units.{unit};
 
 use crate::classes::{Class, Quote};
-use crate::step_table::StepTable;
 
 /// What the rules see of a scalar value.
 #[derive(Clone, Copy, PartialEq, Eq, Debug)]
@@ -25,21 +24,21 @@ pub struct Cell {
 
 impl Cell {
     /// The unit that this cell heads (rules LB9 and LB10): a mark by itself is a plain letter.
-    pub(crate) fn unit(self) -> Cell
+    pub fn unit(self) -> Cell
         ensures { result ≡ unit self }
     {
         if self.class.is_mark() { LETTER } else { self }
     }
 
     /// Whether it is a quotation mark that opens.
-    pub(crate) fn is_opening_mark(self) -> bool
+    pub fn is_opening_mark(self) -> bool
         ensures { result ≡ opening self }
     {
         self.class.is(Class::Quotation) && matches!(self.quote, Quote::Initial)
     }
 
     /// Whether it is a quotation mark that closes.
-    pub(crate) fn is_closing_mark(self) -> bool
+    pub fn is_closing_mark(self) -> bool
         ensures { result ≡ closing self }
     {
         self.class.is(Class::Quotation) && matches!(self.quote, Quote::Final)
@@ -64,7 +63,7 @@ impl Cell {
     }
 
     /// Whether it is of this class, and not wide (rule LB30).
-    pub(crate) fn is_narrow(self, class: Class) -> bool
+    pub fn is_narrow(self, class: Class) -> bool
         ensures { result ≡ (is class self.class && not self.wide) }
     {
         self.class.is(class) && !self.wide
@@ -78,31 +77,3 @@ const LETTER: Cell = Cell {
     quote: Quote::Neither,
     letter: false,
 };
-
-/// Something that knows the cell of each scalar value.
-pub trait CellSource {
-    ghost use Rattle.lbk_rules.specs.declared.cells.Cell.{Cell};
-    ghost use Rattle.lbk_rules.specs.FirstBytes.{AreQuiet};
-    ghost use Rattle.lbk_rules.specs.RowMachineFits.{IsTableOf};
-
-    ghost cell_of: { Self → ℕ → Cell };
-
-    /// The cell of `c` (UAX #14, section 6.1, rule LB1).
-    fn cell(&self, c: char) -> Cell
-        ensures { result ≡ cell_of self.now c };
-
-    /// The table of steps over these cells, if there is one. A text is decided without it too, only slower.
-    fn step_table(&self) -> Option<&StepTable>
-        ensures { IfSome result (λ table. IsTableOf table.now (cell_of self.now)) }
-    {
-        None
-    }
-
-    /// For each byte whether it is known that a line must end behind no scalar that begins with it (UAX #14, rules LB4 and
-    /// LB5). A text is cut into paragraphs without it too, only slower.
-    fn quiet_first_bytes(&self) -> [bool; 256]
-        ensures { AreQuiet (cell_of self.now) result }
-    {
-        [false; 256]
-    }
-}

@@ -50,7 +50,7 @@ pub enum Class {
 impl Class {
     /// Whether this is the class `other`.
     #[tactic(auto, unfolding(crate::specs::Classes::is))]
-    pub(crate) fn is(self, other: Class) -> bool
+    pub fn is(self, other: Class) -> bool
         ensures { result ≡ is other self }
     {
         self as u8 == other as u8
@@ -58,7 +58,7 @@ impl Class {
 
     /// Whether a mark after it stands by itself.
     #[tactic(auto, unfolding(crate::specs::Classes::is))]
-    pub(crate) fn is_hard(self) -> bool
+    pub fn is_hard(self) -> bool
         ensures { result ≡ hard self }
     {
         matches!(
@@ -74,7 +74,7 @@ impl Class {
 
     /// Whether it joins the character before it (rule LB9).
     #[tactic(auto, unfolding(crate::specs::Classes::is))]
-    pub(crate) fn is_mark(self) -> bool
+    pub fn is_mark(self) -> bool
         ensures { result ≡ mark self }
     {
         matches!(self, Class::CombiningMark | Class::ZWJ)
@@ -82,7 +82,7 @@ impl Class {
 
     /// Whether a line ends after it (rules LB4 to LB6).
     #[tactic(auto, unfolding(crate::specs::Classes::is))]
-    pub(crate) fn ends_line(self) -> bool
+    pub fn ends_line(self) -> bool
         ensures { result ≡ (BK or CR or LF or NL) self }
     {
         matches!(
@@ -93,7 +93,7 @@ impl Class {
 
     /// Whether it is a space, of no width too (rule LB7).
     #[tactic(auto, unfolding(crate::specs::Classes::is))]
-    pub(crate) fn is_space(self) -> bool
+    pub fn is_space(self) -> bool
         ensures { result ≡ (SP or ZW) self }
     {
         matches!(self, Class::Space | Class::ZWSpace)
@@ -101,7 +101,7 @@ impl Class {
 
     /// Whether a glue after it may stand on a new line (rule LB12a).
     #[tactic(auto, unfolding(crate::specs::Classes::is))]
-    pub(crate) fn is_space_or_hyphen(self) -> bool
+    pub fn is_space_or_hyphen(self) -> bool
         ensures { result ≡ (SP or BA or HY) self }
     {
         matches!(self, Class::Space | Class::BreakAfter | Class::Hyphen)
@@ -109,7 +109,7 @@ impl Class {
 
     /// Whether it stays with what is before it, spaces or not (rule LB13).
     #[tactic(auto, unfolding(crate::specs::Classes::is))]
-    pub(crate) fn is_end_punctuation(self) -> bool
+    pub fn is_end_punctuation(self) -> bool
         ensures { result ≡ (CL or CP or EX or IS or SY) self }
     {
         matches!(
@@ -124,7 +124,7 @@ impl Class {
 
     /// Whether it closes a bracket (rule LB16).
     #[tactic(auto, unfolding(crate::specs::Classes::is))]
-    pub(crate) fn is_closing(self) -> bool
+    pub fn is_closing(self) -> bool
         ensures { result ≡ (CL or CP) self }
     {
         matches!(self, Class::ClosePunctuation | Class::CloseParenthesis)
@@ -132,7 +132,7 @@ impl Class {
 
     /// Whether no line begins with it (rule LB21).
     #[tactic(auto, unfolding(crate::specs::Classes::is))]
-    pub(crate) fn is_never_first(self) -> bool
+    pub fn is_never_first(self) -> bool
         ensures { result ≡ (BA or HY or NS) self }
     {
         matches!(self, Class::BreakAfter | Class::Hyphen | Class::Nonstarter)
@@ -140,7 +140,7 @@ impl Class {
 
     /// Whether it is a hyphen after a Hebrew letter (rule LB21a).
     #[tactic(auto, unfolding(crate::specs::Classes::is))]
-    pub(crate) fn is_hyphen(self) -> bool
+    pub fn is_hyphen(self) -> bool
         ensures { result ≡ (HY or BA) self }
     {
         matches!(self, Class::Hyphen | Class::BreakAfter)
@@ -148,7 +148,7 @@ impl Class {
 
     /// Whether it is a letter (rules LB23, LB24, LB28 and LB29).
     #[tactic(auto, unfolding(crate::specs::Classes::is))]
-    pub(crate) fn is_letter(self) -> bool
+    pub fn is_letter(self) -> bool
         ensures { result ≡ (AL or HL) self }
     {
         matches!(self, Class::Alphabetic | Class::HebrewLetter)
@@ -156,7 +156,7 @@ impl Class {
 
     /// Whether it is a letter or a digit (rule LB30).
     #[tactic(auto, unfolding(crate::specs::Classes::is))]
-    pub(crate) fn is_letter_or_digit(self) -> bool
+    pub fn is_letter_or_digit(self) -> bool
         ensures { result ≡ (AL or HL or NU) self }
     {
         matches!(
@@ -167,7 +167,7 @@ impl Class {
 
     /// Whether it is an ideograph or an emoji (rule LB23a).
     #[tactic(auto, unfolding(crate::specs::Classes::is))]
-    pub(crate) fn is_ideographic(self) -> bool
+    pub fn is_ideographic(self) -> bool
         ensures { result ≡ (ID or EB or EM) self }
     {
         matches!(self, Class::Ideographic | Class::EBase | Class::EModifier)
@@ -175,7 +175,7 @@ impl Class {
 
     /// Whether it is a prefix or a postfix of numbers (rule LB24).
     #[tactic(auto, unfolding(crate::specs::Classes::is))]
-    pub(crate) fn is_affix(self) -> bool
+    pub fn is_affix(self) -> bool
         ensures { result ≡ (PR or PO) self }
     {
         matches!(self, Class::PrefixNumeric | Class::PostfixNumeric)
@@ -183,7 +183,7 @@ impl Class {
 
     /// Whether it is a Korean syllable or a part of one (rule LB27).
     #[tactic(auto, unfolding(crate::specs::Classes::is))]
-    pub(crate) fn is_syllable(self) -> bool
+    pub fn is_syllable(self) -> bool
         ensures { result ≡ (isJL or isJV or isJT or isH2 or isH3) self }
     {
         matches!(
@@ -194,7 +194,7 @@ impl Class {
 
     /// Whether it goes on after a leading consonant (rule LB26).
     #[tactic(auto, unfolding(crate::specs::Classes::is))]
-    pub(crate) fn follows_leading(self) -> bool
+    pub fn follows_leading(self) -> bool
         ensures { result ≡ (isJL or isJV or isH2 or isH3) self }
     {
         matches!(self, Class::JL | Class::JV | Class::H2 | Class::H3)
@@ -202,7 +202,7 @@ impl Class {
 
     /// Whether it ends with a vowel (rule LB26).
     #[tactic(auto, unfolding(crate::specs::Classes::is))]
-    pub(crate) fn ends_in_vowel(self) -> bool
+    pub fn ends_in_vowel(self) -> bool
         ensures { result ≡ (isJV or isH2) self }
     {
         matches!(self, Class::JV | Class::H2)
@@ -210,7 +210,7 @@ impl Class {
 
     /// Whether it goes on after a vowel (rule LB26).
     #[tactic(auto, unfolding(crate::specs::Classes::is))]
-    pub(crate) fn follows_vowel(self) -> bool
+    pub fn follows_vowel(self) -> bool
         ensures { result ≡ (isJV or isJT) self }
     {
         matches!(self, Class::JV | Class::JT)
@@ -218,7 +218,7 @@ impl Class {
 
     /// Whether it ends with a trailing consonant (rule LB26).
     #[tactic(auto, unfolding(crate::specs::Classes::is))]
-    pub(crate) fn ends_in_consonant(self) -> bool
+    pub fn ends_in_consonant(self) -> bool
         ensures { result ≡ (isJT or isH3) self }
     {
         matches!(self, Class::JT | Class::H3)
@@ -226,7 +226,7 @@ impl Class {
 
     /// Whether a quotation mark after it opens (rule LB15a).
     #[tactic(auto, unfolding(crate::specs::Classes::is))]
-    pub(crate) fn opens_after(self) -> bool
+    pub fn opens_after(self) -> bool
         ensures { result ≡ opens_after self }
     {
         matches!(
@@ -245,7 +245,7 @@ impl Class {
 
     /// Whether a quotation mark before it closes (rule LB15b).
     #[tactic(auto, unfolding(crate::specs::Classes::is))]
-    pub(crate) fn closes_before(self) -> bool
+    pub fn closes_before(self) -> bool
         ensures { result ≡ closes_before self }
     {
         matches!(

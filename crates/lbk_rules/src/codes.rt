@@ -19,7 +19,7 @@ impl Rule {
 }
 
 /// The number of a verdict: 256 times the place of its rule among the rules, and that of its kind among the kinds.
-pub(crate) fn code_of(verdict: Verdict) -> u16
+pub fn code_of(verdict: Verdict) -> u16
     ensures verdict { verdict_coded result ≡ verdict }
     ensures coded { IsCode result }
 {

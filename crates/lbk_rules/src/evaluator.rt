@@ -8,7 +8,8 @@ ghost use Rattle.lbk_rules.specs.Verdict.{verdict, verdict_in, verdict_between_i
 
 use crate::cells::Cell;
 use crate::facts::Left;
-use crate::verdicts::{Profile, Verdict};
+use crate::verdicts::Verdict;
+use lbk_values::Profile;
 
 /// The verdict at position `k` of a text, which stands before the cell `k`, or after all cells, in
 /// the first profile (UAX #14, section 6). Positions count cells from 0.

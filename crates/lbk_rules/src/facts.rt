@@ -10,31 +10,31 @@ use crate::classes::{Class, Quote};
 
 /// What the rules ask of the units before a position.
 #[derive(Clone, Copy, PartialEq, Eq, Debug)]
-pub(crate) struct Before {
+pub struct Before {
     /// The last unit, or a space where there is none.
-    pub(crate) last: Cell,
+    pub last: Cell,
     /// The class of the last unit that is no space, or of a space where there is none.
-    pub(crate) before_spaces: Class,
+    pub before_spaces: Class,
     /// Whether the last unit but one is a Hebrew letter.
-    pub(crate) hebrew_behind: bool,
+    pub hebrew_behind: bool,
     /// Whether the run of regional indicators at the end has odd length.
-    pub(crate) odd_indicators: bool,
+    pub odd_indicators: bool,
     /// Whether an opening quotation mark that stays open stands at the end, or before the spaces
     /// there.
-    pub(crate) opens_quotation: bool,
+    pub opens_quotation: bool,
 }
 
 /// What the rules ask of the cells before a position.
 #[derive(Clone, Copy, PartialEq, Eq, Debug)]
-pub(crate) struct Left {
+pub struct Left {
     /// Whether there are none.
-    pub(crate) empty: bool,
+    pub empty: bool,
     /// The class of the last cell, or of a space where there is none.
-    pub(crate) last: Class,
+    pub last: Class,
     /// Whether they end with a zero width space and any number of spaces.
-    pub(crate) past_zero_width: bool,
+    pub past_zero_width: bool,
     /// What is asked of their units.
-    pub(crate) units: Before,
+    pub units: Before,
 }
 
 const SPACE: Cell = Cell {
@@ -71,7 +71,7 @@ impl Before {
 impl Left {
     /// What is known at the start of a text.
     #[tactic(auto, unfolding(crate::specs::Classes::is, crate::specs::Facts::facts, crate::specs::Sides::before_spaces, crate::specs::Sides::at_odd_run, crate::specs::Sides::opens_quotation))]
-    pub(crate) fn start() -> Left
+    pub fn start() -> Left
         ensures { result ≡ facts [] }
     {
         let units = Before {
@@ -91,7 +91,7 @@ impl Left {
 
     /// Whether a cell that follows heads a unit (rules LB9 and LB10).
     #[tactic(auto, unfolding(crate::specs::Facts::facts))]
-    pub(crate) fn heads(self, cell: Cell) -> bool
+    pub fn heads(self, cell: Cell) -> bool
         ensures { (side : Side) → facts side ≡ self → result ≡ heads side cell }
     {
         self.last.is_hard() || !cell.class.is_mark()
@@ -99,7 +99,7 @@ impl Left {
 
     /// What is known once a cell follows.
     #[tactic(auto, unfolding(crate::specs::Facts::facts, crate::specs::Sides::before_spaces))]
-    pub(crate) fn then(self, cell: Cell) -> Left
+    pub fn then(self, cell: Cell) -> Left
         ensures { (side : Side) → facts side ≡ self → result ≡ facts (cell ∷ side) }
     {
         let space = cell.class.is(Class::Space);
@@ -123,7 +123,7 @@ impl Left {
     }
 
     /// What is known after some cells.
-    pub(crate) fn of(cells: &[Cell]) -> Left
+    pub fn of(cells: &[Cell]) -> Left
         ensures { result ≡ facts (reverse cells.now) }
     {
         let mut left = Left::start();

@@ -5,7 +5,8 @@ ghost use Rattle.lbk_rules.specs.Verdict.{verdict};
 
 use crate::cells::Cell;
 use crate::facts::Left;
-use crate::verdicts::{Profile, Verdict};
+use crate::verdicts::Verdict;
+use lbk_values::Profile;
 
 /// Decides the positions of a text one after another in the first profile, without looking back: a
 /// few facts of the cells so far suffice (UAX #14, section 6).

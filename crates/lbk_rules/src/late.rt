@@ -8,7 +8,8 @@ ghost use Rattle.lbk_rules.specs.Held.{answer_at, is_15b, late_at, now_at};
 
 use crate::cells::Cell;
 use crate::facts::Left;
-use crate::verdicts::{Profile, Verdict};
+use crate::verdicts::{Verdict, is_second};
+use lbk_values::Profile;
 
 /// A position whose verdict waits for the unit after a closing quotation mark.
 #[derive(Clone, Copy, PartialEq, Eq, Debug)]
@@ -49,8 +50,8 @@ pub struct End {
 impl LateMachine {
     ghost use Rattle.lbk_rules.specs.LateFits.{LateFits, steps_of, waiting};
     ghost use Rattle.lbk_rules.specs.Chain.{from_cells};
-    ghost use Rattle.lbk_rules.specs.declared.verdicts.Profile.{Profile};
-    ghost use Rattle.lbk_rules.specs.declared.verdicts.Profile.TheVariants.{Second};
+    ghost use Rattle.lbk_values.specs.declared.profile.Profile.{Profile};
+    ghost use Rattle.lbk_values.specs.declared.profile.Profile.TheVariants.{Second};
     ghost use Rattle.lbk_rules.specs.Classes.{hard};
     ghost use Rattle.lbk_rules.specs.Facts.{closes_in};
     ghost use Rattle.lbk_rules.specs.Units.{nearest, units_after};
@@ -135,7 +136,7 @@ impl LateMachine {
             → result ≡ from_cells profile (reverse cells) (cell ∷ []) }
     {
         self.left
-            .verdict(self.profile, cell, self.profile.is_second())
+            .verdict(self.profile, cell, is_second(self.profile))
     }
 
     /// The answer that `cell` brings with it: none, if it heads no unit.
@@ -170,7 +171,7 @@ impl LateMachine {
 }
 
 /// The verdict, unless rule 15b gives it.
-pub(crate) fn unless_held(verdict: Verdict) -> Option<Verdict>
+pub fn unless_held(verdict: Verdict) -> Option<Verdict>
     ensures { result ≡ (if is_15b verdict.rule then None else Some verdict) }
 {
     if verdict.rule.is_15b() {

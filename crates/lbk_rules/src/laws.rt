@@ -4,8 +4,8 @@ ghost use Rattle.std.specs.Prelude.{◌≡◌, ℕ, ◌+◌, ◌-◌, ◌<◌, �
 ghost use Rattle.lbk_rules.specs.declared.cells.Cell.{Cell};
 ghost use Rattle.lbk_rules.specs.declared.late.LateMachine.{LateMachine};
 ghost use Rattle.lbk_rules.specs.declared.verdicts.Kind.TheVariants.{No, Must};
-ghost use Rattle.lbk_rules.specs.declared.verdicts.Profile.{Profile};
-ghost use Rattle.lbk_rules.specs.declared.verdicts.Profile.TheVariants.{First, Second};
+ghost use Rattle.lbk_values.specs.declared.profile.Profile.{Profile};
+ghost use Rattle.lbk_values.specs.declared.profile.Profile.TheVariants.{First, Second};
 ghost use Rattle.lbk_rules.specs.declared.verdicts.Rule.TheVariants.{Lb2};
 ghost use Rattle.lbk_rules.specs.Classes.{mark};
 ghost use Rattle.lbk_rules.specs.Ends.{ends_line, ends_between, end_after, end_of_text, joins, joined_after};

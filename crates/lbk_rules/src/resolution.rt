@@ -3,9 +3,9 @@
 ghost use Rattle.std.specs.Prelude.{◌≡◌};
 ghost use Rattle.lbk_rules.specs.Resolve.{cell_of_properties, class_of, is_letter_or_number, is_wide, quote_of};
 
-use crate::cells::{Cell, CellSource};
+use crate::cells::Cell;
 use crate::classes::{Class, Quote};
-use lbk_ucd::{Category, EastAsian, LineBreak, Tables};
+use lbk_values::{Category, EastAsian, LineBreak};
 
 /// The cell of a scalar value with these properties: its class by rule LB1, and its flags (UAX #14,
 /// section 6.1). `pictographic` is Extended_Pictographic.
@@ -114,21 +114,4 @@ fn is_letter_or_number(category: Category) -> bool
             | Category::Nl
             | Category::No
     )
-}
-
-impl CellSource for Tables {
-    ghost use Rattle.lbk_rules.specs.Resolve.{cell_of_tables};
-
-    ghost cell_of = { cell_of_tables };
-
-    #[tactic(auto, unfolding(crate::specs::Resolve::cell_of_tables))]
-    fn cell(&self, c: char) -> Cell {
-        let code = u32::from(c);
-        resolve(
-            self.line_break(code),
-            self.east_asian(code),
-            self.category(code),
-            self.is_pictographic(code),
-        )
-    }
 }

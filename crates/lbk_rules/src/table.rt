@@ -1,7 +1,7 @@
 //! The rules of UAX #14, section 6, in their order, a method for each group: the first that matches
 //! answers.
 ghost use Rattle.std.specs.Prelude.{◌≡◌, ◌&&◌, [], ◌∷◌};
-ghost use Rattle.lbk_rules.specs.declared.verdicts.Profile.TheVariants.{First, Second};
+ghost use Rattle.lbk_values.specs.declared.profile.Profile.TheVariants.{First, Second};
 ghost use Rattle.lbk_rules.specs.Chain.{from_11, from_14, from_15, from_16, from_19, from_23, from_25, from_26, from_28, from_cells};
 ghost use Rattle.lbk_rules.specs.Classes.{hard, is};
 ghost use Rattle.lbk_rules.specs.Facts.{closes_in, facts, units_before, Sees};
@@ -11,13 +11,14 @@ ghost use Rattle.lbk_rules.specs.Units.{units, units_after};
 use crate::cells::Cell;
 use crate::classes::Class;
 use crate::facts::{Before, Left};
-use crate::verdicts::{Profile, Rule, Verdict};
+use crate::verdicts::{Rule, Verdict};
+use lbk_values::Profile;
 
 impl Left {
     /// The verdict before `right`. `closes` tells, in the second profile, whether the unit after the
     /// one that `right` heads leaves a closing quotation mark closed.
     #[tactic(auto, unfolding(crate::specs::Rules::cell_rules, crate::specs::Facts::facts, crate::specs::Chain::from_cells))]
-    pub(crate) fn verdict(self, profile: Profile, right: Cell, closes: bool) -> Verdict
+    pub fn verdict(self, profile: Profile, right: Cell, closes: bool) -> Verdict
         ensures { (side more : Side) → facts side ≡ self
             → closes_in profile (units_after (hard right.class) more) ≡ closes
             → result ≡ from_cells profile side (right ∷ more) }
@@ -31,7 +32,7 @@ impl Left {
 
     /// The verdict at the end of the text.
     #[tactic(auto, unfolding(crate::specs::Rules::cell_rules, crate::specs::Facts::facts, crate::specs::Chain::from_cells))]
-    pub(crate) fn verdict_at_end(self) -> Verdict
+    pub fn verdict_at_end(self) -> Verdict
         ensures { (profile : Profile) (side : Side) → facts side ≡ self → result ≡ from_cells profile side [] }
     {
         if self.empty {

@@ -5,6 +5,8 @@ ghost use Rattle.lbk_rules.specs.Facts.{closes_in};
 ghost use Rattle.lbk_rules.specs.Held.{is_15b};
 ghost use Rattle.lbk_rules.specs.Labels.{label_of};
 
+use lbk_values::Profile;
+
 /// Whether a line breaks at a position (UAX #14, section 3): `No` is `×`, `May` is `÷`, `Must`
 /// is `!`.
 #[derive(Clone, Copy, PartialEq, Eq, Debug)]
@@ -109,28 +111,18 @@ impl Rule {
 impl Rule {
     /// Whether it is rule 15b, which looks past the unit on the right.
     #[inline(always)]
-    pub(crate) fn is_15b(self) -> bool
+    pub fn is_15b(self) -> bool
         ensures { result ≡ is_15b self }
     {
         matches!(self, Rule::Lb15b)
     }
 }
 
-/// Which rules stand for quotation marks: `First` has rule LB15 of Unicode 15.0, `Second` the rules
-/// 15a and 15b in its place, which look at both sides of the mark.
-#[derive(Clone, Copy, PartialEq, Eq, Debug)]
-pub enum Profile {
-    First,
-    Second,
-}
-
-impl Profile {
-    /// Whether it is the second, in which the end of the text leaves a quotation mark closed.
-    pub(crate) fn is_second(self) -> bool
-        ensures { result ≡ closes_in self [] }
-    {
-        matches!(self, Profile::Second)
-    }
+/// Whether it is the second profile, in which the end of the text leaves a quotation mark closed.
+pub fn is_second(profile: Profile) -> bool
+    ensures { result ≡ closes_in profile [] }
+{
+    matches!(profile, Profile::Second)
 }
 
 /// What is decided at a position, and the rule that decides it.

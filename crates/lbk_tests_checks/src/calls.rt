@@ -5,7 +5,8 @@ use lbk_cmd::SAMPLE_FILES;
 use lbk_notation::{
     Form, LineFault, Outcome, TestLine, mark_text, read_line, replay_line, write_line,
 };
-use lbk_rules::{CellPages, CellSource, Profile};
+use lbk_rules::Profile;
+use lbk_steps::{CellPages, CellSource};
 use lbk_ucd::Tables;
 use std::alloc::{AllocError, Global};
 use std::test::Fail;

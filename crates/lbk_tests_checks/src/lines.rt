@@ -5,7 +5,8 @@ use lbk_notation::{
     Form, LineFault, Mark, TestLine, laws, mark_of, push_line, push_mark, push_passage_line,
     push_scalar, read_back, read_passage_line,
 };
-use lbk_rules::{Cell, CellPages, Kind, Profile, Rule, Verdict, decide_all_in};
+use lbk_rules::{Cell, Kind, Profile, Rule, Verdict, decide_all_in};
+use lbk_steps::CellPages;
 use lbk_tests_rows::cells::cells_of;
 use lbk_tests_runs::calls::sample_cells;
 use lbk_tests_runs::checks::same;

@@ -3,7 +3,8 @@
 
 use lbk_feed::devices::MemorySource;
 use lbk_passage::{Passage, Segment, Segmenter};
-use lbk_rules::{CellPages, Kind, Profile, Rule};
+use lbk_rules::{Kind, Profile, Rule};
+use lbk_steps::CellPages;
 use lbk_tests_rows::segmented::{BOTH, Row};
 use lbk_tests_runs::calls::{cut_source, has_next, next_passage, sample_cells};
 use lbk_tests_runs::checks::same;

@@ -3,7 +3,8 @@
 
 use lbk_feed::Sink;
 use lbk_notation::Form;
-use lbk_rules::{CellPages, Profile};
+use lbk_rules::Profile;
+use lbk_steps::CellPages;
 use lbk_tests_rows::{replayed, segmented, shown, texts};
 use lbk_tests_runs::calls::sample_cells;
 use lbk_tests_runs::checks::same;

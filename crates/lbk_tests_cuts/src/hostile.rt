@@ -5,7 +5,8 @@ use lbk_feed::devices::RepeatedSource;
 use lbk_feed::{Device, Feed, FeedFault, Source};
 use lbk_notation::Form;
 use lbk_passage::{LIMIT_MAX, PassageFault, Segmenter};
-use lbk_rules::{CellPages, Profile, Rule};
+use lbk_rules::{Profile, Rule};
+use lbk_steps::CellPages;
 use lbk_tests_rows::reads::SIZES;
 use lbk_tests_rows::replayed::FOUR_LINES;
 use lbk_tests_runs::calls::{

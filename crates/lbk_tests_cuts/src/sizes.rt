@@ -3,7 +3,8 @@
 use lbk_feed::devices::MemorySource;
 use lbk_notation::{Form, LineFault, TestLine, mark_text, read_back};
 use lbk_passage::{LIMIT_MAX, PassageFault, Segmenter};
-use lbk_rules::{CellPages, Profile};
+use lbk_rules::Profile;
+use lbk_steps::CellPages;
 use lbk_tests_runs::calls::sample_cells;
 use std::alloc::{AllocError, Global};
 use std::process::Abort;

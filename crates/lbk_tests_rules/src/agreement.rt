@@ -5,7 +5,8 @@ use crate::calls::{
     stepper,
 };
 use lbk_breaks::{Break, Breaks};
-use lbk_rules::{Cell, CellPages, Class, Kind, Machine, Out, Profile, Quote, Verdict};
+use lbk_rules::{Cell, Class, Kind, Machine, Out, Profile, Quote, Verdict};
+use lbk_steps::CellPages;
 use lbk_tests_rows::cells::{mark, pictograph, plain, wide};
 use lbk_tests_rows::property_files::SAMPLES;
 use lbk_ucd::Files;

@@ -3,7 +3,8 @@
 
 use crate::calls::{decided_in, has_step_table, pages_by, same, tables_of};
 use lbk_breaks::{Break, Breaks};
-use lbk_rules::{CellSource, Kind, Profile, Rule, Verdict};
+use lbk_rules::{Kind, Profile, Rule, Verdict};
+use lbk_steps::CellSource;
 use lbk_tests_rows::cells::cells_of;
 use lbk_tests_rows::property_files::SAMPLES;
 use lbk_tests_rows::texts::{FIRST, SECOND};

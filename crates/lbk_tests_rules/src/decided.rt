@@ -4,10 +4,8 @@ use crate::calls::{
     cell_of, decided, decided_in, late_step, pages_by, same, start_late, step_over, stepper,
     tables_of,
 };
-use lbk_rules::{
-    Cell, CellPages, CellSource, Class, End, Kind, Out, Profile, Rule, Verdict, decide_all,
-    decide_all_in,
-};
+use lbk_rules::{Cell, Class, End, Kind, Out, Profile, Rule, Verdict, decide_all, decide_all_in};
+use lbk_steps::{CellPages, CellSource};
 use lbk_tests_rows::cells::cells_of;
 use lbk_tests_rows::property_files::{SAMPLES, line_break_alone};
 use lbk_tests_rows::texts::{FIRST, SECOND, STEPS};

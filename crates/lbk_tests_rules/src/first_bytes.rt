@@ -1,7 +1,7 @@
 //! First bytes of scalars behind which no line must end are told: without them the passages are the same, and found slower.
 
 use crate::calls::{pages_by, same_at};
-use lbk_rules::CellSource;
+use lbk_steps::CellSource;
 use lbk_tests_rows::property_files::line_break_alone;
 use std::test::Fail;
 

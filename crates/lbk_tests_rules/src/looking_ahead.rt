@@ -1,7 +1,8 @@
 //! The labels of texts over the sample files by machines that look ahead, in both profiles.
 
 use crate::calls::{pages_by, same};
-use lbk_rules::{AheadMachine, CellPages, CellSource, Profile, RowMachine, Rule};
+use lbk_rules::{Profile, Rule};
+use lbk_steps::{AheadMachine, CellPages, CellSource, RowMachine};
 use lbk_tests_rows::property_files::SAMPLES;
 use lbk_tests_rows::texts::{FIRST, SECOND};
 use std::alloc::{AllocError, Global};

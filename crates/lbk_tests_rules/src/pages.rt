@@ -2,7 +2,8 @@
 //! equal and where they differ.
 
 use crate::calls::{cell_of, pages_of, tables_of};
-use lbk_rules::{Cell, CellPages, Class};
+use lbk_rules::{Cell, Class};
+use lbk_steps::CellPages;
 use lbk_tests_rows::cells::plain;
 use lbk_tests_rows::property_files::line_break_alone;
 use lbk_ucd::Tables;

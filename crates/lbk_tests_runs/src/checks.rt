@@ -5,7 +5,7 @@ use crate::runs::{Ran, Run};
 use crate::tasks::{End, Setting};
 use lbk_feed::Source;
 use lbk_passage::{PassageFault, Segmenter};
-use lbk_rules::CellPages;
+use lbk_steps::CellPages;
 use std::fmt::Debug;
 use std::test::Fail;
 

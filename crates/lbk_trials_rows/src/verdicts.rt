@@ -5,9 +5,7 @@ use crate::digest::Digest;
 use crate::inputs::{Input, verdicts_of};
 use crate::told::digest_told;
 use anyhow::{Result, ensure};
-use lbk_rules::{
-    Cell, LateMachine, Machine, Out, Profile, Verdict, decide, decide_all, decide_all_in, decide_in,
-};
+use lbk_rules::{Cell, LateMachine, Machine, Out, Profile, Verdict, decide, decide_all, decide_all_in, decide_in};
 use std::alloc::Global;
 
 /// `decide`, `decide_in`, `decide_all`, `decide_all_in`.

@@ -5,8 +5,8 @@ use Rattle.lbk_ucd.specs.declared.fault.UcdCause.{UcdCause}
 use Rattle.lbk_ucd.specs.declared.fault.UcdCause.TheVariants.{Memory}
 use Rattle.lbk_ucd.specs.declared.fault.UcdFault.{UcdFault}
 use Rattle.lbk_ucd.specs.declared.tables.Files.{Files}
-use Rattle.lbk_ucd.specs.declared.values.Which.{Which}
-use Rattle.lbk_ucd.specs.declared.values.Which.TheVariants.{LineBreak, EastAsianWidth, Category, Emoji}
+use Rattle.lbk_ucd.specs.declared.which.Which.{Which}
+use Rattle.lbk_ucd.specs.declared.which.Which.TheVariants.{LineBreak, EastAsianWidth, Category, Emoji}
 use Rattle.lbk_ucd.specs.declared.samples.TheConstants.{SAMPLE_LINE_BREAK, SAMPLE_EAST_ASIAN, SAMPLE_CATEGORY, SAMPLE_EMOJI}
 use Rattle.lbk_ucd.specs.Names.{line_break_format, east_asian_format, category_format, emoji_format}
 use Rattle.lbk_ucd.specs.Line.{code_of, pair_of, range_of, name_of, entry_of, default_of, meaning_of}

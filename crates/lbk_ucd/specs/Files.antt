@@ -1,7 +1,7 @@
 -- The four property files together: without a fault, or refused at the first fault of the first file that has one.
 use Rattle.std.specs.Prelude.{ℕ}
-use Rattle.lbk_ucd.specs.declared.values.Which.{Which}
-use Rattle.lbk_ucd.specs.declared.values.Which.TheVariants.{LineBreak, EastAsianWidth, Category, Emoji}
+use Rattle.lbk_ucd.specs.declared.which.Which.{Which}
+use Rattle.lbk_ucd.specs.declared.which.Which.TheVariants.{LineBreak, EastAsianWidth, Category, Emoji}
 use Rattle.lbk_ucd.specs.declared.fault.UcdCause.{UcdCause}
 use Rattle.lbk_ucd.specs.declared.fault.UcdFault.{UcdFault}
 use Rattle.lbk_ucd.specs.declared.tables.Files.{Files}

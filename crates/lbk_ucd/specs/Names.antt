@@ -1,11 +1,11 @@
 -- The names of the property values (PropertyValueAliases.txt of the Unicode Character Database), exact in case, and what tells the four files apart.
 use Rattle.std.specs.Prelude.{ℕ, Bool, true, false, List, [], ◌∷◌, codes}
-use Rattle.lbk_ucd.specs.declared.values.LineBreak.{LineBreak}
-use Rattle.lbk_ucd.specs.declared.values.LineBreak.TheVariants as lb
-use Rattle.lbk_ucd.specs.declared.values.EastAsian.{EastAsian}
-use Rattle.lbk_ucd.specs.declared.values.EastAsian.TheVariants as ea
-use Rattle.lbk_ucd.specs.declared.values.Category.{Category}
-use Rattle.lbk_ucd.specs.declared.values.Category.TheVariants as gc
+use Rattle.lbk_values.specs.declared.values.LineBreak.{LineBreak}
+use Rattle.lbk_values.specs.declared.values.LineBreak.TheVariants as lb
+use Rattle.lbk_values.specs.declared.values.EastAsian.{EastAsian}
+use Rattle.lbk_values.specs.declared.values.EastAsian.TheVariants as ea
+use Rattle.lbk_values.specs.declared.values.Category.{Category}
+use Rattle.lbk_values.specs.declared.values.Category.TheVariants as gc
 use Rattle.lbk_ucd.specs.File.{Format}
 
 -- Line_Break: each value by its short and its long name

@@ -2,9 +2,9 @@
 use Rattle.std.specs.Prelude.{ℕ, Bool, unwrap_or}
 use Rattle.lbk_ucd.specs.declared.tables.Tables.{Tables}
 use Rattle.lbk_ucd.specs.declared.rows.Assigned.{Assigned}
-use Rattle.lbk_ucd.specs.declared.values.LineBreak.{LineBreak}
-use Rattle.lbk_ucd.specs.declared.values.EastAsian.{EastAsian}
-use Rattle.lbk_ucd.specs.declared.values.Category.{Category}
+use Rattle.lbk_values.specs.declared.values.LineBreak.{LineBreak}
+use Rattle.lbk_values.specs.declared.values.EastAsian.{EastAsian}
+use Rattle.lbk_values.specs.declared.values.Category.{Category}
 use Rattle.lbk_ucd.specs.Rows.{first_value}
 
 -- the value that the rows of one file give a code

@@ -1,6 +1,6 @@
 //! Why a property file is refused.
 
-use crate::values::Which;
+use crate::which::Which;
 
 /// What is wrong with a file, or with one of its lines.
 #[derive(Clone, Copy, PartialEq, Eq, Debug)]

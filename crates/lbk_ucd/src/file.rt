@@ -13,7 +13,7 @@ use crate::format::{Format, value_named};
 use crate::gathered::Gathered;
 use crate::line::{Entry, Meaning, meaning_of, place_of};
 use crate::rows::{Assigned, LAST_CODE, Row};
-use crate::values::Which;
+use crate::which::Which;
 use std::alloc::Global;
 
 /// The most bytes of a property file.

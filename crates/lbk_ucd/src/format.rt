@@ -4,7 +4,7 @@ ghost use Rattle.std.specs.Prelude.{◌≡◌};
 ghost use Rattle.lbk_ucd.specs.File.{named};
 ghost use Rattle.lbk_ucd.specs.Shown.{shown_names};
 
-use crate::values::{Category, EastAsian, LineBreak};
+use lbk_values::{Category, EastAsian, LineBreak};
 
 /// What tells one property file from another.
 pub(crate) struct Format<V: 'static> {

@@ -8,7 +8,8 @@ use crate::fault::UcdFault;
 use crate::file::read_file;
 use crate::format::{CATEGORY, EAST_ASIAN, EMOJI, LINE_BREAK};
 use crate::rows::Assigned;
-use crate::values::{Category, EastAsian, LineBreak, Which};
+use crate::which::Which;
+use lbk_values::{Category, EastAsian, LineBreak};
 use std::alloc::Global;
 
 /// LineBreak.txt.

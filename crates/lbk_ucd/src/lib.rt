@@ -13,10 +13,11 @@ mod rows;
 mod samples;
 mod tables;
 mod taken;
-mod values;
+mod which;
 
 pub use fault::{UcdCause, UcdFault};
 pub use file::LONGEST_FILE;
+pub use lbk_values::{Category, EastAsian, LineBreak};
 pub use samples::{SAMPLE_CATEGORY, SAMPLE_EAST_ASIAN, SAMPLE_EMOJI, SAMPLE_LINE_BREAK};
 pub use tables::{Files, Places, Run, Tables};
-pub use values::{Category, EastAsian, LineBreak, Which};
+pub use which::Which;

@@ -2,7 +2,7 @@ use Rattle.std.proofs.Common.{◌≡◌, ◌-◌, ◌≤◌, ℕ, length, map, d
 use Rattle.bstr.specs.Utf8.{lossy_chars}
 use Rattle.lbk_rules.specs.declared.cells.Cell.{Cell}
 use Rattle.lbk_rules.specs.Classes.{hard}
-use Rattle.lbk_rules.specs.FlatTable.{AreFlatKinds}
+use Rattle.lbk_steps.specs.FlatTable.{AreFlatKinds}
 use Rattle.lbk_rules.specs.Normal.{normal}
 use Rattle.lbk_rules.specs.Sides.{leaves_closed}
 use Rattle.lbk_rules.specs.Units.{units_after}

@@ -2,7 +2,7 @@ use Rattle.std.proofs.Common.{◌≡◌, ◌-◌, ◌<◌, ◌≤◌, ℕ, List,
 use Rattle.lbk_rules.specs.declared.breaks.Break.{Break}
 use Rattle.lbk_rules.specs.declared.cells.Cell.{Cell}
 use Rattle.lbk_rules.specs.declared.facts.Left.{Left}
-use Rattle.lbk_rules.specs.FlatTable.{IsFlatBy}
+use Rattle.lbk_steps.specs.FlatTable.{IsFlatBy}
 use Rattle.lbk_c.specs.Reached.{Reached}
 use Rattle.lbk_c.specs.Shown.{given_in}
 use Rattle.lbk_c.proofs.filling.fill.Given as goal

@@ -1,6 +1,6 @@
 use Rattle.std.proofs.Common.{◌≡◌, ◌<◌, ◌∷◌, ◌++◌, ◌+◌, [], ℕ, List, take, drop, length, map, arith, sym, ap, subst, ◌∙◌}
 use Rattle.std.proofs.lemmas.List.{length-map, length_push, take_all}
-use Rattle.lbk_rules.specs.StepperFits.{StepperFits}
+use Rattle.lbk_steps.specs.StepperFits.{StepperFits}
 use Rattle.lbk_rules.specs.Verdict.{verdict_in}
 use Rattle.lbk_rules.proofs.CoverLemmas.{answer_at-below, late_at-below}
 use Rattle.lbk_rules.proofs.StepLemmas.{AllCome, AllCome-start}

@@ -1,5 +1,5 @@
 use Rattle.std.proofs.Common.{reverse, sym, ◌∙◌}
-use Rattle.lbk_rules.specs.declared.verdicts.Profile.TheVariants.{First}
+use Rattle.lbk_values.specs.declared.profile.Profile.TheVariants.{First}
 use Rattle.lbk_rules.specs.Fits.{Fits}
 use Rattle.lbk_rules.proofs.MachineLemmas.{verdict_in-end}
 use Rattle.lbk_rules.proofs.forward.Machine.finish.Goals as goal

@@ -1,5 +1,5 @@
 use Rattle.std.proofs.Common.{◌∷◌, reverse, refl, sym, ap, ◌∙◌}
-use Rattle.lbk_rules.specs.declared.verdicts.Profile.TheVariants.{First}
+use Rattle.lbk_values.specs.declared.profile.Profile.TheVariants.{First}
 use Rattle.lbk_rules.specs.Facts.{facts}
 use Rattle.lbk_rules.specs.Fits.{Fits}
 use Rattle.lbk_rules.proofs.MachineLemmas.{reverse-snoc, verdict_in-chain}

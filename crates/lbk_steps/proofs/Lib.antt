@@ -1,0 +1,9 @@
+pub mod PagesLemmas
+pub mod PagesOfText
+pub mod KindsLemmas
+pub mod AheadLemmas
+pub mod LeftLemmas
+pub mod RowsLemmas
+pub mod EnoughRowsLemmas
+pub mod RowMachineLemmas
+pub mod HoldsLemmas

@@ -1,0 +1,100 @@
+-- The table of steps as plain numbers: the kinds of all codes, and what happens at a cell of each kind in both profiles.
+use Rattle.std.specs.Prelude.{◌≡◌, ℕ, ◌+◌, ◌*◌, ◌^◌, ◌<◌, ◌%◌, true, false, List, [], ◌∷◌, bit_xor, fold, length, slice_index, slice_index_or, reverse}
+use Rattle.std.specs.Char.{IsScalar}
+use Rattle.lbk_rules.specs.declared.cells.Cell.{Cell}
+use Rattle.lbk_rules.specs.declared.facts.Left.{Left}
+use Rattle.lbk_steps.specs.declared.flat_table.FlatStep.{FlatStep}
+use Rattle.lbk_steps.specs.declared.flat_table.FlatTable.{FlatTable}
+use Rattle.lbk_steps.specs.declared.flat_table.TheConstants.{HELD, LAYOUT}
+use Rattle.lbk_steps.specs.declared.kinds.TheConstants.{KINDS}
+use Rattle.lbk_steps.specs.declared.rows.Step.{Step}
+use Rattle.lbk_values.specs.declared.profile.Profile.TheVariants.{First, Second}
+use Rattle.lbk_rules.specs.Chain.{from_cells}
+use Rattle.lbk_rules.specs.Classes.{hard}
+use Rattle.lbk_rules.specs.Codes.{IsCode, verdict_coded}
+use Rattle.lbk_rules.specs.Facts.{facts}
+use Rattle.lbk_rules.specs.Held.{is_15b}
+use Rattle.lbk_steps.specs.Kinds.{kind_cell}
+use Rattle.lbk_rules.specs.Normal.{normal, normals}
+use Rattle.lbk_rules.specs.Sides.{Side, leaves_closed}
+use Rattle.lbk_steps.specs.Steps.{IsStart, left_at, no_step}
+use Rattle.lbk_rules.specs.Units.{units_after}
+
+-- The step from what is known, by a cell, in the first profile and in the other: the place of the row that knows of the
+-- cell too, and the number of the verdict before the cell. In the other profile the verdict is that where what follows
+-- leaves a closing quotation mark closed. By any rule but 15b it is so whatever follows; by rule 15b it is that of the
+-- first profile where what follows leaves the mark open
+pub record IsFlatStep (lefts : List Left) (left : Left) (cell : Cell) (one other : FlatStep) : Type 0 where
+  pub starts : IsStart lefts one.next
+  pub same : other.next ≡ one.next
+  pub coded : IsCode one.code × IsCode other.code
+  pub leads : (side : Side) → facts side ≡ left → facts (cell ∷ side) ≡ left_at lefts one.next
+  pub decides : (side more : Side) → facts side ≡ left → verdict_coded one.code ≡ from_cells First side (cell ∷ more)
+  pub closes : (side more : Side) → facts side ≡ left → leaves_closed (units_after (hard cell.class) more) ≡ true
+      → verdict_coded other.code ≡ from_cells Second side (cell ∷ more)
+  pub settled : is_15b (verdict_coded other.code).rule ≡ false
+      → (side more : Side) → facts side ≡ left → verdict_coded other.code ≡ from_cells Second side (cell ∷ more)
+  pub opens : is_15b (verdict_coded other.code).rule ≡ true
+      → (side more : Side) → facts side ≡ left → leaves_closed (units_after (hard cell.class) more) ≡ false
+      → verdict_coded one.code ≡ from_cells Second side (cell ∷ more)
+  pub held : is_15b (verdict_coded other.code).rule ≡ true → other.code ≡ HELD
+
+-- the step by number is the other; a verdict by rule 15b has but one number
+pub record IsNumbered (step : Step) (flat : FlatStep) : Type 0 where
+  pub coded : IsCode flat.code
+  pub same : flat.next ≡ step.next
+  pub held : is_15b step.verdict.rule ≡ true → flat.code ≡ HELD
+  pub told : is_15b step.verdict.rule ≡ false → verdict_coded flat.code ≡ step.verdict
+
+-- a step that stands nowhere
+abbrev pub no_flat_step : FlatStep
+no_flat_step = record { code = 0; next = 0 }
+
+-- so it is of all these steps
+abbrev pub AreNumbered : List Step → List FlatStep → Type 0
+AreNumbered steps flat =
+    (place : ℕ) → place < length steps → IsNumbered (slice_index_or steps place no_step) (slice_index_or flat place no_flat_step)
+
+-- at the places of all rows is the step of its row and of its kind, in both profiles
+abbrev pub AreFlatSteps : List Left → List FlatStep → List FlatStep → Type 0
+AreFlatSteps lefts first second =
+    (place : ℕ) → place < KINDS * length lefts
+    → IsFlatStep lefts (left_at lefts place) (kind_cell (place % KINDS))
+    (slice_index_or first place no_flat_step) (slice_index_or second place no_flat_step)
+
+-- these kinds are those of the cells that `cell` gives
+abbrev pub AreFlatKinds : List ℕ → (ℕ → Cell) → Type 0
+AreFlatKinds kinds cell = (code : ℕ) → IsScalar code
+    → (slice_index kinds code < KINDS) × (kind_cell (slice_index kinds code) ≡ normal (cell code))
+
+-- the table is over these cells, and its rows know this; the first knows of no cell
+pub record IsFlatBy (lefts : List Left) (table : FlatTable) (cell : ℕ → Cell) : Type 0 where
+  pub begins : IsStart lefts 0
+  pub start : left_at lefts 0 ≡ facts []
+  pub steps : AreFlatSteps lefts table.first table.second
+  pub kinds : AreFlatKinds table.kinds cell
+
+-- the table is over the cells that `cell` gives
+abbrev pub IsFlatOf : FlatTable → (ℕ → Cell) → Type 0
+IsFlatOf table cell = (lefts : List Left) × IsFlatBy lefts table cell
+
+-- the row at this place knows of the scalars taken what the rules ask
+abbrev pub KnowsTaken : (ℕ → Cell) → List Left → ℕ → List ℕ → Type 0
+KnowsTaken cell lefts place taken = IsStart lefts place × (left_at lefts place ≡ facts (reverse (normals cell taken)))
+
+-- a digest after one more number: FNV-1a, by which no two numbers lead from one digest to the same
+abbrev pub digest_with : ℕ → ℕ → ℕ
+digest_with digest number = (bit_xor digest number * 0x100_0000_01b3) % 2 ^ 64
+
+-- the same after one more step
+abbrev pub digest_with_step : ℕ → FlatStep → ℕ
+digest_with_step digest step = digest_with digest (step.code + 65536 * step.next)
+
+-- the digest of a table's steps and kinds
+unfoldable pub digest_of : FlatTable → ℕ
+digest_of table =
+    fold digest_with (fold digest_with_step (fold digest_with_step 0xcbf2_9ce4_8422_2325 table.first) table.second) table.kinds
+
+-- the table has this layout, and its digest is that of its numbers
+abbrev pub IsWhole : FlatTable → Type 0
+IsWhole table = (table.layout ≡ LAYOUT) × (table.digest ≡ digest_of table)

@@ -1,0 +1,42 @@
+-- A number for each normal cell, its kind: its place among 42, and 42 more for an unassigned pictograph.
+use Rattle.std.specs.Prelude.{ℕ, ◌+◌, ◌*◌, ◌%◌, ◌==◌, ◌&&◌, ◌||◌, Bool, false, if◌then◌else◌, nat_le, slice_index_or}
+use Rattle.std.specs.Int.{from_bool}
+use Rattle.lbk_rules.specs.declared.cells.Cell.{Cell}
+use Rattle.lbk_rules.specs.declared.classes.Class.TheVariants.{Alphabetic}
+use Rattle.lbk_rules.specs.declared.classes.Quote.{Quote}
+use Rattle.lbk_rules.specs.declared.classes.Quote.TheVariants.{Neither, Initial, Final}
+use Rattle.lbk_steps.specs.declared.kinds.TheConstants.{CLASSES}
+use Rattle.lbk_rules.specs.Classes.{none_of, CP, OP, mark, place}
+use Rattle.lbk_rules.specs.Sides.{opening, closing}
+
+-- the place of a cell among 42: that of its class, or behind the classes one for each cell that the
+-- rules tell apart from the others of its class
+abbrev pub slot_of : Cell → ℕ
+slot_of cell =
+    if OP cell.class && cell.wide then 38
+    else (if CP cell.class && cell.wide then 39
+    else (if opening cell then 40
+    else (if closing cell then 41
+    else place cell.class)))
+
+-- the kind of a cell
+unfoldable pub kind_of : Cell → ℕ
+kind_of cell = slot_of cell + 42 * from_bool (none_of mark cell.class && cell.pict_cn)
+
+-- whether a cell of this place opens or closes a quotation
+abbrev pub quote_at : ℕ → Quote
+quote_at slot = if slot == 40 then Initial else (if slot == 41 then Final else Neither)
+
+-- the cell of a place among 42
+abbrev pub slot_cell : ℕ → Bool → Cell
+slot_cell slot pict_cn = record {
+  class = slice_index_or CLASSES slot Alphabetic;
+  wide = slot == 38 || slot == 39;
+  pict_cn = pict_cn;
+  quote = quote_at slot;
+  letter = false;
+}
+
+-- the cell that has this kind
+unfoldable pub kind_cell : ℕ → Cell
+kind_cell kind = slot_cell (kind % 42) (nat_le 42 kind)

@@ -1,0 +1,17 @@
+-- What a reader has to believe.
+pub mod Cells
+-- What only carries proofs.
+pub mod AheadFits
+pub mod CellOfTables
+pub mod CellPages
+pub mod EnoughRows
+pub mod FirstBytes
+pub mod FlatTable
+pub mod KindTable
+pub mod Kinds
+pub mod Pages
+pub mod RowFits
+pub mod RowMachineFits
+pub mod RowStepperFits
+pub mod StepperFits
+pub mod Steps

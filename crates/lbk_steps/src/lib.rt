@@ -1,0 +1,27 @@
+//! Texts decided by a table of steps, proved to give what the rules of `lbk_rules` give, and the sources of their cells.
+//!
+//! A [`CellSource`] knows the cells of all scalars: the tables of the property files, or [`CellPages`] made of them,
+//! which is fast. [`Stepper`] decides a text scalar by scalar by such a source; the crate `lbk_breaks` finds the breaks of
+//! a text in memory, and is faster.
+#![tactic(auto)]
+
+mod ahead;
+mod first_bytes;
+mod flat_table;
+mod kind_table;
+mod kinds;
+mod pages;
+mod row_stepper;
+mod rows;
+mod runs;
+mod source;
+mod step_table;
+mod stepper;
+
+pub use ahead::AheadMachine;
+pub use flat_table::{FlatStep, FlatTable, HELD, LAYOUT, STEPS, TableError};
+pub use pages::CellPages;
+pub use row_stepper::RowStepper;
+pub use source::CellSource;
+pub use step_table::{RowMachine, StepTable};
+pub use stepper::Stepper;

@@ -1,0 +1,211 @@
+//! The positions of a text in either profile, decided scalar by scalar by a table of steps.
+
+ghost use Rattle.std.specs.Prelude.{◌≡◌, ℕ, ◌<◌, List, [], ◌∷◌, ◌++◌, length, map, reverse, None, if◌then◌else◌};
+ghost use Rattle.lbk_rules.specs.Held.{answer_at, is_15b, is_held, late_at, now_at, unanswered};
+ghost use Rattle.lbk_rules.specs.Verdict.{verdict_in};
+
+use crate::step_table::RowMachine;
+use lbk_rules::{End, Out, Verdict, unless_held};
+
+/// A position whose verdict waits for the unit after a closing quotation mark, with both its answers:
+/// where that unit leaves the mark closed, or none comes, and where it does not.
+#[derive(Clone, Copy, PartialEq, Eq, Debug)]
+struct HeldRow {
+    position: u64,
+    if_closed: Verdict,
+    if_open: Verdict,
+}
+
+impl HeldRow {
+    /// Its position and the verdict there.
+    fn answer(self, closes: bool) -> (u64, Verdict)
+        ensures { result ≡ (self.position, if closes then self.if_closed else self.if_open) }
+    {
+        if closes {
+            (self.position, self.if_closed)
+        } else {
+            (self.position, self.if_open)
+        }
+    }
+}
+
+/// Decides the positions of a text one after another in either profile, by a table of steps. In the
+/// second one it may hold a position open until the unit after a closing quotation mark begins.
+/// Positions count scalars from 0.
+#[derive(Clone, Copy, Debug)]
+pub struct RowStepper<'a> {
+    machine: RowMachine<'a>,
+    steps: u64,
+    held: Option<HeldRow>,
+}
+
+impl<'a> RowStepper<'a> {
+    ghost use Rattle.lbk_rules.specs.declared.cells.Cell.{Cell};
+    ghost use Rattle.lbk_values.specs.declared.profile.Profile.{Profile};
+    ghost use Rattle.lbk_values.specs.declared.profile.Profile.TheVariants.{Second};
+    ghost use Rattle.lbk_rules.specs.Classes.{hard};
+    ghost use Rattle.lbk_rules.specs.Facts.{closes_in, facts};
+    ghost use Rattle.lbk_rules.specs.LateFits.{waiting};
+    ghost use Rattle.lbk_rules.specs.Normal.{normal};
+    ghost use Rattle.lbk_steps.specs.RowMachineFits.{RowMachineFits, normals};
+    ghost use Rattle.lbk_steps.specs.RowStepperFits.{Holds, IsHeldRow, RowStepperFits};
+    ghost use Rattle.lbk_rules.specs.Units.{nearest, units_after};
+
+    /// A stepper that goes on where the machine stands, after as many scalars as `steps` says, of which
+    /// no position is held.
+    pub fn new(machine: RowMachine<'a>, steps: u64) -> RowStepper<'a>
+        ensures { (profile : Profile) (cell : ℕ → Cell) (taken : List ℕ)
+            → RowMachineFits machine.entry profile cell taken → steps ≡ length taken
+            → unanswered profile (map cell taken) ≡ None
+            → RowStepperFits result profile cell taken }
+    {
+        RowStepper {
+            machine,
+            steps,
+            held: None,
+        }
+    }
+
+    /// Takes the next scalar: the verdict of the position before it, unless that is held, and that of
+    /// the position that was held until now, where the scalar heads the unit after its quotation mark. It answers so for
+    /// the first 18,446,744,073,709,551,615 scalars of a text.
+    #[inline(always)]
+    pub fn step(&mut self, c: char) -> Out
+        ensures now { (profile : Profile) (cell : ℕ → Cell) (taken : List ℕ) (more : List Cell)
+            → RowStepperFits self.old profile cell taken
+            → result.now ≡ now_at profile (map cell taken) (cell c ∷ more) }
+        ensures late { (profile : Profile) (cell : ℕ → Cell) (taken : List ℕ) (more : List Cell)
+            → RowStepperFits self.old profile cell taken
+            → result.late ≡ late_at profile (map cell taken) (cell c) more }
+        ensures fits { (profile : Profile) (cell : ℕ → Cell) (taken : List ℕ)
+            → RowStepperFits self.old profile cell taken → length taken < 18446744073709551615
+            → RowStepperFits self.new profile cell (taken ++ c ∷ []) }
+    {
+        let mut machine = self.machine;
+        let verdict = machine.step(c);
+        if self.held.is_none() && !verdict.rule.is_15b() {
+            self.machine = machine;
+            self.steps = self.steps.wrapping_add(1);
+            return Out {
+                now: Some(verdict),
+                late: None,
+            };
+        }
+        self.step_with_held(c)
+    }
+
+    /// The same where a position is held before the step or behind it, which is rare. Its values are set up here, and not in
+    /// `step`; and `holding` and `late`, which it calls, take the stepper by value, so that a loop has its own in registers.
+    #[inline(always)]
+    fn step_with_held(&mut self, c: char) -> Out
+        ensures now { (profile : Profile) (cell : ℕ → Cell) (taken : List ℕ) (more : List Cell)
+            → RowStepperFits self.old profile cell taken
+            → result.now ≡ now_at profile (map cell taken) (cell c ∷ more) }
+        ensures late { (profile : Profile) (cell : ℕ → Cell) (taken : List ℕ) (more : List Cell)
+            → RowStepperFits self.old profile cell taken
+            → result.late ≡ late_at profile (map cell taken) (cell c) more }
+        ensures fits { (profile : Profile) (cell : ℕ → Cell) (taken : List ℕ)
+            → RowStepperFits self.old profile cell taken → length taken < 18446744073709551615
+            → RowStepperFits self.new profile cell (taken ++ c ∷ []) }
+    {
+        let before = *self;
+        let verdict = self.machine.step(c);
+        self.steps = self.steps.wrapping_add(1);
+        self.held = before.holding(c, verdict.rule.is_15b());
+        Out {
+            now: unless_held(verdict),
+            late: before.late(c),
+        }
+    }
+
+    /// The verdict of the position after all scalars taken, where the text ends, and that of the
+    /// position that was held until now.
+    pub fn finish(&self) -> End
+        ensures late { (profile : Profile) (cell : ℕ → Cell) (taken : List ℕ)
+            → RowStepperFits self.now profile cell taken
+            → result.late ≡ answer_at profile (map cell taken) [] }
+        ensures end { (profile : Profile) (cell : ℕ → Cell) (taken : List ℕ)
+            → RowStepperFits self.now profile cell taken
+            → result.end ≡ verdict_in profile (map cell taken) (length taken) }
+    {
+        End {
+            late: self.answer(true),
+            end: self.machine.finish(),
+        }
+    }
+
+    /// The position that was held until now, and its verdict. `closes`: the unit that comes leaves the
+    /// quotation mark closed, or none comes.
+    fn answer(&self, closes: bool) -> Option<(u64, Verdict)>
+        ensures { (profile : Profile) (cell : ℕ → Cell) (taken : List ℕ) (more : List Cell)
+            → RowStepperFits self.now profile cell taken
+            → closes_in Second (units_after (hard (nearest (reverse (normals cell taken))).class) more) ≡ closes
+            → result ≡ answer_at profile (normals cell taken) more }
+    {
+        match self.held {
+            None => None,
+            Some(held) => Some(held.answer(closes)),
+        }
+    }
+
+    /// The answer that `c` brings with it: none, if it heads no unit.
+    #[cold]
+    #[inline(never)]
+    fn late(self, c: char) -> Option<(u64, Verdict)>
+        ensures { (profile : Profile) (cell : ℕ → Cell) (taken : List ℕ) (more : List Cell)
+            → RowStepperFits self.entry profile cell taken
+            → result ≡ late_at profile (map cell taken) (cell c) more }
+    {
+        if self.held.is_none() {
+            return None;
+        }
+        let cell = self.machine.cell(c);
+        if !self.machine.left().heads(cell) {
+            return None;
+        }
+        self.answer(cell.unit().class.closes_before())
+    }
+
+    /// What it holds once `c` was taken. `holds`: the position before `c` is held.
+    #[cold]
+    #[inline(never)]
+    fn holding(self, c: char, holds: bool) -> Option<HeldRow>
+        ensures { (profile : Profile) (cell : ℕ → Cell) (taken : List ℕ)
+            → RowStepperFits self.entry profile cell taken
+            → is_held profile (map cell taken) (cell c ∷ []) ≡ holds
+            → Holds profile result (waiting profile (normal (cell c) ∷ reverse (normals cell taken))) }
+    {
+        if holds {
+            return Some(self.held_before(c));
+        }
+        if self.held.is_none() {
+            return None;
+        }
+        if self.machine.left().heads(self.machine.cell(c)) {
+            return None;
+        }
+        self.held
+    }
+
+    /// The position before `c` with both its answers.
+    fn held_before(&self, c: char) -> HeldRow
+        ensures { (profile : Profile) (cell : ℕ → Cell) (taken : List ℕ)
+            → RowStepperFits self.now profile cell taken
+            → IsHeldRow profile result (record {
+              position = length (reverse (normals cell taken));
+              left = facts (reverse (normals cell taken));
+              quotation = normal (cell c);
+            }) }
+    {
+        let left = self.machine.left();
+        let cell = self.machine.cell(c);
+        let profile = self.machine.profile();
+        let if_closed = left.verdict(profile, cell, true);
+        let if_open = left.verdict(profile, cell, false);
+        HeldRow {
+            position: self.steps,
+            if_closed,
+            if_open,
+        }
+    }
+}

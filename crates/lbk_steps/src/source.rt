@@ -1,0 +1,52 @@
+//! Sources of cells: what knows the cell of each scalar value.
+
+ghost use Rattle.std.specs.Prelude.{◌≡◌, ℕ, IfSome};
+
+use crate::step_table::StepTable;
+use lbk_rules::{Cell, resolve};
+use lbk_ucd::Tables;
+
+/// Something that knows the cell of each scalar value.
+pub trait CellSource {
+    ghost use Rattle.lbk_rules.specs.declared.cells.Cell.{Cell};
+    ghost use Rattle.lbk_steps.specs.FirstBytes.{AreQuiet};
+    ghost use Rattle.lbk_steps.specs.RowMachineFits.{IsTableOf};
+
+    ghost cell_of: { Self → ℕ → Cell };
+
+    /// The cell of `c` (UAX #14, section 6.1, rule LB1).
+    fn cell(&self, c: char) -> Cell
+        ensures { result ≡ cell_of self.now c };
+
+    /// The table of steps over these cells, if there is one. A text is decided without it too, only slower.
+    fn step_table(&self) -> Option<&StepTable>
+        ensures { IfSome result (λ table. IsTableOf table.now (cell_of self.now)) }
+    {
+        None
+    }
+
+    /// For each byte whether it is known that a line must end behind no scalar that begins with it (UAX #14, rules LB4 and
+    /// LB5). A text is cut into paragraphs without it too, only slower.
+    fn quiet_first_bytes(&self) -> [bool; 256]
+        ensures { AreQuiet (cell_of self.now) result }
+    {
+        [false; 256]
+    }
+}
+
+impl CellSource for Tables {
+    ghost use Rattle.lbk_steps.specs.CellOfTables.{cell_of_tables};
+
+    ghost cell_of = { cell_of_tables };
+
+    #[tactic(auto, unfolding(crate::specs::CellOfTables::cell_of_tables))]
+    fn cell(&self, c: char) -> Cell {
+        let code = u32::from(c);
+        resolve(
+            self.line_break(code),
+            self.east_asian(code),
+            self.category(code),
+            self.is_pictographic(code),
+        )
+    }
+}
