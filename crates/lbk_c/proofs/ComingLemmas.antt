@@ -24,7 +24,7 @@ use Rattle.lbk_steps.specs.FlatTable.{IsFlatBy, IsFlatOf, KnowsTaken}
 use Rattle.lbk_rules.specs.Marks.{marks, marks_behind}
 use Rattle.lbk_rules.specs.Verdict.{verdict_between_in}
 use Rattle.lbk_rules.proofs.EndLemmas.{must_at_length, start_of_text}
-use Rattle.lbk_c.specs.declared.interface.Found.{Found}
+use Rattle.lbk_c.specs.declared.interface.RawBreak.{RawBreak}
 use Rattle.lbk_c.specs.declared.interface.State.{State}
 use Rattle.lbk_c.specs.declared.progress.Progress.{Progress}
 use Rattle.lbk_c.specs.Bytes.{breaks_after, breaks_of_bytes, with_break}
@@ -171,11 +171,11 @@ gives to_come front more count room joined many within full = record {
 }
 
 -- how many are in the front of a block
-given-many : (block : List Found) (count : ℕ) → count ≤ length block → length (given_in block count) ≡ count
+given-many : (block : List RawBreak) (count : ℕ) → count ≤ length block → length (given_in block count) ≡ count
 given-many block count within = length-map (take count block) shown ∙ length-take-le count block within
 
 -- the block is full
-pub Goes-full : (profile : Profile) (cell : ℕ → Cell) (lefts : List Left) (text : List ℕ) (to_come : List Break) (here : Progress) (state : State) (block : List Found) (room : ℕ)
+pub Goes-full : (profile : Profile) (cell : ℕ → Cell) (lefts : List Left) (text : List ℕ) (to_come : List Break) (here : Progress) (state : State) (block : List RawBreak) (room : ℕ)
     → Reached profile cell lefts text to_come here (given_in block here.count) → here.at ≤ length text → state.at ≡ here.at → state.row ≡ here.row → state.ended ≡ 0
     → here.count ≤ length block → here.count ≡ room
     → Goes profile cell lefts text to_come state (given_in block here.count) here.count room
@@ -199,7 +199,7 @@ Goes-full profile cell lefts text to_come here state block room r within at_same
     }
 
 -- all were given, the text's end too
-pub Goes-ended : (profile : Profile) (cell : ℕ → Cell) (lefts : List Left) (text : List ℕ) (to_come : List Break) (here : Progress) (state : State) (before block : List Found)
+pub Goes-ended : (profile : Profile) (cell : ℕ → Cell) (lefts : List Left) (text : List ℕ) (to_come : List Break) (here : Progress) (state : State) (before block : List RawBreak)
     (count room : ℕ)
     → Reached profile cell lefts text to_come here (given_in before here.count) → here.at ≡ length text → state.at ≡ here.at → state.ended ≡ 1
     → (0 < length text → given_in block count ≡ given_in before here.count ++ break_by (length text) end_of_text ∷ [])

@@ -18,7 +18,7 @@ use Rattle.lbk_steps.specs.RowMachineFits.{normals}
 use Rattle.lbk_rules.specs.Sides.{Side}
 use Rattle.lbk_steps.specs.Steps.{IsStart, left_at}
 use Rattle.lbk_rules.specs.Verdict.{verdict_between_in}
-use Rattle.lbk_c.specs.declared.interface.Found.{Found}
+use Rattle.lbk_c.specs.declared.interface.RawBreak.{RawBreak}
 use Rattle.lbk_c.specs.Bytes.{with_break}
 use Rattle.lbk_c.specs.Reached.{AreSwift, IsSwiftStep, Reached}
 use Rattle.lbk_c.specs.Shown.{given_in}
@@ -27,7 +27,7 @@ use Rattle.lbk_c.proofs.ReachedLemmas.{Reached-step}
 use Rattle.lbk_c.proofs.StepLemmas.{decides-text, flat_step_at, knows-more}
 
 pub Reached-swift : (profile : Profile) (cell : ℕ → Cell) (lefts : List Left) (text : List ℕ) (all : List Break) (steps : List FlatStep) (kinds : List ℕ)
-    (out after : List Found) (count next row at code size : ℕ) (step : FlatStep)
+    (out after : List RawBreak) (count next row at code size : ℕ) (step : FlatStep)
     → AreSwift profile lefts steps → AreFlatKinds kinds cell → Reads text at code size → at < length text
     → step ≡ get_or steps (row + get_or kinds code 0) no_flat_step → ¬ (step.code ≡ HELD)
     → (IsCode step.code → given_in after next ≡ given_in out count ++ with_break at (verdict_coded step.code) [])
@@ -47,7 +47,7 @@ Reached-swift profile cell lefts text all steps kinds out after count next row a
     (front here.coded) r
 
 pub Reached-one : (profile : Profile) (cell : ℕ → Cell) (lefts : List Left) (text : List ℕ) (all : List Break) (table : FlatTable)
-    (out after : List Found) (count next row at c size code : ℕ) (rest : List ℕ) (step : FlatStep)
+    (out after : List RawBreak) (count next row at c size code : ℕ) (rest : List ℕ) (step : FlatStep)
     → IsFlatBy lefts table cell → IsScalar c → at < length text
     → c ≡ or_replacement (decoded (drop at text)).char → size ≡ (decoded (drop at text)).size → rest ≡ drop (at + size) text
     → step ≡ get_or table.first (row + get_or table.kinds c 0) no_flat_step

@@ -13,7 +13,7 @@ use Rattle.lbk_rules.specs.Breaks.{break_by, is_no}
 use Rattle.lbk_rules.specs.Codes.{kind_numbered}
 use Rattle.lbk_steps.specs.FlatTable.{KnowsTaken}
 use Rattle.lbk_rules.specs.Verdict.{verdict_between_in}
-use Rattle.lbk_c.specs.declared.interface.Found.{Found}
+use Rattle.lbk_c.specs.declared.interface.RawBreak.{RawBreak}
 use Rattle.lbk_c.specs.declared.progress.Progress.{Progress}
 use Rattle.lbk_c.specs.Bytes.{with_break}
 use Rattle.lbk_c.specs.Reached.{Reached, onward}
@@ -64,7 +64,7 @@ Reached-step profile cell lefts text all here there given after p verdict is wit
     }
 
 -- a break written behind the others counts where it is one
-pub written-more : (block : List Found) (count : ℕ) (found : Found) (at : ℕ) (verdict : Verdict) → count < length block
+pub written-more : (block : List RawBreak) (count : ℕ) (found : RawBreak) (at : ℕ) (verdict : Verdict) → count < length block
     → shown found ≡ break_by at verdict
     → given_in (set block count found) (count + from_bool (not (is_no verdict.kind))) ≡ given_in block count ++ with_break at verdict []
 written-more block count found at verdict within same =

@@ -3,14 +3,14 @@ use Rattle.std.specs.Prelude.{ℕ, ◌-◌, List, [], ◌++◌, length, map, tak
 use Rattle.lbk_rules.specs.declared.breaks.Break.{Break}
 use Rattle.lbk_rules.specs.Codes.{kind_numbered, rule_numbered}
 use Rattle.lbk_rules.specs.Labels.{label_of}
-use Rattle.lbk_c.specs.declared.interface.Found.{Found}
+use Rattle.lbk_c.specs.declared.interface.RawBreak.{RawBreak}
 
 -- the break that is given
-abbrev pub shown : Found → Break
+abbrev pub shown : RawBreak → Break
 shown found = record { at = found.at; kind = kind_numbered found.kind; rule = rule_numbered found.rule }
 
 -- the breaks in the front of a block
-abbrev pub given_in : List Found → ℕ → List Break
+abbrev pub given_in : List RawBreak → ℕ → List Break
 given_in block count = map shown (take count block)
 
 -- four bytes: those of a label, and zeros behind them

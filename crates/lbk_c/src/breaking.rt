@@ -15,7 +15,7 @@ ghost use Rattle.lbk_c.specs.Shown.{given_in};
 ghost use Rattle.lbk_c.specs.State.{profile_numbered, start_in};
 
 use crate::filling::{fill, put};
-use crate::interface::{Found, State};
+use crate::interface::{RawBreak, State};
 use crate::progress::Progress;
 use lbk_rules::Profile;
 use lbk_steps::FlatTable;
@@ -34,7 +34,7 @@ pub extern "C" fn lbk_breaks(
     table: &FlatTable,
     state: &mut State,
     text: &[u8],
-    out: &mut [Found],
+    out: &mut [RawBreak],
 ) -> usize
     ensures within { result ≤ length out.old }
     ensures profile_same { state.new.profile ≡ state.old.profile }
@@ -80,7 +80,7 @@ fn go_on(
     profile: Profile,
     state: &mut State,
     text: &[u8],
-    out: &mut [Found],
+    out: &mut [RawBreak],
 ) -> usize
     requires { IsGoing profile state.old (length text.now) }
     ensures within { result ≤ length out.old }
@@ -107,7 +107,7 @@ fn go_on(
 
 /// Writes the break at the end of a text behind those in the front of the block, and answers how many these are now. An empty
 /// text has none.
-fn put_end(out: &mut [Found], count: usize, len: usize) -> usize
+fn put_end(out: &mut [RawBreak], count: usize, len: usize) -> usize
     requires { count < length out.old }
     ensures within { result ≤ length out.old }
     ensures some { 0 < len → given_in out.new result ≡ given_in out.old count ++ break_by len end_of_text ∷ [] }

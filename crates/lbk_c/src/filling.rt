@@ -13,7 +13,7 @@ ghost use Rattle.lbk_c.specs.Shown.{given_in};
 
 use crate::ahead::code_ahead;
 use crate::decoding::{Width, scalar_of};
-use crate::interface::Found;
+use crate::interface::RawBreak;
 use crate::progress::Progress;
 use crate::steps::{CODES, step_at, steps_of};
 use bstr::decode_lossy;
@@ -27,7 +27,7 @@ pub(crate) fn fill(
     profile: Profile,
     start: Progress,
     text: &[u8],
-    out: &mut [Found],
+    out: &mut [RawBreak],
 ) -> Progress
     requires { (start.count ≤ length out.old) × (start.row < 65536) × (start.at ≤ length text.now) }
     ensures within { (result.count ≤ length out.old) × (result.row < 65536) × (result.at ≤ length text.now) }
@@ -54,7 +54,7 @@ fn quick(
     steps: &[FlatStep; STEPS],
     start: Progress,
     text: &[u8],
-    out: &mut [Found],
+    out: &mut [RawBreak],
 ) -> Progress
     requires { (start.count ≤ length out.old) × (start.row < 65536) × (start.at ≤ length text.now) }
     ensures within { (result.count ≤ length out.old) × (result.row < 65536) × (result.at ≤ length text.now) }
@@ -80,7 +80,7 @@ fn runs(
     steps: &[FlatStep; STEPS],
     start: Progress,
     text: &[u8],
-    out: &mut [Found],
+    out: &mut [RawBreak],
 ) -> Progress
     requires { (start.count ≤ length out.old) × (start.row < 65536) × (start.at ≤ length text.now) }
     ensures within { (result.count ≤ length out.old) × (result.row < 65536) × (result.at ≤ length text.now) }
@@ -104,7 +104,7 @@ fn run(
     steps: &[FlatStep; STEPS],
     start: Progress,
     text: &[u8],
-    out: &mut [Found],
+    out: &mut [RawBreak],
 ) -> Progress
     requires { (start.count ≤ length out.old) × (start.row < 65536) × (start.at ≤ length text.now) }
     ensures within { (result.count ≤ length out.old) × (result.row < 65536) × (result.at ≤ length text.now) }
@@ -138,7 +138,7 @@ fn take_one(
     profile: Profile,
     here: Progress,
     text: &[u8],
-    out: &mut [Found],
+    out: &mut [RawBreak],
 ) -> Progress
     requires { (here.count < length out.old) × (here.row < 65536) × (here.at < length text.now) }
     ensures within { (result.count ≤ length out.old) × (result.row < 65536) × (result.at ≤ length text.now) }
@@ -162,7 +162,7 @@ fn take_one(
 /// Writes the verdict of a number behind the breaks in the front of the block, and answers how many these are now: one
 /// more, if it is a break.
 #[inline(always)]
-pub(crate) fn put(out: &mut [Found], count: usize, at: usize, code: u16) -> usize
+pub(crate) fn put(out: &mut [RawBreak], count: usize, at: usize, code: u16) -> usize
     requires { count < length out.old }
     ensures within { result ≤ length out.old }
     ensures front { IsCode code → given_in out.new result ≡ given_in out.old count ++ with_break at (verdict_coded code) [] }

@@ -3,7 +3,7 @@
 /// A break of a text.
 #[repr(C)]
 #[derive(Clone, Copy)]
-pub struct Found {
+pub struct RawBreak {
     /// The byte that it stands before, counted from the text's start; the text's length at its end.
     pub at: usize,
     /// Whether the line may or must end there: 1 for May, 2 for Must.

@@ -17,6 +17,6 @@ mod reading;
 mod steps;
 
 pub use breaking::lbk_breaks;
-pub use interface::{Fault, Found, RuleLabel, State};
+pub use interface::{Fault, RawBreak, RuleLabel, State};
 pub use labels::lbk_label;
 pub use reading::{lbk_check, lbk_read};
