@@ -1,7 +1,7 @@
 -- What a machine knows of the cells that it has taken.
 use Rattle.std.specs.Prelude.{◌≡◌, List, reverse}
 use Rattle.lbk_rules.specs.declared.cells.Cell.{Cell}
-use Rattle.lbk_rules.specs.declared.forward.Machine.{Machine}
+use Rattle.lbk_rules.specs.declared.machine.Machine.{Machine}
 use Rattle.lbk_rules.specs.Facts.{facts}
 
 -- each fact of the machine is that of the whole list: whether it is empty, the class of its last cell, whether it

@@ -1,8 +1,8 @@
 -- What a late machine knows of the cells that it has taken.
 use Rattle.std.specs.Prelude.{◌≡◌, ℕ, if◌then◌else◌, List, [], ◌∷◌, length, reverse, Option, Some, None, option_map}
 use Rattle.lbk_rules.specs.declared.cells.Cell.{Cell}
-use Rattle.lbk_rules.specs.declared.late.Held.{Held}
-use Rattle.lbk_rules.specs.declared.late.LateMachine.{LateMachine}
+use Rattle.lbk_rules.specs.declared.late_machine.Held.{Held}
+use Rattle.lbk_rules.specs.declared.late_machine.LateMachine.{LateMachine}
 use Rattle.lbk_values.specs.declared.profile.Profile.{Profile}
 use Rattle.lbk_rules.specs.Sides.{Side}
 use Rattle.lbk_rules.specs.Chain.{from_cells}

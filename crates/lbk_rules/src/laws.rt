@@ -2,7 +2,7 @@
 //! function that does nothing.
 ghost use Rattle.std.specs.Prelude.{◌≡◌, ℕ, ◌+◌, ◌-◌, ◌<◌, ◌≤◌, ◌⊎◌, false, not, List, [], ◌∷◌, ◌++◌, length, map, reverse, take, drop, IsSome, IsTrue, Some, None};
 ghost use Rattle.lbk_rules.specs.declared.cells.Cell.{Cell};
-ghost use Rattle.lbk_rules.specs.declared.late.LateMachine.{LateMachine};
+ghost use Rattle.lbk_rules.specs.declared.late_machine.LateMachine.{LateMachine};
 ghost use Rattle.lbk_rules.specs.declared.verdicts.Kind.TheVariants.{No, Must};
 ghost use Rattle.lbk_values.specs.declared.profile.Profile.{Profile};
 ghost use Rattle.lbk_values.specs.declared.profile.Profile.TheVariants.{First, Second};

@@ -1,6 +1,6 @@
 -- What a machine that looks ahead knows of the scalars that it has taken.
 use Rattle.std.specs.Prelude.{◌≡◌, ℕ, List, map, reverse}
-use Rattle.lbk_steps.specs.declared.ahead.AheadMachine.{AheadMachine}
+use Rattle.lbk_steps.specs.declared.ahead_machine.AheadMachine.{AheadMachine}
 use Rattle.lbk_rules.specs.declared.cells.Cell.{Cell}
 use Rattle.lbk_values.specs.declared.profile.Profile.{Profile}
 use Rattle.lbk_rules.specs.Facts.{facts}

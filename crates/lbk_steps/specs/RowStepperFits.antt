@@ -1,7 +1,7 @@
 -- What a row stepper knows of the scalars that it has taken.
 use Rattle.std.specs.Prelude.{◌≡◌, ℕ, Bool, true, false, List, ◌∷◌, length, reverse, Option, Some, None}
 use Rattle.lbk_rules.specs.declared.cells.Cell.{Cell}
-use Rattle.lbk_rules.specs.declared.late.Held.{Held}
+use Rattle.lbk_rules.specs.declared.late_machine.Held.{Held}
 use Rattle.lbk_steps.specs.declared.row_stepper.HeldRow.{HeldRow}
 use Rattle.lbk_steps.specs.declared.row_stepper.RowStepper.{RowStepper}
 use Rattle.lbk_values.specs.declared.profile.Profile.{Profile}

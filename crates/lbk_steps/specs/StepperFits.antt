@@ -1,7 +1,7 @@
 -- What a stepper knows of the scalars that it has taken.
 use Rattle.std.specs.Prelude.{◌≡◌, ℕ, List, map, Option, Some, None}
 use Rattle.lbk_rules.specs.declared.cells.Cell.{Cell}
-use Rattle.lbk_rules.specs.declared.late.LateMachine.{LateMachine}
+use Rattle.lbk_rules.specs.declared.late_machine.LateMachine.{LateMachine}
 use Rattle.lbk_steps.specs.declared.row_stepper.RowStepper.{RowStepper}
 use Rattle.lbk_steps.specs.declared.stepper.Stepper.{Stepper}
 use Rattle.lbk_values.specs.declared.profile.Profile.{Profile}

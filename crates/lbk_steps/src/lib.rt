@@ -5,7 +5,7 @@
 //! a text in memory, and is faster.
 #![tactic(auto)]
 
-mod ahead;
+mod ahead_machine;
 mod first_bytes;
 mod flat_table;
 mod kind_table;
@@ -18,7 +18,7 @@ mod source;
 mod step_table;
 mod stepper;
 
-pub use ahead::AheadMachine;
+pub use ahead_machine::AheadMachine;
 pub use flat_table::{FlatStep, FlatTable, HELD, LAYOUT, STEPS, TableError};
 pub use pages::CellPages;
 pub use row_stepper::RowStepper;
