@@ -8,7 +8,7 @@ use lbk_cmd::{segment, show};
 use lbk_feed::devices::MemorySource;
 use lbk_notation::{Form, replay};
 use lbk_passage::{LIMIT_MAX, Segment, Segmenter};
-use lbk_rules::{Break, Class, Kind, LateMachine, Machine, Profile, Rule, Verdict};
+use lbk_rules::{Break, Class, Kind, LateMachine, ForwardMachine, Profile, Rule, Verdict};
 use lbk_steps::{CellPages, CellSource, Stepper};
 use lbk_ucd::Tables;
 use std::alloc::{AllocError, Global};
@@ -22,7 +22,7 @@ pub enum Layer {
     /// Their cells.
     LookUp,
     /// The verdicts of the first profile, one after another.
-    Machine,
+    ForwardMachine,
     /// Those of a profile by the machine that may hold a position.
     LateMachine(Profile),
     /// The same by the table of steps, or what steps in its place.
@@ -50,7 +50,7 @@ pub enum Layer {
 pub const LAYERS: [Layer; 17] = [
     Layer::Decoding,
     Layer::LookUp,
-    Layer::Machine,
+    Layer::ForwardMachine,
     Layer::LateMachine(Profile::First),
     Layer::LateMachine(Profile::Second),
     Layer::Stepper(Profile::First),
@@ -84,7 +84,7 @@ impl Layer {
         match self {
             Layer::Decoding => "decoding",
             Layer::LookUp => "look-up",
-            Layer::Machine => "Machine",
+            Layer::ForwardMachine => "ForwardMachine",
             Layer::LateMachine(Profile::First) => "LateMachine, profile 1",
             Layer::LateMachine(Profile::Second) => "LateMachine, profile 2",
             Layer::Stepper(Profile::First) => "Stepper, profile 1",
@@ -118,7 +118,7 @@ impl Layer {
         match self {
             Layer::Decoding => Ok(decoding(text)),
             Layer::LookUp => Ok(look_up(cells, text)),
-            Layer::Machine => Ok(by_machine(cells, text)),
+            Layer::ForwardMachine => Ok(by_machine(cells, text)),
             Layer::LateMachine(profile) => Ok(by_late_machine(cells, profile, text)),
             Layer::Stepper(profile) => Ok(by_stepper(cells, profile, text)),
             Layer::Breaks(profile) => Ok(by_breaks(cells, profile, text)),
@@ -155,7 +155,7 @@ fn breaks_at(verdict: Verdict) -> u64 {
 }
 
 fn by_machine(cells: &CellPages, text: &str) -> u64 {
-    let mut machine = Machine::start();
+    let mut machine = ForwardMachine::start();
     let mut breaks = 0u64;
     for c in text.chars() {
         breaks = breaks.wrapping_add(breaks_at(machine.step(cells.cell(c))));

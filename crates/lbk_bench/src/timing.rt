@@ -17,7 +17,7 @@ struct Best {
     count: u64,
 }
 
-/// Prints for each layer how many millions of bytes it takes in a second, how that compares with `Machine`, and what
+/// Prints for each layer how many millions of bytes it takes in a second, how that compares with `ForwardMachine`, and what
 /// it counts, or the milliseconds of a part of the start-up.
 pub fn print(rt: &HostRuntime, names: &Names<'_>) -> Result<()> {
     let material = Material::read(rt, names)?;
@@ -30,7 +30,7 @@ pub fn print(rt: &HostRuntime, names: &Names<'_>) -> Result<()> {
     )?;
     let mut machine = 0;
     for (layer, best) in LAYERS.iter().zip(best.iter()) {
-        if matches!(layer, Layer::Machine) {
+        if matches!(layer, Layer::ForwardMachine) {
             machine = rate(material.text.len(), best.time);
         }
     }

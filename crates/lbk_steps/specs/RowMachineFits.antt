@@ -1,7 +1,7 @@
 -- What a row machine knows of the scalars that it has taken.
 use Rattle.std.specs.Prelude.{◌≡◌, ℕ, List}
 use Rattle.lbk_rules.specs.declared.cells.Cell.{Cell}
-use Rattle.lbk_steps.specs.declared.step_table.RowMachine.{RowMachine}
+use Rattle.lbk_steps.specs.declared.row_machine.RowMachine.{RowMachine}
 use Rattle.lbk_steps.specs.declared.step_table.StepTable.{StepTable}
 use Rattle.lbk_values.specs.declared.profile.Profile.{Profile}
 use Rattle.lbk_steps.specs.Kinds.{kind_cell}

@@ -11,7 +11,6 @@ ghost use Rattle.lbk_rules.specs.Units.{units_after};
 ghost use Rattle.lbk_rules.specs.Verdict.{verdict_between_in};
 
 use crate::source::CellSource;
-use crate::step_table::RowMachine;
 use lbk_rules::{Cell, Class, Left, Profile, Verdict, is_second};
 use std::alloc::AllocError;
 
@@ -77,29 +76,6 @@ impl<'a, C: CellSource> AheadMachine<'a, C> {
     }
 }
 
-impl<'a> RowMachine<'a> {
-    ghost use Rattle.lbk_steps.specs.RowMachineFits.{RowMachineFits};
-    ghost use Rattle.lbk_rules.specs.declared.cells.Cell.{Cell};
-    ghost use Rattle.lbk_values.specs.declared.profile.Profile.{Profile};
-
-    /// The verdict of the position before `c`, where `rest` is the text behind it, up to its end: also where the
-    /// position is held.
-    pub fn look_ahead(&self, c: char, rest: &str) -> Verdict
-        ensures { (profile : Profile) (cell : ℕ → Cell) (taken : List ℕ)
-            → RowMachineFits self.now profile cell taken
-            → result ≡ verdict_between_in profile (map cell taken) (cell c ∷ map cell (chars rest.now)) }
-    {
-        let mut machine = *self;
-        if let Some(verdict) = machine.step_unless_held(c) {
-            return verdict;
-        }
-        let profile = self.profile();
-        let cell = self.cell(c);
-        let closes = closes_in(profile, self.kinds, cell.class, rest);
-        self.left().verdict(profile, cell, closes)
-    }
-}
-
 /// The verdict before `cell`, where `left` is known of what stands before it and `rest` is the text behind it.
 fn verdict_ahead<C: CellSource>(
     left: Left,
@@ -136,7 +112,12 @@ fn closes_ahead<C: CellSource>(cells: &C, class: Class, rest: &str) -> bool
 }
 
 /// The same in the second profile, the only one that asks for it.
-fn closes_in<C: CellSource>(profile: Profile, cells: &C, class: Class, rest: &str) -> bool
+pub(crate) fn closes_in<C: CellSource>(
+    profile: Profile,
+    cells: &C,
+    class: Class,
+    rest: &str,
+) -> bool
     ensures { result ≡ closes_in profile (units_after (hard class) (map (C.cell_of cells.now) (chars rest.now))) }
 {
     is_second(profile) && closes_ahead(cells, class, rest)

@@ -4,7 +4,7 @@ ghost use Rattle.std.specs.Prelude.{◌≡◌, ℕ, ◌<◌, List, [], ◌∷◌
 ghost use Rattle.lbk_rules.specs.Held.{answer_at, is_15b, is_held, late_at, now_at, unanswered};
 ghost use Rattle.lbk_rules.specs.Verdict.{verdict_in};
 
-use crate::step_table::RowMachine;
+use crate::row_machine::RowMachine;
 use lbk_rules::{End, Out, Verdict, unless_held};
 
 /// A position whose verdict waits for the unit after a closing quotation mark, with both its answers:

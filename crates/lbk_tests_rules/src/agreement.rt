@@ -5,7 +5,7 @@ use crate::calls::{
     stepper,
 };
 use lbk_breaks::{Break, Breaks};
-use lbk_rules::{Cell, Class, Kind, Machine, Out, Profile, Quote, Verdict};
+use lbk_rules::{Cell, Class, Kind, ForwardMachine, Out, Profile, Quote, Verdict};
 use lbk_steps::CellPages;
 use lbk_tests_rows::cells::{mark, pictograph, plain, wide};
 use lbk_tests_rows::property_files::SAMPLES;
@@ -109,7 +109,7 @@ fn same(rt: &impl Abort, found: Option<Verdict>, want: Verdict, k: usize, cells:
 }
 
 fn check_machine(rt: &impl Abort, cells: &[Cell; 3]) {
-    let mut machine = Machine::start();
+    let mut machine = ForwardMachine::start();
     for k in 0..3 {
         let found = step(&mut machine, cells[k]);
         same(rt, Some(found), decided(rt, cells, k), k, cells);

@@ -1,7 +1,7 @@
 //! Calls that tests make, each without its contract. A test proves only that it is safe and returns, so it needs no
 //! fact of them; a check that does not carry their facts from call to call takes a fraction of the time.
 
-use lbk_rules::{Cell, LateMachine, Machine, Out, Profile, Verdict, decide, decide_in};
+use lbk_rules::{Cell, LateMachine, ForwardMachine, Out, Profile, Verdict, decide, decide_in};
 use lbk_steps::{CellPages, CellSource, Stepper};
 use lbk_ucd::{Files, Tables, UcdFault};
 use std::alloc::{AllocError, Global};
@@ -41,7 +41,7 @@ pub fn decided_in(rt: &impl Abort, profile: Profile, cells: &[Cell], k: usize) -
     decide_in(profile, cells, k)
 }
 
-pub fn step(machine: &mut Machine, cell: Cell) -> Verdict {
+pub fn step(machine: &mut ForwardMachine, cell: Cell) -> Verdict {
     machine.step(cell)
 }
 

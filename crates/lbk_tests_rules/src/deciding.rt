@@ -1,7 +1,7 @@
 //! What the evaluator and the machines answer, kinds and all, over a list of cells, and the cell that properties come to.
 
 use crate::calls::{decided, decided_in, late_step, same_at, same_value, start_late, step};
-use lbk_rules::{Cell, Class, End, Kind, Machine, Out, Profile, Quote, Rule, Verdict, decide_all, decide_all_in, resolve};
+use lbk_rules::{Cell, Class, End, Kind, ForwardMachine, Out, Profile, Quote, Rule, Verdict, decide_all, decide_all_in, resolve};
 use lbk_tests_rows::cells::{mark, plain};
 use lbk_ucd::{Category, EastAsian, LineBreak};
 use std::process::Abort;
@@ -48,7 +48,7 @@ fn first_profile(rt: HostRuntime) {
         kind: Kind::May,
         rule: Rule::Lb18,
     });
-    let mut machine = Machine::start();
+    let mut machine = ForwardMachine::start();
     for k in 0..5 {
         same_at(&rt, decided(&rt, &cells, k), want[k], k);
         same_at(&rt, step(&mut machine, cells[k]), want[k], k);

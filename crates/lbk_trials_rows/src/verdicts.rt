@@ -5,7 +5,7 @@ use crate::digest::Digest;
 use crate::inputs::{Input, verdicts_of};
 use crate::told::digest_told;
 use anyhow::{Result, ensure};
-use lbk_rules::{Cell, LateMachine, Machine, Out, Profile, Verdict, decide, decide_all, decide_all_in, decide_in};
+use lbk_rules::{Cell, LateMachine, ForwardMachine, Out, Profile, Verdict, decide, decide_all, decide_all_in, decide_in};
 use std::alloc::Global;
 
 /// `decide`, `decide_in`, `decide_all`, `decide_all_in`.
@@ -68,7 +68,7 @@ pub fn add_verdict(digest: &mut Digest, verdict: Verdict) {
     digest.add_verdict(verdict.kind, verdict.rule);
 }
 
-/// Each call of `Machine` and `LateMachine`, and `label`.
+/// Each call of `ForwardMachine` and `LateMachine`, and `label`.
 pub fn machines(alloc: Global, input: &Input, profile: Profile) -> Result<String> {
     let list = input.cell_list(alloc)?;
     let mut digest = Digest::new();
@@ -80,7 +80,7 @@ pub fn machines(alloc: Global, input: &Input, profile: Profile) -> Result<String
 }
 
 fn step_machine(digest: &mut Digest, list: &[Cell]) {
-    let mut machine = Machine::start();
+    let mut machine = ForwardMachine::start();
     for cell in list {
         add_verdict(digest, machine.step(*cell));
     }

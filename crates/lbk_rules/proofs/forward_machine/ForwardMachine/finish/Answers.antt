@@ -2,7 +2,7 @@ use Rattle.std.proofs.Common.{reverse, sym, ◌∙◌}
 use Rattle.lbk_values.specs.declared.profile.Profile.TheVariants.{First}
 use Rattle.lbk_rules.specs.Fits.{Fits}
 use Rattle.lbk_rules.proofs.MachineLemmas.{verdict_in-end}
-use Rattle.lbk_rules.proofs.machine.Machine.finish.Goals as goal
+use Rattle.lbk_rules.proofs.forward_machine.ForwardMachine.finish.Goals as goal
 
 pub returns : goal.returns
 unfolding Fits

@@ -1,6 +1,6 @@
 use Rattle.std.proofs.Common.{◌∙◌}
 use Rattle.lbk_steps.proofs.RowMachineLemmas.{kind_same}
-use Rattle.lbk_steps.proofs.step_table.RowMachine.cell.Goals as goal
+use Rattle.lbk_steps.proofs.row_machine.RowMachine.cell.Goals as goal
 
 pub returns : goal.returns
 returns c = λ profile cell taken fits.

@@ -1,6 +1,6 @@
 use Rattle.std.proofs.Common.{sym, ◌∙◌}
 use Rattle.lbk_steps.proofs.RowMachineLemmas.{so_far-decides, so_far-held}
-use Rattle.lbk_steps.proofs.step_table.RowMachine.step_unless_held.Goals as goal
+use Rattle.lbk_steps.proofs.row_machine.RowMachine.step_unless_held.Goals as goal
 
 pub returns-clause-decides : goal.returns-clause-decides
 returns-clause-decides c = λ profile cell taken more fits.

@@ -2,7 +2,7 @@ use Rattle.std.proofs.Common.{◌≡◌, ℕ, ◌<◌, take, Some}
 use Rattle.std.specs.List.{slice_get}
 use Rattle.lbk_rules.specs.Fits.{Fits}
 use Rattle.lbk_rules.specs.Verdict.{verdict}
-use Rattle.lbk_rules.proofs.machine.decide_all.Given as goal
+use Rattle.lbk_rules.proofs.forward_machine.decide_all.Given as goal
 
 abbrev pub invariant-loop-k : goal.invariant-loop-k
 invariant-loop-k l = record {

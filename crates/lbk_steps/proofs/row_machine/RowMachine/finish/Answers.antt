@@ -1,7 +1,7 @@
 use Rattle.std.proofs.Common.{reverse}
 use Rattle.lbk_steps.specs.RowMachineFits.{normals}
 use Rattle.lbk_steps.proofs.RowMachineLemmas.{end-normal}
-use Rattle.lbk_steps.proofs.step_table.RowMachine.finish.Goals as goal
+use Rattle.lbk_steps.proofs.row_machine.RowMachine.finish.Goals as goal
 
 pub returns : goal.returns
 returns c = λ profile cell taken fits.

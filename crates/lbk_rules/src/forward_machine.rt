@@ -11,19 +11,19 @@ use lbk_values::Profile;
 /// Decides the positions of a text one after another in the first profile, without looking back: a
 /// few facts of the cells so far suffice (UAX #14, section 6).
 #[derive(Clone, Copy, PartialEq, Eq, Debug)]
-pub struct Machine {
+pub struct ForwardMachine {
     left: Left,
 }
 
-impl Machine {
+impl ForwardMachine {
     ghost use Rattle.lbk_rules.specs.Fits.{Fits};
 
     /// A machine that has taken no cell.
     #[tactic(auto, unfolding(crate::specs::Fits::Fits))]
-    pub fn start() -> Machine
+    pub fn start() -> ForwardMachine
         ensures { Fits result [] }
     {
-        Machine {
+        ForwardMachine {
             left: Left::start(),
         }
     }
@@ -55,7 +55,7 @@ pub fn decide_all(cells: &[Cell], verdicts: &mut [Verdict])
     requires { length verdicts.old ≡ length cells.now + 1 }
     ensures { (k : ℕ) → k ≤ length cells.now → slice_get verdicts.new k ≡ Some (verdict cells.now k) }
 {
-    let mut machine = Machine::start();
+    let mut machine = ForwardMachine::start();
     for (k, cell) in cells.iter().enumerate() {
         verdicts[k] = machine.step(*cell);
     }

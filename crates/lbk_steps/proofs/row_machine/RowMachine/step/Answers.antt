@@ -1,5 +1,5 @@
 use Rattle.lbk_steps.proofs.RowMachineLemmas.{so_far-decides, so_far-held}
-use Rattle.lbk_steps.proofs.step_table.RowMachine.step.Goals as goal
+use Rattle.lbk_steps.proofs.row_machine.RowMachine.step.Goals as goal
 
 pub returns-clause-held : goal.returns-clause-held
 returns-clause-held c = λ profile cell taken more fits.

@@ -3,7 +3,7 @@ use Rattle.lbk_values.specs.declared.profile.Profile.TheVariants.{First}
 use Rattle.lbk_rules.specs.Facts.{facts}
 use Rattle.lbk_rules.specs.Fits.{Fits}
 use Rattle.lbk_rules.proofs.MachineLemmas.{reverse-snoc, verdict_in-chain}
-use Rattle.lbk_rules.proofs.machine.Machine.step.Goals as goal
+use Rattle.lbk_rules.proofs.forward_machine.ForwardMachine.step.Goals as goal
 
 pub returns-clause-decides : goal.returns-clause-decides
 unfolding Fits

@@ -8,7 +8,7 @@ use Rattle.lbk_steps.specs.KindTable.{kind_at}
 use Rattle.lbk_rules.specs.Normal.{normal}
 use Rattle.lbk_steps.specs.RowMachineFits.{normals}
 use Rattle.lbk_steps.proofs.AheadLemmas.{ahead-normal, at-seam, kinds_of_text}
-use Rattle.lbk_steps.proofs.step_table.RowMachine.look_ahead.Goals as goal
+use Rattle.lbk_steps.proofs.row_machine.RowMachine.look_ahead.Goals as goal
 
 pub returns-in-Some : goal.returns-in-Some
 returns-in-Some c = λ profile cell taken fits.

@@ -6,7 +6,7 @@ use Rattle.lbk_rules.specs.Fits.{Fits}
 use Rattle.lbk_rules.specs.Verdict.{verdict}
 use Rattle.lbk_rules.proofs.MachineLemmas.{split-at}
 use Rattle.lbk_rules.proofs.WritingLemmas.{written_more}
-use Rattle.lbk_rules.proofs.machine.decide_all.Goals as goal
+use Rattle.lbk_rules.proofs.forward_machine.decide_all.Goals as goal
 
 pub loop-k-preserved : goal.loop-k-preserved
 loop-k-preserved c =
