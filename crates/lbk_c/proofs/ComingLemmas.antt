@@ -26,7 +26,7 @@ use Rattle.lbk_rules.specs.Verdict.{verdict_between_in}
 use Rattle.lbk_rules.proofs.EndLemmas.{must_at_length, start_of_text}
 use Rattle.lbk_c.specs.declared.interface.RawBreak.{RawBreak}
 use Rattle.lbk_c.specs.declared.interface.State.{State}
-use Rattle.lbk_c.specs.declared.progress.Progress.{Progress}
+use Rattle.lbk_c.specs.declared.fill_state.FillState.{FillState}
 use Rattle.lbk_c.specs.Bytes.{breaks_after, breaks_of_bytes, with_break}
 use Rattle.lbk_c.specs.Reached.{Comes, Goes, IsGoing, IsSpent, Reached, from_state, onward, scalars_of}
 use Rattle.lbk_c.specs.Shown.{given_in, shown}
@@ -126,7 +126,7 @@ breaks-utf8 profile cell text utf8 =
 -- The end
 
 -- where all is taken, the break at the end comes, if the text has any bytes
-pub Reached-end : (profile : Profile) (cell : ℕ → Cell) (lefts : List Left) (text : List ℕ) (all : List Break) (here : Progress) (given : List Break)
+pub Reached-end : (profile : Profile) (cell : ℕ → Cell) (lefts : List Left) (text : List ℕ) (all : List Break) (here : FillState) (given : List Break)
     → here.at ≡ length text → Reached profile cell lefts text all here given
     → (length text ≡ 0 → all ≡ given) × (0 < length text → all ≡ given ++ break_by (length text) end_of_text ∷ [])
 Reached-end profile cell lefts text all here given ends r =
@@ -175,7 +175,7 @@ given-many : (block : List RawBreak) (count : ℕ) → count ≤ length block �
 given-many block count within = length-map (take count block) shown ∙ length-take-le count block within
 
 -- the block is full
-pub Goes-full : (profile : Profile) (cell : ℕ → Cell) (lefts : List Left) (text : List ℕ) (to_come : List Break) (here : Progress) (state : State) (block : List RawBreak) (room : ℕ)
+pub Goes-full : (profile : Profile) (cell : ℕ → Cell) (lefts : List Left) (text : List ℕ) (to_come : List Break) (here : FillState) (state : State) (block : List RawBreak) (room : ℕ)
     → Reached profile cell lefts text to_come here (given_in block here.count) → here.at ≤ length text → state.at ≡ here.at → state.row ≡ here.row → state.ended ≡ 0
     → here.count ≤ length block → here.count ≡ room
     → Goes profile cell lefts text to_come state (given_in block here.count) here.count room
@@ -199,7 +199,7 @@ Goes-full profile cell lefts text to_come here state block room r within at_same
     }
 
 -- all were given, the text's end too
-pub Goes-ended : (profile : Profile) (cell : ℕ → Cell) (lefts : List Left) (text : List ℕ) (to_come : List Break) (here : Progress) (state : State) (before block : List RawBreak)
+pub Goes-ended : (profile : Profile) (cell : ℕ → Cell) (lefts : List Left) (text : List ℕ) (to_come : List Break) (here : FillState) (state : State) (before block : List RawBreak)
     (count room : ℕ)
     → Reached profile cell lefts text to_come here (given_in before here.count) → here.at ≡ length text → state.at ≡ here.at → state.ended ≡ 1
     → (0 < length text → given_in block count ≡ given_in before here.count ++ break_by (length text) end_of_text ∷ [])

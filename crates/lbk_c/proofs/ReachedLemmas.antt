@@ -14,7 +14,7 @@ use Rattle.lbk_rules.specs.Codes.{kind_numbered}
 use Rattle.lbk_steps.specs.FlatTable.{KnowsTaken}
 use Rattle.lbk_rules.specs.Verdict.{verdict_between_in}
 use Rattle.lbk_c.specs.declared.interface.RawBreak.{RawBreak}
-use Rattle.lbk_c.specs.declared.progress.Progress.{Progress}
+use Rattle.lbk_c.specs.declared.fill_state.FillState.{FillState}
 use Rattle.lbk_c.specs.Bytes.{with_break}
 use Rattle.lbk_c.specs.Reached.{Reached, onward}
 use Rattle.lbk_c.specs.Shown.{given_in, shown}
@@ -27,7 +27,7 @@ with_break-more at verdict more =
     [ true ↦ refl | false ↦ refl ]
 
 -- one more scalar
-pub Reached-step : (profile : Profile) (cell : ℕ → Cell) (lefts : List Left) (text : List ℕ) (all : List Break) (here there : Progress) (given after : List Break)
+pub Reached-step : (profile : Profile) (cell : ℕ → Cell) (lefts : List Left) (text : List ℕ) (all : List Break) (here there : FillState) (given after : List Break)
     (p : Decoded) (verdict : Verdict)
     → decoded (drop here.at text) ≡ p → here.at < length text → there.at ≡ here.at + p.size
     → ((taken : List ℕ) → KnowsTaken cell lefts here.row taken → KnowsTaken cell lefts there.row (taken ++ or_replacement p.char ∷ []))

@@ -16,7 +16,7 @@ use Rattle.lbk_steps.specs.Kinds.{kind_cell}
 use Rattle.lbk_rules.specs.Sides.{Side}
 use Rattle.lbk_steps.specs.Steps.{IsStart, left_at}
 use Rattle.lbk_rules.specs.Verdict.{verdict_between_in}
-use Rattle.lbk_c.specs.declared.progress.Progress.{Progress}
+use Rattle.lbk_c.specs.declared.fill_state.FillState.{FillState}
 use Rattle.lbk_steps.specs.declared.flat_table.TheConstants.{HELD}
 use Rattle.lbk_c.specs.declared.interface.State.{State}
 use Rattle.lbk_c.specs.Bytes.{with_break}
@@ -52,7 +52,7 @@ AreSwift profile lefts steps =
     → IsSwiftStep profile lefts (left_at lefts row) (kind_cell kind) (slice_index_or steps (row + kind) no_flat_step)
 
 -- of all breaks these were given, and the others come from here on
-pub record Reached (profile : Profile) (cell : ℕ → Cell) (lefts : List Left) (text : List ℕ) (all : List Break) (here : Progress) (given : List Break) : Type 0 where
+pub record Reached (profile : Profile) (cell : ℕ → Cell) (lefts : List Left) (text : List ℕ) (all : List Break) (here : FillState) (given : List Break) : Type 0 where
   pub taken : List ℕ
   pub knows : KnowsTaken cell lefts here.row taken
   pub none : here.at ≡ 0 → taken ≡ []
@@ -60,7 +60,7 @@ pub record Reached (profile : Profile) (cell : ℕ → Cell) (lefts : List Left)
   pub joined : all ≡ given ++ onward profile cell taken here.at (pieces (drop here.at text))
 
 -- where a state stands in a text
-abbrev pub from_state : State → Progress
+abbrev pub from_state : State → FillState
 from_state state = record { count = 0; row = state.row; at = state.at }
 
 -- from the state on these breaks come of this text, if it has not given all

@@ -16,7 +16,7 @@ ghost use Rattle.lbk_c.specs.State.{profile_numbered, start_in};
 
 use crate::filling::{fill, put};
 use crate::interface::{RawBreak, State};
-use crate::progress::Progress;
+use crate::fill_state::FillState;
 use lbk_rules::Profile;
 use lbk_steps::FlatTable;
 
@@ -90,7 +90,7 @@ fn go_on(
         → Goes profile cell lefts text.now to_come state.new (given_in out.new result) result (length out.old) }
     ensures no_room { length out.old ≡ 0 → (result ≡ 0) × (state.new ≡ state.old) }
 {
-    let start = Progress {
+    let start = FillState {
         count: 0,
         row: state.row as usize,
         at: state.at,

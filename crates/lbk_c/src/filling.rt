@@ -14,7 +14,7 @@ ghost use Rattle.lbk_c.specs.Shown.{given_in};
 use crate::ahead::code_ahead;
 use crate::decoding::{Width, scalar_of};
 use crate::interface::RawBreak;
-use crate::progress::Progress;
+use crate::fill_state::FillState;
 use crate::steps::{CODES, step_at, steps_of};
 use bstr::decode_lossy;
 use lbk_rules::Profile;
@@ -25,10 +25,10 @@ use lbk_steps::{FlatStep, FlatTable, HELD, STEPS};
 pub(crate) fn fill(
     table: &FlatTable,
     profile: Profile,
-    start: Progress,
+    start: FillState,
     text: &[u8],
     out: &mut [RawBreak],
-) -> Progress
+) -> FillState
     requires { (start.count ≤ length out.old) × (start.row < 65536) × (start.at ≤ length text.now) }
     ensures within { (result.count ≤ length out.old) × (result.row < 65536) × (result.at ≤ length text.now) }
     ensures stops { result.count < length out.old → result.at ≡ length text.now }
@@ -52,10 +52,10 @@ pub(crate) fn fill(
 fn quick(
     kinds: &[u8; CODES],
     steps: &[FlatStep; STEPS],
-    start: Progress,
+    start: FillState,
     text: &[u8],
     out: &mut [RawBreak],
-) -> Progress
+) -> FillState
     requires { (start.count ≤ length out.old) × (start.row < 65536) × (start.at ≤ length text.now) }
     ensures within { (result.count ≤ length out.old) × (result.row < 65536) × (result.at ≤ length text.now) }
     ensures onward { start.at ≤ result.at }
@@ -78,10 +78,10 @@ fn quick(
 fn runs(
     kinds: &[u8; CODES],
     steps: &[FlatStep; STEPS],
-    start: Progress,
+    start: FillState,
     text: &[u8],
     out: &mut [RawBreak],
-) -> Progress
+) -> FillState
     requires { (start.count ≤ length out.old) × (start.row < 65536) × (start.at ≤ length text.now) }
     ensures within { (result.count ≤ length out.old) × (result.row < 65536) × (result.at ≤ length text.now) }
     ensures onward { start.at ≤ result.at }
@@ -102,10 +102,10 @@ fn run(
     width: Width,
     kinds: &[u8; CODES],
     steps: &[FlatStep; STEPS],
-    start: Progress,
+    start: FillState,
     text: &[u8],
     out: &mut [RawBreak],
-) -> Progress
+) -> FillState
     requires { (start.count ≤ length out.old) × (start.row < 65536) × (start.at ≤ length text.now) }
     ensures within { (result.count ≤ length out.old) × (result.row < 65536) × (result.at ≤ length text.now) }
     ensures onward { start.at ≤ result.at }
@@ -129,17 +129,17 @@ fn run(
         row = step.next as usize;
         at += scalar.size;
     }
-    Progress { count, row, at }
+    FillState { count, row, at }
 }
 
 /// Takes one scalar, whatever it is, and writes the break before it.
 fn take_one(
     table: &FlatTable,
     profile: Profile,
-    here: Progress,
+    here: FillState,
     text: &[u8],
     out: &mut [RawBreak],
-) -> Progress
+) -> FillState
     requires { (here.count < length out.old) × (here.row < 65536) × (here.at < length text.now) }
     ensures within { (result.count ≤ length out.old) × (result.row < 65536) × (result.at ≤ length text.now) }
     ensures onward { here.at < result.at }
@@ -152,7 +152,7 @@ fn take_one(
     let code = code_ahead(table, profile, here.row, c, &rest[size..]);
     let step = step_at(&table.first, here.row, table.kinds[c as usize]);
     let count = put(out, here.count, here.at, code);
-    Progress {
+    FillState {
         count,
         row: step.next as usize,
         at: here.at + size,

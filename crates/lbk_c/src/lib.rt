@@ -12,7 +12,7 @@ mod faults;
 mod filling;
 mod interface;
 mod labels;
-mod progress;
+mod fill_state;
 mod reading;
 mod steps;
 

@@ -19,7 +19,7 @@ use Rattle.lbk_notation.specs.Replay.{IsEndedText, IsReplayText}
 use Rattle.lbk_notation.specs.ReplayText.{report_of, text_from, total_text}
 use Rattle.lbk_notation.specs.Stream.{cut_of, last_line}
 use Rattle.lbk_notation.proofs.Answered.{only_of}
-use Rattle.lbk_notation.proofs.ProgressLemmas.{text_from-append}
+use Rattle.lbk_notation.proofs.ReplayStateLemmas.{text_from-append}
 use Rattle.lbk_notation.proofs.StreamLemmas.{lines-more}
 
 no_lower : (form : Form) (bytes : List ℕ) (place other : ℕ) → IsPlace form bytes place → IsPlace form bytes other → place < other → ⊥

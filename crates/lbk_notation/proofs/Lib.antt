@@ -12,7 +12,7 @@ pub mod Markings
 pub mod Lengths
 pub mod FindingLemmas
 pub mod OutcomeLemmas
-pub mod ProgressLemmas
+pub mod ReplayStateLemmas
 pub mod RunLemmas
 pub mod StreamLemmas
 pub mod Worked

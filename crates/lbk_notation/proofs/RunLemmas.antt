@@ -13,14 +13,14 @@ use Rattle.lbk_notation.specs.declared.findings.Report.{Report}
 use Rattle.lbk_notation.specs.declared.findings.ReplayFault.{ReplayFault}
 use Rattle.lbk_notation.specs.declared.findings.ReplayFault.TheVariants.{Read, Write, Memory, StreamTooLong}
 use Rattle.lbk_notation.specs.declared.marks.Form.{Form}
-use Rattle.lbk_notation.specs.declared.progress.Progress.{Progress}
-use Rattle.lbk_notation.specs.Progress.{Ends, HasRead, Stands, StandsAtEnd, Uses, is_read_fault_of}
+use Rattle.lbk_notation.specs.declared.replay_state.ReplayState.{ReplayState}
+use Rattle.lbk_notation.specs.ReplayState.{Ends, HasRead, Stands, StandsAtEnd, Uses, is_read_fault_of}
 use Rattle.lbk_notation.specs.Replay.{IsEndedText, IsReplay, IsReplayText, IsReplayed, IsStoppedReplay, is_read_fault}
 use Rattle.lbk_notation.specs.ReplayText.{total_text}
 use Rattle.lbk_notation.specs.Stream.{longest_stream}
 
 -- what was written of the lines ended
-pub Stands-text : (cell : ℕ → Cell) (form : Form) (profile : Profile) (progress : Progress) (used out : List ℕ)
+pub Stands-text : (cell : ℕ → Cell) (form : Form) (profile : Profile) (progress : ReplayState) (used out : List ℕ)
     → Stands cell form profile progress used out → IsEndedText cell form profile used out
 Stands-text cell form profile progress used out stands = record { findings = stands.findings; are = stands.are; text = stands.text }
 
@@ -44,12 +44,12 @@ stopped-longer cell form profile ended read more out (at_end all n never text pu
 
 -- Bytes used one after another
 
-pub record UsesSoFar (cell : ℕ → Cell) (form : Form) (profile : Profile) (old new : Progress) (bytes : List ℕ) (written written' : Option (List ℕ)) : Type 0 where
+pub record UsesSoFar (cell : ℕ → Cell) (form : Form) (profile : Profile) (old new : ReplayState) (bytes : List ℕ) (written written' : Option (List ℕ)) : Type 0 where
   pub text : List ℕ
   pub put : Appends written written' text
   pub so : (used out : List ℕ) → Stands cell form profile old used out → Stands cell form profile new (used ++ bytes) (out ++ text)
 
-pub Uses-start : (cell : ℕ → Cell) (form : Form) (profile : Profile) (old : Progress) (written : Option (List ℕ))
+pub Uses-start : (cell : ℕ → Cell) (form : Form) (profile : Profile) (old : ReplayState) (written : Option (List ℕ))
     → UsesSoFar cell form profile old old [] written written
 Uses-start cell form profile old written = record {
   text = [];
@@ -60,7 +60,7 @@ Uses-start cell form profile old written = record {
 }
 
 -- one more byte
-pub Uses-more : (cell : ℕ → Cell) (form : Form) (profile : Profile) (old middle new : Progress) (bytes next : List ℕ) (byte : ℕ)
+pub Uses-more : (cell : ℕ → Cell) (form : Form) (profile : Profile) (old middle new : ReplayState) (bytes next : List ℕ) (byte : ℕ)
     (written between written' : Option (List ℕ)) (done : Unit {0}) → bytes ++ byte ∷ [] ≡ next
     → UsesSoFar cell form profile old middle bytes written between → Uses cell form profile middle new (byte ∷ []) between written' (Ok done)
     → UsesSoFar cell form profile old new next written written'
@@ -73,7 +73,7 @@ Uses-more cell form profile old middle new bytes next byte written between writt
       (last.so (used ++ bytes) (out ++ uses.text) (uses.so used out stands)));
 }
 
-pub Uses-all : (cell : ℕ → Cell) (form : Form) (profile : Profile) (old new : Progress) (bytes all : List ℕ) (written written' : Option (List ℕ))
+pub Uses-all : (cell : ℕ → Cell) (form : Form) (profile : Profile) (old new : ReplayState) (bytes all : List ℕ) (written written' : Option (List ℕ))
     (done : Unit {0}) → bytes ≡ all → UsesSoFar cell form profile old new bytes written written' → Uses cell form profile old new all written written' (Ok done)
 Uses-all cell form profile old new bytes all written written' done whole uses = record {
   text = uses.text;
@@ -82,7 +82,7 @@ Uses-all cell form profile old new bytes all written written' done whole uses = 
 }
 
 -- a byte at which it stopped
-pub Uses-stopped : (cell : ℕ → Cell) (form : Form) (profile : Profile) (old middle new : Progress) (bytes later all : List ℕ) (byte : ℕ)
+pub Uses-stopped : (cell : ℕ → Cell) (form : Form) (profile : Profile) (old middle new : ReplayState) (bytes later all : List ℕ) (byte : ℕ)
     (written between written' : Option (List ℕ)) (fault : ReplayFault) → all ≡ (bytes ++ byte ∷ []) ++ later
     → UsesSoFar cell form profile old middle bytes written between → Uses cell form profile middle new (byte ∷ []) between written' (Err fault)
     → Uses cell form profile old new all written written' (Err fault)
@@ -101,7 +101,7 @@ Uses-stopped cell form profile old middle new bytes later all byte written betwe
 -- One byte
 
 -- a refused growth: nothing was written
-pub Uses-refused : (cell : ℕ → Cell) (form : Form) (profile : Profile) (old new : Progress) (bytes : List ℕ) (written : Option (List ℕ)) (fault : ReplayFault)
+pub Uses-refused : (cell : ℕ → Cell) (form : Form) (profile : Profile) (old new : ReplayState) (bytes : List ℕ) (written : Option (List ℕ)) (fault : ReplayFault)
     → Uses cell form profile old new bytes written written (Err fault)
 Uses-refused cell form profile old new bytes written fault = record {
   text = [];
@@ -112,7 +112,7 @@ Uses-refused cell form profile old new bytes written fault = record {
 }
 
 -- a byte that ends no line
-pub Uses-silent : (cell : ℕ → Cell) (form : Form) (profile : Profile) (old new : Progress) (byte : ℕ) (written : Option (List ℕ)) (done : Unit {0})
+pub Uses-silent : (cell : ℕ → Cell) (form : Form) (profile : Profile) (old new : ReplayState) (byte : ℕ) (written : Option (List ℕ)) (done : Unit {0})
     → ((used out : List ℕ) → Stands cell form profile old used out → Stands cell form profile new (used ++ byte ∷ []) out)
     → Uses cell form profile old new (byte ∷ []) written written (Ok done)
 Uses-silent cell form profile old new byte written done step = record {
@@ -122,7 +122,7 @@ Uses-silent cell form profile old new byte written done step = record {
 }
 
 -- a byte that ended a line, which was written, or the front of which was
-pub Uses-put : (cell : ℕ → Cell) (form : Form) (profile : Profile) (old new : Progress) (byte : ℕ) (line : List ℕ) (written written' : Option (List ℕ))
+pub Uses-put : (cell : ℕ → Cell) (form : Form) (profile : Profile) (old new : ReplayState) (byte : ℕ) (line : List ℕ) (written written' : Option (List ℕ))
     (result : Result (Unit {0}) ReplayFault)
     → ((used out : List ℕ) → Stands cell form profile old used out → Stands cell form profile new (used ++ byte ∷ []) (out ++ line))
     → OnOk result (Appends written written' line) → (n : ℕ) × Appends written written' (take n line)
@@ -139,7 +139,7 @@ Uses-put cell form profile old new byte line written written' (Err fault) step p
 -- The end of the file
 
 -- nothing was written of the last line
-pub Ends-refused : (cell : ℕ → Cell) (form : Form) (profile : Profile) (old : Progress) (written : Option (List ℕ)) (fault : ReplayFault)
+pub Ends-refused : (cell : ℕ → Cell) (form : Form) (profile : Profile) (old : ReplayState) (written : Option (List ℕ)) (fault : ReplayFault)
     → Ends cell form profile old written written (Err fault)
 Ends-refused cell form profile old written fault = record {
   text = [];
@@ -150,7 +150,7 @@ Ends-refused cell form profile old written fault = record {
 }
 
 -- what is told at the end, with the line of the counts
-told : (cell : ℕ → Cell) (form : Form) (profile : Profile) (progress : Progress) (used out : List ℕ)
+told : (cell : ℕ → Cell) (form : Form) (profile : Profile) (progress : ReplayState) (used out : List ℕ)
     → StandsAtEnd cell form profile progress used out → IsReplayText cell form profile used progress.report (out ++ total_text progress.report)
 told cell form profile progress used out stands = record {
   findings = stands.findings;
@@ -160,7 +160,7 @@ told cell form profile progress used out stands = record {
 }
 
 -- `n` bytes of what the last line and the counts write
-stopped-at_end : (cell : ℕ → Cell) (form : Form) (profile : Profile) (progress : Progress) (used out text : List ℕ) (n : ℕ)
+stopped-at_end : (cell : ℕ → Cell) (form : Form) (profile : Profile) (progress : ReplayState) (used out text : List ℕ) (n : ℕ)
     → StandsAtEnd cell form profile progress used (out ++ text)
     → IsStoppedReplay cell form profile (Unit {0}) used (out ++ take n (text ++ total_text progress.report))
 stopped-at_end cell form profile progress used out text n stands =
@@ -175,7 +175,7 @@ take-front n xs ys =
     ∙ ap (take (length (take n xs))) (append_assoc (take n xs) (drop n xs) ys) ∙ take-append_seam (take n xs) (drop n xs ++ ys)
 
 -- a write of the last line failed, or the growth after it was refused: n bytes of it went out
-pub Ends-at_line : (cell : ℕ → Cell) (form : Form) (profile : Profile) (old new : Progress) (text : List ℕ) (n : ℕ) (written written' : Option (List ℕ))
+pub Ends-at_line : (cell : ℕ → Cell) (form : Form) (profile : Profile) (old new : ReplayState) (text : List ℕ) (n : ℕ) (written written' : Option (List ℕ))
     (fault : ReplayFault) → Appends written written' (take n text)
     → ((used out : List ℕ) → Stands cell form profile old used out → StandsAtEnd cell form profile new used (out ++ text))
     → Ends cell form profile old written written' (Err fault)
@@ -188,7 +188,7 @@ Ends-at_line cell form profile old new text n written written' fault put step = 
 }
 
 -- a write of the counts failed: n bytes of it went out
-pub Ends-at_counts : (cell : ℕ → Cell) (form : Form) (profile : Profile) (old new : Progress) (text : List ℕ) (n : ℕ) (written between written' : Option (List ℕ))
+pub Ends-at_counts : (cell : ℕ → Cell) (form : Form) (profile : Profile) (old new : ReplayState) (text : List ℕ) (n : ℕ) (written between written' : Option (List ℕ))
     (fault : ReplayFault) → Appends written between text → Appends between written' (take n (total_text new.report))
     → ((used out : List ℕ) → Stands cell form profile old used out → StandsAtEnd cell form profile new used (out ++ text))
     → Ends cell form profile old written written' (Err fault)
@@ -201,7 +201,7 @@ Ends-at_counts cell form profile old new text n written between written' fault f
 }
 
 -- all went out
-pub Ends-all : (cell : ℕ → Cell) (form : Form) (profile : Profile) (old new : Progress) (text : List ℕ) (report : Report) (written between written' : Option (List ℕ))
+pub Ends-all : (cell : ℕ → Cell) (form : Form) (profile : Profile) (old new : ReplayState) (text : List ℕ) (report : Report) (written between written' : Option (List ℕ))
     → report ≡ new.report → Appends written between text → Appends between written' (total_text new.report)
     → ((used out : List ℕ) → Stands cell form profile old used out → StandsAtEnd cell form profile new used (out ++ text))
     → Ends cell form profile old written written' (Ok report)
@@ -228,19 +228,19 @@ IsReplay-ended cell form profile ended StreamTooLong read out is = is
 IsReplay-ended cell form profile ended Write read out is = stopped-ended cell form profile ⊥ ended _ out (λ never. absurd never) is
 IsReplay-ended cell form profile ended Memory read out is = stopped-ended cell form profile ⊥ ended _ out (λ never. absurd never) is
 
-pub record ReadsSoFar (cell : ℕ → Cell) (form : Form) (profile : Profile) (progress : Progress) (unread unread' written written' : Option (List ℕ)) : Type 0 where
+pub record ReadsSoFar (cell : ℕ → Cell) (form : Form) (profile : Profile) (progress : ReplayState) (unread unread' written written' : Option (List ℕ)) : Type 0 where
   pub read : List ℕ
   pub out : List ℕ
   pub took : Consumes unread unread' read
   pub put : Appends written written' out
   pub stands : Stands cell form profile progress read out
 
-pub Reads-start : (cell : ℕ → Cell) (form : Form) (profile : Profile) (progress : Progress) (unread written : Option (List ℕ))
+pub Reads-start : (cell : ℕ → Cell) (form : Form) (profile : Profile) (progress : ReplayState) (unread written : Option (List ℕ))
     → Stands cell form profile progress [] [] → ReadsSoFar cell form profile progress unread unread written written
 Reads-start cell form profile progress unread written stands =
     record { read = []; out = []; took = Consumes-nil unread; put = Appends-nil written; stands = stands }
 
-pub Reads-more : (cell : ℕ → Cell) (form : Form) (profile : Profile) (middle new : Progress) (bytes : List ℕ)
+pub Reads-more : (cell : ℕ → Cell) (form : Form) (profile : Profile) (middle new : ReplayState) (bytes : List ℕ)
     (unread between unread' written between' written' : Option (List ℕ)) (done : Unit {0})
     → ReadsSoFar cell form profile middle unread between written between' → Consumes between unread' bytes
     → Uses cell form profile middle new bytes between' written' (Ok done) → ReadsSoFar cell form profile new unread unread' written written'
@@ -259,7 +259,7 @@ Took-failed (Some all) (Some rest) None read consumed kept = ((rest, consumed), 
 Took-failed (Some all) (Some rest) (Some left) read consumed kept = ((rest, consumed), ap (λ l. read ++ l) kept ∙ sym consumed)
 
 -- a read failed
-pub Ran-failed : (cell : ℕ → Cell) (form : Form) (profile : Profile) (progress : Progress) (unread between unread' written written' : Option (List ℕ))
+pub Ran-failed : (cell : ℕ → Cell) (form : Form) (profile : Profile) (progress : ReplayState) (unread between unread' written written' : Option (List ℕ))
     → ReadsSoFar cell form profile progress unread between written written' → KeepsIfTold between unread' → progress.taken ≤ longest_stream
     → Ran true unread unread' written written' (HasRead cell form profile (Err Read))
 Ran-failed cell form profile progress unread between unread' written written' reads kept few = record {
@@ -271,7 +271,7 @@ Ran-failed cell form profile progress unread between unread' written written' re
 }
 
 -- a read gave no byte
-pub Ran-ended : (cell : ℕ → Cell) (form : Form) (profile : Profile) (progress : Progress) (none : List ℕ) (unread between unread' written written' : Option (List ℕ))
+pub Ran-ended : (cell : ℕ → Cell) (form : Form) (profile : Profile) (progress : ReplayState) (none : List ℕ) (unread between unread' written written' : Option (List ℕ))
     → ReadsSoFar cell form profile progress unread between written written' → Consumes between unread' none → none ≡ []
     → Ran false unread unread' written written' (HasRead cell form profile (Ok progress))
 Ran-ended cell form profile progress none unread between unread' written written' reads consumed empty = record {
@@ -290,7 +290,7 @@ take-past n xs ys within =
     ap (λ m. take m (xs ++ ys)) (let e : n ≡ length xs + (n - length xs) = omega arith in e) ∙ take-append-add xs ys (n - length xs)
 
 -- more bytes were read than a file may have
-pub Ran-long : (cell : ℕ → Cell) (form : Form) (profile : Profile) (middle new : Progress) (bytes counted rest : List ℕ)
+pub Ran-long : (cell : ℕ → Cell) (form : Form) (profile : Profile) (middle new : ReplayState) (bytes counted rest : List ℕ)
     (unread between unread' written between' written' : Option (List ℕ)) (done : Unit {0})
     → ReadsSoFar cell form profile middle unread between written between' → Consumes between unread' bytes
     → Uses cell form profile middle new counted between' written' (Ok done) → bytes ≡ counted ++ rest → 0 < length rest
@@ -324,7 +324,7 @@ no_read fault (inl memory) = ap (λ f. is_read_fault_of (Err f)) memory
 no_read fault (inr write) = ap (λ f. is_read_fault_of (Err f)) write
 
 -- memory or the writer stopped the run
-pub Ran-stopped : (cell : ℕ → Cell) (form : Form) (profile : Profile) (middle new : Progress) (bytes counted rest : List ℕ)
+pub Ran-stopped : (cell : ℕ → Cell) (form : Form) (profile : Profile) (middle new : ReplayState) (bytes counted rest : List ℕ)
     (unread between unread' written between' written' : Option (List ℕ)) (fault : ReplayFault)
     → ReadsSoFar cell form profile middle unread between written between' → Consumes between unread' bytes
     → Uses cell form profile middle new counted between' written' (Err fault) → bytes ≡ counted ++ rest
@@ -366,7 +366,7 @@ Ran-fault cell form profile ended fault unread unread' written written' ran = re
   so = IsReplay-ended cell form profile ended fault ran.read ran.out ran.so;
 }
 
-end_of : (cell : ℕ → Cell) (form : Form) (profile : Profile) (ended : Type 0) (progress : Progress) (result : Result Report ReplayFault) (read out : List ℕ)
+end_of : (cell : ℕ → Cell) (form : Form) (profile : Profile) (ended : Type 0) (progress : ReplayState) (result : Result Report ReplayFault) (read out : List ℕ)
     → ended → length read ≤ longest_stream → IfErr result (λ fault. (fault ≡ Memory) ⊎ (fault ≡ Write))
     → MatchResult result (λ report. IsReplayText cell form profile read report out) (λ _. IsStoppedReplay cell form profile (Unit {0}) read out)
     → (is_read_fault result ≡ false) × IsReplay cell form profile ended result read out
@@ -379,7 +379,7 @@ end_of cell form profile ended progress (Err fault) read out is few only stopped
     )
 
 -- the file was read to its end
-pub Ran-finished : (cell : ℕ → Cell) (form : Form) (profile : Profile) (ended : Type 0) (progress : Progress) (result : Result Report ReplayFault)
+pub Ran-finished : (cell : ℕ → Cell) (form : Form) (profile : Profile) (ended : Type 0) (progress : ReplayState) (result : Result Report ReplayFault)
     (unread unread' written between written' : Option (List ℕ)) → ended → progress.taken ≤ longest_stream
     → IfErr result (λ fault. (fault ≡ Memory) ⊎ (fault ≡ Write))
     → Ran false unread unread' written between (HasRead cell form profile (Ok progress)) → Ends cell form profile progress between written' result

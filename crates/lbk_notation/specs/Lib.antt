@@ -16,4 +16,4 @@ pub mod Run
 pub mod Put
 pub mod Met
 pub mod Counted
-pub mod Progress
+pub mod ReplayState

@@ -2,14 +2,14 @@
 
 ghost use Rattle.std.specs.Prelude.{◌≡◌, ◌+◌, ◌<◌, ◌≤◌, ◌⊎◌, ℕ, List, [], ◌∷◌, length, take, IsTrue, IfSome, IfOk, IfErr, OnOk, IsErrOf};
 ghost use Rattle.std.specs.Io.KnownBytes.{Appends, IsAtEnd};
-ghost use Rattle.lbk_notation.specs.Progress.{Ends, HasRead, Uses, is_read_fault_of};
+ghost use Rattle.lbk_notation.specs.ReplayState.{Ends, HasRead, Uses, is_read_fault_of};
 ghost use Rattle.lbk_notation.specs.Replay.{IsReplay, IsReplayed, is_read_fault};
 ghost use Rattle.lbk_notation.specs.Stream.{longest_stream};
 ghost use Rattle.lbk_feed.specs.Runs.{HasFailed, Ran};
 
 use super::findings::{ReplayFault, Report};
 use super::marks::Form;
-use super::progress::Progress;
+use super::replay_state::ReplayState;
 use super::replayer::Replayer;
 use lbk_feed::{Sink, Source, write_all};
 use lbk_rules::Profile;
@@ -76,7 +76,7 @@ fn read_all<R: Source, W: Sink, C: CellSource>(
     reader: &mut R,
     writer: &mut W,
     replayer: &Replayer<C>,
-) -> Result<Progress, ReplayFault>
+) -> Result<ReplayState, ReplayFault>
     ensures run { Ran (is_read_fault_of result) (R.unread reader.old) (R.unread reader.new) (W.written writer.old) (W.written writer.new)
         (HasRead (C.cell_of replayer.now.cells.now) replayer.now.form replayer.now.profile result) }
     ensures ended { OnOk result (IsTrue (R.has_ended reader.new) × IsAtEnd (R.unread reader.new)) }
@@ -87,7 +87,7 @@ fn read_all<R: Source, W: Sink, C: CellSource>(
     ensures none_failed { OnOk result (W.failure_count writer.new ≡ W.failure_count writer.old) }
     ensures reads { R.read_count reader.new ≤ R.read_count reader.old + (longest_stream + 1) }
 {
-    let mut progress = Progress::new(alloc);
+    let mut progress = ReplayState::new(alloc);
     let mut block = [0u8; BLOCK];
     loop {
         let Ok(count) = reader.read(&mut block) else {
@@ -109,7 +109,7 @@ fn take_all<W: Sink, C: CellSource>(
     alloc: Global,
     writer: &mut W,
     replayer: &Replayer<C>,
-    progress: &mut Progress,
+    progress: &mut ReplayState,
     bytes: &[u8],
 ) -> Result<(), ReplayFault>
     requires { progress.old.taken + length bytes.now ≤ longest_stream }
@@ -132,7 +132,7 @@ fn take<W: Sink, C: CellSource>(
     alloc: Global,
     writer: &mut W,
     replayer: &Replayer<C>,
-    progress: &mut Progress,
+    progress: &mut ReplayState,
     byte: u8,
 ) -> Result<(), ReplayFault>
     requires { progress.old.taken < longest_stream }
@@ -157,7 +157,7 @@ fn finish<W: Sink, C: CellSource>(
     alloc: Global,
     writer: &mut W,
     replayer: &Replayer<C>,
-    progress: Progress,
+    progress: ReplayState,
 ) -> Result<Report, ReplayFault>
     ensures ends { Ends (C.cell_of replayer.now.cells.now) replayer.now.form replayer.now.profile progress
         (W.written writer.old) (W.written writer.new) result }

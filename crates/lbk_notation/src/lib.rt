@@ -13,7 +13,7 @@ mod marking;
 mod marks;
 mod outcome;
 mod passages;
-mod progress;
+mod replay_state;
 mod reader;
 mod reading;
 mod replayer;

@@ -7,7 +7,7 @@ use Rattle.lbk_notation.specs.declared.findings.Finding.{Finding}
 use Rattle.lbk_notation.specs.declared.findings.Report.{Report}
 use Rattle.lbk_notation.specs.declared.findings.ReplayFault.{ReplayFault}
 use Rattle.lbk_notation.specs.declared.findings.ReplayFault.TheVariants.{Read}
-use Rattle.lbk_notation.specs.declared.progress.Progress.{Progress}
+use Rattle.lbk_notation.specs.declared.replay_state.ReplayState.{ReplayState}
 use Rattle.lbk_notation.specs.declared.marks.Form.{Form}
 use Rattle.lbk_notation.specs.Fault.{longest}
 use Rattle.lbk_notation.specs.Counted.{counted}
@@ -22,7 +22,7 @@ Holds rest line false = (line ≡ rest) × (length rest ≤ longest)
 Holds rest line true = longest < length rest
 
 -- the bytes used so far, and what was written of the lines that they end
-pub record Stands (cell : ℕ → Cell) (form : Form) (profile : Profile) (progress : Progress) (used out : List ℕ) : Type 0 where
+pub record Stands (cell : ℕ → Cell) (form : Form) (profile : Profile) (progress : ReplayState) (used out : List ℕ) : Type 0 where
   pub taken : progress.taken ≡ length used
   pub held : Holds (cut_of used).rest progress.line.items progress.is_long
   pub findings : List Finding
@@ -32,14 +32,14 @@ pub record Stands (cell : ℕ → Cell) (form : Form) (profile : Profile) (progr
   pub text : out ≡ text_from form 1 findings
 
 -- all lines of the file are told, but for the counts
-pub record StandsAtEnd (cell : ℕ → Cell) (form : Form) (profile : Profile) (progress : Progress) (used out : List ℕ) : Type 0 where
+pub record StandsAtEnd (cell : ℕ → Cell) (form : Form) (profile : Profile) (progress : ReplayState) (used out : List ℕ) : Type 0 where
   pub findings : List Finding
   pub are : AreFindings cell form profile (lines_of used) findings
   pub counts : progress.report ≡ report_of findings
   pub text : out ≡ text_from form 1 findings
 
 -- a line was ended, and came to a finding
-pub record Settles (cell : ℕ → Cell) (form : Form) (profile : Profile) (old new : Progress) : Type 0 where
+pub record Settles (cell : ℕ → Cell) (form : Form) (profile : Profile) (old new : ReplayState) : Type 0 where
   pub finding : Finding
   pub found : (rest : List ℕ) → Holds rest old.line.items old.is_long → IsFinding cell form profile rest finding
   pub line : new.line.items ≡ []
@@ -50,7 +50,7 @@ pub record Settles (cell : ℕ → Cell) (form : Form) (profile : Profile) (old 
   pub text : new.text.items ≡ finding_text form (old.number + 1) finding
 
 -- what a call that uses some bytes writes
-pub record Uses (cell : ℕ → Cell) (form : Form) (profile : Profile) (old new : Progress) (bytes : List ℕ)
+pub record Uses (cell : ℕ → Cell) (form : Form) (profile : Profile) (old new : ReplayState) (bytes : List ℕ)
     (written written' : Option (List ℕ)) (result : Result Unit ReplayFault) : Type 0 where
   pub text : List ℕ
   pub put : Appends written written' text
@@ -59,7 +59,7 @@ pub record Uses (cell : ℕ → Cell) (form : Form) (profile : Profile) (old new
       (λ _. IsStoppedReplay cell form profile ⊥ (used ++ bytes) (out ++ text))
 
 -- what the call that ends the file writes
-pub record Ends (cell : ℕ → Cell) (form : Form) (profile : Profile) (old : Progress) (written written' : Option (List ℕ))
+pub record Ends (cell : ℕ → Cell) (form : Form) (profile : Profile) (old : ReplayState) (written written' : Option (List ℕ))
     (result : Result Report ReplayFault) : Type 0 where
   pub text : List ℕ
   pub put : Appends written written' text
@@ -67,11 +67,11 @@ pub record Ends (cell : ℕ → Cell) (form : Form) (profile : Profile) (old : P
       → MatchResult result (λ report. IsReplayText cell form profile used report (out ++ text))
       (λ _. IsStoppedReplay cell form profile (Unit {0}) used (out ++ text))
 
-abbrev pub is_read_fault_of : Result Progress ReplayFault → Bool
+abbrev pub is_read_fault_of : Result ReplayState ReplayFault → Bool
 is_read_fault_of (Err Read) = true
 is_read_fault_of _ = false
 
 -- what was read to the end of the stream, or to a fault, and written of it
-abbrev pub HasRead : (ℕ → Cell) → Form → Profile → Result Progress ReplayFault → List ℕ → List ℕ → Type 0
+abbrev pub HasRead : (ℕ → Cell) → Form → Profile → Result ReplayState ReplayFault → List ℕ → List ℕ → Type 0
 HasRead cell form profile (Ok progress) read out = Stands cell form profile progress read out
 HasRead cell form profile (Err fault) read out = IsReplay cell form profile ⊥ (Err fault) read out

@@ -1,6 +1,6 @@
 use Rattle.std.proofs.lemmas.Result.{on_ok_weaker}
-use Rattle.lbk_notation.proofs.ProgressLemmas.{StandsAtEnd-held}
-use Rattle.lbk_notation.proofs.progress.Progress.end_last.Goals as goal
+use Rattle.lbk_notation.proofs.ReplayStateLemmas.{StandsAtEnd-held}
+use Rattle.lbk_notation.proofs.replay_state.ReplayState.end_last.Goals as goal
 
 pub returns-clause-stands : goal.returns-clause-stands
 returns-clause-stands g c = λ used out stands.

@@ -1,6 +1,6 @@
 use Rattle.std.proofs.Common.{refl, sym, ◌∙◌, arith}
-use Rattle.lbk_notation.proofs.ProgressLemmas.{Stands-add, Holds-long, Holds-passed, Holds-mark, Holds-more}
-use Rattle.lbk_notation.proofs.progress.Progress.add.Goals as goal
+use Rattle.lbk_notation.proofs.ReplayStateLemmas.{Stands-add, Holds-long, Holds-passed, Holds-mark, Holds-more}
+use Rattle.lbk_notation.proofs.replay_state.ReplayState.add.Goals as goal
 
 pub returns-then-self-clause-stands : goal.returns-then-self-clause-stands
 returns-then-self-clause-stands c = λ cell form profile used out stands.

@@ -9,17 +9,17 @@ use Rattle.lbk_notation.specs.declared.findings.Finding.TheVariants.{NoLine, Rep
 use Rattle.lbk_notation.specs.declared.findings.Outcome.TheVariants.{Agree, Differ}
 use Rattle.lbk_notation.specs.declared.findings.Report.{Report}
 use Rattle.lbk_notation.specs.declared.marks.Form.{Form}
-use Rattle.lbk_notation.specs.declared.progress.Progress.{Progress}
+use Rattle.lbk_notation.specs.declared.replay_state.ReplayState.{ReplayState}
 use Rattle.lbk_notation.specs.Counted.{counted}
 use Rattle.lbk_notation.specs.Fault.{longest}
 use Rattle.lbk_notation.specs.Findings.{AreFindings, IsFinding}
-use Rattle.lbk_notation.specs.Progress.{Holds, Settles, Stands, StandsAtEnd}
+use Rattle.lbk_notation.specs.ReplayState.{Holds, Settles, Stands, StandsAtEnd}
 use Rattle.lbk_notation.specs.ReplayText.{finding_text, has_agreed, has_differed, is_refused, report_of, text_from}
 use Rattle.lbk_notation.specs.Stream.{byte_order_mark, cut_of, ended_lines, last_line}
 use Rattle.lbk_notation.proofs.StreamLemmas.{cut-end, is_mark, lines-add, mark_completed, mark_held, rest-add, rest-mark, is_mark-mark}
 
 -- a byte that ends no line, once it is known what is held then
-pub Stands-add : (cell : ℕ → Cell) (form : Form) (profile : Profile) (old new : Progress) (used out : List ℕ) (byte : ℕ) → byte ≢ 10
+pub Stands-add : (cell : ℕ → Cell) (form : Form) (profile : Profile) (old new : ReplayState) (used out : List ℕ) (byte : ℕ) → byte ≢ 10
     → new.taken ≡ old.taken + 1 → new.number ≡ old.number → new.report ≡ old.report
     → Holds (cut_of (used ++ byte ∷ [])).rest new.line.items new.is_long
     → Stands cell form profile old used out → Stands cell form profile new (used ++ byte ∷ []) out
@@ -136,7 +136,7 @@ report_of-snoc findings finding =
 -- a line was judged, counted and its text put behind what was written
 
 pub AreFindings-settled : (cell : ℕ → Cell) (form : Form) (profile : Profile) (lines : List (List ℕ)) (rest : List ℕ) (findings : List Finding)
-    (old new : Progress) → (settles : Settles cell form profile old new) → AreFindings cell form profile lines findings
+    (old new : ReplayState) → (settles : Settles cell form profile old new) → AreFindings cell form profile lines findings
     → Holds rest old.line.items old.is_long → AreFindings cell form profile (lines ++ rest ∷ []) (findings ++ settles.finding ∷ [])
 AreFindings-settled cell form profile lines rest findings old new settles are held =
     AreFindings-snoc cell form profile lines findings rest settles.finding are (settles.found rest held)
@@ -149,7 +149,7 @@ text-settled form findings finding number out text count before now =
     ∙ sym (text_from-snoc form 1 findings finding)
 
 -- an LF that ends a line; `counts` is the state once it was counted
-pub Stands-end : (cell : ℕ → Cell) (form : Form) (profile : Profile) (old counts new : Progress) (used out : List ℕ)
+pub Stands-end : (cell : ℕ → Cell) (form : Form) (profile : Profile) (old counts new : ReplayState) (used out : List ℕ)
     → counts.taken ≡ old.taken + 1 → counts.line ≡ old.line → counts.is_long ≡ old.is_long → counts.number ≡ old.number → counts.report ≡ old.report
     → Settles cell form profile counts new → Stands cell form profile old used out
     → Stands cell form profile new (used ++ 10 ∷ []) (out ++ new.text.items)
@@ -174,7 +174,7 @@ last_line-some [] some = absurd (omega arith)
 last_line-some (byte ∷ rest) some = refl
 
 -- the last line of a file, which no LF ended
-pub StandsAtEnd-last : (cell : ℕ → Cell) (form : Form) (profile : Profile) (old new : Progress) (used out : List ℕ) → 0 < length (cut_of used).rest
+pub StandsAtEnd-last : (cell : ℕ → Cell) (form : Form) (profile : Profile) (old new : ReplayState) (used out : List ℕ) → 0 < length (cut_of used).rest
     → Settles cell form profile old new → Stands cell form profile old used out → StandsAtEnd cell form profile new used (out ++ new.text.items)
 StandsAtEnd-last cell form profile old new used out some settles stands =
     record {
@@ -187,7 +187,7 @@ StandsAtEnd-last cell form profile old new used out some settles stands =
     }
 
 -- a file whose last line an LF ended, or that has none
-pub StandsAtEnd-none : (cell : ℕ → Cell) (form : Form) (profile : Profile) (old new : Progress) (used out text : List ℕ) → (cut_of used).rest ≡ []
+pub StandsAtEnd-none : (cell : ℕ → Cell) (form : Form) (profile : Profile) (old new : ReplayState) (used out text : List ℕ) → (cut_of used).rest ≡ []
     → new.report ≡ old.report → text ≡ [] → Stands cell form profile old used out → StandsAtEnd cell form profile new used (out ++ text)
 StandsAtEnd-none cell form profile old new used out text none report empty stands = record {
   findings = stands.findings;
@@ -203,7 +203,7 @@ Holds-some rest line false held (inl long) = absurd (false≢true long)
 Holds-some rest line false held (inr some) = rw (← held.0) some
 
 -- the last line of a file, once it is known that there is one
-pub StandsAtEnd-held : (cell : ℕ → Cell) (form : Form) (profile : Profile) (old new : Progress) (used out : List ℕ)
+pub StandsAtEnd-held : (cell : ℕ → Cell) (form : Form) (profile : Profile) (old new : ReplayState) (used out : List ℕ)
     → (old.is_long ≡ true) ⊎ (0 < length old.line.items) → Settles cell form profile old new → Stands cell form profile old used out
     → StandsAtEnd cell form profile new used (out ++ new.text.items)
 StandsAtEnd-held cell form profile old new used out some settles stands =

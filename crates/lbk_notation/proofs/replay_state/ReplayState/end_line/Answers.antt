@@ -1,7 +1,7 @@
 use Rattle.std.proofs.Common.{refl}
 use Rattle.std.proofs.lemmas.Result.{on_ok_weaker}
-use Rattle.lbk_notation.proofs.ProgressLemmas.{Stands-end}
-use Rattle.lbk_notation.proofs.progress.Progress.end_line.Goals as goal
+use Rattle.lbk_notation.proofs.ReplayStateLemmas.{Stands-end}
+use Rattle.lbk_notation.proofs.replay_state.ReplayState.end_line.Goals as goal
 
 pub returns-clause-stands : goal.returns-clause-stands
 returns-clause-stands g c = λ used out stands.

@@ -16,7 +16,7 @@ const MARK: [u8; 3] = [0xEF, 0xBB, 0xBF];
 
 /// The state of a replay, which holds at most one line of the file.
 #[derive(Drop)]
-pub struct Progress {
+pub struct ReplayState {
     // The bytes behind the last LF, unless they are too many for a line.
     line: Vec<u8>,
     is_long: bool,
@@ -34,22 +34,22 @@ pub struct Progress {
     ghost sum: { report.agreed + report.differed + report.refused ≡ report.lines },
 }
 
-impl Progress {
+impl ReplayState {
     ghost use Rattle.lbk_rules.specs.declared.cells.Cell.{Cell};
     ghost use Rattle.lbk_values.specs.declared.profile.Profile.{Profile};
     ghost use Rattle.lbk_notation.specs.declared.marks.Form.{Form};
     ghost use Rattle.lbk_notation.specs.Fault.{HasMarks};
     ghost use Rattle.lbk_notation.specs.Findings.{IsFinding};
-    ghost use Rattle.lbk_notation.specs.Progress.{Holds, Settles, Stands, StandsAtEnd};
+    ghost use Rattle.lbk_notation.specs.ReplayState.{Holds, Settles, Stands, StandsAtEnd};
     ghost use Rattle.lbk_notation.specs.ReplayText.{total_text};
     ghost use Rattle.lbk_notation.specs.Stream.{byte_order_mark};
 
     /// Nothing is taken yet.
-    pub fn new(alloc: Global) -> Progress
+    pub fn new(alloc: Global) -> ReplayState
         ensures stands { (cell : ℕ → Cell) (form : Form) (profile : Profile) → Stands cell form profile result [] [] }
         ensures taken { result.taken ≡ 0 }
     {
-        Progress {
+        ReplayState {
             line: Vec::new(alloc),
             is_long: false,
             text: Vec::new(alloc),

@@ -1,6 +1,6 @@
 use Rattle.std.proofs.Common.{[], refl, arith}
 use Rattle.lbk_notation.specs.Stream.{cut_of}
-use Rattle.lbk_notation.proofs.progress.Progress.new.Goals as goal
+use Rattle.lbk_notation.proofs.replay_state.ReplayState.new.Goals as goal
 
 pub returns-clause-stands : goal.returns-clause-stands
 unfolding cut_of

@@ -2,7 +2,7 @@
 
 /// How far a call has come.
 #[derive(Clone, Copy)]
-pub(crate) struct Progress {
+pub(crate) struct FillState {
     /// How many breaks stand in the front of the block.
     pub(crate) count: usize,
     /// The place of the table's row that knows of what was taken.
