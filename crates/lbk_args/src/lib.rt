@@ -4,7 +4,7 @@
 pub mod laws;
 mod options;
 mod order;
-mod reading;
+mod parsing;
 
 pub use order::{Engine, FileName, FileNames, Order, WordsFault};
-pub use reading::{DEFAULT_LIMIT, parse};
+pub use parsing::{DEFAULT_LIMIT, parse};

@@ -13,10 +13,10 @@ mod filling;
 mod interface;
 mod labels;
 mod fill_state;
-mod reading;
+mod table_reading;
 mod steps;
 
 pub use breaking::lbk_breaks;
 pub use interface::{Fault, RawBreak, RuleLabel, State};
 pub use labels::lbk_label;
-pub use reading::{lbk_check, lbk_read};
+pub use table_reading::{lbk_check, lbk_read};

@@ -6,7 +6,7 @@ ghost use Rattle.lbk_notation.specs.Fault.{longest};
 ghost use Rattle.lbk_notation.specs.Stream.{longest_stream};
 
 use super::findings::{Finding, ReplayFault, Report, STREAM_MAX};
-use super::reading::LONGEST;
+use super::line_reading::LONGEST;
 use super::replayer::Replayer;
 use super::rows::{push_finding, push_total};
 use lbk_steps::CellSource;

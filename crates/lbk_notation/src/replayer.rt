@@ -8,7 +8,7 @@ use super::fault::LineFault;
 use super::findings::{Finding, ReplayFault};
 use super::marks::Form;
 use super::outcome::replay_line;
-use super::reading::read_line;
+use super::line_reading::read_line;
 use lbk_rules::Profile;
 use lbk_steps::CellSource;
 use std::alloc::Global;

@@ -16,7 +16,7 @@ ghost use Rattle.lbk_rules.specs.declared.verdicts.Verdict.{Verdict};
 use super::fault::LineFault;
 use super::line::TestLine;
 use super::marks::Form;
-use super::reading::read_line;
+use super::line_reading::read_line;
 use super::writing::write_line;
 use std::alloc::Global;
 

@@ -2,7 +2,7 @@ use Rattle.std.proofs.Common.{◌∙◌, codes}
 use Rattle.clap.specs.Words.{found_of, one_of, rows_of}
 use Rattle.clap.proofs.WalkLemmas.{one_text-rows}
 use Rattle.lbk_args.proofs.Values.{flag_read}
-use Rattle.lbk_args.proofs.reading.kinds.Goals as goal
+use Rattle.lbk_args.proofs.parsing.kinds.Goals as goal
 
 pub returns : goal.returns
 returns c =

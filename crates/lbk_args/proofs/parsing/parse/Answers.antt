@@ -8,7 +8,7 @@ use Rattle.lbk_args.specs.Accepted.{unnamed_fault}
 use Rattle.lbk_args.specs.Task.{task_by, task_of}
 use Rattle.lbk_args.proofs.Found.{asked, found_pair, not_none, only_memory, refused_by, some_same, unnamed_only, widened}
 use Rattle.lbk_args.proofs.Plain.{Performs, performs, plain_performs}
-use Rattle.lbk_args.proofs.reading.parse.Goals as goal
+use Rattle.lbk_args.proofs.parsing.parse.Goals as goal
 
 -- the command line is one of clap's simple ones
 simple : is_simple lbk_app ≡ true

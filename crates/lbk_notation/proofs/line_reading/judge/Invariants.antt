@@ -1,6 +1,6 @@
 use Rattle.std.proofs.Common.{◌+◌, ◌≤◌}
 use Rattle.lbk_notation.proofs.JudgeLemmas.{Counted}
-use Rattle.lbk_notation.proofs.reading.judge.Given as goal
+use Rattle.lbk_notation.proofs.line_reading.judge.Given as goal
 
 -- what was counted is what the run of the whole line holds
 abbrev pub invariant-loop-place : goal.invariant-loop-place

@@ -3,7 +3,7 @@ use Rattle.std.specs.Str.Parse.{ExplainsUnsignedError, HasUnsignedDigitsIfOk, Pa
 use Rattle.clap.specs.Words.{found_of, one_of, rows_of}
 use Rattle.clap.proofs.WalkLemmas.{one_text-rows}
 use Rattle.lbk_args.proofs.Values.{number_read}
-use Rattle.lbk_args.proofs.reading.number.Goals as goal
+use Rattle.lbk_args.proofs.parsing.number.Goals as goal
 
 pub returns : goal.returns
 returns c =

@@ -1,8 +1,8 @@
 use Rattle.std.proofs.Common.{◌∙◌, sym, ap, arith}
 use Rattle.lbk_notation.specs.Run.{step_of}
 use Rattle.lbk_notation.proofs.JudgeLemmas.{Counted-on, Counted-scalar, Counted-mark}
-use Rattle.lbk_notation.proofs.reading.judge.Goals as goal
-use Rattle.lbk_notation.proofs.reading.judge.Goals.{in-On, in-OneScalar, in-OneMark}
+use Rattle.lbk_notation.proofs.line_reading.judge.Goals as goal
+use Rattle.lbk_notation.proofs.line_reading.judge.Goals.{in-On, in-OneScalar, in-OneMark}
 
 pub loop-place-preserved : goal.loop-place-preserved
 loop-place-preserved c =

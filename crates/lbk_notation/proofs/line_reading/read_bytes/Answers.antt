@@ -2,8 +2,8 @@ use Rattle.std.proofs.Common.{◌≡◌, ◌∙◌, sym, ap, get_or}
 use Rattle.lbk_notation.specs.Run.{step_of, sort_of}
 use Rattle.lbk_notation.specs.declared.reader.Taken.TheVariants.{On, OneScalar, OneMark}
 use Rattle.lbk_notation.proofs.Runs.{step_kept}
-use Rattle.lbk_notation.proofs.reading.read_bytes.Goals as goal
-use Rattle.lbk_notation.proofs.reading.read_bytes.Goals.{in-On, in-OneScalar+in_ok-push-in-OneScalar, in-OneMark+in_ok-push-in-OneMark}
+use Rattle.lbk_notation.proofs.line_reading.read_bytes.Goals as goal
+use Rattle.lbk_notation.proofs.line_reading.read_bytes.Goals.{in-On, in-OneScalar+in_ok-push-in-OneScalar, in-OneMark+in_ok-push-in-OneMark}
 
 pub loop-place-preserved : goal.loop-place-preserved
 loop-place-preserved c =

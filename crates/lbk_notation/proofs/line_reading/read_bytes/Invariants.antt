@@ -1,6 +1,6 @@
 use Rattle.std.proofs.Common.{◌≡◌, drop}
 use Rattle.lbk_notation.specs.Run.{run, run_line, IsGood}
-use Rattle.lbk_notation.proofs.reading.read_bytes.Given as goal
+use Rattle.lbk_notation.proofs.line_reading.read_bytes.Given as goal
 
 -- the run over the bytes left, from what was read so far, is that of the whole line
 abbrev pub invariant-loop-place : goal.invariant-loop-place

@@ -1,7 +1,7 @@
 use Rattle.std.proofs.Common.{◌∙◌}
 use Rattle.lbk_notation.proofs.Answered.{answered_found, answered_only, answered_fault, only, refused}
 use Rattle.lbk_notation.proofs.Sound.{sound}
-use Rattle.lbk_notation.proofs.reading.read_line.Goals as goal
+use Rattle.lbk_notation.proofs.line_reading.read_line.Goals as goal
 
 pub returns-in-Ok-read-clause-found : goal.returns-in-Ok-read-clause-found
 returns-in-Ok-read-clause-found c = sound c.args.form c.args.bytes.now c.in-Ok-read.line (c.in-Ok.ensures ∙ c.in-Ok-read.is)
