@@ -12,7 +12,7 @@ use Rattle.lbk_passage.specs.Marks.{Marked, scalars_of, text_of}
 use Rattle.lbk_passage.specs.Passages.{passages}
 use Rattle.lbk_passage.proofs.Together.{passages-scalars}
 use Rattle.lbk_feed.specs.Text.{greatest_limit}
-use Rattle.lbk_notation.specs.Line.{Line}
+use Rattle.lbk_notation.specs.TestLine.{Line}
 use Rattle.lbk_files.specs.Cells.{AreCellsOf}
 use Rattle.lbk_cmd.specs.Acts.{Shows}
 use Rattle.lbk_cmd.specs.Broken.{IsBreakFault, IsBroken}

@@ -3,7 +3,7 @@ use Rattle.std.proofs.Common.{◌≡◌, ℕ, ◌+◌, List, [], ◌∷◌, ◌+
 use Rattle.std.specs.List.{flat_map}
 use Rattle.std.proofs.lemmas.List.{length-map}
 use Rattle.lbk_passage.specs.Marks.{Marked, scalars_of, text_of}
-use Rattle.lbk_notation.specs.Line.{Line}
+use Rattle.lbk_notation.specs.TestLine.{Line}
 use Rattle.lbk_notation.specs.Stream.{HasNoLineEnd}
 use Rattle.lbk_notation.proofs.Lengths.{one_line}
 use Rattle.lbk_cmd.specs.Broken.{said}

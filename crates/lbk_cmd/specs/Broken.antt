@@ -5,7 +5,7 @@ use Rattle.lbk_ucd.specs.declared.tables.Files.{Files}
 use Rattle.lbk_rules.specs.declared.cells.Cell.{Cell}
 use Rattle.lbk_values.specs.declared.profile.Profile.{Profile}
 use Rattle.lbk_passage.specs.Marks.{Marked, scalars_of}
-use Rattle.lbk_notation.specs.Line.{Line}
+use Rattle.lbk_notation.specs.TestLine.{Line}
 use Rattle.lbk_notation.specs.Shown.{passage_marks}
 use Rattle.lbk_files.specs.Cells.{AreCellsOf}
 use Rattle.lbk_files.specs.CellsRefusal.{IsCellsRefusal}

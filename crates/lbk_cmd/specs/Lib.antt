@@ -14,4 +14,4 @@ pub mod Broken
 pub mod Deciding
 pub mod Signing
 pub mod ReadBack
-pub mod Line
+pub mod OutputLine

@@ -4,7 +4,7 @@ use Rattle.std.specs.Char.{IsScalar}
 use Rattle.std.specs.List.{AllByRecursion, flat_map}
 use Rattle.lbk_feed.specs.Text.{greatest_limit}
 use Rattle.lbk_passage.specs.Marks.{Marked, scalars_of, text_of}
-use Rattle.lbk_notation.specs.Line.{Line}
+use Rattle.lbk_notation.specs.TestLine.{Line}
 use Rattle.lbk_notation.specs.Shown.{passage_line}
 use Rattle.lbk_cmd.specs.Broken.{said}
 use Rattle.lbk_cmd.specs.Run.{Engine, IsWhole}

@@ -7,7 +7,7 @@ mod ending;
 mod engine;
 mod faults;
 pub mod laws;
-mod line;
+mod output_line;
 mod message;
 mod segmented;
 mod shown;

@@ -2,10 +2,10 @@
 
 ghost use Rattle.std.specs.Prelude.{◌≡◌, ◌+◌, ◌<◌, ◌≤◌, ◌^◌, ◌++◌, ◌∷◌, [], length, OnOk};
 ghost use Rattle.std.specs.List.{flat_map};
-ghost use Rattle.lbk_cmd.specs.Line.{written};
+ghost use Rattle.lbk_cmd.specs.OutputLine.{written};
 ghost use Rattle.lbk_cmd.specs.Segment.{kind_name, part, passage_lines, segment_line, word_line};
 
-use crate::line::Line;
+use crate::output_line::Line;
 use lbk_passage::{Passage, Piece, Segment};
 use lbk_rules::Kind;
 use std::alloc::AllocError;

@@ -5,7 +5,7 @@ use Rattle.lbk_notation.specs.declared.fault.LineFault.TheVariants.{LineTooLong,
 use Rattle.lbk_notation.specs.declared.marks.Form.{Form}
 use Rattle.lbk_notation.specs.Fault.{IsFault, longest}
 use Rattle.lbk_notation.specs.Grammar.{IsLine}
-use Rattle.lbk_notation.specs.Line.{Line}
+use Rattle.lbk_notation.specs.TestLine.{Line}
 use Rattle.lbk_notation.specs.Run.{run_line, IsRunFault}
 use Rattle.lbk_notation.proofs.Completes.{complete}
 use Rattle.lbk_notation.proofs.Sound.{sound}

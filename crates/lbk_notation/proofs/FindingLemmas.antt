@@ -12,7 +12,7 @@ use Rattle.lbk_notation.specs.declared.findings.Report.{Report}
 use Rattle.lbk_notation.specs.declared.marks.Form.{Form}
 use Rattle.lbk_notation.specs.declared.marks.Mark.{Mark}
 use Rattle.lbk_notation.specs.Findings.{AreFindings, IsFinding}
-use Rattle.lbk_notation.specs.Line.{Line}
+use Rattle.lbk_notation.specs.TestLine.{Line}
 use Rattle.lbk_notation.specs.Outcome.{Agrees, AgreesAt, IsFirstDifference, IsOutcome}
 use Rattle.lbk_notation.specs.Place.{IsPlace}
 use Rattle.lbk_notation.specs.Replay.{IsEndedText, IsReplayText}

@@ -7,7 +7,7 @@ use Rattle.lbk_notation.specs.declared.marks.Mark.{Mark}
 use Rattle.lbk_notation.specs.declared.reader.State.{State}
 use Rattle.lbk_notation.specs.declared.reader.State.TheVariants.{Start, Marked, Coded}
 use Rattle.lbk_notation.specs.declared.reader.Taken.TheVariants.{Dead, On, OneScalar, OneMark}
-use Rattle.lbk_notation.specs.Line.{Line, made}
+use Rattle.lbk_notation.specs.TestLine.{Line, made}
 use Rattle.lbk_notation.specs.Run.{can_end, IsGood, run, run_line, step_of, sort_of}
 use Rattle.lbk_notation.proofs.Completes.{made-some}
 use Rattle.lbk_notation.proofs.Runs.{step_kept}

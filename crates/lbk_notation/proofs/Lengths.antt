@@ -16,7 +16,7 @@ use Rattle.lbk_notation.specs.declared.marks.Mark.{Mark}
 use Rattle.lbk_notation.specs.declared.marks.Mark.TheVariants.{No, May, Must}
 use Rattle.lbk_notation.specs.Fault.{IsFault, longest}
 use Rattle.lbk_notation.specs.Grammar.{digit_byte, mark_bytes, token_bytes, IsAfter, last, IsLine}
-use Rattle.lbk_notation.specs.Line.{Line}
+use Rattle.lbk_notation.specs.TestLine.{Line}
 use Rattle.lbk_notation.specs.Marked.{mark_of}
 use Rattle.lbk_notation.specs.Shown.{written_labels, passage_line, passage_marks}
 use Rattle.lbk_notation.specs.Written.{shown, shown_line, digits_of, token, written_after, written_line, written_marks}

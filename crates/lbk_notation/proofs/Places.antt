@@ -8,7 +8,7 @@ use Rattle.lbk_notation.specs.declared.reader.State.{State}
 use Rattle.lbk_notation.specs.declared.reader.State.TheVariants.{Start, Half, Marked, Spaced, Digits, Coded, Comment, Ended}
 use Rattle.lbk_notation.specs.declared.reader.Taken.{Taken}
 use Rattle.lbk_notation.specs.declared.reader.Taken.TheVariants.{Dead, On, OneScalar, OneMark}
-use Rattle.lbk_notation.specs.Line.{Line, made}
+use Rattle.lbk_notation.specs.TestLine.{Line, made}
 use Rattle.lbk_notation.specs.Place.{IsBytes, IsViable, IsOutside, IsPlace}
 use Rattle.lbk_notation.specs.Run.{IsGood, IsOpen, step_of, sort_of, takes_digit, is_scalar, can_end, run, run_line}
 use Rattle.lbk_notation.proofs.Completes.{Gives, take_byte, token_off, digit_on, marked, complete}

@@ -11,7 +11,7 @@ use Rattle.lbk_notation.specs.declared.reader.State.{State}
 use Rattle.lbk_notation.specs.declared.reader.State.TheVariants.{Start, Half, Marked, Spaced, Digits, Coded, Comment, Ended}
 use Rattle.lbk_notation.specs.declared.reader.Taken.{Taken}
 use Rattle.lbk_notation.specs.declared.reader.Taken.TheVariants.{Dead, On, OneScalar}
-use Rattle.lbk_notation.specs.Line.{Line}
+use Rattle.lbk_notation.specs.TestLine.{Line}
 use Rattle.lbk_notation.specs.Run.{IsGood, step_of, sort_of, takes_digit, is_scalar, digits_step, start_step, spaced_step, coded_step, marking, ending, match_taken, run}
 use Rattle.lbk_notation.proofs.Digits.{open-more}
 use Rattle.lbk_notation.proofs.Sorts.{Sorted, sorted}

@@ -13,7 +13,7 @@ use Rattle.lbk_notation.specs.declared.reader.State.{State}
 use Rattle.lbk_notation.specs.declared.reader.State.TheVariants.{Start, Half, Marked, Spaced, Digits, Coded, Comment, Ended}
 use Rattle.lbk_notation.specs.declared.reader.Taken.{Taken}
 use Rattle.lbk_notation.specs.declared.reader.Taken.TheVariants.{Dead, On, OneScalar, OneMark}
-use Rattle.lbk_notation.specs.Line.{Line, made}
+use Rattle.lbk_notation.specs.TestLine.{Line, made}
 use Rattle.lbk_notation.specs.Grammar.{is_space, IsBlank, mark_bytes, Has, digit_byte, token_bytes, number_of, number_behind, HasShape, IsToken, IsEnd, IsAfter, last, more, IsLine, no_line, line}
 use Rattle.lbk_notation.specs.Run.{IsGood, IsOpen, step_of, sort_of, marking, ending, start_step, half_step, marked_step, spaced_step, coded_step, comment_step, digits_step, takes_digit, is_scalar, can_end, run, run_line}
 use Rattle.lbk_notation.proofs.Completes.{length-after, made-some}

@@ -7,7 +7,7 @@ use Rattle.lbk_notation.specs.declared.marks.Form.TheVariants.{Plain, Kinds}
 use Rattle.lbk_notation.specs.declared.marks.Mark.{Mark}
 use Rattle.lbk_notation.specs.declared.marks.Mark.TheVariants.{No, May, Must}
 use Rattle.lbk_notation.specs.Grammar.{Has, mark_bytes, IsAfter, last, more, IsLine, line}
-use Rattle.lbk_notation.specs.Line.{Line}
+use Rattle.lbk_notation.specs.TestLine.{Line}
 use Rattle.lbk_notation.specs.Written.{shown, shown_line, digits_of, token, written_after, written_marks}
 use Rattle.lbk_notation.proofs.Tokens.{digits-IsToken, number-digits}
 

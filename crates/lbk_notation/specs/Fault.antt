@@ -4,7 +4,7 @@ use Rattle.lbk_notation.specs.declared.fault.LineFault.{LineFault}
 use Rattle.lbk_notation.specs.declared.fault.LineFault.TheVariants.{LineTooLong, Bad, Memory}
 use Rattle.lbk_notation.specs.declared.marks.Form.{Form}
 use Rattle.lbk_notation.specs.Grammar.{IsLine}
-use Rattle.lbk_notation.specs.Line.{Line}
+use Rattle.lbk_notation.specs.TestLine.{Line}
 use Rattle.lbk_notation.specs.Place.{IsOutside, IsPlace}
 
 -- the longest line, in bytes

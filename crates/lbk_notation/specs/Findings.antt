@@ -8,7 +8,7 @@ use Rattle.lbk_notation.specs.declared.findings.Finding.TheVariants.{NoLine, Rep
 use Rattle.lbk_notation.specs.declared.marks.Form.{Form}
 use Rattle.lbk_notation.specs.Fault.{longest, IsFault}
 use Rattle.lbk_notation.specs.Grammar.{IsLine}
-use Rattle.lbk_notation.specs.Line.{Line}
+use Rattle.lbk_notation.specs.TestLine.{Line}
 use Rattle.lbk_notation.specs.Outcome.{IsOutcome}
 
 -- a line comes to this: a blank or comment, or marks and scalars that compare so with the rules; or it is refused

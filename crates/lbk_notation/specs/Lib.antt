@@ -1,5 +1,5 @@
 -- What a reader has to believe.
-pub mod Line
+pub mod TestLine
 pub mod Grammar
 pub mod Place
 pub mod Written

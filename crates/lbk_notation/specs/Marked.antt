@@ -4,7 +4,7 @@ use Rattle.std.specs.List.{range_with_len}
 use Rattle.std.specs.Str.{chars}
 use Rattle.lbk_notation.specs.declared.marks.Mark.{Mark}
 use Rattle.lbk_notation.specs.declared.marks.Mark.TheVariants as Marks
-use Rattle.lbk_notation.specs.Line.{Line}
+use Rattle.lbk_notation.specs.TestLine.{Line}
 use Rattle.lbk_rules.specs.declared.cells.Cell.{Cell}
 use Rattle.lbk_rules.specs.declared.verdicts.Kind.{Kind}
 use Rattle.lbk_rules.specs.declared.verdicts.Kind.TheVariants.{No, May, Must}

@@ -13,7 +13,7 @@ use Rattle.lbk_notation.specs.declared.marks.Form.TheVariants.{Plain, Kinds}
 use Rattle.lbk_notation.specs.declared.marks.Mark.{Mark}
 use Rattle.lbk_notation.specs.declared.marks.Mark.TheVariants.{No}
 use Rattle.lbk_notation.specs.Marked.{mark_of}
-use Rattle.lbk_notation.specs.Line.{Line}
+use Rattle.lbk_notation.specs.TestLine.{Line}
 
 -- in form Kinds a mark agrees where it is the kind, in form Plain where both are No or neither is
 abbrev pub Agrees : Form → Mark → Kind → Type 0

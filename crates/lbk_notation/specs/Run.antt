@@ -14,7 +14,7 @@ use Rattle.lbk_notation.specs.declared.reader.State.TheVariants.{Start, Half, Ma
 use Rattle.lbk_notation.specs.declared.reader.Taken.{Taken}
 use Rattle.lbk_notation.specs.declared.reader.Taken.TheVariants.{Dead, On, OneScalar, OneMark}
 use Rattle.lbk_notation.specs.Grammar.{is_space}
-use Rattle.lbk_notation.specs.Line.{Line, made}
+use Rattle.lbk_notation.specs.TestLine.{Line, made}
 
 unfoldable pub sort_of : ℕ → Sort
 sort_of byte =

@@ -2,7 +2,7 @@
 use Rattle.std.specs.Prelude.{ℕ, List, ◌∷◌, ◌++◌, map}
 use Rattle.std.specs.List.{flat_map}
 use Rattle.lbk_notation.specs.declared.marks.Form.TheVariants.{Kinds}
-use Rattle.lbk_notation.specs.Line.{Line}
+use Rattle.lbk_notation.specs.TestLine.{Line}
 use Rattle.lbk_notation.specs.Marked.{mark_of}
 use Rattle.lbk_notation.specs.Written.{written_line}
 use Rattle.lbk_rules.specs.declared.verdicts.Verdict.{Verdict}

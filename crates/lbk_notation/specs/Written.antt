@@ -6,7 +6,7 @@ use Rattle.lbk_notation.specs.declared.marks.Form.TheVariants.{Plain}
 use Rattle.lbk_notation.specs.declared.marks.Mark.{Mark}
 use Rattle.lbk_notation.specs.declared.marks.Mark.TheVariants.{May, Must}
 use Rattle.lbk_notation.specs.Grammar.{mark_bytes, token_bytes}
-use Rattle.lbk_notation.specs.Line.{Line}
+use Rattle.lbk_notation.specs.TestLine.{Line}
 
 -- form Plain has ÷ for every break
 abbrev pub shown : Form → Mark → Mark

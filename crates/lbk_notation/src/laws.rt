@@ -8,7 +8,7 @@ ghost use Rattle.lbk_notation.specs.declared.marks.Form.{Form};
 ghost use Rattle.lbk_notation.specs.declared.marks.Form.TheVariants.{Kinds};
 ghost use Rattle.lbk_notation.specs.declared.marks.Mark.{Mark};
 ghost use Rattle.lbk_notation.specs.Grammar.{IsLine, IsToken, number_of};
-ghost use Rattle.lbk_notation.specs.Line.{Line};
+ghost use Rattle.lbk_notation.specs.TestLine.{Line};
 ghost use Rattle.lbk_notation.specs.Shown.{passage_line, passage_marks};
 ghost use Rattle.lbk_notation.specs.Stream.{HasNoLineEnd};
 ghost use Rattle.lbk_notation.specs.Written.{digits_of, token, shown_line, written_line};

@@ -3,12 +3,12 @@
 ghost use Rattle.std.specs.Prelude.{◌≡◌, ◌<◌, ◌≤◌, ◌↔◌, Option, Ok, length, IfOk, IfErr, IsErrOf};
 ghost use Rattle.lbk_notation.specs.Fault.{IsFault, longest};
 ghost use Rattle.lbk_notation.specs.Grammar.{IsLine};
-ghost use Rattle.lbk_notation.specs.Line.{Line};
+ghost use Rattle.lbk_notation.specs.TestLine.{Line};
 ghost use Rattle.lbk_notation.specs.Run.{run_line, IsRunFault};
 ghost use Rattle.lbk_notation.specs.declared.fault.LineFault.TheVariants.{LineTooLong};
 
 use super::fault::LineFault;
-use super::line::TestLine;
+use super::test_line::TestLine;
 use super::marks::Form;
 use super::reader::{State, Taken, sort_of, step};
 use std::alloc::{AllocError, Global};

@@ -6,7 +6,7 @@ ghost use Rattle.std.specs.Str.{chars};
 ghost use Rattle.lbk_notation.specs.Marked.{mark_of, marks_in, marked_text};
 ghost use Rattle.lbk_notation.specs.Put.{put, mark_now};
 
-use super::line::TestLine;
+use super::test_line::TestLine;
 use super::marks::Mark;
 use lbk_rules::{Kind, Profile, Verdict};
 use lbk_steps::{CellSource, Stepper};

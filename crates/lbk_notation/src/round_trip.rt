@@ -14,7 +14,7 @@ ghost use Rattle.lbk_notation.specs.declared.fault.LineFault.TheVariants.{LineTo
 ghost use Rattle.lbk_rules.specs.declared.verdicts.Verdict.{Verdict};
 
 use super::fault::LineFault;
-use super::line::TestLine;
+use super::test_line::TestLine;
 use super::marks::Form;
 use super::line_reading::read_line;
 use super::writing::write_line;

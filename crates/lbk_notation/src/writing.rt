@@ -3,10 +3,10 @@
 ghost use Rattle.std.specs.Prelude.{◌≡◌, ◌+◌, ◌/◌, ◌%◌, ◌<◌, ◌≤◌, ◌++◌, ◌∷◌, [], Option, Some, length, IfOk, OnOk, EachIndex, slice_index};
 ghost use Rattle.std.specs.Char.{IsScalar};
 ghost use Rattle.lbk_notation.specs.Grammar.{IsLine, digit_byte, mark_bytes};
-ghost use Rattle.lbk_notation.specs.Line.{Line};
+ghost use Rattle.lbk_notation.specs.TestLine.{Line};
 ghost use Rattle.lbk_notation.specs.Written.{shown, token, written_marks, written_line, shown_line};
 
-use super::line::TestLine;
+use super::test_line::TestLine;
 use super::marks::{Form, Mark};
 use std::alloc::{AllocError, Global};
 

@@ -11,7 +11,7 @@ use Rattle.std.proofs.lemmas.List.Sums.{list_all-from_AllPass, prefix_len-le-len
 use Rattle.std.proofs.lemmas.List.Sorted.{IsPermutation-reverse, list_any-IsPermutation}
 use Rattle.std.proofs.lemmas.Option.{cond_some, option_and_then_some}
 use Rattle.std.proofs.lemmas.Slice.Eq.{starts_is}
-use Rattle.lbk_ucd.specs.Line.{Entry, Meaning, nothing, row, default, is_space, is_dot, is_semicolon, is_hash, is_hex, is_name_byte, trimmed, trimmed_start, code_of, pair_of, range_of, name_of, entry_of, default_of, comment_meaning, without_return, meaning_of}
+use Rattle.lbk_ucd.specs.PropertyLine.{Entry, Meaning, nothing, row, default, is_space, is_dot, is_semicolon, is_hash, is_hex, is_name_byte, trimmed, trimmed_start, code_of, pair_of, range_of, name_of, entry_of, default_of, comment_meaning, without_return, meaning_of}
 use Rattle.lbk_ucd.specs.Grammar.{IsBlank, IsCode, IsRange, one, two, IsName, IsEntry, IsComment, IsDefault, Says, blank, comment, row_line, default_line, IsSaid}
 
 -- Lists of which no byte passes a test, and lists of which each does.

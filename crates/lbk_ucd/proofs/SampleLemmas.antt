@@ -9,7 +9,7 @@ use Rattle.lbk_ucd.specs.declared.which.Which.{Which}
 use Rattle.lbk_ucd.specs.declared.which.Which.TheVariants.{LineBreak, EastAsianWidth, Category, Emoji}
 use Rattle.lbk_ucd.specs.declared.samples.TheConstants.{SAMPLE_LINE_BREAK, SAMPLE_EAST_ASIAN, SAMPLE_CATEGORY, SAMPLE_EMOJI}
 use Rattle.lbk_ucd.specs.Names.{line_break_format, east_asian_format, category_format, emoji_format}
-use Rattle.lbk_ucd.specs.Line.{code_of, pair_of, range_of, name_of, entry_of, default_of, meaning_of}
+use Rattle.lbk_ucd.specs.PropertyLine.{code_of, pair_of, range_of, name_of, entry_of, default_of, meaning_of}
 use Rattle.lbk_ucd.specs.File.{Format, lines_of, cause_at, cause_beside, cause_of_entry, IsLawful, IsRefusal}
 use Rattle.lbk_ucd.specs.Files.{AreLawful, IsRefused, IsRefusedIn}
 use Rattle.lbk_ucd.specs.Samples.{AreSamples}

@@ -1,6 +1,6 @@
 -- Worked lines, computed from the definitions.
 use Rattle.std.proofs.Common.{◌≡◌, true, codes, ◌++◌, ◌∷◌, [], Some, None, refl}
-use Rattle.lbk_ucd.specs.Line.{row, default, nothing, code_of, pair_of, range_of, name_of, entry_of, default_of, meaning_of}
+use Rattle.lbk_ucd.specs.PropertyLine.{row, default, nothing, code_of, pair_of, range_of, name_of, entry_of, default_of, meaning_of}
 
 a_row : meaning_of true (codes "00041..005A ; AL # x") ≡ Some (row (record { first = 0x41; last = 0x5A; name = codes "AL" }))
 unfolding meaning_of entry_of range_of pair_of code_of name_of

@@ -3,7 +3,7 @@
 use Rattle.std.specs.Prelude.{ℕ, ◌≡◌, ◌≢◌, ◌<◌, ◌≤◌, Bool, true, false, List, [], ◌∷◌, ◌++◌, length, codes, ◌⊎◌}
 use Rattle.std.specs.List.{list_all}
 use Rattle.std.specs.Str.Parse.{digits_value}
-use Rattle.lbk_ucd.specs.Line.{Entry, Meaning, nothing, row, default, is_space, is_hex, is_name_byte}
+use Rattle.lbk_ucd.specs.PropertyLine.{Entry, Meaning, nothing, row, default, is_space, is_hex, is_name_byte}
 
 -- ws*: spaces and tabs
 abbrev pub IsBlank : List ℕ → Type 0

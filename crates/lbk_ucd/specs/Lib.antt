@@ -1,5 +1,5 @@
 -- What a reader has to believe.
-pub mod Line
+pub mod PropertyLine
 pub mod Rows
 pub mod File
 pub mod Names

@@ -2,12 +2,12 @@
 use Rattle.std.specs.Prelude.{ℕ, ◌==◌, List, [], map, Option, Some, None}
 use Rattle.std.specs.List.{slice_split}
 use Rattle.std.specs.Borrow.{Bor}
-use Rattle.lbk_ucd.specs.declared.line.Entry.{Entry as CodeEntry}
-use Rattle.lbk_ucd.specs.declared.line.Meaning.{Meaning as CodeMeaning}
-use Rattle.lbk_ucd.specs.declared.line.Meaning.TheVariants as code
+use Rattle.lbk_ucd.specs.declared.property_line.Entry.{Entry as CodeEntry}
+use Rattle.lbk_ucd.specs.declared.property_line.Meaning.{Meaning as CodeMeaning}
+use Rattle.lbk_ucd.specs.declared.property_line.Meaning.TheVariants as code
 use Rattle.lbk_ucd.specs.declared.format.Format.{Format as CodeFormat}
 use Rattle.lbk_ucd.specs.File.{Format}
-use Rattle.lbk_ucd.specs.Line.{Entry, Meaning, nothing, row, default}
+use Rattle.lbk_ucd.specs.PropertyLine.{Entry, Meaning, nothing, row, default}
 
 abbrev pub shown_name : Bor (List ℕ) → List ℕ
 shown_name name = name.now

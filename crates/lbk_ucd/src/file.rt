@@ -11,7 +11,7 @@ ghost use Rattle.lbk_ucd.specs.Tables.{value_of};
 use crate::fault::{UcdCause, UcdFault};
 use crate::format::{Format, value_named};
 use crate::gathered::Gathered;
-use crate::line::{Entry, Meaning, meaning_of, place_of};
+use crate::property_line::{Entry, Meaning, meaning_of, place_of};
 use crate::rows::{Assigned, LAST_CODE, Row};
 use crate::which::Which;
 use std::alloc::Global;

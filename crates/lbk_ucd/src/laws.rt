@@ -9,7 +9,7 @@ ghost use Rattle.lbk_ucd.specs.Files.{AreLawful, IsRefused};
 ghost use Rattle.lbk_ucd.specs.Samples.{AreSamples};
 ghost use Rattle.lbk_ucd.specs.File.{Format, lines_of, rows_in, without_mark, IsLawful, IsFault};
 ghost use Rattle.lbk_ucd.specs.Grammar.{IsSaid};
-ghost use Rattle.lbk_ucd.specs.Line.{Meaning, meaning_of};
+ghost use Rattle.lbk_ucd.specs.PropertyLine.{Meaning, meaning_of};
 ghost use Rattle.lbk_ucd.specs.Rows.{holds, shares, AreApart};
 
 /// What a line of a property file says is what the grammar relates to its bytes, and nothing else (UAX #44, section 4.2).

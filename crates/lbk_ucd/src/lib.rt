@@ -7,7 +7,7 @@ mod format;
 mod four;
 mod gathered;
 pub mod laws;
-mod line;
+mod property_line;
 mod overlay;
 mod rows;
 mod samples;

@@ -1,7 +1,7 @@
 use Rattle.std.proofs.Common.{◌≡◌, ◌==◌, length, ◌∙◌, arith, sym}
 use Rattle.std.proofs.lemmas.List.Sums.{position_or_len_is}
 use Rattle.std.proofs.lemmas.Bool.Decides.{nat_tests}
-use Rattle.lbk_ucd.proofs.line.place_of.Goals as goal
+use Rattle.lbk_ucd.proofs.property_line.place_of.Goals as goal
 
 pub returns-then-b-byte-clause-place : goal.returns-then-b-byte-clause-place
 returns-then-b-byte-clause-place c =

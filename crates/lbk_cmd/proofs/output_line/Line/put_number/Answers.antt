@@ -1,6 +1,6 @@
 use Rattle.std.proofs.Common.{◌≤◌, length, decimal, rules, arith}
 use Rattle.std.proofs.lemmas.Fmt.{length-decimal-le}
-use Rattle.lbk_cmd.proofs.line.Line.put_number.Goals as goal
+use Rattle.lbk_cmd.proofs.output_line.Line.put_number.Goals as goal
 
 pub write_digits-self-requires : goal.write_digits-self-requires
 write_digits-self-requires c =

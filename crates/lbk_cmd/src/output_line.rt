@@ -18,7 +18,7 @@ pub struct Line {
 
 impl Line {
     ghost use Rattle.std.specs.Prelude.{◌≡◌, ◌<◌, ◌+◌, ◌++◌, ◌∷◌, [], length, decimal};
-    ghost use Rattle.lbk_cmd.specs.Line.{written};
+    ghost use Rattle.lbk_cmd.specs.OutputLine.{written};
 
     /// The line end.
     pub fn new() -> Line

@@ -1,7 +1,7 @@
 use Rattle.std.proofs.Common.{◌≡◌, length, ◌∙◌, arith, sym}
 use Rattle.std.proofs.lemmas.List.Sums.{prefix_len_is}
-use Rattle.lbk_ucd.specs.Line.{is_space}
-use Rattle.lbk_ucd.proofs.line.start_of_text.Goals as goal
+use Rattle.lbk_ucd.specs.PropertyLine.{is_space}
+use Rattle.lbk_ucd.proofs.property_line.start_of_text.Goals as goal
 
 pub returns-then-not-is_space-clause-start : goal.returns-then-not-is_space-clause-start
 returns-then-not-is_space-clause-start c =

@@ -1,6 +1,6 @@
 use Rattle.std.proofs.Common.{◌≡◌, ◌≤◌, ◌+◌, ◌++◌, drop, length}
-use Rattle.lbk_cmd.specs.Line.{written}
-use Rattle.lbk_cmd.proofs.line.Line.put_text.Given as goal
+use Rattle.lbk_cmd.specs.OutputLine.{written}
+use Rattle.lbk_cmd.proofs.output_line.Line.put_text.Given as goal
 
 -- the bytes from `left` on stand in front
 abbrev pub invariant-loop-left : goal.invariant-loop-left

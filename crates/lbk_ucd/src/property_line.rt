@@ -3,7 +3,7 @@
 ghost use Rattle.std.specs.Prelude.{◌≡◌, ◌==◌, ◌-◌, ◌≤◌, length};
 ghost use Rattle.std.specs.List.{prefix_len, suffix_len, position_or_len, before_first, after_first, list_all};
 ghost use Rattle.std.specs.Option.{option_map};
-ghost use Rattle.lbk_ucd.specs.Line.{is_space, is_name_byte, code_of, pair_of, range_of, name_of, entry_of, default_of, meaning_of, trimmed, trimmed_start, without_return};
+ghost use Rattle.lbk_ucd.specs.PropertyLine.{is_space, is_name_byte, code_of, pair_of, range_of, name_of, entry_of, default_of, meaning_of, trimmed, trimmed_start, without_return};
 ghost use Rattle.lbk_ucd.specs.Shown.{shown_entry, shown_meaning, shown_name};
 
 /// The codes from `first` to `last`, and the name of a value.
@@ -24,7 +24,7 @@ pub(crate) enum Meaning<'a> {
 
 /// What a line without its LF says (UAX #44, section 4.2), or None for one that is none of the grammar.
 /// `@missing` lines are read where the file has defaults, and are comments elsewhere.
-#[tactic(auto, unfolding(crate::specs::Line::meaning_of))]
+#[tactic(auto, unfolding(crate::specs::PropertyLine::meaning_of))]
 pub(crate) fn meaning_of(line: &[u8], defaults: bool) -> Option<Meaning<'_>>
     ensures { option_map shown_meaning result ≡ meaning_of defaults line.now }
 {
@@ -43,7 +43,7 @@ pub(crate) fn meaning_of(line: &[u8], defaults: bool) -> Option<Meaning<'_>>
 }
 
 /// The entry of a default line, of what stands after the first `#`.
-#[tactic(auto, unfolding(crate::specs::Line::default_of))]
+#[tactic(auto, unfolding(crate::specs::PropertyLine::default_of))]
 fn default_of(comment: &[u8]) -> Option<Entry<'_>>
     ensures { option_map shown_entry result ≡ default_of comment.now }
 {
@@ -52,7 +52,7 @@ fn default_of(comment: &[u8]) -> Option<Entry<'_>>
 }
 
 /// A range, a semicolon and a name.
-#[tactic(auto, unfolding(crate::specs::Line::entry_of))]
+#[tactic(auto, unfolding(crate::specs::PropertyLine::entry_of))]
 fn entry_of(bytes: &[u8], single: bool) -> Option<Entry<'_>>
     ensures { option_map shown_entry result ≡ entry_of single bytes.now }
 {
@@ -62,7 +62,7 @@ fn entry_of(bytes: &[u8], single: bool) -> Option<Entry<'_>>
 }
 
 /// The ends of `code..code`, or where `single` also of one code.
-#[tactic(auto, unfolding(crate::specs::Line::range_of))]
+#[tactic(auto, unfolding(crate::specs::PropertyLine::range_of))]
 fn range_of(field: &[u8], single: bool) -> Option<(u32, u32)>
     ensures { result ≡ range_of single field.now }
 {
@@ -74,7 +74,7 @@ fn range_of(field: &[u8], single: bool) -> Option<(u32, u32)>
 }
 
 /// The ends of `code..code`.
-#[tactic(auto, unfolding(crate::specs::Line::pair_of))]
+#[tactic(auto, unfolding(crate::specs::PropertyLine::pair_of))]
 fn pair_of(field: &[u8]) -> Option<(u32, u32)>
     ensures { result ≡ pair_of field.now }
 {
@@ -86,7 +86,7 @@ fn pair_of(field: &[u8]) -> Option<(u32, u32)>
 }
 
 /// The number of four to six hex digits.
-#[tactic(auto, unfolding(crate::specs::Line::code_of))]
+#[tactic(auto, unfolding(crate::specs::PropertyLine::code_of))]
 fn code_of(digits: &[u8]) -> Option<u32>
     ensures { result ≡ code_of digits.now }
 {
@@ -101,7 +101,7 @@ fn code_of(digits: &[u8]) -> Option<u32>
 }
 
 /// A name, of one or more letters, digits and underscores.
-#[tactic(auto, unfolding(crate::specs::Line::name_of))]
+#[tactic(auto, unfolding(crate::specs::PropertyLine::name_of))]
 fn name_of(field: &[u8]) -> Option<&[u8]>
     ensures { option_map shown_name result ≡ name_of field.now }
 {

@@ -6,8 +6,8 @@ use Rattle.std.proofs.lemmas.Int.Digits.{digits_value-lt, digits_value_more, dig
 use Rattle.std.proofs.lemmas.List.{take_all, length-take-le}
 use Rattle.std.proofs.lemmas.Bool.Decides.{nat_tests}
 use Rattle.std.proofs.Math.Nat.{pow-le-pow_right}
-use Rattle.lbk_ucd.specs.Line.{code_of}
-use Rattle.lbk_ucd.proofs.line.code_of.Goals as goal
+use Rattle.lbk_ucd.specs.PropertyLine.{code_of}
+use Rattle.lbk_ucd.proofs.property_line.code_of.Goals as goal
 
 -- five digits are a number below 16 ^ 5
 below : (digits : List ℕ) (i : ℕ) → i < length digits → length digits ≤ 6 → AllDigits 16 (take i digits) → digits_value 16 (take i digits) < 16 ^ 5

@@ -1,7 +1,7 @@
 //! A line of the notation: scalars, and a mark at each position.
 
 ghost use Rattle.std.specs.Prelude.{◌≡◌, ◌+◌, length};
-ghost use Rattle.lbk_notation.specs.Line.{made};
+ghost use Rattle.lbk_notation.specs.TestLine.{made};
 
 use super::marks::Mark;
 use std::marker::Model;
@@ -22,7 +22,7 @@ pub struct TestLine {
 
 impl Model for TestLine {
     ghost use Rattle.std.specs.Prelude.{◌≡◌, ◌+◌, length};
-    ghost use Rattle.lbk_notation.specs.Line.{Line};
+    ghost use Rattle.lbk_notation.specs.TestLine.{Line};
 
     ghost Value = { Line };
 

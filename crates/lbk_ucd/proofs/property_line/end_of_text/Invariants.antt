@@ -1,7 +1,7 @@
 use Rattle.std.proofs.Common.{◌≡◌, ◌+◌, ◌≤◌, length, take}
 use Rattle.std.specs.List.{suffix_len}
-use Rattle.lbk_ucd.specs.Line.{is_space}
-use Rattle.lbk_ucd.proofs.line.end_of_text.Given as goal
+use Rattle.lbk_ucd.specs.PropertyLine.{is_space}
+use Rattle.lbk_ucd.proofs.property_line.end_of_text.Given as goal
 
 abbrev pub invariant-loop-end : goal.invariant-loop-end
 invariant-loop-end l =

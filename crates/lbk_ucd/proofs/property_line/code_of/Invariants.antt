@@ -1,6 +1,6 @@
 use Rattle.std.proofs.Common.{◌≡◌, take}
 use Rattle.std.specs.Str.Parse.{digits_value, AllDigits}
-use Rattle.lbk_ucd.proofs.line.code_of.Given as goal
+use Rattle.lbk_ucd.proofs.property_line.code_of.Given as goal
 
 abbrev pub invariant-loop-digit : goal.invariant-loop-digit
 invariant-loop-digit l =
