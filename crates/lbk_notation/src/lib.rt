@@ -18,7 +18,7 @@ mod reader;
 mod line_reading;
 mod replayer;
 mod round_trip;
-mod rows;
+mod replay_lines;
 mod writing;
 
 pub use fault::LineFault;

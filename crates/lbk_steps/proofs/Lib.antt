@@ -3,7 +3,7 @@ pub mod PagesOfText
 pub mod KindsLemmas
 pub mod AheadLemmas
 pub mod LeftLemmas
-pub mod RowsLemmas
+pub mod StepRowsLemmas
 pub mod EnoughRowsLemmas
 pub mod RowMachineLemmas
 pub mod HoldsLemmas

@@ -4,7 +4,7 @@ use Rattle.lbk_rules.specs.declared.facts.Left.{Left}
 use Rattle.lbk_steps.specs.declared.flat_table.TableError.{TableError}
 use Rattle.lbk_steps.specs.declared.flat_table.TableError.TheVariants.{Memory, TooManyRows}
 use Rattle.lbk_steps.specs.declared.kinds.TheConstants.{KINDS}
-use Rattle.lbk_steps.specs.declared.rows.TheConstants.{MOST_ROWS}
+use Rattle.lbk_steps.specs.declared.step_rows.TheConstants.{MOST_ROWS}
 use Rattle.lbk_rules.specs.Facts.{facts}
 use Rattle.lbk_steps.specs.Kinds.{kind_cell}
 

@@ -7,7 +7,7 @@ use Rattle.lbk_steps.specs.declared.flat_table.FlatStep.{FlatStep}
 use Rattle.lbk_steps.specs.declared.flat_table.FlatTable.{FlatTable}
 use Rattle.lbk_steps.specs.declared.flat_table.TheConstants.{HELD, LAYOUT}
 use Rattle.lbk_steps.specs.declared.kinds.TheConstants.{KINDS}
-use Rattle.lbk_steps.specs.declared.rows.Step.{Step}
+use Rattle.lbk_steps.specs.declared.step_rows.Step.{Step}
 use Rattle.lbk_values.specs.declared.profile.Profile.TheVariants.{First, Second}
 use Rattle.lbk_rules.specs.Chain.{from_cells}
 use Rattle.lbk_rules.specs.Classes.{hard}

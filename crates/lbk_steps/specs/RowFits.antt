@@ -3,7 +3,7 @@ use Rattle.std.specs.Prelude.{◌≡◌, ℕ, List, reverse}
 use Rattle.std.specs.Char.{IsScalar}
 use Rattle.lbk_rules.specs.declared.cells.Cell.{Cell}
 use Rattle.lbk_steps.specs.declared.kind_table.KindTable.{KindTable}
-use Rattle.lbk_steps.specs.declared.rows.Rows.{Rows}
+use Rattle.lbk_steps.specs.declared.step_rows.StepRows.{StepRows}
 use Rattle.lbk_rules.specs.Facts.{facts}
 use Rattle.lbk_steps.specs.Kinds.{kind_cell}
 use Rattle.lbk_steps.specs.KindTable.{kind_at}
@@ -11,11 +11,11 @@ use Rattle.lbk_rules.specs.Normal.{normal}
 use Rattle.lbk_steps.specs.Steps.{IsStart, left_at}
 
 -- a row of the table begins at this place
-abbrev pub IsRowOf : Rows → ℕ → Type 0
+abbrev pub IsRowOf : StepRows → ℕ → Type 0
 IsRowOf rows row = IsStart rows.lefts.items row
 
 -- what the row at this place knows is what the rules ask of these cells
-unfoldable pub RowFits : Rows → ℕ → List Cell → Type 0
+unfoldable pub RowFits : StepRows → ℕ → List Cell → Type 0
 RowFits rows row cells = left_at rows.lefts.items row ≡ facts (reverse cells)
 
 -- these kinds are those of the cells that `cell` gives

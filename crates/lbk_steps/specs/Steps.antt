@@ -3,7 +3,7 @@ use Rattle.std.specs.Prelude.{◌≡◌, ℕ, ◌*◌, ◌/◌, ◌%◌, ◌<◌
 use Rattle.lbk_rules.specs.declared.cells.Cell.{Cell}
 use Rattle.lbk_rules.specs.declared.facts.Left.{Left}
 use Rattle.lbk_steps.specs.declared.kinds.TheConstants.{KINDS}
-use Rattle.lbk_steps.specs.declared.rows.Step.{Step}
+use Rattle.lbk_steps.specs.declared.step_rows.Step.{Step}
 use Rattle.lbk_rules.specs.declared.verdicts.Kind.TheVariants.{No}
 use Rattle.lbk_values.specs.declared.profile.Profile.{Profile}
 use Rattle.lbk_values.specs.declared.profile.Profile.TheVariants.{First, Second}

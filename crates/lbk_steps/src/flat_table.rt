@@ -10,7 +10,7 @@ ghost use Rattle.lbk_steps.specs.CellOfTables.{cell_of_tables};
 
 use crate::kind_table::KindTable;
 use crate::kinds::{KINDS, cell_of_kind};
-use crate::rows::{Rows, Step};
+use crate::step_rows::{StepRows, Step};
 use crate::runs::CellRuns;
 use lbk_rules::{Cell, code_of};
 use lbk_ucd::Tables;
@@ -97,7 +97,7 @@ impl FlatTable {
         ensures refused { IfErr result HasReason }
     {
         let kinds = KindTable::build(alloc, source)?;
-        let Some(rows) = Rows::build(alloc)? else {
+        let Some(rows) = StepRows::build(alloc)? else {
             return Err(TableError::TooManyRows);
         };
         number_steps(&rows.first, &mut self.first);

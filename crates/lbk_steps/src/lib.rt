@@ -13,7 +13,7 @@ mod kinds;
 mod pages;
 mod row_machine;
 mod row_stepper;
-mod rows;
+mod step_rows;
 mod runs;
 mod source;
 mod step_table;

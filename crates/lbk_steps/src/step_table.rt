@@ -5,7 +5,7 @@ ghost use Rattle.lbk_steps.specs.EnoughRows.{RowsSuffice};
 
 use crate::kind_table::KindTable;
 use crate::row_machine::RowMachine;
-use crate::rows::Rows;
+use crate::step_rows::StepRows;
 use crate::runs::CellRuns;
 use lbk_rules::Profile;
 use std::alloc::{AllocError, Global};
@@ -15,7 +15,7 @@ use std::alloc::{AllocError, Global};
 #[derive(Debug, Drop)]
 pub struct StepTable {
     kinds: KindTable,
-    rows: Rows,
+    rows: StepRows,
 }
 
 impl StepTable {
@@ -33,7 +33,7 @@ impl StepTable {
         ensures none { IfOk result (λ built. IfNone built (¬ RowsSuffice)) }
     {
         let kinds = KindTable::build(alloc, source)?;
-        let Some(rows) = Rows::build(alloc)? else {
+        let Some(rows) = StepRows::build(alloc)? else {
             return Ok(None);
         };
         Ok(Some(StepTable { kinds, rows }))

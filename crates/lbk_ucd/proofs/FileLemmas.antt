@@ -7,7 +7,7 @@ use Rattle.std.proofs.lemmas.List.{take_all, take_more, drop_more}
 use Rattle.std.proofs.lemmas.List.Elements.{filter_map-append}
 use Rattle.std.proofs.lemmas.List.Splits.{length-slice_split}
 use Rattle.std.proofs.lemmas.List.Sums.{count_by-le-length}
-use Rattle.lbk_ucd.specs.declared.rows.Row.{Row}
+use Rattle.lbk_ucd.specs.declared.ranges.Row.{Row}
 use Rattle.lbk_ucd.specs.declared.gathered.Gathered.{Gathered}
 use Rattle.lbk_ucd.specs.declared.fault.UcdCause.{UcdCause}
 use Rattle.lbk_ucd.specs.declared.fault.UcdCause.TheVariants.{Overlap, Range, LineTooLong}

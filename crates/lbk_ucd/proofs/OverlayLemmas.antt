@@ -8,7 +8,7 @@ use Rattle.std.proofs.lemmas.List.{reverse-append}
 use Rattle.std.proofs.lemmas.List.Elements.{All-push}
 use Rattle.std.proofs.lemmas.List.Folds.{find-append, list_any-append, list_any_at, list_any_none}
 use Rattle.std.proofs.lemmas.List.Quantifiers.{all_pairs_push}
-use Rattle.lbk_ucd.specs.declared.rows.Row.{Row}
+use Rattle.lbk_ucd.specs.declared.ranges.Row.{Row}
 use Rattle.lbk_ucd.specs.Ranges.{AreMarked, IsInOrder, IsOverlay, IsRange}
 use Rattle.lbk_ucd.specs.Rows.{holds, shares, first_value, value_at, AreApart}
 use Rattle.lbk_ucd.proofs.RowLemmas.{elsewhere, fails_each, find_none, shared_code}

@@ -2,7 +2,7 @@
 use Rattle.std.specs.Prelude.{ℕ, false, Bool, ◌<◌, ◌≤◌, ◌≡◌, List, slice_index_or}
 use Rattle.std.specs.Option.{option_or}
 use Rattle.std.specs.List.{All, AllPairs, list_any}
-use Rattle.lbk_ucd.specs.declared.rows.Row.{Row}
+use Rattle.lbk_ucd.specs.declared.ranges.Row.{Row}
 use Rattle.lbk_ucd.specs.Rows.{holds, first_value}
 
 -- a row does not end before it begins, and ends within the codes

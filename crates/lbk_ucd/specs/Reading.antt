@@ -1,7 +1,7 @@
 -- What reading adds to what is gathered, line by line.
 use Rattle.std.specs.Prelude.{ℕ, ◌≡◌, ◌⊎◌, ◌+◌, length, ◌++◌, Option, Some, None, IsSome}
 use Rattle.std.specs.Option.{option_to_list}
-use Rattle.lbk_ucd.specs.declared.rows.Row.{Row}
+use Rattle.lbk_ucd.specs.declared.ranges.Row.{Row}
 use Rattle.lbk_ucd.specs.declared.gathered.Gathered.{Gathered}
 use Rattle.lbk_ucd.specs.declared.fault.UcdCause.{UcdCause}
 use Rattle.lbk_ucd.specs.declared.fault.UcdCause.TheVariants.{Memory}

@@ -2,7 +2,7 @@
 use Rattle.std.specs.Prelude.{ℕ, true, Bool, ◌&&◌, nat_le, List, reverse, Option, unwrap_or, ◌≡◌}
 use Rattle.std.specs.Option.{option_map}
 use Rattle.std.specs.List.{find}
-use Rattle.lbk_ucd.specs.declared.rows.Row.{Row}
+use Rattle.lbk_ucd.specs.declared.ranges.Row.{Row}
 
 -- whether a row holds a code
 abbrev pub holds : {V : Type 0} → ℕ → Row V → Bool

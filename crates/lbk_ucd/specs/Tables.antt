@@ -1,7 +1,7 @@
 -- What the tables answer at each code.
 use Rattle.std.specs.Prelude.{ℕ, Bool, unwrap_or}
 use Rattle.lbk_ucd.specs.declared.tables.Tables.{Tables}
-use Rattle.lbk_ucd.specs.declared.rows.Assigned.{Assigned}
+use Rattle.lbk_ucd.specs.declared.ranges.Assigned.{Assigned}
 use Rattle.lbk_values.specs.declared.values.LineBreak.{LineBreak}
 use Rattle.lbk_values.specs.declared.values.EastAsian.{EastAsian}
 use Rattle.lbk_values.specs.declared.values.Category.{Category}

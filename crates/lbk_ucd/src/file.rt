@@ -12,7 +12,7 @@ use crate::fault::{UcdCause, UcdFault};
 use crate::format::{Format, value_named};
 use crate::gathered::Gathered;
 use crate::property_line::{Entry, Meaning, meaning_of, place_of};
-use crate::rows::{Assigned, LAST_CODE, Row};
+use crate::ranges::{Assigned, LAST_CODE, Row};
 use crate::which::Which;
 use std::alloc::Global;
 

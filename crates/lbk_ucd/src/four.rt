@@ -7,7 +7,7 @@ ghost use Rattle.lbk_ucd.specs.Names.{line_break_format, east_asian_format, cate
 use crate::fault::UcdFault;
 use crate::file::read_file;
 use crate::format::{CATEGORY, EAST_ASIAN, EMOJI, LINE_BREAK};
-use crate::rows::Assigned;
+use crate::ranges::Assigned;
 use crate::which::Which;
 use lbk_values::{Category, EastAsian, LineBreak};
 use std::alloc::Global;

@@ -6,7 +6,7 @@ ghost use Rattle.lbk_ucd.specs.Rows.{shares, AreApart, value_at};
 ghost use Rattle.lbk_ucd.specs.declared.gathered.TheConstants.{MOST_ROWS};
 
 use crate::overlay::{flatten, overlay};
-use crate::rows::{Assigned, Row};
+use crate::ranges::{Assigned, Row};
 use crate::taken::Taken;
 use std::alloc::{AllocError, Global};
 

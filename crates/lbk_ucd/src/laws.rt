@@ -1,7 +1,7 @@
 //! Laws of the definitions that the contracts cite. Each stands as the contract of a function that does nothing.
 ghost use Rattle.std.specs.Prelude.{◌≡◌, ◌==◌, ◌≤◌, ◌↔◌, ◌⊎◌, ℕ, Bool, true, false, not, List, Some};
 ghost use Rattle.std.specs.List.{AllPairs, list_any, list_all, join_with_byte};
-ghost use Rattle.lbk_ucd.specs.declared.rows.Row.{Row};
+ghost use Rattle.lbk_ucd.specs.declared.ranges.Row.{Row};
 ghost use Rattle.lbk_ucd.specs.declared.fault.UcdCause.{UcdCause};
 ghost use Rattle.lbk_ucd.specs.declared.tables.Files.{Files};
 ghost use Rattle.lbk_ucd.specs.declared.fault.UcdFault.{UcdFault};

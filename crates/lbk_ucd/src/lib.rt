@@ -9,7 +9,7 @@ mod gathered;
 pub mod laws;
 mod property_line;
 mod overlay;
-mod rows;
+mod ranges;
 mod samples;
 mod tables;
 mod taken;

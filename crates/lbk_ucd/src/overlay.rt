@@ -4,7 +4,7 @@ ghost use Rattle.std.specs.List.{All};
 ghost use Rattle.lbk_ucd.specs.Ranges.{IsInOrder, IsOverlay, IsRange};
 ghost use Rattle.lbk_ucd.specs.Rows.{first_value};
 
-use crate::rows::{LAST_CODE, Row, next_from, stretch_from};
+use crate::ranges::{LAST_CODE, Row, next_from, stretch_from};
 use std::alloc::{AllocError, Global};
 
 /// Rows that share no code, sorted by their codes, in which a code has the value of the last of these rows that holds it.

@@ -4,7 +4,7 @@ ghost use Rattle.std.specs.Prelude.{◌≡◌, ◌≤◌, ℕ, IfOk, IfErr, OnOk
 
 use crate::fault::UcdFault;
 use crate::four::{read_category, read_east_asian, read_emoji, read_line_break};
-use crate::rows::Assigned;
+use crate::ranges::Assigned;
 use lbk_values::{Category, EastAsian, LineBreak};
 use std::alloc::Global;
 

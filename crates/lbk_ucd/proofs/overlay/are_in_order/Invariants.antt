@@ -1,5 +1,5 @@
 use Rattle.std.proofs.Common.{ℕ, ◌<◌, get_or}
-use Rattle.lbk_ucd.specs.declared.rows.Row.{Row}
+use Rattle.lbk_ucd.specs.declared.ranges.Row.{Row}
 use Rattle.lbk_ucd.proofs.overlay.are_in_order.Given as goal
 
 abbrev pub invariant-loop-next : goal.invariant-loop-next

@@ -1,7 +1,7 @@
 use Rattle.std.proofs.Common.{refl, subst, ◌∙◌, arith}
 use Rattle.lbk_steps.specs.FlatTable.{AreNumbered, digest_of}
 use Rattle.lbk_steps.specs.KindTable.{kind_at}
-use Rattle.lbk_steps.proofs.RowsLemmas.{AreFlatSteps-numbered}
+use Rattle.lbk_steps.proofs.StepRowsLemmas.{AreFlatSteps-numbered}
 use Rattle.lbk_steps.proofs.flat_table.FlatTable.fill_over.Goals as goal
 
 pub returns-clause-table : goal.returns-clause-table

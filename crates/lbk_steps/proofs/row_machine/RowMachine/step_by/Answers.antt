@@ -6,7 +6,7 @@ use Rattle.lbk_rules.specs.Normal.{normals}
 use Rattle.lbk_steps.specs.RowFits.{RowFits}
 use Rattle.lbk_steps.specs.Steps.{no_step}
 use Rattle.lbk_steps.proofs.RowMachineLemmas.{kind_same, normals-back, so_far-normal}
-use Rattle.lbk_steps.proofs.RowsLemmas.{step_at}
+use Rattle.lbk_steps.proofs.StepRowsLemmas.{step_at}
 use Rattle.lbk_steps.proofs.row_machine.RowMachine.step_by.Goals as goal
 
 pub returns-clause-row : goal.returns-clause-row

@@ -1,6 +1,6 @@
 use Rattle.std.proofs.Common.{Bool, true, false, ◌≡◌, ◌≤◌, List, ℕ, refl, sym, get_or}
 use Rattle.std.specs.List.{All, list_any}
-use Rattle.lbk_ucd.specs.declared.rows.Row.{Row}
+use Rattle.lbk_ucd.specs.declared.ranges.Row.{Row}
 use Rattle.lbk_ucd.specs.Ranges.{AreMarked, IsRange}
 use Rattle.lbk_ucd.specs.Rows.{shares}
 use Rattle.lbk_ucd.proofs.OverlayLemmas.{shares_marked, shares_unmarked}

@@ -1,9 +1,9 @@
 use Rattle.std.proofs.Common.{ltb, arith, rules}
 use Rattle.std.proofs.lemmas.List.Sorted.{IsPartitionPoint-from_clause, IsPartitionedBy-ltb}
 use Rattle.std.proofs.lemmas.Bool.Decides.{nat_tests}
-use Rattle.lbk_ucd.specs.declared.rows.Row.{Row}
+use Rattle.lbk_ucd.specs.declared.ranges.Row.{Row}
 use Rattle.lbk_ucd.proofs.RowLemmas.{ends_rise}
-use Rattle.lbk_ucd.proofs.rows.first_from.Goals as goal
+use Rattle.lbk_ucd.proofs.ranges.first_from.Goals as goal
 
 pub returns-clause-before : goal.returns-clause-before
 returns-clause-before g c = λ k d low high.

@@ -1,12 +1,12 @@
 use Rattle.std.proofs.Common.{◌≡◌, ◌*◌, ◌/◌, ◌%◌, ◌<◌, [], ◌∷◌, ◌++◌, length, get_or, sym, ap, subst, ◌∙◌, arith}
 use Rattle.std.proofs.lemmas.List.{length_push}
 use Rattle.lbk_steps.specs.declared.kinds.TheConstants.{KINDS}
-use Rattle.lbk_steps.specs.declared.rows.Step.{Step}
+use Rattle.lbk_steps.specs.declared.step_rows.Step.{Step}
 use Rattle.lbk_steps.specs.Kinds.{kind_cell}
 use Rattle.lbk_steps.specs.Steps.{AreStepsTo, no_step}
 use Rattle.lbk_steps.proofs.EnoughRowsLemmas.{known-next}
-use Rattle.lbk_steps.proofs.RowsLemmas.{AreSteps-made, AreSteps-padded, alike-push}
-use Rattle.lbk_steps.proofs.rows.Rows.build.Goals as goal
+use Rattle.lbk_steps.proofs.StepRowsLemmas.{AreSteps-made, AreSteps-padded, alike-push}
+use Rattle.lbk_steps.proofs.step_rows.StepRows.build.Goals as goal
 
 pub places-preserved : goal.places-preserved
 places-preserved c =

@@ -3,7 +3,7 @@ use Rattle.std.proofs.lemmas.Bool.{false≢true}
 use Rattle.std.proofs.lemmas.List.{get_or_default}
 use Rattle.lbk_rules.specs.Facts.{facts}
 use Rattle.lbk_steps.proofs.LeftLemmas.{left_Decides, unread}
-use Rattle.lbk_steps.proofs.rows.find.Goals as goal
+use Rattle.lbk_steps.proofs.step_rows.find.Goals as goal
 
 pub returns-then-eq : goal.returns-then-eq
 returns-then-eq c =

@@ -1,7 +1,7 @@
 use Rattle.std.proofs.Common.{arith}
 use Rattle.std.proofs.lemmas.List.{get_or_default}
 use Rattle.lbk_ucd.proofs.RowLemmas.{ends_rise}
-use Rattle.lbk_ucd.proofs.rows.next_from.Goals as goal
+use Rattle.lbk_ucd.proofs.ranges.next_from.Goals as goal
 
 pub returns-else-rows-next-clause-after : goal.returns-else-rows-next-clause-after
 returns-else-rows-next-clause-after g c = λ k d low high.

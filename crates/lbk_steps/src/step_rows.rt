@@ -2,7 +2,7 @@
 
 ghost use Rattle.std.specs.Prelude.{◌≡◌, ◌≢◌, ◌*◌, ◌<◌, ◌≤◌, ◌+◌, max, true, List, [], ◌∷◌, length, slice_index_or, All, IfNone, IfOk, MatchOption};
 ghost use Rattle.lbk_steps.specs.declared.flat_table.TheConstants.{STEPS};
-ghost use Rattle.lbk_steps.specs.declared.rows.TheConstants.{MOST_ROWS};
+ghost use Rattle.lbk_steps.specs.declared.step_rows.TheConstants.{MOST_ROWS};
 ghost use Rattle.lbk_values.specs.declared.profile.Profile.TheVariants.{First, Second};
 ghost use Rattle.lbk_rules.specs.Chain.{from_cells};
 ghost use Rattle.lbk_rules.specs.Classes.{hard};
@@ -34,7 +34,7 @@ pub(crate) struct Step {
 
 /// A row for each thing that can be known of the cells so far, with a step in either profile for each kind of cell.
 #[derive(Debug, Drop)]
-pub(crate) struct Rows {
+pub(crate) struct StepRows {
     lefts: Vec<Left>,
     pub(crate) first: Vec<Step>,
     pub(crate) second: Vec<Step>,
@@ -54,14 +54,14 @@ const NO_STEP: Step = Step {
     next: 0,
 };
 
-impl Rows {
+impl StepRows {
     ghost use Rattle.lbk_rules.specs.declared.cells.Cell.{Cell};
     ghost use Rattle.lbk_steps.specs.RowFits.{IsRowOf, RowFits};
     ghost use Rattle.std.specs.Prelude.{reverse};
 
     /// The rows that the rules need. None comes where there are more than a place can name, an error where memory was
     /// refused.
-    pub(crate) fn build(alloc: Global) -> Result<Option<Rows>, AllocError>
+    pub(crate) fn build(alloc: Global) -> Result<Option<StepRows>, AllocError>
         ensures { IfOk result (λ built. IfNone built (¬ RowsSuffice)) }
     {
         let mut lefts = Vec::new(alloc);
@@ -90,7 +90,7 @@ impl Rows {
         }
         first.resize(STEPS, NO_STEP)?;
         second.resize(STEPS, NO_STEP)?;
-        Ok(Some(Rows {
+        Ok(Some(StepRows {
             lefts,
             first,
             second,

@@ -1,7 +1,7 @@
 use Rattle.std.proofs.Common.{◌-◌, arith}
 use Rattle.std.proofs.lemmas.List.{get_or_default}
 use Rattle.lbk_ucd.proofs.RowLemmas.{ends_rise}
-use Rattle.lbk_ucd.proofs.rows.first_near.Goals as goal
+use Rattle.lbk_ucd.proofs.ranges.first_near.Goals as goal
 
 pub next_from-requires-clause-before : goal.next_from-requires-clause-before
 next_from-requires-clause-before g c = λ k d low high.

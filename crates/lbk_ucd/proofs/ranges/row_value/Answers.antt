@@ -3,8 +3,8 @@ use Rattle.lbk_ucd.specs.Rows.{holds}
 use Rattle.std.proofs.Common.{◌≤◌, get_or, arith, sym, ap}
 use Rattle.std.proofs.lemmas.List.{get_or_default}
 use Rattle.lbk_ucd.proofs.RowLemmas.{first_value_here, meets_within, none_shares, find_none}
-use Rattle.lbk_ucd.proofs.rows.row_value.Goals as goal
-use Rattle.lbk_ucd.proofs.rows.row_value.Goals.{else-at-rows-via-then-at-rows+else-rows-at, else-at-rows-via-else-at-rows}
+use Rattle.lbk_ucd.proofs.ranges.row_value.Goals as goal
+use Rattle.lbk_ucd.proofs.ranges.row_value.Goals.{else-at-rows-via-then-at-rows+else-rows-at, else-at-rows-via-else-at-rows}
 
 pub returns-then-rows-at : goal.returns-then-rows-at
 returns-then-rows-at g c =

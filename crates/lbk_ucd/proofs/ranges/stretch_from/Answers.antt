@@ -2,7 +2,7 @@ use Rattle.std.proofs.Common.{◌∙◌, Some, arith, sym, ap}
 use Rattle.std.proofs.lemmas.List.{get_or_default}
 use Rattle.lbk_ucd.proofs.OverlayLemmas.{no_value}
 use Rattle.lbk_ucd.proofs.RowLemmas.{first_value_here, meets_within, none_shares}
-use Rattle.lbk_ucd.proofs.rows.stretch_from.Goals as goal
+use Rattle.lbk_ucd.proofs.ranges.stretch_from.Goals as goal
 
 pub returns-then-at-rows-clause-same : goal.returns-then-at-rows-clause-same
 returns-then-at-rows-clause-same g c = λ k low high.

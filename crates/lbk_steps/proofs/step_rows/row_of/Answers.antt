@@ -2,7 +2,7 @@ use Rattle.std.proofs.Common.{◌≢◌}
 use Rattle.std.proofs.lemmas.List.Elements.{All-push}
 use Rattle.std.proofs.lemmas.List.Quantifiers.{all_pairs_push}
 use Rattle.lbk_steps.specs.EnoughRows.{IsKnown}
-use Rattle.lbk_steps.proofs.rows.row_of.Goals as goal
+use Rattle.lbk_steps.proofs.step_rows.row_of.Goals as goal
 
 pub returns-clause-known : goal.returns-clause-known
 returns-clause-known c = λ before here.
