@@ -1,7 +1,7 @@
 -- What the sample files come to: their cells, or want of memory.
 use Rattle.std.specs.Prelude.{◌≡◌, ℕ, ⊤}
 use Rattle.lbk_ucd.specs.declared.tables.Files.{Files}
-use Rattle.lbk_ucd.specs.declared.fault.UcdCause.TheVariants as cause
+use Rattle.lbk_ucd.specs.declared.faults.UcdCause.TheVariants as cause
 use Rattle.lbk_ucd.specs.Samples.{AreSamples}
 use Rattle.lbk_rules.specs.declared.cells.Cell.{Cell}
 use Rattle.lbk_files.specs.declared.faults.CellsFault.{CellsFault}

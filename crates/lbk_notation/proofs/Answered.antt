@@ -1,7 +1,7 @@
 -- What is answered of the run over a line, in the words of the grammar.
 use Rattle.std.proofs.Common.{◌≡◌, ℕ, ◌≤◌, List, length, Option, Some, Result, Ok, Err, IfOk, IfErr}
-use Rattle.lbk_notation.specs.declared.fault.LineFault.{LineFault}
-use Rattle.lbk_notation.specs.declared.fault.LineFault.TheVariants.{LineTooLong, Bad, Memory}
+use Rattle.lbk_notation.specs.declared.faults.LineFault.{LineFault}
+use Rattle.lbk_notation.specs.declared.faults.LineFault.TheVariants.{LineTooLong, Bad, Memory}
 use Rattle.lbk_notation.specs.declared.marks.Form.{Form}
 use Rattle.lbk_notation.specs.Fault.{IsFault, longest}
 use Rattle.lbk_notation.specs.Grammar.{IsLine}

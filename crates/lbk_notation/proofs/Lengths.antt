@@ -8,8 +8,8 @@ use Rattle.std.proofs.lemmas.Bool.{and_parts, cond_both, cases_lt, ltb-true, ltb
 use Rattle.std.proofs.lemmas.Bool.Decides.{nat_tests}
 use Rattle.std.proofs.lemmas.List.{length-map}
 use Rattle.std.proofs.lemmas.Str.{length-encode, len_utf8_bounds}
-use Rattle.lbk_notation.specs.declared.fault.LineFault.{LineFault}
-use Rattle.lbk_notation.specs.declared.fault.LineFault.TheVariants.{LineTooLong, Bad, Memory}
+use Rattle.lbk_notation.specs.declared.faults.LineFault.{LineFault}
+use Rattle.lbk_notation.specs.declared.faults.LineFault.TheVariants.{LineTooLong, Bad, Memory}
 use Rattle.lbk_notation.specs.declared.marks.Form.{Form}
 use Rattle.lbk_notation.specs.declared.marks.Form.TheVariants.{Kinds}
 use Rattle.lbk_notation.specs.declared.marks.Mark.{Mark}

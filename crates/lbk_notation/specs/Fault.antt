@@ -1,7 +1,7 @@
 -- When a line is refused.
 use Rattle.std.specs.Prelude.{ℕ, ◌<◌, ◌≤◌, List, length, Some}
-use Rattle.lbk_notation.specs.declared.fault.LineFault.{LineFault}
-use Rattle.lbk_notation.specs.declared.fault.LineFault.TheVariants.{LineTooLong, Bad, Memory}
+use Rattle.lbk_notation.specs.declared.faults.LineFault.{LineFault}
+use Rattle.lbk_notation.specs.declared.faults.LineFault.TheVariants.{LineTooLong, Bad, Memory}
 use Rattle.lbk_notation.specs.declared.marks.Form.{Form}
 use Rattle.lbk_notation.specs.Grammar.{IsLine}
 use Rattle.lbk_notation.specs.TestLine.{Line}

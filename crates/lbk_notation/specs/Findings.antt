@@ -2,7 +2,7 @@
 use Rattle.std.specs.Prelude.{ℕ, ◌≤◌, List, [], ◌∷◌, length, None, Some, ⊤}
 use Rattle.lbk_rules.specs.declared.cells.Cell.{Cell}
 use Rattle.lbk_values.specs.declared.profile.Profile.{Profile}
-use Rattle.lbk_notation.specs.declared.fault.LineFault.TheVariants as Faults
+use Rattle.lbk_notation.specs.declared.faults.LineFault.TheVariants as Faults
 use Rattle.lbk_notation.specs.declared.findings.Finding.{Finding}
 use Rattle.lbk_notation.specs.declared.findings.Finding.TheVariants.{NoLine, Replayed, Bad, Long}
 use Rattle.lbk_notation.specs.declared.marks.Form.{Form}

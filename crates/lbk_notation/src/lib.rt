@@ -3,7 +3,7 @@
 //! the rules.
 #![tactic(auto)]
 
-mod fault;
+mod faults;
 pub mod file_laws;
 mod files;
 mod findings;
@@ -21,7 +21,7 @@ mod round_trip;
 mod replay_lines;
 mod writing;
 
-pub use fault::LineFault;
+pub use faults::LineFault;
 pub use files::replay;
 pub use findings::{Outcome, ReplayFault, Report, STREAM_MAX};
 pub use test_line::TestLine;

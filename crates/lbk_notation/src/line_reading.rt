@@ -5,9 +5,9 @@ ghost use Rattle.lbk_notation.specs.Fault.{IsFault, longest};
 ghost use Rattle.lbk_notation.specs.Grammar.{IsLine};
 ghost use Rattle.lbk_notation.specs.TestLine.{Line};
 ghost use Rattle.lbk_notation.specs.Run.{run_line, IsRunFault};
-ghost use Rattle.lbk_notation.specs.declared.fault.LineFault.TheVariants.{LineTooLong};
+ghost use Rattle.lbk_notation.specs.declared.faults.LineFault.TheVariants.{LineTooLong};
 
-use super::fault::LineFault;
+use super::faults::LineFault;
 use super::test_line::TestLine;
 use super::marks::Form;
 use super::reader::{State, Taken, sort_of, step};

@@ -4,7 +4,7 @@ ghost use Rattle.std.specs.Prelude.{◌≡◌, IfOk, IfErr};
 ghost use Rattle.lbk_notation.specs.Fault.{HasMarks};
 ghost use Rattle.lbk_notation.specs.Findings.{IsFinding};
 
-use super::fault::LineFault;
+use super::faults::LineFault;
 use super::findings::{Finding, ReplayFault};
 use super::marks::Form;
 use super::outcome::replay_line;

@@ -10,10 +10,10 @@ ghost use Rattle.lbk_notation.specs.Grammar.{IsLine};
 ghost use Rattle.lbk_notation.specs.declared.marks.Form.TheVariants.{Kinds};
 ghost use Rattle.lbk_notation.specs.Shown.{passage_line, passage_marks};
 ghost use Rattle.lbk_notation.specs.Written.{shown_line, written_line};
-ghost use Rattle.lbk_notation.specs.declared.fault.LineFault.TheVariants.{LineTooLong, Memory};
+ghost use Rattle.lbk_notation.specs.declared.faults.LineFault.TheVariants.{LineTooLong, Memory};
 ghost use Rattle.lbk_rules.specs.declared.verdicts.Verdict.{Verdict};
 
-use super::fault::LineFault;
+use super::faults::LineFault;
 use super::test_line::TestLine;
 use super::marks::Form;
 use super::line_reading::read_line;

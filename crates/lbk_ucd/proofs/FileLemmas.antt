@@ -9,8 +9,8 @@ use Rattle.std.proofs.lemmas.List.Splits.{length-slice_split}
 use Rattle.std.proofs.lemmas.List.Sums.{count_by-le-length}
 use Rattle.lbk_ucd.specs.declared.ranges.Row.{Row}
 use Rattle.lbk_ucd.specs.declared.gathered.Gathered.{Gathered}
-use Rattle.lbk_ucd.specs.declared.fault.UcdCause.{UcdCause}
-use Rattle.lbk_ucd.specs.declared.fault.UcdCause.TheVariants.{Overlap, Range, LineTooLong}
+use Rattle.lbk_ucd.specs.declared.faults.UcdCause.{UcdCause}
+use Rattle.lbk_ucd.specs.declared.faults.UcdCause.TheVariants.{Overlap, Range, LineTooLong}
 use Rattle.lbk_ucd.specs.PropertyLine.{Entry, Meaning, nothing, row, default, meaning_of}
 use Rattle.lbk_ucd.specs.Rows.{shares, value_at}
 use Rattle.lbk_ucd.specs.File.{Format, named, row_meant, row_in, default_in, rows_in, defaults_in, cause_of_room, cause_of_value, cause_of_entry, cause_of_meaning, cause_beside, cause_after, cause_at, lines_of, without_mark, property_of, IsLawful, IsLawfulBefore, IsGrowth, IsRefusal}

@@ -6,8 +6,8 @@ use Rattle.std.proofs.lemmas.List.Elements.{filter_map-append}
 use Rattle.std.proofs.lemmas.List.Quantifiers.{all_pairs_push}
 use Rattle.std.proofs.lemmas.Bool.{cases_lt, and_parts}
 use Rattle.lbk_ucd.specs.declared.ranges.Row.{Row}
-use Rattle.lbk_ucd.specs.declared.fault.UcdCause.{UcdCause}
-use Rattle.lbk_ucd.specs.declared.fault.UcdCause.TheVariants.{FileTooLong}
+use Rattle.lbk_ucd.specs.declared.faults.UcdCause.{UcdCause}
+use Rattle.lbk_ucd.specs.declared.faults.UcdCause.TheVariants.{FileTooLong}
 use Rattle.lbk_ucd.specs.Rows.{holds, shares, AreApart}
 use Rattle.lbk_ucd.specs.File.{Format, row_in, rows_in, defaults_in, lines_of, cause_at, IsLawfulBefore, IsLawful, IsLineFault, IsFault}
 use Rattle.lbk_ucd.proofs.FileLemmas.{lawful_more, apart_line}

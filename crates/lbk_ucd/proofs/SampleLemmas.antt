@@ -1,9 +1,9 @@
 -- The sample files have no fault, computed from the definitions, and files without one are refused for want of memory alone.
 use Rattle.std.proofs.Common.{◌≡◌, ℕ, ◌<◌, Bool, true, false, List, length, nat_lt, Option, None, Some, inl, inr, refl, sym, subst, true≢false, arith}
 use Rattle.std.proofs.lemmas.Bool.{agree_below, agree_below_at, ltb-true}
-use Rattle.lbk_ucd.specs.declared.fault.UcdCause.{UcdCause}
-use Rattle.lbk_ucd.specs.declared.fault.UcdCause.TheVariants.{Memory}
-use Rattle.lbk_ucd.specs.declared.fault.UcdFault.{UcdFault}
+use Rattle.lbk_ucd.specs.declared.faults.UcdCause.{UcdCause}
+use Rattle.lbk_ucd.specs.declared.faults.UcdCause.TheVariants.{Memory}
+use Rattle.lbk_ucd.specs.declared.faults.UcdFault.{UcdFault}
 use Rattle.lbk_ucd.specs.declared.tables.Files.{Files}
 use Rattle.lbk_ucd.specs.declared.which.Which.{Which}
 use Rattle.lbk_ucd.specs.declared.which.Which.TheVariants.{LineBreak, EastAsianWidth, Category, Emoji}

@@ -5,8 +5,8 @@ use Rattle.std.specs.List.{find, filter_map, list_any, slice_split, starts_with}
 use Rattle.std.specs.Option.{option_map}
 use Rattle.std.specs.Str.{bytes_eq}
 use Rattle.lbk_ucd.specs.declared.ranges.Row.{Row}
-use Rattle.lbk_ucd.specs.declared.fault.UcdCause.{UcdCause}
-use Rattle.lbk_ucd.specs.declared.fault.UcdCause.TheVariants.{FileTooLong, LineTooLong, RowSyntax, Range, UnknownValue, Overlap, TooManyRows, Memory}
+use Rattle.lbk_ucd.specs.declared.faults.UcdCause.{UcdCause}
+use Rattle.lbk_ucd.specs.declared.faults.UcdCause.TheVariants.{FileTooLong, LineTooLong, RowSyntax, Range, UnknownValue, Overlap, TooManyRows, Memory}
 use Rattle.lbk_ucd.specs.PropertyLine.{Entry, Meaning, nothing, row, default, meaning_of}
 use Rattle.lbk_ucd.specs.Rows.{shares, value_at}
 

@@ -3,8 +3,8 @@ use Rattle.std.specs.Prelude.{ℕ, ◌≡◌, ◌⊎◌, ◌+◌, length, ◌++�
 use Rattle.std.specs.Option.{option_to_list}
 use Rattle.lbk_ucd.specs.declared.ranges.Row.{Row}
 use Rattle.lbk_ucd.specs.declared.gathered.Gathered.{Gathered}
-use Rattle.lbk_ucd.specs.declared.fault.UcdCause.{UcdCause}
-use Rattle.lbk_ucd.specs.declared.fault.UcdCause.TheVariants.{Memory}
+use Rattle.lbk_ucd.specs.declared.faults.UcdCause.{UcdCause}
+use Rattle.lbk_ucd.specs.declared.faults.UcdCause.TheVariants.{Memory}
 
 -- how many rows and defaults there are
 abbrev pub count_of : {V : Type 0} → Gathered V → ℕ

@@ -8,7 +8,7 @@ ghost use Rattle.lbk_ucd.specs.Ranges.{IsRange};
 ghost use Rattle.lbk_ucd.specs.Shown.{shown_entry, shown_format, lines_left};
 ghost use Rattle.lbk_ucd.specs.Tables.{value_of};
 
-use crate::fault::{UcdCause, UcdFault};
+use crate::faults::{UcdCause, UcdFault};
 use crate::format::{Format, value_named};
 use crate::gathered::Gathered;
 use crate::property_line::{Entry, Meaning, meaning_of, place_of};

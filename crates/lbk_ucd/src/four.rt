@@ -4,7 +4,7 @@ ghost use Rattle.lbk_ucd.specs.Tables.{value_of};
 ghost use Rattle.lbk_ucd.specs.File.{IsLawful, IsRefusal, property_of};
 ghost use Rattle.lbk_ucd.specs.Names.{line_break_format, east_asian_format, category_format, emoji_format};
 
-use crate::fault::UcdFault;
+use crate::faults::UcdFault;
 use crate::file::read_file;
 use crate::format::{CATEGORY, EAST_ASIAN, EMOJI, LINE_BREAK};
 use crate::ranges::Assigned;

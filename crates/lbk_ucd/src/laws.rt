@@ -2,9 +2,9 @@
 ghost use Rattle.std.specs.Prelude.{◌≡◌, ◌==◌, ◌≤◌, ◌↔◌, ◌⊎◌, ℕ, Bool, true, false, not, List, Some};
 ghost use Rattle.std.specs.List.{AllPairs, list_any, list_all, join_with_byte};
 ghost use Rattle.lbk_ucd.specs.declared.ranges.Row.{Row};
-ghost use Rattle.lbk_ucd.specs.declared.fault.UcdCause.{UcdCause};
+ghost use Rattle.lbk_ucd.specs.declared.faults.UcdCause.{UcdCause};
 ghost use Rattle.lbk_ucd.specs.declared.tables.Files.{Files};
-ghost use Rattle.lbk_ucd.specs.declared.fault.UcdFault.{UcdFault};
+ghost use Rattle.lbk_ucd.specs.declared.faults.UcdFault.{UcdFault};
 ghost use Rattle.lbk_ucd.specs.Files.{AreLawful, IsRefused};
 ghost use Rattle.lbk_ucd.specs.Samples.{AreSamples};
 ghost use Rattle.lbk_ucd.specs.File.{Format, lines_of, rows_in, without_mark, IsLawful, IsFault};

@@ -1,7 +1,7 @@
 //! The property files of the Unicode Character Database that line breaking reads, and the tables made of them.
 #![tactic(auto)]
 
-mod fault;
+mod faults;
 mod file;
 mod format;
 mod four;
@@ -15,7 +15,7 @@ mod tables;
 mod taken;
 mod which;
 
-pub use fault::{UcdCause, UcdFault};
+pub use faults::{UcdCause, UcdFault};
 pub use file::LONGEST_FILE;
 pub use lbk_values::{Category, EastAsian, LineBreak};
 pub use samples::{SAMPLE_CATEGORY, SAMPLE_EAST_ASIAN, SAMPLE_EMOJI, SAMPLE_LINE_BREAK};

@@ -2,7 +2,7 @@
 
 ghost use Rattle.std.specs.Prelude.{◌≡◌, ◌≤◌, ℕ, IfOk, IfErr, OnOk};
 
-use crate::fault::UcdFault;
+use crate::faults::UcdFault;
 use crate::four::{read_category, read_east_asian, read_emoji, read_line_break};
 use crate::ranges::Assigned;
 use lbk_values::{Category, EastAsian, LineBreak};

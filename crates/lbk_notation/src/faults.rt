@@ -1,7 +1,7 @@
 //! Why a line of the notation could not be read.
 
 ghost use Rattle.std.specs.Prelude.{◌≡◌};
-ghost use Rattle.lbk_notation.specs.declared.fault.LineFault.TheVariants.{Memory};
+ghost use Rattle.lbk_notation.specs.declared.faults.LineFault.TheVariants.{Memory};
 
 use std::alloc::{AllocError, AllocFailed};
 
