@@ -8,7 +8,7 @@ use lbk_cmd::{segment, show};
 use lbk_feed::devices::MemorySource;
 use lbk_notation::{Form, replay};
 use lbk_passage::{LIMIT_MAX, Segment, Segmenter};
-use lbk_rules::{Break, Class, Kind, LateMachine, ForwardMachine, Profile, Rule, Verdict};
+use lbk_rules::{Break, Class, ForwardMachine, Kind, LateMachine, Profile, Rule, Verdict};
 use lbk_steps::{CellPages, CellSource, Stepper};
 use lbk_ucd::Tables;
 use std::alloc::{AllocError, Global};

@@ -128,12 +128,7 @@ fn take_unless_held(
 /// Takes one scalar, also where the position before it is held, and writes the break there. It is seldom called, and stands
 /// apart as `by_rules::fill` does.
 #[inline(never)]
-fn take_one(
-    machine: &mut RowMachine<'_>,
-    text: &str,
-    here: Filled,
-    block: &mut [Break],
-) -> Filled
+fn take_one(machine: &mut RowMachine<'_>, text: &str, here: Filled, block: &mut [Break]) -> Filled
     requires room { here.count < length block.old }
     requires place { IsCharBoundary text.now here.at }
     requires some { here.at < length text.now }

@@ -14,9 +14,9 @@ ghost use Rattle.lbk_c.specs.Reached.{Comes, Goes, IsGoing, IsSpent, Reached, fr
 ghost use Rattle.lbk_c.specs.Shown.{given_in};
 ghost use Rattle.lbk_c.specs.State.{profile_numbered, start_in};
 
+use crate::fill_state::FillState;
 use crate::filling::{fill, put};
 use crate::interface::{RawBreak, State};
-use crate::fill_state::FillState;
 use lbk_rules::Profile;
 use lbk_steps::FlatTable;
 

@@ -13,8 +13,8 @@ ghost use Rattle.lbk_c.specs.Shown.{given_in};
 
 use crate::ahead::code_ahead;
 use crate::decoding::{Width, scalar_of};
-use crate::interface::RawBreak;
 use crate::fill_state::FillState;
+use crate::interface::RawBreak;
 use crate::steps::{CODES, step_at, steps_of};
 use bstr::decode_lossy;
 use lbk_rules::Profile;

@@ -9,12 +9,12 @@ mod ahead;
 mod breaking;
 mod decoding;
 mod faults;
+mod fill_state;
 mod filling;
 mod interface;
 mod labels;
-mod fill_state;
-mod table_reading;
 mod steps;
+mod table_reading;
 
 pub use breaking::lbk_breaks;
 pub use interface::{Fault, RawBreak, RuleLabel, State};

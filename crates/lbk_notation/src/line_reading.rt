@@ -8,9 +8,9 @@ ghost use Rattle.lbk_notation.specs.Run.{run_line, IsRunFault};
 ghost use Rattle.lbk_notation.specs.declared.faults.LineFault.TheVariants.{LineTooLong};
 
 use super::faults::LineFault;
-use super::test_line::TestLine;
 use super::marks::Form;
 use super::reader::{State, Taken, sort_of, step};
+use super::test_line::TestLine;
 use std::alloc::{AllocError, Global};
 
 /// The longest line, in bytes.

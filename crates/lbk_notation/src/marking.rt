@@ -6,8 +6,8 @@ ghost use Rattle.std.specs.Str.{chars};
 ghost use Rattle.lbk_notation.specs.Marked.{mark_of, marks_in, marked_text};
 ghost use Rattle.lbk_notation.specs.Put.{put, mark_now};
 
-use super::test_line::TestLine;
 use super::marks::Mark;
+use super::test_line::TestLine;
 use lbk_rules::{Kind, Profile, Verdict};
 use lbk_steps::{CellSource, Stepper};
 use std::alloc::{AllocError, Global};

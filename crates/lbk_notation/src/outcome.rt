@@ -6,8 +6,8 @@ ghost use Rattle.lbk_notation.specs.Met.{Meets, agrees, is_before, met};
 ghost use Rattle.lbk_notation.specs.Outcome.{IsOutcome};
 
 use super::findings::Outcome;
-use super::test_line::TestLine;
 use super::marks::{Form, Mark};
+use super::test_line::TestLine;
 use lbk_rules::{Kind, Profile, Verdict};
 use lbk_steps::{CellSource, Stepper};
 

@@ -7,8 +7,8 @@ ghost use Rattle.lbk_notation.specs.Stream.{longest_stream};
 
 use super::findings::{Finding, ReplayFault, Report, STREAM_MAX};
 use super::line_reading::LONGEST;
-use super::replayer::Replayer;
 use super::replay_lines::{push_finding, push_total};
+use super::replayer::Replayer;
 use lbk_steps::CellSource;
 use std::alloc::{AllocError, Global};
 

@@ -6,9 +6,9 @@ ghost use Rattle.lbk_notation.specs.Findings.{IsFinding};
 
 use super::faults::LineFault;
 use super::findings::{Finding, ReplayFault};
+use super::line_reading::read_line;
 use super::marks::Form;
 use super::outcome::replay_line;
-use super::line_reading::read_line;
 use lbk_rules::Profile;
 use lbk_steps::CellSource;
 use std::alloc::Global;

@@ -14,9 +14,9 @@ ghost use Rattle.lbk_notation.specs.declared.faults.LineFault.TheVariants.{LineT
 ghost use Rattle.lbk_rules.specs.declared.verdicts.Verdict.{Verdict};
 
 use super::faults::LineFault;
-use super::test_line::TestLine;
-use super::marks::Form;
 use super::line_reading::read_line;
+use super::marks::Form;
+use super::test_line::TestLine;
 use super::writing::write_line;
 use std::alloc::Global;
 

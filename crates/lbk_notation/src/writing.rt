@@ -6,8 +6,8 @@ ghost use Rattle.lbk_notation.specs.Grammar.{IsLine, digit_byte, mark_bytes};
 ghost use Rattle.lbk_notation.specs.TestLine.{Line};
 ghost use Rattle.lbk_notation.specs.Written.{shown, token, written_marks, written_line, shown_line};
 
-use super::test_line::TestLine;
 use super::marks::{Form, Mark};
+use super::test_line::TestLine;
 use std::alloc::{AllocError, Global};
 
 /// The line as bytes, without a line end: marks and hex tokens with one space between them, each token

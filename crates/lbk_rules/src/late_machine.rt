@@ -31,7 +31,7 @@ pub struct LateMachine {
 
 /// What a step answers. Positions count cells from 0.
 #[derive(Clone, Copy, PartialEq, Eq, Debug)]
-pub struct Out {
+pub struct StepVerdicts {
     /// The verdict of the position before the cell, unless it is held.
     pub now: Option<Verdict>,
     /// The position that was held until now, and its verdict.
@@ -40,7 +40,7 @@ pub struct Out {
 
 /// What the end of the text answers. Positions count cells from 0.
 #[derive(Clone, Copy, PartialEq, Eq, Debug)]
-pub struct End {
+pub struct EndVerdicts {
     /// The position that was held until now, and its verdict.
     pub late: Option<(u64, Verdict)>,
     /// The verdict of the position after all cells.
@@ -81,7 +81,7 @@ impl LateMachine {
     /// position that was held until now, where the cell heads the unit after its quotation mark. It takes at most
     /// 18,446,744,073,709,551,615 cells.
     #[tactic(auto, unfolding(crate::specs::LateFits::steps_of))]
-    pub fn step(&mut self, cell: Cell) -> Out
+    pub fn step(&mut self, cell: Cell) -> StepVerdicts
         requires { steps_of self.old < 18446744073709551615 }
         ensures now { (profile : Profile) (cells more : List Cell) → LateFits self.old profile cells
             → result.now ≡ now_at profile cells (cell ∷ more) }
@@ -97,18 +97,18 @@ impl LateMachine {
         self.left = self.left.then(cell);
         self.steps += 1;
         let now = unless_held(verdict);
-        Out { now, late }
+        StepVerdicts { now, late }
     }
 
     /// The verdict of the position after all cells taken, where the text ends, and that of the position
     /// that was held until now.
-    pub fn finish(&self) -> End
+    pub fn finish(&self) -> EndVerdicts
         ensures late { (profile : Profile) (cells : List Cell) → LateFits self.now profile cells
             → result.late ≡ answer_at profile cells [] }
         ensures end { (profile : Profile) (cells : List Cell) → LateFits self.now profile cells
             → result.end ≡ verdict_in profile cells (length cells) }
     {
-        End {
+        EndVerdicts {
             late: self.answer(true),
             end: self.left.verdict_at_end(),
         }

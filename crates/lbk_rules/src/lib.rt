@@ -26,7 +26,7 @@ pub use codes::code_of;
 pub use evaluator::{decide, decide_in};
 pub use facts::{Before, Left};
 pub use forward_machine::{ForwardMachine, decide_all};
-pub use late_machine::{End, LateMachine, Out, decide_all_in, unless_held};
+pub use late_machine::{EndVerdicts, LateMachine, StepVerdicts, decide_all_in, unless_held};
 pub use lbk_values::Profile;
 pub use resolution::resolve;
 pub use verdicts::{Kind, Rule, Verdict, is_second};

@@ -10,8 +10,8 @@ ghost use Rattle.lbk_steps.specs.CellOfTables.{cell_of_tables};
 
 use crate::kind_table::KindTable;
 use crate::kinds::{KINDS, cell_of_kind};
-use crate::step_rows::{StepRows, Step};
 use crate::runs::CellRuns;
+use crate::step_rows::{Step, StepRows};
 use lbk_rules::{Cell, code_of};
 use lbk_ucd::Tables;
 use std::alloc::{AllocError, Global};

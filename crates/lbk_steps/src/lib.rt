@@ -13,9 +13,9 @@ mod kinds;
 mod pages;
 mod row_machine;
 mod row_stepper;
-mod step_rows;
 mod runs;
 mod source;
+mod step_rows;
 mod step_table;
 mod stepper;
 

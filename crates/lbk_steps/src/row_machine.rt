@@ -7,7 +7,7 @@ ghost use Rattle.lbk_steps.specs.Steps.{no_step, steps_in};
 use crate::ahead_machine::closes_in;
 use crate::kind_table::KindTable;
 use crate::kinds::{KINDS, cell_of_kind};
-use crate::step_rows::{StepRows, Step};
+use crate::step_rows::{Step, StepRows};
 use lbk_rules::{Cell, Left, Profile, Verdict};
 
 /// Decides the positions of a text one after another by a table of steps: two reads a scalar (UAX #14, section 6). It
@@ -42,7 +42,11 @@ impl<'a> RowMachine<'a> {
 
     /// A machine of this profile that has taken no scalar, by the kinds of all scalar values and the rows of both profiles.
     #[tactic(auto, unfolding(crate::specs::RowFits::RowFits))]
-    pub(crate) fn start(kinds: &'a KindTable, rows: &'a StepRows, profile: Profile) -> RowMachine<'a>
+    pub(crate) fn start(
+        kinds: &'a KindTable,
+        rows: &'a StepRows,
+        profile: Profile,
+    ) -> RowMachine<'a>
         ensures { (cell : ℕ → Cell) → AreKindsOf kinds.now cell → RowMachineFits result profile cell [] }
     {
         RowMachine {

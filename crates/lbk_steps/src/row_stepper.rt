@@ -5,7 +5,7 @@ ghost use Rattle.lbk_rules.specs.Held.{answer_at, is_15b, is_held, late_at, now_
 ghost use Rattle.lbk_rules.specs.Verdict.{verdict_in};
 
 use crate::row_machine::RowMachine;
-use lbk_rules::{End, Out, Verdict, unless_held};
+use lbk_rules::{EndVerdicts, StepVerdicts, Verdict, unless_held};
 
 /// A position whose verdict waits for the unit after a closing quotation mark, with both its answers:
 /// where that unit leaves the mark closed, or none comes, and where it does not.
@@ -70,7 +70,7 @@ impl<'a> RowStepper<'a> {
     /// the position that was held until now, where the scalar heads the unit after its quotation mark. It answers so for
     /// the first 18,446,744,073,709,551,615 scalars of a text.
     #[inline(always)]
-    pub fn step(&mut self, c: char) -> Out
+    pub fn step(&mut self, c: char) -> StepVerdicts
         ensures now { (profile : Profile) (cell : ℕ → Cell) (taken : List ℕ) (more : List Cell)
             → RowStepperFits self.old profile cell taken
             → result.now ≡ now_at profile (map cell taken) (cell c ∷ more) }
@@ -86,7 +86,7 @@ impl<'a> RowStepper<'a> {
         if self.held.is_none() && !verdict.rule.is_15b() {
             self.machine = machine;
             self.steps = self.steps.wrapping_add(1);
-            return Out {
+            return StepVerdicts {
                 now: Some(verdict),
                 late: None,
             };
@@ -97,7 +97,7 @@ impl<'a> RowStepper<'a> {
     /// The same where a position is held before the step or behind it, which is rare. Its values are set up here, and not in
     /// `step`; and `holding` and `late`, which it calls, take the stepper by value, so that a loop has its own in registers.
     #[inline(always)]
-    fn step_with_held(&mut self, c: char) -> Out
+    fn step_with_held(&mut self, c: char) -> StepVerdicts
         ensures now { (profile : Profile) (cell : ℕ → Cell) (taken : List ℕ) (more : List Cell)
             → RowStepperFits self.old profile cell taken
             → result.now ≡ now_at profile (map cell taken) (cell c ∷ more) }
@@ -112,7 +112,7 @@ impl<'a> RowStepper<'a> {
         let verdict = self.machine.step(c);
         self.steps = self.steps.wrapping_add(1);
         self.held = before.holding(c, verdict.rule.is_15b());
-        Out {
+        StepVerdicts {
             now: unless_held(verdict),
             late: before.late(c),
         }
@@ -120,7 +120,7 @@ impl<'a> RowStepper<'a> {
 
     /// The verdict of the position after all scalars taken, where the text ends, and that of the
     /// position that was held until now.
-    pub fn finish(&self) -> End
+    pub fn finish(&self) -> EndVerdicts
         ensures late { (profile : Profile) (cell : ℕ → Cell) (taken : List ℕ)
             → RowStepperFits self.now profile cell taken
             → result.late ≡ answer_at profile (map cell taken) [] }
@@ -128,7 +128,7 @@ impl<'a> RowStepper<'a> {
             → RowStepperFits self.now profile cell taken
             → result.end ≡ verdict_in profile (map cell taken) (length taken) }
     {
-        End {
+        EndVerdicts {
             late: self.answer(true),
             end: self.machine.finish(),
         }

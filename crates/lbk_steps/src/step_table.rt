@@ -5,8 +5,8 @@ ghost use Rattle.lbk_steps.specs.EnoughRows.{RowsSuffice};
 
 use crate::kind_table::KindTable;
 use crate::row_machine::RowMachine;
-use crate::step_rows::StepRows;
 use crate::runs::CellRuns;
+use crate::step_rows::StepRows;
 use lbk_rules::Profile;
 use std::alloc::{AllocError, Global};
 

@@ -5,7 +5,7 @@ use crate::calls::{
     stepper,
 };
 use lbk_breaks::{Break, Breaks};
-use lbk_rules::{Cell, Class, Kind, ForwardMachine, Out, Profile, Quote, Verdict};
+use lbk_rules::{Cell, Class, ForwardMachine, Kind, Profile, Quote, StepVerdicts, Verdict};
 use lbk_steps::CellPages;
 use lbk_tests_rows::cells::{mark, pictograph, plain, wide};
 use lbk_tests_rows::property_files::SAMPLES;
@@ -143,7 +143,7 @@ impl Answers {
         }
     }
 
-    fn add_step(&mut self, rt: &impl Abort, position: u64, out: Out) {
+    fn add_step(&mut self, rt: &impl Abort, position: u64, out: StepVerdicts) {
         self.add_late(rt, out.late);
         if let Some(verdict) = out.now {
             self.add(rt, position, verdict);
@@ -241,7 +241,7 @@ const EACH_ONCE: Files<'static> = Files {
 };
 
 /// Compares answers of a stepper and of the late machine.
-fn same_out(rt: &impl Abort, found: Out, want: Out, k: u64, text: &[Scalar; 3]) {
+fn same_out(rt: &impl Abort, found: StepVerdicts, want: StepVerdicts, k: u64, text: &[Scalar; 3]) {
     assert!(rt; found == want, "{found:?} at {k} of {text:?}");
 }
 

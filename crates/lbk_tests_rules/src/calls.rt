@@ -1,7 +1,9 @@
 //! Calls that tests make, each without its contract. A test proves only that it is safe and returns, so it needs no
 //! fact of them; a check that does not carry their facts from call to call takes a fraction of the time.
 
-use lbk_rules::{Cell, LateMachine, ForwardMachine, Out, Profile, Verdict, decide, decide_in};
+use lbk_rules::{
+    Cell, ForwardMachine, LateMachine, Profile, StepVerdicts, Verdict, decide, decide_in,
+};
 use lbk_steps::{CellPages, CellSource, Stepper};
 use lbk_ucd::{Files, Tables, UcdFault};
 use std::alloc::{AllocError, Global};
@@ -50,7 +52,12 @@ pub fn start_late(profile: Profile) -> LateMachine {
 }
 
 /// Steps on, behind `taken` cells.
-pub fn late_step(rt: &impl Abort, machine: &mut LateMachine, taken: u64, cell: Cell) -> Out {
+pub fn late_step(
+    rt: &impl Abort,
+    machine: &mut LateMachine,
+    taken: u64,
+    cell: Cell,
+) -> StepVerdicts {
     assert!(rt; machine.steps() == taken && taken < u64::MAX);
     machine.step(cell)
 }
@@ -59,7 +66,7 @@ pub fn stepper<C: CellSource>(source: &C, profile: Profile) -> Stepper<'_, C> {
     Stepper::start(source, profile)
 }
 
-pub fn step_over<C: CellSource>(stepper: &mut Stepper<'_, C>, c: char) -> Out {
+pub fn step_over<C: CellSource>(stepper: &mut Stepper<'_, C>, c: char) -> StepVerdicts {
     stepper.step(c)
 }
 

@@ -4,7 +4,9 @@ use crate::calls::{
     cell_of, decided, decided_in, late_step, pages_by, same, start_late, step_over, stepper,
     tables_of,
 };
-use lbk_rules::{Cell, Class, End, Kind, Out, Profile, Rule, Verdict, decide_all, decide_all_in};
+use lbk_rules::{
+    Cell, Class, EndVerdicts, Kind, Profile, Rule, StepVerdicts, Verdict, decide_all, decide_all_in,
+};
 use lbk_steps::{CellPages, CellSource};
 use lbk_tests_rows::cells::cells_of;
 use lbk_tests_rows::property_files::{SAMPLES, line_break_alone};
@@ -149,7 +151,7 @@ fn steps_over<C: CellSource>(
     Ok(steps)
 }
 
-fn push_step(steps: &mut String, out: Out) -> Result<(), AllocError> {
+fn push_step(steps: &mut String, out: StepVerdicts) -> Result<(), AllocError> {
     match out.now {
         None => steps.push('-')?,
         Some(verdict) => steps.push_str(verdict.rule.label())?,
@@ -158,7 +160,7 @@ fn push_step(steps: &mut String, out: Out) -> Result<(), AllocError> {
     steps.push(' ')
 }
 
-fn push_end(steps: &mut String, end: End) -> Result<(), AllocError> {
+fn push_end(steps: &mut String, end: EndVerdicts) -> Result<(), AllocError> {
     steps.push_str(end.end.rule.label())?;
     push_late(steps, end.late)
 }

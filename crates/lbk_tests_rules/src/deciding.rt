@@ -1,7 +1,10 @@
 //! What the evaluator and the machines answer, kinds and all, over a list of cells, and the cell that properties come to.
 
 use crate::calls::{decided, decided_in, late_step, same_at, same_value, start_late, step};
-use lbk_rules::{Cell, Class, End, Kind, ForwardMachine, Out, Profile, Quote, Rule, Verdict, decide_all, decide_all_in, resolve};
+use lbk_rules::{
+    Cell, Class, EndVerdicts, ForwardMachine, Kind, Profile, Quote, Rule, StepVerdicts, Verdict,
+    decide_all, decide_all_in, resolve,
+};
 use lbk_tests_rows::cells::{mark, plain};
 use lbk_ucd::{Category, EastAsian, LineBreak};
 use std::process::Abort;
@@ -90,20 +93,20 @@ fn second_profile_at_once(rt: HostRuntime) {
 }
 
 /// The answer of a step by which no held position comes.
-fn at_once(rule: Rule) -> Out {
-    Out {
+fn at_once(rule: Rule) -> StepVerdicts {
+    StepVerdicts {
         now: Some(no(rule)),
         late: None,
     }
 }
 
 /// What the steps over these cells answer.
-fn outs_of_quoted() -> [Out; 5] {
-    let held = Out {
+fn outs_of_quoted() -> [StepVerdicts; 5] {
+    let held = StepVerdicts {
         now: None,
         late: None,
     };
-    let answered = Out {
+    let answered = StepVerdicts {
         now: Some(no(Rule::Lb13)),
         late: Some((2, no(Rule::Lb15b))),
     };
@@ -127,7 +130,7 @@ fn held_position(rt: HostRuntime) {
         same_at(&rt, out, outs[k as usize], k as usize);
     }
     same_value(&rt, machine.steps(), 5, "steps");
-    let end = End {
+    let end = EndVerdicts {
         late: None,
         end: END,
     };

@@ -5,7 +5,10 @@ use crate::digest::Digest;
 use crate::inputs::{Input, verdicts_of};
 use crate::told::digest_told;
 use anyhow::{Result, ensure};
-use lbk_rules::{Cell, LateMachine, ForwardMachine, Out, Profile, Verdict, decide, decide_all, decide_all_in, decide_in};
+use lbk_rules::{
+    Cell, ForwardMachine, LateMachine, Profile, StepVerdicts, Verdict, decide, decide_all,
+    decide_all_in, decide_in,
+};
 use std::alloc::Global;
 
 /// `decide`, `decide_in`, `decide_all`, `decide_all_in`.
@@ -101,7 +104,7 @@ fn step_late_machine(digest: &mut Digest, list: &[Cell], profile: Profile) {
     digest.add(machine.steps());
 }
 
-pub fn add_out(digest: &mut Digest, out: Out) {
+pub fn add_out(digest: &mut Digest, out: StepVerdicts) {
     add_late(digest, out.late);
     if let Some(verdict) = out.now {
         add_verdict(digest, verdict);
