@@ -6,7 +6,7 @@ ghost use Rattle.lbk_values.specs.declared.profile.Profile.{Profile};
 ghost use Rattle.lbk_steps.specs.AheadFits.{AheadFits};
 ghost use Rattle.lbk_breaks.specs.Onward.{Filled};
 
-use crate::filling::{Filled, put};
+use crate::filling::{FilledTo, put};
 use lbk_rules::Break;
 use lbk_steps::{AheadMachine, CellSource};
 
@@ -18,7 +18,7 @@ pub(crate) fn fill<C: CellSource>(
     text: &str,
     start: usize,
     block: &mut [Break],
-) -> Filled
+) -> FilledTo
     requires { IsCharBoundary text.now start }
     ensures place { IsCharBoundary text.now result.at }
     ensures filled { (profile : Profile) (cell : ℕ → Cell) (before : List ℕ) → AheadFits C.cell_of machine.old profile cell before
@@ -41,5 +41,5 @@ pub(crate) fn fill<C: CellSource>(
         at = text.len() - rest.len();
     }
     *machine = here;
-    Filled { count, at }
+    FilledTo { count, at }
 }

@@ -6,7 +6,7 @@ ghost use Rattle.lbk_values.specs.declared.profile.Profile.{Profile};
 ghost use Rattle.lbk_steps.specs.RowMachineFits.{RowMachineFits};
 ghost use Rattle.lbk_breaks.specs.Onward.{Filled};
 
-use crate::filling::{Filled, put};
+use crate::filling::{FilledTo, put};
 use lbk_rules::Break;
 use lbk_steps::RowMachine;
 
@@ -17,7 +17,7 @@ pub(crate) fn fill(
     text: &str,
     start: usize,
     block: &mut [Break],
-) -> Filled
+) -> FilledTo
     requires { IsCharBoundary text.now start }
     ensures place { IsCharBoundary text.now result.at }
     ensures filled { (profile : Profile) (cell : ℕ → Cell) (before : List ℕ) → RowMachineFits machine.old profile cell before
@@ -25,7 +25,7 @@ pub(crate) fn fill(
     ensures within { result.count ≤ length block.old }
     ensures stops { result.count < length block.old → result.at ≡ length text.now }
 {
-    let empty = Filled {
+    let empty = FilledTo {
         count: 0,
         at: start,
     };
@@ -40,7 +40,7 @@ pub(crate) fn fill(
 /// Goes on until the block is full, the text ends, or a position is held. It calls nothing, so that all it has stays in
 /// registers.
 #[inline(never)]
-fn quick(machine: &mut RowMachine<'_>, text: &str, start: Filled, block: &mut [Break]) -> Filled
+fn quick(machine: &mut RowMachine<'_>, text: &str, start: FilledTo, block: &mut [Break]) -> FilledTo
     requires room { start.count ≤ length block.old }
     requires place { IsCharBoundary text.now start.at }
     ensures within { result.count ≤ length block.old }
@@ -67,9 +67,9 @@ fn quick(machine: &mut RowMachine<'_>, text: &str, start: Filled, block: &mut [B
 fn run_of_ascii(
     machine: &mut RowMachine<'_>,
     text: &str,
-    start: Filled,
+    start: FilledTo,
     block: &mut [Break],
-) -> Filled
+) -> FilledTo
     requires room { start.count ≤ length block.old }
     requires place { IsCharBoundary text.now start.at }
     ensures within { result.count ≤ length block.old }
@@ -92,7 +92,7 @@ fn run_of_ascii(
         count = put(block, count, at, verdict);
         at += 1;
     }
-    Filled { count, at }
+    FilledTo { count, at }
 }
 
 /// Takes one scalar and writes the break before it. None comes where that position is held, and nothing is taken then.
@@ -100,9 +100,9 @@ fn run_of_ascii(
 fn take_unless_held(
     machine: &mut RowMachine<'_>,
     text: &str,
-    here: Filled,
+    here: FilledTo,
     block: &mut [Break],
-) -> Option<Filled>
+) -> Option<FilledTo>
     requires room { here.count < length block.old }
     requires place { IsCharBoundary text.now here.at }
     requires some { here.at < length text.now }
@@ -119,7 +119,7 @@ fn take_unless_held(
         unreachable!()
     };
     let verdict = machine.step_unless_held(c)?;
-    Some(Filled {
+    Some(FilledTo {
         count: put(block, here.count, here.at, verdict),
         at: text.len() - scalars.as_str().len(),
     })
@@ -128,7 +128,12 @@ fn take_unless_held(
 /// Takes one scalar, also where the position before it is held, and writes the break there. It is seldom called, and stands
 /// apart as `by_rules::fill` does.
 #[inline(never)]
-fn take_one(machine: &mut RowMachine<'_>, text: &str, here: Filled, block: &mut [Break]) -> Filled
+fn take_one(
+    machine: &mut RowMachine<'_>,
+    text: &str,
+    here: FilledTo,
+    block: &mut [Break],
+) -> FilledTo
     requires room { here.count < length block.old }
     requires place { IsCharBoundary text.now here.at }
     requires some { here.at < length text.now }
@@ -146,7 +151,7 @@ fn take_one(machine: &mut RowMachine<'_>, text: &str, here: Filled, block: &mut 
     let rest = scalars.as_str();
     let verdict = machine.look_ahead(c, rest);
     machine.step(c);
-    Filled {
+    FilledTo {
         count: put(block, here.count, here.at, verdict),
         at: text.len() - rest.len(),
     }

@@ -6,7 +6,7 @@ ghost use Rattle.lbk_values.specs.declared.profile.Profile.{Profile};
 ghost use Rattle.lbk_rules.specs.Verdict.{verdict_between_in};
 ghost use Rattle.lbk_breaks.specs.Onward.{Filled, FillsTo};
 
-use crate::filling::{Filled, put};
+use crate::filling::{FilledTo, put};
 use crate::{by_rules, by_steps};
 use lbk_rules::{Break, Profile, Verdict};
 use lbk_steps::{AheadMachine, CellSource, RowMachine};
@@ -69,7 +69,7 @@ impl<'a, C: CellSource> Walk<'a, C> {
     }
 
     /// The same without the text's end.
-    fn fill_before_end(&mut self, text: &str, start: usize, block: &mut [Break]) -> Filled
+    fn fill_before_end(&mut self, text: &str, start: usize, block: &mut [Break]) -> FilledTo
         requires { IsCharBoundary text.now start }
         ensures place { IsCharBoundary text.now result.at }
         ensures filled { (profile : Profile) (cell : ℕ → Cell) (before : List ℕ) → WalkFits C.cell_of self.old profile cell before

@@ -11,7 +11,8 @@ use Rattle.lbk_steps.specs.declared.flat_table.FlatTable.{FlatTable}
 use Rattle.lbk_steps.specs.Cells.{cell_of_files}
 use Rattle.lbk_steps.specs.FlatTable.{IsFlatOf}
 use Rattle.lbk_rules.specs.Normal.{normal}
-use Rattle.lbk_rules.specs.Resolve.{cell_of_properties, cell_of_tables}
+use Rattle.lbk_rules.specs.Resolve.{cell_of_properties}
+use Rattle.lbk_steps.specs.CellOfTables.{cell_of_tables}
 
 -- a table over some cells is one over the same cells
 pub flat-same : (cell other : ℕ → Cell) (table : FlatTable) → ((code : ℕ) → IsScalar code → cell code ≡ other code) → IsFlatOf table cell → IsFlatOf table other
