@@ -19,14 +19,18 @@ mod resolution;
 mod table;
 mod verdicts;
 
+// What callers name.
 pub use breaks::Break;
 pub use cells::Cell;
 pub use classes::{Class, Quote};
-pub use codes::code_of;
 pub use evaluator::{decide, decide_in};
+pub use lbk_values::Profile;
+pub use resolution::resolve;
+pub use verdicts::{Kind, Rule, Verdict};
+
+// What `lbk_steps` is made of, and what tests compare it with.
+pub use codes::code_of;
 pub use facts::{Before, Left};
 pub use forward_machine::{ForwardMachine, decide_all};
 pub use late_machine::{EndVerdicts, LateMachine, StepVerdicts, decide_all_in, unless_held};
-pub use lbk_values::Profile;
-pub use resolution::resolve;
-pub use verdicts::{Kind, Rule, Verdict, is_second};
+pub use verdicts::is_second;

@@ -19,11 +19,14 @@ mod step_rows;
 mod step_table;
 mod stepper;
 
+// What callers name.
+pub use pages::CellPages;
+pub use source::CellSource;
+pub use stepper::Stepper;
+
+// What `lbk_breaks` and `lbk_c` step by.
 pub use ahead_machine::AheadMachine;
 pub use flat_table::{FlatStep, FlatTable, HELD, LAYOUT, STEPS, TableError};
-pub use pages::CellPages;
 pub use row_machine::RowMachine;
 pub use row_stepper::RowStepper;
-pub use source::CellSource;
 pub use step_table::StepTable;
-pub use stepper::Stepper;
