@@ -1,4 +1,4 @@
-//! The rows of `lbk_trials`: each call that can want memory, and each that takes none, on an input of its own, and what
+//! The rows of `trials`: each call that can want memory, and each that takes none, on an input of its own, and what
 //! is told of its answer.
 #![tactic(auto)]
 

@@ -1,16 +1,16 @@
-//! `lbk_trials`: each call that can want memory, and each that takes none, run once on an input of its own.
+//! `trials`: each call that can want memory, and each that takes none, run once on an input of its own.
 //!
-//! `lbk_trials ROW PROFILE` runs a row of the table and writes what the call answered. Without words it runs all
+//! `trials ROW PROFILE` runs a row of the table and writes what the call answered. Without words it runs all
 //! rows, and heads each with its name. It is run by `scripts/refuse-each-growth`, which refuses the growths of
 //! memory in turn and compares.
 #![tactic(auto)]
 
 use anyhow::Result;
 use lbk_rules::Profile;
-use lbk_trials_rows::digest;
-use lbk_trials_rows::rows::{GROUPS, Row, trial_of};
 use std::env;
 use std::process::ExitCode;
+use trials_rows::digest;
+use trials_rows::rows::{GROUPS, Row, trial_of};
 
 const USAGE: u8 = 2;
 
@@ -30,7 +30,7 @@ fn main(rt: HostRuntime) -> Result<ExitCode> {
 }
 
 fn usage(rt: &HostRuntime) -> Result<ExitCode> {
-    eprintln!(rt; "usage: lbk_trials [ROW [2]]")?;
+    eprintln!(rt; "usage: trials [ROW [2]]")?;
     Ok(ExitCode::from(USAGE))
 }
 

@@ -1,4 +1,4 @@
-//! `lbk_bench`: how fast each layer goes over a text.
+//! `bench`: how fast each layer goes over a text.
 #![tactic(auto)]
 
 mod dropped;
@@ -16,7 +16,7 @@ const USAGE: u8 = 2;
 fn main(rt: HostRuntime) -> Result<ExitCode> {
     let words: Vec<String> = env::args(&rt)?.skip(1).collect(rt.alloc())?;
     let [text, line_break, east_asian, category, emoji] = words.as_slice() else {
-        eprintln!(rt; "usage: lbk_bench TEXT LINE_BREAK EAST_ASIAN CATEGORY EMOJI")?;
+        eprintln!(rt; "usage: bench TEXT LINE_BREAK EAST_ASIAN CATEGORY EMOJI")?;
         return Ok(ExitCode::from(USAGE));
     };
     let names = Names {
