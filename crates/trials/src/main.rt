@@ -1,4 +1,4 @@
-//! `trials`: each call that can want memory, and each that takes none, run once on an input of its own.
+//! `trials`: each call that can want memory, and each that takes none, run once on its own input.
 //!
 //! `trials ROW PROFILE` runs a row of the table and writes what the call answered. Without words it runs all
 //! rows, and heads each with its name. It is run by `scripts/refuse-each-growth`, which refuses the growths of

@@ -1,5 +1,6 @@
-//! The rows of `trials`: each call that can want memory, and each that takes none, on an input of its own, and what
-//! is told of its answer.
+//! The rows of `trials`: calls that want memory or take none, and what is told of their answers.
+//!
+//! Each call is on an input of its own.
 #![tactic(auto)]
 
 mod breaks;
