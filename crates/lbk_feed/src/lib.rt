@@ -1,4 +1,4 @@
-//! Devices that give and take bytes, and the feed that makes well-formed UTF-8 of what a device gives.
+//! Devices that give and take bytes, and the feed, which makes well-formed UTF-8 of what one gives.
 #![tactic(auto)]
 
 mod adapter;

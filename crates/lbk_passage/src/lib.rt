@@ -1,5 +1,6 @@
-//! Passages of a text: paragraphs, their segments at line breaks (Unicode Standard Annex #14) and their words
-//! (Unicode Standard Annex #29), while only one paragraph is held.
+//! Passages of a text: paragraphs, their segments and words, while only one paragraph is held.
+//!
+//! Segments end at line breaks (Unicode Standard Annex #14), and words are those of Annex #29.
 //!
 //! A [`Segmenter`] gives them one after another, of the bytes that a reader gives.
 #![tactic(auto)]

@@ -1,4 +1,4 @@
-//! The property files of the Unicode Character Database that line breaking reads, and the tables made of them.
+//! The property files of Unicode that line breaking reads, and the tables that are made of them.
 #![tactic(auto)]
 
 mod faults;

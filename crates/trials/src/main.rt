@@ -1,0 +1,85 @@
+//! `trials`: each call that can want memory, and each that takes none, run once on its own input.
+//!
+//! `trials ROW PROFILE` runs a row of the table and writes what the call answered. Without words it runs all
+//! rows, and heads each with its name. It is run by `scripts/refuse-each-growth`, which refuses the growths of
+//! memory in turn and compares.
+#![tactic(auto)]
+
+use anyhow::Result;
+use lbk_rules::Profile;
+use std::env;
+use std::process::ExitCode;
+use trials_rows::digest;
+use trials_rows::rows::{GROUPS, Row, trial_of};
+
+const USAGE: u8 = 2;
+
+/// What is shown of an answer where all rows are run.
+const SHOWN: usize = 400;
+
+fn main(rt: HostRuntime) -> Result<ExitCode> {
+    let words: Vec<String> = env::args(&rt)?.skip(1).collect(rt.alloc())?;
+    match words.as_slice() {
+        [] => run_all(&rt),
+        [name] => run_one(&rt, name.as_str(), Profile::First),
+        [name, profile] if profile.as_str() == "2" => {
+            run_one(&rt, name.as_str(), Profile::Second)
+        }
+        _ => usage(&rt),
+    }
+}
+
+fn usage(rt: &HostRuntime) -> Result<ExitCode> {
+    eprintln!(rt; "usage: trials [ROW [2]]")?;
+    Ok(ExitCode::from(USAGE))
+}
+
+/// Runs the row of this name, and writes the whole answer.
+fn run_one(rt: &HostRuntime, name: &str, profile: Profile) -> Result<ExitCode> {
+    let Some(trial) = trial_of(name) else {
+        return usage(rt);
+    };
+    let told = trial.run(rt.alloc(), profile)?;
+    print!(rt; "{told}")?;
+    Ok(ExitCode::SUCCESS)
+}
+
+/// Runs all rows, those that have a profile in both, and writes the answers that are short, the sum of the others.
+fn run_all(rt: &HostRuntime) -> Result<ExitCode> {
+    for group in &GROUPS {
+        run_rows(rt, group.rows())?;
+    }
+    Ok(ExitCode::SUCCESS)
+}
+
+fn run_rows(rt: &HostRuntime, rows: &[Row]) -> Result<()> {
+    for row in rows {
+        run_shortly(rt, row, Profile::First)?;
+        if row.1.has_profile() {
+            run_shortly(rt, row, Profile::Second)?;
+        }
+    }
+    Ok(())
+}
+
+fn run_shortly(rt: &HostRuntime, row: &Row, profile: Profile) -> Result<()> {
+    let (name, trial) = row;
+    let told = trial.run(rt.alloc(), profile)?;
+    match profile {
+        Profile::First => println!(rt; "row {name}")?,
+        Profile::Second => println!(rt; "row {name} 2")?,
+    }
+    show(rt, told.as_str())
+}
+
+/// Shows an answer, or its length and a digest of it.
+fn show(rt: &HostRuntime, told: &str) -> Result<()> {
+    if told.len() <= SHOWN {
+        println!(rt; "{}", told.strip_suffix('\n').unwrap_or(told))?;
+    } else {
+        let digest = digest::of(told.as_bytes());
+        let count = told.len();
+        println!(rt; "{count} bytes, digest {digest:016x}")?;
+    }
+    Ok(())
+}
