@@ -1,4 +1,5 @@
-//! The values that the crates above share: of the properties that line breaking reads, and which set of rules decides.
+//! The values of the properties that line breaking reads, and which set of rules decides.
+//!
 //! They stand below all, so that the command line waits for no rules, and the rules for no property files.
 #![tactic(auto)]
 
