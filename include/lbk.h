@@ -201,6 +201,10 @@ lbk_fault lbk_read(lbk_table *table, const void *line_break, size_t line_break_s
  * bytes are ill-formed, each longest piece that could have begun a scalar, or else each byte, is read as one U+FFFD at its
  * place (Unicode Standard, section 3.9, "U+FFFD Substitution of Maximal Subparts"), so each `at` counts the text's own bytes.
  *
+ * Whatever the table and the state have, each break is LBK_MAY or LBK_MUST by one of the rules; their places rise, from the
+ * state's `at` on and up to `size`; and a state of which breaks came is further on than it was, or has ended, with its `at` at
+ * `size`. So kinds and rules can be looked up in arrays, and calls while a block comes back full come to an end.
+ *
  * Answers 0 and leaves the state as it is: where `room` is 0, where the state's profile is none of the two, where its `at` is
  * behind the text's end, and where it has ended. What the block has behind the breaks that are answered is not specified: any of
  * its places may be written. Takes no memory from the heap. */

@@ -12,6 +12,7 @@ loop-here-init c =
       row = within.1;
       within = within.2;
       no_room = λ none. quick.ensures.no_room (omega arith);
+      in_order = quick.ensures.in_order;
       reached = λ cell lefts all flat start.
           quick.ensures.reached c.args.profile cell lefts all
           (subst (AreSwift c.args.profile lefts) (sym c.steps_of-steps.ensures) (flat-swift c.args.profile lefts c.args.table.now cell flat)) flat.kinds start;
@@ -27,6 +28,7 @@ loop-here-preserved c =
       row = within.1;
       within = within.2;
       no_room = λ none. absurd (omega arith);
+      in_order = λ from order. quick.ensures.in_order from (c.take_one-past.ensures.in_order from (l.invariant.in_order from order));
       reached = λ cell lefts all flat start.
           quick.ensures.reached c.args.profile cell lefts all
           (subst (AreSwift c.args.profile lefts) (sym c.steps_of-steps.ensures) (flat-swift c.args.profile lefts c.args.table.now cell flat)) flat.kinds
