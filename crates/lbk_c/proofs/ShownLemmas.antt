@@ -1,5 +1,5 @@
 -- What a break shows of a verdict.
-use Rattle.std.proofs.Common.{◌≡◌, ℕ, zero, suc, ◌==◌, ◌+◌, ◌*◌, ◌%◌, ◌/◌, ◌<◌, List, [], ◌∷◌, get_or, not, refl, sym, ap, ◌∙◌, arith}
+use Rattle.std.proofs.Common.{◌≡◌, ℕ, zero, suc, ◌==◌, ◌+◌, ◌%◌, ◌/◌, ◌<◌, List, [], ◌∷◌, get_or, not, refl, sym, ap, ◌∙◌, arith}
 use Rattle.lbk_rules.specs.declared.breaks.Break.{Break}
 use Rattle.lbk_rules.specs.declared.verdicts.Kind.{Kind}
 use Rattle.lbk_rules.specs.declared.verdicts.Kind.TheVariants.{No, May, Must}

@@ -1,7 +1,5 @@
-use Rattle.std.proofs.Common.{◌<◌, lit<, sym, subst, ◌∙◌, arith}
+use Rattle.std.proofs.Common.{lit<, arith}
 use Rattle.lbk_rules.specs.Codes.{verdict_coded}
-use Rattle.lbk_c.specs.Order.{AreInOrder}
-use Rattle.lbk_c.proofs.OrderLemmas.{AreInOrder-wider}
 use Rattle.lbk_c.proofs.breaking.put_end.Goals as goal
 
 pub returns-clause-some : goal.returns-clause-some

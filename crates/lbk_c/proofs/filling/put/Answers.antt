@@ -1,13 +1,11 @@
-use Rattle.std.proofs.Common.{◌≡◌, ◌+◌, ◌%◌, ◌/◌, ◌==◌, not, refl, sym, ap, subst, ◌∙◌, arith}
+use Rattle.std.proofs.Common.{◌≡◌, ◌+◌, ◌%◌, ◌/◌, not, sym, ap, subst, ◌∙◌, arith}
 use Rattle.std.specs.Int.{from_bool}
 use Rattle.std.proofs.Math.ListN.{set}
-use Rattle.lbk_rules.specs.declared.verdicts.Verdict.{Verdict}
-use Rattle.lbk_rules.specs.declared.breaks.Break.{Break}
 use Rattle.lbk_rules.specs.Breaks.{break_by, is_no}
-use Rattle.lbk_rules.specs.Codes.{IsCode, verdict_coded}
+use Rattle.lbk_rules.specs.Codes.{verdict_coded}
 use Rattle.lbk_c.specs.declared.interface.RawBreak.{RawBreak}
 use Rattle.lbk_c.specs.Order.{AreInOrder}
-use Rattle.lbk_c.specs.Reached.{IsInOrder, numbers_of}
+use Rattle.lbk_c.specs.Reached.{numbers_of}
 use Rattle.lbk_c.specs.Shown.{given_in, shown}
 use Rattle.lbk_c.proofs.OrderLemmas.{AreInOrder-put}
 use Rattle.lbk_c.proofs.ReachedLemmas.{written-more}
