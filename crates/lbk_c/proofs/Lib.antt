@@ -6,3 +6,4 @@ pub mod ReachedLemmas
 pub mod StepLemmas
 pub mod TableLemmas
 pub mod ComingLemmas
+pub mod PositionLemmas
