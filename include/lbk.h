@@ -18,7 +18,7 @@
  * lbk_read takes memory from the heap, and lbk_read gives back what it took.
  *
  * Threads. The library has no variables. Any number of calls may use one table at the same time, as long as none of them
- * writes it; only lbk_read writes a table, and lbk_breaks writes only its state and its block.
+ * writes it; only lbk_read writes a table, and lbk_breaks and lbk_positions write only their state and their block.
  *
  * What a caller owes, and all that a caller owes:
  *   - A pointer that comes with a length has at least as many bytes (as many breaks, for a block) behind it. Where the
@@ -165,10 +165,10 @@ typedef struct lbk_state {
     uint8_t ended;   /* 0, or else nothing more is to come, and lbk_breaks answers 0 */
 } lbk_state;
 
-/* A place of a text where a line may or must end. */
+/* A place of a text where a line may or must end; of lbk_positions, any place between scalars. */
 typedef struct lbk_break {
     size_t at;    /* it stands before this byte of the text, counted from 0; at its end, before none: the text's size */
-    uint8_t kind; /* LBK_MAY or LBK_MUST */
+    uint8_t kind; /* LBK_MAY or LBK_MUST; of lbk_positions, LBK_NO, too */
     uint8_t rule; /* the rule that decided, as LBK_RULE_18 */
 } lbk_break;
 
@@ -209,6 +209,15 @@ lbk_fault lbk_read(lbk_table *table, const void *line_break, size_t line_break_s
  * behind the text's end, and where it has ended. What the block has behind the breaks that are answered is not specified: any of
  * its places may be written. Takes no memory from the heap. */
 size_t lbk_breaks(const lbk_table *table, lbk_state *state, const char *text, size_t size, lbk_break *block, size_t room);
+
+/* Puts the next positions of a text into the front of a block, as lbk_breaks puts its breaks, and returns how many. A text has one
+ * position before each scalar and one at its end, and each comes once with what decides there: kind is LBK_NO, LBK_MAY or
+ * LBK_MUST, and rule the first rule that matches. So it says why a line does not break somewhere, too. The first position is
+ * always LBK_NO by rule 2; an empty text has that one alone. The positions where a line may or must end are the breaks of lbk_breaks.
+ *
+ * All else is as lbk_breaks has it: states, ill-formed bytes, room, and calls from which nothing comes. Each position of a text
+ * of n bytes takes one place of a block, so there are n + 1 at most. Takes no memory from the heap. */
+size_t lbk_positions(const lbk_table *table, lbk_state *state, const char *text, size_t size, lbk_break *block, size_t room);
 
 /* The name of a rule by its number; an empty name for a number that no rule has. */
 lbk_rule_label lbk_label(uint8_t rule);

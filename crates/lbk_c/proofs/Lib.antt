@@ -7,3 +7,4 @@ pub mod ShownLemmas
 pub mod StepLemmas
 pub mod TableLemmas
 pub mod ComingLemmas
+pub mod PositionLemmas

@@ -1,8 +1,10 @@
 -- What a reader has to believe.
 pub mod Bytes
+pub mod Positions
 pub mod Shown
 pub mod Order
 pub mod State
 pub mod Faults
 -- What only carries proofs.
+pub mod Decided
 pub mod Reached

@@ -22,7 +22,7 @@ use lbk_rules::Profile;
 use lbk_steps::FlatTable;
 
 /// The number of the verdict at a text's end, by rule 3.
-const END: u16 = 3 + 2;
+pub(crate) const END: u16 = 3 + 2;
 
 /// Puts the next breaks of a text (UAX #14, section 3) into the front of the block, from the state on, and answers how many:
 /// as many as the block holds, or all that are left. The text may be any bytes: each longest piece that begins no scalar is
@@ -69,7 +69,7 @@ pub extern "C" fn lbk_breaks(
 
 /// The profile of a state from which breaks may come of a text of this length: none where the state names no profile, has
 /// given all, or is past the text.
-fn going_profile(state: &State, len: usize) -> Option<Profile>
+pub(crate) fn going_profile(state: &State, len: usize) -> Option<Profile>
     ensures { MatchOption result (IsSpent state.now len) (λ profile. IsGoing profile state.now len) }
 {
     let profile = profile_numbered(state.profile)?;

@@ -12,13 +12,12 @@ ghost use Rattle.lbk_c.specs.Order.{AreInOrder};
 ghost use Rattle.lbk_c.specs.Reached.{AreSwift, IsInOrder, Reached};
 ghost use Rattle.lbk_c.specs.Shown.{given_in};
 
-use crate::ahead::code_ahead;
+use crate::deciding::decide_one;
 use crate::decoding::{Width, scalar_of};
 use crate::fill_state::FillState;
 use crate::interface::RawBreak;
 use crate::shown::shown_of;
 use crate::steps::{CODES, step_at, steps_of};
-use bstr::decode_lossy;
 use lbk_rules::Profile;
 use lbk_steps::{FlatStep, FlatTable, HELD, STEPS};
 
@@ -154,15 +153,12 @@ fn take_one(
         → Reached profile cell lefts text.now all here (given_in out.old here.count)
         → Reached profile cell lefts text.now all result (given_in out.new result.count) }
 {
-    let rest = &text[here.at..];
-    let (c, size) = decode_lossy(rest);
-    let code = code_ahead(table, profile, here.row, c, &rest[size..]);
-    let step = step_at(&table.first, here.row, table.kinds[c as usize]);
-    let count = put(out, here.count, here.at, code);
+    let decided = decide_one(table, profile, here.row, here.at, text);
+    let count = put(out, here.count, here.at, decided.code);
     FillState {
         count,
-        row: step.next as usize,
-        at: here.at + size,
+        row: decided.row,
+        at: decided.at,
     }
 }
 

@@ -7,17 +7,22 @@
 
 mod ahead;
 mod breaking;
+mod checking;
+mod deciding;
 mod decoding;
 mod faults;
 mod fill_state;
 mod filling;
 mod interface;
 mod labels;
+mod positions;
 mod shown;
 mod steps;
 mod table_reading;
 
 pub use breaking::lbk_breaks;
+pub use checking::lbk_check;
 pub use interface::{Fault, RawBreak, RuleLabel, State};
 pub use labels::lbk_label;
-pub use table_reading::{lbk_check, lbk_read};
+pub use positions::lbk_positions;
+pub use table_reading::lbk_read;

@@ -1,6 +1,6 @@
 use Rattle.std.proofs.Common.{length, refl, ap, subst, ◌∙◌, inl, arith}
 use Rattle.lbk_c.specs.declared.interface.State.{State}
-use Rattle.lbk_c.specs.Reached.{IsInOrder}
+use Rattle.lbk_c.specs.Reached.{IsInOrder, onward}
 use Rattle.lbk_c.specs.Shown.{given_in}
 use Rattle.lbk_c.proofs.ComingLemmas.{Goes-ended, Goes-full}
 use Rattle.lbk_c.proofs.OrderLemmas.{AreInOrder-none, AreInOrder-wider}
@@ -12,7 +12,7 @@ returns-then-here-out-clause-goes c = λ cell lefts to_come flat start.
     let within = fill.ensures.within in
     let old = c.args.state.now in
     let state : State = record { at = fill.result.at; row = fill.result.row; profile = old.profile; ended = old.ended } in
-    Goes-full c.args.profile cell lefts c.args.text.now to_come fill.result state fill.new.out (length c.args.out.now)
+    Goes-full onward c.args.profile cell lefts c.args.text.now to_come fill.result state fill.new.out (length c.args.out.now)
     (fill.ensures.reached cell lefts to_come flat start) within.2 refl refl c.requires.unended (omega (arith, within.0)) (omega arith)
 
 pub returns-clause-goes : goal.returns-clause-goes
