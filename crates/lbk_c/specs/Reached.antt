@@ -23,7 +23,7 @@ use Rattle.lbk_steps.specs.declared.flat_table.TheConstants.{HELD}
 use Rattle.lbk_c.specs.declared.interface.RawBreak.{RawBreak}
 use Rattle.lbk_c.specs.declared.interface.State.{State}
 use Rattle.lbk_c.specs.Bytes.{with_break}
-use Rattle.lbk_c.specs.Order.{AreInOrder}
+use Rattle.lbk_c.specs.Order.{AreInOrderBy, IsBreak}
 use Rattle.lbk_c.specs.State.{profile_numbered}
 
 -- the scalars that some pieces are read as
@@ -78,9 +78,12 @@ pub record ReachedBy (from : Onward) (profile : Profile) (cell : ℕ → Cell) (
   pub some : 0 < here.at → 0 < length taken
   pub joined : all ≡ given ++ from profile cell taken here.at (pieces (drop here.at text))
 
--- the breaks given so far are in order, from a byte of the text on and up to where the call has come
+-- what was given so far is in order, from a byte of the text on and up to where the call has come
+abbrev pub IsInOrderBy : (RawBreak → Type 0) → List RawBreak → ℕ → ℕ → ℕ → Type 0
+IsInOrderBy Is block count from at = (from ≤ at) × AreInOrderBy Is block count from at
+
 abbrev pub IsInOrder : List RawBreak → ℕ → ℕ → ℕ → Type 0
-IsInOrder block count from at = (from ≤ at) × AreInOrder block count from at
+IsInOrder = IsInOrderBy IsBreak
 
 -- where a state stands in a text
 abbrev pub from_state : State → FillState

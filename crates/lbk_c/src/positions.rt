@@ -1,6 +1,6 @@
 //! The positions of a text with the verdict of each, a block at a time.
 
-ghost use Rattle.std.specs.Prelude.{◌≡◌, ℕ, ◌+◌, ◌<◌, ◌≤◌, ◌++◌, [], ◌∷◌, List, drop, length, min, take};
+ghost use Rattle.std.specs.Prelude.{◌≡◌, ◌⊎◌, ℕ, suc, ◌+◌, ◌<◌, ◌≤◌, ◌++◌, [], ◌∷◌, List, drop, length, min, take};
 ghost use Rattle.lbk_rules.specs.declared.breaks.Break.{Break};
 ghost use Rattle.lbk_rules.specs.declared.cells.Cell.{Cell};
 ghost use Rattle.lbk_rules.specs.declared.facts.Left.{Left};
@@ -9,8 +9,9 @@ ghost use Rattle.lbk_rules.specs.Breaks.{break_by};
 ghost use Rattle.lbk_rules.specs.Codes.{IsCode, verdict_coded};
 ghost use Rattle.lbk_steps.specs.FlatTable.{IsFlatBy, IsFlatOf};
 ghost use Rattle.lbk_c.specs.Bytes.{breaks_of_bytes};
+ghost use Rattle.lbk_c.specs.Order.{ArePositionsInOrder, IsPosition};
 ghost use Rattle.lbk_c.specs.Positions.{breaks_among, positions_of_bytes};
-ghost use Rattle.lbk_c.specs.Reached.{GoesBy, IsGoing, PositionsCome, ReachedBy, from_state, onward_all};
+ghost use Rattle.lbk_c.specs.Reached.{GoesBy, IsGoing, IsInOrderBy, PositionsCome, ReachedBy, from_state, onward_all};
 ghost use Rattle.lbk_c.specs.Shown.{given_in};
 ghost use Rattle.lbk_c.specs.State.{start_in};
 
@@ -31,7 +32,8 @@ const START: u16 = 0;
 /// may be any bytes, read as `lbk_breaks` reads them.
 ///
 /// Where the block has no room, or the state is past the text or at its end, or names no profile, the state stays and no position
-/// comes.
+/// comes. Whatever the table and the state hold, the positions are of rules and in order, from the state's place on, and the
+/// state goes forward with them.
 #[unsafe(no_mangle)]
 pub extern "C" fn lbk_positions(
     table: &FlatTable,
@@ -41,6 +43,12 @@ pub extern "C" fn lbk_positions(
 ) -> usize
     ensures within { result ≤ length out.old }
     ensures profile_same { state.new.profile ≡ state.old.profile }
+    ensures in_order { ArePositionsInOrder out.new result state.old.at (suc (length text.now)) }
+    ensures before_state { state.new.ended ≡ 0 → ArePositionsInOrder out.new result state.old.at state.new.at }
+    ensures forward { 0 < result → (state.old.at < state.new.at) ⊎ (0 < state.new.ended) }
+    ensures onward { state.old.at ≤ state.new.at }
+    ensures inside { state.old.at ≤ length text.now → state.new.at ≤ length text.now }
+    ensures at_end { state.old.ended ≡ 0 → 0 < state.new.ended → state.new.at ≡ length text.now }
     ensures start { (cell : ℕ → Cell) (profile : Profile) → IsFlatOf table.now cell → state.old ≡ start_in profile
         → PositionsCome cell table.now text.now state.old (positions_of_bytes profile cell text.now) }
     ensures count { (cell : ℕ → Cell) (to_come : List Break) → PositionsCome cell table.now text.now state.old to_come
@@ -74,6 +82,11 @@ fn go_on(
     requires { IsGoing profile state.old (length text.now) }
     ensures within { result ≤ length out.old }
     ensures profile_same { state.new.profile ≡ state.old.profile }
+    ensures in_order { ArePositionsInOrder out.new result state.old.at (suc (length text.now)) }
+    ensures before_state { state.new.ended ≡ 0 → ArePositionsInOrder out.new result state.old.at state.new.at }
+    ensures forward { 0 < result → (state.old.at < state.new.at) ⊎ (0 < state.new.ended) }
+    ensures onward { (state.old.at ≤ state.new.at) × (state.new.at ≤ length text.now) }
+    ensures at_end { 0 < state.new.ended → state.new.at ≡ length text.now }
     ensures goes { (cell : ℕ → Cell) (lefts : List Left) (to_come : List Break) → IsFlatBy lefts table.now cell
         → ReachedBy onward_all profile cell lefts text.now to_come (from_state state.old) []
         → GoesBy onward_all profile cell lefts text.now to_come state.new (given_in out.new result) result (length out.old) }
@@ -109,6 +122,8 @@ fn fill(
     ensures within { (result.count ≤ length out.old) × (result.row < 65536) × (result.at ≤ length text.now) }
     ensures stops { result.count < length out.old → result.at ≡ length text.now }
     ensures no_room { length out.old ≡ 0 → result ≡ start }
+    ensures in_order { (from : ℕ) → IsInOrderBy IsPosition out.old start.count from start.at
+        → IsInOrderBy IsPosition out.new result.count from result.at }
     ensures reached { (cell : ℕ → Cell) (lefts : List Left) (all : List Break) → IsFlatBy lefts table.now cell
         → ReachedBy onward_all profile cell lefts text.now all start (given_in out.old start.count)
         → ReachedBy onward_all profile cell lefts text.now all result (given_in out.new result.count) }
@@ -129,6 +144,7 @@ fn fill(
 fn put(out: &mut [RawBreak], count: usize, at: usize, code: u16) -> usize
     requires { count < length out.old }
     ensures more { result ≡ count + 1 }
+    ensures in_order { (from to : ℕ) → at < to → IsInOrderBy IsPosition out.old count from at → ArePositionsInOrder out.new result from to }
     ensures front { IsCode code → given_in out.new result ≡ given_in out.old count ++ break_by at (verdict_coded code) ∷ [] }
 {
     let shown = shown_of(code);

@@ -1,8 +1,10 @@
-use Rattle.std.proofs.Common.{◌≡◌, length, refl, sym, ◌∙◌, arith}
+use Rattle.std.proofs.Common.{◌≡◌, length, inl, refl, subst, sym, ◌∙◌, arith}
 use Rattle.lbk_c.specs.declared.interface.State.{State}
-use Rattle.lbk_c.specs.Reached.{onward_all}
+use Rattle.lbk_c.specs.Order.{IsPosition}
+use Rattle.lbk_c.specs.Reached.{IsInOrderBy, onward_all}
 use Rattle.lbk_c.specs.Shown.{given_in}
 use Rattle.lbk_c.proofs.ComingLemmas.{Goes-all, Goes-full}
+use Rattle.lbk_c.proofs.OrderLemmas.{AreInOrder-none, AreInOrder-wider}
 use Rattle.lbk_c.proofs.PositionLemmas.{All-end, end-coded, start-coded}
 use Rattle.lbk_c.proofs.positions.go_on.Goals as goal
 use Rattle.lbk_c.proofs.positions.go_on.Goals.{then-len-eq0, else-len-eq0}
@@ -32,3 +34,36 @@ returns-clause-goes c = λ cell lefts to_come flat start.
       | else-len-eq0 w ↦ last.1 (omega arith) ∙ sym (end-coded given (given_in put.new.out put.result) (length text) c.if-len-eq0.code w.code-is put.ensures.front)
     ] in
     Goes-all onward_all c.args.profile cell lefts text to_come state put.new.out put.result (length c.args.out.now) all ends refl (omega arith) (omega arith)
+
+pub returns-then-here-out-clause-in_order : goal.returns-then-here-out-clause-in_order
+returns-then-here-out-clause-in_order c =
+    let fill = c.fill-here in
+    let order = fill.ensures.in_order c.args.state.now.at (omega arith, AreInOrder-none c.args.out.now c.args.state.now.at c.args.state.now.at) in
+    AreInOrder-wider fill.new.out fill.result.count c.args.state.now.at fill.result.at _ (omega (arith, fill.ensures.within.2)) order.1
+
+pub returns-then-here-out-clause-before_state : goal.returns-then-here-out-clause-before_state
+returns-then-here-out-clause-before_state c = λ going.
+    (c.fill-here.ensures.in_order c.args.state.now.at (omega arith, AreInOrder-none c.args.out.now c.args.state.now.at c.args.state.now.at)).1
+
+pub returns-then-here-out-clause-forward : goal.returns-then-here-out-clause-forward
+returns-then-here-out-clause-forward c = λ some.
+    let order = c.fill-here.ensures.in_order c.args.state.now.at (omega arith, AreInOrder-none c.args.out.now c.args.state.now.at c.args.state.now.at) in
+    let first = order.1.within 0 some in
+    inl (omega (arith, first.0, first.1))
+
+pub returns-then-here-out-clause-onward : goal.returns-then-here-out-clause-onward
+returns-then-here-out-clause-onward c =
+    let order = c.fill-here.ensures.in_order c.args.state.now.at (omega arith, AreInOrder-none c.args.out.now c.args.state.now.at c.args.state.now.at) in
+    (order.0, c.fill-here.ensures.within.2)
+
+pub returns-clause-in_order : goal.returns-clause-in_order
+returns-clause-in_order c =
+    let fill = c.fill-here in
+    let order = fill.ensures.in_order c.args.state.now.at (omega arith, AreInOrder-none c.args.out.now c.args.state.now.at c.args.state.now.at) in
+    let ends = fill.ensures.stops (omega arith) in
+    c.put.ensures.in_order c.args.state.now.at _ (omega arith) (subst (λ n. IsInOrderBy IsPosition fill.new.out fill.result.count c.args.state.now.at n) ends order)
+
+pub returns-clause-onward : goal.returns-clause-onward
+returns-clause-onward c =
+    let order = c.fill-here.ensures.in_order c.args.state.now.at (omega arith, AreInOrder-none c.args.out.now c.args.state.now.at c.args.state.now.at) in
+    (order.0, c.fill-here.ensures.within.2)

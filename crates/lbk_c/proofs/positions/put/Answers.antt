@@ -1,12 +1,24 @@
-use Rattle.std.proofs.Common.{◌≡◌, ◌%◌, ◌/◌, ◌∷◌, [], ◌++◌, map, take, sym, ap, ◌∙◌, arith}
+use Rattle.std.proofs.Common.{◌≡◌, ◌+◌, ◌%◌, ◌/◌, ◌∷◌, [], ◌++◌, map, take, refl, sym, ap, subst, ◌∙◌, arith}
+use Rattle.std.proofs.Math.ListN.{set}
 use Rattle.std.proofs.lemmas.List.{map-append, take_more_set}
 use Rattle.lbk_rules.specs.Breaks.{break_by}
 use Rattle.lbk_rules.specs.Codes.{verdict_coded}
 use Rattle.lbk_c.specs.declared.interface.RawBreak.{RawBreak}
+use Rattle.lbk_c.specs.Order.{ArePositionsInOrder, IsPosition}
 use Rattle.lbk_c.specs.Reached.{numbers_of}
 use Rattle.lbk_c.specs.Shown.{shown}
+use Rattle.lbk_c.proofs.OrderLemmas.{AreInOrder-added}
 use Rattle.lbk_c.proofs.ShownLemmas.{raw-split, shown-raw}
 use Rattle.lbk_c.proofs.positions.put.Goals as goal
+
+pub returns-clause-in_order : goal.returns-clause-in_order
+returns-clause-in_order c = λ from to below order.
+    let out = c.args.out.now in
+    let verdict = verdict_coded (c.args.code % 128) in
+    let found = break_by c.args.at verdict in
+    let split = raw-split c.args.at c.shown_of-shown.result verdict c.shown_of-shown.ensures in
+    subst (λ raw. ArePositionsInOrder (set out c.args.count raw) (c.args.count + 1) from to) split
+    (AreInOrder-added IsPosition out c.args.count found from to c.requires (found, refl) order.0 below order.1)
 
 pub returns-clause-front : goal.returns-clause-front
 returns-clause-front c = λ coded.
