@@ -1,10 +1,10 @@
 -- What no rule asks of the left side changes no verdict.
-use Rattle.std.proofs.Common.{◌≡◌, Bool, true, false, cond, ◌&&◌, ◌||◌, not, List, [], ◌∷◌, refl, sym, ap, ◌∙◌}
+use Rattle.std.proofs.Common.{◌≡◌, Bool, true, false, cond, ◌&&◌, not, [], ◌∷◌, refl, sym, ap, ◌∙◌}
 use Rattle.lbk_rules.specs.declared.cells.Cell.{Cell}
 use Rattle.lbk_rules.specs.declared.classes.Class.{Class}
 use Rattle.lbk_rules.specs.declared.classes.Class.TheVariants.{Alphabetic, CloseParenthesis, EBase, PrefixNumeric, Quotation}
 use Rattle.lbk_rules.specs.declared.classes.Quote.{Quote}
-use Rattle.lbk_rules.specs.declared.classes.Quote.TheVariants.{Neither, Initial, Final}
+use Rattle.lbk_rules.specs.declared.classes.Quote.TheVariants.{Neither, Initial}
 use Rattle.lbk_rules.specs.declared.verdicts.Kind.TheVariants.{No, May}
 use Rattle.lbk_rules.specs.declared.verdicts.Rule.TheVariants.{Lb30b, Lb31}
 use Rattle.lbk_rules.specs.declared.verdicts.Verdict.{Verdict}

@@ -113,7 +113,7 @@ pub no_cell_rule : (last : Class) (side : Side) (right : Cell) (more : Side) (ot
 unfolding cell_rules
 no_cell_rule last side right more otherwise mandatory within ends before_end before_space zero_width joiner joins =
     let others : (CR or LF or NL) last ≡ false = sym (ap (λ b. ((b || CR last) || LF last) || NL last) mandatory) ∙ ends in
-    rw (mandatory, within, others, before_end, before_space, zero_width, joiner, joins) refl
+    rw (joins, mandatory, within, others, before_end, before_space, zero_width, joiner) refl
 
 -- a verdict by what is known of the last cell is that of the rules
 pub verdict-facts : (profile : Profile) (left : Left) (side more : Side) (right : Cell) (verdict : Verdict)

@@ -1,5 +1,5 @@
 -- Each fact by what is known of the units and by the unit that follows.
-use Rattle.std.proofs.Common.{◌≡◌, true, false, cond, ◌&&◌, not, sym, ap, ◌∙◌}
+use Rattle.std.proofs.Common.{◌≡◌, cond, ◌&&◌, not, sym, ap, ◌∙◌}
 use Rattle.lbk_rules.specs.Asked.{asked_before_spaces}
 use Rattle.lbk_rules.specs.Classes.{◌or◌, BA, HL, HY, RI, SP, opens_after}
 use Rattle.lbk_rules.specs.Sides.{opening}

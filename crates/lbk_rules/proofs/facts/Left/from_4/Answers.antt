@@ -25,7 +25,7 @@ returns c = λ cell side more e past closes.
     let joins : (none_of hard last && mark right.class) ≡ false =
     elim c.else-is_mark.branch [
       | else-is_mark-via-then-is_mark+else-not-is_hard w ↦
-          ap (λ a. a && mark right.class) (ap not (sym w.is_hard.ensures) ∙ w.if-not-is_hard.false)
+          ap (λ a. not a && mark right.class) (sym w.is_hard.ensures ∙ w.if-not-is_hard.false)
       | else-is_mark-via-else-is_mark w ↦
           ap (λ b. none_of hard last && b) (sym c.is_mark.ensures ∙ w.if-is_mark.false) ∙ and_none (none_of hard last)
     ] in

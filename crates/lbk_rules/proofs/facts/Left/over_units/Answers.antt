@@ -2,7 +2,7 @@
 use Rattle.std.proofs.Common.{◌∷◌, sym, ap, ◌∙◌}
 use Rattle.lbk_rules.specs.Chain.{from_11}
 use Rattle.lbk_rules.specs.Classes.{hard}
-use Rattle.lbk_rules.specs.Units.{unit, units, units_after}
+use Rattle.lbk_rules.specs.Units.{units, units_after}
 use Rattle.lbk_rules.proofs.AskedLemmas.{from_11-asked}
 use Rattle.lbk_rules.proofs.FactsLemmas.{Sees-facts}
 use Rattle.lbk_rules.proofs.facts.Left.over_units.Goals as goal
