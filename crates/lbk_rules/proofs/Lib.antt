@@ -13,3 +13,5 @@ pub mod UnansweredLemmas
 pub mod EndLemmas
 pub mod StepLemmas
 pub mod NormalLemmas
+pub mod MarkLemmas
+pub mod JoinLemmas

@@ -11,6 +11,7 @@ pub mod Labels
 pub mod Held
 pub mod Annex
 pub mod Ends
+pub mod Joins
 pub mod Once
 pub mod Normal
 -- What only carries proofs.
