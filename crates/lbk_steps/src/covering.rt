@@ -40,9 +40,16 @@ struct Found {
 
 /// Which bytes are special behind which others, and which of the others stand out.
 #[derive(Clone, Copy)]
-struct Relations {
+struct Related {
     special: Behind,
     breaks: Behind,
+}
+
+/// The right side of the widest rectangle with it, and how many open pairs that covers.
+#[derive(Clone, Copy)]
+struct Rectangle {
+    right: Bytes,
+    covered: u32,
 }
 
 /// Sets and rows that may be those of these steps.
@@ -55,8 +62,9 @@ pub(crate) fn cover(steps: &[FlatStep; STEPS], kinds: &[u8; CODES]) -> Neighbour
     };
     let usual = usual_bytes();
     cover_special(&related.special, usual, &mut found);
-    cover_breaks(&related.breaks, usual, &mut found);
-    classed(&found, usual, rows)
+    let different = one_of_each_kind(kinds, usual);
+    let covered = cover_breaks(&related.breaks, usual, different, &mut found);
+    classed(&found, covered, rows)
 }
 
 /// The row after each byte below 128, where it stands behind a letter.
@@ -82,8 +90,8 @@ fn usual_bytes() -> Bytes {
 }
 
 /// What the steps from these rows tell.
-fn relations(steps: &[FlatStep; STEPS], kinds: &[u8; CODES], rows: &[u16; 256]) -> Relations {
-    let mut related = Relations {
+fn relations(steps: &[FlatStep; STEPS], kinds: &[u8; CODES], rows: &[u16; 256]) -> Related {
+    let mut related = Related {
         special: [0; ASCII],
         breaks: [0; ASCII],
     };
@@ -117,79 +125,99 @@ fn cover_special(special: &Behind, usual: Bytes, found: &mut Found) {
     put_right(right, SPECIAL_BEHIND_SOME, found);
 }
 
-/// Covers the breaks by as many rectangles as there are things left, each time by the one that covers most.
-fn cover_breaks(breaks: &Behind, usual: Bytes, found: &mut Found) {
-    let mut left = *breaks;
-    let different = different_rows(breaks, usual);
+/// Covers the breaks by as many rectangles as there are things left, each time by the one that covers most, and returns the
+/// bytes behind which all breaks are covered. As many bytes as there may be of a kind count once: `different` has one of each.
+fn cover_breaks(breaks: &Behind, usual: Bytes, different: Bytes, found: &mut Found) -> Bytes {
+    let mut open = *breaks;
     let mut thing = FIRST_BREAK;
     for _ in 0..6 {
-        let right = best_right(breaks, &left, usual, different);
-        take_rectangle(breaks, &mut left, usual, right, thing, found);
+        let right = best_right(breaks, &open, usual, different);
+        take_rectangle(breaks, &mut open, usual, right, thing, found);
         thing = thing.wrapping_mul(2);
     }
+    let mut covered = usual;
+    for byte in 0..ASCII {
+        if open[byte] & usual != 0 {
+            covered &= !(1 << byte);
+        }
+    }
+    covered
 }
 
-/// One byte for each list of those that stand out behind it.
-fn different_rows(breaks: &Behind, usual: Bytes) -> Bytes {
+/// One byte of each kind.
+fn one_of_each_kind(kinds: &[u8; CODES], usual: Bytes) -> Bytes {
     let mut different = 0;
     for byte in 0..ASCII {
-        if usual >> byte & 1 == 1 && breaks[byte] & usual != 0 && !has_like(breaks, usual, different, byte) {
+        if usual >> byte & 1 == 1 && !has_like(kinds, different, byte) {
             different |= 1 << byte;
         }
     }
     different
 }
 
-/// Whether behind one of these bytes the same stand out as behind another.
-fn has_like(breaks: &Behind, usual: Bytes, different: Bytes, byte: usize) -> bool
+/// Whether one of these bytes has the kind of another.
+fn has_like(kinds: &[u8; CODES], bytes: Bytes, byte: usize) -> bool
     requires { byte < ASCII }
 {
     for other in 0..ASCII {
-        if different >> other & 1 == 1 && breaks[other] & usual == breaks[byte] & usual {
+        if bytes >> other & 1 == 1 && kinds[other] == kinds[byte] {
             return true;
         }
     }
     false
 }
 
-/// The right side of a rectangle that covers most of what is left: what stands out behind two bytes.
-fn best_right(breaks: &Behind, left: &Behind, usual: Bytes, different: Bytes) -> Bytes {
-    let mut best = 0;
-    let mut most = 0;
+/// The right side of a rectangle that covers most of the pairs that are open: what stands out behind two bytes.
+fn best_right(breaks: &Behind, open: &Behind, usual: Bytes, different: Bytes) -> Bytes {
+    let mut best = Rectangle {
+        right: 0,
+        covered: 0,
+    };
     for one in 0..ASCII {
-        if different >> one & 1 == 0 {
-            continue;
+        if different >> one & 1 == 1 {
+            let behind_one = breaks[one] & usual;
+            best = best_behind(behind_one, breaks, open, different, best);
         }
-        for other in 0..ASCII {
-            if different >> other & 1 == 0 {
-                continue;
-            }
-            let right = breaks[one] & breaks[other] & usual;
-            let covered = covered_by(breaks, left, usual, right);
-            if covered > most {
-                most = covered;
-                best = right;
+    }
+    best.right
+}
+
+/// The best of a rectangle and those with what stands out behind one byte and another.
+fn best_behind(
+    behind_one: Bytes,
+    breaks: &Behind,
+    open: &Behind,
+    different: Bytes,
+    found: Rectangle,
+) -> Rectangle {
+    let mut best = found;
+    for other in 0..ASCII {
+        if different >> other & 1 == 1 {
+            let right = behind_one & breaks[other];
+            let covered = covered_by(breaks, open, different, right);
+            if covered > best.covered {
+                best = Rectangle { right, covered };
             }
         }
     }
     best
 }
 
-/// How many of the pairs that are left the widest rectangle with this right side covers.
-fn covered_by(breaks: &Behind, left: &Behind, usual: Bytes, right: Bytes) -> u32 {
+/// How many of the pairs that are open the widest rectangle with this right side covers, of pairs of these bytes.
+fn covered_by(breaks: &Behind, open: &Behind, different: Bytes, right: Bytes) -> u32 {
     let mut sum = 0_u32;
     for byte in 0..ASCII {
-        if usual >> byte & 1 == 1 && right & !breaks[byte] == 0 {
-            sum = sum.wrapping_add((left[byte] & right).count_ones());
+        if different >> byte & 1 == 1 && right & !breaks[byte] == 0 {
+            sum = sum.wrapping_add((open[byte] & right & different).count_ones());
         }
     }
     sum
 }
 
-/// Puts a thing into the sets of the widest rectangle with this right side, and takes its pairs off those that are left.
+/// Puts a thing into the sets of the widest rectangle with this right side, and takes its pairs off those that are open.
 fn take_rectangle(
     breaks: &Behind,
-    left: &mut Behind,
+    open: &mut Behind,
     usual: Bytes,
     right: Bytes,
     thing: u8,
@@ -201,7 +229,7 @@ fn take_rectangle(
     for byte in 0..ASCII {
         if usual >> byte & 1 == 1 && right & !breaks[byte] == 0 {
             found.left[byte] |= thing;
-            left[byte] &= !right;
+            open[byte] &= !right;
         }
     }
     put_right(right, thing, found);
@@ -218,7 +246,7 @@ fn put_right(right: Bytes, thing: u8, found: &mut Found) {
 
 /// A class for each pair of sets, as long as there are classes. The first is that of all other bytes, and of those from 128
 /// on; it is special behind each.
-fn classed(found: &Found, usual: Bytes, rows: [u16; 256]) -> Neighbours {
+fn classed(found: &Found, covered: Bytes, rows: [u16; 256]) -> Neighbours {
     let mut known = Neighbours {
         sets: ByteSets {
             classes: [[0; 16]; 8],
@@ -230,7 +258,7 @@ fn classed(found: &Found, usual: Bytes, rows: [u16; 256]) -> Neighbours {
     let mut count = 1;
     for byte in 0..ASCII {
         let class = class_of(&known.sets, count, found.left[byte], found.right[byte]);
-        if usual >> byte & 1 == 0 || class >= CLASSES {
+        if covered >> byte & 1 == 0 || class >= CLASSES {
             known.rows[byte] = NO_ROW;
             continue;
         }

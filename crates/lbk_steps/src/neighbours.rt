@@ -108,6 +108,7 @@ impl Neighbours {
     }
 
     /// A digest after these numbers too.
+    #[tactic(auto, unfolding(crate::specs::Neighbours::digest_of_neighbours))]
     pub(crate) fn digest(&self, digest: u64) -> u64
         ensures { result ≡ digest_of_neighbours digest self.now }
     {
