@@ -6,3 +6,5 @@ pub mod ReachedLemmas
 pub mod StepLemmas
 pub mod TableLemmas
 pub mod ComingLemmas
+pub mod BitLemmas
+pub mod BlockLemmas

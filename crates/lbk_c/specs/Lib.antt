@@ -5,3 +5,4 @@ pub mod State
 pub mod Faults
 -- What only carries proofs.
 pub mod Reached
+pub mod Blocks

@@ -1,0 +1,6 @@
+use Rattle.lbk_c.proofs.blocks.four_breaks.Goals as goal
+
+pub returns-clause-reached : goal.returns-clause-reached
+returns-clause-reached c = λ profile cell lefts all taken block left start.
+    let first = c.two_breaks-there.ensures.reached profile cell lefts all taken block left start in
+    c.two_breaks.ensures.reached profile cell lefts all taken block first.0 first.1
