@@ -225,7 +225,7 @@ static void try_tables(void)
 
 static void try_labels(void)
 {
-    static const char *const labels[LBK_RULES] = {
+    static const char *const labels[UINT8_MAX + 1] = {
         [LBK_RULE_2] = "2", [LBK_RULE_3] = "3", [LBK_RULE_4] = "4", [LBK_RULE_5] = "5", [LBK_RULE_6] = "6",
         [LBK_RULE_7] = "7", [LBK_RULE_8] = "8", [LBK_RULE_8A] = "8a", [LBK_RULE_9] = "9", [LBK_RULE_11] = "11",
         [LBK_RULE_12] = "12", [LBK_RULE_12A] = "12a", [LBK_RULE_13] = "13", [LBK_RULE_14] = "14", [LBK_RULE_15] = "15",
@@ -235,12 +235,11 @@ static void try_labels(void)
         [LBK_RULE_26] = "26", [LBK_RULE_27] = "27", [LBK_RULE_28] = "28", [LBK_RULE_29] = "29", [LBK_RULE_30] = "30",
         [LBK_RULE_30A] = "30a", [LBK_RULE_30B] = "30b", [LBK_RULE_31] = "31"
     };
-    static const char none[4];
     for (unsigned rule = 0; rule <= UINT8_MAX; rule++) {
         lbk_rule_label label = lbk_label((uint8_t)rule), wanted = {{0}};
-        if (rule < LBK_RULES)
+        if (labels[rule] != NULL)
             strcpy(wanted.text, labels[rule]);
-        told("a rule's label", memcmp(label.text, rule < LBK_RULES ? wanted.text : none, 4) == 0);
+        told("a rule's label", memcmp(label.text, wanted.text, sizeof wanted.text) == 0);
     }
 }
 

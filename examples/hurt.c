@@ -92,6 +92,16 @@ static uint64_t digest(const void *of, size_t size)
     return sum;
 }
 
+/* Whether each break has a kind and a rule that there are, and stands behind the one before, none before `from`. */
+static int are_in_order(const lbk_break *block, size_t count, size_t from, size_t to)
+{
+    for (size_t k = 0; k < count; from = block[k++].at + 1)
+        if ((block[k].kind != LBK_MAY && block[k].kind != LBK_MUST) || lbk_label(block[k].rule).text[0] == 0 || block[k].at < from
+            || block[k].at >= to)
+            return 0;
+    return 1;
+}
+
 /* Asks for breaks until none comes, with rooms of all sizes. What holds of any table, state and text holds here. */
 static void go_over(const lbk_table *table, fenced texts, fenced states, fenced blocks, lbk_state from)
 {
@@ -111,6 +121,9 @@ static void go_over(const lbk_table *table, fenced texts, fenced states, fenced 
         told("the profile stays", state->profile == from.profile);
         told("the place is in the text", state->at <= size || state->at == old.at);
         told("the place does not go back", state->at >= old.at);
+        told("breaks in order, between the places", are_in_order(block, count, old.at, state->ended ? size + 1 : state->at));
+        told("breaks take the state on", count == 0 || state->at > old.at || state->ended);
+        told("at its end a state is at the text's", old.ended || !state->ended || state->at == size);
         sum += count;
         if (count < room)
             break;
@@ -155,9 +168,8 @@ static void compare_rooms(const lbk_table *table)
     } while (count == room && got <= MOST_TEXT);
     int same = got == all && (size == 0 || (all > 0 && whole[all - 1].at == size));
     for (size_t k = 0; same && k < all; k++)
-        same = whole[k].at == part[k].at && whole[k].kind == part[k].kind && whole[k].rule == part[k].rule
-            && (whole[k].kind == LBK_MAY || whole[k].kind == LBK_MUST) && whole[k].rule < LBK_RULES
-            && (k == 0 || whole[k - 1].at < whole[k].at);
+        same = whole[k].at == part[k].at && whole[k].kind == part[k].kind && whole[k].rule == part[k].rule;
+    same = same && are_in_order(whole, all, 0, size + 1);
     told("blocks of any rooms have the same breaks", same);
 }
 

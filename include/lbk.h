@@ -66,47 +66,47 @@ enum {
     LBK_MUST = 2 /* a line ends here: behind a paragraph separator, and at the end of the text */
 };
 
-/* lbk_break.rule: the rules of UAX #14, section 6, in their order. lbk_label has their names. */
+/* lbk_break.rule: the rules of UAX #14, section 6, in their order. The number is made of the rule's own: 8 times it, and the
+ * place of its letter. So no rule of a later version of Unicode changes that of another. lbk_label gives a rule's name. */
 enum {
-    LBK_RULE_2 = 0,
-    LBK_RULE_3 = 1,
-    LBK_RULE_4 = 2,
-    LBK_RULE_5 = 3,
-    LBK_RULE_6 = 4,
-    LBK_RULE_7 = 5,
-    LBK_RULE_8 = 6,
-    LBK_RULE_8A = 7,
-    LBK_RULE_9 = 8,
-    LBK_RULE_11 = 9,
-    LBK_RULE_12 = 10,
-    LBK_RULE_12A = 11,
-    LBK_RULE_13 = 12,
-    LBK_RULE_14 = 13,
-    LBK_RULE_15 = 14,  /* in the first profile alone */
-    LBK_RULE_15A = 15, /* in the second profile alone */
-    LBK_RULE_15B = 16, /* in the second profile alone */
-    LBK_RULE_16 = 17,
-    LBK_RULE_17 = 18,
-    LBK_RULE_18 = 19,
-    LBK_RULE_19 = 20,
-    LBK_RULE_20 = 21,
-    LBK_RULE_21 = 22,
-    LBK_RULE_21A = 23,
-    LBK_RULE_21B = 24,
-    LBK_RULE_22 = 25,
-    LBK_RULE_23 = 26,
-    LBK_RULE_23A = 27,
-    LBK_RULE_24 = 28,
-    LBK_RULE_25 = 29,
-    LBK_RULE_26 = 30,
-    LBK_RULE_27 = 31,
-    LBK_RULE_28 = 32,
-    LBK_RULE_29 = 33,
-    LBK_RULE_30 = 34,
-    LBK_RULE_30A = 35,
-    LBK_RULE_30B = 36,
-    LBK_RULE_31 = 37,
-    LBK_RULES = 38 /* how many there are */
+    LBK_RULE_2 = 8 * 2,
+    LBK_RULE_3 = 8 * 3,
+    LBK_RULE_4 = 8 * 4,
+    LBK_RULE_5 = 8 * 5,
+    LBK_RULE_6 = 8 * 6,
+    LBK_RULE_7 = 8 * 7,
+    LBK_RULE_8 = 8 * 8,
+    LBK_RULE_8A = 8 * 8 + 1,
+    LBK_RULE_9 = 8 * 9,
+    LBK_RULE_11 = 8 * 11,
+    LBK_RULE_12 = 8 * 12,
+    LBK_RULE_12A = 8 * 12 + 1,
+    LBK_RULE_13 = 8 * 13,
+    LBK_RULE_14 = 8 * 14,
+    LBK_RULE_15 = 8 * 15,      /* in the first profile alone */
+    LBK_RULE_15A = 8 * 15 + 1, /* in the second profile alone */
+    LBK_RULE_15B = 8 * 15 + 2, /* in the second profile alone */
+    LBK_RULE_16 = 8 * 16,
+    LBK_RULE_17 = 8 * 17,
+    LBK_RULE_18 = 8 * 18,
+    LBK_RULE_19 = 8 * 19,
+    LBK_RULE_20 = 8 * 20,
+    LBK_RULE_21 = 8 * 21,
+    LBK_RULE_21A = 8 * 21 + 1,
+    LBK_RULE_21B = 8 * 21 + 2,
+    LBK_RULE_22 = 8 * 22,
+    LBK_RULE_23 = 8 * 23,
+    LBK_RULE_23A = 8 * 23 + 1,
+    LBK_RULE_24 = 8 * 24,
+    LBK_RULE_25 = 8 * 25,
+    LBK_RULE_26 = 8 * 26,
+    LBK_RULE_27 = 8 * 27,
+    LBK_RULE_28 = 8 * 28,
+    LBK_RULE_29 = 8 * 29,
+    LBK_RULE_30 = 8 * 30,
+    LBK_RULE_30A = 8 * 30 + 1,
+    LBK_RULE_30B = 8 * 30 + 2,
+    LBK_RULE_31 = 8 * 31
 };
 
 /* lbk_state.profile: which rules stand for quotation marks. With any other number lbk_breaks answers 0. */
@@ -207,6 +207,10 @@ lbk_fault lbk_read(lbk_table *table, const void *line_break, size_t line_break_s
  * `text` is UTF-8, and is the whole text at each call, not the rest of it; `state` tells how far earlier calls came. Where
  * bytes are ill-formed, each longest piece that could have begun a scalar, or else each byte, is read as one U+FFFD at its
  * place (Unicode Standard, section 3.9, "U+FFFD Substitution of Maximal Subparts"), so each `at` counts the text's own bytes.
+ *
+ * Whatever the table and the state have, each break is LBK_MAY or LBK_MUST by one of the rules; their places rise, from the
+ * state's `at` on and up to `size`; and a state of which breaks came is further on than it was, or has ended, with its `at` at
+ * `size`. So kinds and rules can be looked up in arrays, and calls while a block comes back full come to an end.
  *
  * Answers 0 and leaves the state as it is: where `room` is 0, where the state's profile is none of the two, where its `at` is
  * behind the text's end, and where it has ended. What the block has behind the breaks that are answered is not specified: any of

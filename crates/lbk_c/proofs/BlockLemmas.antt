@@ -14,7 +14,7 @@ use Rattle.lbk_steps.specs.declared.flat_table.TheConstants.{HELD}
 use Rattle.lbk_steps.specs.declared.neighbours.Neighbours.{Neighbours}
 use Rattle.lbk_values.specs.declared.profile.Profile.{Profile}
 use Rattle.lbk_rules.specs.Breaks.{break_by, is_no}
-use Rattle.lbk_rules.specs.Codes.{IsCode, verdict_coded}
+use Rattle.lbk_rules.specs.Codes.{IsCode, kind_numbered, verdict_coded}
 use Rattle.lbk_steps.specs.FlatTable.{AreFlatKinds, no_flat_step}
 use Rattle.lbk_steps.specs.Kinds.{kind_cell}
 use Rattle.lbk_steps.specs.Neighbours.{AreSettled, AreTold, is_special, step_behind}
@@ -29,7 +29,6 @@ use Rattle.lbk_c.specs.Shown.{given_in}
 use Rattle.lbk_c.proofs.BitLemmas.{none-set}
 use Rattle.lbk_c.proofs.LoopLemmas.{Reached-swift}
 use Rattle.lbk_c.proofs.PieceLemmas.{Reads, reads, rest-of}
-use Rattle.lbk_c.proofs.ReachedLemmas.{no-zero}
 
 -- a byte below 128 is a scalar of its own
 pub ascii-reads : (text : List ℕ) (at : ℕ) → at < length text → byte_at text at < 128 → Reads text at (byte_at text at) 1
@@ -63,10 +62,10 @@ one-byte profile cell lefts text all steps kinds pairs out after count next at s
     settled.leads ∙ ap (λ n. get_or pairs.rows (byte_at text n) 0) (let e : at ≡ at + 1 - 1 = omega arith in e) in
     subst (λ w. Reached profile cell lefts text all (record { count = next; row = w; at = at + 1 }) (given_in after next)) row moved
 
-no-break : (at code : ℕ) → code % 256 ≡ 0 → with_break at (verdict_coded code) [] ≡ []
+no-break : (at code : ℕ) → code % 3 ≡ 0 → with_break at (verdict_coded code) [] ≡ []
 unfolding verdict_coded
 no-break at code none =
-    let is : is_no (verdict_coded code).kind ≡ true = no-zero (code % 256) (omega (arith, none)) ∙ ap (λ n. n == 0) none in
+    let is : is_no (verdict_coded code).kind ≡ true = ap (λ n. is_no (kind_numbered n)) none in
     ap (λ b. cond b [] (break_by at (verdict_coded code) ∷ [])) is
 
 -- no verdict's number is of no break where the sets do not meet
@@ -87,7 +86,7 @@ quiet-bytes profile cell lefts text all steps kinds pairs out count at (suc n) s
     let before = quiet-bytes profile cell lefts text all steps kinds pairs out count at n swift are_kinds (omega arith) (λ i h. quiet i (omega (arith, h))) r in
     let here = quiet n (omega arith) in
     let step = step_behind steps kinds pairs (byte_at text (at + n - 1)) (byte_at text (at + n)) in
-    let none : step.code % 256 ≡ 0 = not-zero (stands_at pairs text (at + n)) (step.code % 256) here.0.breaks here.1 in
+    let none : step.code % 3 ≡ 0 = not-zero (stands_at pairs text (at + n)) (step.code % 3) here.0.breaks here.1 in
     let one = one-byte profile cell lefts text all steps kinds pairs out out count count (at + n) swift are_kinds (omega arith) here.0
     (λ coded. sym (ap (λ l. given_in out count ++ l) (no-break (at + n) step.code none) ∙ append-nil (given_in out count))) before in
     subst (λ p. Reached profile cell lefts text all (place_of pairs text count p) (given_in out count)) (let e : at + n + 1 ≡ at + suc n = omega arith in e) one
@@ -135,7 +134,7 @@ record StandsFirst (pairs : Neighbours) (text : List ℕ) (at taken index : ℕ)
   after : here.past ≤ at + index
   stands : stands_at pairs text (at + index) ≡ true
 
-order : (m n : ℕ) → (n ≤ m) ⊎ (m < n)
+pub order : (m n : ℕ) → (n ≤ m) ⊎ (m < n)
 order m zero = inl (omega arith)
 order zero (suc n) = inr (omega arith)
 order (suc m) (suc n) = ⊎_elim (λ le. inl (omega arith)) (λ lt. inr (omega arith)) (order m n)

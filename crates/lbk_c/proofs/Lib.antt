@@ -1,10 +1,12 @@
 pub mod AheadLemmas
-pub mod LabelLemmas
 pub mod LoopLemmas
+pub mod OrderLemmas
 pub mod PieceLemmas
 pub mod ReachedLemmas
+pub mod ShownLemmas
 pub mod StepLemmas
 pub mod TableLemmas
 pub mod ComingLemmas
 pub mod BitLemmas
 pub mod BlockLemmas
+pub mod BlockOrderLemmas

@@ -55,6 +55,11 @@ pub record IsBlock (profile : Profile) (cell : ℕ → Cell) (lefts : List Left)
   pub few : taken ≤ 64
   pub settled : (i : ℕ) → i < taken → AreSettled steps kinds pairs (byte_at text (at + i - 1)) (byte_at text (at + i))
 
+-- no break is left but from here on, in the first bytes of the block
+pub record IsAhead (at taken : ℕ) (here : BlockState) : Type 0 where
+  pub within : here.past ≤ at + taken
+  pub none : (i : ℕ) → i < 64 → (taken ≤ i) ⊎ (at + i < here.past) → is_set here.left i ≡ false
+
 -- of the first bytes of the block those that stand out are left from here on
 pub record AreLeft (pairs : Neighbours) (text : List ℕ) (at taken : ℕ) (here : BlockState) : Type 0 where
   pub after : at ≤ here.past

@@ -1,6 +1,7 @@
 -- What a reader has to believe.
 pub mod Bytes
 pub mod Shown
+pub mod Order
 pub mod State
 pub mod Faults
 -- What only carries proofs.

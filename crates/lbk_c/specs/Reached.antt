@@ -1,5 +1,5 @@
 -- How far a call has come with a text, and what is to come from a state on.
-use Rattle.std.specs.Prelude.{◌≡◌, ℕ, ◌+◌, ◌<◌, ◌≤◌, List, [], ◌∷◌, ◌++◌, length, map, drop, take, min, slice_index_or, ◌⊎◌, Some, None}
+use Rattle.std.specs.Prelude.{◌≡◌, ℕ, ◌+◌, ◌*◌, ◌<◌, ◌≤◌, List, [], ◌∷◌, ◌++◌, length, map, drop, take, min, slice_index_or, ◌⊎◌, Some, None}
 use Rattle.bstr.specs.Utf8.{Decoded, or_replacement, pieces}
 use Rattle.lbk_rules.specs.declared.breaks.Break.{Break}
 use Rattle.lbk_rules.specs.declared.cells.Cell.{Cell}
@@ -7,10 +7,11 @@ use Rattle.lbk_rules.specs.declared.facts.Left.{Left}
 use Rattle.lbk_steps.specs.declared.flat_table.FlatStep.{FlatStep}
 use Rattle.lbk_steps.specs.declared.flat_table.FlatTable.{FlatTable}
 use Rattle.lbk_steps.specs.declared.neighbours.Neighbours.{Neighbours}
+use Rattle.lbk_rules.specs.declared.verdicts.Verdict.{Verdict}
 use Rattle.lbk_values.specs.declared.profile.Profile.{Profile}
 use Rattle.lbk_values.specs.declared.profile.Profile.TheVariants.{First, Second}
 use Rattle.lbk_rules.specs.Chain.{from_cells}
-use Rattle.lbk_rules.specs.Codes.{IsCode, verdict_coded}
+use Rattle.lbk_rules.specs.Codes.{IsCode, kind_number, rule_number, verdict_coded}
 use Rattle.lbk_rules.specs.Facts.{facts}
 use Rattle.lbk_steps.specs.FlatTable.{IsFlatBy, KnowsTaken, no_flat_step}
 use Rattle.lbk_steps.specs.Kinds.{kind_cell}
@@ -19,8 +20,10 @@ use Rattle.lbk_steps.specs.Steps.{IsStart, left_at}
 use Rattle.lbk_rules.specs.Verdict.{verdict_between_in}
 use Rattle.lbk_c.specs.declared.fill_state.FillState.{FillState}
 use Rattle.lbk_steps.specs.declared.flat_table.TheConstants.{HELD}
+use Rattle.lbk_c.specs.declared.interface.RawBreak.{RawBreak}
 use Rattle.lbk_c.specs.declared.interface.State.{State}
 use Rattle.lbk_c.specs.Bytes.{with_break}
+use Rattle.lbk_c.specs.Order.{AreInOrder}
 use Rattle.lbk_c.specs.State.{profile_numbered}
 
 -- the scalars that some pieces are read as
@@ -33,6 +36,10 @@ onward profile cell before at [] = with_break at (verdict_between_in profile (ma
 onward profile cell before at (p ∷ ps) =
     with_break at (verdict_between_in profile (map cell before) (map cell (scalars_of (p ∷ ps))))
     (onward profile cell (before ++ or_replacement p.char ∷ []) (at + p.size) ps)
+
+-- the numbers of a verdict's rule and kind, as one
+abbrev pub numbers_of : Verdict → ℕ
+numbers_of verdict = 256 * rule_number verdict.rule + kind_number verdict.kind
 
 -- a step by which a position is decided, unless it is held
 pub record IsSwiftStep (profile : Profile) (lefts : List Left) (left : Left) (cell : Cell) (step : FlatStep) : Type 0 where
@@ -64,6 +71,10 @@ pub record Reached (profile : Profile) (cell : ℕ → Cell) (lefts : List Left)
   pub none : here.at ≡ 0 → taken ≡ []
   pub some : 0 < here.at → 0 < length taken
   pub joined : all ≡ given ++ onward profile cell taken here.at (pieces (drop here.at text))
+
+-- the breaks given so far are in order, from a byte of the text on and up to where the call has come
+abbrev pub IsInOrder : List RawBreak → ℕ → ℕ → ℕ → Type 0
+IsInOrder block count from at = (from ≤ at) × AreInOrder block count from at
 
 -- where a state stands in a text
 abbrev pub from_state : State → FillState

@@ -7,8 +7,8 @@ ghost use Rattle.lbk_rules.specs.declared.facts.Left.{Left};
 ghost use Rattle.lbk_values.specs.declared.profile.Profile.{Profile};
 ghost use Rattle.lbk_steps.specs.FlatTable.{AreFlatKinds};
 ghost use Rattle.lbk_steps.specs.Neighbours.{AreTold};
-ghost use Rattle.lbk_c.specs.Blocks.{AreCleared, AreKeptBelow, AreLeft, IsLowest, IsBlock, Rests, place_in};
-ghost use Rattle.lbk_c.specs.Reached.{AreSwift, Reached};
+ghost use Rattle.lbk_c.specs.Blocks.{AreAhead, AreCleared, AreKeptBelow, AreLeft, IsLowest, IsBlock, Rests, place_in};
+ghost use Rattle.lbk_c.specs.Reached.{AreSwift, IsInOrder, Reached};
 ghost use Rattle.lbk_c.specs.Shown.{given_in};
 
 use crate::fill_state::FillState;
@@ -49,6 +49,7 @@ pub(crate) fn blocks(
     requires { (start.count ≤ length out.old) × (start.row < 65536) × (start.at ≤ length text.now) }
     ensures within { (result.count ≤ length out.old) × (result.row < 65536) × (result.at ≤ length text.now) }
     ensures onward { (start.at ≤ result.at) × (start.count ≤ result.count) }
+    ensures in_order { (from : ℕ) → IsInOrder out.old start.count from start.at → IsInOrder out.new result.count from result.at }
     ensures reached { (profile : Profile) (cell : ℕ → Cell) (lefts : List Left) (all : List Break) → AreSwift profile lefts steps.now → AreFlatKinds kinds.now cell
         → AreTold steps.now kinds.now pairs.now
         → Reached profile cell lefts text.now all start (given_in out.old start.count)
@@ -73,6 +74,7 @@ fn each_block(
     requires { (start.count ≤ length out.old) × (start.row < 65536) × (start.at ≤ length text.now) }
     ensures within { (result.count ≤ length out.old) × (result.row < 65536) × (result.at ≤ length text.now) }
     ensures onward { (start.at ≤ result.at) × (start.count ≤ result.count) }
+    ensures in_order { (from : ℕ) → IsInOrder out.old start.count from start.at → IsInOrder out.new result.count from result.at }
     ensures reached { (profile : Profile) (cell : ℕ → Cell) (lefts : List Left) (all : List Break) → AreSwift profile lefts steps.now → AreFlatKinds kinds.now cell
         → AreTold steps.now kinds.now pairs.now
         → Reached profile cell lefts text.now all start (given_in out.old start.count)
@@ -100,6 +102,7 @@ fn block(
     requires { (start.count ≤ length out.old) × (start.row < 65536) × (start.at ≤ length text.now) }
     ensures within { (result.count ≤ length out.old) × (result.row < 65536) × (result.at ≤ length text.now) }
     ensures onward { (start.at ≤ result.at) × (start.count ≤ result.count) }
+    ensures in_order { (from : ℕ) → IsInOrder out.old start.count from start.at → IsInOrder out.new result.count from result.at }
     ensures reached { (profile : Profile) (cell : ℕ → Cell) (lefts : List Left) (all : List Break) → AreSwift profile lefts steps.now → AreFlatKinds kinds.now cell
         → AreTold steps.now kinds.now pairs.now
         → Reached profile cell lefts text.now all start (given_in out.old start.count)
@@ -180,6 +183,7 @@ fn finish(
     requires { (start.count ≤ length out.old) × (0 < at) × (at + 64 ≤ length text.now) × (taken ≤ 64) × (at ≤ start.past) × (start.past ≤ at + 64) }
     ensures within { (result.count ≤ length out.old) × (result.row < 65536) × (result.at ≤ length text.now) }
     ensures onward { (at ≤ result.at) × (start.count ≤ result.count) }
+    ensures in_order { (from : ℕ) → IsAhead at taken start → IsInOrder out.old start.count from start.past → IsInOrder out.new result.count from result.at }
     ensures reached { (profile : Profile) (cell : ℕ → Cell) (lefts : List Left) (all : List Break)
         → IsBlock profile cell lefts steps.now kinds.now pairs.now text.now at taken
         → AreLeft pairs.now text.now at taken start
@@ -222,6 +226,8 @@ fn some_breaks(
     out: &mut [RawBreak],
 ) -> BlockState
     requires { (here.count < length out.old) × (0 < at) × (at + 64 ≤ length text.now) × (at ≤ here.past) × (here.past ≤ at + 64) }
+    ensures ahead { (taken : ℕ) → IsAhead at taken here → IsAhead at taken result }
+    ensures in_order { (taken from : ℕ) → IsAhead at taken here → IsInOrder out.old here.count from here.past → IsInOrder out.new result.count from result.past }
     ensures within { (result.count ≤ length out.old) × (at ≤ result.past) × (result.past ≤ at + 64) }
     ensures onward { (here.count ≤ result.count) × (result.left ≤ here.left) × (0 < here.left → result.left < here.left) }
     ensures reached { (profile : Profile) (cell : ℕ → Cell) (lefts : List Left) (all : List Break) (taken : ℕ)
@@ -249,6 +255,8 @@ fn eight_breaks(
     out: &mut [RawBreak],
 ) -> BlockState
     requires { (here.count + 8 ≤ length out.old) × (0 < at) × (at + 64 ≤ length text.now) × (at ≤ here.past) × (here.past ≤ at + 64) }
+    ensures ahead { (taken : ℕ) → IsAhead at taken here → IsAhead at taken result }
+    ensures in_order { (taken from : ℕ) → IsAhead at taken here → IsInOrder out.old here.count from here.past → IsInOrder out.new result.count from result.past }
     ensures within { (result.count ≤ length out.old) × (at ≤ result.past) × (result.past ≤ at + 64) }
     ensures onward { (here.count ≤ result.count) × (result.left ≤ here.left) × (0 < here.left → result.left < here.left) }
     ensures few { result.count ≤ here.count + 8 }
@@ -275,6 +283,8 @@ fn four_breaks(
     out: &mut [RawBreak],
 ) -> BlockState
     requires { (here.count + 4 ≤ length out.old) × (0 < at) × (at + 64 ≤ length text.now) × (at ≤ here.past) × (here.past ≤ at + 64) }
+    ensures ahead { (taken : ℕ) → IsAhead at taken here → IsAhead at taken result }
+    ensures in_order { (taken from : ℕ) → IsAhead at taken here → IsInOrder out.old here.count from here.past → IsInOrder out.new result.count from result.past }
     ensures within { (result.count ≤ length out.old) × (at ≤ result.past) × (result.past ≤ at + 64) }
     ensures onward { (here.count ≤ result.count) × (result.left ≤ here.left) × (0 < here.left → result.left < here.left) }
     ensures few { result.count ≤ here.count + 4 }
@@ -301,6 +311,8 @@ fn two_breaks(
     out: &mut [RawBreak],
 ) -> BlockState
     requires { (here.count + 2 ≤ length out.old) × (0 < at) × (at + 64 ≤ length text.now) × (at ≤ here.past) × (here.past ≤ at + 64) }
+    ensures ahead { (taken : ℕ) → IsAhead at taken here → IsAhead at taken result }
+    ensures in_order { (taken from : ℕ) → IsAhead at taken here → IsInOrder out.old here.count from here.past → IsInOrder out.new result.count from result.past }
     ensures within { (result.count ≤ length out.old) × (at ≤ result.past) × (result.past ≤ at + 64) }
     ensures onward { (here.count ≤ result.count) × (result.left ≤ here.left) × (0 < here.left → result.left < here.left) }
     ensures few { result.count ≤ here.count + 2 }
@@ -328,6 +340,8 @@ fn take_break(
     out: &mut [RawBreak],
 ) -> BlockState
     requires { (here.count < length out.old) × (0 < at) × (at + 64 ≤ length text.now) × (at ≤ here.past) × (here.past ≤ at + 64) }
+    ensures ahead { (taken : ℕ) → IsAhead at taken here → IsAhead at taken result }
+    ensures in_order { (taken from : ℕ) → IsAhead at taken here → IsInOrder out.old here.count from here.past → IsInOrder out.new result.count from result.past }
     ensures within { (result.count ≤ length out.old) × (at ≤ result.past) × (result.past ≤ at + 64) }
     ensures onward { (here.count ≤ result.count) × (result.left ≤ here.left) × (0 < here.left → result.left < here.left) }
     ensures few { result.count ≤ here.count + 1 }

@@ -1,6 +1,6 @@
 //! A block that is filled with breaks.
 
-ghost use Rattle.std.specs.Prelude.{◌≡◌, ℕ, ◌+◌, ◌<◌, ◌≤◌, ◌++◌, [], List, length};
+ghost use Rattle.std.specs.Prelude.{◌≡◌, ℕ, ◌+◌, ◌<◌, ◌≤◌, ◌++◌, [], List, length, take};
 ghost use Rattle.lbk_rules.specs.declared.breaks.Break.{Break};
 ghost use Rattle.lbk_rules.specs.declared.cells.Cell.{Cell};
 ghost use Rattle.lbk_rules.specs.declared.facts.Left.{Left};
@@ -8,7 +8,8 @@ ghost use Rattle.lbk_values.specs.declared.profile.Profile.{Profile};
 ghost use Rattle.lbk_rules.specs.Codes.{IsCode, verdict_coded};
 ghost use Rattle.lbk_steps.specs.FlatTable.{AreFlatKinds, IsFlatBy};
 ghost use Rattle.lbk_c.specs.Bytes.{with_break};
-ghost use Rattle.lbk_c.specs.Reached.{AreSwift, Reached};
+ghost use Rattle.lbk_c.specs.Order.{AreInOrder};
+ghost use Rattle.lbk_c.specs.Reached.{AreSwift, IsInOrder, Reached};
 ghost use Rattle.lbk_c.specs.Shown.{given_in};
 
 use crate::ahead::code_ahead;
@@ -16,6 +17,7 @@ use crate::blocks::{BLOCK, blocks, wide_ahead};
 use crate::decoding::{Width, scalar_of};
 use crate::fill_state::FillState;
 use crate::interface::RawBreak;
+use crate::shown::shown_of;
 use crate::steps::{CODES, pairs_of, step_at, steps_of};
 use bstr::decode_lossy;
 use lbk_rules::Profile;
@@ -34,6 +36,7 @@ pub(crate) fn fill(
     ensures within { (result.count ≤ length out.old) × (result.row < 65536) × (result.at ≤ length text.now) }
     ensures stops { result.count < length out.old → result.at ≡ length text.now }
     ensures no_room { length out.old ≡ 0 → result ≡ start }
+    ensures in_order { (from : ℕ) → IsInOrder out.old start.count from start.at → IsInOrder out.new result.count from result.at }
     ensures reached { (cell : ℕ → Cell) (lefts : List Left) (all : List Break) → IsFlatBy lefts table.now cell
         → Reached profile cell lefts text.now all start (given_in out.old start.count)
         → Reached profile cell lefts text.now all result (given_in out.new result.count) }
@@ -57,6 +60,7 @@ fn further(
     requires { (here.count < length out.old) × (here.row < 65536) × (here.at < length text.now) }
     ensures within { (result.count ≤ length out.old) × (result.row < 65536) × (result.at ≤ length text.now) }
     ensures onward { here.count + here.at < result.count + result.at }
+    ensures in_order { (from : ℕ) → IsInOrder out.old here.count from here.at → IsInOrder out.new result.count from result.at }
     ensures both { (here.count ≤ result.count) × (here.at ≤ result.at) }
     ensures reached { (cell : ℕ → Cell) (lefts : List Left) (all : List Break) → IsFlatBy lefts table.now cell
         → Reached profile cell lefts text.now all here (given_in out.old here.count)
@@ -119,6 +123,7 @@ fn quick(
     requires { (start.count ≤ length out.old) × (start.row < 65536) × (start.at ≤ length text.now) × (until ≤ length text.now) }
     ensures within { (result.count ≤ length out.old) × (result.row < 65536) × (result.at ≤ length text.now) }
     ensures onward { (start.at ≤ result.at) × (start.count ≤ result.count) }
+    ensures in_order { (from : ℕ) → IsInOrder out.old start.count from start.at → IsInOrder out.new result.count from result.at }
     ensures reached { (profile : Profile) (cell : ℕ → Cell) (lefts : List Left) (all : List Break) → AreSwift profile lefts steps.now → AreFlatKinds kinds.now cell
         → Reached profile cell lefts text.now all start (given_in out.old start.count)
         → Reached profile cell lefts text.now all result (given_in out.new result.count) }
@@ -145,6 +150,7 @@ fn runs(
     requires { (start.count ≤ length out.old) × (start.row < 65536) × (start.at ≤ length text.now) × (until ≤ length text.now) }
     ensures within { (result.count ≤ length out.old) × (result.row < 65536) × (result.at ≤ length text.now) }
     ensures onward { (start.at ≤ result.at) × (start.count ≤ result.count) }
+    ensures in_order { (from : ℕ) → IsInOrder out.old start.count from start.at → IsInOrder out.new result.count from result.at }
     ensures reached { (profile : Profile) (cell : ℕ → Cell) (lefts : List Left) (all : List Break) → AreSwift profile lefts steps.now → AreFlatKinds kinds.now cell
         → Reached profile cell lefts text.now all start (given_in out.old start.count)
         → Reached profile cell lefts text.now all result (given_in out.new result.count) }
@@ -169,6 +175,7 @@ fn run(
     requires { (start.count ≤ length out.old) × (start.row < 65536) × (start.at ≤ length text.now) × (until ≤ length text.now) }
     ensures within { (result.count ≤ length out.old) × (result.row < 65536) × (result.at ≤ length text.now) }
     ensures onward { (start.at ≤ result.at) × (start.count ≤ result.count) }
+    ensures in_order { (from : ℕ) → IsInOrder out.old start.count from start.at → IsInOrder out.new result.count from result.at }
     ensures reached { (profile : Profile) (cell : ℕ → Cell) (lefts : List Left) (all : List Break) → AreSwift profile lefts steps.now → AreFlatKinds kinds.now cell
         → Reached profile cell lefts text.now all start (given_in out.old start.count)
         → Reached profile cell lefts text.now all result (given_in out.new result.count) }
@@ -202,6 +209,7 @@ fn take_one(
     requires { (here.count < length out.old) × (here.row < 65536) × (here.at < length text.now) }
     ensures within { (result.count ≤ length out.old) × (result.row < 65536) × (result.at ≤ length text.now) }
     ensures onward { (here.at < result.at) × (here.count ≤ result.count) }
+    ensures in_order { (from : ℕ) → IsInOrder out.old here.count from here.at → IsInOrder out.new result.count from result.at }
     ensures reached { (cell : ℕ → Cell) (lefts : List Left) (all : List Break) → IsFlatBy lefts table.now cell
         → Reached profile cell lefts text.now all here (given_in out.old here.count)
         → Reached profile cell lefts text.now all result (given_in out.new result.count) }
@@ -224,12 +232,14 @@ fn take_one(
 pub(crate) fn put(out: &mut [RawBreak], count: usize, at: usize, code: u16) -> usize
     requires { count < length out.old }
     ensures within { (result ≤ length out.old) × (count ≤ result) × (result ≤ count + 1) }
-    ensures kept { given_in out.new count ≡ given_in out.old count }
+    ensures kept { take count out.new ≡ take count out.old }
+    ensures in_order { (from to : ℕ) → at < to → IsInOrder out.old count from at → AreInOrder out.new result from to }
     ensures front { IsCode code → given_in out.new result ≡ given_in out.old count ++ with_break at (verdict_coded code) [] }
 {
+    let shown = shown_of(code);
     let place = &mut out[count];
     place.at = at;
-    place.kind = (code % 256) as u8;
-    place.rule = (code / 256) as u8;
-    count + usize::from(code % 256 != 0)
+    place.kind = (shown % 256) as u8;
+    place.rule = (shown / 256) as u8;
+    count + usize::from(shown % 256 != 0)
 }

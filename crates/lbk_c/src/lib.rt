@@ -14,6 +14,7 @@ mod fill_state;
 mod filling;
 mod interface;
 mod labels;
+mod shown;
 mod steps;
 mod table_reading;
 

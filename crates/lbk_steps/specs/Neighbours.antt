@@ -22,7 +22,7 @@ pub record AreSettled (steps : List FlatStep) (kinds : List ℕ) (pairs : Neighb
   pub below : byte < 128
   pub apart : ¬ ((step_behind steps kinds pairs before byte).code ≡ HELD)
   pub leads : (step_behind steps kinds pairs before byte).next ≡ slice_index_or pairs.rows byte 0
-  pub breaks : meets (left_in pairs.sets before) (right_in pairs.sets byte) ≡ not ((step_behind steps kinds pairs before byte).code % 256 == 0)
+  pub breaks : meets (left_in pairs.sets before) (right_in pairs.sets byte) ≡ not ((step_behind steps kinds pairs before byte).code % 3 == 0)
 
 -- so it is, unless the byte is special, or the one before it has no row
 abbrev pub IsTold : List FlatStep → List ℕ → Neighbours → ℕ → ℕ → Type 0

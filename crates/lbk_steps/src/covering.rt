@@ -100,7 +100,7 @@ fn relations(steps: &[FlatStep; STEPS], kinds: &[u8; CODES], rows: &[u16; 256]) 
             let step = steps[rows[before] as usize + kinds[byte] as usize];
             if step.code == HELD || step.next != rows[byte] {
                 related.special[before] |= 1 << byte;
-            } else if step.code % 256 != 0 {
+            } else if step.code % 3 != 0 {
                 related.breaks[before] |= 1 << byte;
             }
         }

@@ -28,7 +28,7 @@ pub const LAYOUT: u64 = 2;
 pub(crate) const CODES: usize = 0x11_0000;
 
 /// The number of a verdict by rule 15b.
-pub const HELD: u16 = 4096;
+pub const HELD: u16 = 48;
 
 /// What a digest begins with: the offset basis of FNV-1a for 64 bits.
 const DIGEST_START: u64 = 0xcbf2_9ce4_8422_2325;
@@ -40,8 +40,8 @@ const DIGEST_PRIME: u64 = 0x100_0000_01b3;
 #[repr(C)]
 #[derive(Clone, Copy, PartialEq, Eq, Debug)]
 pub struct FlatStep {
-    /// The number of the verdict before the cell: 256 times the place of its rule among the rules, and that of its kind
-    /// among the kinds. In the second profile, that where what follows leaves a closing quotation mark closed.
+    /// The number of the verdict before the cell, as `lbk_rules::code_of` counts them. In the second profile, of that where
+    /// what follows leaves a closing quotation mark closed.
     pub code: u16,
     /// The place at which the row after the cell begins.
     pub next: u16,

@@ -104,7 +104,7 @@ impl Neighbours {
         if step.next != self.rows[byte as usize] {
             return false;
         }
-        self.stands_out(before, byte) == (step.code % 256 != 0)
+        self.stands_out(before, byte) == (step.code % 3 != 0)
     }
 
     /// A digest after these numbers too.

@@ -161,7 +161,7 @@ pub enum Kind {
 pub struct Rule(u8);
 
 impl Rule {
-    /// The rule's place among all rules of the annex, from 0: the number of the header's constants.
+    /// The number of the header's constants: 8 times the rule's own, and the place of its letter, as 65 for 8a.
     pub fn number(self) -> u8 {
         self.0
     }

@@ -5,6 +5,7 @@ use Rattle.lbk_c.specs.Reached.{Reached}
 use Rattle.lbk_c.specs.Shown.{given_in}
 use Rattle.lbk_c.proofs.BitLemmas.{zeros-below, zeros-few}
 use Rattle.lbk_c.proofs.BlockLemmas.{are-left, is-block, special-is, stands-is}
+use Rattle.lbk_c.proofs.BlockOrderLemmas.{ahead-begins}
 use Rattle.lbk_c.proofs.blocks.block.Goals as goal
 
 pub returns-clause-reached : goal.returns-clause-reached
@@ -24,3 +25,7 @@ returns-clause-reached c = λ profile cell lefts all swift are_kinds told start.
     (λ i h. masks.ensures.standing i h ∙ stands-is pairs text here before i rests) in
     c.finish.ensures.reached profile cell lefts all block left
     (subst (λ w. Reached profile cell lefts text all (record { count = here.count; row = w; at = here.at }) (given_in c.args.out.now here.count)) rests.row start)
+
+pub returns-clause-in_order : goal.returns-clause-in_order
+returns-clause-in_order c = λ from order.
+    c.finish.ensures.in_order from (ahead-begins c.args.start.at (trailing_zeros w64 c.masks-masks.result.special) c.masks-masks.result.standing ? (omega arith) c.kept_below.ensures) order

@@ -5,7 +5,7 @@ use Rattle.lbk_rules.specs.declared.facts.Left.{Left}
 use Rattle.lbk_values.specs.declared.profile.Profile.{Profile}
 use Rattle.lbk_steps.specs.FlatTable.{AreFlatKinds}
 use Rattle.lbk_steps.specs.Neighbours.{AreTold}
-use Rattle.lbk_c.specs.Reached.{AreSwift, Reached}
+use Rattle.lbk_c.specs.Reached.{AreSwift, IsInOrder, Reached}
 use Rattle.lbk_c.specs.Shown.{given_in}
 use Rattle.lbk_c.proofs.blocks.each_block.Given as goal
 
@@ -17,6 +17,7 @@ invariant-loop-from l = record {
   onward : l.fn.start.at ≤ l.from;
   ahead : l.from ≤ l.here.at;
   more : l.fn.start.count ≤ l.here.count;
+  in_order : (from : ℕ) → IsInOrder l.fn.out l.fn.start.count from l.fn.start.at → IsInOrder l.out l.here.count from l.here.at;
   reached : (profile : Profile) (cell : ℕ → Cell) (lefts : List Left) (all : List Break) → AreSwift profile lefts l.steps → AreFlatKinds l.kinds cell
       → AreTold l.steps l.kinds l.pairs
       → Reached profile cell lefts l.text all l.fn.start (given_in l.fn.out l.fn.start.count)

@@ -1,6 +1,7 @@
 use Rattle.std.proofs.Common.{length, ap, arith, refl}
 use Rattle.lbk_c.specs.Shown.{given_in}
 use Rattle.lbk_c.proofs.ComingLemmas.{Comes-goes, Comes-next, Comes-start, breaks-utf8, spent-none}
+use Rattle.lbk_c.proofs.OrderLemmas.{AreInOrder-none}
 use Rattle.lbk_c.proofs.breaking.lbk_breaks.Goals as goal
 
 pub returns-in_default-clause-start : goal.returns-in_default-clause-start
@@ -44,3 +45,9 @@ returns-clause-rest c = λ cell to_come comes.
     (given_in c.go_on.new.out c.go_on.result) c.go_on.result (length c.args.out.now) c.go_on.ensures.goes c.in-Some.ensures comes in
     Comes-next c.in-Some.profile cell c.args.table.now c.args.text.now c.args.state.now c.go_on.new.state to_come
     (given_in c.go_on.new.out c.go_on.result) c.go_on.result (length c.args.out.now) c.in-Some.ensures c.go_on.ensures.profile_same comes gone
+
+pub returns-in_default-clause-in_order : goal.returns-in_default-clause-in_order
+returns-in_default-clause-in_order c = AreInOrder-none _ _ _
+
+pub returns-in_default-clause-before_state : goal.returns-in_default-clause-before_state
+returns-in_default-clause-before_state c = λ _. AreInOrder-none _ _ _

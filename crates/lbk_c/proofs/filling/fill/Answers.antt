@@ -11,5 +11,6 @@ loop-here-preserved c =
       row = within.1;
       within = within.2;
       no_room = λ none. absurd (omega arith);
+      in_order = λ from order. further.ensures.in_order from (l.invariant.in_order from order);
       reached = λ cell lefts all flat start. further.ensures.reached cell lefts all flat (l.invariant.reached cell lefts all flat start);
     }

@@ -14,3 +14,6 @@ returns-clause-reached c = λ cell lefts all flat start.
     (subst (AreTold ? table.kinds) (sym c.pairs_of.ensures) (flat-told profile lefts table cell flat)) in
     let there = c.blocks-there.ensures.reached profile cell lefts all swift flat.kinds told start in
     c.quick-past.ensures.reached profile cell lefts all swift flat.kinds there
+
+pub returns-clause-in_order : goal.returns-clause-in_order
+returns-clause-in_order c = λ from order. c.quick-past.ensures.in_order from (c.blocks-there.ensures.in_order from order)

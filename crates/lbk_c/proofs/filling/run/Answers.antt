@@ -1,4 +1,4 @@
-use Rattle.std.proofs.Common.{◌<◌, length, arith}
+use Rattle.std.proofs.Common.{◌+◌, ◌<◌, length, arith}
 use Rattle.lbk_c.proofs.LoopLemmas.{Reached-swift}
 use Rattle.lbk_c.proofs.PieceLemmas.{reads}
 use Rattle.lbk_c.proofs.filling.run.Goals as goal
@@ -31,6 +31,9 @@ loop-count-preserved c =
       within = r.within;
       onward = omega (arith, l.invariant.onward);
       more = omega (arith, l.invariant.more);
+      in_order = λ from order.
+          let here = l.invariant.in_order from order in
+          (omega (arith, here.0), put.ensures.in_order from (l.at + s.size) (omega (arith, r.some)) here);
       reached = λ profile cell lefts all swift are_kinds start.
           Reached-swift profile cell lefts c.args.text.now all c.args.steps.now c.args.kinds.now l.out put.new.out l.count put.result l.row l.at s.code s.size step
           swift are_kinds r inside c.step_at-step.ensures c.if-step-eq-HELD.false put.ensures.front (l.invariant.reached profile cell lefts all swift are_kinds start);

@@ -1,4 +1,4 @@
-use Rattle.std.proofs.Common.{◌≡◌, ◌-◌, length, drop, take, ap, sym, subst, ◌∙◌, arith}
+use Rattle.std.proofs.Common.{◌≡◌, ◌+◌, ◌-◌, length, drop, take, ap, sym, subst, ◌∙◌, arith}
 use Rattle.std.specs.Char.{IsScalar}
 use Rattle.std.proofs.lemmas.List.{length-drop}
 use Rattle.bstr.specs.Utf8.{decoded, or_replacement}
@@ -49,6 +49,14 @@ returns-clause-onward c =
     let is_size = c.decode_lossy-c.ensures.size ∙ ap (λ bs. (decoded bs).size) (rest-of text at) in
     let bounds = piece-within text at c.requires.2 in
     omega (arith, bounds.0, is_size)
+
+pub returns-clause-in_order : goal.returns-clause-in_order
+returns-clause-in_order c = λ from order.
+    let text = c.args.text.now in
+    let at = c.args.here.at in
+    let is_size = c.decode_lossy-c.ensures.size ∙ ap (λ bs. (decoded bs).size) (rest-of text at) in
+    let bounds = piece-within text at c.requires.2 in
+    (omega (arith, order.0), c.put-count.ensures.in_order from (at + c.decode_lossy-c.result.1) (omega (arith, bounds.0, is_size)) order)
 
 pub returns-clause-reached : goal.returns-clause-reached
 returns-clause-reached c = λ cell lefts all flat reached.
