@@ -1,7 +1,7 @@
 -- Bits of numbers of 64 bits.
 use Rattle.std.proofs.Common.{◌≡◌, ◌≢◌, ℕ, zero, suc, ◌+◌, ◌-◌, ◌*◌, ◌%◌, ◌^◌, ◌==◌, ◌<◌, ◌≤◌, min, true, false, refl, sym, ap, ap₂, ◌∙◌, arith, w64}
 use Rattle.std.specs.Int.{bit_at, bit_not, trailing_zeros}
-use Rattle.std.proofs.lemmas.Nat.{and_mask, and_le_l, pow_below, trailing_le}
+use Rattle.std.proofs.lemmas.Nat.{and_mask, and_le_l, and_le_r, pow_below, trailing_le}
 use Rattle.std.proofs.lemmas.Nat.Bits.{bit_at-lt, bit_at-trailing_zeros, bit_at-zero, bit_at_and, bit_at_clear_other, bit_at_clear_same, bit_at_ones, bit_at_ones_above}
 use lib.Bits.{bit_and}
 use Rattle.lbk_masks.specs.Sets.{is_set}
@@ -32,6 +32,9 @@ kept-below bits count few =
 
 low-six : (n : ℕ) → n < 64 → bit_and n 63 ≡ n
 low-six n few = and_mask n 6 ∙ (let e : n % 64 ≡ n = omega arith in e)
+
+pub low-below : (n : ℕ) → bit_and n 63 < 64
+low-below n = omega (arith, and_le_r n 63)
 
 pub lowest : (bits : ℕ) → bits < 2 ^ 64 → IsLowest bits (bit_and (trailing_zeros w64 bits) 63)
 lowest zero fits = record { set = λ some. absurd (omega arith); none = λ i h. none-set i }

@@ -71,7 +71,10 @@ no-break at code none =
 -- no verdict's number is of no break where the sets do not meet
 not-zero : (b : Bool) (n : ℕ) → b ≡ not (n == 0) → b ≡ false → n ≡ 0
 not-zero b zero is none = refl
-not-zero b (suc n) is none = absurd (let no : true ≡ false = sym is ∙ none in (let never : ⊥ = cc in never))
+not-zero b (suc n) is none =
+    let apart : (suc n == 0) ≡ false = grind (arith, nat_tests) in
+    let no : true ≡ false = sym (is ∙ ap not apart) ∙ none in
+    absurd (let never : ⊥ = cc in never)
 
 -- bytes before which no line breaks
 quiet-bytes : (profile : Profile) (cell : ℕ → Cell) (lefts : List Left) (text : List ℕ) (all : List Break) (steps : List FlatStep) (kinds : List ℕ) (pairs : Neighbours)

@@ -201,6 +201,7 @@ fn finish(
 #[inline(always)]
 fn stopped(pairs: &Neighbours, at: usize, taken: usize, here: BlockState, text: &[u8]) -> FillState
     requires { (0 < at) × (at + 64 ≤ length text.now) × (taken ≤ 64) × (at ≤ here.past) × (here.past ≤ at + 64) }
+    ensures within { (result.row < 65536) × (result.at ≤ at + 64) }
     ensures count { result.count ≡ here.count }
     ensures row { result.row ≡ slice_index_or pairs.now.rows (slice_index_or text.now (result.at - 1) 0) 0 }
     ensures all { here.left ≡ 0 → result.at ≡ at + taken }

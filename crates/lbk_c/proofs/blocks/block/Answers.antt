@@ -1,6 +1,7 @@
-use Rattle.std.proofs.Common.{◌≡◌, ℕ, ◌<◌, false, sym, subst, ◌∙◌, arith, w64}
+use Rattle.std.proofs.Common.{◌≡◌, ℕ, ◌<◌, false, refl, sym, subst, ◌∙◌, arith, w64}
 use Rattle.std.specs.Int.{trailing_zeros}
 use Rattle.lbk_masks.specs.Sets.{is_set}
+use Rattle.lbk_c.specs.declared.blocks.BlockState.{BlockState}
 use Rattle.lbk_c.specs.Reached.{Reached}
 use Rattle.lbk_c.specs.Shown.{given_in}
 use Rattle.lbk_c.proofs.BitLemmas.{zeros-below, zeros-few}
@@ -19,13 +20,15 @@ returns-clause-reached c = λ profile cell lefts all swift are_kinds told start.
     let special = masks.result.special in
     let taken = trailing_zeros w64 special in
     let few = zeros-few special in
-    let block = is-block profile cell lefts c.args.steps.now c.args.kinds.now pairs text here before taken swift are_kinds told (λ i. ?) rests few start.knows.0
+    let block = is-block profile cell lefts c.args.steps.now c.args.kinds.now pairs text here before taken swift are_kinds told (λ i. (c.type_inv.text i).fits) rests few start.knows.0
     (λ i h. sym (special-is pairs text here before i rests) ∙ sym (masks.ensures.special i (omega arith)) ∙ zeros-below special (omega arith) i h) in
-    let left = are-left pairs text here.at taken masks.result.standing ? few (omega arith) c.kept_below.ensures
+    let marked : BlockState = record { count = here.count; past = here.at; left = c.kept_below.result } in
+    let left = are-left pairs text here.at taken masks.result.standing marked few refl c.kept_below.ensures
     (λ i h. masks.ensures.standing i h ∙ stands-is pairs text here before i rests) in
     c.finish.ensures.reached profile cell lefts all block left
     (subst (λ w. Reached profile cell lefts text all (record { count = here.count; row = w; at = here.at }) (given_in c.args.out.now here.count)) rests.row start)
 
 pub returns-clause-in_order : goal.returns-clause-in_order
 returns-clause-in_order c = λ from order.
-    c.finish.ensures.in_order from (ahead-begins c.args.start.at (trailing_zeros w64 c.masks-masks.result.special) c.masks-masks.result.standing ? (omega arith) c.kept_below.ensures) order
+    c.finish.ensures.in_order from (ahead-begins c.args.start.at (trailing_zeros w64 c.masks-masks.result.special) c.masks-masks.result.standing
+    (record { count = c.args.start.count; past = c.args.start.at; left = c.kept_below.result }) refl c.kept_below.ensures) order

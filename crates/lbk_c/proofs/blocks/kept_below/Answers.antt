@@ -1,3 +1,4 @@
+use Rattle.std.proofs.Common.{arith}
 use Rattle.lbk_c.proofs.BitLemmas.{all-below, kept-below}
 use Rattle.lbk_c.proofs.blocks.kept_below.Goals as goal
 

@@ -1,6 +1,6 @@
 use Rattle.std.proofs.Common.{sym, subst, arith}
 use Rattle.lbk_steps.specs.Neighbours.{AreTold}
-use Rattle.lbk_c.specs.Reached.{AreSwift, pairs_in}
+use Rattle.lbk_c.specs.Reached.{AreSwift, steps_in}
 use Rattle.lbk_c.proofs.StepLemmas.{flat-swift, flat-told}
 use Rattle.lbk_c.proofs.filling.further.Goals as goal
 
@@ -11,7 +11,7 @@ returns-clause-reached c = λ cell lefts all flat start.
     let steps = c.steps_of-steps in
     let swift = subst (AreSwift profile lefts) (sym steps.ensures) (flat-swift profile lefts table cell flat) in
     let told = subst (λ s. AreTold s table.kinds c.pairs_of.result.now) (sym steps.ensures)
-    (subst (AreTold ? table.kinds) (sym c.pairs_of.ensures) (flat-told profile lefts table cell flat)) in
+    (subst (AreTold (steps_in table profile) table.kinds) (sym c.pairs_of.ensures) (flat-told profile lefts table cell flat)) in
     let there = c.blocks-there.ensures.reached profile cell lefts all swift flat.kinds told start in
     c.quick-past.ensures.reached profile cell lefts all swift flat.kinds there
 

@@ -40,7 +40,7 @@ returns-clause-within c =
     let at = c.args.here.at in
     let is_size = c.decode_lossy-c.ensures.size ∙ ap (λ bs. (decoded bs).size) (rest-of text at) in
     let bounds = piece-within text at c.requires.2 in
-    (c.put-count.ensures.within, omega arith, omega (arith, bounds.1, is_size))
+    (c.put-count.ensures.within.0, omega arith, omega (arith, bounds.1, is_size))
 
 pub returns-clause-onward : goal.returns-clause-onward
 returns-clause-onward c =
