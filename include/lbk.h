@@ -144,6 +144,12 @@ typedef struct lbk_step {
     uint16_t code, next;
 } lbk_step;
 
+/* What a table knows of bytes that stand side by side: numbers of the library's own. */
+typedef struct lbk_neighbours {
+    uint8_t classes[8][16], left[16], right[16];
+    uint16_t rows[256];
+} lbk_neighbours;
+
 /* What lbk_read makes of the four files, and what lbk_breaks decides by: plain numbers and no pointers, in the order of bytes
  * of the machine. So a table can be copied, be kept in a file, be mapped from there by other processes, and be shared.
  *
@@ -152,6 +158,7 @@ typedef struct lbk_table {
     uint64_t layout; /* LBK_LAYOUT, where lbk_read filled the table */
     uint64_t digest; /* of all that follows, for lbk_check */
     lbk_step first[LBK_STEPS], second[LBK_STEPS];
+    lbk_neighbours first_pairs, second_pairs;
     uint8_t kinds[LBK_CODES];
 } lbk_table;
 
@@ -241,9 +248,10 @@ LBK_ASSERT(a_state_has_16_bytes, sizeof(lbk_state) == 16);
 LBK_ASSERT(a_break_has_16_bytes, sizeof(lbk_break) == 16);
 LBK_ASSERT(a_fault_has_12_bytes, sizeof(lbk_fault) == 12);
 LBK_ASSERT(a_label_has_4_bytes, sizeof(lbk_rule_label) == 4);
-LBK_ASSERT(a_table_has_no_gaps, sizeof(lbk_table) == 16 + 8 * LBK_STEPS + LBK_CODES);
+LBK_ASSERT(neighbours_have_672_bytes, sizeof(lbk_neighbours) == 672);
+LBK_ASSERT(a_table_has_no_gaps, sizeof(lbk_table) == 16 + 8 * LBK_STEPS + 2 * 672 + LBK_CODES);
 LBK_ASSERT(steps_stand_where_they_should, offsetof(lbk_table, first) == 16);
-LBK_ASSERT(kinds_stand_where_they_should, offsetof(lbk_table, kinds) == 16 + 8 * LBK_STEPS);
+LBK_ASSERT(kinds_stand_where_they_should, offsetof(lbk_table, kinds) == 16 + 8 * LBK_STEPS + 2 * 672);
 
 #undef LBK_ASSERT
 

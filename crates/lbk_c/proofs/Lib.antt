@@ -8,3 +8,6 @@ pub mod StepLemmas
 pub mod TableLemmas
 pub mod ComingLemmas
 pub mod PositionLemmas
+pub mod BitLemmas
+pub mod BlockLemmas
+pub mod BlockOrderLemmas

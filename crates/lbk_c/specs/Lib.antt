@@ -8,3 +8,4 @@ pub mod Faults
 -- What only carries proofs.
 pub mod Decided
 pub mod Reached
+pub mod Blocks

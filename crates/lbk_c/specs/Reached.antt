@@ -6,6 +6,7 @@ use Rattle.lbk_rules.specs.declared.cells.Cell.{Cell}
 use Rattle.lbk_rules.specs.declared.facts.Left.{Left}
 use Rattle.lbk_steps.specs.declared.flat_table.FlatStep.{FlatStep}
 use Rattle.lbk_steps.specs.declared.flat_table.FlatTable.{FlatTable}
+use Rattle.lbk_steps.specs.declared.neighbours.Neighbours.{Neighbours}
 use Rattle.lbk_rules.specs.declared.verdicts.Verdict.{Verdict}
 use Rattle.lbk_values.specs.declared.profile.Profile.{Profile}
 use Rattle.lbk_values.specs.declared.profile.Profile.TheVariants.{First, Second}
@@ -60,6 +61,11 @@ pub record IsSwiftStep (profile : Profile) (lefts : List Left) (left : Left) (ce
 abbrev pub steps_in : FlatTable → Profile → List FlatStep
 steps_in table First = table.first
 steps_in table Second = table.second
+
+-- what is known in a profile of bytes side by side
+abbrev pub pairs_in : FlatTable → Profile → Neighbours
+pairs_in table First = table.first_pairs
+pairs_in table Second = table.second_pairs
 
 abbrev pub AreSwift : Profile → List Left → List FlatStep → Type 0
 AreSwift profile lefts steps =

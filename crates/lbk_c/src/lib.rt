@@ -6,6 +6,7 @@
 #![tactic(auto)]
 
 mod ahead;
+mod blocks;
 mod breaking;
 mod checking;
 mod deciding;

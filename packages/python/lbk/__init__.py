@@ -19,7 +19,8 @@ __all__ = ["Break", "Fault", "Kind", "Table"]
 
 _STEPS = 65_792
 _CODES = 0x110000
-_TABLE_SIZE = 16 + 8 * _STEPS + _CODES
+_NEIGHBOURS_SIZE = 672
+_TABLE_SIZE = 16 + 8 * _STEPS + 2 * _NEIGHBOURS_SIZE + _CODES
 # How many breaks are asked for at once.
 _ROOM = 256
 _SURROGATE = re.compile("[\ud800-\udfff]")

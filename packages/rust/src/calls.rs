@@ -16,11 +16,22 @@ pub struct Step {
 }
 
 #[repr(C)]
+#[derive(Clone, Copy)]
+pub struct Neighbours {
+    classes: [[u8; 16]; 8],
+    left: [u8; 16],
+    right: [u8; 16],
+    rows: [u16; 256],
+}
+
+#[repr(C)]
 pub struct Table {
     layout: u64,
     digest: u64,
     first: [Step; STEPS],
     second: [Step; STEPS],
+    first_pairs: Neighbours,
+    second_pairs: Neighbours,
     kinds: [u8; CODES],
 }
 
@@ -53,7 +64,8 @@ pub struct RuleLabel {
     pub text: [u8; 4],
 }
 
-const _: () = assert!(size_of::<Table>() == 16 + 8 * STEPS + CODES);
+const _: () = assert!(size_of::<Neighbours>() == 672);
+const _: () = assert!(size_of::<Table>() == 16 + 8 * STEPS + 2 * 672 + CODES);
 const _: () = assert!(align_of::<Table>() == 8);
 const _: () = assert!(size_of::<State>() == 16);
 const _: () = assert!(size_of::<Break>() == 16);

@@ -1,6 +1,7 @@
 use Rattle.std.proofs.Common.{◌≡◌, ◌+◌, ◌%◌, ◌/◌, not, sym, ap, subst, ◌∙◌, arith}
 use Rattle.std.specs.Int.{from_bool}
 use Rattle.std.proofs.Math.ListN.{set}
+use Rattle.std.proofs.lemmas.List.{take-set}
 use Rattle.lbk_rules.specs.Breaks.{break_by, is_no}
 use Rattle.lbk_rules.specs.Codes.{verdict_coded}
 use Rattle.lbk_c.specs.declared.interface.RawBreak.{RawBreak}
@@ -35,3 +36,7 @@ returns-clause-front c = λ coded.
     let split = raw-split c.args.at c.shown_of-shown.result verdict is in
     ap (λ n. given_in (set out c.args.count found) (c.args.count + n)) more
     ∙ written-more out c.args.count found c.args.at verdict c.requires (ap shown (sym split) ∙ shown-raw (break_by c.args.at verdict))
+
+pub returns-clause-kept : goal.returns-clause-kept
+returns-clause-kept c =
+    take-set c.args.out.now c.args.count (record { at = c.args.at; kind = c.shown_of-shown.result % 256; rule = c.shown_of-shown.result / 256 })

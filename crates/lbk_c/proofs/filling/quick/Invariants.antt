@@ -15,7 +15,7 @@ invariant-loop-from l = record {
   within : l.here.at ≤ length l.text;
   onward : l.fn.start.at ≤ l.from;
   ahead : l.from ≤ l.here.at;
-  no_room : length l.out ≡ 0 → l.here ≡ l.fn.start;
+  more : l.fn.start.count ≤ l.here.count;
   in_order : (from : ℕ) → IsInOrder l.fn.out l.fn.start.count from l.fn.start.at → IsInOrder l.out l.here.count from l.here.at;
   reached : (profile : Profile) (cell : ℕ → Cell) (lefts : List Left) (all : List Break) → AreSwift profile lefts l.steps → AreFlatKinds l.kinds cell
       → Reached profile cell lefts l.text all l.fn.start (given_in l.fn.out l.fn.start.count)

@@ -14,7 +14,7 @@ invariant-loop-count l = record {
   row : l.row < 65536;
   within : l.at ≤ length l.text;
   onward : l.initial.at ≤ l.at;
-  no_room : length l.initial.out ≡ 0 → (l.count ≡ l.initial.count) × (l.row ≡ l.initial.row) × (l.at ≡ l.initial.at);
+  more : l.initial.count ≤ l.count;
   in_order : (from : ℕ) → IsInOrder l.initial.out l.initial.count from l.initial.at → IsInOrder l.out l.count from l.at;
   reached : (profile : Profile) (cell : ℕ → Cell) (lefts : List Left) (all : List Break) → AreSwift profile lefts l.steps → AreFlatKinds l.kinds cell
       → Reached profile cell lefts l.text all (record { count = l.initial.count; row = l.initial.row; at = l.initial.at }) (given_in l.initial.out l.initial.count)
