@@ -1,0 +1,48 @@
+-- How a context grows, and what it decides.
+use Rattle.std.proofs.Common.{◌≡◌, ℕ, Bool, true, false, cond, not, ◌&&◌, ◌||◌, Some, List, [], ◌∷◌, unwrap_or, refl, sym, ap, ◌∙◌}
+use Rattle.ucd_breaks.specs.WordBreak.{word_break}
+use Rattle.ucd_breaks.specs.declared.WordBreak.{WordBreak}
+use Rattle.ucd_breaks.specs.declared.WordBreak.TheVariants.{Cr, Extend, Format, Lf, Newline, Other, WSegSpace, Zwj}
+use Rattle.ucd_emoji.specs.Binary.{is_extended_pictographic}
+use Rattle.unicode_segmentation.specs.Word.{break_by_pair, is_ignored, is_regional, is_word_break, joins, significant, starts_with_half_flag, value_at}
+use Rattle.lbk_words.specs.declared.context.Context.{Context}
+use Rattle.lbk_words.specs.Contexts.{breaks_by, context_after, context_of, joins_letters, joins_numbers, joins_others}
+use Rattle.lbk_words.proofs.Booleans.{or-assoc}
+
+-- the values with one in front, unless WB4 passes over it
+abbrev pub with_value : WordBreak → List WordBreak → List WordBreak
+with_value value values = cond (is_ignored value) values (value ∷ values)
+
+-- what some values tell, where the last scalar's value is `last`
+abbrev pub told_by : WordBreak → List WordBreak → Context
+told_by last values = record { last = last; left = value_at values 0; far_left = value_at values 1; half_flag = starts_with_half_flag values }
+
+grown : (old value : WordBreak) (values : List WordBreak) → told_by value (with_value value values) ≡ context_after (told_by old values) value
+unfolding starts_with_half_flag
+grown old Extend values = refl
+grown old Format values = refl
+grown old Zwj values = refl
+grown old _ values = refl
+
+-- one more scalar
+pub context-after : (c : ℕ) (before : List ℕ) → context_of (c ∷ before) ≡ context_after (context_of before) (word_break c)
+unfolding significant
+context-after c before = grown (context_of before).last (word_break c) (significant before)
+
+-- what the rules say within a text is what its context decides
+pub decided-inside : (last : ℕ) (before : List ℕ) (next : ℕ) (after : List ℕ)
+    → is_word_break (last ∷ before) (next ∷ after) ≡ breaks_by (context_of (last ∷ before)) next (value_at (significant after) 0)
+unfolding is_word_break
+decided-inside last before next after = refl
+
+-- at the end of a text there is a boundary
+pub decided-end : (before : List ℕ) → is_word_break before [] ≡ true
+unfolding is_word_break
+decided-end [] = refl
+decided-end (last ∷ before) = refl
+
+-- the rules in three groups
+pub joins-grouped : (far_left left right far_right : WordBreak)
+    → ((joins_letters far_left left right far_right || joins_numbers far_left left right far_right) || joins_others left right)
+    ≡ joins far_left left right far_right
+joins-grouped far_left left right far_right = simp or-assoc

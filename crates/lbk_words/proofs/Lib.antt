@@ -1,0 +1,5 @@
+mod Booleans
+pub mod ContextLemmas
+pub mod FreshLemmas
+pub mod WalkLemmas
+pub mod FillLemmas
