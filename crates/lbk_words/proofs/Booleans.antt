@@ -13,7 +13,3 @@ and-false false = refl
 pub or_parts : (x y : Bool) → (x || y) ≡ false → (x ≡ false) × (y ≡ false)
 or_parts true y none = absurd (let no : ⊥ = cc in no)
 or_parts false y none = (refl, none)
-
-pub or-assoc : (x y z : Bool) → ((x || y) || z) ≡ (x || (y || z))
-or-assoc true y z = refl
-or-assoc false y z = refl

@@ -6,8 +6,8 @@ use Rattle.ucd_breaks.specs.declared.WordBreak.TheVariants.{Cr, Extend, Format, 
 use Rattle.ucd_emoji.specs.Binary.{is_extended_pictographic}
 use Rattle.unicode_segmentation.specs.Word.{break_by_pair, is_ignored, is_regional, is_word_break, joins, significant, starts_with_half_flag, value_at}
 use Rattle.lbk_words.specs.declared.context.Context.{Context}
-use Rattle.lbk_words.specs.Contexts.{breaks_by, context_after, context_of, joins_letters, joins_numbers, joins_others}
-use Rattle.lbk_words.proofs.Booleans.{or-assoc}
+use Rattle.lbk_words.specs.Contexts.{breaks_by, context_after, context_of, asks_ahead}
+use Rattle.lbk_words.proofs.Booleans.{or_parts}
 
 -- the values with one in front, unless WB4 passes over it
 abbrev pub with_value : WordBreak → List WordBreak → List WordBreak
@@ -41,8 +41,10 @@ unfolding is_word_break
 decided-end [] = refl
 decided-end (last ∷ before) = refl
 
--- the rules in three groups
-pub joins-grouped : (far_left left right far_right : WordBreak)
-    → ((joins_letters far_left left right far_right || joins_numbers far_left left right far_right) || joins_others left right)
-    ≡ joins far_left left right far_right
-joins-grouped far_left left right far_right = simp or-assoc
+-- where no rule asks for the value behind, it is of no account
+pub joins-not_ahead : (far_left left right far_right other : WordBreak) → asks_ahead left right ≡ false
+    → joins far_left left right far_right ≡ joins far_left left right other
+joins-not_ahead far_left left right far_right other asks =
+    let past_12 = or_parts _ _ asks in
+    let past_7b = or_parts _ _ past_12.0 in
+    rw (past_7b.0, past_7b.1, past_12.1)

@@ -55,6 +55,10 @@ written-more block count start end false within =
     ap (λ n. take n (set block count (record { start = start; end = end }))) (let e : count + 0 ≡ count = omega arith in e)
     ∙ take-set block count (record { start = start; end = end }) ∙ sym (append-nil (take count block))
 
+pub from_bool-few : (b : Bool) → from_bool b ≤ 1
+from_bool-few true = omega arith
+from_bool-few false = omega arith
+
 -- how many were given, which, and the others
 pub record Gives (all front more : List Word) (count room : ℕ) : Type 0 where
   pub counted : count ≡ min room (length all)

@@ -69,21 +69,20 @@ joins-far_line_end _ left right far_right ends = cc
 joins-apart : (far_left left right far_right more : WordBreak) → joins far_left left right far_right ≡ false
     → joins left right far_right more ≡ joins Other right far_right more
 joins-apart far_left left right far_right more apart =
-    let a = or_parts (is_ah_letter left && is_ah_letter right) _ apart in
-    let b = or_parts (is_ah_letter left && is_mid_letter right && is_ah_letter far_right) _ a.1 in
-    let c = or_parts _ _ b.1 in
-    let d = or_parts _ _ c.1 in
-    let e = or_parts (is_hebrew_letter left && is_double_quote right && is_hebrew_letter far_right) _ d.1 in
-    let f = or_parts _ _ e.1 in
-    let g = or_parts _ _ f.1 in
-    let h = or_parts _ _ g.1 in
-    let i = or_parts _ _ h.1 in
-    let j = or_parts _ _ i.1 in
-    let k = or_parts (is_numeric left && is_mid_num right && is_numeric far_right) _ j.1 in
-    let letters = b.0 in
-    let hebrew = e.0 in
-    let numbers = k.0 in
-    rw (letters, hebrew, numbers)
+    let past_13b = or_parts _ _ apart in
+    let past_13a = or_parts _ _ past_13b.0 in
+    let past_13 = or_parts _ _ past_13a.0 in
+    let past_12 = or_parts _ _ past_13.0 in
+    let past_11 = or_parts _ _ past_12.0 in
+    let past_10 = or_parts _ _ past_11.0 in
+    let past_9 = or_parts _ _ past_10.0 in
+    let past_8 = or_parts _ _ past_9.0 in
+    let past_7c = or_parts _ _ past_8.0 in
+    let past_7b = or_parts _ _ past_7c.0 in
+    let past_7a = or_parts _ _ past_7b.0 in
+    let past_7 = or_parts _ _ past_7a.0 in
+    let past_6 = or_parts _ _ past_7.0 in
+    rw (past_6.1, past_7b.1, past_12.1)
 
 -- Two contexts
 

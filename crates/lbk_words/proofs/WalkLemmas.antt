@@ -87,6 +87,10 @@ pub record IsWalk (text : List ℕ) (start at : ℕ) (context : Context) (is_wor
       ≡ attach (is_word_break (back part) (scalars_on text at)) (scalars_of part) (cut is_word_break (back part) (scalars_on text at) [])
   pub word : is_word ≡ has_letter (scalars_of part)
 
+pub walk-as : (text : List ℕ) (start at : ℕ) (x y : Context) (a b : Bool) → IsWalk text start at x a → x ≡ y → a ≡ b → IsWalk text start at y b
+walk-as text start at x y a b w same_context same_word =
+    subst (λ k. IsWalk text start at k b) same_context (subst (λ v. IsWalk text start at x v) same_word w)
+
 pub walk-start : (text : List ℕ) (start c end : ℕ) → IsReadAt text start c end
     → IsWalk text start end (context_after (context_of []) (word_break c)) (is_letter_or_number c)
 walk-start text start c end read =

@@ -2,6 +2,7 @@
 -- or a number. Each longest piece of the bytes that begins no scalar is read as U+FFFD (Unicode Standard, section 3.9, table 3-7)
 -- and keeps its own bytes.
 use Rattle.std.specs.Prelude.{ℕ, ◌+◌, List, [], ◌∷◌, drop, length, map, take, if◌then◌else◌}
+use Rattle.std.specs.Str.{chars}
 use Rattle.bstr.specs.Utf8.{Decoded, or_replacement, pieces}
 use Rattle.unicode_segmentation.specs.Segments.{cut}
 use Rattle.unicode_segmentation.specs.Word.{is_word_break}
@@ -40,3 +41,11 @@ words_of text = words_on text 0
 -- the scalars from a byte on
 abbrev pub scalars_on : List ℕ → ℕ → List ℕ
 scalars_on text at = scalars_of (pieces (drop at text))
+
+-- the words among pieces of well-formed text, each as its bytes, of which the first begins at byte `at`
+abbrev pub words_in : ℕ → List (List ℕ) → List Word
+words_in at [] = []
+words_in at (piece ∷ pieces) =
+    let end = at + length piece in
+    let others = words_in end pieces in
+    if has_letter (chars piece) then record { start = at; end = end } ∷ others else others

@@ -6,6 +6,7 @@
 
 mod context;
 mod filling;
+pub mod laws;
 mod letters;
 mod pieces;
 mod rules;
