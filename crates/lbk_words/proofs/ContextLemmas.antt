@@ -4,7 +4,7 @@ use Rattle.ucd_breaks.specs.WordBreak.{word_break}
 use Rattle.ucd_breaks.specs.declared.WordBreak.{WordBreak}
 use Rattle.ucd_breaks.specs.declared.WordBreak.TheVariants.{Cr, Extend, Format, Lf, Newline, Other, WSegSpace, Zwj}
 use Rattle.ucd_emoji.specs.Binary.{is_extended_pictographic}
-use Rattle.unicode_segmentation.specs.Word.{break_by_pair, is_ignored, is_regional, is_word_break, joins, significant, starts_with_half_flag, value_at}
+use Rattle.unicode_segmentation.specs.Word.{break_by_pair, is_ah_letter, is_double_quote, is_hebrew_letter, is_ignored, is_mid_letter, is_mid_num, is_numeric, is_regional, is_word_break, joins, significant, starts_with_half_flag, value_at}
 use Rattle.lbk_words.specs.declared.context.Context.{Context}
 use Rattle.lbk_words.specs.Contexts.{breaks_by, context_after, context_of, asks_ahead}
 use Rattle.lbk_words.proofs.Booleans.{or_parts}
@@ -42,9 +42,11 @@ decided-end [] = refl
 decided-end (last ∷ before) = refl
 
 -- where no rule asks for the value behind, it is of no account
-pub joins-not_ahead : (far_left left right far_right other : WordBreak) → asks_ahead left right ≡ false
-    → joins far_left left right far_right ≡ joins far_left left right other
-joins-not_ahead far_left left right far_right other asks =
-    let past_12 = or_parts _ _ asks in
-    let past_7b = or_parts _ _ past_12.0 in
+pub joins-not_ahead : (far_left left right far_right more : WordBreak) → asks_ahead left right ≡ false
+    → joins far_left left right far_right ≡ joins far_left left right more
+joins-not_ahead far_left left right far_right more asks =
+    let letters = is_ah_letter left && is_mid_letter right in
+    let hebrew = is_hebrew_letter left && is_double_quote right in
+    let past_12 = or_parts (letters || hebrew) (is_numeric left && is_mid_num right) asks in
+    let past_7b = or_parts letters hebrew past_12.0 in
     rw (past_7b.0, past_7b.1, past_12.1)

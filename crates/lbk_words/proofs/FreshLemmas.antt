@@ -82,7 +82,10 @@ joins-apart far_left left right far_right more apart =
     let past_7a = or_parts _ _ past_7b.0 in
     let past_7 = or_parts _ _ past_7a.0 in
     let past_6 = or_parts _ _ past_7.0 in
-    rw (past_6.1, past_7b.1, past_12.1)
+    let letters : (is_ah_letter left && is_mid_letter right && is_ah_letter far_right) ≡ false = past_6.1 in
+    let hebrew : (is_hebrew_letter left && is_double_quote right && is_hebrew_letter far_right) ≡ false = past_7b.1 in
+    let numbers : (is_numeric left && is_mid_num right && is_numeric far_right) ≡ false = past_12.1 in
+    rw (letters, hebrew, numbers)
 
 -- Two contexts
 

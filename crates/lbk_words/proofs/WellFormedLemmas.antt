@@ -1,5 +1,5 @@
 -- Well-formed text.
-use Rattle.std.proofs.Common.{◌≡◌, ℕ, ◌+◌, ◌<◌, true, false, cond, append_assoc, List, [], ◌∷◌, ◌++◌, drop, length, map, take, refl, sym, ap, ap₂, subst, ◌∙◌, arith}
+use Rattle.std.proofs.Common.{◌≡◌, ℕ, ◌+◌, ◌<◌, true, cond, ◌&&◌, append_assoc, List, [], ◌∷◌, ◌++◌, drop, length, map, take, refl, sym, ap, ap₂, subst, ◌∙◌, arith}
 use Rattle.std.specs.Char.{encode_utf8}
 use Rattle.std.specs.List.{concat}
 use Rattle.std.specs.Str.{IsUtf8, chars, encode_utf8_all}
@@ -8,7 +8,7 @@ use Rattle.std.proofs.lemmas.Bool.Decides.{nat_tests}
 use Rattle.std.proofs.lemmas.List.{length-append, length-map, map-append, take_at}
 use Rattle.std.proofs.lemmas.Str.{chars-encodes}
 use Rattle.std.proofs.Math.Seq.{drop-append_seam}
-use lib.Utf8.{scalars}
+use lib.Utf8.{scalar, scalars}
 use Rattle.bstr.specs.Utf8.{Decoded, good, or_replacement, pieces}
 use Rattle.bstr.proofs.lemmas.EncodeLemmas.{decoded-encode}
 use Rattle.bstr.proofs.lemmas.PieceLemmas.{pieces-nil, pieces-step}
@@ -47,19 +47,19 @@ bytes-good : (cs : List ℕ) → bytes_of (map good_of cs) ≡ length (encode_ut
 bytes-good [] = refl
 bytes-good (c ∷ cs) = ap (λ n. length (encode_utf8 c) + n) (bytes-good cs) ∙ sym (length-append (encode_utf8 c) (encode_utf8_all cs))
 
-scalars-split : (cs ds : List ℕ) → scalars (cs ++ ds) ≡ true → (scalars cs ≡ true) × (scalars ds ≡ true)
+pub scalars-split : (cs ds : List ℕ) → scalars (cs ++ ds) ≡ true → (scalars cs ≡ true) × (scalars ds ≡ true)
 scalars-split [] ds all = (refl, all)
 scalars-split (c ∷ cs) ds all =
-    let both = and_parts _ _ all in
+    let both = and_parts (scalar c) (scalars (cs ++ ds)) all in
     let rest = scalars-split cs ds both.1 in
-    (ap₂ (λ a b. cond a b false) both.0 rest.0, rest.1)
+    (ap (λ b. scalar c && b) rest.0 ∙ ap (λ b. b && true) both.0, rest.1)
 
 -- the scalars of all parts are those of the text
 concat-prepend : (part : List ℕ) (parts : List (List ℕ)) → concat (prepend part parts) ≡ part ++ concat parts
 concat-prepend part [] = refl
 concat-prepend part (p ∷ ps) = append_assoc part p (concat ps)
 
-concat-parts : (before cs after : List ℕ) → concat (cut is_word_break before cs after) ≡ cs
+pub concat-parts : (before cs after : List ℕ) → concat (cut is_word_break before cs after) ≡ cs
 unfolding cut
 concat-parts before [] after = refl
 concat-parts before (c ∷ cs) after =
