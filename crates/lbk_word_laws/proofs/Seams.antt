@@ -68,7 +68,7 @@ module _ (profile : Profile) (cell : ℕ → Cell) (agree : AgreeOnLines cell) w
   must-ends before c d ds must =
       let cells : map cell (before ++ c ∷ []) ≡ map cell before ++ cell c ∷ [] = map-append cell before (c ∷ []) in
       agree c d (only_must_between profile (map cell before) (cell c) (cell d) (map cell ds)
-      (sym (ap (λ l. (verdict_between_in profile l (cell d ∷ map cell ds)).kind) cells) ∙ must-kind _ must))
+      (sym (ap (λ l. (verdict_between_in profile l (cell d ∷ map cell ds)).kind) cells) ∙ must-kind (mark before c (d ∷ ds)).after.kind must))
 
   boundary : (before b : List ℕ) (c : ℕ) (cs : List ℕ) → ends_passage (mark before c cs) ≡ true → is_word_break (c ∷ b) cs ≡ true
   boundary before b c [] must = decided-end (c ∷ b)
@@ -171,8 +171,8 @@ module _ (profile : Profile) (cell : ℕ → Cell) (agree : AgreeOnLines cell) w
       let m = mark before c cs in
       let rest = cut_after ends_passage (marks_behind profile cell (before ++ c ∷ []) cs) in
       let on = first (before ++ c ∷ []) d ds in
-      let fresh = parts-seam (before ++ c ∷ []) [] cs in
-      let going = parts-seam (before ++ c ∷ []) (c ∷ b) cs in
+      let fresh = parts-seam (before ++ c ∷ []) [] (d ∷ ds) in
+      let going = parts-seam (before ++ c ∷ []) (c ∷ b) (d ∷ ds) in
       (elim (ends_passage m) as (λ v. ends_passage m ≡ v → cut is_word_break b (c ∷ cs) [] ≡ parts_behind b (cond v ((m ∷ []) ∷ rest) (join_first m rest))) [
         | true ↦ λ must.
             let there = boundary before b c cs must in

@@ -1,10 +1,9 @@
 -- How a context grows, and what it decides.
-use Rattle.std.proofs.Common.{◌≡◌, ℕ, Bool, true, false, cond, not, ◌&&◌, ◌||◌, Some, List, [], ◌∷◌, unwrap_or, refl, sym, ap, ◌∙◌}
+use Rattle.std.proofs.Common.{◌≡◌, ℕ, true, false, cond, ◌&&◌, ◌||◌, List, [], ◌∷◌, refl}
 use Rattle.ucd_breaks.specs.WordBreak.{word_break}
 use Rattle.ucd_breaks.specs.declared.WordBreak.{WordBreak}
-use Rattle.ucd_breaks.specs.declared.WordBreak.TheVariants.{Cr, Extend, Format, Lf, Newline, Other, WSegSpace, Zwj}
-use Rattle.ucd_emoji.specs.Binary.{is_extended_pictographic}
-use Rattle.unicode_segmentation.specs.Word.{break_by_pair, is_ah_letter, is_double_quote, is_hebrew_letter, is_ignored, is_mid_letter, is_mid_num, is_numeric, is_regional, is_word_break, joins, significant, starts_with_half_flag, value_at}
+use Rattle.ucd_breaks.specs.declared.WordBreak.TheVariants.{Extend, Format, Zwj}
+use Rattle.unicode_segmentation.specs.Word.{is_ah_letter, is_double_quote, is_hebrew_letter, is_ignored, is_mid_letter, is_mid_num, is_numeric, is_word_break, joins, significant, starts_with_half_flag, value_at}
 use Rattle.lbk_words.specs.declared.context.Context.{Context}
 use Rattle.lbk_words.specs.Contexts.{breaks_by, context_after, context_of, asks_ahead}
 use Rattle.lbk_words.proofs.Booleans.{or_parts}

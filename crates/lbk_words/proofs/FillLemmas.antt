@@ -1,9 +1,9 @@
 -- The words from a byte on, and some of them given.
-use Rattle.std.proofs.Common.{◌≡◌, ◌⊎◌, ⊎_elim, ℕ, ◌+◌, ◌-◌, ◌<◌, ◌≤◌, min, Bool, true, false, cond, List, [], ◌∷◌, ◌++◌, append_assoc, drop, length, map, take, refl, sym, ap, ap₂, ◌∙◌, arith}
+use Rattle.std.proofs.Common.{◌≡◌, ◌⊎◌, ⊎_elim, ℕ, ◌+◌, ◌<◌, ◌≤◌, min, Bool, true, false, cond, List, [], ◌∷◌, ◌++◌, drop, length, take, refl, sym, ap, ap₂, ◌∙◌, arith}
 use Rattle.std.specs.Int.{from_bool}
 use Rattle.std.proofs.Math.ListN.{set, drop_of_length-le}
 use Rattle.std.proofs.Math.Seq.{drop-append_seam}
-use Rattle.std.proofs.lemmas.List.{append-nil, length-append, length-map, length-take-le, take-set, take_at, take_more_set}
+use Rattle.std.proofs.lemmas.List.{append-nil, length-append, length-map, take-set, take_at, take_more_set}
 use Rattle.bstr.specs.Utf8.{Decoded, or_replacement, pieces}
 use Rattle.bstr.proofs.lemmas.PieceLemmas.{pieces-nil}
 use Rattle.lbk_words.specs.declared.word.Word.{Word}
@@ -11,7 +11,6 @@ use Rattle.lbk_words.specs.Letters.{has_letter}
 use Rattle.lbk_words.specs.Places.{IsFirstPiece}
 use Rattle.lbk_words.specs.Words.{bytes_of, parts_of, scalars_of, scalars_on, words_among, words_on}
 use Rattle.unicode_segmentation.specs.Segments.{cut}
-use Rattle.unicode_segmentation.specs.Word.{is_word_break}
 
 -- the word that a part is, if it is one
 abbrev pub one_word : Bool → ℕ → ℕ → List Word

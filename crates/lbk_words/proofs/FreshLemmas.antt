@@ -1,15 +1,15 @@
 -- After a word boundary what comes does not depend on what was before (UAX #29, section 4.1).
-use Rattle.std.proofs.Common.{◌≡◌, ◌⊎◌, inl, inr, ⊎_elim, ℕ, Bool, true, false, cond, not, ◌&&◌, ◌||◌, Option, Some, None, List, [], ◌∷◌, ◌++◌, append-nil, unwrap_or, refl, sym, ap, ap₂, subst, ◌∙◌}
+use Rattle.std.proofs.Common.{◌≡◌, ◌⊎◌, inl, inr, ⊎_elim, ℕ, Bool, true, false, cond, not, ◌&&◌, ◌||◌, Option, Some, None, List, [], ◌∷◌, append-nil, unwrap_or, refl, sym, ap, ap₂, subst, ◌∙◌}
 use Rattle.ucd_breaks.specs.WordBreak.{word_break}
 use Rattle.ucd_breaks.specs.declared.WordBreak.{WordBreak}
-use Rattle.ucd_breaks.specs.declared.WordBreak.TheVariants.{Cr, Extend, Format, Lf, Newline, Other, RegionalIndicator, WSegSpace, Zwj}
+use Rattle.ucd_breaks.specs.declared.WordBreak.TheVariants.{Cr, Extend, Format, Lf, Newline, Other, Zwj}
 use Rattle.ucd_emoji.specs.Binary.{is_extended_pictographic}
 use Rattle.unicode_segmentation.specs.Segments.{cut, prepend}
 use Rattle.unicode_segmentation.specs.Word.{break_by_pair, is_ah_letter, is_double_quote, is_hebrew_letter, is_ignored, is_mid_letter, is_mid_num, is_numeric, is_regional, is_word_break, joins, significant, starts_with_half_flag, value_at}
 use Rattle.unicode_segmentation.proofs.WordLemmas.{significant-ignored, significant-kept}
 use Rattle.lbk_words.specs.declared.context.Context.{Context}
 use Rattle.lbk_words.specs.Contexts.{breaks_by, context_after, context_of}
-use Rattle.lbk_words.proofs.Booleans.{and-false, or-false, or_parts}
+use Rattle.lbk_words.proofs.Booleans.{and-false, or_parts}
 use Rattle.lbk_words.proofs.ContextLemmas.{context-after, decided-inside}
 
 abbrev pub is_line_end : WordBreak → Bool

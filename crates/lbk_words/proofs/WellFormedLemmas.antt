@@ -9,12 +9,11 @@ use Rattle.std.proofs.lemmas.List.{length-append, length-map, map-append, take_a
 use Rattle.std.proofs.lemmas.Str.{chars-encodes}
 use Rattle.std.proofs.Math.Seq.{drop-append_seam}
 use lib.Utf8.{scalar, scalars}
-use Rattle.bstr.specs.Utf8.{Decoded, good, or_replacement, pieces}
+use Rattle.bstr.specs.Utf8.{Decoded, good, pieces}
 use Rattle.bstr.proofs.lemmas.EncodeLemmas.{decoded-encode}
 use Rattle.bstr.proofs.lemmas.PieceLemmas.{pieces-nil, pieces-step}
 use Rattle.unicode_segmentation.specs.Segments.{cut, prepend, segments}
 use Rattle.unicode_segmentation.specs.Word.{is_word_break, word_bounds}
-use Rattle.lbk_words.specs.declared.word.Word.{Word}
 use Rattle.lbk_words.specs.Letters.{has_letter}
 use Rattle.lbk_words.specs.Words.{bytes_of, parts_of, scalars_of, words_among, words_in, words_of}
 

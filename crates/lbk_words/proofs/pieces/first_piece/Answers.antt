@@ -1,4 +1,4 @@
-use Rattle.std.proofs.Common.{[], ◌||◌, refl, sym, ap, ap₂, ◌∙◌}
+use Rattle.std.proofs.Common.{[], ◌||◌, sym, ap, ap₂, ◌∙◌}
 use Rattle.ucd_breaks.specs.WordBreak.{word_break}
 use Rattle.lbk_words.specs.Contexts.{context_after, context_of}
 use Rattle.lbk_words.specs.Letters.{is_letter_or_number}

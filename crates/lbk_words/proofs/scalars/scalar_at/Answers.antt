@@ -1,6 +1,5 @@
 use Rattle.std.proofs.Common.{ap, ◌∙◌, arith}
 use Rattle.bstr.specs.Utf8.{decoded, or_replacement}
-use Rattle.lbk_words.specs.Places.{IsReadAt}
 use Rattle.lbk_words.proofs.WalkLemmas.{piece-there, rest-of}
 use Rattle.lbk_words.proofs.scalars.scalar_at.Goals as goal
 
