@@ -1,4 +1,4 @@
-/* Calls the library with random bytes as files, table, state and text, many times over.
+/* Calls the library with random bytes as files, table, states and text, many times over.
  *
  *     hurt ROUNDS SEED LINE_BREAK EAST_ASIAN CATEGORY EMOJI
  *
@@ -67,7 +67,7 @@ static size_t random_text(char *to)
 {
     static const char *const parts[] = {"a", " ", "\n", "\r\n", "(", "\"", "\xC2\xAB", "\xC2\xBB", "\xCC\x81", "\xE2\x80\x8D",
         "\xE4\xB8\x80", "\xEA\xB0\x80", "\xF0\x9F\x87\xA6", "\xF0\x9F\x98\x80", "\xF0\x9F\x8F\xBB", "\xE2\x80\x8B", "1", ",", "%",
-        "-", "\xD7\x90", "\xE0", "\xF0\x9F", "\xC3", "\xED\xA0\x80", "\xF4\x90", "\xEF\xBF\xBD", "\xC2\xA0"};
+        "-", "\xD7\x90", "'", ".", "_", "\xE3\x82\xA2", "\xE0", "\xF0\x9F", "\xC3", "\xED\xA0\x80", "\xF4\x90", "\xEF\xBF\xBD", "\xC2\xA0"};
     size_t size = 0, most = below(MOST_TEXT + 1);
     unsigned mix = (unsigned)below(3);
     while (size < most) {
@@ -173,6 +173,39 @@ static void compare_rooms(const lbk_table *table)
     told("blocks of any rooms have the same breaks", same);
 }
 
+/* Asks for the words of a text, from any byte on, with rooms of all sizes: they rise, and are those that one great block has. */
+static void go_over_words(fenced texts, fenced states, fenced blocks)
+{
+    char made[MOST_TEXT];
+    lbk_word whole[MOST_TEXT];
+    size_t size = random_text(made), got = 0, last = 0, start = below(4) == 0 ? below(MOST_TEXT + 2) : 0;
+    char *text = place(texts, size);
+    memcpy(text, made, size);
+    lbk_word_state *state = place(states, sizeof *state);
+    state->at = start;
+    size_t all = lbk_words(state, text, size, whole, MOST_TEXT);
+    told("all words: the state is at the end", state->at == size || (start > size && state->at == start));
+    state->at = start;
+    for (unsigned calls = 0; calls < 4 * MOST_TEXT; calls++) {
+        size_t room = below(MOST_ROOM + 1);
+        lbk_word *block = place(blocks, room * sizeof *block);
+        lbk_word_state old = *state;
+        size_t count = lbk_words(state, text, size, block, room);
+        told("no more words than there is room for", count <= room && got + count <= all);
+        told("the place of words does not go back", state->at >= old.at && (state->at <= size || state->at == old.at));
+        for (size_t k = 0; k < count && got < all; k++, got++) {
+            told("blocks of any rooms have the same words", block[k].start == whole[got].start && block[k].end == whole[got].end);
+            told("words rise", last <= block[k].start && block[k].start < block[k].end && block[k].end <= size);
+            last = block[k].end;
+        }
+        if (count < room)
+            break;
+        told("a full block of words takes the state on", room == 0 || state->at > old.at);
+    }
+    told("each word came", got == all);
+    told("the text of words is as it was", memcmp(text, made, size) == 0);
+}
+
 /* Files with a few bytes changed: a fault leaves the table, and names a file, a line of it and a cause. */
 static void read_changed(lbk_table *table, const bytes *files)
 {
@@ -237,6 +270,7 @@ int main(int words, char **word)
         for (unsigned times = 0; times < ROUNDS_WITH_A_TABLE; times++) {
             go_over(table, texts, states, blocks, random_state());
             compare_rooms(&real);
+            go_over_words(texts, states, blocks);
         }
         told("the table is as it was", digest(table, sizeof *table) == old);
         read_changed(table, files);

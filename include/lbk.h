@@ -18,14 +18,14 @@
  * lbk_read takes memory from the heap, and lbk_read gives back what it took.
  *
  * Threads. The library has no variables. Any number of calls may use one table at the same time, as long as none of them
- * writes it; only lbk_read writes a table, and lbk_breaks and lbk_positions write only their state and their block.
+ * writes it; only lbk_read writes a table, and lbk_breaks, lbk_positions and lbk_words write only their state and their block.
  *
  * What a caller owes, and all that a caller owes:
- *   - A pointer that comes with a length has at least as many bytes (as many breaks, for a block) behind it. Where the
+ *   - A pointer that comes with a length has at least as many bytes (as many breaks or words, for a block) behind it. Where the
  *     length is 0 the pointer may be null. No length is over PTRDIFF_MAX bytes, as no object of C is.
  *   - A table and a state are not null, and are aligned as C aligns objects of their types.
- *   - What a call writes (the table of lbk_read; the state and the block of lbk_breaks) overlaps nothing else that the call
- *     is given, and nobody else uses it during the call.
+ *   - What a call writes (the table of lbk_read; the state and the block of lbk_breaks and lbk_words) overlaps nothing else that
+ *     the call is given, and nobody else uses it during the call.
  * Nothing else can hurt: whatever bytes the files, the text, the table and the state have, each call returns, and reads and
  * writes nothing but what it was given. A table or a state with made-up bytes gives made-up breaks, and no more.
  *
@@ -51,6 +51,9 @@ extern "C" {
 
 /* The version of Unicode whose rules these are. The files that lbk_read is given should be of the same one. */
 #define LBK_UNICODE_VERSION "15.0"
+
+/* The version of Unicode whose word boundaries, letters and numbers lbk_words goes by. */
+#define LBK_WORDS_UNICODE_VERSION "18.0"
 
 /* The layout of a table that this version fills and uses: what lbk_table.layout is then. */
 #define LBK_LAYOUT 2
@@ -186,6 +189,17 @@ typedef struct lbk_fault {
     uint32_t cause; /* LBK_CAUSE_NONE: no fault, and then file and line are 0 */
 } lbk_fault;
 
+/* How far the words of a text were asked for. All zeros are the start of a text. As lbk_state it is a value, and holds of each
+ * text that has the same bytes. `at` may also be set to any byte: the text from there on is then taken alone. */
+typedef struct lbk_word_state {
+    size_t at; /* the byte from which the next words come */
+} lbk_word_state;
+
+/* A word of a text: the bytes from `start` up to `end`, not counting that one. It has one byte at least. */
+typedef struct lbk_word {
+    size_t start, end; /* counted from the text's start */
+} lbk_word;
+
 /* The name of a rule without `LB`, as "8a": ASCII, and zeros up to the end. The last byte is always zero. */
 typedef struct lbk_rule_label {
     char text[4];
@@ -226,6 +240,27 @@ size_t lbk_breaks(const lbk_table *table, lbk_state *state, const char *text, si
  * of n bytes takes one place of a block, so there are n + 1 at most. Takes no memory from the heap. */
 size_t lbk_positions(const lbk_table *table, lbk_state *state, const char *text, size_t size, lbk_break *block, size_t room);
 
+/* Puts the next words of a text, in the order of the text, into the front of a block with room for `room` words, and returns how
+ * many. Fewer than `room` says that these were all; later calls with the state then return 0. No table is needed:
+ *
+ *     lbk_word_state state = {0};                              the start of a text
+ *     lbk_word block[64];
+ *     size_t count;
+ *     do {
+ *         count = lbk_words(&state, text, size, block, 64);
+ *         for (size_t k = 0; k < count; k++)
+ *             .. text + block[k].start, block[k].end - block[k].start ..
+ *     } while (count == 64);
+ *
+ * A word is a part of the text between two neighbouring word boundaries (UAX #29, section 4, no tailorings) that has a letter or
+ * a number: a scalar whose General_Category is one of L or N. Both properties are those of LBK_WORDS_UNICODE_VERSION.
+ *
+ * `text`, `size` and ill-formed bytes are as lbk_breaks has them. `text` is the whole text at each call, and the state tells how
+ * far earlier calls came: always to a word boundary. Calls take time in proportion to the bytes that they pass, in all for a
+ * text in proportion to its size, whatever `room` is. Returns 0 and leaves the state as it is where `room` is 0, and where the
+ * state's `at` is the text's size or more. What the block has behind the words is not specified. Takes no memory from the heap. */
+size_t lbk_words(lbk_word_state *state, const char *text, size_t size, lbk_word *block, size_t room);
+
 /* The name of a rule by its number; an empty name for a number that no rule has. */
 lbk_rule_label lbk_label(uint8_t rule);
 
@@ -246,6 +281,8 @@ LBK_ASSERT(a_size_has_64_bits, sizeof(size_t) == 8);
 LBK_ASSERT(a_step_has_4_bytes, sizeof(lbk_step) == 4);
 LBK_ASSERT(a_state_has_16_bytes, sizeof(lbk_state) == 16);
 LBK_ASSERT(a_break_has_16_bytes, sizeof(lbk_break) == 16);
+LBK_ASSERT(a_word_state_has_8_bytes, sizeof(lbk_word_state) == 8);
+LBK_ASSERT(a_word_has_16_bytes, sizeof(lbk_word) == 16);
 LBK_ASSERT(a_fault_has_12_bytes, sizeof(lbk_fault) == 12);
 LBK_ASSERT(a_label_has_4_bytes, sizeof(lbk_rule_label) == 4);
 LBK_ASSERT(neighbours_have_672_bytes, sizeof(lbk_neighbours) == 672);

@@ -24,6 +24,7 @@ use Rattle.lbk_steps.specs.FlatTable.{IsFlatBy, IsFlatOf, KnowsTaken}
 use Rattle.lbk_rules.specs.Marks.{marks, marks_behind}
 use Rattle.lbk_rules.specs.Verdict.{verdict_between_in}
 use Rattle.lbk_rules.proofs.EndLemmas.{must_at_length, start_of_text}
+use Rattle.lbk_words.proofs.WellFormedLemmas.{good_of, pieces-encode, scalars-good}
 use Rattle.lbk_c.specs.declared.interface.RawBreak.{RawBreak}
 use Rattle.lbk_c.specs.declared.interface.State.{State}
 use Rattle.lbk_c.specs.declared.fill_state.FillState.{FillState}
@@ -81,35 +82,8 @@ Comes-start cell table text profile state flat starts =
 
 -- Well-formed text
 
-good_of : ℕ → Decoded
-good_of c = good c (length (encode_utf8 c))
-
-encode-some : (c : ℕ) → 0 < length (encode_utf8 c)
-unfolding encode_utf8
-encode-some c = grind (arith, nat_tests)
-
-pieces-encode : (cs : List ℕ) → scalars cs ≡ true → pieces (encode_utf8_all cs) ≡ map good_of cs
-unfolding good_of
-pieces-encode [] all = pieces-nil
-pieces-encode (c ∷ cs) all =
-    let first = encode_utf8 c in
-    let rest = encode_utf8_all cs in
-    let some : 0 < length (first ++ rest) = omega (arith, encode-some c, length-append first rest) in
-    let both = and_parts _ _ all in
-    let read = decoded-encode c rest both.0 in
-    pieces-step (first ++ rest) some
-    ∙ ap (λ (p : Decoded). p ∷ pieces (drop p.size (first ++ rest))) read
-    ∙ ap (λ l. good c (length first) ∷ pieces l) (drop-append_seam first rest)
-    ∙ ap (λ l. good c (length first) ∷ l) (pieces-encode cs both.1)
-
-scalars-good : (cs : List ℕ) → scalars_of (map good_of cs) ≡ cs
-unfolding good_of
-scalars-good [] = refl
-scalars-good (c ∷ cs) = ap (λ l. c ∷ l) (scalars-good cs)
-
 after-good : (profile : Profile) (cell : ℕ → Cell) (before : List ℕ) (at : ℕ) (cs : List ℕ)
     → breaks_after at (map good_of cs) (marks_behind profile cell before cs) ≡ breaks_from at (marks_behind profile cell before cs)
-unfolding good_of
 after-good profile cell before at [] = refl
 after-good profile cell before at (c ∷ cs) =
     ap (with_break (at + length (encode_utf8 c)) (verdict_between_in profile (map cell (before ++ c ∷ [])) (map cell cs)))

@@ -1,4 +1,4 @@
-//! The library for C: the breaks of a text by calls that C, C++, Rust and Python can make.
+//! The library for C: the breaks and the words of a text by calls that C, C++, Rust and Python can make.
 //!
 //! A caller's [`FlatTable`](lbk_steps::FlatTable) is filled once by `lbk_read`. `lbk_breaks` then goes over a text a block
 //! of breaks at a time, from a state that the caller keeps. No memory is kept between calls, and nothing is to be freed.
@@ -20,6 +20,7 @@ mod positions;
 mod shown;
 mod steps;
 mod table_reading;
+mod words;
 
 pub use breaking::lbk_breaks;
 pub use checking::lbk_check;
@@ -27,3 +28,4 @@ pub use interface::{Fault, RawBreak, RuleLabel, State};
 pub use labels::lbk_label;
 pub use positions::lbk_positions;
 pub use table_reading::lbk_read;
+pub use words::{WordState, lbk_words};
