@@ -159,7 +159,7 @@ typedef struct lbk_table {
 
 /* How far the breaks of a text were asked for. All zeros are the start of a text in the first profile; set profile for the
  * second. A state is a value: it may be copied, be kept, and be gone back to. It holds of the text that it was used with, and
- * of each that has the same bytes. */
+ * of each that has the same bytes from `at` on and as many before them, whatever these are. */
 typedef struct lbk_state {
     size_t at;       /* up to this byte of the text, not counting it, scalars were taken */
     uint16_t row;    /* what is known of them: a number of the table's */

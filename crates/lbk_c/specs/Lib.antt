@@ -2,6 +2,7 @@
 pub mod Bytes
 pub mod Shown
 pub mod State
+pub mod Streams
 pub mod Faults
 -- What only carries proofs.
 pub mod Reached
