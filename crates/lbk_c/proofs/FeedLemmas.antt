@@ -1,5 +1,6 @@
 -- How far a call has come with a piece.
-use Rattle.std.proofs.Common.{◌≡◌, ℕ, suc, ◌+◌, ◌-◌, ◌%◌, ◌^◌, ◌<◌, ◌≤◌, Bool, true, false, cond, List, [], ◌∷◌, ◌++◌, length, get_or, map, drop, take, add-one, append_assoc, drop-cons, refl, sym, ap, subst, ◌∙◌, length-append, length-drop, arith}
+use Rattle.std.proofs.Common.{◌≡◌, ℕ, suc, ◌+◌, ◌-◌, ◌%◌, ◌^◌, ◌<◌, ◌≤◌, Bool, true, false, cond, not, List, [], ◌∷◌, ◌++◌, length, get_or, map, drop, take, add-one, append_assoc, drop-cons, refl, sym, ap, subst, ◌∙◌, length-append, length-drop, arith}
+use Rattle.std.proofs.lemmas.Bool.{false≢true}
 use Rattle.std.proofs.lemmas.List.{drop-append-le, drop-drop, length-take-le, map-append, take-append-drop, take-append-le}
 use Rattle.std.proofs.Math.Seq.{take-append-add}
 use Rattle.bstr.specs.Utf8.{decoded, or_replacement}
@@ -13,9 +14,18 @@ use Rattle.lbk_c.specs.declared.stream.Cut.{Cut}
 use Rattle.lbk_c.specs.declared.stream.Feeding.{Feeding}
 use Rattle.lbk_c.specs.declared.stream.Place.{Place}
 use Rattle.lbk_c.specs.Shown.{given_in, shown}
-use Rattle.lbk_c.specs.Streams.{Feeds, Stands, front_of}
+use Rattle.lbk_c.specs.Stands.{Feeds, Stands, front_of}
 use Rattle.lbk_c.proofs.CutLemmas.{four-more}
 use Rattle.lbk_c.proofs.PieceLemmas.{rest-of}
+
+-- a test turned round
+pub not-true : (test : Bool) → not test ≡ true → test ≡ false
+not-true true fails = absurd (false≢true fails)
+not-true false _ = refl
+
+pub not-false : (test : Bool) → not test ≡ false → test ≡ true
+not-false true _ = refl
+not-false false fails = absurd (false≢true (sym fails))
 
 -- where no byte was cut
 pub none-cut : (cut : Cut) (rest : List ℕ) → cut.size ≡ 0 → front_of cut ++ rest ≡ rest

@@ -3,6 +3,7 @@ pub mod CutLemmas
 pub mod FeedLemmas
 pub mod LabelLemmas
 pub mod LoopLemmas
+pub mod OpenLemmas
 pub mod PieceLemmas
 pub mod ReachedLemmas
 pub mod StandsLemmas

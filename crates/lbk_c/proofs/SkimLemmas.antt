@@ -16,7 +16,8 @@ use Rattle.lbk_c.specs.declared.stream.Feeding.{Feeding}
 use Rattle.lbk_c.specs.declared.stream.Place.{Place}
 use Rattle.lbk_c.specs.Bytes.{with_break}
 use Rattle.lbk_c.specs.Reached.{Reached, onward, scalars_of}
-use Rattle.lbk_c.specs.Streams.{Feeds, Stands, front_of, late_break, moved}
+use Rattle.lbk_c.specs.Stands.{Feeds, Stands, front_of, moved}
+use Rattle.lbk_c.specs.Streams.{late_break}
 use Rattle.lbk_c.proofs.FeedLemmas.{none-cut}
 use Rattle.lbk_c.proofs.StandsLemmas.{late-none}
 

@@ -33,7 +33,8 @@ use Rattle.lbk_steps.specs.RowMachineFits.{normals}
 use Rattle.lbk_c.specs.declared.stream.Place.{Place}
 use Rattle.lbk_c.specs.Bytes.{with_break}
 use Rattle.lbk_c.specs.Reached.{onward, steps_in}
-use Rattle.lbk_c.specs.Streams.{Stands, Waits, cells_of, late_break}
+use Rattle.lbk_c.specs.Stands.{Stands, Waits}
+use Rattle.lbk_c.specs.Streams.{cells_of, late_break}
 use Rattle.lbk_c.proofs.AheadLemmas.{heads-tells, joins-leaves, told_by}
 use Rattle.lbk_c.proofs.ReachedLemmas.{no-zero, with_break-more}
 use Rattle.lbk_c.proofs.StepLemmas.{decides-apart, decides-closed, decides-first, decides-open, held-15b, knows-more, steps-here}

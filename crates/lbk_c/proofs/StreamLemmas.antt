@@ -29,7 +29,8 @@ use Rattle.lbk_c.specs.declared.stream.Stream.{Stream}
 use Rattle.lbk_c.specs.Bytes.{breaks_of_bytes, with_break}
 use Rattle.lbk_c.specs.Reached.{onward, scalars_of}
 use Rattle.lbk_c.specs.State.{profile_numbered}
-use Rattle.lbk_c.specs.Streams.{AreUnsettled, Feeds, Stands, Streams, cells_of, could_go_on, cut_bytes, front_of, late_break, place_of, stream_start}
+use Rattle.lbk_c.specs.Stands.{Feeds, Stands, Streams, front_of}
+use Rattle.lbk_c.specs.Streams.{AreUnsettled, cells_of, could_go_on, cut_bytes, late_break, place_of, stream_start}
 use Rattle.lbk_c.proofs.ComingLemmas.{onward-start, profile-same, zero_or}
 
 -- the start of a stream

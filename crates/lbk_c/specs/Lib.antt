@@ -6,3 +6,4 @@ pub mod Streams
 pub mod Faults
 -- What only carries proofs.
 pub mod Reached
+pub mod Stands

@@ -7,7 +7,8 @@ ghost use Rattle.lbk_rules.specs.declared.cells.Cell.{Cell};
 ghost use Rattle.lbk_rules.specs.declared.facts.Left.{Left};
 ghost use Rattle.lbk_steps.specs.FlatTable.{IsFlatBy};
 ghost use Rattle.lbk_c.specs.Shown.{given_in};
-ghost use Rattle.lbk_c.specs.Streams.{Feeds, could_go_on, front_of};
+ghost use Rattle.lbk_c.specs.Stands.{Feeds, front_of};
+ghost use Rattle.lbk_c.specs.Streams.{could_go_on};
 
 use crate::cutting::{behind, could_go_on, front_of, kept, with_byte};
 use crate::interface::RawBreak;

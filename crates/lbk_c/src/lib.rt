@@ -26,7 +26,7 @@ mod taking;
 pub use breaking::lbk_breaks;
 pub use interface::{Fault, RawBreak, RuleLabel, State};
 pub use labels::lbk_label;
-pub use laws::only_bytes_from_a_state_on;
+pub use laws::{bytes_that_could_go_on, only_bytes_from_a_state_on};
 pub use stream::{Fed, Stream};
 pub use streaming::lbk_feed;
 pub use table_reading::{lbk_check, lbk_read};

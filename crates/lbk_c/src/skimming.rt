@@ -7,7 +7,7 @@ ghost use Rattle.lbk_rules.specs.declared.facts.Left.{Left};
 ghost use Rattle.lbk_steps.specs.FlatTable.{IsFlatBy};
 ghost use Rattle.lbk_c.specs.declared.stream.Place.{Place};
 ghost use Rattle.lbk_c.specs.Shown.{given_in};
-ghost use Rattle.lbk_c.specs.Streams.{Feeds, Stands, moved};
+ghost use Rattle.lbk_c.specs.Stands.{Feeds, Stands, moved};
 
 use crate::fill_state::FillState;
 use crate::filling::quick;

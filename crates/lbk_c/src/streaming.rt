@@ -11,7 +11,8 @@ ghost use Rattle.lbk_steps.specs.FlatTable.{IsFlatBy, IsFlatOf};
 ghost use Rattle.lbk_c.specs.Bytes.{breaks_of_bytes};
 ghost use Rattle.lbk_c.specs.Shown.{given_in};
 ghost use Rattle.lbk_c.specs.State.{profile_numbered};
-ghost use Rattle.lbk_c.specs.Streams.{AreUnsettled, Feeds, Gives, Streams, cut_bytes, front_of, place_of, stream_start};
+ghost use Rattle.lbk_c.specs.Stands.{Feeds, Gives, Streams, front_of};
+ghost use Rattle.lbk_c.specs.Streams.{AreUnsettled, cut_bytes, place_of, stream_start};
 
 use crate::breaking::{END, profile_numbered};
 use crate::cutting::cut_of;

@@ -11,7 +11,7 @@ ghost use Rattle.lbk_rules.specs.Classes.{mark};
 ghost use Rattle.lbk_rules.specs.Normal.{normal};
 ghost use Rattle.lbk_steps.specs.FlatTable.{AreFlatKinds, IsFlatBy};
 ghost use Rattle.lbk_c.specs.Shown.{given_in};
-ghost use Rattle.lbk_c.specs.Streams.{Stands};
+ghost use Rattle.lbk_c.specs.Stands.{Stands};
 
 use crate::filling::put;
 use crate::interface::RawBreak;

@@ -1,5 +1,5 @@
 use Rattle.std.proofs.Common.{◌++◌, drop, arith}
-use Rattle.lbk_c.specs.Streams.{front_of}
+use Rattle.lbk_c.specs.Stands.{front_of}
 use Rattle.lbk_c.proofs.CutLemmas.{closed-more}
 use Rattle.lbk_c.proofs.feeding.drain.Goals as goal
 

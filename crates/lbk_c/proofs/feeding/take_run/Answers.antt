@@ -1,7 +1,7 @@
 use Rattle.std.proofs.Common.{◌≡◌, ◌+◌, ◌-◌, ◌<◌, ◌≤◌, ◌++◌, [], cond, drop, length, take, sym, ap, subst, ◌∙◌, length-drop, length-take-le, arith}
 use Rattle.lbk_c.specs.Shown.{given_in}
-use Rattle.lbk_c.specs.Streams.{Stands, front_of}
-use Rattle.lbk_c.proofs.FeedLemmas.{Feeds-kept, Feeds-run, is-read, none-cut}
+use Rattle.lbk_c.specs.Stands.{Stands, front_of}
+use Rattle.lbk_c.proofs.FeedLemmas.{Feeds-kept, Feeds-run, is-read, none-cut, not-false, not-true}
 use Rattle.lbk_c.proofs.PieceLemmas.{rest-of}
 use Rattle.lbk_c.proofs.feeding.take_run.Goals as goal
 
@@ -51,7 +51,7 @@ returns-then-not-step-clause-feeds c = λ cell lefts base more all flat feeds.
     let long = length-take-le size (take (length piece - at) (drop at piece)) (omega (arith, read.few, c.requires.2)) in
     let stands = subst (λ l. Stands c.args.profile cell lefts here.place l all given) (none-cut here.cut bytes c.requires.0) feeds.stands in
     Feeds-kept c.args.profile cell lefts base piece more here step.result.place c.kept-cut.result step.result.count size step.result.passed all given
-    (given_in step.new.out step.result.count) c.requires.0 (omega (arith, read.few, c.requires.2)) c.if-not-step.true
+    (given_in step.new.out step.result.count) c.requires.0 (omega (arith, read.few, c.requires.2)) (not-true step.result.passed c.if-not-step.true)
     (c.kept-cut.ensures.bytes ∙ ap (take size) (rest-of piece at)) (c.kept-cut.ensures.within ∙ long) step.ensures.at
     (step.ensures.stands cell lefts bytes all flat read.bytes read.char read.is_size stands) feeds
 
@@ -73,7 +73,7 @@ returns-then-past-ne0-clause-feeds c = λ cell lefts base more all flat feeds.
     let read = is-read piece more at x size c.requires.2 c.decode_lossy-c.ensures.char c.decode_lossy-c.ensures.size in
     let stands = subst (λ l. Stands c.args.profile cell lefts here.place l all given) (none-cut here.cut bytes c.requires.0) feeds.stands in
     Feeds-run c.args.profile cell lefts base piece more here step.result.place step.result.count size step.result.passed all given
-    (given_in step.new.out step.result.count) c.requires.0 (omega (arith, read.few, c.requires.2)) c.if-not-step.false step.ensures.at
+    (given_in step.new.out step.result.count) c.requires.0 (omega (arith, read.few, c.requires.2)) (not-false step.result.passed c.if-not-step.false) step.ensures.at
     (step.ensures.stands cell lefts bytes all flat read.bytes read.char read.is_size stands) feeds
 
 pub skim-requires : goal.skim-requires
@@ -101,5 +101,5 @@ returns-clause-feeds c = λ cell lefts base more all flat feeds.
     let stands = subst (λ l. Stands c.args.profile cell lefts here.place l all given) (none-cut here.cut bytes c.requires.0) feeds.stands in
     c.skim.ensures.feeds cell lefts base more all flat
     (Feeds-run c.args.profile cell lefts base piece more here step.result.place step.result.count size step.result.passed all given
-    (given_in step.new.out step.result.count) c.requires.0 (omega (arith, read.few, c.requires.2)) c.if-not-step.false step.ensures.at
+    (given_in step.new.out step.result.count) c.requires.0 (omega (arith, read.few, c.requires.2)) (not-false step.result.passed c.if-not-step.false) step.ensures.at
     (step.ensures.stands cell lefts bytes all flat read.bytes read.char read.is_size stands) feeds)

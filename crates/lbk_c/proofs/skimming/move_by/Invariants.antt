@@ -1,6 +1,6 @@
 use Rattle.std.proofs.Common.{◌-◌, ◌≡◌, ◌≤◌, drop, length, map}
 use Rattle.lbk_c.specs.Shown.{given_in}
-use Rattle.lbk_c.specs.Streams.{moved}
+use Rattle.lbk_c.specs.Stands.{moved}
 use Rattle.lbk_c.proofs.skimming.move_by.Given as goal
 
 abbrev pub invariant-loop-k : goal.invariant-loop-k

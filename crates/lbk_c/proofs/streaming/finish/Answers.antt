@@ -4,7 +4,7 @@ use Rattle.std.proofs.lemmas.List.{append-nil}
 use Rattle.std.proofs.Math.Seq.{drop-length}
 use Rattle.bstr.specs.Utf8.{decoded}
 use Rattle.lbk_c.specs.declared.stream.Feeding.{Feeding}
-use Rattle.lbk_c.specs.Streams.{front_of}
+use Rattle.lbk_c.specs.Stands.{front_of}
 use Rattle.lbk_c.proofs.streaming.finish.Goals as goal
 
 pub loop-here-preserved : goal.loop-here-preserved

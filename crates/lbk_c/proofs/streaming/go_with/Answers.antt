@@ -1,7 +1,8 @@
 use Rattle.std.proofs.Common.{◌≡◌, ◌+◌, ◌<◌, ◌≤◌, ◌++◌, [], drop, length, sym, ap, subst, ◌∙◌, ⊎_elim, true, false, arith}
 use Rattle.std.proofs.lemmas.Bool.{cases_lt, false≢true}
 use Rattle.lbk_c.specs.Shown.{given_in}
-use Rattle.lbk_c.specs.Streams.{Feeds, Streams, cut_bytes, front_of, place_of}
+use Rattle.lbk_c.specs.Stands.{Feeds, Streams, front_of}
+use Rattle.lbk_c.specs.Streams.{cut_bytes, place_of}
 use Rattle.lbk_c.specs.declared.stream.Feeding.{Feeding}
 use Rattle.lbk_c.specs.declared.stream.Place.{Place}
 use Rattle.lbk_c.proofs.ComingLemmas.{given-many}

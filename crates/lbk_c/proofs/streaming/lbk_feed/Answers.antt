@@ -1,5 +1,8 @@
-use Rattle.std.proofs.Common.{◌++◌, drop, arith}
-use Rattle.lbk_c.proofs.StreamLemmas.{Streams-start, ended-none, ended-stays, unnamed-high}
+use Rattle.std.proofs.Common.{◌++◌, [], false, true, refl, sym, subst, ◌∙◌, arith}
+use Rattle.std.proofs.lemmas.Bool.{false≢true}
+use Rattle.std.proofs.lemmas.List.{append-nil}
+use Rattle.lbk_c.specs.Stands.{Streams}
+use Rattle.lbk_c.proofs.StreamLemmas.{Streams-start, ended-none}
 use Rattle.lbk_c.proofs.streaming.lbk_feed.Goals as goal
 
 pub returns-then-is_empty-clause-start : goal.returns-then-is_empty-clause-start
@@ -23,3 +26,16 @@ returns-clause-front c = λ cell more to_come s lasts. (c.go_with.ensures.gives 
 
 pub returns-clause-rest : goal.returns-clause-rest
 returns-clause-rest c = λ cell more to_come s lasts. (c.go_with.ensures.gives cell more to_come s lasts).rest
+
+pub returns-clause-settled : goal.returns-clause-settled
+returns-clause-settled c = λ cell more to_come s unfinished unended free.
+    (c.go_with.ensures.gives cell more to_come s (λ is_last. absurd (false≢true (sym unfinished ∙ is_last)))).settled unfinished free
+
+pub returns-clause-seen : goal.returns-clause-seen
+returns-clause-seen c = λ cell more to_come s unfinished unended.
+    (c.go_with.ensures.gives cell more to_come s (λ is_last. absurd (false≢true (sym unfinished ∙ is_last)))).seen unfinished
+
+pub returns-clause-end : goal.returns-clause-end
+returns-clause-end c = λ cell to_come s is_last free.
+    let whole = subst (λ bytes. Streams cell c.args.table.now c.args.stream.now bytes to_come) (sym (append-nil c.args.piece.now)) s in
+    (c.go_with.ensures.gives cell [] to_come whole (λ _. refl)).end is_last free

@@ -8,7 +8,8 @@ use Rattle.lbk_c.specs.declared.stream.Place.{Place}
 use Rattle.lbk_c.specs.Bytes.{with_break}
 use Rattle.lbk_c.specs.Reached.{steps_in}
 use Rattle.lbk_c.specs.Shown.{given_in}
-use Rattle.lbk_c.specs.Streams.{Waits, late_break}
+use Rattle.lbk_c.specs.Stands.{Waits}
+use Rattle.lbk_c.specs.Streams.{late_break}
 use Rattle.lbk_c.proofs.StandsLemmas.{Stands-join, Stands-on, decides-late, decides-now, knows-next, late-none, waits-now}
 use Rattle.lbk_c.proofs.taking.pass.Goals as goal
 
