@@ -56,10 +56,10 @@ stays-by : (n b c d c' d' size : ℕ) → 0 < n → (1 < n → c' ≡ c) → (2 
 stays-by n b c d c' d' size some second_c third_d closed high s =
     ⊎_elim
     (λ (short : n < size).
-        let lead = s.lead (omega arith) in
-        let goes = goes-on n b c d (omega arith) (λ two. ap (second b) (sym (second_c (omega arith))) ∙ s.sec (omega arith))
-        (λ three. ap continues (sym (third_d (omega arith))) ∙ s.third (omega arith)) in
-        absurd (false≢true (sym closed ∙ goes)))
+    let lead = s.lead (omega arith) in
+    let goes = goes-on n b c d (omega arith) (λ two. ap (second b) (sym (second_c (omega arith))) ∙ s.sec (omega arith))
+    (λ three. ap continues (sym (third_d (omega arith))) ∙ s.third (omega arith)) in
+    absurd (false≢true (sym closed ∙ goes)))
     (λ (enough : size ≤ n). enough)
     (cases_lt n size)
 

@@ -31,9 +31,9 @@ ends-two b c leads sec =
     let range = lead-three b leads in
     ⊎_elim
     (λ (three : b < 0xF0).
-        (0x80 ∷ [], code_of_3 b c 0x80, omega arith, value-9 3 b c 0x80 0 (omega arith, range.0, three, sec, refl)))
+    (0x80 ∷ [], code_of_3 b c 0x80, omega arith, value-9 3 b c 0x80 0 (omega arith, range.0, three, sec, refl)))
     (λ (four : 0xF0 ≤ b).
-        (0x80 ∷ 0x80 ∷ [], code_of_4 b c 0x80 0x80, omega arith, value-12 4 b c 0x80 0x80 (omega arith, four, range.1, sec, refl, refl)))
+    (0x80 ∷ 0x80 ∷ [], code_of_4 b c 0x80 0x80, omega arith, value-12 4 b c 0x80 0x80 (omega arith, four, range.1, sec, refl, refl)))
     (cases_lt b 0xF0)
 
 ends-one : (b : ℕ) → 1 < lead_len b → IsCut (b ∷ [])
@@ -44,12 +44,12 @@ ends-one b leads =
     ⊎_elim
     (λ (two : b < 0xE0). (c ∷ [], code_of_2 b c, omega arith, value-6 2 b c 0 0 (omega arith, range.0, two, sec)))
     (λ (more : 0xE0 ≤ b).
-        ⊎_elim
-        (λ (three : b < 0xF0).
-            (c ∷ 0x80 ∷ [], code_of_3 b c 0x80, omega arith, value-9 3 b c 0x80 0 (omega arith, more, three, sec, refl)))
-        (λ (four : 0xF0 ≤ b).
-            (c ∷ 0x80 ∷ 0x80 ∷ [], code_of_4 b c 0x80 0x80, omega arith, value-12 4 b c 0x80 0x80 (omega arith, four, range.1, sec, refl, refl)))
-        (cases_lt b 0xF0))
+    ⊎_elim
+    (λ (three : b < 0xF0).
+    (c ∷ 0x80 ∷ [], code_of_3 b c 0x80, omega arith, value-9 3 b c 0x80 0 (omega arith, more, three, sec, refl)))
+    (λ (four : 0xF0 ≤ b).
+    (c ∷ 0x80 ∷ 0x80 ∷ [], code_of_4 b c 0x80 0x80, omega arith, value-12 4 b c 0x80 0x80 (omega arith, four, range.1, sec, refl, refl)))
+    (cases_lt b 0xF0))
     (cases_lt b 0xE0)
 
 pub goes-whole : (bs : List ℕ) → could_go_on bs ≡ true → IsCut bs

@@ -59,8 +59,7 @@ pub Stands-rest : (profile : Profile) (cell : ℕ → Cell) (lefts : List Left) 
     → length given ≡ count → Stands profile cell lefts place bytes all given
     → (given ≡ take count all) × Stands profile cell lefts place bytes (drop count all) []
 Stands-rest profile cell lefts place bytes all given count many s =
-    let more = late_break cell place bytes ++ onward profile cell s.taken place.at (pieces bytes) in
-    (
+    let more = late_break cell place bytes ++ onward profile cell s.taken place.at (pieces bytes) in (
       sym (ap (take count) s.joined ∙ take_at given more count many),
       record {
         taken = s.taken;
@@ -121,8 +120,7 @@ Stands-end profile cell lefts place bytes all given empty s =
     let none_late : late_break cell place bytes ≡ [] = ap (late_break cell place) empty ∙ late-end cell place in
     let last : all ≡ given ++ with_break at (verdict_between_in profile cells []) [] =
     s.joined ∙ ap (λ l. given ++ (l ++ onward profile cell s.taken at (pieces bytes))) none_late
-    ∙ ap (λ ps. given ++ onward profile cell s.taken at ps) none_left in
-    (
+    ∙ ap (λ ps. given ++ onward profile cell s.taken at ps) none_left in (
       (λ zero. last ∙ ap (λ taken. given ++ with_break at (verdict_between_in profile (map cell taken) []) []) (s.none zero)
           ∙ ap (λ (v : Verdict). given ++ with_break at v []) (start_of_text profile []) ∙ append-nil given),
       (λ more.
@@ -278,22 +276,22 @@ pub Feeds-closed : (profile : Profile) (cell : ℕ → Cell) (table : FlatTable)
 Feeds-closed profile cell table lefts base old new piece to_come given after done count room named unended flat x f =
     ⊎_elim
     (λ (free : done.count < room).
-        let all : to_come ≡ after =
-        Feeds-ended profile cell lefts base piece to_come given after done (x.cut free) (x.taken free) (x.some free) (x.none free) f in
-        record {
-          front = sym (ap (take count) all ∙ ap (λ n. take n after) (sym x.counted) ∙ take-length after);
-          rest = Streams-end profile cell table lefts old new (drop done.taken piece ++ []) to_come after count named flat x.kept (x.ended free) all x.counted;
-          end = λ _. sym x.counted ∙ ap length (sym all);
-        })
+    let all : to_come ≡ after =
+    Feeds-ended profile cell lefts base piece to_come given after done (x.cut free) (x.taken free) (x.some free) (x.none free) f in
+    record {
+      front = sym (ap (take count) all ∙ ap (λ n. take n after) (sym x.counted) ∙ take-length after);
+      rest = Streams-end profile cell table lefts old new (drop done.taken piece ++ []) to_come after count named flat x.kept (x.ended free) all x.counted;
+      end = λ _. sym x.counted ∙ ap length (sym all);
+    })
     (λ (no_room : room ≤ done.count).
-        let within = x.within in
-        let full = x.full (omega arith) in
-        let same : count ≡ done.count = sym x.counted ∙ ap length full.0 ∙ x.many in
-        let many : length given ≡ count = x.many ∙ sym same in
-        record {
-          front = full.0 ∙ Feeds-front profile cell lefts base piece [] to_come given done count many f;
-          rest =
-              Streams-next profile cell table lefts base old new piece [] to_come given done count named unended flat full.1 full.2 x.kept full.3 many f;
-          end = λ free. absurd (omega arith);
-        })
+    let within = x.within in
+    let full = x.full (omega arith) in
+    let same : count ≡ done.count = sym x.counted ∙ ap length full.0 ∙ x.many in
+    let many : length given ≡ count = x.many ∙ sym same in
+    record {
+      front = full.0 ∙ Feeds-front profile cell lefts base piece [] to_come given done count many f;
+      rest =
+          Streams-next profile cell table lefts base old new piece [] to_come given done count named unended flat full.1 full.2 x.kept full.3 many f;
+      end = λ free. absurd (omega arith);
+    })
     (cases_lt done.count room)

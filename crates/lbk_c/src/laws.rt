@@ -16,13 +16,11 @@ pub fn only_bytes_from_a_state_on()
     ensures { (cell : ℕ → Cell) (table : FlatTable) (text other : List ℕ) (state : State) (to_come : List Break)
         → Comes cell table text state to_come → state.at ≤ length other → drop state.at other ≡ drop state.at text
         → Comes cell table other state to_come }
-{
-}
+{}
 
 /// Bytes could go on just where some bytes behind them make one scalar of all (Unicode Standard, table 3-7). Else the first of
 /// them are a scalar or ill-formed, as they stand, whatever follows.
 pub fn bytes_that_could_go_on()
     ensures cut { (bytes : List ℕ) → could_go_on bytes ≡ true → IsCut bytes }
     ensures whole { (bytes more : List ℕ) → 0 < length bytes → could_go_on bytes ≡ false → decoded (bytes ++ more) ≡ decoded bytes }
-{
-}
+{}

@@ -16,7 +16,7 @@ loop-here-preserved c =
     let below : c.args.start.count < length c.args.out.now =
     ⊎_elim (λ (less : c.args.start.count < length c.args.out.now). less)
     (λ (full : length c.args.out.now ≤ c.args.start.count).
-        let stays = ap (λ (h : Feeding). h.count) (c.loop-here.invariant.same (omega (arith, c.requires.1))).0 in absurd (omega arith))
+    let stays = ap (λ (h : Feeding). h.count) (c.loop-here.invariant.same (omega (arith, c.requires.1))).0 in absurd (omega arith))
     (cases_lt c.args.start.count (length c.args.out.now)) in
     record {
       cut = within.0;

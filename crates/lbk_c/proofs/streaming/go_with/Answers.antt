@@ -77,7 +77,7 @@ returns-then-last-clause-gives c = λ cell more to_come s lasts.
       taken = λ free.
           ⊎_elim (λ (less : here.count < room). finish.ensures.within.2 ∙ take.ensures.all less)
           (λ (full : room ≤ here.count).
-              let same = ap (λ (h : Feeding). h.count) (finish.ensures.same (omega (arith, take.ensures.within.1))).0 in absurd (omega arith))
+          let same = ap (λ (h : Feeding). h.count) (finish.ensures.same (omega (arith, take.ensures.within.1))).0 in absurd (omega arith))
           (cases_lt here.count room);
       cut = λ free. finish.ensures.done (omega arith);
       ended = λ free. close.ensures.ended (omega arith);

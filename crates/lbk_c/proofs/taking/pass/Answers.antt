@@ -44,11 +44,11 @@ returns-then-waits-clause-stands c = λ cell lefts bytes all flat some is_char i
     Stands-on profile cell lefts place next bytes all given [] given x c.args.size some is_char is_size c.if-place-ne0.false
     refl (knows-next cell lefts table place.row x first flat scalar is_first)
     (λ taken known.
-        decides-late cell lefts table taken place next rest x first step flat known scalar is_first is_step held told.2 refl refl
-        ∙ ap (λ p. with_break place.at (verdict_between_in p (map cell taken) (cell x ∷ map cell (lossy_chars rest))) []) (sym second))
+    decides-late cell lefts table taken place next rest x first step flat known scalar is_first is_step held told.2 refl refl
+    ∙ ap (λ p. with_break place.at (verdict_between_in p (map cell taken) (cell x ∷ map cell (lossy_chars rest))) []) (sym second))
     (λ taken known onward _.
-        subst (λ p. Waits p cell (taken ++ x ∷ []) next) (sym second)
-        (waits-now cell lefts table taken place next x first step flat known scalar is_first is_step held refl refl onward))
+    subst (λ p. Waits p cell (taken ++ x ∷ []) next) (sym second)
+    (waits-now cell lefts table taken place next x first step flat known scalar is_first is_step held refl refl onward))
     (sym (append-nil given)) stands
 
 pub returns-clause-stands : goal.returns-clause-stands
@@ -73,8 +73,8 @@ returns-clause-stands c = λ cell lefts bytes all flat some is_char is_size join
     x c.args.size some is_char is_size none
     refl (knows-next cell lefts table place.row x first flat scalar is_first)
     (λ taken known.
-        ap (λ l. front ++ l) (late-none cell next rest none) ∙ append-nil front
-        ∙ (decides-now profile cell lefts table taken place.at place.row x first step right flat known scalar is_first is_step quiet).1)
+    ap (λ l. front ++ l) (late-none cell next rest none) ∙ append-nil front
+    ∙ (decides-now profile cell lefts table taken place.at place.row x first step right flat known scalar is_first is_step quiet).1)
     (λ taken known onward waits. absurd (omega arith))
     (c.put-more.ensures.front (decides-now profile cell lefts table stands.taken place.at place.row x first step right flat stands.knows scalar is_first is_step quiet).0)
     stands
