@@ -1,10 +1,16 @@
 pub mod AheadLemmas
+pub mod CutLemmas
+pub mod FeedLemmas
 pub mod LoopLemmas
+pub mod OpenLemmas
 pub mod OrderLemmas
 pub mod PieceLemmas
 pub mod ReachedLemmas
 pub mod ShownLemmas
+pub mod StandsLemmas
+pub mod SkimLemmas
 pub mod StepLemmas
+pub mod StreamLemmas
 pub mod TableLemmas
 pub mod ComingLemmas
 pub mod PositionLemmas

@@ -4,8 +4,10 @@ pub mod Positions
 pub mod Shown
 pub mod Order
 pub mod State
+pub mod Streams
 pub mod Faults
 -- What only carries proofs.
 pub mod Decided
 pub mod Reached
 pub mod Blocks
+pub mod Stands

@@ -134,7 +134,7 @@ fn put_end(out: &mut [RawBreak], count: usize, len: usize) -> usize
 }
 
 /// The profile of a number: 0 for the first, 1 for the second. None comes for any other.
-fn profile_numbered(number: u8) -> Option<Profile>
+pub(crate) fn profile_numbered(number: u8) -> Option<Profile>
     ensures { result ≡ profile_numbered number }
 {
     match number {

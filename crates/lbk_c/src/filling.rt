@@ -109,9 +109,9 @@ fn pause(text: &[u8]) -> usize
 }
 
 /// Takes scalars up to this place or a little past it, as long as none of four bytes, no ill-formed bytes and no held
-/// position come. It calls nothing, so that all it has stays in registers.
+/// position come, whatever may follow the text. It calls nothing, so that all it has stays in registers.
 #[inline(never)]
-fn quick(
+pub(crate) fn quick(
     kinds: &[u8; CODES],
     steps: &[FlatStep; STEPS],
     start: FillState,
@@ -123,9 +123,9 @@ fn quick(
     ensures within { (result.count ≤ length out.old) × (result.row < 65536) × (result.at ≤ length text.now) }
     ensures onward { (start.at ≤ result.at) × (start.count ≤ result.count) }
     ensures in_order { (from : ℕ) → IsInOrder out.old start.count from start.at → IsInOrder out.new result.count from result.at }
-    ensures reached { (profile : Profile) (cell : ℕ → Cell) (lefts : List Left) (all : List Break) → AreSwift profile lefts steps.now → AreFlatKinds kinds.now cell
-        → Reached profile cell lefts text.now all start (given_in out.old start.count)
-        → Reached profile cell lefts text.now all result (given_in out.new result.count) }
+    ensures reached { (profile : Profile) (cell : ℕ → Cell) (lefts : List Left) (more : List ℕ) (all : List Break) → AreSwift profile lefts steps.now → AreFlatKinds kinds.now cell
+        → Reached profile cell lefts (text.now ++ more) all start (given_in out.old start.count)
+        → Reached profile cell lefts (text.now ++ more) all result (given_in out.new result.count) }
 {
     let mut from = start.at;
     let mut here = runs(kinds, steps, start, until, text, out);
@@ -150,9 +150,9 @@ fn runs(
     ensures within { (result.count ≤ length out.old) × (result.row < 65536) × (result.at ≤ length text.now) }
     ensures onward { (start.at ≤ result.at) × (start.count ≤ result.count) }
     ensures in_order { (from : ℕ) → IsInOrder out.old start.count from start.at → IsInOrder out.new result.count from result.at }
-    ensures reached { (profile : Profile) (cell : ℕ → Cell) (lefts : List Left) (all : List Break) → AreSwift profile lefts steps.now → AreFlatKinds kinds.now cell
-        → Reached profile cell lefts text.now all start (given_in out.old start.count)
-        → Reached profile cell lefts text.now all result (given_in out.new result.count) }
+    ensures reached { (profile : Profile) (cell : ℕ → Cell) (lefts : List Left) (more : List ℕ) (all : List Break) → AreSwift profile lefts steps.now → AreFlatKinds kinds.now cell
+        → Reached profile cell lefts (text.now ++ more) all start (given_in out.old start.count)
+        → Reached profile cell lefts (text.now ++ more) all result (given_in out.new result.count) }
 {
     let behind_one = run(Width::One, kinds, steps, start, until, text, out);
     let behind_two = run(Width::Two, kinds, steps, behind_one, until, text, out);
@@ -175,9 +175,9 @@ fn run(
     ensures within { (result.count ≤ length out.old) × (result.row < 65536) × (result.at ≤ length text.now) }
     ensures onward { (start.at ≤ result.at) × (start.count ≤ result.count) }
     ensures in_order { (from : ℕ) → IsInOrder out.old start.count from start.at → IsInOrder out.new result.count from result.at }
-    ensures reached { (profile : Profile) (cell : ℕ → Cell) (lefts : List Left) (all : List Break) → AreSwift profile lefts steps.now → AreFlatKinds kinds.now cell
-        → Reached profile cell lefts text.now all start (given_in out.old start.count)
-        → Reached profile cell lefts text.now all result (given_in out.new result.count) }
+    ensures reached { (profile : Profile) (cell : ℕ → Cell) (lefts : List Left) (more : List ℕ) (all : List Break) → AreSwift profile lefts steps.now → AreFlatKinds kinds.now cell
+        → Reached profile cell lefts (text.now ++ more) all start (given_in out.old start.count)
+        → Reached profile cell lefts (text.now ++ more) all result (given_in out.new result.count) }
 {
     let mut count = start.count;
     let mut row = start.row;
