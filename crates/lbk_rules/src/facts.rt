@@ -16,7 +16,7 @@ pub struct Before {
     /// Whether the last unit that is no space is OP, QU, CL (which stands for CP too) or B2. A space
     /// stands for all other classes.
     pub before_spaces: Class,
-    /// Whether a hyphen or another class BA stands last, after a Hebrew letter (rule LB21a).
+    /// Whether the last unit is HY or BA, and the one before it a Hebrew letter (rule LB21a).
     pub hebrew_hyphen: bool,
     /// Whether the run of regional indicators at the end has odd length.
     pub odd_indicators: bool,
@@ -56,7 +56,6 @@ impl Before {
         let opens = unit.is_opening_mark() && self.last.class.opens_after();
         let indicator = unit.class.is(Class::RegionalIndicator);
         Before {
-            last: unit.asked_of_unit(),
             before_spaces: if space {
                 self.before_spaces
             } else {
@@ -65,6 +64,7 @@ impl Before {
             hebrew_hyphen: unit.class.is_hyphen() && self.last.class.is(Class::HebrewLetter),
             odd_indicators: indicator && !self.odd_indicators,
             opens_quotation: if space { self.opens_quotation } else { opens },
+            last: unit.asked_of_unit(),
         }
     }
 }

@@ -50,7 +50,7 @@ impl Left {
             → past_spaces ZW (class_cell self.last ∷ cell ∷ side) ≡ self.past_zero_width
             → closes_in profile (units_after (hard right.class) more) ≡ closes
             → result ≡ choose cell_rules (class_cell self.last ∷ cell ∷ side) (right ∷ more)
-                (from_11 profile (units_before (cell ∷ side)) (units (right ∷ more))) }
+            (from_11 profile (units_before (cell ∷ side)) (units (right ∷ more))) }
     {
         if self.last.is(Class::MandatoryBreak) {
             return Verdict::must(Rule::Lb4);
