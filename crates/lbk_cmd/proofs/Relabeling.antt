@@ -63,6 +63,7 @@ line_of m ms =
           ∙ ap (λ l. (written_line Kinds (record { scalars = l; marks = map (λ v. mark_of v.kind) (verdicts_of (by Lb3)) }) ++ (9 ∷ 35 ∷ written_labels (verdicts_of (by rule)))) ++ 10 ∷ [])
           (scalars-ended (record { kind = Must; rule = rule }) (m ∷ ms) ∙ sym (scalars-ended (record { kind = Must; rule = Lb3 }) (m ∷ ms)))
           ∙ ap (λ l. (said ++ (9 ∷ 35 ∷ ((32 ∷ label_of at_start.rule) ++ l))) ++ 10 ∷ []) (labels.is rule)
+          ∙ ap (λ l. (said ++ (9 ∷ 35 ∷ l)) ++ 10 ∷ []) (sym (append_assoc (32 ∷ label_of at_start.rule) labels.front (label_of rule)))
           ∙ ap (λ l. l ++ 10 ∷ []) (sym (append_assoc said (9 ∷ 35 ∷ ((32 ∷ label_of at_start.rule) ++ labels.front)) (label_of rule)))
           ∙ append_assoc front (label_of rule) (10 ∷ []);
     }

@@ -45,11 +45,11 @@ module _ (rule : Rule) where
           → (h : Holds ends_passage (n ∷ []) (cut_after ends_passage (n ∷ ms))) → (b : Bool) → ends_passage m ≡ b
           → cut_after ends_passage (m ∷ ended (record { kind = Must; rule = rule }) (n ∷ ms)) ≡ with_last (ended (record { kind = Must; rule = rule })) (cut_after ends_passage (m ∷ n ∷ ms))
       by rest h true is =
-          cut_after-step ends_passage m _ true is
+          cut_after-step ends_passage m (ended (record { kind = Must; rule = rule }) (n ∷ ms)) true is
           ∙ ap (λ l. (m ∷ []) ∷ l) (rest ∙ ap (with_last (ended (record { kind = Must; rule = rule }))) h.is)
           ∙ ap (with_last (ended (record { kind = Must; rule = rule }))) (ap (λ l. (m ∷ []) ∷ l) (sym h.is) ∙ sym (cut_after-step ends_passage m (n ∷ ms) true is))
       by rest h false is =
-          cut_after-step ends_passage m _ false is
+          cut_after-step ends_passage m (ended (record { kind = Must; rule = rule }) (n ∷ ms)) false is
           ∙ ap (join_first m) (rest ∙ ap (with_last (ended (record { kind = Must; rule = rule }))) h.is)
           ∙ put_first m n h.behind h.others
           ∙ ap (with_last (ended (record { kind = Must; rule = rule }))) (ap (join_first m) (sym h.is) ∙ sym (cut_after-step ends_passage m (n ∷ ms) false is))
@@ -71,7 +71,7 @@ module _ (profile : Profile) (cell : ℕ → Cell) where
       let same = end_before_more-must cell c cs in
       let closed = marks-closed profile cell [] (c ∷ cs) in
       ap (cut_after ends_passage) (joined-marks profile cell (c ∷ cs) second ends ∙ ap (λ v. ended v ms ++ marks profile cell second) same)
-      ∙ cut_after-append ends_passage _ (marks profile cell second) (closed-ended rule ms closed)
+      ∙ cut_after-append ends_passage (ended (record { kind = Must; rule = rule }) ms) (marks profile cell second) (closed-ended rule ms closed)
       ∙ ap (λ l. l ++ cut_after ends_passage (marks profile cell second)) (cut_after-ended rule ms closed)
       ∙ ap (λ v. with_last (ended v) (cut_after ends_passage ms) ++ cut_after ends_passage (marks profile cell second)) (sym same)
 

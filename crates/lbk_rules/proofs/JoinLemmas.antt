@@ -135,7 +135,7 @@ breaks-before_more profile cell (c ∷ cs) =
 scalars-in : (profile : Profile) (cell : ℕ → Cell) (part : List ℕ) → scalars_of (marks_in profile cell true part) ≡ part
 scalars-in profile cell part = scalars-ended (end_before_more cell part) (marks profile cell part) ∙ scalars-behind profile cell [] part
 
-map-moved : (a b : ℕ) (bs : List Break) → map (moved a) (map (moved b) bs) ≡ map (moved (a + b)) bs
+pub map-moved : (a b : ℕ) (bs : List Break) → map (moved a) (map (moved b) bs) ≡ map (moved (a + b)) bs
 map-moved a b [] = refl
 map-moved a b (x ∷ bs) =
     let place : a + (b + x.at) ≡ (a + b) + x.at = omega arith in
@@ -161,7 +161,7 @@ joins-breaks profile cell at first second ends =
     ∙ map-append (moved at) (breaks_before profile cell true first) _
     ∙ ap (λ l. breaks_in profile cell at true first ++ l) (map-moved at (length (encode_utf8_all first)) (breaks profile cell second))
 
-map-moved-none : (bs : List Break) → map (moved 0) bs ≡ bs
+pub map-moved-none : (bs : List Break) → map (moved 0) bs ≡ bs
 map-moved-none [] = refl
 map-moved-none (x ∷ bs) =
     let place : 0 + x.at ≡ x.at = omega arith in
