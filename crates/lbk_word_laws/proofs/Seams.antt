@@ -1,5 +1,5 @@
 -- Between two passages a word boundary stands.
-use Rattle.std.proofs.Common.{◌≡◌, ◌⊎◌, inl, inr, ⊎_elim, ℕ, Bool, true, false, cond, not, ◌&&◌, ◌||◌, Some, List, [], ◌∷◌, ◌++◌, append-nil, map, unwrap_or, refl, sym, ap, ap₂, ◌∙◌}
+use Rattle.std.proofs.Common.{◌≡◌, ◌⊎◌, inl, inr, ⊎_elim, ℕ, Bool, true, false, cond, not, ◌||◌, Some, List, [], ◌∷◌, ◌++◌, append-nil, map, unwrap_or, refl, sym, ap, ap₂, ◌∙◌}
 use Rattle.std.specs.List.{flat_map}
 use Rattle.std.proofs.lemmas.List.{map-append}
 use Rattle.ucd_breaks.specs.WordBreak.{word_break}
@@ -7,7 +7,7 @@ use Rattle.ucd_breaks.specs.declared.WordBreak.{WordBreak}
 use Rattle.ucd_breaks.specs.declared.WordBreak.TheVariants.{Cr, Lf, Newline, Zwj}
 use Rattle.ucd_emoji.specs.Binary.{is_extended_pictographic}
 use Rattle.unicode_segmentation.specs.Segments.{cut, prepend}
-use Rattle.unicode_segmentation.specs.Word.{break_by_pair, is_ignored, is_regional, is_word_break, joins, significant, value_at}
+use Rattle.unicode_segmentation.specs.Word.{break_by_pair, is_ignored, is_word_break, joins, joins_flag, significant, value_at}
 use Rattle.unicode_segmentation.proofs.SegmentsLemmas.{attach}
 use Rattle.unicode_segmentation.proofs.WordLemmas.{significant-ignored, significant-kept}
 use Rattle.lbk_rules.specs.declared.cells.Cell.{Cell}
@@ -19,10 +19,8 @@ use Rattle.lbk_rules.specs.Marks.{Marked, marks_behind, scalars_of}
 use Rattle.lbk_rules.specs.Verdict.{verdict_between_in}
 use Rattle.lbk_rules.proofs.EndLemmas.{only_must_between}
 use Rattle.lbk_passage.specs.Passages.{cut_after, ends_passage, is_must, join_first}
-use Rattle.lbk_words.specs.declared.context.Context.{Context}
-use Rattle.lbk_words.specs.Contexts.{breaks_by, context_of}
 use Rattle.lbk_words.specs.Words.{parts_of}
-use Rattle.lbk_words.proofs.ContextLemmas.{decided-end, decided-inside}
+use Rattle.lbk_words.proofs.ContextLemmas.{decided-end}
 use Rattle.lbk_words.proofs.FreshLemmas.{cut-fresh, cut-step, is_line_end}
 use Rattle.lbk_word_laws.specs.Agreement.{AgreeOnLines, ends_between_words}
 
@@ -59,6 +57,18 @@ attach-over false true part first ps qs = refl
 attach-over false false part first [] qs = refl
 attach-over false false part first (p ∷ ps) qs = refl
 
+-- what decides where two neighbours alone do not
+abbrev otherwise : ℕ → List ℕ → ℕ → WordBreak → Bool
+otherwise last before next far_right =
+    let values = significant (last ∷ before) in
+    not (joins (value_at values 1) (value_at values 0) (word_break next) far_right || joins_flag (last ∷ before) next)
+
+inside : (last : ℕ) (before : List ℕ) (next : ℕ) (after : List ℕ)
+    → is_word_break (last ∷ before) (next ∷ after)
+    ≡ unwrap_or (break_by_pair (word_break last) (word_break next) (is_extended_pictographic next)) (otherwise last before next (value_at (significant after) 0))
+unfolding is_word_break
+inside last before next after = refl
+
 module _ (profile : Profile) (cell : ℕ → Cell) (agree : AgreeOnLines cell) where
   abbrev mark : List ℕ → ℕ → List ℕ → Marked
   mark before c cs = record { scalar = c; after = verdict_between_in profile (map cell (before ++ c ∷ [])) (map cell cs) }
@@ -73,10 +83,8 @@ module _ (profile : Profile) (cell : ℕ → Cell) (agree : AgreeOnLines cell) w
   boundary : (before b : List ℕ) (c : ℕ) (cs : List ℕ) → ends_passage (mark before c cs) ≡ true → is_word_break (c ∷ b) cs ≡ true
   boundary before b c [] must = decided-end (c ∷ b)
   boundary before b c (d ∷ ds) must =
-      let far = value_at (significant ds) 0 in
-      let x = context_of (c ∷ b) in
-      decided-inside c b d ds
-      ∙ ap (λ o. unwrap_or o (not (joins x.far_left x.left (word_break d) far || (x.half_flag && is_regional (word_break d)))))
+      inside c b d ds
+      ∙ ap (λ o. unwrap_or o (otherwise c b d (value_at (significant ds) 0)))
       (pair-ends (word_break c) (word_break d) (is_extended_pictographic d) (must-ends before c d ds must))
 
   -- the scalars `q` behind `d` tell a rule that looks behind it as much as all of `ds`
@@ -133,18 +141,15 @@ module _ (profile : Profile) (cell : ℕ → Cell) (agree : AgreeOnLines cell) w
 
   same-rule : (c d : ℕ) (b q ds : List ℕ) → Tells d q ds → is_word_break (c ∷ b) (d ∷ ds) ≡ is_word_break (c ∷ b) (d ∷ q)
   same-rule c d b q ds tells =
-      let x = context_of (c ∷ b) in
-      let value = word_break d in
-      let pict = is_extended_pictographic d in
       let far = value_at (significant ds) 0 in
       let near = value_at (significant q) 0 in
-      let by : breaks_by x d far ≡ breaks_by x d near =
-      ⊎_elim (λ (ends : is_line_end value ≡ true).
-      let decided = pair-decides x.last value pict ends in
-      ap (λ o. unwrap_or o (not (joins x.far_left x.left value far || (x.half_flag && is_regional value)))) decided.1
-      ∙ sym (ap (λ o. unwrap_or o (not (joins x.far_left x.left value near || (x.half_flag && is_regional value)))) decided.1))
-      (λ (same : near ≡ far). ap (breaks_by x d) (sym same)) tells in
-      decided-inside c b d ds ∙ by ∙ sym (decided-inside c b d q)
+      let pair = break_by_pair (word_break c) (word_break d) (is_extended_pictographic d) in
+      let by : unwrap_or pair (otherwise c b d far) ≡ unwrap_or pair (otherwise c b d near) =
+      ⊎_elim (λ (ends : is_line_end (word_break d) ≡ true).
+      let decided = pair-decides (word_break c) (word_break d) (is_extended_pictographic d) ends in
+      ap (λ o. unwrap_or o (otherwise c b d far)) decided.1 ∙ sym (ap (λ o. unwrap_or o (otherwise c b d near)) decided.1))
+      (λ (same : near ≡ far). ap (λ f. unwrap_or pair (otherwise c b d f)) (sym same)) tells in
+      inside c b d ds ∙ by ∙ sym (inside c b d q)
 
   -- the parts of passages, the first of which is cut behind the scalars `b`
   abbrev pub parts_behind : List ℕ → List (List Marked) → List (List ℕ)

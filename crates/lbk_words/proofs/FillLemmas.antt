@@ -1,5 +1,5 @@
 -- The words from a byte on, and some of them given.
-use Rattle.std.proofs.Common.{◌≡◌, ◌⊎◌, ⊎_elim, ℕ, ◌+◌, ◌<◌, ◌≤◌, min, Bool, true, false, cond, List, [], ◌∷◌, ◌++◌, drop, length, take, refl, sym, ap, ap₂, ◌∙◌, arith}
+use Rattle.std.proofs.Common.{◌≡◌, ◌⊎◌, ⊎_elim, ℕ, ◌+◌, ◌<◌, ◌≤◌, min, Bool, true, false, cond, List, [], ◌∷◌, ◌++◌, drop, length, take, refl, sym, ap, ap₂, subst, ◌∙◌, arith}
 use Rattle.std.specs.Int.{from_bool}
 use Rattle.std.proofs.Math.ListN.{set, drop_of_length-le}
 use Rattle.std.proofs.Math.Seq.{drop-append_seam}
@@ -9,7 +9,7 @@ use Rattle.bstr.proofs.lemmas.PieceLemmas.{pieces-nil}
 use Rattle.lbk_words.specs.declared.word.Word.{Word}
 use Rattle.lbk_words.specs.Letters.{has_letter}
 use Rattle.lbk_words.specs.Places.{IsFirstPiece}
-use Rattle.lbk_words.specs.Words.{bytes_of, parts_of, scalars_of, scalars_on, words_among, words_on}
+use Rattle.lbk_words.specs.Words.{AreRising, bytes_of, parts_of, scalars_of, scalars_on, words_among, words_on}
 use Rattle.unicode_segmentation.specs.Segments.{cut}
 
 -- the word that a part is, if it is one
@@ -53,6 +53,20 @@ written-more block count start end true within = take_more_set block count (reco
 written-more block count start end false within =
     ap (λ n. take n (set block count (record { start = start; end = end }))) (let e : count + 0 ≡ count = omega arith in e)
     ∙ take-set block count (record { start = start; end = end }) ∙ sym (append-nil (take count block))
+
+-- words in order, and one more behind them
+rising-wider : (from to further : ℕ) (ws : List Word) → AreRising from to ws → to ≤ further → AreRising from further ws
+rising-wider from to further [] rising on = omega arith
+rising-wider from to further (w ∷ ws) rising on = (rising.0, rising.1, rising-wider w.end to further ws rising.2 on)
+
+rising-more : (from at end : ℕ) (ws : List Word) → AreRising from at ws → at < end → AreRising from end (ws ++ (record { start = at; end = end }) ∷ [])
+rising-more from at end [] rising grows = (rising, grows, omega arith)
+rising-more from at end (w ∷ ws) rising grows = (rising.0, rising.1, rising-more w.end at end ws rising.2 grows)
+
+pub rising-word : (from at end : ℕ) (is_word : Bool) (ws : List Word) → AreRising from at ws → at < end → AreRising from end (ws ++ one_word is_word at end)
+rising-word from at end true ws rising grows = rising-more from at end ws rising grows
+rising-word from at end false ws rising grows =
+    subst (AreRising from end) (sym (append-nil ws)) (rising-wider from at end ws rising (omega arith))
 
 pub from_bool-few : (b : Bool) → from_bool b ≤ 1
 from_bool-few true = omega arith

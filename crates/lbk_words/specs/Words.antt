@@ -1,7 +1,7 @@
 -- The words of any bytes, read as UTF-8: the parts between neighbouring word boundaries (UAX #29, section 4) that have a letter
 -- or a number. Each longest piece of the bytes that begins no scalar is read as U+FFFD (Unicode Standard, section 3.9, table 3-7)
 -- and keeps its own bytes.
-use Rattle.std.specs.Prelude.{ℕ, ◌+◌, List, [], ◌∷◌, drop, length, map, take, if◌then◌else◌}
+use Rattle.std.specs.Prelude.{ℕ, ◌+◌, ◌<◌, ◌≤◌, List, [], ◌∷◌, drop, length, map, take, if◌then◌else◌}
 use Rattle.std.specs.Str.{chars}
 use Rattle.bstr.specs.Utf8.{Decoded, or_replacement, pieces}
 use Rattle.unicode_segmentation.specs.Segments.{cut}
@@ -33,6 +33,11 @@ words_among at reads (part ∷ parts) =
 -- the words of a text that is taken alone from the byte `at` on; their places count from the text's start
 abbrev pub words_on : List ℕ → ℕ → List Word
 words_on text at = words_among at (pieces (drop at text)) (parts_of (scalars_of (pieces (drop at text))))
+
+-- these words stand one after the other between the bytes `from` and `to`, and each has a byte at least
+abbrev pub AreRising : ℕ → ℕ → List Word → Type 0
+AreRising from to [] = from ≤ to
+AreRising from to (word ∷ words) = (from ≤ word.start) × (word.start < word.end) × AreRising word.end to words
 
 -- the words of a text
 abbrev pub words_of : List ℕ → List Word

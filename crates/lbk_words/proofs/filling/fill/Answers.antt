@@ -1,10 +1,10 @@
-use Rattle.std.proofs.Common.{◌≡◌, ◌+◌, ◌++◌, append_assoc, inr, length, take, sym, ap, ◌∙◌, arith}
+use Rattle.std.proofs.Common.{◌≡◌, ◌+◌, ◌++◌, append_assoc, inr, length, take, sym, ap, subst, ◌∙◌, arith}
 use Rattle.std.specs.Int.{from_bool}
 use Rattle.std.proofs.Math.ListN.{length-set, set}
 use Rattle.std.proofs.lemmas.List.{length-take-le}
 use Rattle.lbk_words.specs.declared.word.Word.{Word}
-use Rattle.lbk_words.specs.Words.{words_on}
-use Rattle.lbk_words.proofs.FillLemmas.{from_bool-few, gives, one_word, words-end, words-next, written-more}
+use Rattle.lbk_words.specs.Words.{AreRising, words_on}
+use Rattle.lbk_words.proofs.FillLemmas.{from_bool-few, gives, one_word, rising-word, words-end, words-next, written-more}
 use Rattle.lbk_words.proofs.filling.fill.Goals as goal
 
 pub loop-count-preserved : goal.loop-count-preserved
@@ -20,6 +20,11 @@ loop-count-preserved c =
     record {
       room = omega arith;
       onward = omega (arith, l.invariant.onward);
+      within = λ inside. c.first_piece-piece.ensures.within;
+      rising =
+          subst (AreRising c.args.start piece.end)
+          (sym (written-more l.out l.count l.at piece.end piece.is_word c.loop-count-test.true) ∙ ap (λ n. take (l.count + n) (set l.out l.count word)) (sym counted))
+          (rising-word c.args.start l.at piece.end piece.is_word (take l.count l.out) l.invariant.rising grows);
       stays = λ past. absurd (omega (arith, l.invariant.onward));
       no_room = λ none. absurd (omega arith);
       joined =
