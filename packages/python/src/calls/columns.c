@@ -4,8 +4,8 @@
 
 #include <sys/mman.h>
 
-/* BLOCK is how many breaks are put into the columns at once. From LARGE bytes on a column is worth large pages. */
-enum { BLOCK = 512, LARGE = 1 << 21, PAGE = 1 << 12 };
+/* How many breaks are asked for at once: FEW on the stack, or else MANY. From LARGE bytes on a column is worth large pages. */
+enum { FEW = 128, MANY = 8192, LARGE = 1 << 21, PAGE = 1 << 12 };
 
 /* The breaks of all texts: a column of places, one of kinds and one of rules, each in a bytearray. */
 typedef struct {
@@ -20,6 +20,8 @@ typedef struct {
     size_t count, current;
     cursor start, from;
     int64_t *offsets;
+    lbk_break *block;
+    size_t room;
     columns found;
 } request;
 
@@ -78,14 +80,13 @@ static void split(const lbk_break *restrict block, size_t count, int64_t *restri
 static bool fill(request *request, int64_t *places, uint8_t *kinds, uint8_t *rules)
 {
     columns *found = &request->found;
-    lbk_break block[BLOCK];
     while (request->current < request->count) {
-        size_t room = found->room - found->count < BLOCK ? found->room - found->count : BLOCK;
+        size_t left = found->room - found->count, room = left < request->room ? left : request->room;
         if (room == 0)
             return false;
         const utf8_text *text = &request->texts[request->current];
-        size_t count = next_breaks(request->table, &request->from, text, block, room);
-        split(block, count, places + found->count, kinds + found->count, rules + found->count);
+        size_t count = next_breaks(request->table, &request->from, text, request->block, room);
+        split(request->block, count, places + found->count, kinds + found->count, rules + found->count);
         found->count += count;
         if (count < room) {
             request->from = request->start;
@@ -95,18 +96,12 @@ static bool fill(request *request, int64_t *places, uint8_t *kinds, uint8_t *rul
     return true;
 }
 
-/* Finds the breaks of all texts. Returns false, with an exception set, where memory is refused. */
-static bool find_all(request *request)
+/* Finds the breaks of all texts, of so many bytes. Returns false, with an exception set, where memory is refused. */
+static bool find(request *request, size_t bytes)
 {
     columns *found = &request->found;
-    size_t bytes = 0;
-    for (size_t k = 0; k < request->count; k++)
-        bytes += request->texts[k].size;
     request->from = request->start;
     request->offsets[0] = 0;
-    /* Most texts have a break in three bytes or in more. Memory that is not used is given back. */
-    if (!create(found, bytes / 3 + request->count + 16))
-        return false;
     for (;;) {
         int64_t *places = (int64_t *)PyByteArray_AsString(found->places);
         uint8_t *kinds = (uint8_t *)PyByteArray_AsString(found->kinds);
@@ -119,6 +114,27 @@ static bool find_all(request *request)
         if (all)
             return true;
     }
+}
+
+static bool find_all(request *request)
+{
+    lbk_break few[FEW];
+    size_t bytes = 0;
+    for (size_t k = 0; k < request->count; k++)
+        bytes += request->texts[k].size;
+    /* Most texts have a break in three bytes or in more. Memory that is not used is given back. */
+    if (!create(&request->found, bytes / 3 + request->count + 16))
+        return false;
+    request->room = request->found.room <= FEW ? FEW : MANY;
+    request->block = request->room == FEW ? few : PyMem_Malloc(MANY * sizeof(lbk_break));
+    if (request->block == NULL) {
+        PyErr_NoMemory();
+        return false;
+    }
+    bool is_found = find(request, bytes);
+    if (request->block != few)
+        PyMem_Free(request->block);
+    return is_found;
 }
 
 PyObject *text_columns(PyObject *Py_UNUSED(module), PyObject *const *given, Py_ssize_t count)

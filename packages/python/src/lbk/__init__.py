@@ -16,4 +16,4 @@ from ._numbers import Cause, File, Rule
 from ._results import Columns, Kind, ListColumns
 from ._table import Table
 
-__all__ = ["UNICODE_VERSION", "Break", "Cause", "Columns", "Fault", "File", "Kind", "ListColumns", "Rule", "Table"]
+__all__ = ["UNICODE_VERSION", "Break", "Cause", "Columns", "Fault", "File", "Kind", "ListColumns", "Rule", "Table", "__version__"]

@@ -1,6 +1,7 @@
 """What is found in a text."""
 
 import enum
+from collections.abc import Iterable
 from typing import NamedTuple
 
 from . import _calls
@@ -36,9 +37,9 @@ class ListColumns(NamedTuple):
     rules: bytearray
 
 
-def _members(numbers: type[enum.IntEnum]) -> tuple[int, ...]:
+def _members(numbers: Iterable[int]) -> tuple[int, ...]:
     """For each number of a byte its member, or else the number."""
-    members = numbers._value2member_map_
+    members = {int(number): number for number in numbers}
     return tuple(members.get(number, number) for number in range(256))
 
 

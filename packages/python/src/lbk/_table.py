@@ -5,7 +5,7 @@ import os
 from array import array
 from collections.abc import Iterable, Iterator
 from pathlib import Path
-from typing import Any, TypeAlias, Union, overload
+from typing import Any, Self, TypeAlias, overload
 
 from . import _calls, _database
 from ._calls import Break
@@ -14,9 +14,9 @@ from ._numbers import Cause
 from ._results import Columns, ListColumns
 
 # What `memoryview` takes.
-Bytes: TypeAlias = Union[bytes, bytearray, memoryview, mmap.mmap, "array[int]"]
-Text: TypeAlias = Union[str, Bytes]
-Name: TypeAlias = Union[str, bytes, "os.PathLike[str]", "os.PathLike[bytes]"]
+Bytes: TypeAlias = "bytes | bytearray | memoryview | mmap.mmap | array[int]"
+Text: TypeAlias = "str | Bytes"
+Name: TypeAlias = "str | bytes | os.PathLike[str] | os.PathLike[bytes]"
 
 _new = tuple.__new__
 
@@ -34,20 +34,20 @@ class Table:
     """
 
     __slots__ = ("_memory", "_name")
-    _memory: Union[bytearray, mmap.mmap]
-    _name: Union[str, None]
+    _memory: bytearray | mmap.mmap
+    _name: str | None
 
     def __init__(self) -> None:
         raise TypeError("a Table is made by load, from_files, read, from_bytes or open")
 
     @classmethod
-    def _of(cls, memory: Union[bytearray, mmap.mmap], name: Union[str, None] = None) -> "Table":
+    def _of(cls, memory: bytearray | mmap.mmap, name: str | None = None) -> Self:
         table = object.__new__(cls)
         table._memory, table._name = memory, name
         return table
 
     @classmethod
-    def load(cls, folder: _database.Folder) -> "Table":
+    def load(cls, folder: _database.Folder) -> Self:
         """The table of the Unicode Character Database in a folder: LineBreak.txt, EastAsianWidth.txt,
         extracted/DerivedGeneralCategory.txt and emoji/emoji-data.txt, or all four beside each other, in the folder or in its
         folder `ucd`; or in the archive UCD.zip.
@@ -57,12 +57,12 @@ class Table:
         return cls.read(*_database.contents(folder))
 
     @classmethod
-    def from_files(cls, line_break: Name, east_asian: Name, category: Name, emoji: Name) -> "Table":
+    def from_files(cls, line_break: Name, east_asian: Name, category: Name, emoji: Name) -> Self:
         """The table of four files of one's own, given by their names. Raises OSError and Fault as `load` does."""
         return cls.read(*(Path(os.fsdecode(name)).read_bytes() for name in (line_break, east_asian, category, emoji)))
 
     @classmethod
-    def read(cls, line_break: Bytes, east_asian: Bytes, category: Bytes, emoji: Bytes) -> "Table":
+    def read(cls, line_break: Bytes, east_asian: Bytes, category: Bytes, emoji: Bytes) -> Self:
         """The table of the contents of four files. Raises Fault at the first fault that they have, and MemoryError where
         memory is refused."""
         memory = bytearray(_calls.TABLE_SIZE)
@@ -74,14 +74,14 @@ class Table:
         return cls._of(memory)
 
     @classmethod
-    def from_bytes(cls, data: Bytes) -> "Table":
+    def from_bytes(cls, data: Bytes) -> Self:
         """The table of the bytes that `to_bytes` returned. Raises ValueError where they are no whole table of this version."""
         memory = bytearray(memoryview(data))
         _check(memory, "the bytes")
         return cls._of(memory)
 
     @classmethod
-    def open(cls, name: Name) -> "Table":
+    def open(cls, name: Name) -> Self:
         """The table that `save` put into a file, which is mapped, so that the processes of a machine share its memory.
 
         Raises OSError where the file cannot be read, and ValueError where it is no whole table of this version.
@@ -139,16 +139,16 @@ class Table:
         # The layout and the digest, which stand first.
         return hash(bytes(self._memory[:16]))
 
-    def __copy__(self) -> "Table":
+    def __copy__(self) -> Self:
         return self
 
-    def __deepcopy__(self, _: object) -> "Table":
+    def __deepcopy__(self, _: object) -> Self:
         return self
 
     def __reduce__(self) -> tuple[Any, ...]:
         return (Table.open, (self._name,)) if self._name is not None else (Table.from_bytes, (self.to_bytes(),))
 
 
-def _check(memory: Union[bytearray, mmap.mmap], what: str) -> None:
+def _check(memory: bytearray | mmap.mmap, what: str) -> None:
     if len(memory) != _calls.TABLE_SIZE or not _calls.check(memory):
         raise ValueError(f"{what} is no whole table of this version")
