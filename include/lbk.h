@@ -18,16 +18,18 @@
  * lbk_read takes memory from the heap, and lbk_read gives back what it took.
  *
  * Threads. The library has no variables. Any number of calls may use one table at the same time, as long as none of them
- * writes it; only lbk_read writes a table, and lbk_breaks writes only its state and its block.
+ * writes it; only lbk_read writes a table, lbk_breaks writes only its state and its block, and lbk_feed only its stream and
+ * its block.
  *
  * What a caller owes, and all that a caller owes:
  *   - A pointer that comes with a length has at least as many bytes (as many breaks, for a block) behind it. Where the
  *     length is 0 the pointer may be null. No length is over PTRDIFF_MAX bytes, as no object of C is.
- *   - A table and a state are not null, and are aligned as C aligns objects of their types.
- *   - What a call writes (the table of lbk_read; the state and the block of lbk_breaks) overlaps nothing else that the call
+ *   - A table, a state and a stream are not null, and are aligned as C aligns objects of their types.
+ *   - What a call writes (the table of lbk_read; the state or the stream, and the block) overlaps nothing else that the call
  *     is given, and nobody else uses it during the call.
- * Nothing else can hurt: whatever bytes the files, the text, the table and the state have, each call returns, and reads and
- * writes nothing but what it was given. A table or a state with made-up bytes gives made-up breaks, and no more.
+ * Nothing else can hurt: whatever bytes the files, the text, the table, the state and the stream have, each call returns, and
+ * reads and writes nothing but what it was given. A table, a state or a stream with made-up bytes gives made-up breaks, and no
+ * more.
  *
  * C99 and later, and C++. 64-bit targets alone.
  */
@@ -157,13 +159,33 @@ typedef struct lbk_table {
 
 /* How far the breaks of a text were asked for. All zeros are the start of a text in the first profile; set profile for the
  * second. A state is a value: it may be copied, be kept, and be gone back to. It holds of the text that it was used with, and
- * of each that has the same bytes. */
+ * of each that has the same bytes from `at` on and as many before them, whatever these are. */
 typedef struct lbk_state {
     size_t at;       /* up to this byte of the text, not counting it, scalars were taken */
     uint16_t row;    /* what is known of them: a number of the table's */
     uint8_t profile; /* LBK_FIRST or LBK_SECOND; no call changes it */
     uint8_t ended;   /* 0, or else nothing more is to come, and lbk_breaks answers 0 */
 } lbk_state;
+
+/* How far a text was taken that comes in pieces. All zeros are its start in the first profile; set profile for the second. A
+ * stream is a value: it may be copied, be kept, and be gone back to. It has no pointers, and no earlier piece is needed again.
+ * Callers read `at`, `ended` and `cut_size`, and write `profile` at the start; the others are numbers of the library's own. */
+typedef struct lbk_stream {
+    uint64_t at;        /* up to this byte of the stream, not counting it, scalars were taken */
+    uint64_t held_at;   /* the one place that waits for what follows, where there is one; in the second profile alone */
+    uint16_t row;       /* what is known of the scalars that were taken: a number of the table's */
+    uint16_t held_code; /* the break that is due at held_at if what follows leaves the quotation open; 0: no place waits */
+    uint8_t cut[4];     /* the bytes behind `at` that came already, as those of a scalar that a piece's end cut */
+    uint8_t cut_size;   /* how many these are */
+    uint8_t profile;    /* LBK_FIRST or LBK_SECOND; no call changes it */
+    uint8_t ended;      /* 0, or else nothing more is to come */
+} lbk_stream;
+
+/* What lbk_feed did. */
+typedef struct lbk_fed {
+    size_t taken; /* how many bytes of the piece were taken; the others have to be given again, in front of what follows */
+    size_t count; /* how many breaks stand in the front of the block */
+} lbk_fed;
 
 /* A place of a text where a line may or must end. */
 typedef struct lbk_break {
@@ -206,6 +228,44 @@ lbk_fault lbk_read(lbk_table *table, const void *line_break, size_t line_break_s
  * its places may be written. Takes no memory from the heap. */
 size_t lbk_breaks(const lbk_table *table, lbk_state *state, const char *text, size_t size, lbk_break *block, size_t room);
 
+/* The same for a text that comes in pieces of any size, as from a socket: takes the next piece of a stream, and puts the breaks
+ * that it settles into the front of a block with room for `room` breaks.
+ *
+ *     lbk_stream stream = {0};
+ *     char piece[4096];
+ *     lbk_break block[64];
+ *     bool last;
+ *     do {
+ *         ssize_t size = read(socket, piece, sizeof piece);    0 at the end
+ *         if (size < 0) ..
+ *         last = size == 0;
+ *         size_t from = 0;
+ *         lbk_fed fed;
+ *         do {
+ *             fed = lbk_feed(&table, &stream, piece + from, (size_t)size - from, last, block, 64);
+ *             from += fed.taken;
+ *             for (size_t k = 0; k < fed.count; k++)
+ *                 .. block[k].at, block[k].kind, block[k].rule ..
+ *         } while (fed.count == 64);
+ *     } while (!last);
+ *
+ * However the text is cut into pieces, and whatever room each call has, the breaks of all calls are those that lbk_breaks
+ * gives of the joined pieces, each once and in the same order; `at` counts from the start of the stream. A piece may be empty,
+ * and may end within a scalar. `last` says that nothing follows the piece: the rest is decided then, the end too.
+ *
+ * Fewer breaks than `room` say that the whole piece was taken, and after `last` that these were all; later calls then give 0
+ * and take all that they are given. Where the block is full, call again with the rest of the piece (it may be empty) and the
+ * same `last`.
+ *
+ * A break is given by the call that brings what settles it: the whole of the scalar behind it. Where a closing quotation mark
+ * stands behind it, the second profile may need the next scalar too that is no combining mark; at most one place waits so.
+ *
+ * Takes nothing and leaves the stream as it is where `room` is 0. Gives no break and takes all where the stream's profile is
+ * none of the two. A stream has fewer than 2^64 bytes. What the block has behind the breaks that are given is not specified.
+ * Takes no memory from the heap. */
+lbk_fed lbk_feed(const lbk_table *table, lbk_stream *stream, const char *piece, size_t size, bool last, lbk_break *block,
+                 size_t room);
+
 /* The name of a rule by its number; an empty name for a number that no rule has. */
 lbk_rule_label lbk_label(uint8_t rule);
 
@@ -225,6 +285,8 @@ bool lbk_check(const lbk_table *table);
 LBK_ASSERT(a_size_has_64_bits, sizeof(size_t) == 8);
 LBK_ASSERT(a_step_has_4_bytes, sizeof(lbk_step) == 4);
 LBK_ASSERT(a_state_has_16_bytes, sizeof(lbk_state) == 16);
+LBK_ASSERT(a_stream_has_32_bytes, sizeof(lbk_stream) == 32);
+LBK_ASSERT(a_fed_has_16_bytes, sizeof(lbk_fed) == 16);
 LBK_ASSERT(a_break_has_16_bytes, sizeof(lbk_break) == 16);
 LBK_ASSERT(a_fault_has_12_bytes, sizeof(lbk_fault) == 12);
 LBK_ASSERT(a_label_has_4_bytes, sizeof(lbk_rule_label) == 4);

@@ -42,13 +42,13 @@ onward-marks profile cell before at p (q ∷ qs) =
     let next = at + p.size in
     ap (with_break next (verdict_between_in profile (map cell on) (map cell (scalars_of (q ∷ qs))))) (onward-marks profile cell on next q qs)
 
-onward-start : (profile : Profile) (cell : ℕ → Cell) (ps : List Decoded) → breaks_after 0 ps (marks profile cell (scalars_of ps)) ≡ onward profile cell [] 0 ps
+pub onward-start : (profile : Profile) (cell : ℕ → Cell) (ps : List Decoded) → breaks_after 0 ps (marks profile cell (scalars_of ps)) ≡ onward profile cell [] 0 ps
 onward-start profile cell [] = sym (ap (λ (v : Verdict). with_break 0 v []) (start_of_text profile []))
 onward-start profile cell (p ∷ ps) =
     onward-marks profile cell [] 0 p ps
     ∙ sym (ap (λ (v : Verdict). with_break 0 v (onward profile cell (or_replacement p.char ∷ []) (0 + p.size) ps)) (start_of_text profile (map cell (scalars_of (p ∷ ps)))))
 
-profile-same : (profile : Profile) → profile_numbered (profile_number profile) ≡ Some profile
+pub profile-same : (profile : Profile) → profile_numbered (profile_number profile) ≡ Some profile
 profile-same First = refl
 profile-same Second = refl
 
@@ -150,7 +150,7 @@ Reached-end profile cell lefts text all here given ends r =
 
 -- Some more given
 
-zero_or : (n : ℕ) → (n ≡ 0) ⊎ (0 < n)
+pub zero_or : (n : ℕ) → (n ≡ 0) ⊎ (0 < n)
 zero_or zero = inl refl
 zero_or (suc n) = inr (omega arith)
 
@@ -171,7 +171,7 @@ gives to_come front more count room joined many within full = record {
 }
 
 -- how many are in the front of a block
-given-many : (block : List RawBreak) (count : ℕ) → count ≤ length block → length (given_in block count) ≡ count
+pub given-many : (block : List RawBreak) (count : ℕ) → count ≤ length block → length (given_in block count) ≡ count
 given-many block count within = length-map (take count block) shown ∙ length-take-le count block within
 
 -- the block is full

@@ -1,8 +1,14 @@
 pub mod AheadLemmas
+pub mod CutLemmas
+pub mod FeedLemmas
 pub mod LabelLemmas
 pub mod LoopLemmas
+pub mod OpenLemmas
 pub mod PieceLemmas
 pub mod ReachedLemmas
+pub mod StandsLemmas
+pub mod SkimLemmas
 pub mod StepLemmas
+pub mod StreamLemmas
 pub mod TableLemmas
 pub mod ComingLemmas

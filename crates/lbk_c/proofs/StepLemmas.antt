@@ -93,7 +93,7 @@ steps-here lefts table cell row c one other flat scalar starts is_one is_other =
     subst (λ s. IsFlatStep lefts (left_at lefts row) (kind_cell kind) one s) (sym is_other) by_one
 
 -- 15b alone is held
-held-15b : is_15b (verdict_coded HELD).rule ≡ true
+pub held-15b : is_15b (verdict_coded HELD).rule ≡ true
 unfolding verdict_coded
 held-15b = refl
 

@@ -21,7 +21,7 @@ use lbk_rules::Profile;
 use lbk_steps::FlatTable;
 
 /// The number of the verdict at a text's end, by rule 3.
-const END: u16 = 256 + 2;
+pub(crate) const END: u16 = 256 + 2;
 
 /// Puts the next breaks of a text (UAX #14, section 3) into the front of the block, from the state on, and answers how many:
 /// as many as the block holds, or all that are left. The text may be any bytes: each longest piece that begins no scalar is
@@ -120,7 +120,7 @@ fn put_end(out: &mut [RawBreak], count: usize, len: usize) -> usize
 }
 
 /// The profile of a number: 0 for the first, 1 for the second. None comes for any other.
-fn profile_numbered(number: u8) -> Option<Profile>
+pub(crate) fn profile_numbered(number: u8) -> Option<Profile>
     ensures { result ≡ profile_numbered number }
 {
     match number {

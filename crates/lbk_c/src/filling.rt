@@ -46,10 +46,10 @@ pub(crate) fn fill(
     here
 }
 
-/// The same until a scalar of four bytes, ill-formed bytes or a held position. It calls nothing, so that all it has stays
-/// in registers.
+/// The same until a scalar of four bytes, ill-formed bytes or a held position, whatever may follow the text. It calls
+/// nothing, so that all it has stays in registers.
 #[inline(never)]
-fn quick(
+pub(crate) fn quick(
     kinds: &[u8; CODES],
     steps: &[FlatStep; STEPS],
     start: FillState,
@@ -60,9 +60,9 @@ fn quick(
     ensures within { (result.count ≤ length out.old) × (result.row < 65536) × (result.at ≤ length text.now) }
     ensures onward { start.at ≤ result.at }
     ensures no_room { length out.old ≡ 0 → result ≡ start }
-    ensures reached { (profile : Profile) (cell : ℕ → Cell) (lefts : List Left) (all : List Break) → AreSwift profile lefts steps.now → AreFlatKinds kinds.now cell
-        → Reached profile cell lefts text.now all start (given_in out.old start.count)
-        → Reached profile cell lefts text.now all result (given_in out.new result.count) }
+    ensures reached { (profile : Profile) (cell : ℕ → Cell) (lefts : List Left) (more : List ℕ) (all : List Break) → AreSwift profile lefts steps.now → AreFlatKinds kinds.now cell
+        → Reached profile cell lefts (text.now ++ more) all start (given_in out.old start.count)
+        → Reached profile cell lefts (text.now ++ more) all result (given_in out.new result.count) }
 {
     let mut from = start.at;
     let mut here = runs(kinds, steps, start, text, out);
@@ -86,9 +86,9 @@ fn runs(
     ensures within { (result.count ≤ length out.old) × (result.row < 65536) × (result.at ≤ length text.now) }
     ensures onward { start.at ≤ result.at }
     ensures no_room { length out.old ≡ 0 → result ≡ start }
-    ensures reached { (profile : Profile) (cell : ℕ → Cell) (lefts : List Left) (all : List Break) → AreSwift profile lefts steps.now → AreFlatKinds kinds.now cell
-        → Reached profile cell lefts text.now all start (given_in out.old start.count)
-        → Reached profile cell lefts text.now all result (given_in out.new result.count) }
+    ensures reached { (profile : Profile) (cell : ℕ → Cell) (lefts : List Left) (more : List ℕ) (all : List Break) → AreSwift profile lefts steps.now → AreFlatKinds kinds.now cell
+        → Reached profile cell lefts (text.now ++ more) all start (given_in out.old start.count)
+        → Reached profile cell lefts (text.now ++ more) all result (given_in out.new result.count) }
 {
     let behind_one = run(Width::One, kinds, steps, start, text, out);
     let behind_two = run(Width::Two, kinds, steps, behind_one, text, out);
@@ -110,9 +110,9 @@ fn run(
     ensures within { (result.count ≤ length out.old) × (result.row < 65536) × (result.at ≤ length text.now) }
     ensures onward { start.at ≤ result.at }
     ensures no_room { length out.old ≡ 0 → result ≡ start }
-    ensures reached { (profile : Profile) (cell : ℕ → Cell) (lefts : List Left) (all : List Break) → AreSwift profile lefts steps.now → AreFlatKinds kinds.now cell
-        → Reached profile cell lefts text.now all start (given_in out.old start.count)
-        → Reached profile cell lefts text.now all result (given_in out.new result.count) }
+    ensures reached { (profile : Profile) (cell : ℕ → Cell) (lefts : List Left) (more : List ℕ) (all : List Break) → AreSwift profile lefts steps.now → AreFlatKinds kinds.now cell
+        → Reached profile cell lefts (text.now ++ more) all start (given_in out.old start.count)
+        → Reached profile cell lefts (text.now ++ more) all result (given_in out.new result.count) }
 {
     let mut count = start.count;
     let mut row = start.row;
@@ -165,6 +165,7 @@ fn take_one(
 pub(crate) fn put(out: &mut [RawBreak], count: usize, at: usize, code: u16) -> usize
     requires { count < length out.old }
     ensures within { result ≤ length out.old }
+    ensures forward { count ≤ result }
     ensures front { IsCode code → given_in out.new result ≡ given_in out.old count ++ with_break at (verdict_coded code) [] }
 {
     let place = &mut out[count];

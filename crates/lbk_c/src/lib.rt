@@ -7,16 +7,26 @@
 
 mod ahead;
 mod breaking;
+mod cutting;
 mod decoding;
 mod faults;
+mod feeding;
 mod fill_state;
 mod filling;
 mod interface;
 mod labels;
+mod laws;
+mod skimming;
 mod steps;
+mod stream;
+mod streaming;
 mod table_reading;
+mod taking;
 
 pub use breaking::lbk_breaks;
 pub use interface::{Fault, RawBreak, RuleLabel, State};
 pub use labels::lbk_label;
+pub use laws::{bytes_that_could_go_on, only_bytes_from_a_state_on};
+pub use stream::{Fed, Stream};
+pub use streaming::lbk_feed;
 pub use table_reading::{lbk_check, lbk_read};

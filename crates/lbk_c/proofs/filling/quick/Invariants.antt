@@ -1,4 +1,4 @@
-use Rattle.std.proofs.Common.{◌≡◌, ◌-◌, ◌<◌, ◌≤◌, ℕ, List, length}
+use Rattle.std.proofs.Common.{◌≡◌, ◌-◌, ◌<◌, ◌≤◌, ◌++◌, ℕ, List, length}
 use Rattle.lbk_rules.specs.declared.breaks.Break.{Break}
 use Rattle.lbk_rules.specs.declared.cells.Cell.{Cell}
 use Rattle.lbk_rules.specs.declared.facts.Left.{Left}
@@ -16,9 +16,9 @@ invariant-loop-from l = record {
   onward : l.fn.start.at ≤ l.from;
   ahead : l.from ≤ l.here.at;
   no_room : length l.out ≡ 0 → l.here ≡ l.fn.start;
-  reached : (profile : Profile) (cell : ℕ → Cell) (lefts : List Left) (all : List Break) → AreSwift profile lefts l.steps → AreFlatKinds l.kinds cell
-      → Reached profile cell lefts l.text all l.fn.start (given_in l.fn.out l.fn.start.count)
-      → Reached profile cell lefts l.text all l.here (given_in l.out l.here.count);
+  reached : (profile : Profile) (cell : ℕ → Cell) (lefts : List Left) (more : List ℕ) (all : List Break) → AreSwift profile lefts l.steps → AreFlatKinds l.kinds cell
+      → Reached profile cell lefts (l.text ++ more) all l.fn.start (given_in l.fn.out l.fn.start.count)
+      → Reached profile cell lefts (l.text ++ more) all l.here (given_in l.out l.here.count);
 }
 
 abbrev pub decreases-loop-from : goal.decreases-loop-from

@@ -1,4 +1,5 @@
-use Rattle.std.proofs.Common.{arith}
+use Rattle.std.proofs.Common.{◌++◌, length-append, arith}
+use Rattle.lbk_c.proofs.CutLemmas.{reads-more}
 use Rattle.lbk_c.proofs.LoopLemmas.{Reached-swift}
 use Rattle.lbk_c.proofs.PieceLemmas.{reads}
 use Rattle.lbk_c.proofs.filling.run.Goals as goal
@@ -31,7 +32,9 @@ loop-count-preserved c =
       within = r.within;
       onward = omega (arith, l.invariant.onward);
       no_room = λ none. absurd (omega arith);
-      reached = λ profile cell lefts all swift are_kinds start.
-          Reached-swift profile cell lefts c.args.text.now all c.args.steps.now c.args.kinds.now l.out put.new.out l.count put.result l.row l.at s.code s.size step
-          swift are_kinds r inside c.step_at-step.ensures c.if-step-eq-HELD.false put.ensures.front (l.invariant.reached profile cell lefts all swift are_kinds start);
+      reached = λ profile cell lefts more all swift are_kinds start.
+          let text = c.args.text.now in
+          Reached-swift profile cell lefts (text ++ more) all c.args.steps.now c.args.kinds.now l.out put.new.out l.count put.result l.row l.at s.code s.size step
+          swift are_kinds (reads-more text more l.at s.code s.size inside r) (omega (arith, length-append text more)) c.step_at-step.ensures c.if-step-eq-HELD.false
+          put.ensures.front (l.invariant.reached profile cell lefts more all swift are_kinds start);
     }

@@ -1,4 +1,4 @@
-use Rattle.std.proofs.Common.{◌≡◌, ◌-◌, ◌<◌, ◌≤◌, ℕ, List, length}
+use Rattle.std.proofs.Common.{◌≡◌, ◌-◌, ◌<◌, ◌≤◌, ◌++◌, ℕ, List, length}
 use Rattle.lbk_rules.specs.declared.breaks.Break.{Break}
 use Rattle.lbk_rules.specs.declared.cells.Cell.{Cell}
 use Rattle.lbk_rules.specs.declared.facts.Left.{Left}
@@ -15,9 +15,9 @@ invariant-loop-count l = record {
   within : l.at ≤ length l.text;
   onward : l.initial.at ≤ l.at;
   no_room : length l.initial.out ≡ 0 → (l.count ≡ l.initial.count) × (l.row ≡ l.initial.row) × (l.at ≡ l.initial.at);
-  reached : (profile : Profile) (cell : ℕ → Cell) (lefts : List Left) (all : List Break) → AreSwift profile lefts l.steps → AreFlatKinds l.kinds cell
-      → Reached profile cell lefts l.text all (record { count = l.initial.count; row = l.initial.row; at = l.initial.at }) (given_in l.initial.out l.initial.count)
-      → Reached profile cell lefts l.text all (record { count = l.count; row = l.row; at = l.at }) (given_in l.out l.count);
+  reached : (profile : Profile) (cell : ℕ → Cell) (lefts : List Left) (more : List ℕ) (all : List Break) → AreSwift profile lefts l.steps → AreFlatKinds l.kinds cell
+      → Reached profile cell lefts (l.text ++ more) all (record { count = l.initial.count; row = l.initial.row; at = l.initial.at }) (given_in l.initial.out l.initial.count)
+      → Reached profile cell lefts (l.text ++ more) all (record { count = l.count; row = l.row; at = l.at }) (given_in l.out l.count);
 }
 
 abbrev pub decreases-loop-count : goal.decreases-loop-count
