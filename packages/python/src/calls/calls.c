@@ -4,6 +4,7 @@
 #include "columns.h"
 #include "found.h"
 #include "state.h"
+#include "stream.h"
 
 /* read(table, line_break, east_asian, category, emoji): fills a writable table, and returns (file, line, cause). */
 static PyObject *read_files(PyObject *Py_UNUSED(module), PyObject *const *given, Py_ssize_t count)
@@ -77,6 +78,8 @@ static PyMethodDef methods[] = {
     {"name_numbers", (PyCFunction)(void (*)(void))name_numbers, METH_FASTCALL, NULL},
     {"columns", (PyCFunction)(void (*)(void))text_columns, METH_FASTCALL, NULL},
     {"list_columns", (PyCFunction)(void (*)(void))list_columns, METH_FASTCALL, NULL},
+    {"new_stream", new_stream, METH_O, NULL},
+    {"feed", (PyCFunction)(void (*)(void))feed, METH_FASTCALL, NULL},
     {NULL, NULL, 0, NULL},
 };
 

@@ -15,9 +15,7 @@ bool start_of_text(PyObject *profile, cursor *start)
     return true;
 }
 
-/* How many code points begin in well-formed bytes: the bytes that are no continuation, which are 10xxxxxx in binary. So many
- * bytes may be read as are `readable`, of which `size` are counted. */
-static size_t code_points(const char *bytes, size_t size, size_t readable)
+size_t code_points(const char *bytes, size_t size, size_t readable)
 {
     const uint64_t ones = UINT64_C(0x0101010101010101);
     size_t count = 0;

@@ -14,6 +14,10 @@ typedef struct {
 /* The start of a text in a profile, 1 or 2. Returns false, with an exception set, for anything else. */
 bool start_of_text(PyObject *profile, cursor *start);
 
+/* How many code points begin in well-formed bytes: the bytes that are no continuation, which are 10xxxxxx in binary. So many
+ * bytes may be read as are `readable`, of which `size` are counted. */
+size_t code_points(const char *bytes, size_t size, size_t readable);
+
 /* As lbk_breaks, with each `at` in the unit of the text. */
 size_t next_breaks(const lbk_table *table, cursor *from, const utf8_text *text, lbk_break *block, size_t room);
 

@@ -14,6 +14,7 @@ from ._calls import VERSION as __version__
 from ._fault import Fault
 from ._numbers import Cause, File, Rule
 from ._results import Columns, Kind, ListColumns
+from ._stream import Stream
 from ._table import Table
 
-__all__ = ["UNICODE_VERSION", "Break", "Cause", "Columns", "Fault", "File", "Kind", "ListColumns", "Rule", "Table", "__version__"]
+__all__ = ["UNICODE_VERSION", "Break", "Cause", "Columns", "Fault", "File", "Kind", "ListColumns", "Rule", "Stream", "Table", "__version__"]
