@@ -81,7 +81,7 @@ impl From<calls::Break> for Break {
 }
 
 /// How many breaks are asked for at once.
-const ROOM: usize = 32;
+const ROOM: usize = 64;
 
 /// The breaks of a text in their order. A copy goes on by itself.
 #[derive(Clone)]
@@ -89,9 +89,10 @@ pub struct Breaks<'a> {
     table: &'a Table,
     text: &'a [u8],
     state: calls::State,
+    /// The next break is that of the block.
     next: usize,
+    /// So many breaks the block has. They are the last ones where it has room for more.
     count: usize,
-    /// The first `count` are there.
     block: MaybeUninit<[calls::Break; ROOM]>,
 }
 
@@ -108,12 +109,14 @@ impl<'a> Breaks<'a> {
             table,
             text,
             state,
-            next: 0,
-            count: 0,
+            // As if a full block had been used up.
+            next: ROOM,
+            count: ROOM,
             block: MaybeUninit::uninit(),
         }
     }
 
+    #[inline]
     fn fill(&mut self) {
         // SAFETY: the text and the block are as long as is said, and the state and the block are borrowed by nobody else.
         let count = unsafe {
@@ -137,12 +140,14 @@ impl Iterator for Breaks<'_> {
     #[inline]
     fn next(&mut self) -> Option<Break> {
         if self.next == self.count {
-            self.fill();
-            if self.count == 0 {
+            if self.count == ROOM {
+                self.fill();
+            }
+            if self.next == self.count {
                 return None;
             }
         }
-        // SAFETY: the block has `count` breaks, and `next` is below that.
+        // SAFETY: the call wrote the first `count` breaks of the block, and `next` is below that.
         let found = unsafe { *self.block.as_ptr().cast::<calls::Break>().add(self.next) };
         self.next += 1;
         Some(found.into())
@@ -181,10 +186,12 @@ pub struct Segment<'a> {
 
 /// The segments of a text between its breaks, in their order.
 #[derive(Clone, Debug)]
+// In this order, since a zero behind the block of the breaks would have the compiler write zeros all over it.
+#[repr(C)]
 pub struct Segments<'a> {
     text: &'a str,
-    breaks: Breaks<'a>,
     start: usize,
+    breaks: Breaks<'a>,
 }
 
 impl<'a> Segments<'a> {

@@ -117,7 +117,7 @@ pub struct Aligned<Bytes: ?Sized>(pub Bytes);
 
 /// `include_bytes!` for a saved table: the bytes of a file, as a `&'static [u8]` that begins at a multiple of 8 bytes.
 ///
-/// ```ignore
+/// ```text
 /// // build.rs writes the bytes of a table to the file `table` of OUT_DIR
 /// static BYTES: &[u8] = lbk::include_bytes_aligned!(concat!(env!("OUT_DIR"), "/table"));
 /// let table = lbk::Table::of_bytes(BYTES).expect("build.rs wrote a table");
@@ -125,7 +125,7 @@ pub struct Aligned<Bytes: ?Sized>(pub Bytes);
 #[macro_export]
 macro_rules! include_bytes_aligned {
     ($file:expr $(,)?) => {{
-        static HELD: &$crate::Aligned<[u8]> = &$crate::Aligned(*include_bytes!($file));
+        const HELD: &$crate::Aligned<[u8]> = &$crate::Aligned(*include_bytes!($file));
         &HELD.0
     }};
 }
