@@ -297,93 +297,107 @@ private:
 #endif
 };
 
-/// The breaks of a text in their order: a view that can be gone through any number of times.
-class breaks {
+namespace detail {
+
+/// A place among what a call of the library gives, a block at a time. Copies go on by themselves. It holds what was asked for at
+/// once, and gives it by value.
+template <typename Call>
+class iterator {
 public:
-    /// A place in the range. Copies go on by themselves. It holds a few breaks that were asked for at once, and gives them by value.
-    class iterator {
+    using value_type = typename Call::value_type;
+
+    /// What `it->` goes by.
+    class arrow {
     public:
-        /// What `it->at` goes by.
-        class arrow {
-        public:
-            const lbk_break *operator->() const noexcept { return &found_; }
-
-        private:
-            friend class iterator;
-
-            lbk_break found_;
-
-            explicit arrow(lbk_break found) noexcept : found_(found) {}
-        };
-
-        using iterator_concept = std::forward_iterator_tag;
-        using iterator_category = std::input_iterator_tag;
-        using value_type = lbk_break;
-        using difference_type = std::ptrdiff_t;
-        using pointer = arrow;
-        using reference = lbk_break;
-
-        /// The end of any range.
-        iterator() noexcept = default;
-
-        lbk_break operator*() const noexcept { return block_[next_]; }
-        arrow operator->() const noexcept { return arrow(**this); }
-
-        iterator &operator++() noexcept
-        {
-            if (++next_ == count_)
-                fill();
-            return *this;
-        }
-
-        iterator operator++(int) noexcept
-        {
-            iterator before = *this;
-            ++*this;
-            return before;
-        }
-
-        /// Of two places in one range: whether they are at the same break, or both at the end.
-        friend bool operator==(const iterator &a, const iterator &b) noexcept
-        {
-            if (a.count_ == 0 || b.count_ == 0)
-                return a.count_ == b.count_;
-            return a.block_[a.next_].at == b.block_[b.next_].at;
-        }
-
-        friend bool operator!=(const iterator &a, const iterator &b) noexcept { return !(a == b); }
+        const value_type *operator->() const noexcept { return &found_; }
 
     private:
-        friend class breaks;
+        friend class iterator;
 
-        static constexpr std::size_t room = 12;
+        value_type found_;
 
-        const lbk_table *table_ = nullptr;
-        const char *text_ = nullptr;
-        std::size_t size_ = 0;
-        lbk_state state_ = {0, 0, LBK_FIRST, 0};
-        std::uint32_t next_ = 0, count_ = 0;
-        lbk_break block_[room];
-
-        iterator(const lbk_table *by, std::string_view text, profile rules) noexcept
-            : table_(by), text_(text.data()), size_(text.size())
-        {
-            state_.profile = static_cast<std::uint8_t>(rules);
-            fill();
-        }
-
-        void fill() noexcept
-        {
-            next_ = 0;
-            count_ = static_cast<std::uint32_t>(lbk_breaks(table_, &state_, text_, size_, block_, room));
-        }
+        explicit arrow(value_type found) noexcept : found_(found) {}
     };
 
+    using iterator_concept = std::forward_iterator_tag;
+    using iterator_category = std::input_iterator_tag;
+    using difference_type = std::ptrdiff_t;
+    using pointer = arrow;
+    using reference = value_type;
+
+    /// The end of any range.
+    iterator() noexcept = default;
+
+    explicit iterator(Call call) noexcept : call_(call) { fill(); }
+
+    value_type operator*() const noexcept { return block_[next_]; }
+    arrow operator->() const noexcept { return arrow(**this); }
+
+    iterator &operator++() noexcept
+    {
+        if (++next_ == count_)
+            fill();
+        return *this;
+    }
+
+    iterator operator++(int) noexcept
+    {
+        iterator before = *this;
+        ++*this;
+        return before;
+    }
+
+    /// Of two places in one range: whether they are the same, or both the end.
+    friend bool operator==(const iterator &a, const iterator &b) noexcept
+    {
+        if (a.count_ == 0 || b.count_ == 0)
+            return a.count_ == b.count_;
+        return Call::is_same(a.block_[a.next_], b.block_[b.next_]);
+    }
+
+    friend bool operator!=(const iterator &a, const iterator &b) noexcept { return !(a == b); }
+
+private:
+    static constexpr std::size_t room = 12;
+
+    Call call_;
+    std::uint32_t next_ = 0, count_ = 0;
+    value_type block_[room];
+
+    void fill() noexcept
+    {
+        next_ = 0;
+        count_ = static_cast<std::uint32_t>(call_(block_, room));
+    }
+};
+
+} // namespace detail
+
+/// The breaks of a text in their order: a view that can be gone through any number of times.
+class breaks {
+    struct call {
+        using value_type = lbk_break;
+
+        const lbk_table *table = nullptr;
+        const char *text = nullptr;
+        std::size_t size = 0;
+        lbk_state state = {0, 0, LBK_FIRST, 0};
+
+        std::size_t operator()(lbk_break *block, std::size_t room) noexcept
+        {
+            return lbk_breaks(table, &state, text, size, block, room);
+        }
+
+        static bool is_same(lbk_break a, lbk_break b) noexcept { return a.at == b.at; }
+    };
+
+public:
+    using iterator = detail::iterator<call>;
     using const_iterator = iterator;
     using value_type = lbk_break;
 
     breaks(const lbk_table &by, std::string_view text, profile rules = profile::first) noexcept
-        : table_(&by), text_(text), rules_(rules)
+        : start_{&by, text.data(), text.size(), {0, 0, static_cast<std::uint8_t>(rules), 0}}
     {
     }
 
@@ -393,13 +407,11 @@ public:
     template <typename Text, typename = std::enable_if_t<std::is_same_v<Text, std::string>>>
     breaks(const lbk_table &, Text &&, profile = profile::first) = delete;
 
-    iterator begin() const noexcept { return iterator(table_, text_, rules_); }
+    iterator begin() const noexcept { return iterator(start_); }
     iterator end() const noexcept { return iterator(); }
 
 private:
-    const lbk_table *table_;
-    std::string_view text_;
-    profile rules_;
+    call start_;
 };
 
 /// The name of a rule without `LB`, as "8a"; empty for a number that no rule has.
