@@ -57,9 +57,12 @@ export class Table {
    */
   static fromBytes(saved: Source, module?: Source): Promise<Table>;
 
-  /** The breaks of a text, in their order. The last is the text's end; an empty text has none. */
+  /**
+   * The breaks of a text, in their order. The last is the text's end; an empty text has none. Of a text of any size the
+   * module holds 64 KB at a time.
+   */
   breaks(text: Text, options?: Options): IterableIterator<Break>;
-  /** All positions of a text, the start and the end among them, with what decided each. */
+  /** All positions of a text, the start and the end among them, with what decided each. The module holds the whole text. */
   positions(text: Text, options?: Options): IterableIterator<Position>;
   /** The pieces of a string between its breaks. */
   segments(text: string, options?: Options): IterableIterator<Segment>;

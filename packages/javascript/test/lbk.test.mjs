@@ -75,6 +75,20 @@ test("a table that is not whole is refused", async () => {
   await assert.rejects(Table.fromBytes(damaged), RangeError);
 });
 
+test("pieces of a text give what the whole gives, in memory that does not grow", () => {
+  const few = "a « b »\u0301 c 😀 – ";
+  for (const profile of [1, 2]) {
+    const { at } = table.breakColumns(few.repeat(10_000), { profile });
+    const before = table.memorySize;
+    const marked = few.repeat(10_000) + "»" + "\u0301".repeat(200_000) + " x";
+    const found = table.breakColumns(marked, { profile });
+    assert.equal(table.memorySize, before);
+    assert.deepEqual(found.at.subarray(0, at.length - 1), at.subarray(0, at.length - 1));
+    const breaks = [...table.positions(marked, { profile })].filter((it) => it.kind !== "no").map((it) => it.at);
+    assert.deepEqual([...found.at], breaks);
+  }
+});
+
 test("a call after a long text is right", () => {
   const long = "word ".repeat(2_000_000);
   assert.equal(table.breakColumns(long).at.length, 2_000_000);
