@@ -5,6 +5,7 @@ use Rattle.lbk_rules.specs.declared.cells.Cell.{Cell}
 use Rattle.lbk_rules.specs.declared.facts.Left.{Left}
 use Rattle.lbk_steps.specs.declared.flat_table.FlatStep.{FlatStep}
 use Rattle.lbk_steps.specs.declared.flat_table.FlatTable.{FlatTable}
+use Rattle.lbk_steps.specs.declared.neighbours.Neighbours.{Neighbours}
 use Rattle.lbk_values.specs.declared.profile.Profile.{Profile}
 use Rattle.lbk_values.specs.declared.profile.Profile.TheVariants.{First, Second}
 use Rattle.lbk_rules.specs.Chain.{from_cells}
@@ -88,6 +89,16 @@ pub flat-told : (profile : Profile) (lefts : List Left) (table : FlatTable) (cel
     → AreTold (steps_in table profile) table.kinds (pairs_in table profile)
 flat-told First lefts table cell flat = flat.first_told
 flat-told Second lefts table cell flat = flat.second_told
+
+-- the same of what are found to be the profile's
+pub swift-as : (profile : Profile) (lefts : List Left) (table : FlatTable) (cell : ℕ → Cell) (steps : List FlatStep) → IsFlatBy lefts table cell
+    → steps ≡ steps_in table profile → AreSwift profile lefts steps
+swift-as profile lefts table cell steps flat is = subst (AreSwift profile lefts) (sym is) (flat-swift profile lefts table cell flat)
+
+pub told-as : (profile : Profile) (lefts : List Left) (table : FlatTable) (cell : ℕ → Cell) (steps : List FlatStep) (pairs : Neighbours) → IsFlatBy lefts table cell
+    → steps ≡ steps_in table profile → pairs ≡ pairs_in table profile → AreTold steps table.kinds pairs
+told-as profile lefts table cell steps pairs flat is are =
+    subst (λ s. AreTold s table.kinds pairs) (sym is) (subst (AreTold (steps_in table profile) table.kinds) (sym are) (flat-told profile lefts table cell flat))
 
 -- the steps of a scalar
 pub steps-here : (lefts : List Left) (table : FlatTable) (cell : ℕ → Cell) (row c : ℕ) (one other : FlatStep) → IsFlatBy lefts table cell → IsScalar c → IsStart lefts row

@@ -7,7 +7,7 @@ ghost use Rattle.lbk_rules.specs.declared.facts.Left.{Left};
 ghost use Rattle.lbk_values.specs.declared.profile.Profile.{Profile};
 ghost use Rattle.lbk_steps.specs.FlatTable.{AreFlatKinds};
 ghost use Rattle.lbk_steps.specs.Neighbours.{AreTold};
-ghost use Rattle.lbk_c.specs.Blocks.{AreAhead, AreCleared, AreKeptBelow, AreLeft, IsLowest, IsBlock, Rests, place_in};
+ghost use Rattle.lbk_c.specs.Blocks.{AreCleared, AreKeptBelow, AreLeft, IsAhead, IsBlock, IsLowest, Rests, place_in};
 ghost use Rattle.lbk_c.specs.Reached.{AreSwift, IsInOrder, Reached};
 ghost use Rattle.lbk_c.specs.Shown.{given_in};
 

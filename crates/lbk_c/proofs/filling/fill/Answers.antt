@@ -7,7 +7,7 @@ loop-here-preserved c =
     let further = c.further-here in
     let within = further.ensures.within in
     record {
-      room = within.0;
+      room = omega (arith, within.0);
       row = within.1;
       within = within.2;
       no_room = λ none. absurd (omega arith);
