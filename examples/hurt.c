@@ -67,7 +67,8 @@ static size_t random_text(char *to)
 {
     static const char *const parts[] = {"a", " ", "\n", "\r\n", "(", "\"", "\xC2\xAB", "\xC2\xBB", "\xCC\x81", "\xE2\x80\x8D",
         "\xE4\xB8\x80", "\xEA\xB0\x80", "\xF0\x9F\x87\xA6", "\xF0\x9F\x98\x80", "\xF0\x9F\x8F\xBB", "\xE2\x80\x8B", "1", ",", "%",
-        "-", "\xD7\x90", "'", ".", "_", "\xE3\x82\xA2", "\xE0", "\xF0\x9F", "\xC3", "\xED\xA0\x80", "\xF4\x90", "\xEF\xBF\xBD", "\xC2\xA0"};
+        "-", "\xD7\x90", "'", ".", "_", "\xE3\x82\xA2",
+        "\xE0", "\xF0\x9F", "\xC3", "\xED\xA0\x80", "\xF4\x90", "\xEF\xBF\xBD", "\xC2\xA0"};
     size_t size = 0, most = below(MOST_TEXT + 1);
     unsigned mix = (unsigned)below(3);
     while (size < most) {
@@ -161,7 +162,8 @@ static void compare_rooms(const lbk_table *table)
     told("blocks of any rooms have the same breaks", same);
 }
 
-/* Asks for the words of a text, from any byte on, with rooms of all sizes: they rise, and are those that one great block has. */
+/* Asks for the words of a text, from any byte on, with rooms of all sizes: they rise, and are those
+ * that one great block has. */
 static void go_over_words(fenced texts, fenced states, fenced blocks)
 {
     char made[MOST_TEXT];

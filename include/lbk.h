@@ -182,13 +182,14 @@ typedef struct lbk_fault {
     uint32_t cause; /* LBK_CAUSE_NONE: no fault, and then file and line are 0 */
 } lbk_fault;
 
-/* How far the words of a text were asked for. All zeros are the start of a text. As lbk_state it is a value, and holds of each
- * text that has the same bytes. `at` may also be set to any byte: the text from there on is then taken alone. */
+/* How far the words of a text were asked for. All zeros are the start of a text. As lbk_state it is
+ * a value, and holds of each text that has the same bytes. `at` may also be set to any byte: the
+ * text from there on is then taken alone. */
 typedef struct lbk_word_state {
     size_t at; /* the byte from which the next words come */
 } lbk_word_state;
 
-/* A word of a text: the bytes from `start` up to `end`, not counting that one. It has one byte at least. */
+/* A word of a text: the bytes from `start` up to `end`, not counting that one, and one at least. */
 typedef struct lbk_word {
     size_t start, end; /* counted from the text's start */
 } lbk_word;
@@ -220,10 +221,11 @@ lbk_fault lbk_read(lbk_table *table, const void *line_break, size_t line_break_s
  * its places may be written. Takes no memory from the heap. */
 size_t lbk_breaks(const lbk_table *table, lbk_state *state, const char *text, size_t size, lbk_break *block, size_t room);
 
-/* Puts the next words of a text, in the order of the text, into the front of a block with room for `room` words, and returns how
- * many. Fewer than `room` says that these were all; later calls with the state then return 0. No table is needed:
+/* Puts the next words of a text, in the order of the text, into the front of a block with room for
+ * `room` words, and returns how many. Fewer than `room` says that these were all; later calls with
+ * the state then return 0. No table is needed:
  *
- *     lbk_word_state state = {0};                              the start of a text
+ *     lbk_word_state state = {0};                    the start of a text
  *     lbk_word block[64];
  *     size_t count;
  *     do {
@@ -232,13 +234,15 @@ size_t lbk_breaks(const lbk_table *table, lbk_state *state, const char *text, si
  *             .. text + block[k].start, block[k].end - block[k].start ..
  *     } while (count == 64);
  *
- * A word is a part of the text between two neighbouring word boundaries (UAX #29, section 4, no tailorings) that has a letter or
- * a number: a scalar whose General_Category is one of L or N. Both properties are those of LBK_WORDS_UNICODE_VERSION.
+ * A word is a part of the text between two neighbouring word boundaries (UAX #29, section 4, no
+ * tailorings) that has a letter or a number: a scalar whose General_Category is one of L or N. The
+ * properties are those of LBK_WORDS_UNICODE_VERSION.
  *
- * `text`, `size` and ill-formed bytes are as lbk_breaks has them. `text` is the whole text at each call, and the state tells how
- * far earlier calls came: always to a word boundary. Calls take time in proportion to the bytes that they pass, in all for a
- * text in proportion to its size, whatever `room` is. Returns 0 and leaves the state as it is where `room` is 0, and where the
- * state's `at` is the text's size or more. What the block has behind the words is not specified. Takes no memory from the heap. */
+ * `text`, `size` and ill-formed bytes are as lbk_breaks has them. `text` is the whole text at each
+ * call, and the state tells how far earlier calls came: always to a word boundary. All calls for a
+ * text take time in proportion to its size, whatever `room` is. Returns 0 and leaves the state as it
+ * is where `room` is 0, and where the state's `at` is the text's size or more. What the block has
+ * after the words is not specified. Takes no memory from the heap. */
 size_t lbk_words(lbk_word_state *state, const char *text, size_t size, lbk_word *block, size_t room);
 
 /* The name of a rule by its number; an empty name for a number that no rule has. */
