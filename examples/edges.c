@@ -243,7 +243,8 @@ static void try_labels(void)
     }
 }
 
-/* Whether the text has just these words, each as its start and its end, in the order of `places`, which two zeros end. */
+/* Whether the text has just these words, each as its start and its end, in the order of `places`,
+ * which two zeros end. */
 static int has_words(const char *text, size_t size, const size_t *places)
 {
     lbk_word_state state = {0};

@@ -98,7 +98,8 @@ static void compare_rooms(const lbk_table *table)
     told("blocks of any rooms have the same breaks", same);
 }
 
-/* Asks for the words of a text, from any byte on, with rooms of all sizes: they rise, and are those that one great block has. */
+/* Asks for the words of a text, from any byte on, with rooms of all sizes: they rise, and are those
+ * that one great block has. */
 static void go_over_words(fenced texts, fenced states, fenced blocks)
 {
     char made[MOST_TEXT];

@@ -210,13 +210,14 @@ typedef struct lbk_fault {
     uint32_t cause; /* LBK_CAUSE_NONE: no fault, and then file and line are 0 */
 } lbk_fault;
 
-/* How far the words of a text were asked for. All zeros are the start of a text. As lbk_state it is a value, and holds of each
- * text that has the same bytes. `at` may also be set to any byte: the text from there on is then taken alone. */
+/* How far the words of a text were asked for. All zeros are the start of a text. As lbk_state it is
+ * a value, and holds of each text that has the same bytes. `at` may also be set to any byte: the
+ * text from there on is then taken alone. */
 typedef struct lbk_word_state {
     size_t at; /* the byte from which the next words come */
 } lbk_word_state;
 
-/* A word of a text: the bytes from `start` up to `end`, not counting that one. It has one byte at least. */
+/* A word of a text: the bytes from `start` up to `end`, not counting that one, and one at least. */
 typedef struct lbk_word {
     size_t start, end; /* counted from the text's start */
 } lbk_word;
@@ -251,36 +252,6 @@ lbk_fault lbk_read(lbk_table *table, const void *line_break, size_t line_break_s
  * behind the text's end, and where it has ended. What the block has behind the breaks that are answered is not specified: any of
  * its places may be written. Takes no memory from the heap. */
 size_t lbk_breaks(const lbk_table *table, lbk_state *state, const char *text, size_t size, lbk_break *block, size_t room);
-
-/* Puts the next positions of a text into the front of a block, as lbk_breaks puts its breaks, and returns how many. A text has one
- * position before each scalar and one at its end, and each comes once with what decides there: kind is LBK_NO, LBK_MAY or
- * LBK_MUST, and rule the first rule that matches. So it says why a line does not break somewhere, too. The first position is
- * always LBK_NO by rule 2; an empty text has that one alone. The positions where a line may or must end are the breaks of lbk_breaks.
- *
- * All else is as lbk_breaks has it: states, ill-formed bytes, room, and calls from which nothing comes. Each position of a text
- * of n bytes takes one place of a block, so there are n + 1 at most. Takes no memory from the heap. */
-size_t lbk_positions(const lbk_table *table, lbk_state *state, const char *text, size_t size, lbk_break *block, size_t room);
-
-/* Puts the next words of a text, in the order of the text, into the front of a block with room for `room` words, and returns how
- * many. Fewer than `room` says that these were all; later calls with the state then return 0. No table is needed:
- *
- *     lbk_word_state state = {0};                              the start of a text
- *     lbk_word block[64];
- *     size_t count;
- *     do {
- *         count = lbk_words(&state, text, size, block, 64);
- *         for (size_t k = 0; k < count; k++)
- *             .. text + block[k].start, block[k].end - block[k].start ..
- *     } while (count == 64);
- *
- * A word is a part of the text between two neighbouring word boundaries (UAX #29, section 4, no tailorings) that has a letter or
- * a number: a scalar whose General_Category is one of L or N. Both properties are those of LBK_WORDS_UNICODE_VERSION.
- *
- * `text`, `size` and ill-formed bytes are as lbk_breaks has them. `text` is the whole text at each call, and the state tells how
- * far earlier calls came: always to a word boundary. Calls take time in proportion to the bytes that they pass, in all for a
- * text in proportion to its size, whatever `room` is. Returns 0 and leaves the state as it is where `room` is 0, and where the
- * state's `at` is the text's size or more. What the block has behind the words is not specified. Takes no memory from the heap. */
-size_t lbk_words(lbk_word_state *state, const char *text, size_t size, lbk_word *block, size_t room);
 
 /* The same for a text that comes in pieces of any size, as from a socket: takes the next piece of a stream, and puts the breaks
  * that it settles into the front of a block with room for `room` breaks.
@@ -319,6 +290,39 @@ size_t lbk_words(lbk_word_state *state, const char *text, size_t size, lbk_word 
  * Takes no memory from the heap. */
 lbk_fed lbk_feed(const lbk_table *table, lbk_stream *stream, const char *piece, size_t size, bool last, lbk_break *block,
                  size_t room);
+
+/* Puts the next positions of a text into the front of a block, as lbk_breaks puts its breaks, and returns how many. A text has one
+ * position before each scalar and one at its end, and each comes once with what decides there: kind is LBK_NO, LBK_MAY or
+ * LBK_MUST, and rule the first rule that matches. So it says why a line does not break somewhere, too. The first position is
+ * always LBK_NO by rule 2; an empty text has that one alone. The positions where a line may or must end are the breaks of lbk_breaks.
+ *
+ * All else is as lbk_breaks has it: states, ill-formed bytes, room, and calls from which nothing comes. Each position of a text
+ * of n bytes takes one place of a block, so there are n + 1 at most. Takes no memory from the heap. */
+size_t lbk_positions(const lbk_table *table, lbk_state *state, const char *text, size_t size, lbk_break *block, size_t room);
+
+/* Puts the next words of a text, in the order of the text, into the front of a block with room for
+ * `room` words, and returns how many. Fewer than `room` says that these were all; later calls with
+ * the state then return 0. No table is needed:
+ *
+ *     lbk_word_state state = {0};                    the start of a text
+ *     lbk_word block[64];
+ *     size_t count;
+ *     do {
+ *         count = lbk_words(&state, text, size, block, 64);
+ *         for (size_t k = 0; k < count; k++)
+ *             .. text + block[k].start, block[k].end - block[k].start ..
+ *     } while (count == 64);
+ *
+ * A word is a part of the text between two neighbouring word boundaries (UAX #29, section 4, no
+ * tailorings) that has a letter or a number: a scalar whose General_Category is one of L or N. The
+ * properties are those of LBK_WORDS_UNICODE_VERSION.
+ *
+ * `text`, `size` and ill-formed bytes are as lbk_breaks has them. `text` is the whole text at each
+ * call, and the state tells how far earlier calls came: always to a word boundary. All calls for a
+ * text take time in proportion to its size, whatever `room` is. Returns 0 and leaves the state as it
+ * is where `room` is 0, and where the state's `at` is the text's size or more. What the block has
+ * after the words is not specified. Takes no memory from the heap. */
+size_t lbk_words(lbk_word_state *state, const char *text, size_t size, lbk_word *block, size_t room);
 
 /* The name of a rule by its number; an empty name for a number that no rule has. */
 lbk_rule_label lbk_label(uint8_t rule);

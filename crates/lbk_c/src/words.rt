@@ -13,12 +13,13 @@ pub struct WordState {
     pub at: usize,
 }
 
-/// Puts the next words of a text (UAX #29, section 4) into the front of the block, from the state on, and returns how many: as
-/// many as the block holds, or all that are left. The text may be any bytes: each longest piece that begins no scalar is read
-/// as U+FFFD (Unicode Standard, section 3.9).
+/// Puts the next words of a text (UAX #29, section 4) into the front of the block, from the state
+/// on, and returns how many: as many as the block holds, or all that are left. The text may be any
+/// bytes: each longest piece that begins no scalar is read as U+FFFD (Unicode Standard, section
+/// 3.9).
 ///
-/// Where the block has no room, or the state is at the text's end or past it, the state stays and no word comes. What stands in
-/// the block behind the words is of no account.
+/// Where the block has no room, or the state is at the text's end or past it, the state stays and
+/// no word comes. What stands in the block behind the words is of no account.
 #[unsafe(no_mangle)]
 pub extern "C" fn lbk_words(state: &mut WordState, text: &[u8], out: &mut [Word]) -> usize
     ensures count { result ≡ min (length out.old) (length (words_on text.now state.old.at)) }

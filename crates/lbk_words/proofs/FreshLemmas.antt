@@ -123,17 +123,17 @@ alike-after x y c cs alike =
     → Alike (cond b (record { last = value; left = x.left; far_left = x.far_left; half_flag = x.half_flag }) (record { last = value; left = value; far_left = x.left; half_flag = is_regional value && not x.half_flag }))
     (cond b (record { last = value; left = y.left; far_left = y.far_left; half_flag = y.half_flag }) (record { last = value; left = value; far_left = y.left; half_flag = is_regional value && not y.half_flag })) cs) [
       | true ↦ λ ignored. record {
-          last = refl;
-          flag = alike.flag;
-          here = λ more. subst (λ values. joins x.far_left x.left (value_at values 0) more ≡ joins y.far_left y.left (value_at values 0) more) (significant-ignored c cs ignored) (alike.here more);
-          next = alike.next;
-        }
+        last = refl;
+        flag = alike.flag;
+        here = λ more. subst (λ values. joins x.far_left x.left (value_at values 0) more ≡ joins y.far_left y.left (value_at values 0) more) (significant-ignored c cs ignored) (alike.here more);
+        next = alike.next;
+      }
       | false ↦ λ kept. record {
-          last = refl;
-          flag = ap (λ f. is_regional value && not f) alike.flag;
-          here = λ more. alike.next value (value_at (significant cs) 0) more;
-          next = λ left right far_right. refl;
-        }
+        last = refl;
+        flag = ap (λ f. is_regional value && not f) alike.flag;
+        here = λ more. alike.next value (value_at (significant cs) 0) more;
+        next = λ left right far_right. refl;
+      }
     ]) refl
 
 -- A boundary
@@ -184,9 +184,9 @@ module _ (x : Context) (knows : KnowsLines x) (c : ℕ) (cs : List ℕ) where
       (elim pair as (λ o. pair ≡ o → unwrap_or o (not joined) ≡ true → (is_line_end x.last ≡ true) ⊎ ((is_line_end value ≡ true) ⊎ (joined ≡ false))) [
         | None ↦ λ none open_. inr (inr (not-true joined open_))
         | Some b ↦ (elim b as (λ b. pair ≡ Some b → b ≡ true → (is_line_end x.last ≡ true) ⊎ ((is_line_end value ≡ true) ⊎ (joined ≡ false))) [
-            | true ↦ λ found yes. ⊎_elim (λ ends. inl ends) (λ ends. inr (inl ends)) (pair-breaks x.last value (is_extended_pictographic c) found)
-            | false ↦ λ found yes. cc
-          ])
+          | true ↦ λ found yes. ⊎_elim (λ ends. inl ends) (λ ends. inr (inl ends)) (pair-breaks x.last value (is_extended_pictographic c) found)
+          | false ↦ λ found yes. cc
+        ])
       ]) refl breaks
 
   flag-fresh : breaks_by x c ahead ≡ true → (is_regional value && not x.half_flag) ≡ (is_regional value && not false)
@@ -228,11 +228,11 @@ module _ (x : Context) (knows : KnowsLines x) (c : ℕ) (cs : List ℕ) where
               next = λ l r more. joins-far_line_end x.left l r more left;
             }
         | false ↦ λ kept. record {
-            last = refl;
-            flag = flag-fresh breaks;
-            here = here-fresh breaks;
-            next = λ l r more. refl;
-          }
+          last = refl;
+          flag = flag-fresh breaks;
+          here = here-fresh breaks;
+          next = λ l r more. refl;
+        }
       ]) refl
 
 -- The parts that come

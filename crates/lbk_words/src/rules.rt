@@ -108,11 +108,7 @@ fn joins_others(left: WordBreak, right: WordBreak) -> bool
     ensures { result ≡ joins_others left right }
 {
     (is_katakana(left) & is_katakana(right))
-        | ((is_ah_letter(left)
-            | is_numeric(left)
-            | is_katakana(left)
-            | is_extend_num_let(left))
+        | ((is_ah_letter(left) | is_numeric(left) | is_katakana(left) | is_extend_num_let(left))
             & is_extend_num_let(right))
-        | (is_extend_num_let(left)
-            & (is_ah_letter(right) | is_numeric(right) | is_katakana(right)))
+        | (is_extend_num_let(left) & (is_ah_letter(right) | is_numeric(right) | is_katakana(right)))
 }
