@@ -414,6 +414,50 @@ private:
     call start_;
 };
 
+/// The breaks of a text that comes in pieces, cut anywhere. It refers to its table, which has to outlive it. A copy goes on by itself.
+class stream {
+public:
+    explicit stream(const lbk_table &by, profile rules = profile::first) noexcept : table_(&by)
+    {
+        state_.profile = static_cast<std::uint8_t>(rules);
+    }
+
+    explicit stream(const lbk_table &&, profile = profile::first) = delete;
+    explicit stream(const table &&, profile = profile::first) = delete;
+
+    /// Takes the next piece, and calls `found` with each break that it settles. Places count from the start of the text.
+    template <typename Found>
+    void feed(std::string_view piece, Found &&found)
+    {
+        take(piece, false, found);
+    }
+
+    /// Says that the text has ended, and calls `found` with each break that is left. Nothing comes after it.
+    template <typename Found>
+    void finish(Found &&found)
+    {
+        take({}, true, found);
+    }
+
+private:
+    const lbk_table *table_;
+    lbk_stream state_ = {};
+
+    template <typename Found>
+    void take(std::string_view piece, bool last, Found &found)
+    {
+        constexpr std::size_t room = 64;
+        lbk_break block[room];
+        lbk_fed fed;
+        do {
+            fed = lbk_feed(table_, &state_, piece.data(), piece.size(), last, block, room);
+            piece.remove_prefix(fed.taken);
+            for (std::size_t k = 0; k < fed.count; k++)
+                found(block[k]);
+        } while (fed.count == room);
+    }
+};
+
 /// The name of a rule without `LB`, as "8a"; empty for a number that no rule has.
 inline std::string label(std::uint8_t rule) { return lbk_label(rule).text; }
 
