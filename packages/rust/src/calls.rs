@@ -65,6 +65,19 @@ pub struct Fed {
 }
 
 #[repr(C)]
+#[derive(Clone, Copy)]
+pub struct WordState {
+    pub at: usize,
+}
+
+#[repr(C)]
+#[derive(Clone, Copy)]
+pub struct Word {
+    pub start: usize,
+    pub end: usize,
+}
+
+#[repr(C)]
 pub struct Fault {
     pub file: u32,
     pub line: u32,
@@ -80,6 +93,8 @@ const _: () = assert!(size_of::<State>() == 16);
 const _: () = assert!(size_of::<Break>() == 16);
 const _: () = assert!(size_of::<Stream>() == 32);
 const _: () = assert!(size_of::<Fed>() == 16);
+const _: () = assert!(size_of::<WordState>() == 8);
+const _: () = assert!(size_of::<Word>() == 16);
 const _: () = assert!(size_of::<Fault>() == 12);
 const _: () = assert!(size_of::<RuleLabel>() == 4);
 
@@ -112,6 +127,13 @@ extern "C" {
         block: *mut Break,
         room: usize,
     ) -> Fed;
+    pub fn lbk_words(
+        state: *mut WordState,
+        text: *const u8,
+        size: usize,
+        block: *mut Word,
+        room: usize,
+    ) -> usize;
     pub fn lbk_label(rule: u8) -> RuleLabel;
     pub fn lbk_check(table: *const Table) -> bool;
 }

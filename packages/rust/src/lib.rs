@@ -30,6 +30,7 @@ mod load;
 mod reader;
 mod stream;
 mod table;
+mod words;
 
 pub use breaks::{Break, Breaks, Kind, Profile, Rule, Segment, Segments};
 pub use fault::{Cause, Fault, File};
@@ -39,3 +40,4 @@ pub use load::LoadError;
 pub use reader::ReaderBreaks;
 pub use stream::Stream;
 pub use table::{Aligned, Files, Table};
+pub use words::{word_ranges, words, WordRanges, Words};

@@ -1,4 +1,4 @@
-//! Texts that come in pieces.
+//! Texts that come in pieces, and words.
 
 use lbk::{Break, Files, Profile, Table};
 use std::io::{self, Read};
@@ -72,4 +72,13 @@ fn a_reader_has_the_breaks_of_its_text() {
     let found: Vec<Break> = found.into_iter().map(|one| one.expect("it is")).collect();
     assert_eq!(found, wanted);
     assert!(errors.len() > text.len() / 3);
+}
+
+#[test]
+fn words_of_a_text() {
+    let found: Vec<(usize, &str)> = lbk::words("So, 3 words.").collect();
+    assert_eq!(found, [(0, "So"), (4, "3"), (6, "words")]);
+    assert_eq!(lbk::words(" .,").next(), None);
+    let many = "ab ".repeat(200);
+    assert!(lbk::word_ranges(many.as_bytes()).eq((0..200).map(|k| 3 * k..3 * k + 2)));
 }
