@@ -21,3 +21,8 @@ assert kinds.count(Kind.MUST) == 2
 # Many texts in one call: those of the second stand at offsets[1] to offsets[2].
 offsets, places, kinds, rules = table.break_list_columns(["one two", "a b c"])
 assert places[offsets[1] : offsets[2]].tolist() == [2, 4, 5]
+
+# A text that comes in pieces of any size, as from a socket.
+stream = lbk.Stream(table)
+assert stream.feed("one t") == [Break(4, Kind.MAY, Rule.LB18)]
+assert stream.finish("wo") == [Break(7, Kind.MUST, Rule.LB3)]
