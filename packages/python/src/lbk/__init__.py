@@ -18,3 +18,7 @@ from ._stream import Stream
 from ._table import Table
 
 __all__ = ["UNICODE_VERSION", "Break", "Cause", "Columns", "Fault", "File", "Kind", "ListColumns", "Rule", "Stream", "Table", "__version__"]
+
+# These are known by the names that their users know, also in what was pickled.
+for _class in (Cause, Columns, Fault, File, Kind, ListColumns, Rule, Stream, Table):
+    _class.__module__ = __name__
