@@ -4,5 +4,6 @@ pub mod Shown
 pub mod Order
 pub mod State
 pub mod Faults
+pub mod Texts
 -- What only carries proofs.
 pub mod Reached

@@ -16,8 +16,10 @@ mod labels;
 mod shown;
 mod steps;
 mod table_reading;
+mod texts;
 
 pub use breaking::lbk_breaks;
-pub use interface::{Fault, RawBreak, RuleLabel, State};
+pub use interface::{Fault, RawBreak, RuleLabel, State, Text};
 pub use labels::lbk_label;
-pub use table_reading::{lbk_check, lbk_read};
+pub use table_reading::{lbk_check, lbk_read, lbk_read_published};
+pub use texts::{lbk_cause_text, lbk_file_name, lbk_version};
