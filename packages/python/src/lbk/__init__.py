@@ -17,15 +17,11 @@ from ._results import Columns, Kind, ListColumns, Passage
 from ._stream import Stream
 from ._table import Table
 
-<<<<<<< HEAD
 __all__ = [
     "UNICODE_VERSION", "WORDS_UNICODE_VERSION", "Break", "Cause", "Columns", "Fault", "File", "Kind", "ListColumns", "Passage",
     "Rule", "Stream", "Table", "__version__",
 ]
-=======
-__all__ = ["UNICODE_VERSION", "Break", "Cause", "Columns", "Fault", "File", "Kind", "ListColumns", "Rule", "Stream", "Table", "__version__"]
 
 # These are known by the names that their users know, also in what was pickled.
 for _class in (Cause, Columns, Fault, File, Kind, ListColumns, Passage, Rule, Stream, Table):
     _class.__module__ = __name__
->>>>>>> python
