@@ -6,8 +6,8 @@
 #include "state.h"
 #include "stream.h"
 
-/* read(table, line_break, east_asian, category, emoji, are_published): fills a writable table, of the files that Unicode
- * published or of any, and returns (file, line, cause). */
+/* read(table, line_break, east_asian, category, emoji, are_published): fills a writable table,
+ * of the files that Unicode published or of any, and returns (file, line, cause). */
 static PyObject *read_files(PyObject *Py_UNUSED(module), PyObject *const *given, Py_ssize_t count)
 {
     enum { FILES = 4 };
