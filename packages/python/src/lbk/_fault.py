@@ -1,6 +1,5 @@
 """Why files are refused."""
 
-from . import _calls
 from ._numbers import Cause, File
 
 
@@ -18,5 +17,4 @@ class Fault(ValueError):
         self.file, self.line, self.cause = File(file), line, Cause(cause)
 
     def __str__(self) -> str:
-        place = f"{_calls.file_name(self.file)}:{self.line}" if self.line else _calls.file_name(self.file)
-        return f"{place}: {_calls.cause_text(self.cause)}"
+        return f"{self.file.name}:{self.line}: {self.cause.name}"
