@@ -173,7 +173,7 @@ static PyObject *of(PyObject *type, PyObject *const *given, Py_ssize_t count)
     const module_state *state = PyType_GetModuleState((PyTypeObject *)type);
     at->what = what;
     at->from = start;
-    at->break_type = Py_NewRef(state->break_type);
+    at->break_type = Py_XNewRef(state->break_type);
     at->table = Py_NewRef(given[0]);
     at->text = text_owner(given[1], &at->in_code_points);
     if (at->text == NULL) {

@@ -109,11 +109,13 @@ class Table:
 
     def save(self, name: Name) -> None:
         """Puts the table into a file, for `open`. A file of this name is replaced in one step."""
-        path = os.fsdecode(name)
-        beside = f"{path}.{os.getpid()}.new"
-        with open(beside, "wb") as file:
-            file.write(self._memory)
-        os.replace(beside, path)
+        path = Path(os.fsdecode(name))
+        beside = path.with_name(f"{path.name}.{os.getpid()}.new")
+        try:
+            beside.write_bytes(self._memory)
+            beside.replace(path)
+        finally:
+            beside.unlink(missing_ok=True)
 
     def breaks(self, text: Text, profile: int = 1) -> Iterator[Break]:
         """The breaks of a text, in their order. The last one of a text that is not empty is its
