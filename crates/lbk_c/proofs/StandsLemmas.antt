@@ -36,7 +36,7 @@ use Rattle.lbk_c.specs.Reached.{onward, steps_in}
 use Rattle.lbk_c.specs.Stands.{Stands, Waits}
 use Rattle.lbk_c.specs.Streams.{cells_of, late_break}
 use Rattle.lbk_c.proofs.AheadLemmas.{heads-tells, joins-leaves, told_by}
-use Rattle.lbk_c.proofs.ReachedLemmas.{no-zero, with_break-more}
+use Rattle.lbk_c.proofs.ReachedLemmas.{with_break-more}
 use Rattle.lbk_c.proofs.StepLemmas.{decides-apart, decides-closed, decides-first, decides-open, held-15b, knows-more, steps-here}
 
 -- What stands before a position that waits
@@ -257,7 +257,7 @@ knows-next cell lefts table row c one flat scalar is_one taken known =
     knows-more cell lefts row one.next c kind (flat.kinds c scalar).1 step.starts step.leads taken known
 
 -- a number of kind 0 is no break's
-silent-code : (at code : ℕ) → code % 256 ≡ 0 → with_break at (verdict_coded code) [] ≡ []
+silent-code : (at code : ℕ) → code % 3 ≡ 0 → with_break at (verdict_coded code) [] ≡ []
 unfolding verdict_coded
 silent-code at code zero =
     ap (λ b. cond b [] (break_by at (verdict_coded code) ∷ [])) (ap (λ n. is_no (kind_numbered n)) zero)
@@ -268,7 +268,7 @@ pub decides-now : (profile : Profile) (cell : ℕ → Cell) (lefts : List Left) 
     → IsFlatBy lefts table cell → KnowsTaken cell lefts row taken → IsScalar c
     → one ≡ get_or table.first (row + get_or table.kinds c 0) no_flat_step
     → other ≡ get_or (steps_in table profile) (row + get_or table.kinds c 0) no_flat_step
-    → (profile ≡ Second → other.code ≡ HELD → one.code % 256 ≡ 0)
+    → (profile ≡ Second → other.code ≡ HELD → one.code % 3 ≡ 0)
     → IsCode other.code
     × (with_break at (verdict_coded other.code) [] ≡ with_break at (verdict_between_in profile (map cell taken) (cell c ∷ right)) [])
 decides-now First cell lefts table taken at row c one other right flat known scalar is_one is_other quiet =
@@ -280,7 +280,7 @@ decides-now Second cell lefts table taken at row c one other right flat known sc
     × (with_break at (verdict_coded other.code) [] ≡ with_break at (verdict_between_in Second (map cell taken) (cell c ∷ right)) [])) [
       | true ↦ λ same.
           let held : other.code ≡ HELD = grind (arith, nat_tests) in
-          let none : with_break at (verdict_coded other.code) [] ≡ [] = silent-code at other.code (ap (λ n. n % 256) held) in
+          let none : with_break at (verdict_coded other.code) [] ≡ [] = silent-code at other.code (ap (λ n. n % 3) held) in
           (elim (leaves_closed (units_after (hard (normal (cell c)).class) (map normal right)))
           as (λ b. leaves_closed (units_after (hard (normal (cell c)).class) (map normal right)) ≡ b → IsCode other.code
           × (with_break at (verdict_coded other.code) [] ≡ with_break at (verdict_between_in Second (map cell taken) (cell c ∷ right)) [])) [
@@ -303,7 +303,7 @@ pub decides-late : (cell : ℕ → Cell) (lefts : List Left) (table : FlatTable)
     → IsFlatBy lefts table cell → KnowsTaken cell lefts place.row taken → IsScalar c
     → one ≡ get_or table.first (place.row + get_or table.kinds c 0) no_flat_step
     → other ≡ get_or table.second (place.row + get_or table.kinds c 0) no_flat_step
-    → other.code ≡ HELD → 0 < one.code % 256 → next.held_at ≡ place.at → next.held_code ≡ one.code
+    → other.code ≡ HELD → 0 < one.code % 3 → next.held_at ≡ place.at → next.held_code ≡ one.code
     → late_break cell next rest
     ≡ with_break place.at (verdict_between_in Second (map cell taken) (cell c ∷ map cell (lossy_chars rest))) []
 decides-late cell lefts table taken place next rest c one other flat known scalar is_one is_other held breaks held_same code_same =
@@ -318,7 +318,7 @@ decides-late cell lefts table taken place next rest c one other flat known scala
       | true ↦ λ is.
           let closed = ap (λ b. leaves_closed (units_after b (cells_of cell rest))) soft ∙ is in
           let decided = decides-closed lefts table cell taken place.row c other right flat known scalar is_other closed in
-          late-some cell next rest true some is ∙ sym (silent-code place.at other.code (ap (λ n. n % 256) held))
+          late-some cell next rest true some is ∙ sym (silent-code place.at other.code (ap (λ n. n % 3) held))
           ∙ ap (λ (v : Verdict). with_break place.at v []) decided.1
       | false ↦ λ is.
           let stays = ap (λ b. leaves_closed (units_after b (cells_of cell rest))) soft ∙ is in

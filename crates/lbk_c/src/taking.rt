@@ -169,11 +169,11 @@ fn pass(
 /// Whether a position waits for what follows: by rule 15b it is no break where the quotation is closed, and where it stays
 /// open the first profile decides.
 fn waits(profile: Profile, code: u16, otherwise: u16) -> bool
-    ensures held { result ≡ true → (profile ≡ Second) × (code ≡ HELD) × (0 < otherwise % 256) }
-    ensures decided { result ≡ false → profile ≡ Second → code ≡ HELD → otherwise % 256 ≡ 0 }
+    ensures held { result ≡ true → (profile ≡ Second) × (code ≡ HELD) × (0 < otherwise % 3) }
+    ensures decided { result ≡ false → profile ≡ Second → code ≡ HELD → otherwise % 3 ≡ 0 }
 {
     match profile {
         Profile::First => false,
-        Profile::Second => code == HELD && otherwise % 256 != 0,
+        Profile::Second => code == HELD && otherwise % 3 != 0,
     }
 }

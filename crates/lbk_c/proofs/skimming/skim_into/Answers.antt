@@ -24,5 +24,5 @@ returns-clause-stands c = λ cell lefts more all next flat free some behind at_s
     let reached = λ (coming : List Break) (r : Reached profile cell lefts (piece ++ more) coming start []).
     end.ensures.reached profile cell lefts more coming swift flat.kinds r in
     Stands-skim profile cell lefts piece more all given (given_in c.move_by.new.out end.result.count) place next from end.result
-    end.ensures.onward end.ensures.within.2 free some behind at_same row_same none_waits reached
+    end.ensures.onward.0 end.ensures.within.2 free some behind at_same row_same none_waits reached
     (c.move_by.ensures ∙ ap (λ n. map (moved n) given) by_same) stands

@@ -4,4 +4,4 @@ use Rattle.lbk_c.proofs.streaming.put_last.Goals as goal
 
 pub returns-clause-some : goal.returns-clause-some
 unfolding verdict_coded
-returns-clause-some c = λ some. c.put.ensures.front (lit< tt, lit< tt)
+returns-clause-some c = λ some. c.put.ensures.front (lit< tt)
