@@ -92,8 +92,23 @@ static const struct {
 #include "constants.inc"
 };
 
+/* Whether the processor has what the library's code is made of. Sets an ImportError where it has
+ * not. */
+static bool has_processor(void)
+{
+#if defined(__x86_64__)
+    if (!__builtin_cpu_supports("sse4.2") || !__builtin_cpu_supports("popcnt")) {
+        PyErr_SetString(PyExc_ImportError, "lbk needs a processor with SSE4.2 (x86-64-v2)");
+        return false;
+    }
+#endif
+    return true;
+}
+
 static int add_all(PyObject *module)
 {
+    if (!has_processor())
+        return -1;
     module_state *state = PyModule_GetState(module);
     state->break_type = new_break_type(module);
     state->found_type = new_found_type(module);
