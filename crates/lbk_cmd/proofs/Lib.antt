@@ -13,3 +13,5 @@ pub mod Looping
 pub mod Known
 mod Rows
 pub mod Headlines
+pub mod Joined
+pub mod Relabeling

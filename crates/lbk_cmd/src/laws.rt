@@ -1,9 +1,9 @@
 //! What the calls amount to together, over the definitions alone. Each law is the contract of a function that does
 //! nothing.
 
-ghost use Rattle.std.specs.Prelude.{ℕ, ◌+◌, ◌*◌, ◌≤◌, List, Some, length, ◌≡◌};
+ghost use Rattle.std.specs.Prelude.{ℕ, ◌+◌, ◌*◌, ◌≤◌, ◌∷◌, List, Some, length, ◌≡◌};
 ghost use Rattle.std.specs.Char.{IsScalar};
-ghost use Rattle.std.specs.List.{AllByRecursion};
+ghost use Rattle.std.specs.List.{AllByRecursion, flat_map};
 ghost use Rattle.lbk_notation.specs.declared.marks.Form.TheVariants.{Kinds};
 ghost use Rattle.lbk_notation.specs.Grammar.{IsLine};
 ghost use Rattle.lbk_notation.specs.Shown.{passage_line, passage_marks};
@@ -12,9 +12,13 @@ ghost use Rattle.lbk_cmd.specs.Show.{shown_passage, verdicts_of};
 ghost use Rattle.lbk_ucd.specs.declared.tables.Files.{Files};
 ghost use Rattle.lbk_rules.specs.declared.cells.Cell.{Cell};
 ghost use Rattle.lbk_values.specs.declared.profile.Profile.{Profile};
+ghost use Rattle.lbk_passage.specs.Joins.{AreParts, of_parts};
 ghost use Rattle.lbk_passage.specs.Passages.{passages};
 ghost use Rattle.lbk_files.specs.Cells.{AreCellsOf};
 ghost use Rattle.lbk_cmd.specs.Headline.{ArePassagesOf};
+ghost use Rattle.lbk_cmd.specs.Parts.{DiffersInLabel, lines_in, shown_in};
+ghost use Rattle.lbk_cmd.specs.Segment.{segmented_passage};
+ghost use Rattle.lbk_cmd.specs.Texts.{segment_text, show_text, signed_text};
 
 /// For all property files, every text and either profile: the passages joined are the text, their breaks are the
 /// positions, kinds and rules that the first matching rule gives on the whole text (UAX #14, section 6), and the line written
@@ -37,4 +41,19 @@ pub fn shown_lines()
     ensures short { (ms : List Marked) → length (shown_passage ms) ≤ 12 * length (text_of ms) + 9 }
     ensures says { (ms : List Marked) → AllByRecursion (λ scalar. IsScalar scalar) (scalars_of ms)
         → IsLine Kinds (passage_line (scalars_of ms) (verdicts_of ms)) (Some (passage_marks (scalars_of ms) (verdicts_of ms))) }
+{}
+
+/// What is written of a text may be written of its parts apart, where a line must end between each and the next. `mark` writes
+/// of each part what it writes of the part alone. So does `show`, but for the last label of a part: it is 3 of a part alone,
+/// and 4 or 5 where another follows. `segment` writes that rule too, and the places of the whole text.
+pub fn joined_lines()
+    ensures mark { (profile : Profile) (cell : ℕ → Cell) (parts : List (List ℕ)) → AreParts cell parts
+        → signed_text cell (passages profile cell (flat_map (λ part. part) parts))
+        ≡ flat_map (λ part. signed_text cell (passages profile cell part)) parts }
+    ensures show { (profile : Profile) (cell : ℕ → Cell) (parts : List (List ℕ)) → AreParts cell parts
+        → show_text (passages profile cell (flat_map (λ part. part) parts)) ≡ of_parts (shown_in profile cell) 0 parts }
+    ensures segment { (profile : Profile) (cell : ℕ → Cell) (parts : List (List ℕ)) → AreParts cell parts
+        → segment_text cell (passages profile cell (flat_map (λ part. part) parts))
+        ≡ of_parts (lines_in (segmented_passage cell) profile cell) 0 parts }
+    ensures label { (profile : Profile) (cell : ℕ → Cell) (first : ℕ) (rest : List ℕ) → DiffersInLabel profile cell (first ∷ rest) }
 {}

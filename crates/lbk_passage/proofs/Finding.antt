@@ -12,7 +12,8 @@ use Rattle.lbk_passage.specs.State.{State}
 use Rattle.lbk_passage.specs.Next.{IsDone}
 use Rattle.lbk_passage.specs.Gathering.{IsFirst, FillAnswers}
 use Rattle.lbk_passage.specs.declared.paragraph.Paragraph.{Paragraph}
-use Rattle.lbk_passage.proofs.Marking.{scalars-behind, scalars-ended, last_in, last_class-in, first_passage, only_passage}
+use Rattle.lbk_rules.proofs.MarkLemmas.{last_in, scalars-behind, scalars-ended}
+use Rattle.lbk_passage.proofs.Marking.{last_class-in, first_passage, only_passage}
 use Rattle.lbk_passage.proofs.Booleans.{both-left, both-right}
 
 is_nil-nil : (l : List ℕ) → is_nil l ≡ true → l ≡ []
@@ -36,7 +37,7 @@ some_bytes c = let bounds = len_utf8_bounds c in omega (arith, length-encode c, 
 
 module _ (s : State) (p : Paragraph) (shows : Shows s p) where
   scalars_are : (end : Verdict) (cs : List ℕ) → scalars_of (ended end (marks s.profile s.cell cs)) ≡ cs
-  scalars_are end cs = scalars-ended s.profile s.cell end (marks s.profile s.cell cs) ∙ scalars-behind s.profile s.cell [] cs
+  scalars_are end cs = scalars-ended end (marks s.profile s.cell cs) ∙ scalars-behind s.profile s.cell [] cs
 
   within : (end : Verdict) → length (text_of (ended end (marks s.profile s.cell (chars (string_bytes p.text))))) ≤ s.limit
   within end =

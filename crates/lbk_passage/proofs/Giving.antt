@@ -17,7 +17,7 @@ use Rattle.lbk_passage.specs.declared.faults.PassageFault.TheVariants.{Limit, Me
 use Rattle.lbk_passage.specs.declared.paragraph.Paragraph.{Paragraph}
 use Rattle.lbk_passage.specs.declared.passage.Passage.{Passage}
 use Rattle.lbk_passage.proofs.Finding.{Shows}
-use Rattle.lbk_passage.proofs.Marking.{scalars-behind, scalars-ended}
+use Rattle.lbk_rules.proofs.MarkLemmas.{scalars-behind, scalars-ended}
 use Rattle.lbk_passage.proofs.Gathered.{Shows-of}
 use Rattle.lbk_passage.proofs.Taking.{string_len-is}
 
@@ -103,7 +103,7 @@ module _ (cell : ℕ → Cell) (profile : Profile) (old p : Paragraph) (u v : Op
     ms = ended end (marks profile cell (chars text))
 
     scalars_are : scalars_of ms ≡ chars text
-    scalars_are = scalars-ended profile cell end (marks profile cell (chars text)) ∙ scalars-behind profile cell [] (chars text)
+    scalars_are = scalars-ended end (marks profile cell (chars text)) ∙ scalars-behind profile cell [] (chars text)
 
     text_is : text_of ms ≡ text
     text_is = ap encode_utf8_all scalars_are ∙ encodes-chars (string_bytes p.text) (IsUtf8-string_bytes p.text)

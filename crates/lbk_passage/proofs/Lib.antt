@@ -17,3 +17,4 @@ pub mod FlagLemmas
 pub mod Passing
 pub mod SegmentLemmas
 pub mod Together
+pub mod Joining

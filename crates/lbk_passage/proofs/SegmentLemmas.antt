@@ -15,7 +15,7 @@ use Rattle.lbk_passage.specs.Breaks.{break_by, breaks, breaks_from, is_no}
 use Rattle.lbk_passage.specs.Cuts.{cut_at, ending_by}
 use Rattle.lbk_passage.specs.Marks.{Marked, ended, marks, marks_behind, scalars_of}
 use Rattle.lbk_passage.specs.Segments.{segment_by, segments_from, segments_of}
-use Rattle.lbk_passage.proofs.Marking.{scalars-behind}
+use Rattle.lbk_rules.proofs.MarkLemmas.{scalars-behind}
 
 -- The segments of some marks end at their breaks
 

@@ -9,8 +9,10 @@ use Rattle.lbk_passage.specs.Laws.{EndsOnce, break_at, segment_breaks}
 use Rattle.lbk_passage.specs.Marks.{Marked, marks, scalars_of, text_of}
 use Rattle.lbk_passage.specs.Passages.{passages, ends_passage, cut_after}
 use Rattle.lbk_passage.specs.Segments.{segment_by, segments_from, segments_of}
+use Rattle.lbk_rules.proofs.JoinLemmas.{breaks-joined}
+use Rattle.lbk_rules.proofs.MarkLemmas.{scalars-behind}
 use Rattle.lbk_passage.proofs.Cutting.{cut_after-joined, cut_after-whole, cut_after-ends, cut_after-only}
-use Rattle.lbk_passage.proofs.Marking.{marks-closed, scalars-behind}
+use Rattle.lbk_passage.proofs.Marking.{marks-closed}
 
 -- The breaks at the ends of segments
 
@@ -27,17 +29,6 @@ segments-shifted start from at (m ∷ ms) =
       | false ↦ ap (λ l. break_by (start + end) m.after ∷ l) (segments-shifted start end end ms) ∙ ap (λ n. break_by n m.after ∷ breaks_from n ms) place
     ]
 
-breaks-joined : (at : ℕ) (xs ys : List Marked) → breaks_from at (xs ++ ys) ≡ breaks_from at xs ++ breaks_from (at + length (text_of xs)) ys
-breaks-joined at [] ys = ap (λ n. breaks_from n ys) (let same : at ≡ at + 0 = omega arith in same)
-breaks-joined at (m ∷ ms) ys =
-    let end = at + length (encode_utf8 m.scalar) in
-    let place : end + length (text_of ms) ≡ at + length (text_of (m ∷ ms)) = omega (arith, length-append (encode_utf8 m.scalar) (text_of ms)) in
-    let rest = breaks-joined end ms ys ∙ ap (λ n. breaks_from end ms ++ breaks_from n ys) place in
-    elim (is_no m.after.kind)
-    as (λ k. cond k (breaks_from end (ms ++ ys)) (break_by end m.after ∷ breaks_from end (ms ++ ys))
-    ≡ cond k (breaks_from end ms) (break_by end m.after ∷ breaks_from end ms) ++ breaks_from (at + length (text_of (m ∷ ms))) ys)
-    [ true ↦ rest | false ↦ ap (λ l. break_by end m.after ∷ l) rest ]
-
 pub segment_breaks-are : (start : ℕ) (ps : List (List Marked)) → segment_breaks start ps ≡ breaks_from start (flat_map (λ ms. ms) ps)
 unfolding segments_of
 segment_breaks-are start [] = refl
@@ -49,7 +40,7 @@ segment_breaks-are start (ms ∷ ps) =
 
 -- The texts of passages
 
-texts-joined : (ps : List (List Marked)) → flat_map text_of ps ≡ encode_utf8_all (flat_map scalars_of ps)
+pub texts-joined : (ps : List (List Marked)) → flat_map text_of ps ≡ encode_utf8_all (flat_map scalars_of ps)
 texts-joined [] = refl
 texts-joined (ms ∷ ps) = ap (λ l. text_of ms ++ l) (texts-joined ps) ∙ sym (encodes-append (scalars_of ms) (flat_map scalars_of ps))
 

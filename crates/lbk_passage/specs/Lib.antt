@@ -9,6 +9,8 @@ pub mod Shown
 pub mod Next
 pub mod Laws
 pub mod Runs
+pub use Rattle.lbk_rules.specs.Joins
+pub mod Parts
 -- What only carries proofs.
 pub mod Faults
 pub mod Stays

@@ -1,7 +1,7 @@
 //! What the passages of a text have in common, over the definitions alone. Each law is the contract of a function
 //! that does nothing.
 
-ghost use Rattle.std.specs.Prelude.{◌≡◌, ◌⊎◌, ℕ, ◌<◌, List, [], ◌∷◌, ◌++◌, true, length, map, IsUtf8};
+ghost use Rattle.std.specs.Prelude.{◌≡◌, ◌⊎◌, ℕ, ◌<◌, List, [], ◌∷◌, ◌++◌, false, true, length, map, encode_utf8_all, IsTrue, IsUtf8};
 ghost use Rattle.std.specs.List.{AllByRecursion, flat_map};
 ghost use Rattle.std.specs.Str.{chars};
 ghost use Rattle.lbk_rules.specs.declared.cells.Cell.{Cell};
@@ -13,6 +13,8 @@ ghost use Rattle.lbk_passage.specs.Breaks.{breaks};
 ghost use Rattle.lbk_passage.specs.Laws.{EndsOnce, IsBehind, segment_breaks};
 ghost use Rattle.lbk_passage.specs.Marks.{Marked, marks, scalars_of, text_of};
 ghost use Rattle.lbk_passage.specs.Passages.{passages};
+ghost use Rattle.lbk_passage.specs.Joins.{AreParts, must_end_between, of_parts};
+ghost use Rattle.lbk_passage.specs.Parts.{passages_in, pieces_at, pieces_in, segments_at, segments_before, segments_in};
 ghost use Rattle.lbk_passage.specs.State.{State};
 ghost use Rattle.lbk_passage.specs.Next.{ComesFirst, IsDone, Stops};
 ghost use Rattle.lbk_passage.specs.Runs.{HasGiven};
@@ -72,4 +74,29 @@ pub fn run_ends()
         → HasGiven s.profile s.cell given (s.held ++ unread) → 0 < length stops.seen → (more : List ℕ)
         → passages s.profile s.cell (flat_map scalars_of given ++ (stops.seen ++ more))
         ≡ given ++ passages s.profile s.cell (stops.seen ++ more) }
+{}
+
+/// Texts between which a line must end may be cut into passages apart. Joined, these are the passages of the whole, but for
+/// the end of the first text: a text ends by rule 3, and by rule 4 or 5 where another follows. So are their segments and
+/// their pieces, the words among them, if the places of the second are moved by the bytes of the first (UAX #14, section
+/// 6.1, rules LB3 to LB5).
+pub fn joined_texts()
+    ensures passages { (profile : Profile) (cell : ℕ → Cell) (first second : List ℕ) → IsTrue (must_end_between cell first second)
+        → passages profile cell (first ++ second) ≡ passages_in profile cell true first ++ passages profile cell second }
+    ensures segments { (profile : Profile) (cell : ℕ → Cell) (first second : List ℕ) → IsTrue (must_end_between cell first second)
+        → segments_at 0 (passages profile cell (first ++ second))
+        ≡ segments_before profile cell true first ++ segments_in profile cell (length (encode_utf8_all first)) false second }
+    ensures pieces { (profile : Profile) (cell : ℕ → Cell) (first second : List ℕ) → IsTrue (must_end_between cell first second)
+        → pieces_at cell 0 (passages profile cell (first ++ second))
+        ≡ pieces_at cell 0 (passages profile cell first) ++ pieces_in profile cell (length (encode_utf8_all first)) false second }
+{}
+
+/// So may any number of parts: each is cut alone, with the byte at which it begins and whether another follows it.
+pub fn joined_parts()
+    ensures passages { (profile : Profile) (cell : ℕ → Cell) (parts : List (List ℕ)) → AreParts cell parts
+        → passages profile cell (flat_map (λ part. part) parts) ≡ of_parts (λ at. passages_in profile cell) 0 parts }
+    ensures segments { (profile : Profile) (cell : ℕ → Cell) (parts : List (List ℕ)) → AreParts cell parts
+        → segments_at 0 (passages profile cell (flat_map (λ part. part) parts)) ≡ of_parts (segments_in profile cell) 0 parts }
+    ensures pieces { (profile : Profile) (cell : ℕ → Cell) (parts : List (List ℕ)) → AreParts cell parts
+        → pieces_at cell 0 (passages profile cell (flat_map (λ part. part) parts)) ≡ of_parts (pieces_in profile cell) 0 parts }
 {}

@@ -1,4 +1,5 @@
 pub mod ChainLemmas
+pub mod AskedLemmas
 pub mod FactsLemmas
 pub mod LookAheadLemmas
 pub mod MachineLemmas
@@ -12,3 +13,5 @@ pub mod UnansweredLemmas
 pub mod EndLemmas
 pub mod StepLemmas
 pub mod NormalLemmas
+pub mod MarkLemmas
+pub mod JoinLemmas

@@ -11,10 +11,12 @@ pub mod Labels
 pub mod Held
 pub mod Annex
 pub mod Ends
+pub mod Joins
 pub mod Once
 pub mod Normal
 -- What only carries proofs.
 pub mod Answers
+pub mod Asked
 pub mod Chain
 pub mod Codes
 pub mod Facts

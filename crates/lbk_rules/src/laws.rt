@@ -1,6 +1,7 @@
 //! What the verdicts of a text have in common, over the definitions alone. Each law is the contract of a
 //! function that does nothing.
-ghost use Rattle.std.specs.Prelude.{◌≡◌, ℕ, ◌+◌, ◌-◌, ◌<◌, ◌≤◌, ◌⊎◌, false, not, List, [], ◌∷◌, ◌++◌, length, map, reverse, take, drop, IsSome, IsTrue, Some, None};
+ghost use Rattle.std.specs.Prelude.{◌≡◌, ℕ, ◌+◌, ◌-◌, ◌<◌, ◌≤◌, ◌⊎◌, true, false, not, List, [], ◌∷◌, ◌++◌, length, map, reverse, take, drop, encode_utf8_all, IsSome, IsTrue, Some, None};
+ghost use Rattle.std.specs.List.{flat_map};
 ghost use Rattle.lbk_rules.specs.declared.cells.Cell.{Cell};
 ghost use Rattle.lbk_rules.specs.declared.late_machine.LateMachine.{LateMachine};
 ghost use Rattle.lbk_rules.specs.declared.verdicts.Kind.TheVariants.{No, Must};
@@ -10,6 +11,9 @@ ghost use Rattle.lbk_rules.specs.declared.verdicts.Rule.TheVariants.{Lb2};
 ghost use Rattle.lbk_rules.specs.Classes.{mark};
 ghost use Rattle.lbk_rules.specs.Ends.{ends_line, ends_between, end_after, end_of_text, joins, joined_after};
 ghost use Rattle.lbk_rules.specs.Held.{is_held, unanswered, answer_at, late_at, now_at};
+ghost use Rattle.lbk_rules.specs.Breaks.{breaks};
+ghost use Rattle.lbk_rules.specs.Joins.{AreParts, breaks_before, breaks_in, marks_in, must_end_between, of_parts};
+ghost use Rattle.lbk_rules.specs.Marks.{marks};
 ghost use Rattle.lbk_rules.specs.LateFits.{LateFits, held_position};
 ghost use Rattle.lbk_rules.specs.Normal.{normal};
 ghost use Rattle.lbk_rules.specs.Once.{named, came_late, came_now};
@@ -162,4 +166,23 @@ pub fn normal_cells()
         → verdict_in profile (map normal cells) k ≡ verdict_in profile cells k }
     ensures held { (profile : Profile) (left right : List Cell)
         → is_held profile (map normal left) (map normal right) ≡ is_held profile left right }
+{}
+
+/// Texts between which a line must end may be decided apart. Joined, their marks are those of the whole, but for the end of
+/// the first: a text ends by rule 3, and by rule 4 or 5 where another follows. Their breaks are those of the whole, if the
+/// places of the second are moved by the bytes of the first (UAX #14, section 6.1, rules LB3 to LB5).
+pub fn joined_texts()
+    ensures marks { (profile : Profile) (cell : ℕ → Cell) (first second : List ℕ) → IsTrue (must_end_between cell first second)
+        → marks profile cell (first ++ second) ≡ marks_in profile cell true first ++ marks profile cell second }
+    ensures breaks { (profile : Profile) (cell : ℕ → Cell) (first second : List ℕ) → IsTrue (must_end_between cell first second)
+        → breaks profile cell (first ++ second)
+        ≡ breaks_before profile cell true first ++ breaks_in profile cell (length (encode_utf8_all first)) false second }
+{}
+
+/// So may any number of parts: each is decided alone, with the byte at which it begins and whether another follows it.
+pub fn joined_parts()
+    ensures marks { (profile : Profile) (cell : ℕ → Cell) (parts : List (List ℕ)) → AreParts cell parts
+        → marks profile cell (flat_map (λ part. part) parts) ≡ of_parts (λ at. marks_in profile cell) 0 parts }
+    ensures breaks { (profile : Profile) (cell : ℕ → Cell) (parts : List (List ℕ)) → AreParts cell parts
+        → breaks profile cell (flat_map (λ part. part) parts) ≡ of_parts (breaks_in profile cell) 0 parts }
 {}

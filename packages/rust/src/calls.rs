@@ -3,7 +3,7 @@
 use core::mem::size_of;
 
 /// `sizeof(lbk_table)`, in numbers of 8 bytes.
-const TABLE_WORDS: usize = 205_058;
+const TABLE_WORDS: usize = 205_226;
 
 /// `LBK_MUST`
 pub const MUST: u8 = 2;
