@@ -6,6 +6,7 @@ pub mod Order
 pub mod State
 pub mod Streams
 pub mod Faults
+pub mod Texts
 -- What only carries proofs.
 pub mod Decided
 pub mod Reached
