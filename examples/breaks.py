@@ -12,12 +12,12 @@ import lbk
 def main():
     if len(sys.argv) < 5:
         sys.exit("usage: breaks.py LINE_BREAK EAST_ASIAN CATEGORY EMOJI [PROFILE] < TEXT")
-    table = lbk.Table.load(*sys.argv[1:5])
+    table = lbk.Table.from_files(*sys.argv[1:5])
     profile = 2 if sys.argv[5:] == ["2"] else 1
     start = 0
     for found in table.breaks(sys.stdin.buffer.read(), profile):
-        print("S", start, found.byte, found.kind.name.title(), found.rule)
-        start = found.byte
+        print("S", start, found.at, found.kind.name.title(), found.rule.label)
+        start = found.at
 
 
 main()

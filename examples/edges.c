@@ -225,7 +225,7 @@ static void try_tables(void)
 
 static void try_labels(void)
 {
-    static const char *const labels[LBK_RULES] = {
+    static const char *const labels[UINT8_MAX + 1] = {
         [LBK_RULE_2] = "2", [LBK_RULE_3] = "3", [LBK_RULE_4] = "4", [LBK_RULE_5] = "5", [LBK_RULE_6] = "6",
         [LBK_RULE_7] = "7", [LBK_RULE_8] = "8", [LBK_RULE_8A] = "8a", [LBK_RULE_9] = "9", [LBK_RULE_11] = "11",
         [LBK_RULE_12] = "12", [LBK_RULE_12A] = "12a", [LBK_RULE_13] = "13", [LBK_RULE_14] = "14", [LBK_RULE_15] = "15",
@@ -235,12 +235,58 @@ static void try_labels(void)
         [LBK_RULE_26] = "26", [LBK_RULE_27] = "27", [LBK_RULE_28] = "28", [LBK_RULE_29] = "29", [LBK_RULE_30] = "30",
         [LBK_RULE_30A] = "30a", [LBK_RULE_30B] = "30b", [LBK_RULE_31] = "31"
     };
-    static const char none[4];
     for (unsigned rule = 0; rule <= UINT8_MAX; rule++) {
         lbk_rule_label label = lbk_label((uint8_t)rule), wanted = {{0}};
-        if (rule < LBK_RULES)
+        if (labels[rule] != NULL)
             strcpy(wanted.text, labels[rule]);
-        told("a rule's label", memcmp(label.text, rule < LBK_RULES ? wanted.text : none, 4) == 0);
+        told("a rule's label", memcmp(label.text, wanted.text, sizeof wanted.text) == 0);
+    }
+}
+
+/* Whether the text has just these words, each as its start and its end, in the order of `places`,
+ * which two zeros end. */
+static int has_words(const char *text, size_t size, const size_t *places)
+{
+    lbk_word_state state = {0};
+    lbk_word block[ROOM];
+    size_t count = lbk_words(&state, text, size, block, ROOM);
+    for (size_t k = 0; k < count; k++)
+        if (block[k].start != places[2 * k] || block[k].end != places[2 * k + 1])
+            return 0;
+    return places[2 * count] == 0 && places[2 * count + 1] == 0 && state.at == size;
+}
+
+#define WORDS(...) (const size_t[]){__VA_ARGS__, 0, 0}
+
+static void try_words(void)
+{
+    lbk_word_state state = {0};
+    lbk_word one;
+    told("an empty text has no word", has_words(NULL, 0, WORDS(0, 0)));
+    told("no room for a word: 0", lbk_words(&state, "a b", 3, NULL, 0) == 0 && state.at == 0);
+    for (size_t at = 3; at != 0; at = at == 3 ? SIZE_MAX : 0) {
+        state.at = at;
+        told("words at the end and past it: 0", lbk_words(&state, "a b", 3, &one, 1) == 0 && state.at == at);
+    }
+    state.at = 0;
+    for (size_t k = 0; k < 2; k++)
+        told("room for one word", lbk_words(&state, "a b", 3, &one, 1) == 1 && one.start == 2 * k && one.end == 2 * k + 1);
+    told("room for one word: no more", lbk_words(&state, "a b", 3, &one, 1) == 0);
+    state.at = 1;
+    told("a text that is taken from a byte on", lbk_words(&state, "ab", 2, &one, 1) == 1 && one.start == 1 && one.end == 2);
+
+    told("words and no words", has_words("can't, 3.5 - \xE4\xB8\x80!", 17, WORDS(0, 5, 7, 10, 13, 16)));
+    told("a mid letter without a letter behind it", has_words("a' b.", 5, WORDS(0, 1, 3, 4)));
+    told("a mark belongs to its letter", has_words("e\xCC\x81" "e", 4, WORDS(0, 4)));
+    told("a word across the end of a line", has_words("ab\r\ncd", 6, WORDS(0, 2, 4, 6)));
+    told("no letter, no word", has_words("\xF0\x9F\x87\xA6\xF0\x9F\x87\xA6 --", 11, WORDS(0, 0)));
+    told("ill-formed bytes between words", has_words("a\xFF" "b", 3, WORDS(0, 1, 2, 3)));
+    told("a cut scalar between words", has_words("a\xE4\xB8" "b", 4, WORDS(0, 1, 3, 4)));
+    told("a cut scalar behind a word", has_words("a\xF0\x9F\x98", 4, WORDS(0, 1)));
+    told("ill-formed bytes in a mark's run", has_words("'a\x80\xCC\x81" "b", 6, WORDS(1, 2, 5, 6)));
+    for (unsigned byte = 0x80; byte <= UINT8_MAX; byte++) {
+        char text[] = {(char)byte, 'a'};
+        told("a byte of no scalar is in no word", has_words(text, 2, WORDS(1, 2)));
     }
 }
 
@@ -256,6 +302,7 @@ int main(void)
     try_sizes();
     try_tables();
     try_labels();
+    try_words();
     printf("%u passed, %u failed\n", passed, failed);
     return failed != 0;
 }

@@ -10,7 +10,7 @@ import random
 import sys
 
 import lbk
-from lbk import Kind
+from lbk import Break, Kind
 
 
 def lines(table, text, width):
@@ -27,7 +27,7 @@ def lines(table, text, width):
 
 
 def moved(found, by):
-    return found._replace(at=found.at + by, byte=found.byte + by)
+    return Break(found.at + by, found.kind, found.rule)
 
 
 def after_edit(table, old, breaks, at, removed, inserted):
@@ -73,7 +73,7 @@ def streamed(table, parts):
 def main():
     if len(sys.argv) != 5:
         sys.exit("usage: engine.py LINE_BREAK EAST_ASIAN CATEGORY EMOJI")
-    table = lbk.Table.load(*sys.argv[1:5])
+    table = lbk.Table.from_files(*sys.argv[1:5])
     chance = random.Random(1)
     pieces = ["ab", " ", "  ", ", ", "\n", "\r", "\r\n", "\u2028", "(", ")", "«", "»", "一", "。", "\u0301", "12", "%", "-", "\u200d"]
     failed = asked_in_all = breaks_in_all = 0

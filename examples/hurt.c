@@ -1,4 +1,4 @@
-/* Calls the library with random bytes as files, table, state and text, many times over.
+/* Calls the library with random bytes as files, table, states and text, many times over.
  *
  *     hurt ROUNDS SEED LINE_BREAK EAST_ASIAN CATEGORY EMOJI
  *
@@ -6,82 +6,7 @@
  * ends the program by a signal, also where no checker has seen the library's code. The last line is `N passed, M failed`.
  */
 #define _DEFAULT_SOURCE
-#include "example.h"
-
-#include <string.h>
-#include <sys/mman.h>
-#include <unistd.h>
-
-enum { MOST_TEXT = 200, MOST_ROOM = 40 };
-
-static unsigned long passed, failed;
-static uint64_t seed;
-
-static void told(const char *what, int holds)
-{
-    if (holds) {
-        passed++;
-    } else if (failed++ < 20) {
-        printf("FAILED  %s\n", what);
-    }
-}
-
-/* A number below `most` (xorshift64*, which is enough for trying). */
-static uint64_t below(uint64_t most)
-{
-    seed ^= seed >> 12;
-    seed ^= seed << 25;
-    seed ^= seed >> 27;
-    return most == 0 ? 0 : (seed * 0x2545F4914F6CDD1DULL >> 11) % most;
-}
-
-static void fill_random(void *to, size_t size)
-{
-    unsigned char *byte = to;
-    for (size_t k = 0; k < size; k++)
-        byte[k] = (unsigned char)below(256);
-}
-
-/* Pages that may be used, between two that may not. */
-typedef struct fenced {
-    unsigned char *from, *to;
-} fenced;
-
-static fenced fence(size_t size)
-{
-    size_t page = (size_t)sysconf(_SC_PAGESIZE), whole = (size + page - 1) / page * page;
-    unsigned char *all = mmap(NULL, whole + 2 * page, PROT_NONE, MAP_PRIVATE | MAP_ANONYMOUS, -1, 0);
-    if (all == MAP_FAILED || mprotect(all + page, whole, PROT_READ | PROT_WRITE) != 0)
-        abort();
-    return (fenced){all + page, all + page + whole};
-}
-
-/* A place of so many bytes in the pages, that ends where they end or begins where they begin. */
-static void *place(fenced pages, size_t size)
-{
-    return below(2) == 0 ? (void *)pages.from : (void *)(pages.to - size);
-}
-
-/* Bytes that look like text more or less: random ones, scalars of each size, and cut ones. */
-static size_t random_text(char *to)
-{
-    static const char *const parts[] = {"a", " ", "\n", "\r\n", "(", "\"", "\xC2\xAB", "\xC2\xBB", "\xCC\x81", "\xE2\x80\x8D",
-        "\xE4\xB8\x80", "\xEA\xB0\x80", "\xF0\x9F\x87\xA6", "\xF0\x9F\x98\x80", "\xF0\x9F\x8F\xBB", "\xE2\x80\x8B", "1", ",", "%",
-        "-", "\xD7\x90", "\xE0", "\xF0\x9F", "\xC3", "\xED\xA0\x80", "\xF4\x90", "\xEF\xBF\xBD", "\xC2\xA0"};
-    size_t size = 0, most = below(MOST_TEXT + 1);
-    unsigned mix = (unsigned)below(3);
-    while (size < most) {
-        const char *part = parts[below(sizeof parts / sizeof *parts)];
-        size_t length = strlen(part);
-        if (mix == 0 || (mix == 1 && below(4) == 0) || size + length > most)
-            to[size++] = (char)below(256);
-        else {
-            memcpy(to + size, part, length);
-            size += length;
-        }
-    }
-    return size;
-}
+#include "trying.h"
 
 static uint64_t digest(const void *of, size_t size)
 {
@@ -90,6 +15,16 @@ static uint64_t digest(const void *of, size_t size)
     for (size_t k = 0; k < size; k++)
         sum = (sum ^ byte[k]) * 1099511628211ULL;
     return sum;
+}
+
+/* Whether each break has a kind and a rule that there are, and stands behind the one before, none before `from`. */
+static int are_in_order(const lbk_break *block, size_t count, size_t from, size_t to)
+{
+    for (size_t k = 0; k < count; from = block[k++].at + 1)
+        if ((block[k].kind != LBK_MAY && block[k].kind != LBK_MUST) || lbk_label(block[k].rule).text[0] == 0 || block[k].at < from
+            || block[k].at >= to)
+            return 0;
+    return 1;
 }
 
 /* Asks for breaks until none comes, with rooms of all sizes. What holds of any table, state and text holds here. */
@@ -111,6 +46,9 @@ static void go_over(const lbk_table *table, fenced texts, fenced states, fenced 
         told("the profile stays", state->profile == from.profile);
         told("the place is in the text", state->at <= size || state->at == old.at);
         told("the place does not go back", state->at >= old.at);
+        told("breaks in order, between the places", are_in_order(block, count, old.at, state->ended ? size + 1 : state->at));
+        told("breaks take the state on", count == 0 || state->at > old.at || state->ended);
+        told("at its end a state is at the text's", old.ended || !state->ended || state->at == size);
         sum += count;
         if (count < room)
             break;
@@ -155,10 +93,43 @@ static void compare_rooms(const lbk_table *table)
     } while (count == room && got <= MOST_TEXT);
     int same = got == all && (size == 0 || (all > 0 && whole[all - 1].at == size));
     for (size_t k = 0; same && k < all; k++)
-        same = whole[k].at == part[k].at && whole[k].kind == part[k].kind && whole[k].rule == part[k].rule
-            && (whole[k].kind == LBK_MAY || whole[k].kind == LBK_MUST) && whole[k].rule < LBK_RULES
-            && (k == 0 || whole[k - 1].at < whole[k].at);
+        same = whole[k].at == part[k].at && whole[k].kind == part[k].kind && whole[k].rule == part[k].rule;
+    same = same && are_in_order(whole, all, 0, size + 1);
     told("blocks of any rooms have the same breaks", same);
+}
+
+/* Asks for the words of a text, from any byte on, with rooms of all sizes: they rise, and are those
+ * that one great block has. */
+static void go_over_words(fenced texts, fenced states, fenced blocks)
+{
+    char made[MOST_TEXT];
+    lbk_word whole[MOST_TEXT];
+    size_t size = random_text(made), got = 0, last = 0, start = below(4) == 0 ? below(MOST_TEXT + 2) : 0;
+    char *text = place(texts, size);
+    memcpy(text, made, size);
+    lbk_word_state *state = place(states, sizeof *state);
+    state->at = start;
+    size_t all = lbk_words(state, text, size, whole, MOST_TEXT);
+    told("all words: the state is at the end", state->at == size || (start > size && state->at == start));
+    state->at = start;
+    for (unsigned calls = 0; calls < 4 * MOST_TEXT; calls++) {
+        size_t room = below(MOST_ROOM + 1);
+        lbk_word *block = place(blocks, room * sizeof *block);
+        lbk_word_state old = *state;
+        size_t count = lbk_words(state, text, size, block, room);
+        told("no more words than there is room for", count <= room && got + count <= all);
+        told("the place of words does not go back", state->at >= old.at && (state->at <= size || state->at == old.at));
+        for (size_t k = 0; k < count && got < all; k++, got++) {
+            told("blocks of any rooms have the same words", block[k].start == whole[got].start && block[k].end == whole[got].end);
+            told("words rise", last <= block[k].start && block[k].start < block[k].end && block[k].end <= size);
+            last = block[k].end;
+        }
+        if (count < room)
+            break;
+        told("a full block of words takes the state on", room == 0 || state->at > old.at);
+    }
+    told("each word came", got == all);
+    told("the text of words is as it was", memcmp(text, made, size) == 0);
 }
 
 /* Files with a few bytes changed: a fault leaves the table, and names a file, a line of it and a cause. */
@@ -225,6 +196,7 @@ int main(int words, char **word)
         for (unsigned times = 0; times < ROUNDS_WITH_A_TABLE; times++) {
             go_over(table, texts, states, blocks, random_state());
             compare_rooms(&real);
+            go_over_words(texts, states, blocks);
         }
         told("the table is as it was", digest(table, sizeof *table) == old);
         read_changed(table, files);

@@ -18,16 +18,17 @@
  * lbk_read takes memory from the heap, and lbk_read gives back what it took.
  *
  * Threads. The library has no variables. Any number of calls may use one table at the same time, as long as none of them
- * writes it; only lbk_read writes a table, and lbk_breaks writes only its state and its block.
+ * writes it; only lbk_read writes a table, and each other call writes only its state or stream, and its block.
  *
  * What a caller owes, and all that a caller owes:
- *   - A pointer that comes with a length has at least as many bytes (as many breaks, for a block) behind it. Where the
+ *   - A pointer that comes with a length has at least as many bytes (as many breaks or words, for a block) behind it. Where the
  *     length is 0 the pointer may be null. No length is over PTRDIFF_MAX bytes, as no object of C is.
- *   - A table and a state are not null, and are aligned as C aligns objects of their types.
- *   - What a call writes (the table of lbk_read; the state and the block of lbk_breaks) overlaps nothing else that the call
+ *   - A table, a state and a stream are not null, and are aligned as C aligns objects of their types.
+ *   - What a call writes (the table of lbk_read; the state or the stream, and the block) overlaps nothing else that the call
  *     is given, and nobody else uses it during the call.
- * Nothing else can hurt: whatever bytes the files, the text, the table and the state have, each call returns, and reads and
- * writes nothing but what it was given. A table or a state with made-up bytes gives made-up breaks, and no more.
+ * Nothing else can hurt: whatever bytes the files, the text, the table, the state and the stream have, each call returns, and
+ * reads and writes nothing but what it was given. A table, a state or a stream with made-up bytes gives made-up breaks, and no
+ * more.
  *
  * C99 and later, and C++. 64-bit targets alone.
  */
@@ -52,8 +53,11 @@ extern "C" {
 /* The version of Unicode whose rules these are. The files that lbk_read is given should be of the same one. */
 #define LBK_UNICODE_VERSION "15.0"
 
+/* The version of Unicode whose word boundaries, letters and numbers lbk_words goes by. */
+#define LBK_WORDS_UNICODE_VERSION "18.0"
+
 /* The layout of a table that this version fills and uses: what lbk_table.layout is then. */
-#define LBK_LAYOUT 1
+#define LBK_LAYOUT 2
 
 /* How many codes Unicode has, 0 to 10FFFF, and how many steps stand in each array of a table. */
 #define LBK_CODES 0x110000
@@ -66,47 +70,47 @@ enum {
     LBK_MUST = 2 /* a line ends here: behind a paragraph separator, and at the end of the text */
 };
 
-/* lbk_break.rule: the rules of UAX #14, section 6, in their order. lbk_label has their names. */
+/* lbk_break.rule: the rules of UAX #14, section 6, in their order. The number is made of the rule's own: 8 times it, and the
+ * place of its letter. So no rule of a later version of Unicode changes that of another. lbk_label gives a rule's name. */
 enum {
-    LBK_RULE_2 = 0,
-    LBK_RULE_3 = 1,
-    LBK_RULE_4 = 2,
-    LBK_RULE_5 = 3,
-    LBK_RULE_6 = 4,
-    LBK_RULE_7 = 5,
-    LBK_RULE_8 = 6,
-    LBK_RULE_8A = 7,
-    LBK_RULE_9 = 8,
-    LBK_RULE_11 = 9,
-    LBK_RULE_12 = 10,
-    LBK_RULE_12A = 11,
-    LBK_RULE_13 = 12,
-    LBK_RULE_14 = 13,
-    LBK_RULE_15 = 14,  /* in the first profile alone */
-    LBK_RULE_15A = 15, /* in the second profile alone */
-    LBK_RULE_15B = 16, /* in the second profile alone */
-    LBK_RULE_16 = 17,
-    LBK_RULE_17 = 18,
-    LBK_RULE_18 = 19,
-    LBK_RULE_19 = 20,
-    LBK_RULE_20 = 21,
-    LBK_RULE_21 = 22,
-    LBK_RULE_21A = 23,
-    LBK_RULE_21B = 24,
-    LBK_RULE_22 = 25,
-    LBK_RULE_23 = 26,
-    LBK_RULE_23A = 27,
-    LBK_RULE_24 = 28,
-    LBK_RULE_25 = 29,
-    LBK_RULE_26 = 30,
-    LBK_RULE_27 = 31,
-    LBK_RULE_28 = 32,
-    LBK_RULE_29 = 33,
-    LBK_RULE_30 = 34,
-    LBK_RULE_30A = 35,
-    LBK_RULE_30B = 36,
-    LBK_RULE_31 = 37,
-    LBK_RULES = 38 /* how many there are */
+    LBK_RULE_2 = 8 * 2,
+    LBK_RULE_3 = 8 * 3,
+    LBK_RULE_4 = 8 * 4,
+    LBK_RULE_5 = 8 * 5,
+    LBK_RULE_6 = 8 * 6,
+    LBK_RULE_7 = 8 * 7,
+    LBK_RULE_8 = 8 * 8,
+    LBK_RULE_8A = 8 * 8 + 1,
+    LBK_RULE_9 = 8 * 9,
+    LBK_RULE_11 = 8 * 11,
+    LBK_RULE_12 = 8 * 12,
+    LBK_RULE_12A = 8 * 12 + 1,
+    LBK_RULE_13 = 8 * 13,
+    LBK_RULE_14 = 8 * 14,
+    LBK_RULE_15 = 8 * 15,      /* in the first profile alone */
+    LBK_RULE_15A = 8 * 15 + 1, /* in the second profile alone */
+    LBK_RULE_15B = 8 * 15 + 2, /* in the second profile alone */
+    LBK_RULE_16 = 8 * 16,
+    LBK_RULE_17 = 8 * 17,
+    LBK_RULE_18 = 8 * 18,
+    LBK_RULE_19 = 8 * 19,
+    LBK_RULE_20 = 8 * 20,
+    LBK_RULE_21 = 8 * 21,
+    LBK_RULE_21A = 8 * 21 + 1,
+    LBK_RULE_21B = 8 * 21 + 2,
+    LBK_RULE_22 = 8 * 22,
+    LBK_RULE_23 = 8 * 23,
+    LBK_RULE_23A = 8 * 23 + 1,
+    LBK_RULE_24 = 8 * 24,
+    LBK_RULE_25 = 8 * 25,
+    LBK_RULE_26 = 8 * 26,
+    LBK_RULE_27 = 8 * 27,
+    LBK_RULE_28 = 8 * 28,
+    LBK_RULE_29 = 8 * 29,
+    LBK_RULE_30 = 8 * 30,
+    LBK_RULE_30A = 8 * 30 + 1,
+    LBK_RULE_30B = 8 * 30 + 2,
+    LBK_RULE_31 = 8 * 31
 };
 
 /* lbk_state.profile: which rules stand for quotation marks. With any other number lbk_breaks answers 0. */
@@ -144,6 +148,12 @@ typedef struct lbk_step {
     uint16_t code, next;
 } lbk_step;
 
+/* What a table knows of bytes that stand side by side: numbers of the library's own. */
+typedef struct lbk_neighbours {
+    uint8_t classes[8][16], left[16], right[16];
+    uint16_t rows[256];
+} lbk_neighbours;
+
 /* What lbk_read makes of the four files, and what lbk_breaks decides by: plain numbers and no pointers, in the order of bytes
  * of the machine. So a table can be copied, be kept in a file, be mapped from there by other processes, and be shared.
  *
@@ -152,12 +162,13 @@ typedef struct lbk_table {
     uint64_t layout; /* LBK_LAYOUT, where lbk_read filled the table */
     uint64_t digest; /* of all that follows, for lbk_check */
     lbk_step first[LBK_STEPS], second[LBK_STEPS];
+    lbk_neighbours first_pairs, second_pairs;
     uint8_t kinds[LBK_CODES];
 } lbk_table;
 
 /* How far the breaks of a text were asked for. All zeros are the start of a text in the first profile; set profile for the
  * second. A state is a value: it may be copied, be kept, and be gone back to. It holds of the text that it was used with, and
- * of each that has the same bytes. */
+ * of each that has the same bytes from `at` on and as many before them, whatever these are. */
 typedef struct lbk_state {
     size_t at;       /* up to this byte of the text, not counting it, scalars were taken */
     uint16_t row;    /* what is known of them: a number of the table's */
@@ -165,10 +176,30 @@ typedef struct lbk_state {
     uint8_t ended;   /* 0, or else nothing more is to come, and lbk_breaks answers 0 */
 } lbk_state;
 
-/* A place of a text where a line may or must end. */
+/* How far a text was taken that comes in pieces. All zeros are its start in the first profile; set profile for the second. A
+ * stream is a value: it may be copied, be kept, and be gone back to. It has no pointers, and no earlier piece is needed again.
+ * Callers read `at`, `ended` and `cut_size`, and write `profile` at the start; the others are numbers of the library's own. */
+typedef struct lbk_stream {
+    uint64_t at;        /* up to this byte of the stream, not counting it, scalars were taken */
+    uint64_t held_at;   /* the one place that waits for what follows, where there is one; in the second profile alone */
+    uint16_t row;       /* what is known of the scalars that were taken: a number of the table's */
+    uint16_t held_code; /* the break that is due at held_at if what follows leaves the quotation open; 0: no place waits */
+    uint8_t cut[4];     /* the bytes behind `at` that came already, as those of a scalar that a piece's end cut */
+    uint8_t cut_size;   /* how many these are */
+    uint8_t profile;    /* LBK_FIRST or LBK_SECOND; no call changes it */
+    uint8_t ended;      /* 0, or else nothing more is to come */
+} lbk_stream;
+
+/* What lbk_feed did. */
+typedef struct lbk_fed {
+    size_t taken; /* how many bytes of the piece were taken; the others have to be given again, in front of what follows */
+    size_t count; /* how many breaks stand in the front of the block */
+} lbk_fed;
+
+/* A place of a text where a line may or must end; of lbk_positions, any place between scalars. */
 typedef struct lbk_break {
     size_t at;    /* it stands before this byte of the text, counted from 0; at its end, before none: the text's size */
-    uint8_t kind; /* LBK_MAY or LBK_MUST */
+    uint8_t kind; /* LBK_MAY or LBK_MUST; of lbk_positions, LBK_NO, too */
     uint8_t rule; /* the rule that decided, as LBK_RULE_18 */
 } lbk_break;
 
@@ -178,6 +209,18 @@ typedef struct lbk_fault {
     uint32_t line;  /* from 1; 0 where the fault is in no line */
     uint32_t cause; /* LBK_CAUSE_NONE: no fault, and then file and line are 0 */
 } lbk_fault;
+
+/* How far the words of a text were asked for. All zeros are the start of a text. As lbk_state it is
+ * a value, and holds of each text that has the same bytes. `at` may also be set to any byte: the
+ * text from there on is then taken alone. */
+typedef struct lbk_word_state {
+    size_t at; /* the byte from which the next words come */
+} lbk_word_state;
+
+/* A word of a text: the bytes from `start` up to `end`, not counting that one, and one at least. */
+typedef struct lbk_word {
+    size_t start, end; /* counted from the text's start */
+} lbk_word;
 
 /* The name of a rule without `LB`, as "8a": ASCII, and zeros up to the end. The last byte is always zero. */
 typedef struct lbk_rule_label {
@@ -201,10 +244,85 @@ lbk_fault lbk_read(lbk_table *table, const void *line_break, size_t line_break_s
  * bytes are ill-formed, each longest piece that could have begun a scalar, or else each byte, is read as one U+FFFD at its
  * place (Unicode Standard, section 3.9, "U+FFFD Substitution of Maximal Subparts"), so each `at` counts the text's own bytes.
  *
+ * Whatever the table and the state have, each break is LBK_MAY or LBK_MUST by one of the rules; their places rise, from the
+ * state's `at` on and up to `size`; and a state of which breaks came is further on than it was, or has ended, with its `at` at
+ * `size`. So kinds and rules can be looked up in arrays, and calls while a block comes back full come to an end.
+ *
  * Answers 0 and leaves the state as it is: where `room` is 0, where the state's profile is none of the two, where its `at` is
  * behind the text's end, and where it has ended. What the block has behind the breaks that are answered is not specified: any of
  * its places may be written. Takes no memory from the heap. */
 size_t lbk_breaks(const lbk_table *table, lbk_state *state, const char *text, size_t size, lbk_break *block, size_t room);
+
+/* The same for a text that comes in pieces of any size, as from a socket: takes the next piece of a stream, and puts the breaks
+ * that it settles into the front of a block with room for `room` breaks.
+ *
+ *     lbk_stream stream = {0};
+ *     char piece[4096];
+ *     lbk_break block[64];
+ *     bool last;
+ *     do {
+ *         ssize_t size = read(socket, piece, sizeof piece);    0 at the end
+ *         if (size < 0) ..
+ *         last = size == 0;
+ *         size_t from = 0;
+ *         lbk_fed fed;
+ *         do {
+ *             fed = lbk_feed(&table, &stream, piece + from, (size_t)size - from, last, block, 64);
+ *             from += fed.taken;
+ *             for (size_t k = 0; k < fed.count; k++)
+ *                 .. block[k].at, block[k].kind, block[k].rule ..
+ *         } while (fed.count == 64);
+ *     } while (!last);
+ *
+ * However the text is cut into pieces, and whatever room each call has, the breaks of all calls are those that lbk_breaks
+ * gives of the joined pieces, each once and in the same order; `at` counts from the start of the stream. A piece may be empty,
+ * and may end within a scalar. `last` says that nothing follows the piece: the rest is decided then, the end too.
+ *
+ * Fewer breaks than `room` say that the whole piece was taken, and after `last` that these were all; later calls then give 0
+ * and take all that they are given. Where the block is full, call again with the rest of the piece (it may be empty) and the
+ * same `last`.
+ *
+ * A break is given by the call that brings what settles it: the whole of the scalar behind it. Where a closing quotation mark
+ * stands behind it, the second profile may need the next scalar too that is no combining mark; at most one place waits so.
+ *
+ * Takes nothing and leaves the stream as it is where `room` is 0. Gives no break and takes all where the stream's profile is
+ * none of the two. A stream has fewer than 2^64 bytes. What the block has behind the breaks that are given is not specified.
+ * Takes no memory from the heap. */
+lbk_fed lbk_feed(const lbk_table *table, lbk_stream *stream, const char *piece, size_t size, bool last, lbk_break *block,
+                 size_t room);
+
+/* Puts the next positions of a text into the front of a block, as lbk_breaks puts its breaks, and returns how many. A text has one
+ * position before each scalar and one at its end, and each comes once with what decides there: kind is LBK_NO, LBK_MAY or
+ * LBK_MUST, and rule the first rule that matches. So it says why a line does not break somewhere, too. The first position is
+ * always LBK_NO by rule 2; an empty text has that one alone. The positions where a line may or must end are the breaks of lbk_breaks.
+ *
+ * All else is as lbk_breaks has it: states, ill-formed bytes, room, and calls from which nothing comes. Each position of a text
+ * of n bytes takes one place of a block, so there are n + 1 at most. Takes no memory from the heap. */
+size_t lbk_positions(const lbk_table *table, lbk_state *state, const char *text, size_t size, lbk_break *block, size_t room);
+
+/* Puts the next words of a text, in the order of the text, into the front of a block with room for
+ * `room` words, and returns how many. Fewer than `room` says that these were all; later calls with
+ * the state then return 0. No table is needed:
+ *
+ *     lbk_word_state state = {0};                    the start of a text
+ *     lbk_word block[64];
+ *     size_t count;
+ *     do {
+ *         count = lbk_words(&state, text, size, block, 64);
+ *         for (size_t k = 0; k < count; k++)
+ *             .. text + block[k].start, block[k].end - block[k].start ..
+ *     } while (count == 64);
+ *
+ * A word is a part of the text between two neighbouring word boundaries (UAX #29, section 4, no
+ * tailorings) that has a letter or a number: a scalar whose General_Category is one of L or N. The
+ * properties are those of LBK_WORDS_UNICODE_VERSION.
+ *
+ * `text`, `size` and ill-formed bytes are as lbk_breaks has them. `text` is the whole text at each
+ * call, and the state tells how far earlier calls came: always to a word boundary. All calls for a
+ * text take time in proportion to its size, whatever `room` is. Returns 0 and leaves the state as it
+ * is where `room` is 0, and where the state's `at` is the text's size or more. What the block has
+ * after the words is not specified. Takes no memory from the heap. */
+size_t lbk_words(lbk_word_state *state, const char *text, size_t size, lbk_word *block, size_t room);
 
 /* The name of a rule by its number; an empty name for a number that no rule has. */
 lbk_rule_label lbk_label(uint8_t rule);
@@ -225,12 +343,17 @@ bool lbk_check(const lbk_table *table);
 LBK_ASSERT(a_size_has_64_bits, sizeof(size_t) == 8);
 LBK_ASSERT(a_step_has_4_bytes, sizeof(lbk_step) == 4);
 LBK_ASSERT(a_state_has_16_bytes, sizeof(lbk_state) == 16);
+LBK_ASSERT(a_stream_has_32_bytes, sizeof(lbk_stream) == 32);
+LBK_ASSERT(a_fed_has_16_bytes, sizeof(lbk_fed) == 16);
 LBK_ASSERT(a_break_has_16_bytes, sizeof(lbk_break) == 16);
+LBK_ASSERT(a_word_state_has_8_bytes, sizeof(lbk_word_state) == 8);
+LBK_ASSERT(a_word_has_16_bytes, sizeof(lbk_word) == 16);
 LBK_ASSERT(a_fault_has_12_bytes, sizeof(lbk_fault) == 12);
 LBK_ASSERT(a_label_has_4_bytes, sizeof(lbk_rule_label) == 4);
-LBK_ASSERT(a_table_has_no_gaps, sizeof(lbk_table) == 16 + 8 * LBK_STEPS + LBK_CODES);
+LBK_ASSERT(neighbours_have_672_bytes, sizeof(lbk_neighbours) == 672);
+LBK_ASSERT(a_table_has_no_gaps, sizeof(lbk_table) == 16 + 8 * LBK_STEPS + 2 * 672 + LBK_CODES);
 LBK_ASSERT(steps_stand_where_they_should, offsetof(lbk_table, first) == 16);
-LBK_ASSERT(kinds_stand_where_they_should, offsetof(lbk_table, kinds) == 16 + 8 * LBK_STEPS);
+LBK_ASSERT(kinds_stand_where_they_should, offsetof(lbk_table, kinds) == 16 + 8 * LBK_STEPS + 2 * 672);
 
 #undef LBK_ASSERT
 

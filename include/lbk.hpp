@@ -1,20 +1,43 @@
-// lbk.hpp: the breaks of a text as a range. C++17 and later; lbk.h says what the library does and what a caller owes.
+// lbk.hpp: the breaks of a text as a range. C++17 and later, with exceptions or without (the calls named try_..); lbk.h says
+// what the library does and what a caller owes.
 //
-//     lbk::table table = lbk::table::read(line_break, east_asian, category, emoji);
+//     lbk::table table = lbk::table::load("/usr/share/unicode");
 //     for (lbk_break found : lbk::breaks(table, text))
 //         .. found.at, found.kind, found.rule ..
 //
-// A range refers to its table and its text, as a std::string_view does, and copies neither: both have to outlive it.
+// A range refers to its table and its text, as a std::string_view does, and copies neither: both have to outlive it. So a
+// table or a std::string that is a temporary is refused at compile time.
 #ifndef LBK_HPP
 #define LBK_HPP
 
+#include <cerrno>
 #include <cstddef>
+#include <cstdint>
+#include <cstdio>
+#include <cstdlib>
+#include <cstring>
 #include <iterator>
 #include <memory>
 #include <new>
+#include <optional>
 #include <stdexcept>
 #include <string>
 #include <string_view>
+#include <system_error>
+#include <type_traits>
+#include <utility>
+
+#if __has_include(<version>)
+#include <version>
+#endif
+#if defined(__cpp_lib_ranges)
+#include <ranges>
+#endif
+
+#include <fcntl.h>
+#include <sys/mman.h>
+#include <sys/stat.h>
+#include <unistd.h>
 
 #include "lbk.h"
 
@@ -23,136 +46,384 @@ namespace lbk {
 /// Which rules stand for quotation marks.
 enum class profile : std::uint8_t { first = LBK_FIRST, second = LBK_SECOND };
 
-/// The four files are refused: the first fault that they have.
-class refused : public std::runtime_error {
-public:
-    explicit refused(lbk_fault fault) : std::runtime_error(told(fault)), fault_(fault) {}
-
-    lbk_fault fault() const noexcept { return fault_; }
-
-private:
-    lbk_fault fault_;
-
-    static std::string told(lbk_fault fault)
-    {
-        static const char *const files[] = {"no file", "LineBreak.txt", "EastAsianWidth.txt", "DerivedGeneralCategory.txt",
-                                            "emoji-data.txt"};
-        std::string file = files[fault.file < 5 ? fault.file : 0];
-        return file + ":" + std::to_string(fault.line) + ": cause " + std::to_string(fault.cause);
-    }
-};
-
-/// A table on the heap. It can be moved and not copied; const calls may come from any number of threads.
-class table {
-public:
-    /// From the bytes of the four files. Throws refused at their first fault, and std::bad_alloc where memory is refused.
-    static table read(std::string_view line_break, std::string_view east_asian, std::string_view category, std::string_view emoji)
-    {
-        table made;
-        lbk_fault fault = lbk_read(made.held_.get(), line_break.data(), line_break.size(), east_asian.data(), east_asian.size(),
-                                   category.data(), category.size(), emoji.data(), emoji.size());
-        if (fault.cause == LBK_CAUSE_OUT_OF_MEMORY)
-            throw std::bad_alloc();
-        if (fault.cause != LBK_CAUSE_NONE)
-            throw refused(fault);
-        return made;
-    }
-
-    const lbk_table &get() const noexcept { return *held_; }
-    operator const lbk_table &() const noexcept { return *held_; }
-
-private:
-    std::unique_ptr<lbk_table> held_;
-
-    table() : held_(new lbk_table) {}
-};
-
-/// The breaks of a text in their order: a range that can be gone through any number of times.
-class breaks {
-public:
-    /// A place in the range. Copies go on by themselves. Each holds a few breaks that were asked for at once.
-    class iterator {
-    public:
-        using iterator_category = std::forward_iterator_tag;
-        using value_type = lbk_break;
-        using difference_type = std::ptrdiff_t;
-        using pointer = const lbk_break *;
-        using reference = const lbk_break &;
-
-        /// The end of any range.
-        iterator() noexcept = default;
-
-        reference operator*() const noexcept { return block_[next_]; }
-        pointer operator->() const noexcept { return &block_[next_]; }
-
-        iterator &operator++() noexcept
-        {
-            if (++next_ == count_)
-                fill();
-            return *this;
-        }
-
-        iterator operator++(int) noexcept
-        {
-            iterator before = *this;
-            ++*this;
-            return before;
-        }
-
-        /// Of two places in one range: whether they are at the same break, or both at the end.
-        friend bool operator==(const iterator &a, const iterator &b) noexcept
-        {
-            if (a.count_ == 0 || b.count_ == 0)
-                return a.count_ == b.count_;
-            return a->at == b->at;
-        }
-
-        friend bool operator!=(const iterator &a, const iterator &b) noexcept { return !(a == b); }
-
-    private:
-        friend class breaks;
-
-        static constexpr std::size_t room = 16;
-
-        const lbk_table *table_ = nullptr;
-        std::string_view text_;
-        lbk_state state_ = {0, 0, LBK_FIRST, 0};
-        std::size_t next_ = 0, count_ = 0;
-        lbk_break block_[room];
-
-        iterator(const lbk_table &by, std::string_view text, profile rules) noexcept : table_(&by), text_(text)
-        {
-            state_.profile = static_cast<std::uint8_t>(rules);
-            fill();
-        }
-
-        void fill() noexcept
-        {
-            next_ = 0;
-            count_ = lbk_breaks(table_, &state_, text_.data(), text_.size(), block_, room);
-        }
+/// Why there is no table. It converts to false where nothing is wrong.
+struct error {
+    enum class reason : std::uint8_t {
+        none,
+        refused,      ///< the four files have a fault, and `fault` is the first
+        unreadable,   ///< a file cannot be read: `fault.file` names it, 0 for a saved table, and `system` is the errno
+        not_a_table,  ///< the bytes are no whole table of this version
+        out_of_memory ///< memory was refused
     };
 
+    reason why = reason::none;
+    int system = 0;
+    lbk_fault fault = {LBK_NO_FILE, 0, LBK_CAUSE_NONE};
+
+    explicit operator bool() const noexcept { return why != reason::none; }
+
+    /// What went wrong, in English.
+    std::string message() const
+    {
+        static const char *const names[] = {"table", "LineBreak.txt", "EastAsianWidth.txt", "DerivedGeneralCategory.txt",
+                                            "emoji-data.txt"};
+        std::string file = names[fault.file < 5 ? fault.file : 0];
+        switch (why) {
+        case reason::none:
+            return "no error";
+        case reason::refused:
+            return file + ':' + std::to_string(fault.line) + ": cause " + std::to_string(fault.cause);
+        case reason::unreadable:
+            return file + ": " + std::generic_category().message(system);
+        case reason::not_a_table:
+            return "not a whole table of version " LBK_VERSION;
+        case reason::out_of_memory:
+            return "out of memory";
+        }
+        return {};
+    }
+};
+
+/// There is no table, and the error says why.
+class table_error : public std::runtime_error {
+public:
+    explicit table_error(const lbk::error &why) : std::runtime_error(why.message()), why_(why) {}
+
+    const lbk::error &error() const noexcept { return why_; }
+
+private:
+    lbk::error why_;
+};
+
+namespace detail {
+
+/// The bytes of a file.
+class file_bytes {
+public:
+    /// Reads the file FOLDER/BELOW NAME whole. Returns 0, or the errno of what failed.
+    int read(const char *folder, const char *below, const char *name) noexcept
+    {
+        char path[4096];
+        int length = std::snprintf(path, sizeof path, "%s/%s%s", folder, below, name);
+        if (length < 0 || static_cast<std::size_t>(length) >= sizeof path)
+            return ENAMETOOLONG;
+        std::FILE *file = std::fopen(path, "rb");
+        if (file == nullptr)
+            return errno;
+        int status = read_all(file);
+        std::fclose(file);
+        return status;
+    }
+
+    std::string_view view() const noexcept { return {at_.get(), size_}; }
+
+private:
+    struct freed {
+        void operator()(char *at) const noexcept { std::free(at); }
+    };
+
+    std::unique_ptr<char, freed> at_;
+    std::size_t size_ = 0;
+
+    int read_all(std::FILE *file) noexcept
+    {
+        for (std::size_t room = 0, count = 1; count != 0; size_ += count) {
+            if (size_ == room) {
+                room = 2 * room + 65536;
+                char *more = static_cast<char *>(std::realloc(at_.get(), room));
+                if (more == nullptr)
+                    return ENOMEM;
+                (void)at_.release();
+                at_.reset(more);
+            }
+            errno = 0;
+            count = std::fread(at_.get() + size_, 1, room - size_, file);
+        }
+        return std::ferror(file) != 0 ? errno : 0;
+    }
+};
+
+} // namespace detail
+
+/// The table that these bytes are, which is not copied; null where they are no whole table of this version, or are not aligned as
+/// one. For a table within the program, or within other memory.
+inline const lbk_table *table_in(std::string_view bytes) noexcept
+{
+    if (bytes.size() != sizeof(lbk_table) || reinterpret_cast<std::uintptr_t>(bytes.data()) % alignof(lbk_table) != 0)
+        return nullptr;
+    const lbk_table *made = reinterpret_cast<const lbk_table *>(bytes.data());
+    return lbk_check(made) ? made : nullptr;
+}
+
+/// A table on the heap or in a mapped file. It can be moved and not copied; const calls may come from any number of threads.
+/// Each way to make one has a form that throws std::bad_alloc or table_error, and a form try_.. that gives no value and an error.
+class table {
+public:
+    /// From the bytes of the four files.
+    static std::optional<table> try_read(std::string_view line_break, std::string_view east_asian, std::string_view category,
+                                         std::string_view emoji, error &why) noexcept
+    {
+        lbk_table *made = new (std::nothrow) lbk_table;
+        if (made == nullptr)
+            return none(why, error::reason::out_of_memory);
+        table held(made, freed);
+        lbk_fault fault = lbk_read(made, line_break.data(), line_break.size(), east_asian.data(), east_asian.size(),
+                                   category.data(), category.size(), emoji.data(), emoji.size());
+        if (fault.cause == LBK_CAUSE_OUT_OF_MEMORY)
+            return none(why, error::reason::out_of_memory);
+        if (fault.cause != LBK_CAUSE_NONE)
+            return none(why, error::reason::refused, 0, fault);
+        why = {};
+        return held;
+    }
+
+    /// From a folder of the Unicode Character Database, as "/usr/share/unicode": its LineBreak.txt, EastAsianWidth.txt,
+    /// extracted/DerivedGeneralCategory.txt and emoji/emoji-data.txt; the last two may also lie in the folder itself.
+    static std::optional<table> try_load(const std::string &folder, error &why) noexcept
+    {
+        static const char *const names[] = {"LineBreak.txt", "EastAsianWidth.txt", "DerivedGeneralCategory.txt", "emoji-data.txt"};
+        static const char *const below[] = {"", "", "extracted/", "emoji/"};
+        detail::file_bytes files[4];
+        for (std::uint32_t k = 0; k < 4; k++) {
+            int status = files[k].read(folder.c_str(), below[k], names[k]);
+            if (status == ENOENT)
+                status = files[k].read(folder.c_str(), "", names[k]);
+            if (status == ENOMEM)
+                return none(why, error::reason::out_of_memory);
+            if (status != 0)
+                return none(why, error::reason::unreadable, status, {k + 1, 0, LBK_CAUSE_NONE});
+        }
+        return try_read(files[0].view(), files[1].view(), files[2].view(), files[3].view(), why);
+    }
+
+    /// From the bytes of a table, as bytes() gave them. They are copied.
+    static std::optional<table> try_copy(std::string_view bytes, error &why) noexcept
+    {
+        if (bytes.size() != sizeof(lbk_table))
+            return none(why, error::reason::not_a_table);
+        lbk_table *made = new (std::nothrow) lbk_table;
+        if (made == nullptr)
+            return none(why, error::reason::out_of_memory);
+        table held(made, freed);
+        std::memcpy(made, bytes.data(), sizeof(lbk_table));
+        if (!lbk_check(made))
+            return none(why, error::reason::not_a_table);
+        why = {};
+        return held;
+    }
+
+    /// From a file with the bytes of a table, which is mapped: all processes that map it share its memory.
+    static std::optional<table> try_map(const std::string &name, error &why) noexcept
+    {
+        int file = ::open(name.c_str(), O_RDONLY | O_CLOEXEC);
+        if (file < 0)
+            return none(why, error::reason::unreadable, errno);
+        struct ::stat status;
+        bool is_long = ::fstat(file, &status) == 0 && status.st_size == static_cast<::off_t>(sizeof(lbk_table));
+        void *mapped = is_long ? ::mmap(nullptr, sizeof(lbk_table), PROT_READ, MAP_SHARED, file, 0) : MAP_FAILED;
+        int number = errno;
+        ::close(file);
+        if (!is_long)
+            return none(why, error::reason::not_a_table);
+        if (mapped == MAP_FAILED)
+            return none(why, error::reason::unreadable, number);
+        table held(static_cast<const lbk_table *>(mapped), unmapped);
+        if (!lbk_check(&held.get()))
+            return none(why, error::reason::not_a_table);
+        why = {};
+        return held;
+    }
+
+#if defined(__cpp_exceptions)
+    static table read(std::string_view line_break, std::string_view east_asian, std::string_view category, std::string_view emoji)
+    {
+        error why;
+        return or_throw(try_read(line_break, east_asian, category, emoji, why), why);
+    }
+
+    static table load(const std::string &folder)
+    {
+        error why;
+        return or_throw(try_load(folder, why), why);
+    }
+
+    static table copy(std::string_view bytes)
+    {
+        error why;
+        return or_throw(try_copy(bytes, why), why);
+    }
+
+    static table map(const std::string &name)
+    {
+        error why;
+        return or_throw(try_map(name, why), why);
+    }
+#endif
+
+    const lbk_table &get() const & noexcept { return *held_; }
+    const lbk_table &get() const && = delete;
+    operator const lbk_table &() const & noexcept { return *held_; }
+    operator const lbk_table &() const && = delete;
+
+    /// The bytes of the table, to be kept in a file. They depend on the order of bytes of the machine.
+    std::string_view bytes() const & noexcept { return {reinterpret_cast<const char *>(held_.get()), sizeof(lbk_table)}; }
+    std::string_view bytes() const && = delete;
+
+private:
+    using release = void (*)(const lbk_table *);
+
+    std::unique_ptr<const lbk_table, release> held_;
+
+    table(const lbk_table *at, release how) noexcept : held_(at, how) {}
+
+    static void freed(const lbk_table *at) { delete at; }
+    static void unmapped(const lbk_table *at) { ::munmap(const_cast<lbk_table *>(at), sizeof(lbk_table)); }
+
+    static std::nullopt_t none(error &why, error::reason reason, int system = 0, lbk_fault fault = {}) noexcept
+    {
+        why = {reason, system, fault};
+        return std::nullopt;
+    }
+
+#if defined(__cpp_exceptions)
+    static table or_throw(std::optional<table> made, const error &why)
+    {
+        if (made)
+            return std::move(*made);
+        if (why.why == error::reason::out_of_memory)
+            throw std::bad_alloc();
+        throw table_error(why);
+    }
+#endif
+};
+
+namespace detail {
+
+/// A place among what a call of the library gives, a block at a time. Copies go on by themselves. It holds what was asked for at
+/// once, and gives it by value.
+template <typename Call>
+class iterator {
+public:
+    using value_type = typename Call::value_type;
+
+    /// What `it->` goes by.
+    class arrow {
+    public:
+        const value_type *operator->() const noexcept { return &found_; }
+
+    private:
+        friend class iterator;
+
+        value_type found_;
+
+        explicit arrow(value_type found) noexcept : found_(found) {}
+    };
+
+    using iterator_concept = std::forward_iterator_tag;
+    using iterator_category = std::input_iterator_tag;
+    using difference_type = std::ptrdiff_t;
+    using pointer = arrow;
+    using reference = value_type;
+
+    /// The end of any range.
+    iterator() noexcept = default;
+
+    explicit iterator(Call call) noexcept : call_(call) { fill(); }
+
+    value_type operator*() const noexcept { return block_[next_]; }
+    arrow operator->() const noexcept { return arrow(**this); }
+
+    iterator &operator++() noexcept
+    {
+        if (++next_ == count_)
+            fill();
+        return *this;
+    }
+
+    iterator operator++(int) noexcept
+    {
+        iterator before = *this;
+        ++*this;
+        return before;
+    }
+
+    /// Of two places in one range: whether they are the same, or both the end.
+    friend bool operator==(const iterator &a, const iterator &b) noexcept
+    {
+        if (a.count_ == 0 || b.count_ == 0)
+            return a.count_ == b.count_;
+        return Call::is_same(a.block_[a.next_], b.block_[b.next_]);
+    }
+
+    friend bool operator!=(const iterator &a, const iterator &b) noexcept { return !(a == b); }
+
+private:
+    static constexpr std::size_t room = 12;
+
+    Call call_;
+    std::uint32_t next_ = 0, count_ = 0;
+    value_type block_[room];
+
+    void fill() noexcept
+    {
+        next_ = 0;
+        count_ = static_cast<std::uint32_t>(call_(block_, room));
+    }
+};
+
+} // namespace detail
+
+/// The breaks of a text in their order: a view that can be gone through any number of times.
+class breaks {
+    struct call {
+        using value_type = lbk_break;
+
+        const lbk_table *table = nullptr;
+        const char *text = nullptr;
+        std::size_t size = 0;
+        lbk_state state = {0, 0, LBK_FIRST, 0};
+
+        std::size_t operator()(lbk_break *block, std::size_t room) noexcept
+        {
+            return lbk_breaks(table, &state, text, size, block, room);
+        }
+
+        static bool is_same(lbk_break a, lbk_break b) noexcept { return a.at == b.at; }
+    };
+
+public:
+    using iterator = detail::iterator<call>;
     using const_iterator = iterator;
     using value_type = lbk_break;
 
     breaks(const lbk_table &by, std::string_view text, profile rules = profile::first) noexcept
-        : table_(&by), text_(text), rules_(rules)
+        : start_{&by, text.data(), text.size(), {0, 0, static_cast<std::uint8_t>(rules), 0}}
     {
     }
 
-    iterator begin() const noexcept { return iterator(*table_, text_, rules_); }
+    /// A temporary would be gone before the range is gone through.
+    breaks(const lbk_table &&, std::string_view, profile = profile::first) = delete;
+    breaks(const table &&, std::string_view, profile = profile::first) = delete;
+    template <typename Text, typename = std::enable_if_t<std::is_same_v<Text, std::string>>>
+    breaks(const lbk_table &, Text &&, profile = profile::first) = delete;
+
+    iterator begin() const noexcept { return iterator(start_); }
     iterator end() const noexcept { return iterator(); }
 
 private:
-    const lbk_table *table_;
-    std::string_view text_;
-    profile rules_;
+    call start_;
 };
 
 /// The name of a rule without `LB`, as "8a"; empty for a number that no rule has.
 inline std::string label(std::uint8_t rule) { return lbk_label(rule).text; }
 
 } // namespace lbk
+
+#if defined(__cpp_lib_ranges)
+template <>
+inline constexpr bool std::ranges::enable_view<lbk::breaks> = true;
+template <>
+inline constexpr bool std::ranges::enable_borrowed_range<lbk::breaks> = true;
+#endif
 
 #endif

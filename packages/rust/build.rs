@@ -1,31 +1,54 @@
-//! Finds the installed library by pkg-config. LBK_STATIC, where it is set, links liblbk.a in place of liblbk.so.
+//! Finds liblbk: in the folder that LBK_LIB_DIR names, else beside this file in `lib/TARGET`, else by pkg-config.
+//! It is linked statically, and where LBK_SHARED is set as liblbk.so.
 
 use std::env;
+use std::path::PathBuf;
 use std::process::{exit, Command};
 
-fn pkg_config(words: &[&str]) -> Option<String> {
-    let program = env::var("PKG_CONFIG").unwrap_or_else(|_| "pkg-config".into());
-    let output = Command::new(program).args(words).output().ok()?;
+fn variable(name: &str) -> Option<String> {
+    println!("cargo:rerun-if-env-changed={}", name);
+    env::var(name).ok().filter(|value| !value.is_empty())
+}
+
+/// What pkg-config prints, where it is there and succeeds.
+fn pkg_config(arguments: &[&str]) -> Option<String> {
+    let program = variable("PKG_CONFIG").unwrap_or_else(|| "pkg-config".into());
+    let output = Command::new(program).args(arguments).output().ok()?;
     if !output.status.success() {
         return None;
     }
     String::from_utf8(output.stdout).ok()
 }
 
-fn main() {
-    for name in ["PKG_CONFIG", "PKG_CONFIG_PATH", "LBK_STATIC"] {
-        println!("cargo:rerun-if-env-changed={name}");
-    }
-    if pkg_config(&["--exists", "lbk >= 0.1.0", "lbk < 0.2.0"]).is_none() {
-        eprintln!("pkg-config finds no lbk of version 0.1: install it, and name its folder in PKG_CONFIG_PATH");
-        exit(1);
-    }
-    let folder = pkg_config(&["--variable=libdir", "lbk"]).unwrap_or_default();
-    println!("cargo:rustc-link-search=native={}", folder.trim());
-    let kind = if env::var_os("LBK_STATIC").is_some() {
-        "static"
+fn by_pkg_config() -> Option<PathBuf> {
+    variable("PKG_CONFIG_PATH");
+    pkg_config(&["--exists", "lbk >= 0.1.0", "lbk < 0.2.0"])?;
+    let folder = pkg_config(&["--variable=libdir", "lbk"])?;
+    Some(folder.trim().into())
+}
+
+/// The folder of the library that comes with the crate for the target, where there is one.
+fn beside() -> Option<PathBuf> {
+    let crate_folder: PathBuf = env::var_os("CARGO_MANIFEST_DIR")?.into();
+    let folder = crate_folder.join("lib").join(env::var_os("TARGET")?);
+    if folder.is_dir() {
+        Some(folder)
     } else {
+        None
+    }
+}
+
+fn main() {
+    let named = variable("LBK_LIB_DIR").map(PathBuf::from);
+    let folder = named.or_else(beside).or_else(by_pkg_config).unwrap_or_else(|| {
+        eprintln!("there is no liblbk of version 0.1: install it, and name its folder in LBK_LIB_DIR, or that of lbk.pc in PKG_CONFIG_PATH");
+        exit(1)
+    });
+    let kind = if variable("LBK_SHARED").is_some() {
         "dylib"
+    } else {
+        "static"
     };
-    println!("cargo:rustc-link-lib={kind}=lbk");
+    println!("cargo:rustc-link-search=native={}", folder.display());
+    println!("cargo:rustc-link-lib={}=lbk", kind);
 }

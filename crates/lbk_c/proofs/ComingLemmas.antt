@@ -1,16 +1,13 @@
 -- The breaks of a text from its start on, and some of them given.
-use Rattle.std.proofs.Common.{◌≡◌, ℕ, zero, suc, ◌+◌, ◌-◌, ◌<◌, ◌≤◌, min, true, ◌⊎◌, inl, inr, ⊎_elim, Some, List, [], ◌∷◌, ◌++◌, length, map, drop, take, refl, sym, ap, subst, ◌∙◌, arith}
+use Rattle.std.proofs.Common.{◌≡◌, ℕ, zero, suc, ◌+◌, ◌<◌, ◌≤◌, min, true, ◌⊎◌, inl, inr, ⊎_elim, Some, List, [], ◌∷◌, ◌++◌, length, map, drop, take, refl, sym, ap, subst, ◌∙◌, arith}
 use Rattle.std.specs.Char.{encode_utf8}
 use Rattle.std.specs.Str.{IsUtf8, chars, encode_utf8_all}
-use Rattle.std.proofs.lemmas.Bool.{and_parts}
-use Rattle.std.proofs.lemmas.Bool.Decides.{nat_tests}
 use Rattle.std.proofs.lemmas.List.{append-nil, length-append, length-map, length-take-le, take_at}
 use Rattle.std.proofs.lemmas.Str.{chars-encodes}
 use Rattle.std.proofs.Math.Seq.{drop-append_seam, drop-length, take-length}
 use lib.Utf8.{scalars}
-use Rattle.bstr.specs.Utf8.{Decoded, good, or_replacement, pieces}
-use Rattle.bstr.proofs.lemmas.EncodeLemmas.{decoded-encode}
-use Rattle.bstr.proofs.lemmas.PieceLemmas.{pieces-nil, pieces-step}
+use Rattle.bstr.specs.Utf8.{Decoded, or_replacement, pieces}
+use Rattle.bstr.proofs.lemmas.PieceLemmas.{pieces-nil}
 use Rattle.lbk_rules.specs.declared.breaks.Break.{Break}
 use Rattle.lbk_rules.specs.declared.cells.Cell.{Cell}
 use Rattle.lbk_rules.specs.declared.facts.Left.{Left}
@@ -24,11 +21,12 @@ use Rattle.lbk_steps.specs.FlatTable.{IsFlatBy, IsFlatOf, KnowsTaken}
 use Rattle.lbk_rules.specs.Marks.{marks, marks_behind}
 use Rattle.lbk_rules.specs.Verdict.{verdict_between_in}
 use Rattle.lbk_rules.proofs.EndLemmas.{must_at_length, start_of_text}
+use Rattle.lbk_words.proofs.WellFormedLemmas.{good_of, pieces-encode, scalars-good}
 use Rattle.lbk_c.specs.declared.interface.RawBreak.{RawBreak}
 use Rattle.lbk_c.specs.declared.interface.State.{State}
 use Rattle.lbk_c.specs.declared.fill_state.FillState.{FillState}
 use Rattle.lbk_c.specs.Bytes.{breaks_after, breaks_of_bytes, with_break}
-use Rattle.lbk_c.specs.Reached.{Comes, Goes, IsGoing, IsSpent, Reached, from_state, onward, scalars_of}
+use Rattle.lbk_c.specs.Reached.{Comes, ComesBy, Goes, GoesBy, IsGoing, IsSpent, Onward, Reached, ReachedBy, from_state, onward, scalars_of}
 use Rattle.lbk_c.specs.Shown.{given_in, shown}
 use Rattle.lbk_c.specs.State.{profile_numbered, profile_number, start_in}
 
@@ -42,20 +40,21 @@ onward-marks profile cell before at p (q ∷ qs) =
     let next = at + p.size in
     ap (with_break next (verdict_between_in profile (map cell on) (map cell (scalars_of (q ∷ qs))))) (onward-marks profile cell on next q qs)
 
-onward-start : (profile : Profile) (cell : ℕ → Cell) (ps : List Decoded) → breaks_after 0 ps (marks profile cell (scalars_of ps)) ≡ onward profile cell [] 0 ps
+pub onward-start : (profile : Profile) (cell : ℕ → Cell) (ps : List Decoded) → breaks_after 0 ps (marks profile cell (scalars_of ps)) ≡ onward profile cell [] 0 ps
 onward-start profile cell [] = sym (ap (λ (v : Verdict). with_break 0 v []) (start_of_text profile []))
 onward-start profile cell (p ∷ ps) =
     onward-marks profile cell [] 0 p ps
     ∙ sym (ap (λ (v : Verdict). with_break 0 v (onward profile cell (or_replacement p.char ∷ []) (0 + p.size) ps)) (start_of_text profile (map cell (scalars_of (p ∷ ps)))))
 
-profile-same : (profile : Profile) → profile_numbered (profile_number profile) ≡ Some profile
+pub profile-same : (profile : Profile) → profile_numbered (profile_number profile) ≡ Some profile
 profile-same First = refl
 profile-same Second = refl
 
-pub Comes-start : (cell : ℕ → Cell) (table : FlatTable) (text : List ℕ) (profile : Profile) (state : State) → IsFlatOf table cell → state ≡ start_in profile
-    → Comes cell table text state (breaks_of_bytes profile cell text)
-Comes-start cell table text profile state flat starts =
-    subst (λ s. Comes cell table text s (breaks_of_bytes profile cell text)) (sym starts) (record {
+pub Comes-by-start : (from : Onward) (cell : ℕ → Cell) (table : FlatTable) (text : List ℕ) (profile : Profile) (state : State) (to_come : List Break)
+    → IsFlatOf table cell → state ≡ start_in profile → to_come ≡ from profile cell [] 0 (pieces text)
+    → ComesBy from cell table text state to_come
+Comes-by-start from cell table text profile state to_come flat starts whole =
+    subst (λ s. ComesBy from cell table text s to_come) (sym starts) (record {
       profile = profile;
       named = profile-same profile;
       lefts = flat.0;
@@ -67,43 +66,21 @@ Comes-start cell table text profile state flat starts =
           knows = (flat.1.begins, flat.1.start);
           none = λ _. refl;
           some = λ more. absurd (omega arith);
-          joined = onward-start profile cell (pieces text);
+          joined = whole;
         };
         none_come = λ more. absurd (omega arith);
       };
     })
 
+pub Comes-start : (cell : ℕ → Cell) (table : FlatTable) (text : List ℕ) (profile : Profile) (state : State) → IsFlatOf table cell → state ≡ start_in profile
+    → Comes cell table text state (breaks_of_bytes profile cell text)
+Comes-start cell table text profile state flat starts =
+    Comes-by-start onward cell table text profile state (breaks_of_bytes profile cell text) flat starts (onward-start profile cell (pieces text))
+
 -- Well-formed text
-
-good_of : ℕ → Decoded
-good_of c = good c (length (encode_utf8 c))
-
-encode-some : (c : ℕ) → 0 < length (encode_utf8 c)
-unfolding encode_utf8
-encode-some c = grind (arith, nat_tests)
-
-pieces-encode : (cs : List ℕ) → scalars cs ≡ true → pieces (encode_utf8_all cs) ≡ map good_of cs
-unfolding good_of
-pieces-encode [] all = pieces-nil
-pieces-encode (c ∷ cs) all =
-    let first = encode_utf8 c in
-    let rest = encode_utf8_all cs in
-    let some : 0 < length (first ++ rest) = omega (arith, encode-some c, length-append first rest) in
-    let both = and_parts _ _ all in
-    let read = decoded-encode c rest both.0 in
-    pieces-step (first ++ rest) some
-    ∙ ap (λ (p : Decoded). p ∷ pieces (drop p.size (first ++ rest))) read
-    ∙ ap (λ l. good c (length first) ∷ pieces l) (drop-append_seam first rest)
-    ∙ ap (λ l. good c (length first) ∷ l) (pieces-encode cs both.1)
-
-scalars-good : (cs : List ℕ) → scalars_of (map good_of cs) ≡ cs
-unfolding good_of
-scalars-good [] = refl
-scalars-good (c ∷ cs) = ap (λ l. c ∷ l) (scalars-good cs)
 
 after-good : (profile : Profile) (cell : ℕ → Cell) (before : List ℕ) (at : ℕ) (cs : List ℕ)
     → breaks_after at (map good_of cs) (marks_behind profile cell before cs) ≡ breaks_from at (marks_behind profile cell before cs)
-unfolding good_of
 after-good profile cell before at [] = refl
 after-good profile cell before at (c ∷ cs) =
     ap (with_break (at + length (encode_utf8 c)) (verdict_between_in profile (map cell (before ++ c ∷ [])) (map cell cs)))
@@ -150,7 +127,7 @@ Reached-end profile cell lefts text all here given ends r =
 
 -- Some more given
 
-zero_or : (n : ℕ) → (n ≡ 0) ⊎ (0 < n)
+pub zero_or : (n : ℕ) → (n ≡ 0) ⊎ (0 < n)
 zero_or zero = inl refl
 zero_or (suc n) = inr (omega arith)
 
@@ -171,16 +148,16 @@ gives to_come front more count room joined many within full = record {
 }
 
 -- how many are in the front of a block
-given-many : (block : List RawBreak) (count : ℕ) → count ≤ length block → length (given_in block count) ≡ count
+pub given-many : (block : List RawBreak) (count : ℕ) → count ≤ length block → length (given_in block count) ≡ count
 given-many block count within = length-map (take count block) shown ∙ length-take-le count block within
 
 -- the block is full
-pub Goes-full : (profile : Profile) (cell : ℕ → Cell) (lefts : List Left) (text : List ℕ) (to_come : List Break) (here : FillState) (state : State) (block : List RawBreak) (room : ℕ)
-    → Reached profile cell lefts text to_come here (given_in block here.count) → here.at ≤ length text → state.at ≡ here.at → state.row ≡ here.row → state.ended ≡ 0
+pub Goes-full : (from : Onward) (profile : Profile) (cell : ℕ → Cell) (lefts : List Left) (text : List ℕ) (to_come : List Break) (here : FillState) (state : State) (block : List RawBreak) (room : ℕ)
+    → ReachedBy from profile cell lefts text to_come here (given_in block here.count) → here.at ≤ length text → state.at ≡ here.at → state.row ≡ here.row → state.ended ≡ 0
     → here.count ≤ length block → here.count ≡ room
-    → Goes profile cell lefts text to_come state (given_in block here.count) here.count room
-Goes-full profile cell lefts text to_come here state block room r within at_same row_same unended few full =
-    let more = onward profile cell r.taken here.at (pieces (drop here.at text)) in
+    → GoesBy from profile cell lefts text to_come state (given_in block here.count) here.count room
+Goes-full from profile cell lefts text to_come here state block room r within at_same row_same unended few full =
+    let more = from profile cell r.taken here.at (pieces (drop here.at text)) in
     let g = gives to_come (given_in block here.count) more here.count room r.joined (given-many block here.count few) (omega arith) (inl full) in
     record {
       counted = g.counted;
@@ -192,26 +169,18 @@ Goes-full profile cell lefts text to_come here state block room r within at_same
           knows = subst (λ n. KnowsTaken cell lefts n r.taken) (sym row_same) r.knows;
           none = λ zero. r.none (sym at_same ∙ zero);
           some = λ more. r.some (omega arith);
-          joined = g.left ∙ ap (λ n. onward profile cell r.taken n (pieces (drop n text))) (sym at_same);
+          joined = g.left ∙ ap (λ n. from profile cell r.taken n (pieces (drop n text))) (sym at_same);
         };
         none_come = λ ended. absurd (omega arith);
       };
     }
 
--- all were given, the text's end too
-pub Goes-ended : (profile : Profile) (cell : ℕ → Cell) (lefts : List Left) (text : List ℕ) (to_come : List Break) (here : FillState) (state : State) (before block : List RawBreak)
-    (count room : ℕ)
-    → Reached profile cell lefts text to_come here (given_in before here.count) → here.at ≡ length text → state.at ≡ here.at → state.ended ≡ 1
-    → (0 < length text → given_in block count ≡ given_in before here.count ++ break_by (length text) end_of_text ∷ [])
-    → (length text ≡ 0 → given_in block count ≡ given_in before here.count)
-    → count ≤ length block → length block ≡ room
-    → Goes profile cell lefts text to_come state (given_in block count) count room
-Goes-ended profile cell lefts text to_come here state before block count room r ends at_same ended some none few same_room =
-    let last = Reached-end profile cell lefts text to_come here (given_in before here.count) ends r in
-    let joined : to_come ≡ given_in block count ++ [] =
-    ⊎_elim (λ (empty : length text ≡ 0). last.0 empty ∙ sym (none empty)) (λ (more : 0 < length text). last.1 more ∙ sym (some more)) (zero_or (length text))
-    ∙ sym (append-nil (given_in block count)) in
-    let g = gives to_come (given_in block count) [] count room joined (given-many block count few) (omega arith) (inr refl) in
+-- all were given, and the text is at its end
+pub Goes-all : (from : Onward) (profile : Profile) (cell : ℕ → Cell) (lefts : List Left) (text : List ℕ) (to_come : List Break) (state : State) (block : List RawBreak) (count room : ℕ)
+    → to_come ≡ given_in block count → state.at ≡ length text → state.ended ≡ 1 → count ≤ length block → length block ≡ room
+    → GoesBy from profile cell lefts text to_come state (given_in block count) count room
+Goes-all from profile cell lefts text to_come state block count room all ends ended few same_room =
+    let g = gives to_come (given_in block count) [] count room (all ∙ sym (append-nil (given_in block count))) (given-many block count few) (omega arith) (inr refl) in
     record {
       counted = g.counted;
       front = g.same;
@@ -222,36 +191,50 @@ Goes-ended profile cell lefts text to_come here state before block count room r 
       };
     }
 
+-- the same of breaks, of which the text's end is one
+pub Goes-ended : (profile : Profile) (cell : ℕ → Cell) (lefts : List Left) (text : List ℕ) (to_come : List Break) (here : FillState) (state : State) (before block : List RawBreak)
+    (count room : ℕ)
+    → Reached profile cell lefts text to_come here (given_in before here.count) → here.at ≡ length text → state.at ≡ here.at → state.ended ≡ 1
+    → (0 < length text → given_in block count ≡ given_in before here.count ++ break_by (length text) end_of_text ∷ [])
+    → (length text ≡ 0 → given_in block count ≡ given_in before here.count)
+    → count ≤ length block → length block ≡ room
+    → Goes profile cell lefts text to_come state (given_in block count) count room
+Goes-ended profile cell lefts text to_come here state before block count room r ends at_same ended some none few same_room =
+    let last = Reached-end profile cell lefts text to_come here (given_in before here.count) ends r in
+    let all : to_come ≡ given_in block count =
+    ⊎_elim (λ (empty : length text ≡ 0). last.0 empty ∙ sym (none empty)) (λ (more : 0 < length text). last.1 more ∙ sym (some more)) (zero_or (length text)) in
+    Goes-all onward profile cell lefts text to_come state block count room all (at_same ∙ ends) ended few same_room
+
 -- Between the calls
 
 same-profile : (p q : Profile) (state : State) → profile_numbered state.profile ≡ Some p → profile_numbered state.profile ≡ Some q → p ≡ q
 same-profile p q state is also = cc
 
 -- from a spent state nothing comes
-pub spent-none : (cell : ℕ → Cell) (table : FlatTable) (text : List ℕ) (state : State) (to_come : List Break)
-    → IsSpent state (length text) → Comes cell table text state to_come → to_come ≡ []
-spent-none cell table text state to_come (inl unnamed) c = absurd (let no : ⊥ = (let named = c.named in cc) in no)
-spent-none cell table text state to_come (inr (inl ended)) c = c.onto.none_come ended
-spent-none cell table text state to_come (inr (inr past)) c = absurd (let within = c.onto.within in omega arith)
+pub spent-none : (from : Onward) (cell : ℕ → Cell) (table : FlatTable) (text : List ℕ) (state : State) (to_come : List Break)
+    → IsSpent state (length text) → ComesBy from cell table text state to_come → to_come ≡ []
+spent-none from cell table text state to_come (inl unnamed) c = absurd (let no : ⊥ = (let named = c.named in cc) in no)
+spent-none from cell table text state to_come (inr (inl ended)) c = c.onto.none_come ended
+spent-none from cell table text state to_come (inr (inr past)) c = absurd (let within = c.onto.within in omega arith)
 
 -- what a call gives of the breaks to come
-pub Comes-goes : (profile : Profile) (cell : ℕ → Cell) (table : FlatTable) (text : List ℕ) (old new : State) (to_come given : List Break) (count room : ℕ)
+pub Comes-goes : (from : Onward) (profile : Profile) (cell : ℕ → Cell) (table : FlatTable) (text : List ℕ) (old new : State) (to_come given : List Break) (count room : ℕ)
     → ((cell : ℕ → Cell) (lefts : List Left) (to_come : List Break) → IsFlatBy lefts table cell
-    → Reached profile cell lefts text to_come (from_state old) []
-    → Goes profile cell lefts text to_come new given count room)
-    → IsGoing profile old (length text) → (c : Comes cell table text old to_come)
-    → Goes profile cell c.lefts text to_come new given count room
-Comes-goes profile cell table text old new to_come given count room goes going c =
+    → ReachedBy from profile cell lefts text to_come (from_state old) []
+    → GoesBy from profile cell lefts text to_come new given count room)
+    → IsGoing profile old (length text) → (c : ComesBy from cell table text old to_come)
+    → GoesBy from profile cell c.lefts text to_come new given count room
+Comes-goes from profile cell table text old new to_come given count room goes going c =
     let same = same-profile c.profile profile old c.named going.named in
     goes cell c.lefts to_come c.flat
-    (subst (λ p. Reached p cell c.lefts text to_come (from_state old) []) same (c.onto.goes_on going.unended))
+    (subst (λ p. ReachedBy from p cell c.lefts text to_come (from_state old) []) same (c.onto.goes_on going.unended))
 
 -- and the others come from the next state on
-pub Comes-next : (profile : Profile) (cell : ℕ → Cell) (table : FlatTable) (text : List ℕ) (old new : State) (to_come given : List Break) (count room : ℕ)
-    → IsGoing profile old (length text) → new.profile ≡ old.profile → (c : Comes cell table text old to_come)
-    → Goes profile cell c.lefts text to_come new given count room
-    → Comes cell table text new (drop count to_come)
-Comes-next profile cell table text old new to_come given count room going kept c goes = record {
+pub Comes-next : (from : Onward) (profile : Profile) (cell : ℕ → Cell) (table : FlatTable) (text : List ℕ) (old new : State) (to_come given : List Break) (count room : ℕ)
+    → IsGoing profile old (length text) → new.profile ≡ old.profile → (c : ComesBy from cell table text old to_come)
+    → GoesBy from profile cell c.lefts text to_come new given count room
+    → ComesBy from cell table text new (drop count to_come)
+Comes-next from profile cell table text old new to_come given count room going kept c goes = record {
   profile = profile;
   named = ap profile_numbered kept ∙ going.named;
   lefts = c.lefts;

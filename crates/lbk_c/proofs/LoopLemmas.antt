@@ -18,8 +18,11 @@ use Rattle.lbk_steps.specs.RowMachineFits.{normals}
 use Rattle.lbk_rules.specs.Sides.{Side}
 use Rattle.lbk_steps.specs.Steps.{IsStart, left_at}
 use Rattle.lbk_rules.specs.Verdict.{verdict_between_in}
+use Rattle.lbk_c.specs.declared.deciding.Decided.{Decided}
+use Rattle.lbk_c.specs.declared.fill_state.FillState.{FillState}
 use Rattle.lbk_c.specs.declared.interface.RawBreak.{RawBreak}
 use Rattle.lbk_c.specs.Bytes.{with_break}
+use Rattle.lbk_c.specs.Decided.{IsDecided}
 use Rattle.lbk_c.specs.Reached.{AreSwift, IsSwiftStep, Reached}
 use Rattle.lbk_c.specs.Shown.{given_in}
 use Rattle.lbk_c.proofs.PieceLemmas.{Reads}
@@ -46,29 +49,40 @@ Reached-swift profile cell lefts text all steps kinds out after count next row a
     (here.decides apart (reverse (normals cell taken)) (map normal right) (sym known.1)))
     (front here.coded) r
 
-pub Reached-one : (profile : Profile) (cell : ℕ → Cell) (lefts : List Left) (text : List ℕ) (all : List Break) (table : FlatTable)
-    (out after : List RawBreak) (count next row at c size code : ℕ) (rest : List ℕ) (step : FlatStep)
-    → IsFlatBy lefts table cell → IsScalar c → at < length text
+pub Decided-one : (profile : Profile) (cell : ℕ → Cell) (lefts : List Left) (text taken : List ℕ) (table : FlatTable)
+    (row at c size code : ℕ) (rest : List ℕ) (step : FlatStep)
+    → IsFlatBy lefts table cell → IsScalar c
     → c ≡ or_replacement (decoded (drop at text)).char → size ≡ (decoded (drop at text)).size → rest ≡ drop (at + size) text
     → step ≡ get_or table.first (row + get_or table.kinds c 0) no_flat_step
-    → ((taken : List ℕ) → KnowsTaken cell lefts row taken
-    → IsCode code × (verdict_coded code ≡ verdict_between_in profile (map cell taken) (cell c ∷ map cell (lossy_chars rest))))
-    → (IsCode code → given_in after next ≡ given_in out count ++ with_break at (verdict_coded code) [])
-    → Reached profile cell lefts text all (record { count = count; row = row; at = at }) (given_in out count)
-    → Reached profile cell lefts text all (record { count = next; row = step.next; at = at + size }) (given_in after next)
-Reached-one profile cell lefts text all table out after count next row at c size code rest step flat scalar inside is_char is_size is_rest same decides front r =
+    → IsCode code × (verdict_coded code ≡ verdict_between_in profile (map cell taken) (cell c ∷ map cell (lossy_chars rest)))
+    → KnowsTaken cell lefts row taken
+    → IsDecided profile cell lefts text at taken (record { code = code; row = step.next; at = at + size })
+Decided-one profile cell lefts text taken table row at c size code rest step flat scalar is_char is_size is_rest same decides known =
     let kind = get_or table.kinds c 0 in
     let is_kind = flat.kinds c scalar in
-    let here = flat_step_at lefts table.first table.second row kind flat.steps r.knows.0 is_kind.0 in
+    let here = flat_step_at lefts table.first table.second row kind flat.steps known.0 is_kind.0 in
     let starts = subst (λ (s : FlatStep). IsStart lefts s.next) (sym same) here.starts in
     let leads : (side : Side) → facts side ≡ left_at lefts row → facts (kind_cell kind ∷ side) ≡ left_at lefts step.next =
     λ side known. here.leads side known ∙ ap (λ (s : FlatStep). left_at lefts s.next) (sym same) in
-    let p = decoded (drop at text) in
-    Reached-step profile cell lefts text all (record { count = count; row = row; at = at }) (record { count = next; row = step.next; at = at + size })
-    (given_in out count) (given_in after next) p (verdict_coded code) refl inside (ap (λ n. at + n) is_size)
-    (λ taken known. subst (λ x. KnowsTaken cell lefts step.next (taken ++ x ∷ [])) is_char
-    (knows-more cell lefts row step.next c kind is_kind.1 starts leads taken known))
-    (λ taken known. (decides taken known).1
-    ∙ ap (λ l. verdict_between_in profile (map cell taken) (cell c ∷ map cell (lossy_chars l))) is_rest
-    ∙ ap (λ x. verdict_between_in profile (map cell taken) (cell x ∷ map cell (lossy_chars (drop (at + size) text)))) is_char)
-    (front (decides r.taken r.knows).0) r
+    record {
+      moved = ap (λ n. at + n) is_size;
+      knows = subst (λ x. KnowsTaken cell lefts step.next (taken ++ x ∷ [])) is_char
+          (knows-more cell lefts row step.next c kind is_kind.1 starts leads taken known);
+      coded = decides.0;
+      decides = decides.1
+          ∙ ap (λ l. verdict_between_in profile (map cell taken) (cell c ∷ map cell (lossy_chars l))) is_rest
+          ∙ ap (λ x. verdict_between_in profile (map cell taken) (cell x ∷ map cell (lossy_chars (drop (at + size) text)))) is_char;
+    }
+
+pub Reached-decided : (profile : Profile) (cell : ℕ → Cell) (lefts : List Left) (text : List ℕ) (all : List Break)
+    (out after : List RawBreak) (here : FillState) (next : ℕ) (found : Decided)
+    → here.at < length text
+    → ((taken : List ℕ) → KnowsTaken cell lefts here.row taken → IsDecided profile cell lefts text here.at taken found)
+    → (IsCode found.code → given_in after next ≡ given_in out here.count ++ with_break here.at (verdict_coded found.code) [])
+    → Reached profile cell lefts text all here (given_in out here.count)
+    → Reached profile cell lefts text all (record { count = next; row = found.row; at = found.at }) (given_in after next)
+Reached-decided profile cell lefts text all out after here next found inside decided front r =
+    let d = decided r.taken r.knows in
+    Reached-step profile cell lefts text all here (record { count = next; row = found.row; at = found.at })
+    (given_in out here.count) (given_in after next) (decoded (drop here.at text)) (verdict_coded found.code) refl inside d.moved
+    (λ taken known. (decided taken known).knows) (λ taken known. (decided taken known).decides) (front d.coded) r

@@ -1,5 +1,5 @@
 -- How far a call has come, scalar by scalar.
-use Rattle.std.proofs.Common.{◌≡◌, ℕ, zero, suc, ◌==◌, ◌+◌, ◌-◌, ◌<◌, true, false, cond, not, List, [], ◌∷◌, ◌++◌, length, map, drop, take, append_assoc, refl, sym, ap, ◌∙◌, arith}
+use Rattle.std.proofs.Common.{◌≡◌, ℕ, ◌+◌, ◌<◌, true, false, cond, not, List, [], ◌∷◌, ◌++◌, length, map, drop, take, append_assoc, refl, sym, ap, subst, ◌∙◌, arith}
 use Rattle.std.specs.Int.{from_bool}
 use Rattle.std.proofs.Math.ListN.{set}
 use Rattle.std.proofs.lemmas.List.{append-nil, length-append, map-append, take-set, take_more_set}
@@ -10,7 +10,6 @@ use Rattle.lbk_rules.specs.declared.facts.Left.{Left}
 use Rattle.lbk_values.specs.declared.profile.Profile.{Profile}
 use Rattle.lbk_rules.specs.declared.verdicts.Verdict.{Verdict}
 use Rattle.lbk_rules.specs.Breaks.{break_by, is_no}
-use Rattle.lbk_rules.specs.Codes.{kind_numbered}
 use Rattle.lbk_steps.specs.FlatTable.{KnowsTaken}
 use Rattle.lbk_rules.specs.Verdict.{verdict_between_in}
 use Rattle.lbk_c.specs.declared.interface.RawBreak.{RawBreak}
@@ -20,7 +19,7 @@ use Rattle.lbk_c.specs.Reached.{Reached, onward}
 use Rattle.lbk_c.specs.Shown.{given_in, shown}
 use Rattle.lbk_c.proofs.PieceLemmas.{piece-within, pieces-on}
 
-with_break-more : (at : ℕ) (verdict : Verdict) (more : List Break) → with_break at verdict more ≡ with_break at verdict [] ++ more
+pub with_break-more : (at : ℕ) (verdict : Verdict) (more : List Break) → with_break at verdict more ≡ with_break at verdict [] ++ more
 with_break-more at verdict more =
     elim (is_no verdict.kind)
     as (λ k. cond k more (break_by at verdict ∷ more) ≡ cond k [] (break_by at verdict ∷ []) ++ more)
@@ -63,6 +62,15 @@ Reached-step profile cell lefts text all here there given after p verdict is wit
           ∙ ap (λ g. g ++ further) (sym grown);
     }
 
+-- where nothing follows a text
+pub Reached-alone : (profile : Profile) (cell : ℕ → Cell) (lefts : List Left) (text : List ℕ) (all : List Break) (here : FillState) (given : List Break)
+    → Reached profile cell lefts (text ++ []) all here given → Reached profile cell lefts text all here given
+Reached-alone profile cell lefts text all here given r = subst (λ t. Reached profile cell lefts t all here given) (append-nil text) r
+
+pub Reached-nothing : (profile : Profile) (cell : ℕ → Cell) (lefts : List Left) (text : List ℕ) (all : List Break) (here : FillState) (given : List Break)
+    → Reached profile cell lefts text all here given → Reached profile cell lefts (text ++ []) all here given
+Reached-nothing profile cell lefts text all here given r = subst (λ t. Reached profile cell lefts t all here given) (sym (append-nil text)) r
+
 -- a break written behind the others counts where it is one
 pub written-more : (block : List RawBreak) (count : ℕ) (found : RawBreak) (at : ℕ) (verdict : Verdict) → count < length block
     → shown found ≡ break_by at verdict
@@ -78,10 +86,3 @@ written-more block count found at verdict within same =
           ∙ map-append shown (take count block) (found ∷ [])
           ∙ ap (λ b. given_in block count ++ b ∷ []) same
     ]
-
--- of the numbers of kinds 0 alone is no break's
-pub no-zero : (number : ℕ) → number < 3 → is_no (kind_numbered number) ≡ (number == 0)
-no-zero zero few = refl
-no-zero (suc zero) few = refl
-no-zero (suc (suc zero)) few = refl
-no-zero (suc (suc (suc n))) few = absurd (omega arith)

@@ -5,6 +5,7 @@ use Rattle.lbk_rules.specs.declared.cells.Cell.{Cell}
 use Rattle.lbk_rules.specs.declared.facts.Left.{Left}
 use Rattle.lbk_steps.specs.declared.flat_table.FlatStep.{FlatStep}
 use Rattle.lbk_steps.specs.declared.flat_table.FlatTable.{FlatTable}
+use Rattle.lbk_steps.specs.declared.neighbours.Neighbours.{Neighbours}
 use Rattle.lbk_values.specs.declared.profile.Profile.{Profile}
 use Rattle.lbk_values.specs.declared.profile.Profile.TheVariants.{First, Second}
 use Rattle.lbk_rules.specs.Chain.{from_cells}
@@ -23,7 +24,8 @@ use Rattle.lbk_rules.specs.Verdict.{verdict_between_in}
 use Rattle.lbk_steps.proofs.AheadLemmas.{ahead-normal}
 use Rattle.lbk_steps.proofs.RowMachineLemmas.{normals-back}
 use Rattle.lbk_steps.specs.declared.flat_table.TheConstants.{HELD}
-use Rattle.lbk_c.specs.Reached.{AreSwift, steps_in}
+use Rattle.lbk_steps.specs.Neighbours.{AreTold}
+use Rattle.lbk_c.specs.Reached.{AreSwift, pairs_in, steps_in}
 
 -- the row that a step leads to knows of the scalar too
 pub knows-more : (cell : ℕ → Cell) (lefts : List Left) (row next c kind : ℕ) → kind_cell kind ≡ normal (cell c) → IsStart lefts next
@@ -82,6 +84,22 @@ flat-swift Second lefts table cell flat = λ row kind starts few.
       decides = decides-second lefts (left_at lefts row) (kind_cell kind) (get_or table.first (row + kind) no_flat_step) (get_or table.second (row + kind) no_flat_step) step;
     }
 
+-- what is known of bytes side by side, in either profile
+pub flat-told : (profile : Profile) (lefts : List Left) (table : FlatTable) (cell : ℕ → Cell) → IsFlatBy lefts table cell
+    → AreTold (steps_in table profile) table.kinds (pairs_in table profile)
+flat-told First lefts table cell flat = flat.first_told
+flat-told Second lefts table cell flat = flat.second_told
+
+-- the same of what are found to be the profile's
+pub swift-as : (profile : Profile) (lefts : List Left) (table : FlatTable) (cell : ℕ → Cell) (steps : List FlatStep) → IsFlatBy lefts table cell
+    → steps ≡ steps_in table profile → AreSwift profile lefts steps
+swift-as profile lefts table cell steps flat is = subst (AreSwift profile lefts) (sym is) (flat-swift profile lefts table cell flat)
+
+pub told-as : (profile : Profile) (lefts : List Left) (table : FlatTable) (cell : ℕ → Cell) (steps : List FlatStep) (pairs : Neighbours) → IsFlatBy lefts table cell
+    → steps ≡ steps_in table profile → pairs ≡ pairs_in table profile → AreTold steps table.kinds pairs
+told-as profile lefts table cell steps pairs flat is are =
+    subst (λ s. AreTold s table.kinds pairs) (sym is) (subst (AreTold (steps_in table profile) table.kinds) (sym are) (flat-told profile lefts table cell flat))
+
 -- the steps of a scalar
 pub steps-here : (lefts : List Left) (table : FlatTable) (cell : ℕ → Cell) (row c : ℕ) (one other : FlatStep) → IsFlatBy lefts table cell → IsScalar c → IsStart lefts row
     → one ≡ get_or table.first (row + get_or table.kinds c 0) no_flat_step → other ≡ get_or table.second (row + get_or table.kinds c 0) no_flat_step
@@ -93,7 +111,7 @@ steps-here lefts table cell row c one other flat scalar starts is_one is_other =
     subst (λ s. IsFlatStep lefts (left_at lefts row) (kind_cell kind) one s) (sym is_other) by_one
 
 -- 15b alone is held
-held-15b : is_15b (verdict_coded HELD).rule ≡ true
+pub held-15b : is_15b (verdict_coded HELD).rule ≡ true
 unfolding verdict_coded
 held-15b = refl
 

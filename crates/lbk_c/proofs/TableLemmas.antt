@@ -22,6 +22,8 @@ flat-same cell other table same flat = (
     begins = flat.1.begins;
     start = flat.1.start;
     steps = flat.1.steps;
+    first_told = flat.1.first_told;
+    second_told = flat.1.second_told;
     kinds = λ code scalar. (let kind = flat.1.kinds code scalar in (kind.0, kind.1 ∙ ap normal (same code scalar)));
   },
 )

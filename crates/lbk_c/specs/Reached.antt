@@ -1,15 +1,18 @@
 -- How far a call has come with a text, and what is to come from a state on.
-use Rattle.std.specs.Prelude.{◌≡◌, ℕ, ◌+◌, ◌<◌, ◌≤◌, List, [], ◌∷◌, ◌++◌, length, map, drop, take, min, slice_index_or, ◌⊎◌, Some, None}
+use Rattle.std.specs.Prelude.{◌≡◌, ℕ, ◌+◌, ◌*◌, ◌<◌, ◌≤◌, List, [], ◌∷◌, ◌++◌, length, map, drop, take, min, slice_index_or, ◌⊎◌, Some, None}
 use Rattle.bstr.specs.Utf8.{Decoded, or_replacement, pieces}
 use Rattle.lbk_rules.specs.declared.breaks.Break.{Break}
 use Rattle.lbk_rules.specs.declared.cells.Cell.{Cell}
 use Rattle.lbk_rules.specs.declared.facts.Left.{Left}
 use Rattle.lbk_steps.specs.declared.flat_table.FlatStep.{FlatStep}
 use Rattle.lbk_steps.specs.declared.flat_table.FlatTable.{FlatTable}
+use Rattle.lbk_steps.specs.declared.neighbours.Neighbours.{Neighbours}
+use Rattle.lbk_rules.specs.declared.verdicts.Verdict.{Verdict}
 use Rattle.lbk_values.specs.declared.profile.Profile.{Profile}
 use Rattle.lbk_values.specs.declared.profile.Profile.TheVariants.{First, Second}
+use Rattle.lbk_rules.specs.Breaks.{break_by}
 use Rattle.lbk_rules.specs.Chain.{from_cells}
-use Rattle.lbk_rules.specs.Codes.{IsCode, verdict_coded}
+use Rattle.lbk_rules.specs.Codes.{IsCode, kind_number, rule_number, verdict_coded}
 use Rattle.lbk_rules.specs.Facts.{facts}
 use Rattle.lbk_steps.specs.FlatTable.{IsFlatBy, KnowsTaken, no_flat_step}
 use Rattle.lbk_steps.specs.Kinds.{kind_cell}
@@ -18,8 +21,10 @@ use Rattle.lbk_steps.specs.Steps.{IsStart, left_at}
 use Rattle.lbk_rules.specs.Verdict.{verdict_between_in}
 use Rattle.lbk_c.specs.declared.fill_state.FillState.{FillState}
 use Rattle.lbk_steps.specs.declared.flat_table.TheConstants.{HELD}
+use Rattle.lbk_c.specs.declared.interface.RawBreak.{RawBreak}
 use Rattle.lbk_c.specs.declared.interface.State.{State}
 use Rattle.lbk_c.specs.Bytes.{with_break}
+use Rattle.lbk_c.specs.Order.{AreInOrderBy, IsBreak}
 use Rattle.lbk_c.specs.State.{profile_numbered}
 
 -- the scalars that some pieces are read as
@@ -32,6 +37,17 @@ onward profile cell before at [] = with_break at (verdict_between_in profile (ma
 onward profile cell before at (p ∷ ps) =
     with_break at (verdict_between_in profile (map cell before) (map cell (scalars_of (p ∷ ps))))
     (onward profile cell (before ++ or_replacement p.char ∷ []) (at + p.size) ps)
+
+-- the numbers of a verdict's rule and kind, as one
+abbrev pub numbers_of : Verdict → ℕ
+numbers_of verdict = 256 * rule_number verdict.rule + kind_number verdict.kind
+
+-- the same of all positions, of which the first is the one before these pieces
+abbrev pub onward_all : Profile → (ℕ → Cell) → List ℕ → ℕ → List Decoded → List Break
+onward_all profile cell before at [] = break_by at (verdict_between_in profile (map cell before) []) ∷ []
+onward_all profile cell before at (p ∷ ps) =
+    break_by at (verdict_between_in profile (map cell before) (map cell (scalars_of (p ∷ ps))))
+    ∷ onward_all profile cell (before ++ or_replacement p.char ∷ []) (at + p.size) ps
 
 -- a step by which a position is decided, unless it is held
 pub record IsSwiftStep (profile : Profile) (lefts : List Left) (left : Left) (cell : Cell) (step : FlatStep) : Type 0 where
@@ -46,36 +62,52 @@ abbrev pub steps_in : FlatTable → Profile → List FlatStep
 steps_in table First = table.first
 steps_in table Second = table.second
 
+-- what is known in a profile of bytes side by side
+abbrev pub pairs_in : FlatTable → Profile → Neighbours
+pairs_in table First = table.first_pairs
+pairs_in table Second = table.second_pairs
+
 abbrev pub AreSwift : Profile → List Left → List FlatStep → Type 0
 AreSwift profile lefts steps =
     (row kind : ℕ) → IsStart lefts row → kind < 84
     → IsSwiftStep profile lefts (left_at lefts row) (kind_cell kind) (slice_index_or steps (row + kind) no_flat_step)
 
--- of all breaks these were given, and the others come from here on
-pub record Reached (profile : Profile) (cell : ℕ → Cell) (lefts : List Left) (text : List ℕ) (all : List Break) (here : FillState) (given : List Break) : Type 0 where
+-- what comes from a byte of a text on, after some scalars and before some pieces
+abbrev pub Onward : Type 0
+Onward = Profile → (ℕ → Cell) → List ℕ → ℕ → List Decoded → List Break
+
+-- of all these were given, and the others come from here on
+pub record ReachedBy (from : Onward) (profile : Profile) (cell : ℕ → Cell) (lefts : List Left) (text : List ℕ) (all : List Break) (here : FillState) (given : List Break) : Type 0 where
   pub taken : List ℕ
   pub knows : KnowsTaken cell lefts here.row taken
   pub none : here.at ≡ 0 → taken ≡ []
   pub some : 0 < here.at → 0 < length taken
-  pub joined : all ≡ given ++ onward profile cell taken here.at (pieces (drop here.at text))
+  pub joined : all ≡ given ++ from profile cell taken here.at (pieces (drop here.at text))
+
+-- what was given so far is in order, from a byte of the text on and up to where the call has come
+abbrev pub IsInOrderBy : (RawBreak → Type 0) → List RawBreak → ℕ → ℕ → ℕ → Type 0
+IsInOrderBy Is block count from at = (from ≤ at) × AreInOrderBy Is block count from at
+
+abbrev pub IsInOrder : List RawBreak → ℕ → ℕ → ℕ → Type 0
+IsInOrder = IsInOrderBy IsBreak
 
 -- where a state stands in a text
 abbrev pub from_state : State → FillState
 from_state state = record { count = 0; row = state.row; at = state.at }
 
--- from the state on these breaks come of this text, if it has not given all
-pub record Onto (profile : Profile) (cell : ℕ → Cell) (lefts : List Left) (text : List ℕ) (state : State) (to_come : List Break) : Type 0 where
+-- from the state on these come of this text, if it has not given all
+pub record OntoBy (from : Onward) (profile : Profile) (cell : ℕ → Cell) (lefts : List Left) (text : List ℕ) (state : State) (to_come : List Break) : Type 0 where
   pub within : state.at ≤ length text
-  pub goes_on : state.ended ≡ 0 → Reached profile cell lefts text to_come (from_state state) []
+  pub goes_on : state.ended ≡ 0 → ReachedBy from profile cell lefts text to_come (from_state state) []
   pub none_come : 0 < state.ended → to_come ≡ []
 
--- the state came of the start of this text, and these breaks are to come
-pub record Comes (cell : ℕ → Cell) (table : FlatTable) (text : List ℕ) (state : State) (to_come : List Break) : Type 0 where
+-- the state came of the start of this text, and these are to come
+pub record ComesBy (from : Onward) (cell : ℕ → Cell) (table : FlatTable) (text : List ℕ) (state : State) (to_come : List Break) : Type 0 where
   pub profile : Profile
   pub named : profile_numbered state.profile ≡ Some profile
   pub lefts : List Left
   pub flat : IsFlatBy lefts table cell
-  pub onto : Onto profile cell lefts text state to_come
+  pub onto : OntoBy from profile cell lefts text state to_come
 
 -- no break comes from the state on: it names no profile, has given all, or is past the text
 abbrev pub IsSpent : State → ℕ → Type 0
@@ -87,8 +119,25 @@ pub record IsGoing (profile : Profile) (state : State) (len : ℕ) : Type 0 wher
   pub unended : state.ended ≡ 0
   pub within : state.at ≤ len
 
--- of the breaks to come as many were given as there was room for, and the others come from the state on
-pub record Goes (profile : Profile) (cell : ℕ → Cell) (lefts : List Left) (text : List ℕ) (to_come : List Break) (state : State) (given : List Break) (count room : ℕ) : Type 0 where
+-- of those to come as many were given as there was room for, and the others come from the state on
+pub record GoesBy (from : Onward) (profile : Profile) (cell : ℕ → Cell) (lefts : List Left) (text : List ℕ) (to_come : List Break) (state : State) (given : List Break) (count room : ℕ) : Type 0 where
   pub counted : count ≡ min room (length to_come)
   pub front : given ≡ take count to_come
-  pub onto : Onto profile cell lefts text state (drop count to_come)
+  pub onto : OntoBy from profile cell lefts text state (drop count to_come)
+
+-- the same of breaks
+abbrev pub Reached : Profile → (ℕ → Cell) → List Left → List ℕ → List Break → FillState → List Break → Type 0
+Reached = ReachedBy onward
+
+abbrev pub Onto : Profile → (ℕ → Cell) → List Left → List ℕ → State → List Break → Type 0
+Onto = OntoBy onward
+
+abbrev pub Comes : (ℕ → Cell) → FlatTable → List ℕ → State → List Break → Type 0
+Comes = ComesBy onward
+
+abbrev pub Goes : Profile → (ℕ → Cell) → List Left → List ℕ → List Break → State → List Break → ℕ → ℕ → Type 0
+Goes = GoesBy onward
+
+-- the same of all positions
+abbrev pub PositionsCome : (ℕ → Cell) → FlatTable → List ℕ → State → List Break → Type 0
+PositionsCome = ComesBy onward_all

@@ -1,9 +1,14 @@
 -- What the numbers that cross to C stand for.
-use Rattle.std.specs.Prelude.{ℕ, ◌-◌, List, [], ◌++◌, length, map, take, replicate, nat_lt, if◌then◌else◌}
+use Rattle.std.specs.Prelude.{ℕ, ◌-◌, ◌==◌, List, [], ◌++◌, length, map, take, replicate, Option, Some, None, find}
 use Rattle.lbk_rules.specs.declared.breaks.Break.{Break}
-use Rattle.lbk_rules.specs.Codes.{kind_numbered, rule_numbered}
+use Rattle.lbk_rules.specs.declared.verdicts.Rule.{Rule}
+use Rattle.lbk_rules.specs.Codes.{kind_number, kind_numbered, rule_number, rule_numbered, rules}
 use Rattle.lbk_rules.specs.Labels.{label_of}
 use Rattle.lbk_c.specs.declared.interface.RawBreak.{RawBreak}
+
+-- a break as numbers
+abbrev pub raw_of : Break → RawBreak
+raw_of found = record { at = found.at; kind = kind_number found.kind; rule = rule_number found.rule }
 
 -- the break that is given
 abbrev pub shown : RawBreak → Break
@@ -17,6 +22,11 @@ given_in block count = map shown (take count block)
 abbrev pub filled : List ℕ → List ℕ
 filled label = label ++ replicate (4 - length label) 0
 
--- the label of the rule that a number stands for; past the last rule there is none
-unfoldable pub label_numbered : ℕ → List ℕ
-label_numbered number = if nat_lt number 38 then filled (label_of (rule_numbered number)) else filled []
+-- the label of a rule, if there is one
+abbrev pub label_in : Option Rule → List ℕ
+label_in None = filled []
+label_in (Some rule) = filled (label_of rule)
+
+-- the label of the rule that has this number; there is none where no rule has it
+abbrev pub label_numbered : ℕ → List ℕ
+label_numbered number = label_in (find (λ rule. rule_number rule == number) rules)

@@ -1,6 +1,6 @@
 //! The breaks of a text, a block at a time.
 
-ghost use Rattle.std.specs.Prelude.{◌≡◌, ℕ, ◌<◌, ◌≤◌, ◌++◌, [], ◌∷◌, List, MatchOption, drop, length, min, take};
+ghost use Rattle.std.specs.Prelude.{◌≡◌, ℕ, suc, ◌<◌, ◌≤◌, ◌++◌, ◌⊎◌, [], ◌∷◌, List, MatchOption, drop, length, min, take};
 ghost use Rattle.std.specs.Str.{IsUtf8, chars};
 ghost use Rattle.lbk_rules.specs.declared.breaks.Break.{Break};
 ghost use Rattle.lbk_rules.specs.declared.cells.Cell.{Cell};
@@ -10,7 +10,8 @@ ghost use Rattle.lbk_rules.specs.Breaks.{break_by, breaks};
 ghost use Rattle.lbk_rules.specs.Ends.{end_of_text};
 ghost use Rattle.lbk_steps.specs.FlatTable.{IsFlatBy, IsFlatOf};
 ghost use Rattle.lbk_c.specs.Bytes.{breaks_of_bytes};
-ghost use Rattle.lbk_c.specs.Reached.{Comes, Goes, IsGoing, IsSpent, Reached, from_state};
+ghost use Rattle.lbk_c.specs.Order.{AreInOrder};
+ghost use Rattle.lbk_c.specs.Reached.{Comes, Goes, IsGoing, IsInOrder, IsSpent, Reached, from_state};
 ghost use Rattle.lbk_c.specs.Shown.{given_in};
 ghost use Rattle.lbk_c.specs.State.{profile_numbered, start_in};
 
@@ -21,14 +22,15 @@ use lbk_rules::Profile;
 use lbk_steps::FlatTable;
 
 /// The number of the verdict at a text's end, by rule 3.
-const END: u16 = 256 + 2;
+pub(crate) const END: u16 = 3 + 2;
 
 /// Puts the next breaks of a text (UAX #14, section 3) into the front of the block, from the state on, and answers how many:
 /// as many as the block holds, or all that are left. The text may be any bytes: each longest piece that begins no scalar is
 /// read as U+FFFD (Unicode Standard, section 3.9).
 ///
 /// Where the block has no room, or the state is past the text or at its end, or names no profile, the state stays and no break
-/// comes. What stands in the block behind the breaks is of no account.
+/// comes. What stands in the block behind the breaks is of no account. Whatever the table and the state hold, the breaks are
+/// breaks of rules, in order, from the state's place on, and the state goes forward with them.
 #[unsafe(no_mangle)]
 pub extern "C" fn lbk_breaks(
     table: &FlatTable,
@@ -38,6 +40,12 @@ pub extern "C" fn lbk_breaks(
 ) -> usize
     ensures within { result ≤ length out.old }
     ensures profile_same { state.new.profile ≡ state.old.profile }
+    ensures in_order { AreInOrder out.new result state.old.at (suc (length text.now)) }
+    ensures before_state { state.new.ended ≡ 0 → AreInOrder out.new result state.old.at state.new.at }
+    ensures forward { 0 < result → (state.old.at < state.new.at) ⊎ (0 < state.new.ended) }
+    ensures onward { state.old.at ≤ state.new.at }
+    ensures inside { state.old.at ≤ length text.now → state.new.at ≤ length text.now }
+    ensures at_end { state.old.ended ≡ 0 → 0 < state.new.ended → state.new.at ≡ length text.now }
     ensures start { (cell : ℕ → Cell) (profile : Profile) → IsFlatOf table.now cell → state.old ≡ start_in profile
         → Comes cell table.now text.now state.old (breaks_of_bytes profile cell text.now) }
     ensures count { (cell : ℕ → Cell) (to_come : List Break) → Comes cell table.now text.now state.old to_come
@@ -61,7 +69,7 @@ pub extern "C" fn lbk_breaks(
 
 /// The profile of a state from which breaks may come of a text of this length: none where the state names no profile, has
 /// given all, or is past the text.
-fn going_profile(state: &State, len: usize) -> Option<Profile>
+pub(crate) fn going_profile(state: &State, len: usize) -> Option<Profile>
     ensures { MatchOption result (IsSpent state.now len) (λ profile. IsGoing profile state.now len) }
 {
     let profile = profile_numbered(state.profile)?;
@@ -85,6 +93,11 @@ fn go_on(
     requires { IsGoing profile state.old (length text.now) }
     ensures within { result ≤ length out.old }
     ensures profile_same { state.new.profile ≡ state.old.profile }
+    ensures in_order { AreInOrder out.new result state.old.at (suc (length text.now)) }
+    ensures before_state { state.new.ended ≡ 0 → AreInOrder out.new result state.old.at state.new.at }
+    ensures forward { 0 < result → (state.old.at < state.new.at) ⊎ (0 < state.new.ended) }
+    ensures onward { (state.old.at ≤ state.new.at) × (state.new.at ≤ length text.now) }
+    ensures at_end { 0 < state.new.ended → state.new.at ≡ length text.now }
     ensures goes { (cell : ℕ → Cell) (lefts : List Left) (to_come : List Break) → IsFlatBy lefts table.now cell
         → Reached profile cell lefts text.now to_come (from_state state.old) []
         → Goes profile cell lefts text.now to_come state.new (given_in out.new result) result (length out.old) }
@@ -110,6 +123,7 @@ fn go_on(
 fn put_end(out: &mut [RawBreak], count: usize, len: usize) -> usize
     requires { count < length out.old }
     ensures within { result ≤ length out.old }
+    ensures in_order { (from : ℕ) → IsInOrder out.old count from len → AreInOrder out.new result from (suc len) }
     ensures some { 0 < len → given_in out.new result ≡ given_in out.old count ++ break_by len end_of_text ∷ [] }
     ensures none { len ≡ 0 → (result ≡ count) × (out.new ≡ out.old) }
 {
@@ -120,7 +134,7 @@ fn put_end(out: &mut [RawBreak], count: usize, len: usize) -> usize
 }
 
 /// The profile of a number: 0 for the first, 1 for the second. None comes for any other.
-fn profile_numbered(number: u8) -> Option<Profile>
+pub(crate) fn profile_numbered(number: u8) -> Option<Profile>
     ensures { result ≡ profile_numbered number }
 {
     match number {

@@ -8,7 +8,7 @@ pub struct RawBreak {
     pub at: usize,
     /// Whether the line may or must end there: 1 for May, 2 for Must.
     pub kind: u8,
-    /// The number of the rule that decided there: its place among the rules, from 0.
+    /// The number of the rule that decided there: 8 times the rule's own, and the place of its letter.
     pub rule: u8,
 }
 

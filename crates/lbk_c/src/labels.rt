@@ -6,8 +6,8 @@ ghost use Rattle.lbk_c.specs.Shown.{filled, label_numbered};
 use crate::interface::RuleLabel;
 use lbk_rules::Rule;
 
-/// The number of the rule as it is written, without `LB`, as `8a`: ASCII, filled up by zeros. `rule` is the rule's place
-/// among the rules, as a break has it; for a number past the last the label is zeros.
+/// The name of the rule that has a number, without `LB`, as `8a` for 65: ASCII, filled up by zeros. For a number that no rule
+/// has it is zeros.
 #[unsafe(no_mangle)]
 pub extern "C" fn lbk_label(rule: u8) -> RuleLabel
     ensures { result.text ≡ label_numbered rule }

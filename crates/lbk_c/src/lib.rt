@@ -1,4 +1,4 @@
-//! The library for C: the breaks of a text by calls that C, C++, Rust and Python can make.
+//! The library for C: the breaks and the words of a text by calls that C, C++, Rust and Python can make.
 //!
 //! A caller's [`FlatTable`](lbk_steps::FlatTable) is filled once by `lbk_read`. `lbk_breaks` then goes over a text a block
 //! of breaks at a time, from a state that the caller keeps. No memory is kept between calls, and nothing is to be freed.
@@ -6,17 +6,36 @@
 #![tactic(auto)]
 
 mod ahead;
+mod blocks;
 mod breaking;
+mod checking;
+mod cutting;
+mod deciding;
 mod decoding;
 mod faults;
+mod feeding;
 mod fill_state;
 mod filling;
 mod interface;
 mod labels;
+mod laws;
+mod positions;
+mod shown;
+mod skimming;
 mod steps;
+mod stream;
+mod streaming;
 mod table_reading;
+mod taking;
+mod words;
 
 pub use breaking::lbk_breaks;
+pub use checking::lbk_check;
 pub use interface::{Fault, RawBreak, RuleLabel, State};
 pub use labels::lbk_label;
-pub use table_reading::{lbk_check, lbk_read};
+pub use laws::{bytes_that_could_go_on, only_bytes_from_a_state_on};
+pub use positions::lbk_positions;
+pub use stream::{Fed, Stream};
+pub use streaming::lbk_feed;
+pub use table_reading::lbk_read;
+pub use words::{WordState, lbk_words};

@@ -2,10 +2,10 @@
 
 ghost use Rattle.std.specs.Prelude.{◌≡◌, ◌+◌, ◌<◌, slice_index_or};
 ghost use Rattle.lbk_steps.specs.FlatTable.{no_flat_step};
-ghost use Rattle.lbk_c.specs.Reached.{steps_in};
+ghost use Rattle.lbk_c.specs.Reached.{pairs_in, steps_in};
 
 use lbk_rules::Profile;
-use lbk_steps::{FlatStep, FlatTable, STEPS};
+use lbk_steps::{FlatStep, FlatTable, Neighbours, STEPS};
 
 /// How many codes there are.
 pub(crate) const CODES: usize = 0x11_0000;
@@ -17,6 +17,16 @@ pub(crate) fn steps_of(table: &FlatTable, profile: Profile) -> &[FlatStep; STEPS
     match profile {
         Profile::First => &table.first,
         Profile::Second => &table.second,
+    }
+}
+
+/// What the steps of a profile tell of bytes side by side.
+pub(crate) fn pairs_of(table: &FlatTable, profile: Profile) -> &Neighbours
+    ensures { result.now ≡ pairs_in table.now profile }
+{
+    match profile {
+        Profile::First => &table.first_pairs,
+        Profile::Second => &table.second_pairs,
     }
 }
 

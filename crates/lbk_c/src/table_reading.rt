@@ -1,6 +1,6 @@
-//! A table out of property files, and whether one is whole.
+//! A table out of property files: the one module whose call takes memory from the heap.
 
-ghost use Rattle.std.specs.Prelude.{◌≡◌, ◌<◌, ◌↔◌, ℕ, IsTrue};
+ghost use Rattle.std.specs.Prelude.{◌≡◌, ◌<◌, ℕ};
 ghost use Rattle.lbk_ucd.specs.Files.{AreLawful};
 ghost use Rattle.lbk_steps.specs.Cells.{AreCellsOf};
 ghost use Rattle.lbk_rules.specs.declared.cells.Cell.{Cell};
@@ -49,13 +49,4 @@ pub extern "C" fn lbk_read(
         Ok(()) => NO_FAULT,
         Err(error) => unmade_fault(error),
     }
-}
-
-/// Whether the table is whole: its layout is that of this version, and its digest is that of its numbers. So it is of each
-/// table that `lbk_read` filled, also after it was kept in a file.
-#[unsafe(no_mangle)]
-pub extern "C" fn lbk_check(table: &FlatTable) -> bool
-    ensures { IsTrue result ↔ IsWhole table.now }
-{
-    table.is_whole()
 }

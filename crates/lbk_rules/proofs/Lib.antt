@@ -1,4 +1,5 @@
 pub mod ChainLemmas
+pub mod AskedLemmas
 pub mod FactsLemmas
 pub mod LookAheadLemmas
 pub mod MachineLemmas

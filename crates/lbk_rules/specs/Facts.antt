@@ -1,11 +1,14 @@
 -- The few facts of the left side that the rules ask for.
-use Rattle.std.specs.Prelude.{◌≡◌, Bool, false, if◌then◌else◌, [], ◌∷◌}
+use Rattle.std.specs.Prelude.{◌≡◌, Bool, false, ◌&&◌, if◌then◌else◌, [], ◌∷◌}
 use Rattle.lbk_values.specs.declared.profile.Profile.{Profile}
 use Rattle.lbk_values.specs.declared.profile.Profile.TheVariants.{First, Second}
+use Rattle.lbk_rules.specs.declared.cells.Cell.{Cell}
+use Rattle.lbk_rules.specs.declared.classes.Class.{Class}
 use Rattle.lbk_rules.specs.declared.facts.Left.{Left}
 use Rattle.lbk_rules.specs.declared.facts.Before.{Before}
-use Rattle.lbk_rules.specs.Classes.{ZW, HL}
-use Rattle.lbk_rules.specs.Sides.{Side, is_nothing, before_spaces, behind, past_spaces, at_odd_run, opens_quotation, leaves_closed}
+use Rattle.lbk_rules.specs.Asked.{asked_of_cell, asked_before_spaces, asked_of_unit}
+use Rattle.lbk_rules.specs.Classes.{◌or◌, B2, BA, CL, CP, HL, HY, OP, QU, ZW}
+use Rattle.lbk_rules.specs.Sides.{Side, is_nothing, at, before_spaces, behind, past_spaces, at_odd_run, opens_quotation, leaves_closed}
 use Rattle.lbk_rules.specs.Units.{unit}
 pub use Rattle.lbk_rules.specs.Units.{space, nearest, heads}
 
@@ -20,9 +23,9 @@ units_before (cell ∷ side) =
 -- what is known of units read outwards
 abbrev pub facts_of_units : Side → Before
 facts_of_units side = record {
-  last = nearest side;
-  before_spaces = before_spaces side;
-  hebrew_behind = behind HL side;
+  last = asked_of_unit (nearest side);
+  before_spaces = asked_before_spaces (before_spaces side);
+  hebrew_hyphen = at (HY or BA) side && behind HL side;
   odd_indicators = at_odd_run side;
   opens_quotation = opens_quotation side;
 }
@@ -31,15 +34,22 @@ facts_of_units side = record {
 unfoldable pub facts : Side → Left
 facts side = record {
   empty = is_nothing side;
-  last = (nearest side).class;
+  last = asked_of_cell (nearest side).class;
   past_zero_width = past_spaces ZW side;
   units = facts_of_units (units_before side);
 }
 
+-- a cell of this class, of which nothing else is known
+abbrev pub class_cell : Class → Cell
+class_cell class = record space { class = class }
+
 -- the facts of some units of which the nearest is known
 pub record Sees (before : Before) (side : Side) : Type 0 where
-  pub spaces : before_spaces (before.last ∷ side) ≡ before.before_spaces
-  pub hebrew : behind HL (before.last ∷ side) ≡ before.hebrew_behind
+  pub opening : past_spaces OP (before.last ∷ side) ≡ OP before.before_spaces
+  pub quoting : past_spaces QU (before.last ∷ side) ≡ QU before.before_spaces
+  pub closing : past_spaces (CL or CP) (before.last ∷ side) ≡ (CL or CP) before.before_spaces
+  pub dashes : past_spaces B2 (before.last ∷ side) ≡ B2 before.before_spaces
+  pub hebrew : (at (HY or BA) (before.last ∷ side) && behind HL (before.last ∷ side)) ≡ before.hebrew_hyphen
   pub indicators : at_odd_run (before.last ∷ side) ≡ before.odd_indicators
   pub quotation : opens_quotation (before.last ∷ side) ≡ before.opens_quotation
 

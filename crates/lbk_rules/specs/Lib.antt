@@ -16,6 +16,7 @@ pub mod Once
 pub mod Normal
 -- What only carries proofs.
 pub mod Answers
+pub mod Asked
 pub mod Chain
 pub mod Codes
 pub mod Facts

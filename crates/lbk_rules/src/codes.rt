@@ -1,34 +1,72 @@
-//! Verdicts as numbers.
+//! Kinds, rules and verdicts as numbers.
 
-ghost use Rattle.std.specs.Prelude.{◌≡◌, ◌<◌, Some, None, nat_lt, if◌then◌else◌};
-ghost use Rattle.lbk_rules.specs.Codes.{IsCode, kind_numbered, rule_numbered, verdict_coded};
+ghost use Rattle.std.specs.Prelude.{◌≡◌, ◌<◌, ◌==◌, find, slice_index_or};
+ghost use Rattle.lbk_rules.specs.declared.verdicts.Rule.TheVariants.{Lb2};
+ghost use Rattle.lbk_rules.specs.Codes.{IsCode, kind_numbered, rule_number, rules, verdict_coded};
 
 use crate::verdicts::{Kind, Rule, Verdict};
 
 impl Rule {
-    /// The rule of a number: its place among the rules, from 0. None comes past the last.
+    /// The rule of a number, which is 8 times its own and the place of its letter: 65 for rule 8a. None comes for a number
+    /// that no rule has.
     pub fn numbered(number: u8) -> Option<Rule>
-        ensures { result ≡ (if nat_lt number 38 then Some (rule_numbered number) else None) }
+        ensures { result ≡ find (λ rule. rule_number rule == number) rules }
     {
-        if number < 38 {
-            Some(rule_numbered(u16::from(number)))
-        } else {
-            None
+        match number {
+            16 => Some(Rule::Lb2),
+            24 => Some(Rule::Lb3),
+            32 => Some(Rule::Lb4),
+            40 => Some(Rule::Lb5),
+            48 => Some(Rule::Lb6),
+            56 => Some(Rule::Lb7),
+            64 => Some(Rule::Lb8),
+            65 => Some(Rule::Lb8a),
+            72 => Some(Rule::Lb9),
+            88 => Some(Rule::Lb11),
+            96 => Some(Rule::Lb12),
+            97 => Some(Rule::Lb12a),
+            104 => Some(Rule::Lb13),
+            112 => Some(Rule::Lb14),
+            120 => Some(Rule::Lb15),
+            121 => Some(Rule::Lb15a),
+            122 => Some(Rule::Lb15b),
+            128 => Some(Rule::Lb16),
+            136 => Some(Rule::Lb17),
+            144 => Some(Rule::Lb18),
+            152 => Some(Rule::Lb19),
+            160 => Some(Rule::Lb20),
+            168 => Some(Rule::Lb21),
+            169 => Some(Rule::Lb21a),
+            170 => Some(Rule::Lb21b),
+            176 => Some(Rule::Lb22),
+            184 => Some(Rule::Lb23),
+            185 => Some(Rule::Lb23a),
+            192 => Some(Rule::Lb24),
+            200 => Some(Rule::Lb25),
+            208 => Some(Rule::Lb26),
+            216 => Some(Rule::Lb27),
+            224 => Some(Rule::Lb28),
+            232 => Some(Rule::Lb29),
+            240 => Some(Rule::Lb30),
+            241 => Some(Rule::Lb30a),
+            242 => Some(Rule::Lb30b),
+            248 => Some(Rule::Lb31),
+            _ => None,
         }
     }
 }
 
-/// The number of a verdict: 256 times the place of its rule among the rules, and that of its kind among the kinds.
+/// The number of a verdict among all verdicts: 3 times the place of its rule among the rules, and the number of its kind.
 pub fn code_of(verdict: Verdict) -> u16
     ensures verdict { verdict_coded result ≡ verdict }
     ensures coded { IsCode result }
 {
-    256 * place_of_rule(verdict.rule) + place_of_kind(verdict.kind)
+    3 * place_of_rule(verdict.rule) + number_of_kind(verdict.kind)
 }
 
-/// The place of a kind among the kinds.
-fn place_of_kind(kind: Kind) -> u16
-    ensures place { kind_numbered result ≡ kind }
+/// The number of a kind.
+fn number_of_kind(kind: Kind) -> u16
+    ensures numbered { kind_numbered result ≡ kind }
     ensures few { result < 3 }
 {
     kind as u16
@@ -36,57 +74,8 @@ fn place_of_kind(kind: Kind) -> u16
 
 /// The place of a rule among the rules.
 fn place_of_rule(rule: Rule) -> u16
-    ensures place { rule_numbered result ≡ rule }
+    ensures place { slice_index_or rules result Lb2 ≡ rule }
     ensures few { result < 38 }
 {
     rule as u16
-}
-
-/// The rule of this place among the rules.
-#[inline(always)]
-fn rule_numbered(number: u16) -> Rule
-    requires { number < 38 }
-    ensures { result ≡ rule_numbered number }
-{
-    match number {
-        0 => Rule::Lb2,
-        1 => Rule::Lb3,
-        2 => Rule::Lb4,
-        3 => Rule::Lb5,
-        4 => Rule::Lb6,
-        5 => Rule::Lb7,
-        6 => Rule::Lb8,
-        7 => Rule::Lb8a,
-        8 => Rule::Lb9,
-        9 => Rule::Lb11,
-        10 => Rule::Lb12,
-        11 => Rule::Lb12a,
-        12 => Rule::Lb13,
-        13 => Rule::Lb14,
-        14 => Rule::Lb15,
-        15 => Rule::Lb15a,
-        16 => Rule::Lb15b,
-        17 => Rule::Lb16,
-        18 => Rule::Lb17,
-        19 => Rule::Lb18,
-        20 => Rule::Lb19,
-        21 => Rule::Lb20,
-        22 => Rule::Lb21,
-        23 => Rule::Lb21a,
-        24 => Rule::Lb21b,
-        25 => Rule::Lb22,
-        26 => Rule::Lb23,
-        27 => Rule::Lb23a,
-        28 => Rule::Lb24,
-        29 => Rule::Lb25,
-        30 => Rule::Lb26,
-        31 => Rule::Lb27,
-        32 => Rule::Lb28,
-        33 => Rule::Lb29,
-        34 => Rule::Lb30,
-        35 => Rule::Lb30a,
-        36 => Rule::Lb30b,
-        37 => Rule::Lb31,
-        _ => unreachable!(),
-    }
 }

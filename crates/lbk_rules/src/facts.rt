@@ -11,12 +11,13 @@ use crate::classes::{Class, Quote};
 /// What the rules ask of the units before a position.
 #[derive(Clone, Copy, PartialEq, Eq, Debug)]
 pub struct Before {
-    /// The last unit, or a space where there is none.
+    /// The last unit, or a space where there is none: only what the rules ask of it.
     pub last: Cell,
-    /// The class of the last unit that is no space, or of a space where there is none.
+    /// Whether the last unit that is no space is OP, QU, CL (which stands for CP too) or B2. A space
+    /// stands for all other classes.
     pub before_spaces: Class,
-    /// Whether the last unit but one is a Hebrew letter.
-    pub hebrew_behind: bool,
+    /// Whether the last unit is HY or BA, and the one before it a Hebrew letter (rule LB21a).
+    pub hebrew_hyphen: bool,
     /// Whether the run of regional indicators at the end has odd length.
     pub odd_indicators: bool,
     /// Whether an opening quotation mark that stays open stands at the end, or before the spaces
@@ -29,7 +30,8 @@ pub struct Before {
 pub struct Left {
     /// Whether there are none.
     pub empty: bool,
-    /// The class of the last cell, or of a space where there is none.
+    /// The class of the last cell, or of a space where there is none: LF stands for NL too, SP for
+    /// ZW, and AL for all but BK, CR, LF, SP and ZWJ.
     pub last: Class,
     /// Whether they end with a zero width space and any number of spaces.
     pub past_zero_width: bool,
@@ -47,7 +49,6 @@ const SPACE: Cell = Cell {
 
 impl Before {
     /// What is known once a unit follows.
-    #[tactic(auto, unfolding(crate::specs::Classes::is, crate::specs::Sides::before_spaces, crate::specs::Sides::at_odd_run, crate::specs::Sides::opens_quotation))]
     fn then(self, unit: Cell) -> Before
         ensures { (side : Side) → facts_of_units side ≡ self → result ≡ facts_of_units (unit ∷ side) }
     {
@@ -55,29 +56,29 @@ impl Before {
         let opens = unit.is_opening_mark() && self.last.class.opens_after();
         let indicator = unit.class.is(Class::RegionalIndicator);
         Before {
-            last: unit,
             before_spaces: if space {
                 self.before_spaces
             } else {
-                unit.class
+                unit.class.asked_before_spaces()
             },
-            hebrew_behind: self.last.class.is(Class::HebrewLetter),
+            hebrew_hyphen: unit.class.is_hyphen() && self.last.class.is(Class::HebrewLetter),
             odd_indicators: indicator && !self.odd_indicators,
             opens_quotation: if space { self.opens_quotation } else { opens },
+            last: unit.asked_of_unit(),
         }
     }
 }
 
 impl Left {
     /// What is known at the start of a text.
-    #[tactic(auto, unfolding(crate::specs::Classes::is, crate::specs::Facts::facts, crate::specs::Sides::before_spaces, crate::specs::Sides::at_odd_run, crate::specs::Sides::opens_quotation))]
+    #[tactic(auto, unfolding(crate::specs::Classes::is, crate::specs::Asked::asked_of_cell, crate::specs::Asked::asked_before_spaces, crate::specs::Asked::asked_class, crate::specs::Asked::asked_of_unit, crate::specs::Facts::facts, crate::specs::Sides::before_spaces, crate::specs::Sides::at_odd_run, crate::specs::Sides::opens_quotation))]
     pub fn start() -> Left
         ensures { result ≡ facts [] }
     {
         let units = Before {
             last: SPACE,
             before_spaces: Class::Space,
-            hebrew_behind: false,
+            hebrew_hyphen: false,
             odd_indicators: false,
             opens_quotation: false,
         };
@@ -116,7 +117,7 @@ impl Left {
         };
         Left {
             empty: false,
-            last: cell.class,
+            last: cell.class.asked_of_cell(),
             past_zero_width,
             units,
         }

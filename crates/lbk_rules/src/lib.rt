@@ -6,6 +6,7 @@
 #![tactic(auto)]
 
 pub mod annex;
+mod asked;
 mod breaks;
 mod cells;
 mod classes;

@@ -2,10 +2,11 @@
 //! answers.
 ghost use Rattle.std.specs.Prelude.{◌≡◌, ◌&&◌, [], ◌∷◌};
 ghost use Rattle.lbk_values.specs.declared.profile.Profile.TheVariants.{First, Second};
-ghost use Rattle.lbk_rules.specs.Chain.{from_11, from_14, from_15, from_16, from_19, from_23, from_25, from_26, from_28, from_cells};
-ghost use Rattle.lbk_rules.specs.Classes.{hard, is};
-ghost use Rattle.lbk_rules.specs.Facts.{closes_in, facts, units_before, Sees};
-ghost use Rattle.lbk_rules.specs.Sides.{Side, leaves_closed};
+ghost use Rattle.lbk_rules.specs.Chain.{choose, from_11, from_14, from_15, from_16, from_19, from_23, from_25, from_26, from_28, from_cells};
+ghost use Rattle.lbk_rules.specs.Classes.{ZW, hard, is};
+ghost use Rattle.lbk_rules.specs.Facts.{class_cell, closes_in, facts, units_before, Sees};
+ghost use Rattle.lbk_rules.specs.Rules.{cell_rules};
+ghost use Rattle.lbk_rules.specs.Sides.{Side, leaves_closed, past_spaces};
 ghost use Rattle.lbk_rules.specs.Units.{units, units_after};
 
 use crate::cells::Cell;
@@ -42,12 +43,14 @@ impl Left {
         }
     }
 
-    /// Rules LB4 to LB31, where some cell stands on the left.
-    #[tactic(auto, unfolding(crate::specs::Rules::cell_rules, crate::specs::Facts::facts, crate::specs::Chain::from_cells))]
+    /// Rules LB4 to LB31, where some cell stands on the left. Of that cell it sees what is asked.
+    #[tactic(auto, unfolding(crate::specs::Rules::cell_rules))]
     fn from_4(self, profile: Profile, right: Cell, closes: bool) -> Verdict
         ensures { (cell : Cell) (side more : Side) → facts (cell ∷ side) ≡ self
+            → past_spaces ZW (class_cell self.last ∷ cell ∷ side) ≡ self.past_zero_width
             → closes_in profile (units_after (hard right.class) more) ≡ closes
-            → result ≡ from_cells profile (cell ∷ side) (right ∷ more) }
+            → result ≡ choose cell_rules (class_cell self.last ∷ cell ∷ side) (right ∷ more)
+            (from_11 profile (units_before (cell ∷ side)) (units (right ∷ more))) }
     {
         if self.last.is(Class::MandatoryBreak) {
             return Verdict::must(Rule::Lb4);
@@ -193,7 +196,7 @@ impl Before {
         if self.last.class.is(Class::BreakBefore) {
             return Verdict::no(Rule::Lb21);
         }
-        if self.last.class.is_hyphen() && self.hebrew_behind {
+        if self.hebrew_hyphen {
             return Verdict::no(Rule::Lb21a);
         }
         if self.last.class.is(Class::BreakSymbols) && right.class.is(Class::HebrewLetter) {

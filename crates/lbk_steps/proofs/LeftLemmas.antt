@@ -11,12 +11,12 @@ use Rattle.lbk_rules.specs.Units.{letter}
 use Rattle.lbk_steps.proofs.PagesLemmas.{cell_Decides, class_Decides}
 
 before_from_fields : (one other : Before) → one.last ≡ other.last → one.before_spaces ≡ other.before_spaces
-    → one.hebrew_behind ≡ other.hebrew_behind → one.odd_indicators ≡ other.odd_indicators
+    → one.hebrew_hyphen ≡ other.hebrew_hyphen → one.odd_indicators ≡ other.odd_indicators
     → one.opens_quotation ≡ other.opens_quotation → one ≡ other
 before_from_fields one other last spaces hebrew indicators quotation = λ i. record {
   last = last i;
   before_spaces = spaces i;
-  hebrew_behind = hebrew i;
+  hebrew_hyphen = hebrew i;
   odd_indicators = indicators i;
   opens_quotation = quotation i;
 }
@@ -25,10 +25,10 @@ before_Decides : (one other : Before) → Decides (before_eq.it one other) (one 
 before_Decides one other =
     Decides-like _
     (λ p. before_from_fields one other p.0 p.1.0 p.1.1.0 p.1.1.1.0 p.1.1.1.1)
-    (λ e. (ap (λ b. b.last) e, (ap (λ b. b.before_spaces) e, (ap (λ b. b.hebrew_behind) e, (ap (λ b. b.odd_indicators) e, ap (λ b. b.opens_quotation) e)))))
+    (λ e. (ap (λ b. b.last) e, (ap (λ b. b.before_spaces) e, (ap (λ b. b.hebrew_hyphen) e, (ap (λ b. b.odd_indicators) e, ap (λ b. b.opens_quotation) e)))))
     (Decides-and _ _ (cell_Decides one.last other.last)
     (Decides-and _ _ (class_Decides one.before_spaces other.before_spaces)
-    (Decides-and _ _ (booleans_Decides one.hebrew_behind other.hebrew_behind)
+    (Decides-and _ _ (booleans_Decides one.hebrew_hyphen other.hebrew_hyphen)
     (Decides-and _ _ (booleans_Decides one.odd_indicators other.odd_indicators)
     (booleans_Decides one.opens_quotation other.opens_quotation)))))
 
@@ -58,5 +58,5 @@ unread = record {
   empty = false;
   last = Alphabetic;
   past_zero_width = false;
-  units = record { last = letter; before_spaces = Alphabetic; hebrew_behind = false; odd_indicators = false; opens_quotation = false };
+  units = record { last = letter; before_spaces = Alphabetic; hebrew_hyphen = false; odd_indicators = false; opens_quotation = false };
 }

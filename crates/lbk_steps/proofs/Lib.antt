@@ -7,3 +7,4 @@ pub mod StepRowsLemmas
 pub mod EnoughRowsLemmas
 pub mod RowMachineLemmas
 pub mod HoldsLemmas
+pub mod NeighboursLemmas

@@ -14,7 +14,9 @@ use Rattle.lbk_rules.specs.Classes.{hard}
 use Rattle.lbk_rules.specs.Codes.{IsCode, verdict_coded}
 use Rattle.lbk_rules.specs.Facts.{facts}
 use Rattle.lbk_rules.specs.Held.{is_15b}
+pub use Rattle.lbk_steps.specs.FlatStep.{digest_with, no_flat_step}
 use Rattle.lbk_steps.specs.Kinds.{kind_cell}
+use Rattle.lbk_steps.specs.Neighbours.{AreTold, digest_of_neighbours}
 use Rattle.lbk_rules.specs.Normal.{normal, normals}
 use Rattle.lbk_rules.specs.Sides.{Side, leaves_closed}
 use Rattle.lbk_steps.specs.Steps.{IsStart, left_at, no_step}
@@ -46,10 +48,6 @@ pub record IsNumbered (step : Step) (flat : FlatStep) : Type 0 where
   pub held : is_15b step.verdict.rule ≡ true → flat.code ≡ HELD
   pub told : is_15b step.verdict.rule ≡ false → verdict_coded flat.code ≡ step.verdict
 
--- a step that stands nowhere
-abbrev pub no_flat_step : FlatStep
-no_flat_step = record { code = 0; next = 0 }
-
 -- so it is of all these steps
 abbrev pub AreNumbered : List Step → List FlatStep → Type 0
 AreNumbered steps flat =
@@ -73,6 +71,8 @@ pub record IsFlatBy (lefts : List Left) (table : FlatTable) (cell : ℕ → Cell
   pub start : left_at lefts 0 ≡ facts []
   pub steps : AreFlatSteps lefts table.first table.second
   pub kinds : AreFlatKinds table.kinds cell
+  pub first_told : AreTold table.first table.kinds table.first_pairs
+  pub second_told : AreTold table.second table.kinds table.second_pairs
 
 -- the table is over the cells that `cell` gives
 abbrev pub IsFlatOf : FlatTable → (ℕ → Cell) → Type 0
@@ -82,18 +82,15 @@ IsFlatOf table cell = (lefts : List Left) × IsFlatBy lefts table cell
 abbrev pub KnowsTaken : (ℕ → Cell) → List Left → ℕ → List ℕ → Type 0
 KnowsTaken cell lefts place taken = IsStart lefts place × (left_at lefts place ≡ facts (reverse (normals cell taken)))
 
--- a digest after one more number: FNV-1a, by which no two numbers lead from one digest to the same
-abbrev pub digest_with : ℕ → ℕ → ℕ
-digest_with digest number = (bit_xor digest number * 0x100_0000_01b3) % 2 ^ 64
-
--- the same after one more step
+-- a digest after one more step
 abbrev pub digest_with_step : ℕ → FlatStep → ℕ
 digest_with_step digest step = digest_with digest (step.code + 65536 * step.next)
 
--- the digest of a table's steps and kinds
+-- the digest of a table's steps, neighbours and kinds
 unfoldable pub digest_of : FlatTable → ℕ
 digest_of table =
-    fold digest_with (fold digest_with_step (fold digest_with_step 0xcbf2_9ce4_8422_2325 table.first) table.second) table.kinds
+    let steps = fold digest_with_step (fold digest_with_step 0xcbf2_9ce4_8422_2325 table.first) table.second in
+    fold digest_with (digest_of_neighbours (digest_of_neighbours steps table.first_pairs) table.second_pairs) table.kinds
 
 -- the table has this layout, and its digest is that of its numbers
 abbrev pub IsWhole : FlatTable → Type 0

@@ -6,9 +6,11 @@ pub mod CellOfTables
 pub mod CellPages
 pub mod EnoughRows
 pub mod FirstBytes
+pub mod FlatStep
 pub mod FlatTable
 pub mod KindTable
 pub mod Kinds
+pub mod Neighbours
 pub mod Pages
 pub mod RowFits
 pub mod RowMachineFits

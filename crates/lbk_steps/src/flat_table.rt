@@ -10,6 +10,7 @@ ghost use Rattle.lbk_steps.specs.CellOfTables.{cell_of_tables};
 
 use crate::kind_table::KindTable;
 use crate::kinds::{KINDS, cell_of_kind};
+use crate::neighbours::Neighbours;
 use crate::runs::CellRuns;
 use crate::step_rows::{Step, StepRows};
 use lbk_rules::{Cell, code_of};
@@ -21,10 +22,13 @@ use std::alloc::{AllocError, Global};
 pub const STEPS: usize = 65_792;
 
 /// The number of this layout of a table. It changes with the layout, the rules and the numbers of verdicts.
-pub const LAYOUT: u64 = 1;
+pub const LAYOUT: u64 = 2;
+
+/// How many codes there are.
+pub(crate) const CODES: usize = 0x11_0000;
 
 /// The number of a verdict by rule 15b.
-pub const HELD: u16 = 4096;
+pub const HELD: u16 = 48;
 
 /// What a digest begins with: the offset basis of FNV-1a for 64 bits.
 const DIGEST_START: u64 = 0xcbf2_9ce4_8422_2325;
@@ -36,8 +40,8 @@ const DIGEST_PRIME: u64 = 0x100_0000_01b3;
 #[repr(C)]
 #[derive(Clone, Copy, PartialEq, Eq, Debug)]
 pub struct FlatStep {
-    /// The number of the verdict before the cell: 256 times the place of its rule among the rules, and that of its kind
-    /// among the kinds. In the second profile, that where what follows leaves a closing quotation mark closed.
+    /// The number of the verdict before the cell, as `lbk_rules::code_of` counts them. In the second profile, of that where
+    /// what follows leaves a closing quotation mark closed.
     pub code: u16,
     /// The place at which the row after the cell begins.
     pub next: u16,
@@ -56,8 +60,12 @@ pub struct FlatTable {
     pub first: [FlatStep; STEPS],
     /// The steps in the second profile.
     pub second: [FlatStep; STEPS],
+    /// What the steps tell of bytes side by side, in the first profile.
+    pub first_pairs: Neighbours,
+    /// The same in the second profile.
+    pub second_pairs: Neighbours,
     /// The kind of each code.
-    pub kinds: [u8; 1_114_112],
+    pub kinds: [u8; CODES],
 }
 
 /// Why no table was made.
@@ -103,6 +111,8 @@ impl FlatTable {
         number_steps(&rows.first, &mut self.first);
         number_steps(&rows.second, &mut self.second);
         self.kinds.copy_from_slice(&kinds.kinds);
+        self.first_pairs = Neighbours::of_steps(&self.first, &self.kinds);
+        self.second_pairs = Neighbours::of_steps(&self.second, &self.kinds);
         self.layout = LAYOUT;
         self.digest = self.digest_now();
         Ok(())
@@ -116,14 +126,15 @@ impl FlatTable {
         self.layout == LAYOUT && self.digest == self.digest_now()
     }
 
-    /// The digest of its steps and kinds as they are now.
+    /// The digest of its steps, neighbours and kinds as they are now.
     #[tactic(auto, unfolding(crate::specs::FlatTable::digest_of))]
     fn digest_now(&self) -> u64
         ensures { result ≡ digest_of self.now }
     {
         let first = digest_steps(DIGEST_START, &self.first);
         let second = digest_steps(first, &self.second);
-        digest_kinds(second, &self.kinds)
+        let neighbours = self.second_pairs.digest(self.first_pairs.digest(second));
+        digest_kinds(neighbours, &self.kinds)
     }
 
     /// The cell of the kind of `c`, with nothing that no rule asks of it.
@@ -176,14 +187,14 @@ fn digest_with_step(digest: u64, step: FlatStep) -> u64
 }
 
 /// A digest after some kinds more.
-fn digest_kinds(digest: u64, kinds: &[u8]) -> u64
+pub(crate) fn digest_kinds(digest: u64, kinds: &[u8]) -> u64
     ensures { result ≡ fold digest_with digest kinds.now }
 {
     kinds.iter().fold(digest, |digest, kind| digest_with(digest, u64::from(*kind)))
 }
 
 /// A digest after one number more.
-fn digest_with(digest: u64, number: u64) -> u64
+pub(crate) fn digest_with(digest: u64, number: u64) -> u64
     ensures { result ≡ digest_with digest number }
 {
     (digest ^ number).wrapping_mul(DIGEST_PRIME)

@@ -6,10 +6,12 @@
 #![tactic(auto)]
 
 mod ahead_machine;
+mod covering;
 mod first_bytes;
 mod flat_table;
 mod kind_table;
 mod kinds;
+mod neighbours;
 mod pages;
 mod row_machine;
 mod row_stepper;
@@ -27,6 +29,7 @@ pub use stepper::Stepper;
 // What `lbk_breaks` and `lbk_c` step by.
 pub use ahead_machine::AheadMachine;
 pub use flat_table::{FlatStep, FlatTable, HELD, LAYOUT, STEPS, TableError};
+pub use neighbours::Neighbours;
 pub use row_machine::RowMachine;
 pub use row_stepper::RowStepper;
 pub use step_table::StepTable;

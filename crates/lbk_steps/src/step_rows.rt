@@ -150,9 +150,8 @@ fn flags_of(left: Left) -> usize {
     let units = left.units;
     let mut sum = units.last.quote as usize;
     for flag in [
-        units.last.wide,
         units.last.pict_cn,
-        units.hebrew_behind,
+        units.hebrew_hyphen,
         units.odd_indicators,
         units.opens_quotation,
         left.past_zero_width,

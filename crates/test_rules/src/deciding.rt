@@ -150,9 +150,9 @@ fn complex_context(rt: HostRuntime) {
 
 #[test]
 fn rules_by_number(rt: HostRuntime) {
-    same_value(&rt, Rule::numbered(14), Some(Rule::Lb15), "rule 14");
-    same_value(&rt, Rule::numbered(37), Some(Rule::Lb31), "rule 37");
-    same_value(&rt, Rule::numbered(38), None, "rule 38");
+    same_value(&rt, Rule::numbered(65), Some(Rule::Lb8a), "rule 8a");
+    same_value(&rt, Rule::numbered(248), Some(Rule::Lb31), "rule 31");
+    same_value(&rt, Rule::numbered(249), None, "behind rule 31");
 }
 
 /// Whether a cell of this class closes the quotation, where that is known.

@@ -66,7 +66,7 @@ fn flagged() -> [Scalar; 5] {
 }
 
 /// All these.
-fn each_once(alloc: Global) -> Result<Vec<Scalar>, AllocError> {
+pub fn each_once(alloc: Global) -> Result<Vec<Scalar>, AllocError> {
     let mut scalars = Vec::new(alloc);
     for (c, class) in CLASSES {
         scalars.push((c, plain(class)))?;

@@ -1,28 +1,16 @@
 //! The types and calls of `lbk.h`, as C has them.
 
-use core::mem::{align_of, size_of};
+use core::mem::size_of;
 
-const STEPS: usize = 65_792;
-const CODES: usize = 0x11_0000;
+/// `sizeof(lbk_table)`, in numbers of 8 bytes.
+const TABLE_WORDS: usize = 205_226;
 
 /// `LBK_MUST`
 pub const MUST: u8 = 2;
 
+/// Plain numbers, whose layout is none of this crate's business.
 #[repr(C)]
-#[derive(Clone, Copy)]
-pub struct Step {
-    code: u16,
-    next: u16,
-}
-
-#[repr(C)]
-pub struct Table {
-    layout: u64,
-    digest: u64,
-    first: [Step; STEPS],
-    second: [Step; STEPS],
-    kinds: [u8; CODES],
-}
+pub struct Table([u64; TABLE_WORDS]);
 
 #[repr(C)]
 #[derive(Clone, Copy)]
@@ -53,8 +41,6 @@ pub struct RuleLabel {
     pub text: [u8; 4],
 }
 
-const _: () = assert!(size_of::<Table>() == 16 + 8 * STEPS + CODES);
-const _: () = assert!(align_of::<Table>() == 8);
 const _: () = assert!(size_of::<State>() == 16);
 const _: () = assert!(size_of::<Break>() == 16);
 const _: () = assert!(size_of::<Fault>() == 12);

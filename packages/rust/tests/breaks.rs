@@ -1,7 +1,7 @@
 //! The crate over small files of its own.
 
-use lbk::{Break, Cause, Fault, File, Files, Kind, Profile, Table};
-use std::thread;
+use lbk::{Break, Cause, Fault, File, Files, Kind, LoadError, Profile, Segment, Table};
+use std::{env, fs, thread};
 
 const FILES: Files = Files {
     line_break: b"000A;LF\n0020;SP\n0061..007A;AL\n00AB;QU\n00BB;QU\n4E00;ID\nFFFD;ID\n",
@@ -43,6 +43,64 @@ fn more_breaks_than_one_block_has() {
     let text = "a ".repeat(1000);
     let found = places(&table, Profile::First, text.as_bytes());
     assert_eq!(found, (1..=1000).map(|word| 2 * word).collect::<Vec<_>>());
+}
+
+#[test]
+fn a_block_that_is_just_full_ends_the_text() {
+    let table = table();
+    for words in 60..70 {
+        let text = "a ".repeat(words);
+        let mut breaks = table.breaks(&text);
+        assert_eq!(breaks.by_ref().count(), words);
+        assert_eq!(breaks.next(), None);
+    }
+}
+
+#[test]
+fn as_many_breaks_are_left_as_is_said() {
+    let table = table();
+    for text in [
+        "",
+        "a",
+        "ab",
+        "a b",
+        "一一一",
+        "a\n\n\nb",
+        &"一 ".repeat(200),
+    ] {
+        let mut breaks = table.breaks(text);
+        for left in (0..=table.breaks(text).count()).rev() {
+            let (least, most) = breaks.size_hint();
+            assert!(least <= left && left <= most.expect("there is a bound"));
+            breaks.next();
+        }
+    }
+}
+
+#[test]
+fn segments_are_the_text() {
+    let table = table();
+    let text = "ab cd\n一e";
+    let segments: Vec<Segment> = table.segments(text).collect();
+    let shown: Vec<String> = segments
+        .iter()
+        .map(|it| format!("{} {:?} {:?} {}", it.start, it.text, it.kind, it.rule))
+        .collect();
+    assert_eq!(
+        shown,
+        [
+            r#"0 "ab " May 18"#,
+            r#"3 "cd\n" Must 5"#,
+            r#"6 "一" May 31"#,
+            r#"9 "e" Must 3"#
+        ]
+    );
+    assert_eq!(table.segments("").next(), None);
+    let second: Vec<&str> = table
+        .segments_in(Profile::Second, "a « b » c")
+        .map(|it| it.text)
+        .collect();
+    assert_eq!(second, ["a ", "« b » ", "c"]);
 }
 
 #[test]
@@ -114,6 +172,35 @@ fn the_first_fault_is_named() {
         fault.to_string(),
         "DerivedGeneralCategory.txt:3: the value is unknown"
     );
+}
+
+#[test]
+fn a_folder_has_a_table() {
+    let folder = env::temp_dir().join(format!("lbk-{}", std::process::id()));
+    fs::create_dir_all(folder.join("extracted")).expect("a folder is made");
+    let put = |name: &str, bytes: &[u8]| fs::write(folder.join(name), bytes).expect("a file");
+    put("LineBreak.txt", FILES.line_break);
+    put("EastAsianWidth.txt", FILES.east_asian);
+    put("extracted/DerivedGeneralCategory.txt", FILES.category);
+    let missing = Table::load(&folder).map(|_| ()).unwrap_err();
+    assert!(
+        matches!(&missing, LoadError::Unreadable(path, _) if path.ends_with("emoji/emoji-data.txt"))
+    );
+    assert!(missing.to_string().contains("emoji-data.txt: "));
+    put("emoji-data.txt", FILES.emoji);
+    let loaded = Table::load(&folder).expect("the files have no fault");
+    assert!(loaded.as_bytes() == table().as_bytes());
+    put("EastAsianWidth.txt", b"\nno row\n");
+    let refused = Table::load(&folder).map(|_| ()).unwrap_err();
+    assert!(matches!(&refused, LoadError::Refused(_, fault) if fault.line == 2));
+    fs::remove_dir_all(&folder).expect("the folder is removed");
+}
+
+#[test]
+#[ignore = "LBK_TABLE_SIZE has to be what sizeof(lbk_table) is by the header"]
+fn a_table_is_as_long_as_the_headers() {
+    let wanted = env::var("LBK_TABLE_SIZE").expect("LBK_TABLE_SIZE is set");
+    assert_eq!(table().as_bytes().len().to_string(), wanted);
 }
 
 #[test]

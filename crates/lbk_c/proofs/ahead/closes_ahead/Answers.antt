@@ -1,4 +1,4 @@
-use Rattle.std.proofs.Common.{◌≡◌, ◌+◌, true, Some, None, map, drop, sym, ap, ◌∙◌, arith}
+use Rattle.std.proofs.Common.{◌≡◌, ◌+◌, Some, None, map, drop, sym, ap, ◌∙◌, arith}
 use Rattle.std.proofs.Math.ListN.{drop_of_length-le}
 use Rattle.bstr.specs.Utf8.{decoded, lossy_chars, or_replacement}
 use Rattle.bstr.proofs.lemmas.PieceLemmas.{lossy_chars-nil}

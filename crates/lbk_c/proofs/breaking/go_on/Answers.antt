@@ -1,7 +1,9 @@
-use Rattle.std.proofs.Common.{length, refl, ap, ◌∙◌, arith}
+use Rattle.std.proofs.Common.{length, refl, ap, subst, ◌∙◌, inl, arith}
 use Rattle.lbk_c.specs.declared.interface.State.{State}
+use Rattle.lbk_c.specs.Reached.{IsInOrder, onward}
 use Rattle.lbk_c.specs.Shown.{given_in}
 use Rattle.lbk_c.proofs.ComingLemmas.{Goes-ended, Goes-full}
+use Rattle.lbk_c.proofs.OrderLemmas.{AreInOrder-none, AreInOrder-wider}
 use Rattle.lbk_c.proofs.breaking.go_on.Goals as goal
 
 pub returns-then-here-out-clause-goes : goal.returns-then-here-out-clause-goes
@@ -10,7 +12,7 @@ returns-then-here-out-clause-goes c = λ cell lefts to_come flat start.
     let within = fill.ensures.within in
     let old = c.args.state.now in
     let state : State = record { at = fill.result.at; row = fill.result.row; profile = old.profile; ended = old.ended } in
-    Goes-full c.args.profile cell lefts c.args.text.now to_come fill.result state fill.new.out (length c.args.out.now)
+    Goes-full onward c.args.profile cell lefts c.args.text.now to_come fill.result state fill.new.out (length c.args.out.now)
     (fill.ensures.reached cell lefts to_come flat start) within.2 refl refl c.requires.unended (omega (arith, within.0)) (omega arith)
 
 pub returns-clause-goes : goal.returns-clause-goes
@@ -25,3 +27,36 @@ returns-clause-goes c = λ cell lefts to_come flat start.
     (fill.ensures.reached cell lefts to_come flat start) ends refl refl put.ensures.some
     (λ empty. (let none = put.ensures.none empty in ap (λ b. given_in b put.result) none.1 ∙ ap (given_in fill.new.out) none.0))
     (omega (arith, put.ensures.within)) (omega arith)
+
+pub returns-then-here-out-clause-in_order : goal.returns-then-here-out-clause-in_order
+returns-then-here-out-clause-in_order c =
+    let fill = c.fill-here in
+    let order = fill.ensures.in_order c.args.state.now.at (omega arith, AreInOrder-none c.args.out.now c.args.state.now.at c.args.state.now.at) in
+    AreInOrder-wider fill.new.out fill.result.count c.args.state.now.at fill.result.at _ (omega (arith, fill.ensures.within.2)) order.1
+
+pub returns-then-here-out-clause-before_state : goal.returns-then-here-out-clause-before_state
+returns-then-here-out-clause-before_state c = λ going.
+    (c.fill-here.ensures.in_order c.args.state.now.at (omega arith, AreInOrder-none c.args.out.now c.args.state.now.at c.args.state.now.at)).1
+
+pub returns-then-here-out-clause-forward : goal.returns-then-here-out-clause-forward
+returns-then-here-out-clause-forward c = λ some.
+    let order = c.fill-here.ensures.in_order c.args.state.now.at (omega arith, AreInOrder-none c.args.out.now c.args.state.now.at c.args.state.now.at) in
+    let first = order.1.within 0 some in
+    inl (omega (arith, first.0, first.1))
+
+pub returns-then-here-out-clause-onward : goal.returns-then-here-out-clause-onward
+returns-then-here-out-clause-onward c =
+    let order = c.fill-here.ensures.in_order c.args.state.now.at (omega arith, AreInOrder-none c.args.out.now c.args.state.now.at c.args.state.now.at) in
+    (order.0, c.fill-here.ensures.within.2)
+
+pub returns-clause-in_order : goal.returns-clause-in_order
+returns-clause-in_order c =
+    let fill = c.fill-here in
+    let order = fill.ensures.in_order c.args.state.now.at (omega arith, AreInOrder-none c.args.out.now c.args.state.now.at c.args.state.now.at) in
+    let ends = fill.ensures.stops (omega arith) in
+    c.put_end.ensures.in_order c.args.state.now.at (subst (λ n. IsInOrder fill.new.out fill.result.count c.args.state.now.at n) ends order)
+
+pub returns-clause-onward : goal.returns-clause-onward
+returns-clause-onward c =
+    let order = c.fill-here.ensures.in_order c.args.state.now.at (omega arith, AreInOrder-none c.args.out.now c.args.state.now.at c.args.state.now.at) in
+    (order.0, c.fill-here.ensures.within.2)

@@ -1,6 +1,8 @@
 use Rattle.std.proofs.Common.{length, ap, arith, refl}
+use Rattle.lbk_c.specs.Reached.{onward}
 use Rattle.lbk_c.specs.Shown.{given_in}
 use Rattle.lbk_c.proofs.ComingLemmas.{Comes-goes, Comes-next, Comes-start, breaks-utf8, spent-none}
+use Rattle.lbk_c.proofs.OrderLemmas.{AreInOrder-none}
 use Rattle.lbk_c.proofs.breaking.lbk_breaks.Goals as goal
 
 pub returns-in_default-clause-start : goal.returns-in_default-clause-start
@@ -17,7 +19,7 @@ returns-clause-well_formed c = λ cell profile utf8. breaks-utf8 profile cell c.
 
 pub returns-in_default-clause-count : goal.returns-in_default-clause-count
 returns-in_default-clause-count c = λ cell to_come comes.
-    let none = ap length (spent-none cell c.args.table.now c.args.text.now c.args.state.now to_come c.in_default.ensures comes) in
+    let none = ap length (spent-none onward cell c.args.table.now c.args.text.now c.args.state.now to_come c.in_default.ensures comes) in
     omega arith
 
 pub returns-in_default-clause-front : goal.returns-in_default-clause-front
@@ -28,19 +30,25 @@ returns-in_default-clause-rest c = λ cell to_come comes. comes
 
 pub returns-clause-count : goal.returns-clause-count
 returns-clause-count c = λ cell to_come comes.
-    let gone = Comes-goes c.in-Some.profile cell c.args.table.now c.args.text.now c.args.state.now c.go_on.new.state to_come
+    let gone = Comes-goes onward c.in-Some.profile cell c.args.table.now c.args.text.now c.args.state.now c.go_on.new.state to_come
     (given_in c.go_on.new.out c.go_on.result) c.go_on.result (length c.args.out.now) c.go_on.ensures.goes c.in-Some.ensures comes in
     gone.counted
 
 pub returns-clause-front : goal.returns-clause-front
 returns-clause-front c = λ cell to_come comes.
-    let gone = Comes-goes c.in-Some.profile cell c.args.table.now c.args.text.now c.args.state.now c.go_on.new.state to_come
+    let gone = Comes-goes onward c.in-Some.profile cell c.args.table.now c.args.text.now c.args.state.now c.go_on.new.state to_come
     (given_in c.go_on.new.out c.go_on.result) c.go_on.result (length c.args.out.now) c.go_on.ensures.goes c.in-Some.ensures comes in
     gone.front
 
 pub returns-clause-rest : goal.returns-clause-rest
 returns-clause-rest c = λ cell to_come comes.
-    let gone = Comes-goes c.in-Some.profile cell c.args.table.now c.args.text.now c.args.state.now c.go_on.new.state to_come
+    let gone = Comes-goes onward c.in-Some.profile cell c.args.table.now c.args.text.now c.args.state.now c.go_on.new.state to_come
     (given_in c.go_on.new.out c.go_on.result) c.go_on.result (length c.args.out.now) c.go_on.ensures.goes c.in-Some.ensures comes in
-    Comes-next c.in-Some.profile cell c.args.table.now c.args.text.now c.args.state.now c.go_on.new.state to_come
+    Comes-next onward c.in-Some.profile cell c.args.table.now c.args.text.now c.args.state.now c.go_on.new.state to_come
     (given_in c.go_on.new.out c.go_on.result) c.go_on.result (length c.args.out.now) c.in-Some.ensures c.go_on.ensures.profile_same comes gone
+
+pub returns-in_default-clause-in_order : goal.returns-in_default-clause-in_order
+returns-in_default-clause-in_order c = AreInOrder-none _ _ _
+
+pub returns-in_default-clause-before_state : goal.returns-in_default-clause-before_state
+returns-in_default-clause-before_state c = λ _. AreInOrder-none _ _ _

@@ -1,10 +1,10 @@
-use Rattle.std.proofs.Common.{◌≡◌, ◌-◌, ◌<◌, ◌≤◌, ℕ, List, length}
+use Rattle.std.proofs.Common.{◌≡◌, ◌-◌, ◌<◌, ◌≤◌, ◌++◌, ℕ, List, length}
 use Rattle.lbk_rules.specs.declared.breaks.Break.{Break}
 use Rattle.lbk_rules.specs.declared.cells.Cell.{Cell}
 use Rattle.lbk_rules.specs.declared.facts.Left.{Left}
 use Rattle.lbk_values.specs.declared.profile.Profile.{Profile}
 use Rattle.lbk_steps.specs.FlatTable.{AreFlatKinds}
-use Rattle.lbk_c.specs.Reached.{AreSwift, Reached}
+use Rattle.lbk_c.specs.Reached.{AreSwift, IsInOrder, Reached}
 use Rattle.lbk_c.specs.Shown.{given_in}
 use Rattle.lbk_c.proofs.filling.run.Given as goal
 
@@ -14,10 +14,11 @@ invariant-loop-count l = record {
   row : l.row < 65536;
   within : l.at ≤ length l.text;
   onward : l.initial.at ≤ l.at;
-  no_room : length l.initial.out ≡ 0 → (l.count ≡ l.initial.count) × (l.row ≡ l.initial.row) × (l.at ≡ l.initial.at);
-  reached : (profile : Profile) (cell : ℕ → Cell) (lefts : List Left) (all : List Break) → AreSwift profile lefts l.steps → AreFlatKinds l.kinds cell
-      → Reached profile cell lefts l.text all (record { count = l.initial.count; row = l.initial.row; at = l.initial.at }) (given_in l.initial.out l.initial.count)
-      → Reached profile cell lefts l.text all (record { count = l.count; row = l.row; at = l.at }) (given_in l.out l.count);
+  more : l.initial.count ≤ l.count;
+  in_order : (from : ℕ) → IsInOrder l.initial.out l.initial.count from l.initial.at → IsInOrder l.out l.count from l.at;
+  reached : (profile : Profile) (cell : ℕ → Cell) (lefts : List Left) (more : List ℕ) (all : List Break) → AreSwift profile lefts l.steps → AreFlatKinds l.kinds cell
+      → Reached profile cell lefts (l.text ++ more) all (record { count = l.initial.count; row = l.initial.row; at = l.initial.at }) (given_in l.initial.out l.initial.count)
+      → Reached profile cell lefts (l.text ++ more) all (record { count = l.count; row = l.row; at = l.at }) (given_in l.out l.count);
 }
 
 abbrev pub decreases-loop-count : goal.decreases-loop-count

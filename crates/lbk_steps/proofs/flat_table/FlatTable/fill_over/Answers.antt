@@ -18,6 +18,8 @@ returns-clause-table g c =
             (subst (λ s. AreNumbered s c.number_steps-2.new.flat) c.deref-2.ensures.value c.number_steps-2.ensures);
         kinds = rw (c.copy_from_slice.ensures.after ∙ c.deref-3.ensures.value)
             (λ code scalar. (c.in_ok-kinds.kinds.few code, c.in_ok-kinds.ensures code scalar));
+        first_told = c.of_steps-self.ensures;
+        second_told = c.of_steps-self-2.ensures;
       },
     )
 

@@ -1,0 +1,25 @@
+use Rattle.std.proofs.Common.{sym, ap, ◌∙◌, ◌++◌}
+use Rattle.bstr.specs.Utf8.{pieces}
+use Rattle.lbk_c.specs.Reached.{from_state, onward}
+use Rattle.lbk_c.proofs.laws.only_bytes_from_a_state_on.Goals as goal
+
+pub returns : goal.returns
+returns c = λ cell table text other state to_come comes within same. record {
+  profile = comes.profile;
+  named = comes.named;
+  lefts = comes.lefts;
+  flat = comes.flat;
+  onto = record {
+    within = within;
+    goes_on = λ goes.
+        let r = comes.onto.goes_on goes in
+        record {
+          taken = r.taken;
+          knows = r.knows;
+          none = r.none;
+          some = r.some;
+          joined = r.joined ∙ ap (λ bytes. onward comes.profile cell r.taken state.at (pieces bytes)) (sym same);
+        };
+    none_come = comes.onto.none_come;
+  };
+}

@@ -1,0 +1,24 @@
+use Rattle.std.proofs.Common.{arith}
+use Rattle.lbk_c.specs.Shown.{given_in}
+use Rattle.lbk_c.proofs.PositionLemmas.{All-decided}
+use Rattle.lbk_c.proofs.positions.fill.Goals as goal
+
+pub loop-here-preserved : goal.loop-here-preserved
+loop-here-preserved c =
+    let l = c.loop-here in
+    let decided = c.decide_one-decided in
+    let put = c.put in
+    let within = decided.ensures.within in
+    record {
+      room = omega arith;
+      row = within.0;
+      within = within.2;
+      no_room = λ none. absurd (omega arith);
+      in_order = λ from order.
+          let here = l.invariant.in_order from order in
+          (omega (arith, here.0, within.1), put.ensures.in_order from decided.result.at within.1 here);
+      reached = λ cell lefts all flat start.
+          All-decided c.args.profile cell lefts c.args.text.now all l.here put.result (given_in l.out l.here.count) (given_in put.new.out put.result) decided.result
+          (omega arith) (λ taken known. decided.ensures.decided cell lefts taken flat known) put.ensures.front
+          (l.invariant.reached cell lefts all flat start);
+    }

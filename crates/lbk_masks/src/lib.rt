@@ -1,0 +1,196 @@
+//! Which of 64 bytes stand out: a bit for each, by what the sets of neighbours have in common.
+//!
+//! Each byte has two sets of up to eight things: one as the left of two neighbours, one as the right. A byte stands out
+//! where its right set meets the left set of the byte before it, and is special where they meet in one of the first two
+//! things. All of it holds whatever the sets are.
+#![tactic(auto)]
+
+ghost use Rattle.std.specs.Prelude.{◌≡◌, ◌%◌, ℕ, ◌<◌, ◌≤◌, ◌∷◌, length, get_or, bit_and, bit_or};
+ghost use Rattle.lbk_masks.specs.Sets.{HasLanes, class_in, high_half, in_row, is_set, left_before, left_in, meets, picked, right_in};
+
+use std::simd::prelude::*;
+
+/// The things in which every byte that meets another is special.
+pub const SPECIAL: u8 = 3;
+
+/// The sets of all bytes. Those below 128 have a class each, and those from 128 on the class 0; a class has two sets.
+#[repr(C)]
+#[derive(Clone, Copy)]
+pub struct ByteSets {
+    /// The class of each byte below 128, in rows of 16. It is below 16.
+    pub classes: [[u8; 16]; 8],
+    /// The set of a class on the left of two neighbours.
+    pub left: [u8; 16],
+    /// The set of a class on the right of two neighbours.
+    pub right: [u8; 16],
+}
+
+/// Some of 64 bytes, a bit each, the first the lowest.
+#[derive(Clone, Copy)]
+pub struct Masks {
+    /// Where a byte stands out.
+    pub standing: u64,
+    /// Where it is special.
+    pub special: u64,
+}
+
+impl ByteSets {
+    /// The set of a byte on the left of two neighbours.
+    pub fn left_of(&self, byte: u8) -> u8
+        ensures { result ≡ left_in self.now byte }
+    {
+        of_class(&self.left, class_of(&self.classes, byte))
+    }
+
+    /// The set of a byte on the right of two neighbours.
+    pub fn right_of(&self, byte: u8) -> u8
+        ensures { result ≡ right_in self.now byte }
+    {
+        of_class(&self.right, class_of(&self.classes, byte))
+    }
+
+    /// Which of the first 64 bytes of a text stand out, where `before` is the left set of the byte before them.
+    #[inline(always)]
+    pub fn masks(&self, before: u8, text: &[u8]) -> Masks
+        requires { 64 ≤ length text.now }
+        ensures standing { (i : ℕ) → i < 64 → is_set result.standing i
+            ≡ meets (left_before self.now before text.now i) (right_in self.now (get_or text.now i 0)) }
+        ensures special { (i : ℕ) → i < 64 → is_set result.special i
+            ≡ meets (left_before self.now before text.now i) (bit_and (right_in self.now (get_or text.now i 0)) SPECIAL) }
+    {
+        let class = classes(&self.classes, block_of(text));
+        let behind = one_back(before, picked(self.left, class));
+        let right = picked(self.right, class);
+        Masks {
+            standing: meeting(behind, right),
+            special: meeting(behind, both(right, u8x64::splat(SPECIAL))),
+        }
+    }
+}
+
+/// The class of one byte.
+fn class_of(rows: &[[u8; 16]; 8], byte: u8) -> u8
+    ensures { result ≡ class_in rows.now byte }
+{
+    let a = byte_in_row(rows[0], 0, byte) | byte_in_row(rows[1], 16, byte);
+    let b = byte_in_row(rows[2], 32, byte) | byte_in_row(rows[3], 48, byte);
+    let c = byte_in_row(rows[4], 64, byte) | byte_in_row(rows[5], 80, byte);
+    let d = byte_in_row(rows[6], 96, byte) | byte_in_row(rows[7], 112, byte);
+    (a | b) | (c | d)
+}
+
+/// What the row has at the low half of a byte with this high half, and else 0.
+fn byte_in_row(row: [u8; 16], first: u8, byte: u8) -> u8
+    ensures { result ≡ in_row row first byte }
+{
+    let all = if byte & 240 == first { 255 } else { 0 };
+    all & of_class(&row, byte)
+}
+
+/// What the row has at the low half of a byte.
+fn of_class(row: &[u8; 16], byte: u8) -> u8
+    ensures { result ≡ picked row.now byte }
+{
+    row[(byte & 15) as usize]
+}
+
+/// The first 64 bytes of a text.
+#[inline(always)]
+fn block_of(text: &[u8]) -> u8x64
+    requires { 64 ≤ length text.now }
+    ensures len { length result ≡ 64 }
+    ensures lanes { HasLanes result (λ i. get_or text.now i 0) }
+{
+    u8x64::from_slice(text)
+}
+
+/// The row four times.
+#[inline(always)]
+fn four_times(row: u8x16) -> u8x64
+    ensures len { length result ≡ 64 }
+    ensures lanes { HasLanes result (λ i. get_or row (i % 16) 0) }
+{
+    row.swizzle::<64>([
+        0, 1, 2, 3, 4, 5, 6, 7, 8, 9, 10, 11, 12, 13, 14, 15, 0, 1, 2, 3, 4, 5, 6, 7, 8, 9, 10, 11,
+        12, 13, 14, 15, 0, 1, 2, 3, 4, 5, 6, 7, 8, 9, 10, 11, 12, 13, 14, 15, 0, 1, 2, 3, 4, 5, 6,
+        7, 8, 9, 10, 11, 12, 13, 14, 15,
+    ])
+}
+
+/// What the row has at the low half of each byte.
+#[inline(always)]
+fn picked(row: [u8; 16], bytes: u8x64) -> u8x64
+    ensures { HasLanes result (λ i. picked row (get_or bytes i 0)) }
+{
+    four_times(u8x16::from_array(row)).swizzle_dyn_within::<16>(bytes & u8x64::splat(15))
+}
+
+/// All bits at the bytes with this high half.
+#[inline(always)]
+fn high_half(first: u8, bytes: u8x64) -> u8x64
+    ensures { HasLanes result (λ i. high_half first (get_or bytes i 0)) }
+{
+    (bytes & u8x64::splat(240))
+        .simd_eq(u8x64::splat(first))
+        .select(u8x64::splat(255), u8x64::splat(0))
+}
+
+/// What two vectors have in common.
+#[inline(always)]
+fn both(one: u8x64, other: u8x64) -> u8x64
+    ensures { HasLanes result (λ i. bit_and (get_or one i 0) (get_or other i 0)) }
+{
+    one & other
+}
+
+/// What one of two vectors has.
+#[inline(always)]
+fn either(one: u8x64, other: u8x64) -> u8x64
+    ensures { HasLanes result (λ i. bit_or (get_or one i 0) (get_or other i 0)) }
+{
+    one | other
+}
+
+/// What the row has at the low half of each byte with this high half, and else 0.
+#[inline(always)]
+fn in_row(row: [u8; 16], first: u8, bytes: u8x64) -> u8x64
+    ensures { HasLanes result (λ i. in_row row first (get_or bytes i 0)) }
+{
+    both(high_half(first, bytes), picked(row, bytes))
+}
+
+/// The class of each byte.
+#[inline(always)]
+fn classes(rows: &[[u8; 16]; 8], bytes: u8x64) -> u8x64
+    ensures { HasLanes result (λ i. class_in rows.now (get_or bytes i 0)) }
+{
+    let a = either(in_row(rows[0], 0, bytes), in_row(rows[1], 16, bytes));
+    let b = either(in_row(rows[2], 32, bytes), in_row(rows[3], 48, bytes));
+    let c = either(in_row(rows[4], 64, bytes), in_row(rows[5], 80, bytes));
+    let d = either(in_row(rows[6], 96, bytes), in_row(rows[7], 112, bytes));
+    either(either(a, b), either(c, d))
+}
+
+/// Where the sets of two vectors meet.
+#[inline(always)]
+fn meeting(left: u8x64, right: u8x64) -> u64
+    ensures { (i : ℕ) → i < 64 → is_set result i ≡ meets (get_or left i 0) (get_or right i 0) }
+{
+    (left & right).simd_ne(u8x64::splat(0)).to_bitmask()
+}
+
+/// The lanes, each a place further on, behind this one.
+#[inline(always)]
+fn one_back(before: u8, block: u8x64) -> u8x64
+    ensures { HasLanes result (λ i. get_or (before ∷ block) i 0) }
+{
+    u8x64::splat(before).shuffle(
+        block,
+        [
+            63, 64, 65, 66, 67, 68, 69, 70, 71, 72, 73, 74, 75, 76, 77, 78, 79, 80, 81, 82, 83, 84,
+            85, 86, 87, 88, 89, 90, 91, 92, 93, 94, 95, 96, 97, 98, 99, 100, 101, 102, 103, 104,
+            105, 106, 107, 108, 109, 110, 111, 112, 113, 114, 115, 116, 117, 118, 119, 120, 121,
+            122, 123, 124, 125, 126,
+        ],
+    )
+}

@@ -1,0 +1,3 @@
+pub mod PieceWords
+pub mod Seams
+pub mod Whole

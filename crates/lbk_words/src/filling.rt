@@ -1,0 +1,35 @@
+//! A block that is filled with words.
+
+ghost use Rattle.std.specs.Prelude.{◌≡◌, ◌≤◌, drop, length, min, take};
+ghost use Rattle.lbk_words.specs.Words.{AreRising, words_on};
+
+use crate::pieces::first_piece;
+use crate::word::{Filled, Word};
+
+/// Puts the first words of a text, taken alone from the byte `start` on, into the front of a block: as many as it holds, or
+/// all. The others come from the byte on that is answered.
+///
+/// The text may be any bytes: each longest piece that begins no scalar is read as U+FFFD (Unicode Standard, section 3.9).
+pub fn fill(text: &[u8], start: usize, out: &mut [Word]) -> Filled
+    ensures count { result.count ≡ min (length out.old) (length (words_on text.now start)) }
+    ensures front { take result.count out.new ≡ take result.count (words_on text.now start) }
+    ensures rest { words_on text.now result.at ≡ drop result.count (words_on text.now start) }
+    ensures onward { start ≤ result.at }
+    ensures rising { AreRising start result.at (take result.count out.new) }
+    ensures within { start ≤ length text.now → result.at ≤ length text.now }
+    ensures past { length text.now ≤ start → result.at ≡ start }
+    ensures no_room { length out.old ≡ 0 → result.at ≡ start }
+{
+    let mut count = 0;
+    let mut at = start;
+    while count < out.len() && at < text.len() {
+        let piece = first_piece(text, at);
+        out[count] = Word {
+            start: at,
+            end: piece.end,
+        };
+        count += usize::from(piece.is_word);
+        at = piece.end;
+    }
+    Filled { count, at }
+}

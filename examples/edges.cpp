@@ -1,0 +1,211 @@
+/* Tries lbk.hpp at its edges: what its types are, what does not compile, ranges and iterators that are copied, kept and compared,
+ * and tables from bytes, from a folder and from a mapped file. It writes what did not hold.
+ *
+ *     edges FOLDER     an empty folder, for files of its own
+ *
+ * The last line is `N passed, M failed`.
+ */
+#include <lbk.hpp>
+
+#include <algorithm>
+#include <cstdio>
+#include <cstring>
+#include <memory>
+#include <string>
+#include <type_traits>
+#include <vector>
+
+#include <sys/stat.h>
+
+using iterator = lbk::breaks::iterator;
+
+static_assert(std::is_same_v<decltype(*std::declval<iterator>()), lbk_break>, "a break comes by value");
+static_assert(sizeof(iterator) <= 256, "an iterator is small");
+static_assert(std::is_trivially_copyable_v<iterator> && std::is_trivially_copyable_v<lbk::breaks>);
+static_assert(std::is_nothrow_move_constructible_v<lbk::table> && !std::is_copy_constructible_v<lbk::table>);
+
+// A range is made of a table and a text that stay, and of no temporary.
+static_assert(std::is_constructible_v<lbk::breaks, lbk::table &, std::string_view>);
+static_assert(std::is_constructible_v<lbk::breaks, const lbk_table &, const char *, lbk::profile>);
+static_assert(std::is_constructible_v<lbk::breaks, lbk_table &, std::string &>);
+static_assert(!std::is_constructible_v<lbk::breaks, lbk::table, std::string_view>);
+static_assert(!std::is_constructible_v<lbk::breaks, const lbk::table, std::string_view, lbk::profile>);
+static_assert(!std::is_constructible_v<lbk::breaks, lbk_table, std::string_view>);
+static_assert(!std::is_constructible_v<lbk::breaks, lbk::table &, std::string>);
+static_assert(!std::is_convertible_v<lbk::table, const lbk_table &>);
+
+#if defined(__cpp_lib_ranges)
+static_assert(std::forward_iterator<iterator>);
+static_assert(std::ranges::forward_range<lbk::breaks> && std::ranges::common_range<lbk::breaks>);
+static_assert(std::ranges::view<lbk::breaks> && std::ranges::borrowed_range<lbk::breaks>);
+#endif
+
+static unsigned passed, failed;
+
+static void told(const char *what, bool holds)
+{
+    if (holds) {
+        passed++;
+    } else {
+        failed++;
+        std::printf("FAILED  %s\n", what);
+    }
+}
+
+/* Small files: a to z are letters, and U+FFFD is an ideograph. */
+static const char LINE_BREAKS[] = "000A;LF\n0020;SP\n0061..007A;AL\n00AB;QU\n00BB;QU\n4E00;ID\nFFFD;ID\n";
+static const char CATEGORIES[] = "00AB;Pi\n00BB;Pf\n";
+
+static std::optional<lbk::table> small_table()
+{
+    lbk::error why;
+    return lbk::table::try_read(LINE_BREAKS, "", CATEGORIES, "", why);
+}
+
+static std::vector<std::size_t> places(const lbk_table &table, std::string_view text, lbk::profile rules = lbk::profile::first)
+{
+    std::vector<std::size_t> found;
+    for (lbk_break one : lbk::breaks(table, text, rules))
+        found.push_back(one.at);
+    return found;
+}
+
+using these = std::vector<std::size_t>;
+
+static void try_ranges(const lbk_table &table)
+{
+    told("no break of no text", lbk::breaks(table, "").begin() == lbk::breaks(table, "").end());
+    told("no break of a view of nothing", places(table, std::string_view()).empty());
+    told("the breaks of a text", places(table, "ab cd\nef") == these{3, 6, 8});
+    told("profiles differ", places(table, "a \xC2\xAB b", lbk::profile::first) == these{2, 5, 6}
+                                && places(table, "a \xC2\xAB b", lbk::profile::second) == these{2, 6});
+    std::string many;
+    these wanted;
+    for (std::size_t k = 1; k <= 1000; k++) {
+        many += "a ";
+        wanted.push_back(2 * k);
+    }
+    told("more breaks than an iterator holds", places(table, many) == wanted);
+    lbk::breaks twice(table, many);
+    told("a range is gone through again", std::distance(twice.begin(), twice.end()) == 1000
+                                              && std::distance(twice.begin(), twice.end()) == 1000);
+    told("labels", lbk::label(LBK_RULE_8A) == "8a" && lbk::label(255).empty());
+}
+
+static void try_iterators(const lbk_table &table)
+{
+    std::string text = "a b c d e f g h i j k l m n o p q r s t u v\nw";
+    lbk::breaks range(table, text);
+    const lbk_break &kept = *std::find_if(range.begin(), range.end(), [](lbk_break it) { return it.kind == LBK_MUST; });
+    told("a break that was found stays", kept.at == text.size() - 1 && kept.kind == LBK_MUST);
+
+    iterator place = range.begin(), before = place++, copy = place;
+    told("before and after", before->at == 2 && (*place).at == 4 && copy == place && before != place);
+    while (copy != range.end())
+        ++copy;
+    told("a copy goes on by itself", place->at == 4 && copy == range.end() && copy == iterator() && place != copy);
+    std::advance(place, 15);
+    std::advance(before, 16);
+    told("two ways to one place", place == before && place->at == before->at);
+    before = range.begin();
+    told("an iterator is assigned", before->at == 2);
+}
+
+static bool refused(const lbk::error &why, lbk::error::reason reason)
+{
+    return why && why.why == reason && !why.message().empty();
+}
+
+static void try_bytes(const lbk::table &table)
+{
+    using reason = lbk::error::reason;
+    lbk::error why;
+    told("a file with a fault", !lbk::table::try_read("0061;AL\nno row\n", "", "", "", why) && refused(why, reason::refused)
+                                    && why.fault.file == LBK_LINE_BREAK && why.fault.line == 2
+                                    && why.fault.cause == LBK_CAUSE_ROW_SYNTAX);
+    std::optional<lbk::table> copy = lbk::table::try_copy(table.bytes(), why);
+    told("a table from its bytes", copy && !why && places(*copy, "ab cd") == these{3, 5});
+    told("bytes that are too few", !lbk::table::try_copy(table.bytes().substr(1), why) && refused(why, reason::not_a_table));
+
+    told("a table in its place", lbk::table_in(table.bytes()) == &table.get());
+    told("no table in fewer bytes", lbk::table_in(table.bytes().substr(8)) == nullptr);
+    auto room = std::make_unique<char[]>(sizeof(lbk_table) + 1);
+    std::memcpy(room.get() + 1, table.bytes().data(), sizeof(lbk_table));
+    told("no table out of line", lbk::table_in({room.get() + 1, sizeof(lbk_table)}) == nullptr);
+    room[100000] ^= 1;
+    told("bytes that changed", !lbk::table::try_copy({room.get() + 1, sizeof(lbk_table)}, why) && refused(why, reason::not_a_table));
+}
+
+static bool write(const std::string &name, std::string_view bytes)
+{
+    std::FILE *file = std::fopen(name.c_str(), "wb");
+    bool is_written = file != nullptr && std::fwrite(bytes.data(), 1, bytes.size(), file) == bytes.size();
+    return file != nullptr && std::fclose(file) == 0 && is_written;
+}
+
+static void try_files(const lbk::table &table, const std::string &folder)
+{
+    using reason = lbk::error::reason;
+    lbk::error why;
+    told("a folder without files", !lbk::table::try_load(folder, why) && refused(why, reason::unreadable)
+                                       && why.fault.file == LBK_LINE_BREAK && why.system == ENOENT);
+    told("a folder of too long a name", !lbk::table::try_load(std::string(5000, 'a'), why) && why.system == ENAMETOOLONG);
+    told("files are written", write(folder + "/LineBreak.txt", LINE_BREAKS) && write(folder + "/EastAsianWidth.txt", "")
+                                  && write(folder + "/emoji-data.txt", "") && write(folder + "/table", table.bytes())
+                                  && write(folder + "/short", table.bytes().substr(8)));
+    told("a folder without one of them", !lbk::table::try_load(folder, why) && why.fault.file == LBK_CATEGORY);
+    told("a file is written below", ::mkdir((folder + "/extracted").c_str(), 0777) == 0
+                                        && write(folder + "/extracted/DerivedGeneralCategory.txt", CATEGORIES));
+    std::optional<lbk::table> made = lbk::table::try_load(folder, why);
+    told("a table from a folder", made && !why && made->bytes() == table.bytes());
+
+    std::optional<lbk::table> mapped = lbk::table::try_map(folder + "/table", why);
+    told("a mapped table", mapped && !why && places(*mapped, "ab cd") == these{3, 5});
+    lbk::table moved = std::move(*mapped);
+    mapped.reset();
+    told("a mapped table that moved", places(moved, "ab cd") == these{3, 5});
+    told("a file that is too short", !lbk::table::try_map(folder + "/short", why) && refused(why, reason::not_a_table));
+    told("no file", !lbk::table::try_map(folder + "/none", why) && refused(why, reason::unreadable) && why.system == ENOENT);
+    told("a folder", !lbk::table::try_map(folder, why) && why);
+    std::string changed(table.bytes());
+    changed[100000] ^= 1;
+    told("a file that changed", write(folder + "/changed", changed) && !lbk::table::try_map(folder + "/changed", why)
+                                    && refused(why, reason::not_a_table));
+}
+
+#if defined(__cpp_exceptions)
+static void try_exceptions(const lbk::table &table, const std::string &folder)
+{
+    auto is_same = [&](const lbk::table &made) { return made.bytes() == table.bytes(); };
+    told("a table by each way", is_same(lbk::table::read(LINE_BREAKS, "", CATEGORIES, "")) && is_same(lbk::table::load(folder))
+                                    && is_same(lbk::table::copy(table.bytes())) && is_same(lbk::table::map(folder + "/table")));
+    try {
+        lbk::table::load(folder + "/none");
+        told("no folder is thrown", false);
+    } catch (const lbk::table_error &thrown) {
+        told("no folder is thrown", thrown.error().why == lbk::error::reason::unreadable
+                                        && std::string(thrown.what()) == thrown.error().message());
+    }
+}
+#else
+static void try_exceptions(const lbk::table &, const std::string &) {}
+#endif
+
+int main(int words, char **word)
+{
+    if (words != 2) {
+        std::fprintf(stderr, "usage: edges FOLDER\n");
+        return 2;
+    }
+    std::optional<lbk::table> table = small_table();
+    told("the small files have no fault", table.has_value());
+    if (table) {
+        try_ranges(*table);
+        try_iterators(*table);
+        try_bytes(*table);
+        try_files(*table, word[1]);
+        try_exceptions(*table, word[1]);
+    }
+    std::printf("%u passed, %u failed\n", passed, failed);
+    return failed == 0 ? 0 : 1;
+}

@@ -1,0 +1,49 @@
+/* Writes each position of a text with what decides there:
+ *
+ *     positions TABLE PROFILE [breaks] < TEXT
+ *
+ * TABLE is a file that save_table wrote, PROFILE 1 or 2. A line has the place in bytes, the kind (0 no, 1 may, 2 must) and
+ * the rule. With `breaks` it writes the breaks alone, by lbk_breaks.
+ */
+#include "example.h"
+
+#include <string.h>
+
+enum { ROOM = 1024 };
+
+typedef size_t (*call)(const lbk_table *, lbk_state *, const char *, size_t, lbk_break *, size_t);
+
+static void write_all(call next, const lbk_table *table, uint8_t profile, bytes text)
+{
+    lbk_state state = {.profile = profile};
+    lbk_break block[ROOM];
+    size_t count;
+    do {
+        count = next(table, &state, text.at, text.size, block, ROOM);
+        for (size_t k = 0; k < count; k++)
+            printf("%zu %u %s\n", block[k].at, (unsigned)block[k].kind, lbk_label(block[k].rule).text);
+    } while (count == ROOM);
+}
+
+int main(int words, char **word)
+{
+    if (words != 3 && !(words == 4 && strcmp(word[3], "breaks") == 0)) {
+        fprintf(stderr, "usage: positions TABLE PROFILE [breaks] < TEXT\n");
+        return 2;
+    }
+    bytes table = load(word[1]);
+    if (table.size != sizeof(lbk_table) || !lbk_check((const lbk_table *)table.at)) {
+        fprintf(stderr, "%s is no whole table of version %s\n", word[1], LBK_VERSION);
+        return 1;
+    }
+    bytes text = read_all(stdin);
+    if (text.at == NULL) {
+        fprintf(stderr, "standard input cannot be read\n");
+        return 1;
+    }
+    uint8_t profile = strcmp(word[2], "2") == 0 ? LBK_SECOND : LBK_FIRST;
+    write_all(words == 4 ? lbk_breaks : lbk_positions, (const lbk_table *)table.at, profile, text);
+    free(text.at);
+    free(table.at);
+    return 0;
+}

@@ -1,0 +1,23 @@
+#!/usr/bin/env python3
+"""Breaks, segments and columns of texts: texts.py FOLDER, as /usr/share/unicode."""
+
+import sys
+
+import lbk
+from lbk import Break, Kind, Rule
+
+table = lbk.Table.load(sys.argv[1])
+
+# A str has its places in code points, and an object of bytes in bytes.
+assert list(table.segments("naïve text")) == ["naïve ", "text"]
+assert list(table.breaks("naïve text")) == [Break(6, Kind.MAY, Rule.LB18), Break(10, Kind.MUST, Rule.LB3)]
+assert [found.at for found in table.breaks("naïve text".encode())] == [7, 11]
+
+# All breaks at once, as numbers in memory that numpy and others take as it is.
+places, kinds, rules = table.break_columns("one two\nthree")
+assert places.tolist() == [4, 8, 13]
+assert kinds.count(Kind.MUST) == 2
+
+# Many texts in one call: those of the second stand at offsets[1] to offsets[2].
+offsets, places, kinds, rules = table.break_list_columns(["one two", "a b c"])
+assert places[offsets[1] : offsets[2]].tolist() == [2, 4, 5]

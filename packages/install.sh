@@ -1,0 +1,57 @@
+#!/bin/sh
+# Installs what stands beside this file below a folder:
+#
+#     ./install.sh PREFIX [LIBDIR]
+#
+#     PREFIX/bin/lbk                              the program
+#     PREFIX/include/lbk.h, lbk.hpp               the headers for C and C++
+#     LIBDIR/liblbk.a, liblbk.so, liblbk.so.0     the library, static and shared
+#     LIBDIR/pkgconfig/lbk.pc                     by which pkg-config finds it
+#     LIBDIR/cmake/lbk/                           and CMake's find_package
+#     PREFIX/share/man/man1/lbk.1                 the program's manual page
+#
+# LIBDIR is PREFIX/lib unless it is given. Both are taken as the places where the files will be used; DESTDIR, where it is set, stands
+# in front of them while they are copied.
+#
+# The code is for x86-64-v2, so for processors with SSE4.2, which nearly all since 2009 have. Without DESTDIR this processor has to.
+set -eu
+if [ $# = 0 ] || [ $# -gt 2 ] || [ -z "$1" ]; then
+    echo "usage: ./install.sh PREFIX [LIBDIR]" >&2
+    exit 2
+fi
+absolute() {
+    case $1 in
+    /*) printf '%s\n' "$1" ;;
+    *) printf '%s\n' "$PWD/$1" ;;
+    esac
+}
+if [ -z "${DESTDIR:-}" ] && [ -r /proc/cpuinfo ] && ! grep -q -w sse4_2 /proc/cpuinfo; then
+    echo "install.sh: this processor has no SSE4.2, and the code is for x86-64-v2" >&2
+    exit 1
+fi
+prefix=$(absolute "$1")
+libdir=$(absolute "${2:-$prefix/lib}")
+cd "$(dirname "$0")"
+to=${DESTDIR:-}$prefix
+lib=${DESTDIR:-}$libdir
+
+mkdir -p "$to/include" "$lib/pkgconfig" "$lib/cmake/lbk"
+install -m 644 include/lbk.h include/lbk.hpp "$to/include"
+install -m 644 lib/liblbk.a "$lib"
+for shared in lib/liblbk.so.*; do
+    full=${shared#lib/}
+    name=${full%.*.*}
+    install -m 755 "$shared" "$lib/$full"
+    ln -sf "$full" "$lib/$name"
+    ln -sf "$name" "$lib/liblbk.so"
+done
+filled() { sed -e "s|@PREFIX@|$prefix|; s|@LIBDIR@|$libdir|" "$1"; }
+filled lib/lbk.pc.in > "$lib/pkgconfig/lbk.pc"
+filled lib/lbk-config.cmake.in > "$lib/cmake/lbk/lbk-config.cmake"
+cp lib/lbk-config-version.cmake "$lib/cmake/lbk"
+
+if [ -e bin/lbk ]; then
+    mkdir -p "$to/bin" "$to/share/man/man1"
+    install -m 755 bin/lbk "$to/bin"
+    install -m 644 share/lbk.1 "$to/share/man/man1"
+fi

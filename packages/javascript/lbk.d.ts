@@ -1,0 +1,77 @@
+/** Where a line of text may break, and where it must (UAX #14, Unicode 15.0, rules LB2 to LB31). */
+
+/** What a rule says of a position: the line does not break there, may break there, or must. */
+export type Kind = "no" | "may" | "must";
+
+/** A position of a text, and the rule that decided it. */
+export interface Position {
+  /** The place: UTF-16 code units from the start of a string, bytes from the start of a `Uint8Array`. */
+  readonly at: number;
+  readonly kind: Kind;
+  /** The number of the rule without `LB`, as "8a". */
+  readonly rule: string;
+}
+
+/** A position where a line may or must end. */
+export interface Break extends Position {
+  readonly kind: "may" | "must";
+}
+
+/** The text between two breaks, with the break that ends it. */
+export interface Segment {
+  readonly segment: string;
+  /** Where it starts, in UTF-16 code units. */
+  readonly index: number;
+  readonly kind: "may" | "must";
+  readonly rule: string;
+}
+
+/** Positions as typed arrays of the same length, one element for each. */
+export interface Columns {
+  /** UTF-16 code units of a string, bytes of a `Uint8Array`. */
+  readonly at: Uint32Array;
+  /** 0 no, 1 may, 2 must. */
+  readonly kind: Uint8Array;
+  /** The number of a rule, for {@link Table.ruleLabel}. */
+  readonly rule: Uint8Array;
+}
+
+export interface Options {
+  /** 1, the default, is rule 15 of Unicode 15.0; 2 has rules 15a and 15b in its place. */
+  readonly profile?: 1 | 2;
+}
+
+/** Text: a string, whose lone surrogates are read as U+FFFD, or UTF-8 bytes, ill-formed or not. */
+export type Text = string | Uint8Array;
+
+/** Bytes, or where to get them. A `string` is the URL or, in Node, the path of a file. */
+export type Source = ArrayBuffer | ArrayBufferView | Response | URL | string;
+
+/** The tables made from the files of the Unicode Character Database, with the module that decides by them. */
+export class Table {
+  /**
+   * A table saved by `save_table` of the C library.
+   * @param saved The bytes of the table, or where they are.
+   * @param module The module `lbk.wasm`; the one beside this file unless given.
+   * @throws RangeError if the bytes are not a whole table of this version.
+   */
+  static fromBytes(saved: Source, module?: Source): Promise<Table>;
+
+  /**
+   * The breaks of a text, in their order. The last is the text's end; an empty text has none. Of a text of any size the
+   * module holds 64 KB at a time.
+   */
+  breaks(text: Text, options?: Options): IterableIterator<Break>;
+  /** All positions of a text, the start and the end among them, with what decided each. The module holds the whole text. */
+  positions(text: Text, options?: Options): IterableIterator<Position>;
+  /** The pieces of a string between its breaks. */
+  segments(text: string, options?: Options): IterableIterator<Segment>;
+  /** The breaks as columns, the fastest form. */
+  breakColumns(text: Text, options?: Options): Columns;
+  /** All positions as columns. */
+  positionColumns(text: Text, options?: Options): Columns;
+  /** The number of a rule as it is written, without `LB`, as "8a"; "" for a number that no rule has. */
+  ruleLabel(rule: number): string;
+  /** How many bytes of memory the module has. */
+  readonly memorySize: number;
+}

@@ -1,0 +1,92 @@
+"""Builds the package with the library in it:
+
+    LBK_PREFIX=PREFIX python3 -m pip wheel --no-build-isolation --no-deps .
+
+PREFIX is where scripts/install-library put include/lbk.h and lib/liblbk.a. The wheel fits CPython from 3.11 on.
+"""
+
+import os
+import re
+from pathlib import Path
+
+from setuptools import Extension, setup
+from setuptools.command.build_ext import build_ext
+from setuptools.command.build_py import build_py
+
+if "LBK_PREFIX" not in os.environ:
+    raise SystemExit("LBK_PREFIX has to name the folder that has include/lbk.h and lib/liblbk.a")
+PREFIX = Path(os.environ["LBK_PREFIX"]).resolve()
+HEADER = (PREFIX / "include" / "lbk.h").read_text(encoding="utf-8")
+VERSION = re.search(r'^#define LBK_VERSION "([^"]+)"', HEADER, re.M)[1]
+CALLS = Path("src", "calls")
+
+# The classes of the package that are enumerations of lbk.h: a class, its base, the field that the enumeration's comment
+# names, and what its constants begin with.
+CLASSES = (
+    ("Rule", "Labelled", "rule", "LBK_RULE_"),
+    ("File", "enum.IntEnum", "file", "LBK_"),
+    ("Cause", "enum.IntEnum", "cause", "LBK_CAUSE_"),
+)
+
+
+def constants(text):
+    """The names of the constants in a part of the header."""
+    return re.findall(r"^\s+(LBK_\w+) =", text, re.M)
+
+
+def enumeration(field):
+    """The part of the header with the constants of a field, as `lbk_break.kind`."""
+    return re.search(rf"/\* lbk_\w+\.{field}\b(?:[^*]|\*(?!/))*\*/\s*enum \{{(.*?)\}};", HEADER, re.S)[1]
+
+
+def numbers_module():
+    """The source of the module that has the classes. Their numbers are those of the compiled module."""
+    lines = ['"""Numbers of lbk.h. setup.py makes this module."""', "", "import enum", ""]
+    lines += ["from . import _calls", "from ._labels import Labelled"]
+    for name, base, field, begin in CLASSES:
+        lines += ["", "", f"class {name}({base}):"]
+        for constant in constants(enumeration(field)):
+            if constant.startswith(begin):
+                rest = constant.removeprefix(begin)
+                member = "LB" + rest.lower() if name == "Rule" else rest
+                lines.append(f"    {member} = _calls.{constant}")
+    return "\n".join(lines) + "\n"
+
+
+class BuildPy(build_py):
+    def run(self):
+        super().run()
+        folder = Path(self.build_lib) / "lbk"
+        folder.mkdir(parents=True, exist_ok=True)
+        (folder / "_numbers.py").write_text(numbers_module(), encoding="utf-8")
+        stub = (CALLS / "calls.pyi").read_text(encoding="utf-8") + "\n"
+        (folder / "_calls.pyi").write_text(stub + "".join(f"{name}: int\n" for name in constants(HEADER)), encoding="utf-8")
+
+
+class BuildExt(build_ext):
+    def run(self):
+        folder = Path(self.build_temp)
+        folder.mkdir(parents=True, exist_ok=True)
+        (folder / "constants.inc").write_text("".join(f'{{"{name}", {name}}},\n' for name in constants(HEADER)))
+        self.include_dirs += [str(folder), str(PREFIX / "include")]
+        super().run()
+
+
+setup(
+    version=VERSION,
+    cmdclass={"build_py": BuildPy, "build_ext": BuildExt},
+    # Made with the stable interface of CPython 3.11, and so for each later one.
+    options={"bdist_wheel": {"py_limited_api": "cp311"}},
+    ext_modules=[
+        Extension(
+            "lbk._calls",
+            sources=[str(file) for file in sorted(CALLS.glob("*.c"))],
+            depends=[str(file) for file in sorted(CALLS.glob("*.h"))] + [str(PREFIX / "lib" / "liblbk.a")],
+            define_macros=[("Py_LIMITED_API", "0x030b0000")],
+            py_limited_api=True,
+            extra_compile_args=["-std=c11", "-O3", "-Wall", "-Wextra", "-Werror=implicit-function-declaration", "-fvisibility=hidden"],
+            extra_objects=[str(PREFIX / "lib" / "liblbk.a")],
+            extra_link_args=["-Wl,--exclude-libs,ALL"],
+        )
+    ],
+)

@@ -1,0 +1,154 @@
+/* The calls of lbk.h for the Python modules beside it, which check what they pass on. */
+#include "arguments.h"
+#include "break.h"
+#include "columns.h"
+#include "found.h"
+#include "state.h"
+#include "stream.h"
+
+/* read(table, line_break, east_asian, category, emoji): fills a writable table, and returns (file, line, cause). */
+static PyObject *read_files(PyObject *Py_UNUSED(module), PyObject *const *given, Py_ssize_t count)
+{
+    enum { FILES = 4 };
+    Py_buffer table_view, views[FILES];
+    utf8_text files[FILES];
+    lbk_fault fault;
+    int held = 0;
+    if (!has_arguments(count, 1 + FILES))
+        return NULL;
+    lbk_table *table = hold_table(given[0], true, &table_view);
+    if (table == NULL)
+        return NULL;
+    while (held < FILES && hold_bytes(given[1 + held], &files[held], &views[held]))
+        held++;
+    if (held == FILES) {
+        PyThreadState *unlocked = PyEval_SaveThread();
+        fault = lbk_read(table, files[0].bytes, files[0].size, files[1].bytes, files[1].size, files[2].bytes,
+                         files[2].size, files[3].bytes, files[3].size);
+        PyEval_RestoreThread(unlocked);
+    }
+    for (int k = 0; k < held; k++)
+        PyBuffer_Release(&views[k]);
+    PyBuffer_Release(&table_view);
+    return held < FILES ? NULL : Py_BuildValue("III", fault.file, fault.line, fault.cause);
+}
+
+/* check(table): whether it is whole. */
+static PyObject *check(PyObject *Py_UNUSED(module), PyObject *memory)
+{
+    Py_buffer view;
+    const lbk_table *table = hold_table(memory, false, &view);
+    if (table == NULL)
+        return NULL;
+    PyThreadState *unlocked = PyEval_SaveThread();
+    bool whole = lbk_check(table);
+    PyEval_RestoreThread(unlocked);
+    PyBuffer_Release(&view);
+    return PyBool_FromLong(whole);
+}
+
+/* label(rule): its name without LB, or an empty str. */
+static PyObject *label(PyObject *Py_UNUSED(module), PyObject *rule)
+{
+    unsigned long number = PyLong_AsUnsignedLong(rule);
+    if (PyErr_Occurred())
+        return NULL;
+    return PyUnicode_FromString(number > UINT8_MAX ? "" : lbk_label((uint8_t)number).text);
+}
+
+/* name_numbers(kinds, rules): for each number of a byte what stands for it in a Break. */
+static PyObject *name_numbers(PyObject *module, PyObject *const *given, Py_ssize_t count)
+{
+    module_state *state = PyModule_GetState(module);
+    if (!has_arguments(count, 2))
+        return NULL;
+    if (PyTuple_Size(given[0]) != UINT8_MAX + 1 || PyTuple_Size(given[1]) != UINT8_MAX + 1)
+        return PyErr_Format(PyExc_ValueError, "a name is required for each number of a byte");
+    Py_CLEAR(state->kinds);
+    Py_CLEAR(state->rules);
+    state->kinds = Py_NewRef(given[0]);
+    state->rules = Py_NewRef(given[1]);
+    return Py_NewRef(Py_None);
+}
+
+static PyMethodDef methods[] = {
+    {"read", (PyCFunction)(void (*)(void))read_files, METH_FASTCALL, NULL},
+    {"check", check, METH_O, NULL},
+    {"label", label, METH_O, NULL},
+    {"name_numbers", (PyCFunction)(void (*)(void))name_numbers, METH_FASTCALL, NULL},
+    {"columns", (PyCFunction)(void (*)(void))text_columns, METH_FASTCALL, NULL},
+    {"list_columns", (PyCFunction)(void (*)(void))list_columns, METH_FASTCALL, NULL},
+    {"new_stream", new_stream, METH_O, NULL},
+    {"feed", (PyCFunction)(void (*)(void))feed, METH_FASTCALL, NULL},
+    {NULL, NULL, 0, NULL},
+};
+
+/* The constants of lbk.h, whose names setup.py takes from there. */
+static const struct {
+    const char *name;
+    long value;
+} constants[] = {
+#include "constants.inc"
+};
+
+static int add_all(PyObject *module)
+{
+    module_state *state = PyModule_GetState(module);
+    state->break_type = new_break_type(module);
+    state->found_type = new_found_type(module);
+    bool added = state->break_type != NULL && state->found_type != NULL
+        && PyModule_AddObjectRef(module, "Break", state->break_type) == 0
+        && PyModule_AddObjectRef(module, "Found", state->found_type) == 0
+        && PyModule_AddIntConstant(module, "TABLE_SIZE", (long)sizeof(lbk_table)) == 0
+        && PyModule_AddStringConstant(module, "VERSION", LBK_VERSION) == 0
+        && PyModule_AddStringConstant(module, "UNICODE_VERSION", LBK_UNICODE_VERSION) == 0;
+    for (size_t k = 0; added && k < sizeof constants / sizeof constants[0]; k++)
+        added = PyModule_AddIntConstant(module, constants[k].name, constants[k].value) == 0;
+    return added ? 0 : -1;
+}
+
+static int traverse(PyObject *module, visitproc visit, void *arg)
+{
+    const module_state *state = PyModule_GetState(module);
+    Py_VISIT(state->break_type);
+    Py_VISIT(state->found_type);
+    Py_VISIT(state->kinds);
+    Py_VISIT(state->rules);
+    return 0;
+}
+
+static int clear(PyObject *module)
+{
+    module_state *state = PyModule_GetState(module);
+    Py_CLEAR(state->break_type);
+    Py_CLEAR(state->found_type);
+    Py_CLEAR(state->kinds);
+    Py_CLEAR(state->rules);
+    return 0;
+}
+
+static void release(void *module)
+{
+    clear(module);
+}
+
+static PyModuleDef_Slot slots[] = {
+    {Py_mod_exec, add_all},
+    {0, NULL},
+};
+
+static PyModuleDef definition = {
+    PyModuleDef_HEAD_INIT,
+    .m_name = "lbk._calls",
+    .m_size = sizeof(module_state),
+    .m_methods = methods,
+    .m_slots = slots,
+    .m_traverse = traverse,
+    .m_clear = clear,
+    .m_free = release,
+};
+
+PyMODINIT_FUNC PyInit__calls(void)
+{
+    return PyModuleDef_Init(&definition);
+}

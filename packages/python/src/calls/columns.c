@@ -1,0 +1,220 @@
+#include "columns.h"
+
+#include "places.h"
+
+#include <sys/mman.h>
+
+/* How many breaks are asked for at once: FEW on the stack, or else MANY. From LARGE bytes on a column is worth large pages. */
+enum { FEW = 128, MANY = 8192, LARGE = 1 << 21, PAGE = 1 << 12 };
+
+/* The breaks of all texts: a column of places, one of kinds and one of rules, each in a bytearray. */
+typedef struct {
+    PyObject *places, *kinds, *rules;
+    size_t count, room;
+} columns;
+
+/* Texts whose breaks are asked for, and how far that came. `offsets[k]` is how many breaks the texts before the k-th have. */
+typedef struct {
+    const lbk_table *table;
+    const utf8_text *texts;
+    size_t count, current;
+    cursor start, from;
+    int64_t *offsets;
+    lbk_break *block;
+    size_t room;
+    columns found;
+} request;
+
+/* Gives the columns room for so many breaks. Returns false, with an exception set, where memory is refused. */
+static bool resize(columns *found, size_t room)
+{
+    found->room = room;
+    return PyByteArray_Resize(found->places, (Py_ssize_t)(room * sizeof(int64_t))) == 0
+        && PyByteArray_Resize(found->kinds, (Py_ssize_t)room) == 0
+        && PyByteArray_Resize(found->rules, (Py_ssize_t)room) == 0;
+}
+
+/* An array of bytes that are not set. For a large one the system is asked for large pages: to get small ones, one by one,
+ * takes a fifth of the whole call. */
+static PyObject *new_column(size_t size)
+{
+    PyObject *made = PyByteArray_FromStringAndSize(NULL, (Py_ssize_t)size);
+    if (made != NULL && size >= LARGE) {
+        char *memory = PyByteArray_AsString(made);
+        size_t before = -(uintptr_t)memory % PAGE;
+        madvise(memory + before, (size - before) / PAGE * PAGE, MADV_HUGEPAGE);
+    }
+    return made;
+}
+
+static bool create(columns *found, size_t room)
+{
+    found->count = 0;
+    found->room = room;
+    found->places = new_column(room * sizeof(int64_t));
+    found->kinds = new_column(room);
+    found->rules = new_column(room);
+    return found->places != NULL && found->kinds != NULL && found->rules != NULL;
+}
+
+static void release(columns *found)
+{
+    Py_XDECREF(found->places);
+    Py_XDECREF(found->kinds);
+    Py_XDECREF(found->rules);
+}
+
+static void split(const lbk_break *restrict block, size_t count, int64_t *restrict places, uint8_t *restrict kinds,
+                  uint8_t *restrict rules)
+{
+    for (size_t k = 0; k < count; k++)
+        places[k] = (int64_t)block[k].at;
+    for (size_t k = 0; k < count; k++)
+        kinds[k] = block[k].kind;
+    for (size_t k = 0; k < count; k++)
+        rules[k] = block[k].rule;
+}
+
+/* Puts breaks into the columns until these are full or no text is left. Returns whether no text is left. It is called
+ * without the interpreter's lock, and touches no object but the memory of the columns. */
+static bool fill(request *request, int64_t *places, uint8_t *kinds, uint8_t *rules)
+{
+    columns *found = &request->found;
+    while (request->current < request->count) {
+        size_t left = found->room - found->count, room = left < request->room ? left : request->room;
+        if (room == 0)
+            return false;
+        const utf8_text *text = &request->texts[request->current];
+        size_t count = next_breaks(request->table, &request->from, text, request->block, room);
+        split(request->block, count, places + found->count, kinds + found->count, rules + found->count);
+        found->count += count;
+        if (count < room) {
+            request->from = request->start;
+            request->offsets[++request->current] = (int64_t)found->count;
+        }
+    }
+    return true;
+}
+
+/* Finds the breaks of all texts, of so many bytes. Returns false, with an exception set, where memory is refused. */
+static bool find(request *request, size_t bytes)
+{
+    columns *found = &request->found;
+    request->from = request->start;
+    request->offsets[0] = 0;
+    for (;;) {
+        int64_t *places = (int64_t *)PyByteArray_AsString(found->places);
+        uint8_t *kinds = (uint8_t *)PyByteArray_AsString(found->kinds);
+        uint8_t *rules = (uint8_t *)PyByteArray_AsString(found->rules);
+        PyThreadState *unlocked = unlock(bytes);
+        bool all = fill(request, places, kinds, rules);
+        lock_again(unlocked);
+        if (!resize(found, all ? found->count : 2 * found->room))
+            return false;
+        if (all)
+            return true;
+    }
+}
+
+static bool find_all(request *request)
+{
+    lbk_break few[FEW];
+    size_t bytes = 0;
+    for (size_t k = 0; k < request->count; k++)
+        bytes += request->texts[k].size;
+    /* Most texts have a break in three bytes or in more. Memory that is not used is given back. */
+    if (!create(&request->found, bytes / 3 + request->count + 16))
+        return false;
+    request->room = request->found.room <= FEW ? FEW : MANY;
+    request->block = request->room == FEW ? few : PyMem_Malloc(MANY * sizeof(lbk_break));
+    if (request->block == NULL) {
+        PyErr_NoMemory();
+        return false;
+    }
+    bool is_found = find(request, bytes);
+    if (request->block != few)
+        PyMem_Free(request->block);
+    return is_found;
+}
+
+PyObject *text_columns(PyObject *Py_UNUSED(module), PyObject *const *given, Py_ssize_t count)
+{
+    PyObject *result = NULL;
+    Py_buffer table_view, text_view;
+    utf8_text text;
+    int64_t offsets[2];
+    request request = {.texts = &text, .count = 1, .offsets = offsets};
+    if (!has_arguments(count, 3) || !start_of_text(given[2], &request.start))
+        return NULL;
+    PyObject *owner = text_owner(given[1], &text.in_code_points);
+    if (owner == NULL)
+        return NULL;
+    request.table = hold_table(given[0], false, &table_view);
+    if (request.table != NULL) {
+        if (hold_bytes(owner, &text, &text_view)) {
+            columns *found = &request.found;
+            if (find_all(&request))
+                result = PyTuple_Pack(3, found->places, found->kinds, found->rules);
+            release(found);
+            PyBuffer_Release(&text_view);
+        }
+        PyBuffer_Release(&table_view);
+    }
+    Py_DECREF(owner);
+    return result;
+}
+
+/* Replaces the objects of a list by those that have their texts, each a str or a bytes object. Returns false, with an
+ * exception set, where one is no text. */
+static bool own_all(PyObject *list, utf8_text *texts)
+{
+    for (Py_ssize_t k = 0; k < PyList_Size(list); k++) {
+        Py_buffer view;
+        PyObject *owner = text_owner(PyList_GetItem(list, k), &texts[k].in_code_points);
+        if (owner != NULL && !PyUnicode_Check(owner) && !PyBytes_Check(owner)) {
+            PyObject *copy = PyBytes_FromObject(owner);
+            Py_DECREF(owner);
+            owner = copy;
+        }
+        if (owner == NULL || PyList_SetItem(list, k, owner) != 0 || !hold_bytes(owner, &texts[k], &view))
+            return false;
+        /* These objects never change, so their bytes stay where they are as long as the list has them. */
+        PyBuffer_Release(&view);
+    }
+    return true;
+}
+
+PyObject *list_columns(PyObject *Py_UNUSED(module), PyObject *const *given, Py_ssize_t count)
+{
+    PyObject *result = NULL, *offsets = NULL;
+    utf8_text *texts = NULL;
+    Py_buffer table_view;
+    request request = {0};
+    if (!has_arguments(count, 3) || !start_of_text(given[2], &request.start))
+        return NULL;
+    /* A list of its own, which no other thread can reach. */
+    PyObject *list = PySequence_List(given[1]);
+    if (list == NULL)
+        return NULL;
+    request.table = hold_table(given[0], false, &table_view);
+    if (request.table != NULL) {
+        request.count = (size_t)PyList_Size(list);
+        texts = PyMem_Malloc((request.count + 1) * sizeof(utf8_text));
+        offsets = PyByteArray_FromStringAndSize(NULL, (Py_ssize_t)((request.count + 1) * sizeof(int64_t)));
+        if (texts == NULL)
+            PyErr_NoMemory();
+        else if (offsets != NULL && own_all(list, texts)) {
+            columns *found = &request.found;
+            request.texts = texts;
+            request.offsets = (int64_t *)PyByteArray_AsString(offsets);
+            if (find_all(&request))
+                result = PyTuple_Pack(4, offsets, found->places, found->kinds, found->rules);
+            release(found);
+        }
+        PyBuffer_Release(&table_view);
+    }
+    Py_XDECREF(offsets);
+    PyMem_Free(texts);
+    Py_DECREF(list);
+    return result;
+}

@@ -1,0 +1,13 @@
+/* All breaks of one text, or of many, as columns. */
+#ifndef LBK_PYTHON_COLUMNS_H
+#define LBK_PYTHON_COLUMNS_H
+
+#include "arguments.h"
+
+/* columns(table, text, profile): bytearrays of places (8 bytes each), of kinds and of rules. */
+PyObject *text_columns(PyObject *module, PyObject *const *given, Py_ssize_t count);
+
+/* list_columns(table, texts, profile): bytearrays of offsets (8 bytes each) and of the columns. */
+PyObject *list_columns(PyObject *module, PyObject *const *given, Py_ssize_t count);
+
+#endif

@@ -1,0 +1,175 @@
+#include "found.h"
+
+#include "break.h"
+#include "places.h"
+#include "state.h"
+
+/* So many breaks are asked for at first, and each time so many times more, up to the most. So a short text costs little,
+ * the first break of a long one comes soon, and the interpreter's lock is seldom waited for. */
+enum { FIRST_ROOM = 16, GROWTH = 16, MOST_ROOM = 16 * 16 * 16 * 16 };
+
+/* Where `source` is NULL each break comes as an object of `break_type`, else each segment, as a slice of the source. */
+typedef struct {
+    PyObject_HEAD
+    PyObject *table, *text, *source, *break_type;
+    bool in_code_points, is_busy, is_last;
+    cursor from;
+    size_t start; /* where the next segment starts */
+    lbk_break first[FIRST_ROOM], *block;
+    size_t room, count, next;
+} found;
+
+static int traverse(PyObject *self, visitproc visit, void *arg)
+{
+    found *at = (found *)self;
+    Py_VISIT(Py_TYPE(self));
+    Py_VISIT(at->table);
+    Py_VISIT(at->text);
+    Py_VISIT(at->source);
+    Py_VISIT(at->break_type);
+    return 0;
+}
+
+static int clear(PyObject *self)
+{
+    found *at = (found *)self;
+    Py_CLEAR(at->table);
+    Py_CLEAR(at->text);
+    Py_CLEAR(at->source);
+    Py_CLEAR(at->break_type);
+    return 0;
+}
+
+static void dealloc(PyObject *self)
+{
+    found *at = (found *)self;
+    PyTypeObject *type = Py_TYPE(self);
+    PyObject_GC_UnTrack(self);
+    clear(self);
+    if (at->block != at->first)
+        PyMem_Free(at->block);
+    ((freefunc)PyType_GetSlot(type, Py_tp_free))(self);
+    Py_DECREF(type);
+}
+
+/* A larger block, up to the largest. Returns false, with an exception set, where memory is refused. */
+static bool grow(found *at)
+{
+    if (at->block == NULL) {
+        at->block = at->first;
+        at->room = FIRST_ROOM;
+    } else if (at->room < MOST_ROOM) {
+        size_t room = GROWTH * at->room;
+        lbk_break *block = PyMem_Realloc(at->block == at->first ? NULL : at->block, room * sizeof(lbk_break));
+        if (block == NULL) {
+            PyErr_NoMemory();
+            return false;
+        }
+        at->block = block;
+        at->room = room;
+    }
+    return true;
+}
+
+/* Asks for the next breaks. Returns false, with an exception set, at an error. */
+static bool refill(found *at)
+{
+    utf8_text text = {.in_code_points = at->in_code_points};
+    Py_buffer text_view, table_view;
+    if (!grow(at))
+        return false;
+    const lbk_table *table = hold_table(at->table, false, &table_view);
+    if (table == NULL)
+        return false;
+    bool holds = hold_bytes(at->text, &text, &text_view);
+    if (holds) {
+        size_t left = text.size < at->from.state.at ? 0 : text.size - at->from.state.at;
+        at->is_busy = true;
+        PyThreadState *unlocked = unlock(left);
+        at->count = next_breaks(table, &at->from, &text, at->block, at->room);
+        lock_again(unlocked);
+        at->is_busy = false;
+        at->next = 0;
+        at->is_last = at->count < at->room;
+        PyBuffer_Release(&text_view);
+    }
+    PyBuffer_Release(&table_view);
+    return holds;
+}
+
+static PyObject *to_segment(PyObject *source, size_t start, size_t end)
+{
+    utf8_text text;
+    Py_buffer view;
+    if (PyUnicode_Check(source))
+        return PyUnicode_Substring(source, (Py_ssize_t)start, (Py_ssize_t)end);
+    if (!hold_bytes(source, &text, &view))
+        return NULL;
+    /* A map of a file may have become shorter. */
+    end = end < text.size ? end : text.size;
+    start = start < end ? start : end;
+    PyObject *made = PyBytes_FromStringAndSize(text.bytes + start, (Py_ssize_t)(end - start));
+    PyBuffer_Release(&view);
+    return made;
+}
+
+static PyObject *next(PyObject *self)
+{
+    found *at = (found *)self;
+    if (at->is_busy)
+        return PyErr_Format(PyExc_ValueError, "another thread goes on with this iterator");
+    if (at->next == at->count && (at->is_last || !refill(at) || at->count == 0))
+        return NULL;
+    const lbk_break *one = &at->block[at->next++];
+    if (at->source == NULL)
+        return new_break((PyTypeObject *)at->break_type, one);
+    size_t start = at->start;
+    at->start = one->at;
+    return to_segment(at->source, start, one->at);
+}
+
+/* of(table, text, profile, as_segments) */
+static PyObject *of(PyObject *type, PyObject *const *given, Py_ssize_t count)
+{
+    cursor start;
+    if (!has_arguments(count, 4) || !start_of_text(given[2], &start))
+        return NULL;
+    allocfunc alloc = (allocfunc)PyType_GetSlot((PyTypeObject *)type, Py_tp_alloc);
+    found *at = (found *)alloc((PyTypeObject *)type, 0);
+    if (at == NULL)
+        return NULL;
+    const module_state *state = PyType_GetModuleState((PyTypeObject *)type);
+    at->from = start;
+    at->break_type = Py_NewRef(state->break_type);
+    at->table = Py_NewRef(given[0]);
+    at->text = text_owner(given[1], &at->in_code_points);
+    if (at->text == NULL) {
+        Py_DECREF(at);
+        return NULL;
+    }
+    if (given[3] == Py_True)
+        at->source = Py_NewRef(PyUnicode_Check(given[1]) ? given[1] : at->text);
+    return (PyObject *)at;
+}
+
+static PyMethodDef methods[] = {
+    {"of", (PyCFunction)(void (*)(void))of, METH_FASTCALL | METH_CLASS, NULL},
+    {NULL, NULL, 0, NULL},
+};
+
+static PyType_Slot slots[] = {
+    {Py_tp_traverse, traverse}, {Py_tp_clear, clear},     {Py_tp_dealloc, dealloc}, {Py_tp_iter, PyObject_SelfIter},
+    {Py_tp_iternext, next},     {Py_tp_methods, methods}, {0, NULL},
+};
+
+static PyType_Spec spec = {
+    .name = "lbk._calls.Found",
+    .basicsize = sizeof(found),
+    .flags = Py_TPFLAGS_DEFAULT | Py_TPFLAGS_HAVE_GC | Py_TPFLAGS_DISALLOW_INSTANTIATION | Py_TPFLAGS_IMMUTABLETYPE,
+    .slots = slots,
+};
+
+PyObject *new_found_type(PyObject *module)
+{
+    return PyType_FromModuleAndSpec(module, &spec, NULL);
+}

@@ -1,0 +1,10 @@
+/* The iterator over the breaks or the segments of a text. */
+#ifndef LBK_PYTHON_FOUND_H
+#define LBK_PYTHON_FOUND_H
+
+#include "arguments.h"
+
+/* A new type `Found`. Returns NULL, with an exception set, at an error. */
+PyObject *new_found_type(PyObject *module);
+
+#endif

@@ -1,0 +1,49 @@
+#include "places.h"
+
+#include <string.h>
+
+bool start_of_text(PyObject *profile, cursor *start)
+{
+    long number = PyLong_AsLong(profile);
+    if (number != 1 && number != 2) {
+        if (!PyErr_Occurred())
+            PyErr_Format(PyExc_ValueError, "the profile is 1 or 2, and not %R", profile);
+        return false;
+    }
+    memset(start, 0, sizeof *start);
+    start->state.profile = number == 1 ? LBK_FIRST : LBK_SECOND;
+    return true;
+}
+
+size_t code_points(const char *bytes, size_t size, size_t readable)
+{
+    const uint64_t ones = UINT64_C(0x0101010101010101);
+    size_t count = 0;
+    while (size != 0 && readable >= 8) {
+        uint64_t eight;
+        size_t taken = size < 8 ? size : 8;
+        memcpy(&eight, bytes, 8);
+        uint64_t begins = ((~eight >> 7) | (eight >> 6)) & ones & (UINT64_MAX >> (64 - 8 * taken));
+        count += begins * ones >> 56;
+        bytes += taken;
+        size -= taken;
+        readable -= taken;
+    }
+    for (; size != 0; size--)
+        count += ((unsigned char)*bytes++ & 0xc0) != 0x80;
+    return count;
+}
+
+size_t next_breaks(const lbk_table *table, cursor *from, const utf8_text *text, lbk_break *block, size_t room)
+{
+    size_t count = lbk_breaks(table, &from->state, text->bytes, text->size, block, room);
+    if (!text->in_code_points)
+        return count;
+    for (size_t k = 0; k < count; k++) {
+        size_t end = block[k].at;
+        from->given += code_points(text->bytes + from->counted, end - from->counted, text->size - from->counted);
+        from->counted = end;
+        block[k].at = from->given;
+    }
+    return count;
+}

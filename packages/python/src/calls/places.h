@@ -1,0 +1,24 @@
+/* Breaks of a text, with their places in the unit that the text's caller counts in. */
+#ifndef LBK_PYTHON_PLACES_H
+#define LBK_PYTHON_PLACES_H
+
+#include "arguments.h"
+
+/* How far the breaks of a text were asked for. `given` is the place of the last break in the unit of the caller, and
+ * `counted` the same in bytes. All zeros, but for the profile, are the start of a text. */
+typedef struct {
+    lbk_state state;
+    size_t counted, given;
+} cursor;
+
+/* The start of a text in a profile, 1 or 2. Returns false, with an exception set, for anything else. */
+bool start_of_text(PyObject *profile, cursor *start);
+
+/* How many code points begin in well-formed bytes: the bytes that are no continuation, which are 10xxxxxx in binary. So many
+ * bytes may be read as are `readable`, of which `size` are counted. */
+size_t code_points(const char *bytes, size_t size, size_t readable);
+
+/* As lbk_breaks, with each `at` in the unit of the text. */
+size_t next_breaks(const lbk_table *table, cursor *from, const utf8_text *text, lbk_break *block, size_t room);
+
+#endif

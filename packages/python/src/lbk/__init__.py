@@ -1,0 +1,20 @@
+"""Where a line of text may break, and where it must, by the Unicode Line Breaking Algorithm (UAX #14).
+
+    >>> table = lbk.Table.load("/usr/share/unicode")
+    >>> list(table.segments("naïve text"))
+    ['naïve ', 'text']
+    >>> next(table.breaks("naïve text"))
+    Break(at=6, kind=<Kind.MAY: 1>, rule=<Rule.LB18: 144>)
+
+A table is made once, of four files of the Unicode Character Database, and any number of threads may use it.
+"""
+
+from ._calls import UNICODE_VERSION, Break
+from ._calls import VERSION as __version__
+from ._fault import Fault
+from ._numbers import Cause, File, Rule
+from ._results import Columns, Kind, ListColumns
+from ._stream import Stream
+from ._table import Table
+
+__all__ = ["UNICODE_VERSION", "Break", "Cause", "Columns", "Fault", "File", "Kind", "ListColumns", "Rule", "Stream", "Table", "__version__"]

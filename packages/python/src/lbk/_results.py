@@ -1,0 +1,46 @@
+"""What is found in a text."""
+
+import enum
+from collections.abc import Iterable
+from typing import NamedTuple
+
+from . import _calls
+from ._numbers import Rule
+
+
+class Kind(enum.IntEnum):
+    """Whether a line may or must end at a break."""
+
+    MAY = _calls.LBK_MAY
+    MUST = _calls.LBK_MUST
+
+
+class Columns(NamedTuple):
+    """The breaks of a text, in their order: numbers of the same place in each column belong together."""
+
+    places: memoryview
+    """Numbers of 8 bytes with a sign, of the format "q": those of `Break.at`."""
+    kinds: bytearray
+    """The numbers of `Kind`."""
+    rules: bytearray
+    """The numbers of `Rule`."""
+
+
+class ListColumns(NamedTuple):
+    """The breaks of many texts, one text after the other. Those of `texts[k]` stand at `offsets[k]` to `offsets[k + 1]`,
+    as in a list array of Apache Arrow."""
+
+    offsets: memoryview
+    """Numbers of the format "q", one more than there are texts."""
+    places: memoryview
+    kinds: bytearray
+    rules: bytearray
+
+
+def _members(numbers: Iterable[int]) -> tuple[int, ...]:
+    """For each number of a byte its member, or else the number."""
+    members = {int(number): number for number in numbers}
+    return tuple(members.get(number, number) for number in range(256))
+
+
+_calls.name_numbers(_members(Kind), _members(Rule))

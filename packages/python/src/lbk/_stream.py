@@ -1,0 +1,72 @@
+"""Texts that come in pieces."""
+
+from collections.abc import Iterable, Iterator
+from typing import Any, Self
+
+from . import _calls
+from ._calls import Break
+from ._table import Table, Text
+
+
+class Stream:
+    """The breaks of a text that comes in pieces of any size, as from a socket or a file:
+
+        stream = lbk.Stream(table)
+        while piece := socket.recv(4096):
+            for found in stream.feed(piece): ...
+        for found in stream.finish(): ...
+
+    However the text is cut, the breaks are those of the whole text, each once, with its place counted from the start of the
+    stream. The pieces are all `str`, or all objects of bytes, which may end within a character. No earlier piece is kept.
+    A stream can be copied and pickled, to go back to a place. One thread feeds it at a time.
+    """
+
+    __slots__ = ("_table", "_state", "_is_str", "_ended")
+
+    def __init__(self, table: Table, profile: int = 1) -> None:
+        self._table = table
+        self._state = _calls.new_stream(profile)
+        self._is_str: bool | None = None
+        self._ended = False
+
+    def feed(self, piece: Text) -> list[Break]:
+        """Takes the next piece, which may be empty, and returns the breaks that it settles: each whose following character
+        is there. Profile 2 may need more at a quotation mark, for which one break at most waits.
+
+        Raises TypeError where a piece is of another kind than those before it, and ValueError after the end.
+        """
+        return self._take(piece, False)
+
+    def finish(self, piece: "Text | None" = None) -> list[Break]:
+        """Takes the last piece, where there is one, and returns the breaks that are left. The last one is the text's end."""
+        if piece is None:
+            piece = "" if self._is_str else b""
+        return self._take(piece, True)
+
+    def breaks(self, pieces: Iterable[Text]) -> Iterator[Break]:
+        """The breaks of all pieces up to the end, each as soon as it is settled."""
+        for piece in pieces:
+            yield from self.feed(piece)
+        yield from self.finish()
+
+    def _take(self, piece: Text, is_last: bool) -> list[Break]:
+        if self._ended:
+            raise ValueError("the stream has ended")
+        is_str = isinstance(piece, str)
+        if self._is_str is not None and is_str != self._is_str:
+            raise TypeError("the pieces of a stream are all str, or all objects of bytes")
+        found = _calls.feed(self._table._memory, self._state, piece, is_last)
+        self._is_str, self._ended = is_str, is_last
+        return found
+
+    def __copy__(self) -> Self:
+        same = object.__new__(type(self))
+        same.__setstate__(self.__getstate__())
+        return same
+
+    def __getstate__(self) -> tuple[Any, ...]:
+        return self._table, bytes(self._state), self._is_str, self._ended
+
+    def __setstate__(self, state: tuple[Any, ...]) -> None:
+        self._table, data, self._is_str, self._ended = state
+        self._state = bytearray(data)

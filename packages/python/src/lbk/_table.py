@@ -1,0 +1,154 @@
+"""The table of the rules, and what it finds."""
+
+import mmap
+import os
+from array import array
+from collections.abc import Iterable, Iterator
+from pathlib import Path
+from typing import Any, Self, TypeAlias, overload
+
+from . import _calls, _database
+from ._calls import Break
+from ._fault import Fault
+from ._numbers import Cause
+from ._results import Columns, ListColumns
+
+# What `memoryview` takes.
+Bytes: TypeAlias = "bytes | bytearray | memoryview | mmap.mmap | array[int]"
+Text: TypeAlias = "str | Bytes"
+Name: TypeAlias = "str | bytes | os.PathLike[str] | os.PathLike[bytes]"
+
+_new = tuple.__new__
+
+
+class Table:
+    """What the rules know of each code point, and their steps: some 2 MB, of which one is enough for a program.
+
+    Make one by `load`, `from_files`, `read`, `from_bytes` or `open`. It never changes, so any number of threads may use it.
+    Pickled it is its bytes; one that `open` mapped is the name of its file.
+
+    Texts are `str`, with places in code points, or objects of bytes in UTF-8, with places in bytes: `bytes`, `bytearray`,
+    `memoryview`, `mmap`, and others with the buffer protocol and items of a byte. Ill-formed bytes are read as U+FFFD, as
+    `decode("utf-8", "replace")` does, and so is each surrogate in a `str`. `profile` 1 has the rules of Unicode 15.0; 2 has
+    LB15a and LB15b in the place of LB15. TypeError comes for what is no text, and ValueError for what is no profile.
+    """
+
+    __slots__ = ("_memory", "_name")
+    _memory: bytearray | mmap.mmap
+    _name: str | None
+
+    def __init__(self) -> None:
+        raise TypeError("a Table is made by load, from_files, read, from_bytes or open")
+
+    @classmethod
+    def _of(cls, memory: bytearray | mmap.mmap, name: str | None = None) -> Self:
+        table = object.__new__(cls)
+        table._memory, table._name = memory, name
+        return table
+
+    @classmethod
+    def load(cls, folder: _database.Folder) -> Self:
+        """The table of the Unicode Character Database in a folder: LineBreak.txt, EastAsianWidth.txt,
+        extracted/DerivedGeneralCategory.txt and emoji/emoji-data.txt, or all four beside each other, in the folder or in its
+        folder `ucd`; or in the archive UCD.zip.
+
+        Raises OSError where a file cannot be read, and Fault where one is refused.
+        """
+        return cls.read(*_database.contents(folder))
+
+    @classmethod
+    def from_files(cls, line_break: Name, east_asian: Name, category: Name, emoji: Name) -> Self:
+        """The table of four files of one's own, given by their names. Raises OSError and Fault as `load` does."""
+        return cls.read(*(Path(os.fsdecode(name)).read_bytes() for name in (line_break, east_asian, category, emoji)))
+
+    @classmethod
+    def read(cls, line_break: Bytes, east_asian: Bytes, category: Bytes, emoji: Bytes) -> Self:
+        """The table of the contents of four files. Raises Fault at the first fault that they have, and MemoryError where
+        memory is refused."""
+        memory = bytearray(_calls.TABLE_SIZE)
+        file, line, cause = _calls.read(memory, *map(memoryview, (line_break, east_asian, category, emoji)))
+        if cause == Cause.OUT_OF_MEMORY:
+            raise MemoryError
+        if cause != Cause.NONE:
+            raise Fault(file, line, cause)
+        return cls._of(memory)
+
+    @classmethod
+    def from_bytes(cls, data: Bytes) -> Self:
+        """The table of the bytes that `to_bytes` returned. Raises ValueError where they are no whole table of this version."""
+        memory = bytearray(memoryview(data))
+        _check(memory, "the bytes")
+        return cls._of(memory)
+
+    @classmethod
+    def open(cls, name: Name) -> Self:
+        """The table that `save` put into a file, which is mapped, so that the processes of a machine share its memory.
+
+        Raises OSError where the file cannot be read, and ValueError where it is no whole table of this version.
+        """
+        path = os.path.abspath(os.fsdecode(name))
+        with open(path, "rb") as file:
+            if os.fstat(file.fileno()).st_size != _calls.TABLE_SIZE:
+                raise ValueError(f"{path} is no table of this version")
+            memory = mmap.mmap(file.fileno(), 0, access=mmap.ACCESS_READ)
+        _check(memory, path)
+        return cls._of(memory, path)
+
+    def to_bytes(self) -> bytes:
+        """The bytes of the table, for `from_bytes`."""
+        return bytes(self._memory)
+
+    def save(self, name: Name) -> None:
+        """Puts the table into a file, for `open`. A file of this name is replaced in one step."""
+        path = os.fsdecode(name)
+        beside = f"{path}.{os.getpid()}.new"
+        with open(beside, "wb") as file:
+            file.write(self._memory)
+        os.replace(beside, path)
+
+    def breaks(self, text: Text, profile: int = 1) -> Iterator[Break]:
+        """The breaks of a text, in their order. The last one of a text that is not empty is its end."""
+        return _calls.Found.of(self._memory, text, profile, False)
+
+    @overload
+    def segments(self, text: str, profile: int = 1) -> Iterator[str]: ...
+    @overload
+    def segments(self, text: Bytes, profile: int = 1) -> Iterator[bytes]: ...
+    def segments(self, text: Any, profile: int = 1) -> Iterator[Any]:
+        """The text cut at each break: slices of a `str`, or `bytes`."""
+        return _calls.Found.of(self._memory, text, profile, True)
+
+    def break_columns(self, text: Text, profile: int = 1) -> Columns:
+        """All breaks of a text, in columns."""
+        places, kinds, rules = _calls.columns(self._memory, text, profile)
+        return _new(Columns, (memoryview(places).cast("q"), kinds, rules))
+
+    def break_list_columns(self, texts: Iterable[Text], profile: int = 1) -> ListColumns:
+        """All breaks of each of many texts, in columns."""
+        if isinstance(texts, (str, bytes, bytearray, memoryview)):
+            raise TypeError(f"many texts are expected, and not one {type(texts).__name__}")
+        offsets, places, kinds, rules = _calls.list_columns(self._memory, texts, profile)
+        return ListColumns(memoryview(offsets).cast("q"), memoryview(places).cast("q"), kinds, rules)
+
+    def __eq__(self, other: object) -> bool:
+        if not isinstance(other, Table):
+            return NotImplemented
+        return memoryview(self._memory) == memoryview(other._memory)
+
+    def __hash__(self) -> int:
+        # The layout and the digest, which stand first.
+        return hash(bytes(self._memory[:16]))
+
+    def __copy__(self) -> Self:
+        return self
+
+    def __deepcopy__(self, _: object) -> Self:
+        return self
+
+    def __reduce__(self) -> tuple[Any, ...]:
+        return (Table.open, (self._name,)) if self._name is not None else (Table.from_bytes, (self.to_bytes(),))
+
+
+def _check(memory: bytearray | mmap.mmap, what: str) -> None:
+    if len(memory) != _calls.TABLE_SIZE or not _calls.check(memory):
+        raise ValueError(f"{what} is no whole table of this version")

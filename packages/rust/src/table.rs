@@ -1,0 +1,131 @@
+//! The table that breaks are found by.
+
+use alloc::alloc::{alloc_zeroed, handle_alloc_error, Layout};
+use alloc::boxed::Box;
+use core::fmt;
+use core::mem::{align_of, size_of};
+use core::slice;
+
+use crate::breaks::{Breaks, Profile, Segments};
+use crate::calls;
+use crate::fault::Fault;
+
+/// The bytes of four files of the Unicode Character Database.
+#[derive(Clone, Copy, Debug)]
+pub struct Files<'a> {
+    /// `LineBreak.txt`
+    pub line_break: &'a [u8],
+    /// `EastAsianWidth.txt`
+    pub east_asian: &'a [u8],
+    /// `extracted/DerivedGeneralCategory.txt`
+    pub category: &'a [u8],
+    /// `emoji/emoji-data.txt`
+    pub emoji: &'a [u8],
+}
+
+/// What the rules know of each code, and their steps: plain numbers without pointers, made of the four files.
+#[repr(transparent)]
+pub struct Table(pub(crate) calls::Table);
+
+impl Table {
+    /// The table of four files. Returns their first fault where they have one, or that memory was refused.
+    pub fn read(files: Files<'_>) -> Result<Box<Table>, Fault> {
+        let layout = Layout::new::<Table>();
+        // SAFETY: the layout has a size, and zeros are a value of each field, which are numbers.
+        let mut table = unsafe {
+            let place = alloc_zeroed(layout) as *mut Table;
+            if place.is_null() {
+                handle_alloc_error(layout);
+            }
+            Box::from_raw(place)
+        };
+        // SAFETY: the slices are as long as is said, and the table is borrowed by nobody else.
+        let fault = unsafe {
+            calls::lbk_read(
+                &mut table.0,
+                files.line_break.as_ptr(),
+                files.line_break.len(),
+                files.east_asian.as_ptr(),
+                files.east_asian.len(),
+                files.category.as_ptr(),
+                files.category.len(),
+                files.emoji.as_ptr(),
+                files.emoji.len(),
+            )
+        };
+        match Fault::from_c(fault) {
+            None => Ok(table),
+            Some(fault) => Err(fault),
+        }
+    }
+
+    /// The table that these bytes are, as [`Table::as_bytes`] gave them, perhaps in a file that is mapped or in the program
+    /// ([`include_bytes_aligned!`](crate::include_bytes_aligned)). `None` where they are no whole table of this version, or do
+    /// not begin at a multiple of 8 bytes.
+    pub fn of_bytes(bytes: &[u8]) -> Option<&Table> {
+        if bytes.len() != size_of::<Table>() || bytes.as_ptr() as usize % align_of::<Table>() != 0 {
+            return None;
+        }
+        // SAFETY: so many bytes are there, aligned, and any bytes are a table, which is numbers.
+        let table = unsafe { &*(bytes.as_ptr() as *const Table) };
+        // SAFETY: the table is borrowed for reading.
+        if unsafe { calls::lbk_check(&table.0) } {
+            Some(table)
+        } else {
+            None
+        }
+    }
+
+    /// The table's bytes, to be kept in a file. They depend on the order of bytes of the machine.
+    pub fn as_bytes(&self) -> &[u8] {
+        // SAFETY: a table is numbers without gaps.
+        unsafe { slice::from_raw_parts(self as *const Table as *const u8, size_of::<Table>()) }
+    }
+
+    /// The breaks of a text in the first profile, in their order. Each stands between two scalars, or at the end.
+    pub fn breaks<'a>(&'a self, text: &'a str) -> Breaks<'a> {
+        self.breaks_in(Profile::First, text.as_bytes())
+    }
+
+    /// The breaks of a text of bytes in a profile, in their order. Ill-formed bytes are read as `String::from_utf8_lossy` does, and
+    /// places count the bytes as they are.
+    pub fn breaks_in<'a>(&'a self, profile: Profile, text: &'a [u8]) -> Breaks<'a> {
+        Breaks::new(self, profile, text)
+    }
+
+    /// The segments of a text between its breaks, in the first profile and in their order. Joined they are the text.
+    pub fn segments<'a>(&'a self, text: &'a str) -> Segments<'a> {
+        self.segments_in(Profile::First, text)
+    }
+
+    /// The segments of a text between its breaks, in a profile and in their order. Joined they are the text.
+    pub fn segments_in<'a>(&'a self, profile: Profile, text: &'a str) -> Segments<'a> {
+        Segments::new(self, profile, text)
+    }
+}
+
+impl fmt::Debug for Table {
+    fn fmt(&self, f: &mut fmt::Formatter<'_>) -> fmt::Result {
+        f.debug_struct("Table").finish_non_exhaustive()
+    }
+}
+
+/// Bytes that begin where a [`Table`] may. [`include_bytes_aligned!`](crate::include_bytes_aligned) makes it.
+#[doc(hidden)]
+#[repr(C, align(8))]
+pub struct Aligned<Bytes: ?Sized>(pub Bytes);
+
+/// `include_bytes!` for a saved table: the bytes of a file, as a `&'static [u8]` that begins at a multiple of 8 bytes.
+///
+/// ```text
+/// // build.rs writes the bytes of a table to the file `table` of OUT_DIR
+/// static BYTES: &[u8] = lbk::include_bytes_aligned!(concat!(env!("OUT_DIR"), "/table"));
+/// let table = lbk::Table::of_bytes(BYTES).expect("build.rs wrote a table");
+/// ```
+#[macro_export]
+macro_rules! include_bytes_aligned {
+    ($file:expr $(,)?) => {{
+        const HELD: &$crate::Aligned<[u8]> = &$crate::Aligned(*include_bytes!($file));
+        &HELD.0
+    }};
+}

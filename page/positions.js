@@ -1,0 +1,111 @@
+/** The view of the positions of a text: a sign at each, one of them chosen. */
+import { codeOf, hiddenName, signOf } from "./notation.js";
+import { RULES } from "./rules.js";
+
+/** The most positions that are shown, so that a page stays quick. */
+export const MOST_SHOWN = 4000;
+
+const SAYS = { no: "No break", may: "A line may break", must: "A line must end" };
+
+function element(tag, className, text) {
+  const made = document.createElement(tag);
+  if (className) made.className = className;
+  if (text !== undefined) made.textContent = text;
+  return made;
+}
+
+function characterElement(character) {
+  const name = hiddenName(character);
+  return name ? element("span", "hidden-character", name) : document.createTextNode(character);
+}
+
+export class PositionsView {
+  #list;
+  #detail;
+  #text = "";
+  #positions = [];
+  #chosen = -1;
+
+  constructor(list, detail) {
+    this.#list = list;
+    this.#detail = detail;
+    list.addEventListener("click", (event) => this.#chooseElement(event.target));
+    list.addEventListener("pointerover", (event) => {
+      if (event.pointerType === "mouse") this.#chooseElement(event.target);
+    });
+    list.addEventListener("keydown", (event) => this.#onKey(event));
+  }
+
+  /** Shows the first positions of a text, and returns how many were left out. */
+  show(text, positions) {
+    this.#text = text;
+    this.#positions = positions.slice(0, MOST_SHOWN);
+    this.#chosen = -1;
+    const parts = document.createDocumentFragment();
+    this.#positions.forEach((position, k) => {
+      parts.append(this.#positionElement(position, k));
+      const character = this.#characterAt(k);
+      if (character) parts.append(characterElement(character));
+      if (position.kind === "must" && character) parts.insertBefore(element("br"), parts.lastChild);
+    });
+    this.#list.replaceChildren(parts);
+    this.#list.removeAttribute("aria-activedescendant");
+    this.#detail.replaceChildren();
+    return positions.length - this.#positions.length;
+  }
+
+  #positionElement({ kind, rule }, k) {
+    const made = element("span", `position ${kind}`, signOf(kind));
+    made.id = `position-${k}`;
+    made.dataset.k = k;
+    made.setAttribute("role", "option");
+    made.setAttribute("aria-selected", "false");
+    made.setAttribute("aria-label", `${SAYS[kind]}, rule ${rule}`);
+    return made;
+  }
+
+  #characterAt(k) {
+    const code = this.#positions[k] && this.#text.codePointAt(this.#positions[k].at);
+    return code === undefined ? "" : String.fromCodePoint(code);
+  }
+
+  #chooseElement(target) {
+    const k = target.closest?.(".position")?.dataset.k;
+    if (k !== undefined) this.choose(Number(k));
+  }
+
+  #onKey(event) {
+    const last = this.#positions.length - 1;
+    const to = {
+      ArrowRight: Math.min(last, this.#chosen + 1),
+      ArrowLeft: Math.max(0, this.#chosen - 1),
+      Home: 0,
+      End: last,
+    }[event.key];
+    if (to === undefined || last < 0) return;
+    event.preventDefault();
+    this.choose(to);
+    document.getElementById(`position-${to}`).scrollIntoView({ block: "nearest" });
+  }
+
+  /** Chooses the k-th position, from 0, and says what decides there. */
+  choose(k) {
+    document.getElementById(`position-${this.#chosen}`)?.setAttribute("aria-selected", "false");
+    this.#chosen = k;
+    document.getElementById(`position-${k}`).setAttribute("aria-selected", "true");
+    this.#list.setAttribute("aria-activedescendant", `position-${k}`);
+    const { at, kind, rule } = this.#positions[k];
+    const before = k > 0 ? this.#nameOf(this.#characterAt(k - 1)) : "the start of the text";
+    const after = this.#characterAt(k) ? this.#nameOf(this.#characterAt(k)) : "the end of the text";
+    const what = element("p");
+    what.append(element("span", `sign ${kind}`, signOf(kind)), ` ${SAYS[kind]} between ${before} and ${after}, at ${at}.`);
+    const why = element("p");
+    why.append(element("span", "rule", `Rule LB${rule}`), ` ${RULES[rule]}`);
+    this.#detail.replaceChildren(what, why);
+  }
+
+  #nameOf(character) {
+    const name = hiddenName(character);
+    return `${name && name !== "·" ? name : character === " " ? "a space" : `“${character}”`} (${codeOf(character)})`;
+  }
+}
