@@ -6,8 +6,10 @@ pub mod Order
 pub mod State
 pub mod Streams
 pub mod Faults
+pub mod Cuts
 -- What only carries proofs.
 pub mod Decided
 pub mod Reached
 pub mod Blocks
 pub mod Stands
+pub mod Looking
