@@ -290,6 +290,31 @@ static void try_words(void)
     }
 }
 
+/* Whether a text is these characters, and zeros. */
+static int is_text(lbk_text text, const char *wanted)
+{
+    lbk_text other = {{0}};
+    strcpy(other.text, wanted);
+    return memcmp(text.text, other.text, sizeof other.text) == 0;
+}
+
+static void try_texts(void)
+{
+    static const char *const names[] = {"the four files", "LineBreak.txt", "EastAsianWidth.txt", "DerivedGeneralCategory.txt",
+                                        "emoji-data.txt"};
+    told("the version", is_text(lbk_version(), LBK_VERSION));
+    for (uint32_t k = 0; k < 5; k++)
+        told("the name of a file", is_text(lbk_file_name(k), names[k]));
+    for (uint32_t k = 0; k <= LBK_CAUSE_NOT_PUBLISHED; k++)
+        told("a cause has a text", lbk_cause_text(k).text[0] != 0 && lbk_cause_text(k).text[95] == 0);
+    told("a cause's text", is_text(lbk_cause_text(LBK_CAUSE_OUT_OF_MEMORY), "out of memory"));
+    for (uint32_t k = 1; k != 0; k <<= 1) {
+        told("a number of no file", k < 5 || is_text(lbk_file_name(k), ""));
+        told("a number of no cause", k <= LBK_CAUSE_NOT_PUBLISHED || is_text(lbk_cause_text(k), ""));
+    }
+    told("the numbers behind the last", is_text(lbk_file_name(5), "") && is_text(lbk_cause_text(11), ""));
+}
+
 int main(void)
 {
     told("the small files are read", read_lines(&table, LINE_BREAKS, CATEGORIES).cause == LBK_CAUSE_NONE);
@@ -303,6 +328,7 @@ int main(void)
     try_tables();
     try_labels();
     try_words();
+    try_texts();
     printf("%u passed, %u failed\n", passed, failed);
     return failed != 0;
 }

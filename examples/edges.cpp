@@ -34,7 +34,11 @@ static_assert(!std::is_constructible_v<lbk::breaks, lbk_table, std::string_view>
 static_assert(!std::is_constructible_v<lbk::breaks, lbk::table &, std::string>);
 static_assert(!std::is_convertible_v<lbk::table, const lbk_table &>);
 
+static_assert(std::is_constructible_v<lbk::words, std::string &> && !std::is_constructible_v<lbk::words, std::string>);
+static_assert(std::is_constructible_v<lbk::stream, lbk::table &> && !std::is_constructible_v<lbk::stream, lbk::table>);
+
 #if defined(__cpp_lib_ranges)
+static_assert(std::ranges::view<lbk::words> && std::ranges::borrowed_range<lbk::words>);
 static_assert(std::forward_iterator<iterator>);
 static_assert(std::ranges::forward_range<lbk::breaks> && std::ranges::common_range<lbk::breaks>);
 static_assert(std::ranges::view<lbk::breaks> && std::ranges::borrowed_range<lbk::breaks>);
@@ -109,6 +113,47 @@ static void try_iterators(const lbk_table &table)
     told("two ways to one place", place == before && place->at == before->at);
     before = range.begin();
     told("an iterator is assigned", before->at == 2);
+}
+
+static void try_words()
+{
+    std::string many, joined, wanted;
+    for (int k = 0; k < 100; k++) {
+        many += "ab, c1 - ";
+        wanted += "ab|c1|";
+    }
+    for (lbk_word word : lbk::words(many))
+        joined += many.substr(word.start, word.end - word.start) + '|';
+    told("words", joined == wanted);
+    told("no word", lbk::words(" .,").begin() == lbk::words("").end());
+    lbk::words range(many);
+    auto place = range.begin(), before = place++;
+    told("places among words", before->start == 0 && place->start == 4 && before != place && ++before == place);
+}
+
+static void try_streams(const lbk_table &table)
+{
+    std::string text;
+    for (int k = 0; k < 50; k++)
+        text += "a b\n\xE4\xB8\x80 \xC2\xAB c \xC2\xBB (d";
+    for (lbk::profile rules : {lbk::profile::first, lbk::profile::second}) {
+        these wanted = places(table, text, rules);
+        for (std::size_t size : {1, 2, 3, 7, 100, 10000}) {
+            these found;
+            auto keep = [&found](lbk_break one) { found.push_back(one.at); };
+            lbk::stream stream(table, rules);
+            for (std::size_t from = 0; from < text.size(); from += size)
+                stream.feed(std::string_view(text).substr(from, size), keep);
+            lbk::stream copy = stream;
+            stream.finish(keep);
+            told("a text in pieces", found == wanted);
+            stream.finish(keep);
+            told("nothing comes after the end", found == wanted);
+            these rest;
+            copy.finish([&rest](lbk_break one) { rest.push_back(one.at); });
+            told("a copy goes on by itself", !rest.empty() && rest.back() == text.size());
+        }
+    }
 }
 
 static bool refused(const lbk::error &why, lbk::error::reason reason)
@@ -202,6 +247,8 @@ int main(int words, char **word)
     if (table) {
         try_ranges(*table);
         try_iterators(*table);
+        try_words();
+        try_streams(*table);
         try_bytes(*table);
         try_files(*table, word[1]);
         try_exceptions(*table, word[1]);

@@ -10,7 +10,7 @@ import random
 import sys
 
 import lbk
-from lbk import Break, Kind
+from lbk import Break, Kind, Stream
 
 
 def lines(table, text, width):
@@ -52,24 +52,6 @@ def after_edit(table, old, breaks, at, removed, inserted):
     return new, breaks[:kept] + asked, len(asked)
 
 
-def streamed(table, parts):
-    """The breaks of a text of bytes that comes in parts, cut anywhere, each as soon as it is certain by a Must behind it.
-
-    The last break of what is held is its end, which says nothing of a text that goes on. Up to the Must before that, all is
-    certain, and need not be held any more.
-    """
-    held, start = b"", 0
-    for part in parts:
-        held += part
-        found = list(table.breaks(held))
-        certain = max((k + 1 for k, one in enumerate(found[:-1]) if one.kind is Kind.MUST), default=0)
-        yield from (moved(one, start) for one in found[:certain])
-        if certain:
-            end = found[certain - 1].at
-            held, start = held[end:], start + end
-    yield from (moved(one, start) for one in table.breaks(held))
-
-
 def main():
     if len(sys.argv) != 5:
         sys.exit("usage: engine.py LINE_BREAK EAST_ASIAN CATEGORY EMOJI")
@@ -89,7 +71,7 @@ def main():
 
         places = sorted(chance.choices(range(len(data) + 1), k=4))
         parts = [data[a:b] for a, b in zip([0, *places], [*places, len(data)])]
-        failed += list(streamed(table, parts)) != whole
+        failed += list(Stream(table).breaks(parts)) != whole
 
         at = chance.randrange(len(text) + 1)
         removed = text[at : at + chance.randrange(4)].encode()

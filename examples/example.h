@@ -55,7 +55,7 @@ static inline void read_table(lbk_table *table, char **names)
                                files[3].at, files[3].size);
     if (fault.cause != LBK_CAUSE_NONE) {
         const char *name = fault.file == LBK_NO_FILE ? "the four files" : names[fault.file - 1];
-        fprintf(stderr, "%s:%u: cause %u\n", name, (unsigned)fault.line, (unsigned)fault.cause);
+        fprintf(stderr, "%s:%u: %s\n", name, (unsigned)fault.line, lbk_cause_text(fault.cause).text);
         exit(1);
     }
     for (int k = 0; k < 4; k++)

@@ -1,5 +1,5 @@
 #!/usr/bin/env python3
-"""Breaks, segments and columns of texts: texts.py FOLDER, as /usr/share/unicode."""
+"""Breaks, segments, columns and words of texts: texts.py FOLDER, as /usr/share/unicode."""
 
 import sys
 
@@ -21,3 +21,13 @@ assert kinds.count(Kind.MUST) == 2
 # Many texts in one call: those of the second stand at offsets[1] to offsets[2].
 offsets, places, kinds, rules = table.break_list_columns(["one two", "a b c"])
 assert places[offsets[1] : offsets[2]].tolist() == [2, 4, 5]
+
+# A text that comes in pieces of any size, as from a socket.
+stream = lbk.Stream(table)
+assert stream.feed("one t") == [Break(4, Kind.MAY, Rule.LB18)]
+assert stream.finish("wo") == [Break(7, Kind.MUST, Rule.LB3)]
+
+# Words, and paragraphs with their segments and words.
+assert list(table.words("Can't we?")) == ["Can't", "we"]
+first, second = table.passages("one two\nthree")
+assert (first.segments, first.words, second.start) == (["one ", "two\n"], ["one", "two"], 8)

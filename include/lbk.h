@@ -15,10 +15,11 @@
  *     } while (count == 64);
  *
  * Memory. The caller owns all of it. No call keeps a pointer that it was given, and there is nothing to free. No call but
- * lbk_read takes memory from the heap, and lbk_read gives back what it took.
+ * lbk_read and lbk_read_published takes memory from the heap, and these give back what they took.
  *
  * Threads. The library has no variables. Any number of calls may use one table at the same time, as long as none of them
- * writes it; only lbk_read writes a table, and each other call writes only its state or stream, and its block.
+ * writes it; only lbk_read and lbk_read_published write a table, and each other call writes only its state or stream, and its
+ * block.
  *
  * What a caller owes, and all that a caller owes:
  *   - A pointer that comes with a length has at least as many bytes (as many breaks or words, for a block) behind it. Where the
@@ -139,8 +140,9 @@ enum {
     LBK_CAUSE_OVERLAP = 6,       /* the row shares a code with an earlier row of the file */
     LBK_CAUSE_TOO_MANY_ROWS = 7, /* the line would be the 65,537th row or default of the file */
     LBK_CAUSE_OUT_OF_MEMORY = 8, /* the heap refused memory, at this line, or when all files were read (file and line are 0) */
-    LBK_CAUSE_TABLE_TOO_LARGE = 9 /* the rules need more steps than a table has, and it is proved that the cause comes only so. Those of
-                                     this version do not, whatever the files; that is tested and not proved. File and line are 0 */
+    LBK_CAUSE_TABLE_TOO_LARGE = 9, /* the rules need more steps than a table has, and it is proved that the cause comes only so. Those of
+                                      this version do not, whatever the files; that is tested and not proved. File and line are 0 */
+    LBK_CAUSE_NOT_PUBLISHED = 10 /* of lbk_read_published alone: the file is not the one that Unicode 15.0.0 published; line is 0 */
 };
 
 /* One step of a table: numbers of the library's own. */
@@ -227,6 +229,11 @@ typedef struct lbk_rule_label {
     char text[4];
 } lbk_rule_label;
 
+/* A text: ASCII, and zeros up to the end. The last byte is always zero. */
+typedef struct lbk_text {
+    char text[96];
+} lbk_text;
+
 /* Fills a table from the bytes of four files of the Unicode Character Database: LineBreak.txt, EastAsianWidth.txt,
  * DerivedGeneralCategory.txt and emoji-data.txt. Sizes are in bytes.
  *
@@ -235,6 +242,18 @@ typedef struct lbk_rule_label {
  * property's fixed value. The call takes some 10 ms and some megabytes of the heap for files of Unicode 15.0. */
 lbk_fault lbk_read(lbk_table *table, const void *line_break, size_t line_break_size, const void *east_asian,
                    size_t east_asian_size, const void *category, size_t category_size, const void *emoji, size_t emoji_size);
+
+/* The same of the files that Unicode 15.0.0 published, and of no others: LBK_CAUSE_NOT_PUBLISHED comes for the first file whose
+ * SHA-256 digest is not that of the published one, before any is read. CR LF at the ends of lines is read as LF for that. */
+lbk_fault lbk_read_published(lbk_table *table, const void *line_break, size_t line_break_size, const void *east_asian,
+                             size_t east_asian_size, const void *category, size_t category_size, const void *emoji,
+                             size_t emoji_size);
+
+/* What a cause says in English, by the number of lbk_fault.cause; an empty text for a number that no cause has. */
+lbk_text lbk_cause_text(uint32_t cause);
+
+/* The name of a file by the number of lbk_fault.file, and `the four files` for LBK_NO_FILE; empty for any other number. */
+lbk_text lbk_file_name(uint32_t file);
 
 /* Puts the next breaks of a text, in the order of the text, into the front of a block with room for `room` breaks, and answers
  * how many. Fewer than `room` says that these were all; later calls with the state then answer 0. Each break of the text
@@ -350,6 +369,9 @@ size_t lbk_cut_before(const lbk_table *table, const char *text, size_t size, siz
 /* The name of a rule by its number; an empty name for a number that no rule has. */
 lbk_rule_label lbk_label(uint8_t rule);
 
+/* The version of the library that is called, as LBK_VERSION. */
+lbk_text lbk_version(void);
+
 /* Whether a table is whole: its layout is LBK_LAYOUT, and its digest is that of its other bytes. True of each table that
  * lbk_read of this version filled, and of each copy of one. Bytes that changed by accident are told in all but rare cases; the
  * digest is no defence against bytes that someone chose. A table need not be whole to be safe to use. */
@@ -373,6 +395,7 @@ LBK_ASSERT(a_word_state_has_8_bytes, sizeof(lbk_word_state) == 8);
 LBK_ASSERT(a_word_has_16_bytes, sizeof(lbk_word) == 16);
 LBK_ASSERT(a_fault_has_12_bytes, sizeof(lbk_fault) == 12);
 LBK_ASSERT(a_label_has_4_bytes, sizeof(lbk_rule_label) == 4);
+LBK_ASSERT(a_text_has_96_bytes, sizeof(lbk_text) == 96);
 LBK_ASSERT(neighbours_have_672_bytes, sizeof(lbk_neighbours) == 672);
 LBK_ASSERT(a_table_has_no_gaps, sizeof(lbk_table) == 16 + 8 * LBK_STEPS + 2 * 672 + LBK_CODES);
 LBK_ASSERT(steps_stand_where_they_should, offsetof(lbk_table, first) == 16);

@@ -414,6 +414,83 @@ private:
     call start_;
 };
 
+/// The words of a text in their order, as the bytes that each has: a view that can be gone through any number of times. It needs no
+/// table.
+class words {
+    struct call {
+        using value_type = lbk_word;
+
+        const char *text = nullptr;
+        std::size_t size = 0;
+        lbk_word_state state = {0};
+
+        std::size_t operator()(lbk_word *block, std::size_t room) noexcept { return lbk_words(&state, text, size, block, room); }
+
+        static bool is_same(lbk_word a, lbk_word b) noexcept { return a.start == b.start; }
+    };
+
+public:
+    using iterator = detail::iterator<call>;
+    using const_iterator = iterator;
+    using value_type = lbk_word;
+
+    explicit words(std::string_view text) noexcept : start_{text.data(), text.size(), {0}} {}
+
+    /// A temporary would be gone before the range is gone through.
+    template <typename Text, typename = std::enable_if_t<std::is_same_v<Text, std::string>>>
+    explicit words(Text &&) = delete;
+
+    iterator begin() const noexcept { return iterator(start_); }
+    iterator end() const noexcept { return iterator(); }
+
+private:
+    call start_;
+};
+
+/// The breaks of a text that comes in pieces, cut anywhere. It refers to its table, which has to outlive it. A copy goes on by itself.
+class stream {
+public:
+    explicit stream(const lbk_table &by, profile rules = profile::first) noexcept : table_(&by)
+    {
+        state_.profile = static_cast<std::uint8_t>(rules);
+    }
+
+    explicit stream(const lbk_table &&, profile = profile::first) = delete;
+    explicit stream(const table &&, profile = profile::first) = delete;
+
+    /// Takes the next piece, and calls `found` with each break that it settles. Places count from the start of the text.
+    template <typename Found>
+    void feed(std::string_view piece, Found &&found)
+    {
+        take(piece, false, found);
+    }
+
+    /// Says that the text has ended, and calls `found` with each break that is left. Nothing comes after it.
+    template <typename Found>
+    void finish(Found &&found)
+    {
+        take({}, true, found);
+    }
+
+private:
+    const lbk_table *table_;
+    lbk_stream state_ = {};
+
+    template <typename Found>
+    void take(std::string_view piece, bool last, Found &found)
+    {
+        constexpr std::size_t room = 64;
+        lbk_break block[room];
+        lbk_fed fed;
+        do {
+            fed = lbk_feed(table_, &state_, piece.data(), piece.size(), last, block, room);
+            piece.remove_prefix(fed.taken);
+            for (std::size_t k = 0; k < fed.count; k++)
+                found(block[k]);
+        } while (fed.count == room);
+    }
+};
+
 /// The name of a rule without `LB`, as "8a"; empty for a number that no rule has.
 inline std::string label(std::uint8_t rule) { return lbk_label(rule).text; }
 
@@ -424,6 +501,10 @@ template <>
 inline constexpr bool std::ranges::enable_view<lbk::breaks> = true;
 template <>
 inline constexpr bool std::ranges::enable_borrowed_range<lbk::breaks> = true;
+template <>
+inline constexpr bool std::ranges::enable_view<lbk::words> = true;
+template <>
+inline constexpr bool std::ranges::enable_borrowed_range<lbk::words> = true;
 #endif
 
 #endif

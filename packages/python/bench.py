@@ -106,12 +106,14 @@ def measure_short(table):
 
 def measure_long(table, c_call, name, data):
     text = data.decode("utf-8", "replace")
+    pieces = [data[at : at + 4096] for at in range(0, len(data), 4096)]
     ways = {
         "C": lambda: c_call(data),
         "bytes": lambda: table.break_columns(data),
         "str": lambda: table.break_columns(text),
         "breaks": lambda: run_through(table.breaks(data)),
         "segments": lambda: run_through(table.segments(text)),
+        "stream": lambda: run_through(lbk.Stream(table).breaks(pieces)),
         **icu_ways(text),
     }
     seconds = best(ways)
@@ -125,6 +127,7 @@ def measure_long(table, c_call, name, data):
         f"{speed['PyICU']:.0f}" if icu else "",
         f"{count / seconds['breaks'] / 1e6:.1f}",
         f"{count / seconds['segments'] / 1e6:.1f}",
+        f"{count / seconds['stream'] / 1e6:.1f}",
     )
 
 
@@ -146,7 +149,7 @@ def main():
     texts = {name: (data * (SIZE // len(data) + 1))[:SIZE] for name, data in texts.items()}
     print(f"lbk {lbk.__version__}, Python {sys.version.split()[0]}, {os.cpu_count()} processors")
     measure_short(table)
-    head("10 MB", "C call, MB/s", "columns of bytes (share of C)", "columns of a str", "PyICU", "`Break`, million/s", "segments of a str, million/s")
+    head("10 MB", "C call, MB/s", "columns of bytes (share of C)", "columns of a str", "PyICU", "`Break`, million/s", "segments of a str, million/s", "`Stream`, pieces of 4 KB, million/s")
     for name, data in texts.items():
         measure_long(table, c_call, name, data)
     measure_threads(table, *next(iter(texts.items())))

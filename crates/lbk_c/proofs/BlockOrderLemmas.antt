@@ -13,14 +13,14 @@ use Rattle.lbk_c.proofs.OrderLemmas.{AreInOrder-wider}
 -- blocks with the same front
 pub AreInOrder-front : (block other : List RawBreak) (count from to : ℕ) → take count other ≡ take count block → AreInOrder block count from to → AreInOrder other count from to
 AreInOrder-front block other count from to same o =
-    let each : (k : ℕ) → k < count → get_or block k no_break ≡ get_or other k no_break =
+    let kept_at : (k : ℕ) → k < count → get_or block k no_break ≡ get_or other k no_break =
     λ k few. sym (get_or-take count block k no_break few) ∙ sym (ap (λ l. get_or l k no_break) same) ∙ get_or-take count other k no_break few in
     record {
-      breaks = λ k few. subst IsBreak (each k few) (o.breaks k few);
-      within = λ k few. subst (λ (b : RawBreak). (from ≤ b.at) × (b.at < to)) (each k few) (o.within k few);
+      each = λ k few. subst IsBreak (kept_at k few) (o.each k few);
+      within = λ k few. subst (λ (b : RawBreak). (from ≤ b.at) × (b.at < to)) (kept_at k few) (o.within k few);
       rising = λ k few j before.
-          subst (λ (b : RawBreak). (get_or other j no_break).at < b.at) (each k few)
-          (subst (λ (b : RawBreak). b.at < (get_or block k no_break).at) (each j (omega arith)) (o.rising k few j before));
+          subst (λ (b : RawBreak). (get_or other j no_break).at < b.at) (kept_at k few)
+          (subst (λ (b : RawBreak). b.at < (get_or block k no_break).at) (kept_at j (omega arith)) (o.rising k few j before));
     }
 
 pub IsInOrder-wider : (block : List RawBreak) (count from at further : ℕ) → at ≤ further → IsInOrder block count from at → IsInOrder block count from further

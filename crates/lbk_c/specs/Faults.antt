@@ -8,6 +8,7 @@ use Rattle.lbk_ucd.specs.declared.tables.Files.{Files}
 use Rattle.lbk_ucd.specs.declared.which.Which.{Which}
 use Rattle.lbk_ucd.specs.declared.which.Which.TheVariants.{LineBreak, EastAsianWidth, Category, Emoji}
 use Rattle.lbk_ucd.specs.Files.{AreLawful, IsRefused}
+use Rattle.lbk_database.specs.Digests.{ArePublished, IsFirstUnpublished}
 use Rattle.lbk_steps.specs.declared.flat_table.TableError.{TableError}
 use Rattle.lbk_steps.specs.declared.flat_table.TableError.TheVariants as refused
 use Rattle.lbk_steps.specs.EnoughRows.{HasReason}
@@ -57,3 +58,13 @@ abbrev pub IsFaultOf : Files → Fault → Type 0
 IsFaultOf files fault =
     ((found : UcdFault) × IsRefused files found × (fault ≡ given_fault found))
     ⊎ (AreLawful files × ((error : TableError) × HasReason error × (fault ≡ unmade_fault error)))
+
+-- a file is not the published one
+abbrev pub unpublished_fault : Which → Fault
+unpublished_fault which = record { file = file_number which; line = 0; cause = 10 }
+
+-- why no table was made of files that have to be the published ones
+abbrev pub IsFaultOfPublished : Files → Fault → Type 0
+IsFaultOfPublished files fault =
+    ((which : Which) × IsFirstUnpublished files which × (fault ≡ unpublished_fault which))
+    ⊎ (ArePublished files × IsFaultOf files fault)

@@ -7,6 +7,7 @@ pub mod State
 pub mod Streams
 pub mod Faults
 pub mod Cuts
+pub mod Texts
 -- What only carries proofs.
 pub mod Decided
 pub mod Reached

@@ -1,7 +1,7 @@
 //! The numbers of faults.
 
 ghost use Rattle.std.specs.Prelude.{◌≡◌};
-ghost use Rattle.lbk_c.specs.Faults.{cause_number, file_number, given_fault, unmade_fault};
+ghost use Rattle.lbk_c.specs.Faults.{cause_number, file_number, given_fault, unmade_fault, unpublished_fault};
 
 use crate::interface::Fault;
 use lbk_steps::TableError;
@@ -37,6 +37,17 @@ pub(crate) fn unmade_fault(error: TableError) -> Fault
         file: 0,
         line: 0,
         cause,
+    }
+}
+
+/// That a file is not the published one.
+pub(crate) fn unpublished_fault(which: Which) -> Fault
+    ensures { result ≡ unpublished_fault which }
+{
+    Fault {
+        file: file_number(which),
+        line: 0,
+        cause: 10,
     }
 }
 

@@ -5,10 +5,12 @@ ghost use Rattle.lbk_ucd.specs.Files.{AreLawful};
 ghost use Rattle.lbk_steps.specs.Cells.{AreCellsOf};
 ghost use Rattle.lbk_rules.specs.declared.cells.Cell.{Cell};
 ghost use Rattle.lbk_steps.specs.FlatTable.{IsFlatOf, IsWhole};
-ghost use Rattle.lbk_c.specs.Faults.{IsFaultOf, files_of, no_fault};
+ghost use Rattle.lbk_database.specs.Digests.{ArePublished};
+ghost use Rattle.lbk_c.specs.Faults.{IsFaultOf, IsFaultOfPublished, files_of, no_fault};
 
-use crate::faults::{NO_FAULT, given_fault, unmade_fault};
+use crate::faults::{NO_FAULT, given_fault, unmade_fault, unpublished_fault};
 use crate::interface::Fault;
+use lbk_database::first_unpublished;
 use lbk_steps::FlatTable;
 use lbk_ucd::{Files, Tables};
 use std::alloc::Global;
@@ -48,5 +50,38 @@ pub extern "C" fn lbk_read(
     match table.fill(alloc, &tables) {
         Ok(()) => NO_FAULT,
         Err(error) => unmade_fault(error),
+    }
+}
+
+/// Does what `lbk_read` does, of the four files that Unicode 15.0.0 published and of no others; CR LF counts as LF.
+///
+/// Cause 10 comes for the first file that is not the published one, and no file is read then. After a fault the table is as
+/// it was.
+#[unsafe(no_mangle)]
+pub extern "C" fn lbk_read_published(
+    alloc: Global,
+    table: &mut FlatTable,
+    line_break: &[u8],
+    east_asian: &[u8],
+    category: &[u8],
+    emoji: &[u8],
+) -> Fault
+    ensures published { result.cause ≡ 0 → ArePublished (files_of line_break.entry east_asian.entry category.entry emoji.entry) }
+    ensures table { result.cause ≡ 0 → (cell : ℕ → Cell) → AreCellsOf (files_of line_break.entry east_asian.entry category.entry emoji.entry) cell
+        → IsFlatOf table.new cell }
+    ensures whole { result.cause ≡ 0 → IsWhole table.new }
+    ensures none { result.cause ≡ 0 → result ≡ no_fault }
+    ensures refused { 0 < result.cause → IsFaultOfPublished (files_of line_break.entry east_asian.entry category.entry emoji.entry) result }
+    ensures untouched { 0 < result.cause → table.new ≡ table.old }
+{
+    let files = Files {
+        line_break,
+        east_asian,
+        category,
+        emoji,
+    };
+    match first_unpublished(&files) {
+        Some(which) => unpublished_fault(which),
+        None => lbk_read(alloc, table, line_break, east_asian, category, emoji),
     }
 }

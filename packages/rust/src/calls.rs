@@ -30,6 +30,54 @@ pub struct Break {
 }
 
 #[repr(C)]
+#[derive(Clone, Copy)]
+pub struct Stream {
+    at: u64,
+    held_at: u64,
+    row: u16,
+    held_code: u16,
+    cut: [u8; 4],
+    cut_size: u8,
+    profile: u8,
+    ended: u8,
+}
+
+impl Stream {
+    /// The start of a text.
+    pub fn new(profile: u8) -> Stream {
+        Stream {
+            at: 0,
+            held_at: 0,
+            row: 0,
+            held_code: 0,
+            cut: [0; 4],
+            cut_size: 0,
+            profile,
+            ended: 0,
+        }
+    }
+}
+
+#[repr(C)]
+pub struct Fed {
+    pub taken: usize,
+    pub count: usize,
+}
+
+#[repr(C)]
+#[derive(Clone, Copy)]
+pub struct WordState {
+    pub at: usize,
+}
+
+#[repr(C)]
+#[derive(Clone, Copy)]
+pub struct Word {
+    pub start: usize,
+    pub end: usize,
+}
+
+#[repr(C)]
 pub struct Fault {
     pub file: u32,
     pub line: u32,
@@ -43,6 +91,10 @@ pub struct RuleLabel {
 
 const _: () = assert!(size_of::<State>() == 16);
 const _: () = assert!(size_of::<Break>() == 16);
+const _: () = assert!(size_of::<Stream>() == 32);
+const _: () = assert!(size_of::<Fed>() == 16);
+const _: () = assert!(size_of::<WordState>() == 8);
+const _: () = assert!(size_of::<Word>() == 16);
 const _: () = assert!(size_of::<Fault>() == 12);
 const _: () = assert!(size_of::<RuleLabel>() == 4);
 
@@ -64,6 +116,22 @@ extern "C" {
         text: *const u8,
         size: usize,
         block: *mut Break,
+        room: usize,
+    ) -> usize;
+    pub fn lbk_feed(
+        table: *const Table,
+        stream: *mut Stream,
+        piece: *const u8,
+        size: usize,
+        last: bool,
+        block: *mut Break,
+        room: usize,
+    ) -> Fed;
+    pub fn lbk_words(
+        state: *mut WordState,
+        text: *const u8,
+        size: usize,
+        block: *mut Word,
         room: usize,
     ) -> usize;
     pub fn lbk_label(rule: u8) -> RuleLabel;

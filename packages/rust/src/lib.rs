@@ -26,10 +26,18 @@ mod calls;
 mod fault;
 #[cfg(feature = "std")]
 mod load;
+#[cfg(feature = "std")]
+mod reader;
+mod stream;
 mod table;
+mod words;
 
 pub use breaks::{Break, Breaks, Kind, Profile, Rule, Segment, Segments};
 pub use fault::{Cause, Fault, File};
 #[cfg(feature = "std")]
 pub use load::LoadError;
+#[cfg(feature = "std")]
+pub use reader::ReaderBreaks;
+pub use stream::Stream;
 pub use table::{Aligned, Files, Table};
+pub use words::{word_ranges, words, WordRanges, Words};

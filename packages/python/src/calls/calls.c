@@ -101,7 +101,8 @@ static int add_all(PyObject *module)
         && PyModule_AddObjectRef(module, "Found", state->found_type) == 0
         && PyModule_AddIntConstant(module, "TABLE_SIZE", (long)sizeof(lbk_table)) == 0
         && PyModule_AddStringConstant(module, "VERSION", LBK_VERSION) == 0
-        && PyModule_AddStringConstant(module, "UNICODE_VERSION", LBK_UNICODE_VERSION) == 0;
+        && PyModule_AddStringConstant(module, "UNICODE_VERSION", LBK_UNICODE_VERSION) == 0
+        && PyModule_AddStringConstant(module, "WORDS_UNICODE_VERSION", LBK_WORDS_UNICODE_VERSION) == 0;
     for (size_t k = 0; added && k < sizeof constants / sizeof constants[0]; k++)
         added = PyModule_AddIntConstant(module, constants[k].name, constants[k].value) == 0;
     return added ? 0 : -1;

@@ -10,6 +10,12 @@ _Buffer: TypeAlias = Any
 TABLE_SIZE: int
 UNICODE_VERSION: str
 VERSION: str
+WORDS_UNICODE_VERSION: str
+
+BREAKS: int
+SEGMENTS: int
+WORDS: int
+WORD_RANGES: int
 
 @final
 class Break:
@@ -27,7 +33,7 @@ class Break:
 @final
 class Found(Iterator[Any]):
     @classmethod
-    def of(cls, table: _Buffer, text: str | _Buffer, profile: int, as_segments: bool, /) -> Found: ...
+    def of(cls, table: _Buffer | None, text: str | _Buffer, profile: int, what: int, /) -> Found: ...
     def __next__(self) -> Any: ...
 
 def read(table: _Buffer, line_break: _Buffer, east_asian: _Buffer, category: _Buffer, emoji: _Buffer, /) -> tuple[int, int, int]: ...

@@ -4,18 +4,28 @@
 #include "places.h"
 #include "state.h"
 
-/* So many breaks are asked for at first, and each time so many times more, up to the most. So a short text costs little,
- * the first break of a long one comes soon, and the interpreter's lock is seldom waited for. */
+/* What comes, one at a time. The Python modules know these numbers by their names. */
+enum { BREAKS, SEGMENTS, WORDS, WORD_RANGES };
+
+/* So many are asked for at first, and each time so many times more, up to the most. So a short text costs little,
+ * the first of a long one comes soon, and the interpreter's lock is seldom waited for. */
 enum { FIRST_ROOM = 16, GROWTH = 16, MOST_ROOM = 16 * 16 * 16 * 16 };
 
-/* Where `source` is NULL each break comes as an object of `break_type`, else each segment, as a slice of the source. */
+/* Both have 16 bytes, so that an array of these is one of either. */
+typedef union {
+    lbk_break a_break;
+    lbk_word word;
+} item;
+
+/* `table` may be None for words. Segments and words are slices of `source`. */
 typedef struct {
     PyObject_HEAD
     PyObject *table, *text, *source, *break_type;
+    long what;
     bool in_code_points, is_busy, is_last;
     cursor from;
     size_t start; /* where the next segment starts */
-    lbk_break first[FIRST_ROOM], *block;
+    item first[FIRST_ROOM], *block;
     size_t room, count, next;
 } found;
 
@@ -60,7 +70,7 @@ static bool grow(found *at)
         at->room = FIRST_ROOM;
     } else if (at->room < MOST_ROOM) {
         size_t room = GROWTH * at->room;
-        lbk_break *block = PyMem_Realloc(at->block == at->first ? NULL : at->block, room * sizeof(lbk_break));
+        item *block = PyMem_Realloc(at->block == at->first ? NULL : at->block, room * sizeof(item));
         if (block == NULL) {
             PyErr_NoMemory();
             return false;
@@ -71,33 +81,42 @@ static bool grow(found *at)
     return true;
 }
 
-/* Asks for the next breaks. Returns false, with an exception set, at an error. */
+/* Asks for the next ones, over a text that is held. Returns false, with an exception set, where the table is none. */
+static bool ask(found *at, const utf8_text *text)
+{
+    Py_buffer table_view = {0};
+    const lbk_table *table = NULL;
+    size_t passed = at->what < WORDS ? at->from.state.at : at->from.words.at;
+    size_t left = text->size < passed ? 0 : text->size - passed;
+    if (at->what < WORDS && (table = hold_table(at->table, false, &table_view)) == NULL)
+        return false;
+    at->is_busy = true;
+    PyThreadState *unlocked = unlock(left);
+    if (table != NULL)
+        at->count = next_breaks(table, &at->from, text, &at->block->a_break, at->room);
+    else
+        at->count = next_words(&at->from, text, &at->block->word, at->room);
+    lock_again(unlocked);
+    at->is_busy = false;
+    at->next = 0;
+    at->is_last = at->count < at->room;
+    PyBuffer_Release(&table_view);
+    return true;
+}
+
+/* Fills the block. Returns false, with an exception set, at an error. */
 static bool refill(found *at)
 {
     utf8_text text = {.in_code_points = at->in_code_points};
-    Py_buffer text_view, table_view;
-    if (!grow(at))
+    Py_buffer view;
+    if (!grow(at) || !hold_bytes(at->text, &text, &view))
         return false;
-    const lbk_table *table = hold_table(at->table, false, &table_view);
-    if (table == NULL)
-        return false;
-    bool holds = hold_bytes(at->text, &text, &text_view);
-    if (holds) {
-        size_t left = text.size < at->from.state.at ? 0 : text.size - at->from.state.at;
-        at->is_busy = true;
-        PyThreadState *unlocked = unlock(left);
-        at->count = next_breaks(table, &at->from, &text, at->block, at->room);
-        lock_again(unlocked);
-        at->is_busy = false;
-        at->next = 0;
-        at->is_last = at->count < at->room;
-        PyBuffer_Release(&text_view);
-    }
-    PyBuffer_Release(&table_view);
-    return holds;
+    bool is_filled = ask(at, &text);
+    PyBuffer_Release(&view);
+    return is_filled;
 }
 
-static PyObject *to_segment(PyObject *source, size_t start, size_t end)
+static PyObject *slice(PyObject *source, size_t start, size_t end)
 {
     utf8_text text;
     Py_buffer view;
@@ -120,25 +139,36 @@ static PyObject *next(PyObject *self)
         return PyErr_Format(PyExc_ValueError, "another thread goes on with this iterator");
     if (at->next == at->count && (at->is_last || !refill(at) || at->count == 0))
         return NULL;
-    const lbk_break *one = &at->block[at->next++];
-    if (at->source == NULL)
-        return new_break((PyTypeObject *)at->break_type, one);
+    const item *one = &at->block[at->next++];
     size_t start = at->start;
-    at->start = one->at;
-    return to_segment(at->source, start, one->at);
+    switch (at->what) {
+    case BREAKS:
+        return new_break((PyTypeObject *)at->break_type, &one->a_break);
+    case SEGMENTS:
+        at->start = one->a_break.at;
+        return slice(at->source, start, at->start);
+    case WORDS:
+        return slice(at->source, one->word.start, one->word.end);
+    default:
+        return Py_BuildValue("nn", (Py_ssize_t)one->word.start, (Py_ssize_t)one->word.end);
+    }
 }
 
-/* of(table, text, profile, as_segments) */
+/* of(table, text, profile, what) */
 static PyObject *of(PyObject *type, PyObject *const *given, Py_ssize_t count)
 {
     cursor start;
     if (!has_arguments(count, 4) || !start_of_text(given[2], &start))
         return NULL;
+    long what = PyLong_AsLong(given[3]);
+    if (what < BREAKS || what > WORD_RANGES)
+        return PyErr_Occurred() ? NULL : PyErr_Format(PyExc_ValueError, "nothing has the number %ld", what);
     allocfunc alloc = (allocfunc)PyType_GetSlot((PyTypeObject *)type, Py_tp_alloc);
     found *at = (found *)alloc((PyTypeObject *)type, 0);
     if (at == NULL)
         return NULL;
     const module_state *state = PyType_GetModuleState((PyTypeObject *)type);
+    at->what = what;
     at->from = start;
     at->break_type = Py_NewRef(state->break_type);
     at->table = Py_NewRef(given[0]);
@@ -147,8 +177,7 @@ static PyObject *of(PyObject *type, PyObject *const *given, Py_ssize_t count)
         Py_DECREF(at);
         return NULL;
     }
-    if (given[3] == Py_True)
-        at->source = Py_NewRef(PyUnicode_Check(given[1]) ? given[1] : at->text);
+    at->source = Py_NewRef(PyUnicode_Check(given[1]) ? given[1] : at->text);
     return (PyObject *)at;
 }
 
@@ -171,5 +200,9 @@ static PyType_Spec spec = {
 
 PyObject *new_found_type(PyObject *module)
 {
-    return PyType_FromModuleAndSpec(module, &spec, NULL);
+    bool added = PyModule_AddIntConstant(module, "BREAKS", BREAKS) == 0
+        && PyModule_AddIntConstant(module, "SEGMENTS", SEGMENTS) == 0
+        && PyModule_AddIntConstant(module, "WORDS", WORDS) == 0
+        && PyModule_AddIntConstant(module, "WORD_RANGES", WORD_RANGES) == 0;
+    return added ? PyType_FromModuleAndSpec(module, &spec, NULL) : NULL;
 }

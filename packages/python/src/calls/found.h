@@ -1,4 +1,4 @@
-/* The iterator over the breaks or the segments of a text. */
+/* The iterator over the breaks, the segments or the words of a text. */
 #ifndef LBK_PYTHON_FOUND_H
 #define LBK_PYTHON_FOUND_H
 

@@ -34,16 +34,30 @@ size_t code_points(const char *bytes, size_t size, size_t readable)
     return count;
 }
 
+/* A place in bytes, not before the last, in the unit of the text. */
+static size_t to_unit(cursor *from, const utf8_text *text, size_t at)
+{
+    if (!text->in_code_points)
+        return at;
+    from->given += code_points(text->bytes + from->counted, at - from->counted, text->size - from->counted);
+    from->counted = at;
+    return from->given;
+}
+
 size_t next_breaks(const lbk_table *table, cursor *from, const utf8_text *text, lbk_break *block, size_t room)
 {
     size_t count = lbk_breaks(table, &from->state, text->bytes, text->size, block, room);
-    if (!text->in_code_points)
-        return count;
-    for (size_t k = 0; k < count; k++) {
-        size_t end = block[k].at;
-        from->given += code_points(text->bytes + from->counted, end - from->counted, text->size - from->counted);
-        from->counted = end;
-        block[k].at = from->given;
+    for (size_t k = 0; text->in_code_points && k < count; k++)
+        block[k].at = to_unit(from, text, block[k].at);
+    return count;
+}
+
+size_t next_words(cursor *from, const utf8_text *text, lbk_word *block, size_t room)
+{
+    size_t count = lbk_words(&from->words, text->bytes, text->size, block, room);
+    for (size_t k = 0; text->in_code_points && k < count; k++) {
+        block[k].start = to_unit(from, text, block[k].start);
+        block[k].end = to_unit(from, text, block[k].end);
     }
     return count;
 }

@@ -4,10 +4,11 @@
 
 #include "arguments.h"
 
-/* How far the breaks of a text were asked for. `given` is the place of the last break in the unit of the caller, and
- * `counted` the same in bytes. All zeros, but for the profile, are the start of a text. */
+/* How far the breaks or the words of a text were asked for. `given` is the last place that came in the unit of the caller,
+ * and `counted` the same in bytes. All zeros, but for the profile, are the start of a text. */
 typedef struct {
     lbk_state state;
+    lbk_word_state words;
     size_t counted, given;
 } cursor;
 
@@ -20,5 +21,8 @@ size_t code_points(const char *bytes, size_t size, size_t readable);
 
 /* As lbk_breaks, with each `at` in the unit of the text. */
 size_t next_breaks(const lbk_table *table, cursor *from, const utf8_text *text, lbk_break *block, size_t room);
+
+/* As lbk_words, with each place in the unit of the text. */
+size_t next_words(cursor *from, const utf8_text *text, lbk_word *block, size_t room);
 
 #endif

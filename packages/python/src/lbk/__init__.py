@@ -9,12 +9,19 @@
 A table is made once, of four files of the Unicode Character Database, and any number of threads may use it.
 """
 
-from ._calls import UNICODE_VERSION, Break
+from ._calls import UNICODE_VERSION, WORDS_UNICODE_VERSION, Break
 from ._calls import VERSION as __version__
 from ._fault import Fault
 from ._numbers import Cause, File, Rule
-from ._results import Columns, Kind, ListColumns
+from ._results import Columns, Kind, ListColumns, Passage
 from ._stream import Stream
 from ._table import Table
 
-__all__ = ["UNICODE_VERSION", "Break", "Cause", "Columns", "Fault", "File", "Kind", "ListColumns", "Rule", "Stream", "Table", "__version__"]
+__all__ = [
+    "UNICODE_VERSION", "WORDS_UNICODE_VERSION", "Break", "Cause", "Columns", "Fault", "File", "Kind", "ListColumns", "Passage",
+    "Rule", "Stream", "Table", "__version__",
+]
+
+# These are known by the names that their users know, also in what was pickled.
+for _class in (Cause, Columns, Fault, File, Kind, ListColumns, Passage, Rule, Stream, Table):
+    _class.__module__ = __name__

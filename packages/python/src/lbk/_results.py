@@ -2,7 +2,7 @@
 
 import enum
 from collections.abc import Iterable
-from typing import NamedTuple
+from typing import AnyStr, Generic, NamedTuple
 
 from . import _calls
 from ._numbers import Rule
@@ -35,6 +35,18 @@ class ListColumns(NamedTuple):
     places: memoryview
     kinds: bytearray
     rules: bytearray
+
+
+class Passage(NamedTuple, Generic[AnyStr]):
+    """A part of a text up to a place where a line must end: a paragraph with its line end."""
+
+    start: int
+    """How many code points of a `str` stand before it; of an object of bytes, how many bytes."""
+    text: AnyStr
+    segments: list[AnyStr]
+    """The passage cut at each of its breaks."""
+    words: list[AnyStr]
+    """Its words (UAX #29): each part between word boundaries that has a letter or a number."""
 
 
 def _members(numbers: Iterable[int]) -> tuple[int, ...]:

@@ -11,7 +11,7 @@ from . import _calls, _database
 from ._calls import Break
 from ._fault import Fault
 from ._numbers import Cause
-from ._results import Columns, ListColumns
+from ._results import Columns, Kind, ListColumns, Passage
 
 # What `memoryview` takes.
 Bytes: TypeAlias = "bytes | bytearray | memoryview | mmap.mmap | array[int]"
@@ -108,7 +108,7 @@ class Table:
 
     def breaks(self, text: Text, profile: int = 1) -> Iterator[Break]:
         """The breaks of a text, in their order. The last one of a text that is not empty is its end."""
-        return _calls.Found.of(self._memory, text, profile, False)
+        return _calls.Found.of(self._memory, text, profile, _calls.BREAKS)
 
     @overload
     def segments(self, text: str, profile: int = 1) -> Iterator[str]: ...
@@ -116,7 +116,7 @@ class Table:
     def segments(self, text: Bytes, profile: int = 1) -> Iterator[bytes]: ...
     def segments(self, text: Any, profile: int = 1) -> Iterator[Any]:
         """The text cut at each break: slices of a `str`, or `bytes`."""
-        return _calls.Found.of(self._memory, text, profile, True)
+        return _calls.Found.of(self._memory, text, profile, _calls.SEGMENTS)
 
     def break_columns(self, text: Text, profile: int = 1) -> Columns:
         """All breaks of a text, in columns."""
@@ -129,6 +129,33 @@ class Table:
             raise TypeError(f"many texts are expected, and not one {type(texts).__name__}")
         offsets, places, kinds, rules = _calls.list_columns(self._memory, texts, profile)
         return ListColumns(memoryview(offsets).cast("q"), memoryview(places).cast("q"), kinds, rules)
+
+    @overload
+    @staticmethod
+    def words(text: str) -> Iterator[str]: ...
+    @overload
+    @staticmethod
+    def words(text: Bytes) -> Iterator[bytes]: ...
+    @staticmethod
+    def words(text: Any) -> Iterator[Any]:
+        """The words of a text (UAX #29): each part between neighbouring word boundaries that has a letter or a number. Slices
+        of a `str`, or `bytes`. No table decides these."""
+        return _calls.Found.of(None, text, 1, _calls.WORDS)
+
+    @staticmethod
+    def word_ranges(text: Text) -> Iterator[tuple[int, int]]:
+        """Where each word starts and ends, not counting its end."""
+        return _calls.Found.of(None, text, 1, _calls.WORD_RANGES)
+
+    @overload
+    def passages(self, text: str, profile: int = 1) -> Iterator[Passage[str]]: ...
+    @overload
+    def passages(self, text: Bytes, profile: int = 1) -> Iterator[Passage[bytes]]: ...
+    def passages(self, text: Any, profile: int = 1) -> Iterator[Any]:
+        """The text cut after each break of the kind MUST, each passage with its segments and words."""
+        breaks = self.breaks(text, profile)
+        # These give a str or bytes as their slices.
+        return _passages(breaks, text if isinstance(text, (str, bytes, mmap.mmap)) else bytes(text))
 
     def __eq__(self, other: object) -> bool:
         if not isinstance(other, Table):
@@ -147,6 +174,18 @@ class Table:
 
     def __reduce__(self) -> tuple[Any, ...]:
         return (Table.open, (self._name,)) if self._name is not None else (Table.from_bytes, (self.to_bytes(),))
+
+
+def _passages(breaks: Iterable[Break], text: Any) -> Iterator[Passage[Any]]:
+    start = last = 0
+    segments = []
+    for found in breaks:
+        segments.append(text[last : found.at])
+        last = found.at
+        if found.kind is Kind.MUST:
+            passage = text[start:last]
+            yield Passage(start, passage, segments, list(Table.words(passage)))
+            start, segments = last, []
 
 
 def _check(memory: bytearray | mmap.mmap, what: str) -> None:

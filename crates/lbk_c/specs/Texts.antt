@@ -1,0 +1,40 @@
+-- The texts that cross to C: what causes say, the names of the files, and the version.
+use Rattle.std.specs.Prelude.{ℕ, ◌-◌, ◌==◌, List, [], ◌++◌, length, replicate, codes, if◌then◌else◌}
+use Rattle.lbk_ucd.specs.declared.faults.UcdCause.TheVariants.{FileTooLong, LineTooLong, RowSyntax, Range, UnknownValue, Overlap, TooManyRows, Memory}
+use Rattle.lbk_ucd.specs.declared.which.Which.TheVariants.{LineBreak, EastAsianWidth, Category, Emoji}
+use Rattle.lbk_database.specs.Causes.{cause_text}
+use Rattle.lbk_database.specs.Names.{file_name}
+use Rattle.lbk_c.specs.Faults.{cause_number, file_number}
+
+-- 96 bytes: those of a text, and zeros behind them
+abbrev pub padded : List ℕ → List ℕ
+padded text = text ++ replicate (96 - length text) 0
+
+-- what the cause of a number says
+abbrev pub cause_numbered : ℕ → List ℕ
+cause_numbered number =
+    if number == 0 then codes "no fault"
+    else if number == cause_number FileTooLong then cause_text FileTooLong
+    else if number == cause_number LineTooLong then cause_text LineTooLong
+    else if number == cause_number RowSyntax then cause_text RowSyntax
+    else if number == cause_number Range then cause_text Range
+    else if number == cause_number UnknownValue then cause_text UnknownValue
+    else if number == cause_number Overlap then cause_text Overlap
+    else if number == cause_number TooManyRows then cause_text TooManyRows
+    else if number == cause_number Memory then cause_text Memory
+    else if number == 9 then codes "the rules need more steps than a table has"
+    else if number == 10 then codes "the file is not the one that Unicode 15.0.0 published"
+    else []
+
+-- the name of the file of a number
+abbrev pub file_numbered : ℕ → List ℕ
+file_numbered number =
+    if number == 0 then codes "the four files"
+    else if number == file_number LineBreak then file_name LineBreak
+    else if number == file_number EastAsianWidth then file_name EastAsianWidth
+    else if number == file_number Category then file_name Category
+    else if number == file_number Emoji then file_name Emoji
+    else []
+
+abbrev pub version : List ℕ
+version = codes "0.1.0"

@@ -1,0 +1,14 @@
+-- What is wrong with a property file, in words.
+use Rattle.std.specs.Prelude.{ℕ, List, codes}
+use Rattle.lbk_ucd.specs.declared.faults.UcdCause.{UcdCause}
+use Rattle.lbk_ucd.specs.declared.faults.UcdCause.TheVariants.{FileTooLong, LineTooLong, RowSyntax, Range, UnknownValue, Overlap, TooManyRows, Memory}
+
+abbrev pub cause_text : UcdCause → List ℕ
+cause_text FileTooLong = codes "the file has more than 8388608 bytes"
+cause_text LineTooLong = codes "the line has more than 1024 bytes"
+cause_text RowSyntax = codes "the line is neither a row `code; value` nor a comment nor blank"
+cause_text Range = codes "a range whose first code is past its last, or a code past 10FFFF"
+cause_text UnknownValue = codes "no value of the property has this name; lbk knows the names up to Unicode 15.0"
+cause_text Overlap = codes "a row before this one holds a code of this row"
+cause_text TooManyRows = codes "the file has more than 65536 rows and default lines"
+cause_text Memory = codes "out of memory"

@@ -1,0 +1,4 @@
+-- What a reader has to believe.
+pub mod Names
+pub mod Digests
+pub mod Causes
