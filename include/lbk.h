@@ -344,6 +344,29 @@ size_t lbk_positions(const lbk_table *table, lbk_state *state, const char *text,
  * after the words is not specified. Takes no memory from the heap. */
 size_t lbk_words(lbk_word_state *state, const char *text, size_t size, lbk_word *block, size_t room);
 
+/* Returns the first byte at or after `at` where a part of the text may begin: one before which a line
+ * must end, or the text's size where there is none. Returns 0 for 0, and the size for an `at` that is
+ * not below it.
+ *
+ *     for (size_t from = 0, to; from < size; from = to) {
+ *         size_t least = size - from < 33554432 ? size : from + 33554432;
+ *         to = lbk_cut(&table, text, size, least);
+ *         .. text + from, to - from ..          32 MiB, and what is left of the paragraph
+ *     }
+ *
+ * Each part is a text of its own for lbk_breaks, in another thread or process, or later. The breaks of
+ * all parts are the breaks of the text: add to each `at` the bytes before the part. Only the rule of a
+ * part's last break differs: where another part follows it is 4 or 5 in the text, and 3 in the part.
+ * The table decides where lines end, so no part begins between CR and LF, within a scalar, or within
+ * ill-formed bytes that are read as one U+FFFD. The call reads the text from four bytes before `at` to
+ * the scalar after the cut. Takes no memory from the heap. */
+size_t lbk_cut(const lbk_table *table, const char *text, size_t size, size_t at);
+
+/* Returns the last such byte at or before `at`: no break after it depends on the bytes before it.
+ * Returns the size for an `at` that is not below it. The call reads the text from four bytes before
+ * the cut to the scalar at `at`. Takes no memory from the heap. */
+size_t lbk_cut_before(const lbk_table *table, const char *text, size_t size, size_t at);
+
 /* The name of a rule by its number; an empty name for a number that no rule has. */
 lbk_rule_label lbk_label(uint8_t rule);
 

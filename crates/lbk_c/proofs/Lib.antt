@@ -17,3 +17,6 @@ pub mod PositionLemmas
 pub mod BitLemmas
 pub mod BlockLemmas
 pub mod BlockOrderLemmas
+pub mod PieceStartLemmas
+pub mod JoinLemmas
+pub mod SafeLemmas

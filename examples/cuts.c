@@ -1,0 +1,134 @@
+/* Tries lbk_cut and lbk_cut_before at all places of random texts with ill-formed bytes, against what lbk_breaks says of the
+ * whole text and of its parts, by tables in which line ends are others than usual, too.
+ *
+ *     cuts ROUNDS SEED LINE_BREAK EAST_ASIAN CATEGORY EMOJI
+ *
+ * A text ends where memory ends that may be read, or begins where it begins. The last line is `N passed, M failed`.
+ */
+#define _DEFAULT_SOURCE
+#include "trying.h"
+
+/* In these LF, or what ill-formed bytes are read as, is a letter, a line end, or the first or second half of one. */
+static const char *const others[] = {
+    "000A;AL\n000D;CR\n0061..0062;AL\n",
+    "000A;CR\n000D;LF\nFFFD;BK\n",
+    "000A;LF\nFFFD;CR\n4E00;NL\n0301;CM\n",
+    "000D;CR\nFFFD;LF\n1F600;BK\n00AB;CR\n00BB;LF\n",
+};
+enum { TABLES = 1 + sizeof others / sizeof *others };
+static lbk_table tables[TABLES];
+
+/* The breaks of some bytes as a text of their own. */
+typedef struct broken {
+    size_t count;
+    lbk_break at[MOST_TEXT];
+} broken;
+
+static void break_all(const lbk_table *table, uint8_t profile, const char *text, size_t size, broken *all)
+{
+    lbk_state state = {0};
+    state.profile = profile;
+    all->count = lbk_breaks(table, &state, text, size, all->at, MOST_TEXT);
+}
+
+/* Whether a line must end before this byte, and the text goes on there. */
+static int ends_at(const broken *whole, size_t size, size_t at)
+{
+    for (size_t k = 0; k < whole->count; k++)
+        if (whole->at[k].at == at)
+            return at < size && whole->at[k].kind == LBK_MUST;
+    return 0;
+}
+
+/* Whether the breaks of both parts are those of the whole: by rule 4 or 5 at the cut, and the others as they are. */
+static int joins(const lbk_table *table, uint8_t profile, const char *text, size_t size, const broken *whole, size_t cut)
+{
+    broken first, second;
+    break_all(table, profile, text, cut, &first);
+    break_all(table, profile, text + cut, size - cut, &second);
+    if (first.count + second.count != whole->count)
+        return 0;
+    for (size_t k = 0; k < whole->count; k++) {
+        int of_first = k < first.count;
+        lbk_break part = of_first ? first.at[k] : second.at[k - first.count], all = whole->at[k];
+        size_t at = part.at + (of_first ? 0 : cut);
+        int ends = k + 1 == first.count && part.rule == LBK_RULE_3 && (all.rule == LBK_RULE_4 || all.rule == LBK_RULE_5);
+        if (at != all.at || part.kind != all.kind || (part.rule != all.rule && !ends))
+            return 0;
+    }
+    return 1;
+}
+
+static void try_text(const lbk_table *table, uint8_t profile, const char *text, size_t size)
+{
+    broken whole;
+    size_t before[MOST_TEXT + 1], behind[MOST_TEXT + 1];
+    break_all(table, profile, text, size, &whole);
+    for (size_t at = 0; at <= size; at++) {
+        int safe = at == 0 || at == size || ends_at(&whole, size, at);
+        before[at] = safe ? at : before[at - 1];
+        if (safe && at != 0 && at != size)
+            told("the breaks of two parts are those of the whole", joins(table, profile, text, size, &whole, at));
+    }
+    for (size_t at = size + 1; at-- > 0;)
+        behind[at] = before[at] == at ? at : behind[at + 1];
+    for (size_t at = 0; at <= size; at++) {
+        told("the first cut at or after a byte", lbk_cut(table, text, size, at) == behind[at]);
+        told("the last cut at or before a byte", lbk_cut_before(table, text, size, at) == before[at]);
+    }
+    for (unsigned times = 0; times < 2; times++) {
+        size_t past = times == 0 ? size + 1 + below(9) : SIZE_MAX - below(2);
+        told("past the end", lbk_cut(table, text, size, past) == size && lbk_cut_before(table, text, size, past) == size);
+    }
+}
+
+/* Cut one after another, all parts together have the bytes of the text, and none is empty. */
+static void try_parts(const lbk_table *table, const char *text, size_t size)
+{
+    size_t from = 0, to, parts = 0, step = 1 + below(20);
+    for (; from < size; from = to, parts++) {
+        to = lbk_cut(table, text, size, from + step);
+        if (to <= from || to > size)
+            break;
+    }
+    told("the parts are the text", from == size && parts <= size);
+}
+
+/* By a table of random bytes no cut is past the end, and none is where it should not be. */
+static void try_any_table(lbk_table *any, const char *text, size_t size)
+{
+    size_t at = below(size + 2), end = at < size ? at : size;
+    size_t first = lbk_cut(any, text, size, at), last = lbk_cut_before(any, text, size, at);
+    told("any table: the first cut", first >= end && first <= size);
+    told("any table: the last cut", last <= end);
+}
+
+int main(int words, char **word)
+{
+    char made[MOST_TEXT];
+    if (words != 7) {
+        fprintf(stderr, "usage: cuts ROUNDS SEED LINE_BREAK EAST_ASIAN CATEGORY EMOJI\n");
+        return 2;
+    }
+    unsigned long rounds = strtoul(word[1], NULL, 10);
+    seed = strtoul(word[2], NULL, 10) * 2 + 1;
+    read_table(&tables[0], word + 3);
+    for (size_t k = 1; k < TABLES; k++) {
+        const char *lines = others[k - 1];
+        lbk_fault fault = lbk_read(&tables[k], lines, strlen(lines), NULL, 0, NULL, 0, NULL, 0);
+        told("a table of other line ends", fault.cause == LBK_CAUSE_NONE);
+    }
+    fenced texts = fence(MOST_TEXT), any = fence(sizeof(lbk_table));
+    fill_random(any.from, sizeof(lbk_table));
+    for (unsigned long round = 0; round < rounds; round++) {
+        const lbk_table *table = &tables[round % 2 == 0 ? 0 : below(TABLES)];
+        size_t size = random_text(made);
+        char *text = place(texts, size);
+        memcpy(text, made, size);
+        try_text(table, (uint8_t)below(2), text, size);
+        try_parts(table, text, size);
+        try_any_table((lbk_table *)(void *)any.from, text, size);
+    }
+    printf("%lu passed, %lu failed\n", passed, failed);
+    return failed != 0;
+}
