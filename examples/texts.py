@@ -10,7 +10,8 @@ table = lbk.Table.load(sys.argv[1])
 
 # A str has its places in code points, and an object of bytes in bytes.
 assert list(table.segments("naïve text")) == ["naïve ", "text"]
-assert list(table.breaks("naïve text")) == [Break(6, Kind.MAY, Rule.LB18), Break(10, Kind.MUST, Rule.LB3)]
+first, last = table.breaks("naïve text")
+assert (first, last) == (Break(6, Kind.MAY, Rule.LB18), Break(10, Kind.MUST, Rule.LB3))
 assert [found.at for found in table.breaks("naïve text".encode())] == [7, 11]
 
 # All breaks at once, as numbers in memory that numpy and others take as it is.

@@ -180,7 +180,8 @@ typedef struct lbk_state {
 
 /* How far a text was taken that comes in pieces. All zeros are its start in the first profile; set profile for the second. A
  * stream is a value: it may be copied, be kept, and be gone back to. It has no pointers, and no earlier piece is needed again.
- * Callers read `at`, `ended` and `cut_size`, and write `profile` at the start; the others are numbers of the library's own. */
+ * Callers read `at`, `ended`, `cut_size`, whether `held_code` is 0 and, where it is not, `held_at`; and write `profile` at the
+ * start. The others are numbers of the library's own. */
 typedef struct lbk_stream {
     uint64_t at;        /* up to this byte of the stream, not counting it, scalars were taken */
     uint64_t held_at;   /* the one place that waits for what follows, where there is one; in the second profile alone */

@@ -1,10 +1,12 @@
 #!/usr/bin/env python3
-"""Measures the package beside the C call and PyICU's line iterator, in one run, and prints tables in Markdown:
+"""Measures the package beside the C call and PyICU's line iterator, in one run, and prints tables
+in Markdown:
 
     bench.py UNICODE_DATA LIBRARY TEXT..
 
-UNICODE_DATA is a folder of the Unicode Character Database, and LIBRARY is liblbk.so. Each TEXT is repeated or cut to 10 MB.
-PyICU is left out where it is not there. Each figure is the best of several runs, which the ways take in turn.
+UNICODE_DATA is a folder of the Unicode Character Database, and LIBRARY is liblbk.so. Each TEXT is
+repeated or cut to 10 MB. PyICU is left out where it is not there. Each figure is the best of
+several runs, which the ways take in turn.
 """
 
 import ctypes

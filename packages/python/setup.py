@@ -2,7 +2,8 @@
 
     LBK_PREFIX=PREFIX python3 -m pip wheel --no-build-isolation --no-deps .
 
-PREFIX is where scripts/install-library put include/lbk.h and lib/liblbk.a. The wheel fits CPython from 3.11 on.
+PREFIX is where scripts/install-library put include/lbk.h and lib/liblbk.a. The wheel fits CPython
+from 3.11 on.
 """
 
 import os
@@ -20,8 +21,8 @@ HEADER = (PREFIX / "include" / "lbk.h").read_text(encoding="utf-8")
 VERSION = re.search(r'^#define LBK_VERSION "([^"]+)"', HEADER, re.M)[1]
 CALLS = Path("src", "calls")
 
-# The classes of the package that are enumerations of lbk.h: a class, its base, the field that the enumeration's comment
-# names, and what its constants begin with.
+# The classes of the package that are enumerations of lbk.h: a class, its base, the field that the
+# enumeration's comment names, and what its constants begin with.
 CLASSES = (
     ("Rule", "Labelled", "rule", "LBK_RULE_"),
     ("File", "enum.IntEnum", "file", "LBK_"),
@@ -40,7 +41,8 @@ def enumeration(field):
 
 
 def numbers_module():
-    """The source of the module that has the classes. Their numbers are those of the compiled module."""
+    """The source of the module that has the classes. Their numbers are those of the compiled
+    module."""
     lines = ['"""Numbers of lbk.h. setup.py makes this module."""', "", "import enum", ""]
     lines += ["from . import _calls", "from ._labels import Labelled"]
     for name, base, field, begin in CLASSES:

@@ -109,12 +109,12 @@ up-to profile cell lefts text all steps kinds pairs out at taken index here room
     let begins : at + first ≡ here.past = (let a = left.after in omega arith) in
     let quiet : (i : ℕ) → i < n → AreSettled steps kinds pairs (byte_at text (here.past + i - 1)) (byte_at text (here.past + i)) × (stands_at pairs text (here.past + i) ≡ false) =
     λ i h.
-        let same : at + (first + i) ≡ here.past + i = omega arith in
-        let inside : first + i < taken = omega arith in
-        let below : first + i < index = omega arith in (
-          subst (λ p. AreSettled steps kinds pairs (byte_at text (p - 1)) (byte_at text p)) same (block.settled (first + i) inside),
-          ap (stands_at pairs text) (sym same) ∙ sym (left.told (first + i) inside (omega arith)) ∙ none (first + i) below,
-        ) in
+    let same : at + (first + i) ≡ here.past + i = omega arith in
+    let inside : first + i < taken = omega arith in
+    let below : first + i < index = omega arith in (
+      subst (λ p. AreSettled steps kinds pairs (byte_at text (p - 1)) (byte_at text p)) same (block.settled (first + i) inside),
+      ap (stands_at pairs text) (sym same) ∙ sym (left.told (first + i) inside (omega arith)) ∙ none (first + i) below,
+    ) in
     let f = block.few in
     subst (λ p. Reached profile cell lefts text all (record { count = here.count; row = row_before pairs text p; at = p }) (given_in out here.count)) ends
     (quiet-bytes profile cell lefts text all steps kinds pairs out here.count here.past n block.swift block.kinds_are (omega arith) quiet r)
@@ -182,6 +182,7 @@ break-taken profile cell lefts text all steps kinds pairs out after at taken ind
   where
     below : (i : ℕ) → i < 64 → i < index → is_set there.left i ≡ false
     below i h lt = (let apart : i ≢ index = omega arith in cleared.same i h apart ∙ lowest.none i lt)
+
     left-none : (i : ℕ) → i < 64 → (taken ≤ i) ⊎ (at + i < there.past) → is_set there.left i ≡ false
     left-none i h (inl le) =
         let inside = (stands-first pairs text at taken index here left few (lowest.set some)).inside in
@@ -213,7 +214,7 @@ stands-is pairs text here before i rests =
 
 pub special-is : (pairs : Neighbours) (text : List ℕ) (here : FillState) (before i : ℕ) → Rests pairs here text before
     → meets (left_before pairs.sets before (take (length text - here.at) (drop here.at text)) i)
-      (bit_and (right_in pairs.sets (get_or (take (length text - here.at) (drop here.at text)) i 0)) 3)
+    (bit_and (right_in pairs.sets (get_or (take (length text - here.at) (drop here.at text)) i 0)) 3)
     ≡ is_special pairs (byte_at text (here.at + i - 1)) (byte_at text (here.at + i))
 special-is pairs text here before i rests =
     ap (λ l. meets l (bit_and (right_in pairs.sets (get_or (take (length text - here.at) (drop here.at text)) i 0)) 3)) (left-is pairs text here before i rests)
@@ -314,11 +315,11 @@ pub stopped-there : (profile : Profile) (cell : ℕ → Cell) (lefts : List Left
 stopped-there profile cell lefts text all steps kinds pairs out at taken here there room block is_count is_row done stopped known =
     ⊎_elim
     (λ (none : here.left ≡ 0).
-        reached-there profile cell lefts text all pairs out here.count (at + taken) there is_count is_row (done none)
-        (taken-all profile cell lefts text all steps kinds pairs out at taken here room block known.0 none known.1))
+    reached-there profile cell lefts text all pairs out here.count (at + taken) there is_count is_row (done none)
+    (taken-all profile cell lefts text all steps kinds pairs out at taken here room block known.0 none known.1))
     (λ (some : 0 < here.left).
-        let apart : here.left ≢ 0 = omega arith in
-        reached-there profile cell lefts text all pairs out here.count here.past there is_count is_row (stopped apart) known.1)
+    let apart : here.left ≢ 0 = omega arith in
+    reached-there profile cell lefts text all pairs out here.count here.past there is_count is_row (stopped apart) known.1)
     (zero-or here.left)
 
 -- a break is written, if one is left
@@ -335,9 +336,9 @@ pub taken-or-kept : (profile : Profile) (cell : ℕ → Cell) (lefts : List Left
 taken-or-kept profile cell lefts text all steps kinds pairs out after at taken index written here there step room block left few lowest cleared moved counted same is_step front kept r =
     ⊎_elim
     (λ (none : here.left ≡ 0).
-        subst (λ (h : BlockState). AreLeft pairs text at taken h × Reached profile cell lefts text all (place_in pairs text h) (given_in after h.count)) (sym (same none))
-        (left, subst (λ g. Reached profile cell lefts text all (place_in pairs text here) g) (sym kept) r))
+    subst (λ (h : BlockState). AreLeft pairs text at taken h × Reached profile cell lefts text all (place_in pairs text h) (given_in after h.count)) (sym (same none))
+    (left, subst (λ g. Reached profile cell lefts text all (place_in pairs text here) g) (sym kept) r))
     (λ (some : 0 < here.left).
-        break-taken profile cell lefts text all steps kinds pairs out after at taken index here there step room block left few some lowest (cleared some) (moved some) is_step
-        (λ coded. ap (given_in after) (counted some) ∙ front coded) r)
+    break-taken profile cell lefts text all steps kinds pairs out after at taken index here there step room block left few some lowest (cleared some) (moved some) is_step
+    (λ coded. ap (given_in after) (counted some) ∙ front coded) r)
     (zero-or here.left)

@@ -67,12 +67,12 @@ pub order-next : (out after : List RawBreak) (at taken index written from : ℕ)
 order-next out after at taken index written from here there ahead few lowest moved counted same kept put o =
     ⊎_elim
     (λ (none : here.left ≡ 0).
-        subst (λ (h : BlockState). IsInOrder after h.count from h.past) (sym (same none)) (o.0, AreInOrder-front out after here.count from here.past kept o.1))
+    subst (λ (h : BlockState). IsInOrder after h.count from h.past) (sym (same none)) (o.0, AreInOrder-front out after here.count from here.past kept o.1))
     (λ (some : 0 < here.left).
-        let first = lowest-ahead at taken index here ahead few (lowest.set some) in
-        let behind = IsInOrder-wider out here.count from here.past (at + index) first.1 o in
-        let past = moved some in
-        subst (λ n. IsInOrder after n from there.past) (sym (counted some)) (omega (arith, behind.0), put from there.past (omega arith) behind))
+    let first = lowest-ahead at taken index here ahead few (lowest.set some) in
+    let behind = IsInOrder-wider out here.count from here.past (at + index) first.1 o in
+    let past = moved some in
+    subst (λ n. IsInOrder after n from there.past) (sym (counted some)) (omega (arith, behind.0), put from there.past (omega arith) behind))
     (zero-or here.left)
 
 -- a block as it begins has no break left but in its first bytes

@@ -207,7 +207,11 @@ fn stopped(pairs: &Neighbours, at: usize, taken: usize, here: BlockState, text: 
     ensures all { here.left ≡ 0 → result.at ≡ at + taken }
     ensures some { here.left ≢ 0 → result.at ≡ here.past }
 {
-    let past = if here.left == 0 { at + taken } else { here.past };
+    let past = if here.left == 0 {
+        at + taken
+    } else {
+        here.past
+    };
     FillState {
         count: here.count,
         row: pairs.rows[text[past - 1] as usize] as usize,

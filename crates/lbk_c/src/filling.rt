@@ -66,7 +66,14 @@ fn further(
         → Reached profile cell lefts text.now all result (given_in out.new result.count) }
 {
     let steps = steps_of(table, profile);
-    let there = blocks(pairs_of(table, profile), &table.kinds, steps, here, text, out);
+    let there = blocks(
+        pairs_of(table, profile),
+        &table.kinds,
+        steps,
+        here,
+        text,
+        out,
+    );
     let until = next_try(there.at, text);
     let past = quick(&table.kinds, steps, there, until, text, out);
     if past.at < until && past.count < out.len() {

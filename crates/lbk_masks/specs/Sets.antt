@@ -31,7 +31,7 @@ meets left right = not (bit_and left right == 0)
 abbrev pub class_in : List (List ℕ) → ℕ → ℕ
 class_in rows byte =
     bit_or (bit_or (bit_or (in_row (get_or rows 0 []) 0 byte) (in_row (get_or rows 1 []) 16 byte)) (bit_or (in_row (get_or rows 2 []) 32 byte) (in_row (get_or rows 3 []) 48 byte)))
-           (bit_or (bit_or (in_row (get_or rows 4 []) 64 byte) (in_row (get_or rows 5 []) 80 byte)) (bit_or (in_row (get_or rows 6 []) 96 byte) (in_row (get_or rows 7 []) 112 byte)))
+    (bit_or (bit_or (in_row (get_or rows 4 []) 64 byte) (in_row (get_or rows 5 []) 80 byte)) (bit_or (in_row (get_or rows 6 []) 96 byte) (in_row (get_or rows 7 []) 112 byte)))
 
 -- the set of a byte on the left of two neighbours, and on the right
 abbrev pub left_in : ByteSets → ℕ → ℕ

@@ -123,14 +123,16 @@ impl Neighbours {
 fn digest_rows(digest: u64, rows: &[[u8; 16]]) -> u64
     ensures { result ≡ fold (λ sum row. fold digest_with sum row) digest rows.now }
 {
-    rows.iter().fold(digest, |digest, row| digest_kinds(digest, row))
+    rows.iter()
+        .fold(digest, |digest, row| digest_kinds(digest, row))
 }
 
 /// A digest after some places more.
 fn digest_places(digest: u64, places: &[u16]) -> u64
     ensures { result ≡ fold digest_with digest places.now }
 {
-    places
-        .iter()
-        .fold(digest, |digest, place| digest_with(digest, u64::from(*place)))
+    places.iter().fold(
+        digest,
+        |digest, place| digest_with(digest, u64::from(*place)),
+    )
 }

@@ -128,15 +128,21 @@ module _ (profile : Profile) (cell : ℕ → Cell) (agree : AgreeOnLines cell) w
       let on = first (before ++ d ∷ []) e es in
       (elim (ends_passage m) as (λ b. ends_passage m ≡ b → First d (e ∷ es) (cond b ((m ∷ []) ∷ rest) (join_first m rest))) [
         | true ↦ λ must. record {
-            part = m ∷ []; others = rest; behind = []; is = refl; scalars = refl;
-            tells = inl (ends-line (word_break d) (word_break e) (must-ends before d e es must));
-          }
+          part = m ∷ [];
+          others = rest;
+          behind = [];
+          is = refl;
+          scalars = refl;
+          tells = inl (ends-line (word_break d) (word_break e) (must-ends before d e es must));
+        }
         | false ↦ λ none. record {
-            part = m ∷ on.part; others = on.others; behind = e ∷ on.behind;
-            is = ap (join_first m) on.is;
-            scalars = ap (λ l. d ∷ l) on.scalars;
-            tells = tells-on d e on.behind es on.tells;
-          }
+          part = m ∷ on.part;
+          others = on.others;
+          behind = e ∷ on.behind;
+          is = ap (join_first m) on.is;
+          scalars = ap (λ l. d ∷ l) on.scalars;
+          tells = tells-on d e on.behind es on.tells;
+        }
       ]) refl
 
   same-rule : (c d : ℕ) (b q ds : List ℕ) → Tells d q ds → is_word_break (c ∷ b) (d ∷ ds) ≡ is_word_break (c ∷ b) (d ∷ q)

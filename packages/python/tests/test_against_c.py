@@ -60,7 +60,7 @@ class AgainstC(unittest.TestCase):
 
     def test_bytes(self):
         chance = samples.chance(2)
-        for _ in range(3000):
+        for _ in range(1000):
             self.compare(samples.random_bytes(chance, 60), chance.choice((1, 2)))
         for size in (10_000, 100_000):
             for profile in (1, 2):
@@ -68,7 +68,7 @@ class AgainstC(unittest.TestCase):
 
     def test_str(self):
         chance = samples.chance(3)
-        for size, times in ((60, 3000), (20_000, 5)):
+        for size, times in ((60, 1000), (20_000, 5)):
             for _ in range(times):
                 codes = (chance.choice(CODES) for _ in range(chance.randrange(size)))
                 text, profile = "".join(chr(chance.choice(one)) for one in codes), chance.choice((1, 2))
@@ -80,7 +80,7 @@ class AgainstC(unittest.TestCase):
 
     def test_many(self):
         chance = samples.chance(4)
-        texts = [samples.random_bytes(chance, 60) for _ in range(5000)]
+        texts = [samples.random_bytes(chance, 60) for _ in range(2000)]
         for profile in (1, 2):
             offsets, *columns = self.table.break_list_columns(texts, profile)
             found = list(zip(*columns))

@@ -41,7 +41,7 @@ class Streams(unittest.TestCase):
         chance = samples.chance(5)
         for make in (samples.random_text, samples.random_bytes):
             for size, most in ((30, 6), (400, 40)):
-                for _ in range(300):
+                for _ in range(150):
                     text, profile = make(chance, size), chance.choice((1, 2))
                     wanted = list(self.table.breaks(text, profile))
                     self.assertEqual(self.found(pieces_of(chance, text, chance.randrange(most)), profile), wanted, text)

@@ -31,7 +31,7 @@ class Words(unittest.TestCase):
 
     def test_places_in_bytes_and_code_points_agree(self):
         chance = samples.chance(7)
-        for _ in range(1000):
+        for _ in range(300):
             text = samples.random_text(chance, 60).encode("utf-8", "replace").decode()
             data = text.encode()
             ranges = [(len(data[:start].decode()), len(data[:end].decode())) for start, end in Table.word_ranges(data)]
@@ -69,7 +69,7 @@ class Passages(unittest.TestCase):
     def test_passages_are_the_text(self):
         chance = samples.chance(8)
         for make in (samples.random_text, samples.random_bytes):
-            for _ in range(1000):
+            for _ in range(300):
                 text, profile = make(chance, 60), chance.choice((1, 2))
                 found = list(self.table.passages(text, profile))
                 nothing = type(text)()

@@ -1,6 +1,7 @@
 #include "arguments.h"
 
-/* Up to so many bytes the interpreter's lock is kept: to release it and to wait for it again would cost more. */
+/* Up to so many bytes the interpreter's lock is kept: to release it and to wait for it again
+ * would cost more. */
 enum { LOCKED_BYTES = 4096 };
 
 bool has_arguments(Py_ssize_t given, Py_ssize_t wanted)
@@ -11,7 +12,8 @@ bool has_arguments(Py_ssize_t given, Py_ssize_t wanted)
     return false;
 }
 
-/* Writes U+FFFD over the surrogates in the bytes of an encoded str, which has each as ED, A0 to BF, and a third byte. */
+/* Writes U+FFFD over the surrogates in the bytes of an encoded str, which has each as ED, A0 to
+ * BF, and a third byte. */
 static void replace_surrogates(char *bytes, Py_ssize_t size)
 {
     for (Py_ssize_t at = 0; at + 2 < size; at++)

@@ -16,6 +16,8 @@ static lbk_break *found_in(PyObject *self)
 
 PyObject *new_break(PyTypeObject *type, const lbk_break *one)
 {
+    if (type == NULL)
+        return PyErr_Format(PyExc_RuntimeError, "the module is being taken down");
     break_object *made = PyObject_New(break_object, type);
     if (made != NULL)
         made->found = *one;
@@ -48,16 +50,22 @@ static PyObject *get_at(PyObject *self, void *Py_UNUSED(closure))
     return PyLong_FromSize_t(found_in(self)->at);
 }
 
+/* What stands for a number; the number itself where the module is being taken down. */
+static PyObject *name_of(PyObject *names, uint8_t number)
+{
+    return names == NULL ? PyLong_FromLong(number) : Py_XNewRef(PyTuple_GetItem(names, number));
+}
+
 static PyObject *get_kind(PyObject *self, void *Py_UNUSED(closure))
 {
     const module_state *state = PyType_GetModuleState(Py_TYPE(self));
-    return Py_XNewRef(PyTuple_GetItem(state->kinds, found_in(self)->kind));
+    return name_of(state->kinds, found_in(self)->kind);
 }
 
 static PyObject *get_rule(PyObject *self, void *Py_UNUSED(closure))
 {
     const module_state *state = PyType_GetModuleState(Py_TYPE(self));
-    return Py_XNewRef(PyTuple_GetItem(state->rules, found_in(self)->rule));
+    return name_of(state->rules, found_in(self)->rule);
 }
 
 /* (at, kind, rule) */

@@ -6,7 +6,8 @@
 #include "state.h"
 #include "stream.h"
 
-/* read(table, line_break, east_asian, category, emoji): fills a writable table, and returns (file, line, cause). */
+/* read(table, line_break, east_asian, category, emoji): fills a writable table, and returns (file,
+ * line, cause). */
 static PyObject *read_files(PyObject *Py_UNUSED(module), PyObject *const *given, Py_ssize_t count)
 {
     enum { FILES = 4 };
@@ -91,8 +92,23 @@ static const struct {
 #include "constants.inc"
 };
 
+/* Whether the processor has what the library's code is made of. Sets an ImportError where it has
+ * not. */
+static bool has_processor(void)
+{
+#if defined(__x86_64__)
+    if (!__builtin_cpu_supports("sse4.2") || !__builtin_cpu_supports("popcnt")) {
+        PyErr_SetString(PyExc_ImportError, "lbk needs a processor with SSE4.2 (x86-64-v2)");
+        return false;
+    }
+#endif
+    return true;
+}
+
 static int add_all(PyObject *module)
 {
+    if (!has_processor())
+        return -1;
     module_state *state = PyModule_GetState(module);
     state->break_type = new_break_type(module);
     state->found_type = new_found_type(module);

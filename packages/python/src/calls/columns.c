@@ -4,16 +4,19 @@
 
 #include <sys/mman.h>
 
-/* How many breaks are asked for at once: FEW on the stack, or else MANY. From LARGE bytes on a column is worth large pages. */
+/* How many breaks are asked for at once: FEW on the stack, or else MANY. From LARGE bytes on a
+ * column is worth large pages. */
 enum { FEW = 128, MANY = 8192, LARGE = 1 << 21, PAGE = 1 << 12 };
 
-/* The breaks of all texts: a column of places, one of kinds and one of rules, each in a bytearray. */
+/* The breaks of all texts: a column of places, one of kinds and one of rules, each in a
+ * bytearray. */
 typedef struct {
     PyObject *places, *kinds, *rules;
     size_t count, room;
 } columns;
 
-/* Texts whose breaks are asked for, and how far that came. `offsets[k]` is how many breaks the texts before the k-th have. */
+/* Texts whose breaks are asked for, and how far that came. `offsets[k]` is how many breaks the
+ * texts before the k-th have. */
 typedef struct {
     const lbk_table *table;
     const utf8_text *texts;
@@ -25,7 +28,8 @@ typedef struct {
     columns found;
 } request;
 
-/* Gives the columns room for so many breaks. Returns false, with an exception set, where memory is refused. */
+/* Gives the columns room for so many breaks. Returns false, with an exception set, where memory
+ * is refused. */
 static bool resize(columns *found, size_t room)
 {
     found->room = room;
@@ -34,8 +38,8 @@ static bool resize(columns *found, size_t room)
         && PyByteArray_Resize(found->rules, (Py_ssize_t)room) == 0;
 }
 
-/* An array of bytes that are not set. For a large one the system is asked for large pages: to get small ones, one by one,
- * takes a fifth of the whole call. */
+/* An array of bytes that are not set. For a large one the system is asked for large pages: to
+ * get small ones, one by one, takes a fifth of the whole call. */
 static PyObject *new_column(size_t size)
 {
     PyObject *made = PyByteArray_FromStringAndSize(NULL, (Py_ssize_t)size);
@@ -75,8 +79,9 @@ static void split(const lbk_break *restrict block, size_t count, int64_t *restri
         rules[k] = block[k].rule;
 }
 
-/* Puts breaks into the columns until these are full or no text is left. Returns whether no text is left. It is called
- * without the interpreter's lock, and touches no object but the memory of the columns. */
+/* Puts breaks into the columns until these are full or no text is left. Returns whether no text
+ * is left. It is called without the interpreter's lock, and touches no object but the memory of
+ * the columns. */
 static bool fill(request *request, int64_t *places, uint8_t *kinds, uint8_t *rules)
 {
     columns *found = &request->found;
@@ -96,7 +101,8 @@ static bool fill(request *request, int64_t *places, uint8_t *kinds, uint8_t *rul
     return true;
 }
 
-/* Finds the breaks of all texts, of so many bytes. Returns false, with an exception set, where memory is refused. */
+/* Finds the breaks of all texts, of so many bytes. Returns false, with an exception set, where
+ * memory is refused. */
 static bool find(request *request, size_t bytes)
 {
     columns *found = &request->found;
@@ -164,8 +170,8 @@ PyObject *text_columns(PyObject *Py_UNUSED(module), PyObject *const *given, Py_s
     return result;
 }
 
-/* Replaces the objects of a list by those that have their texts, each a str or a bytes object. Returns false, with an
- * exception set, where one is no text. */
+/* Replaces the objects of a list by those that have their texts, each a str or a bytes object.
+ * Returns false, with an exception set, where one is no text. */
 static bool own_all(PyObject *list, utf8_text *texts)
 {
     for (Py_ssize_t k = 0; k < PyList_Size(list); k++) {
@@ -178,7 +184,8 @@ static bool own_all(PyObject *list, utf8_text *texts)
         }
         if (owner == NULL || PyList_SetItem(list, k, owner) != 0 || !hold_bytes(owner, &texts[k], &view))
             return false;
-        /* These objects never change, so their bytes stay where they are as long as the list has them. */
+        /* These objects never change, so their bytes stay where they are as long as the list has
+         * them. */
         PyBuffer_Release(&view);
     }
     return true;

@@ -7,8 +7,9 @@
 /* What comes, one at a time. The Python modules know these numbers by their names. */
 enum { BREAKS, SEGMENTS, WORDS, WORD_RANGES };
 
-/* So many are asked for at first, and each time so many times more, up to the most. So a short text costs little,
- * the first of a long one comes soon, and the interpreter's lock is seldom waited for. */
+/* So many are asked for at first, and each time so many times more, up to the most. So a short
+ * text costs little, the first of a long one comes soon, and the interpreter's lock is seldom
+ * waited for. */
 enum { FIRST_ROOM = 16, GROWTH = 16, MOST_ROOM = 16 * 16 * 16 * 16 };
 
 /* Both have 16 bytes, so that an array of these is one of either. */
@@ -62,7 +63,8 @@ static void dealloc(PyObject *self)
     Py_DECREF(type);
 }
 
-/* A larger block, up to the largest. Returns false, with an exception set, where memory is refused. */
+/* A larger block, up to the largest. Returns false, with an exception set, where memory is
+ * refused. */
 static bool grow(found *at)
 {
     if (at->block == NULL) {
@@ -81,7 +83,8 @@ static bool grow(found *at)
     return true;
 }
 
-/* Asks for the next ones, over a text that is held. Returns false, with an exception set, where the table is none. */
+/* Asks for the next ones, over a text that is held. Returns false, with an exception set, where
+ * the table is none. */
 static bool ask(found *at, const utf8_text *text)
 {
     Py_buffer table_view = {0};
@@ -170,7 +173,7 @@ static PyObject *of(PyObject *type, PyObject *const *given, Py_ssize_t count)
     const module_state *state = PyType_GetModuleState((PyTypeObject *)type);
     at->what = what;
     at->from = start;
-    at->break_type = Py_NewRef(state->break_type);
+    at->break_type = Py_XNewRef(state->break_type);
     at->table = Py_NewRef(given[0]);
     at->text = text_owner(given[1], &at->in_code_points);
     if (at->text == NULL) {

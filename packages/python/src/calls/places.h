@@ -4,19 +4,21 @@
 
 #include "arguments.h"
 
-/* How far the breaks or the words of a text were asked for. `given` is the last place that came in the unit of the caller,
- * and `counted` the same in bytes. All zeros, but for the profile, are the start of a text. */
+/* How far the breaks or the words of a text were asked for. `given` is the last place that came
+ * in the unit of the caller, and `counted` the same in bytes. All zeros, but for the profile,
+ * are the start of a text. */
 typedef struct {
     lbk_state state;
     lbk_word_state words;
     size_t counted, given;
 } cursor;
 
-/* The start of a text in a profile, 1 or 2. Returns false, with an exception set, for anything else. */
+/* The start of a text in a profile, 1 or 2. Returns false, with an exception set, for anything
+ * else. */
 bool start_of_text(PyObject *profile, cursor *start);
 
-/* How many code points begin in well-formed bytes: the bytes that are no continuation, which are 10xxxxxx in binary. So many
- * bytes may be read as are `readable`, of which `size` are counted. */
+/* How many code points begin in well-formed bytes: the bytes that are no continuation, which are
+ * 10xxxxxx in binary. So many bytes may be read as are `readable`, of which `size` are counted. */
 size_t code_points(const char *bytes, size_t size, size_t readable);
 
 /* As lbk_breaks, with each `at` in the unit of the text. */

@@ -10,8 +10,9 @@
 /* There is room for so many breaks at first. */
 enum { FIRST_ROOM = 64 };
 
-/* A stream, and the places of a caller who gives pieces of str. The library counts bytes: `given_bytes` and `given_points`
- * are how many of each all earlier pieces have, and `held_points` is the place that waits in them. */
+/* A stream, and the places of a caller who gives pieces of str. The library counts bytes:
+ * `given_bytes` and `given_points` are how many of each all earlier pieces have, and
+ * `held_points` is the place that waits in them. */
 typedef struct {
     lbk_stream stream;
     uint64_t given_bytes, given_points, held_points;
@@ -35,7 +36,8 @@ PyObject *new_stream(PyObject *Py_UNUSED(module), PyObject *profile)
     return PyByteArray_FromStringAndSize((const char *)&state, sizeof state);
 }
 
-/* Takes the whole piece. It is called without the interpreter's lock. Returns false where memory is refused. */
+/* Takes the whole piece. It is called without the interpreter's lock. Returns false where memory
+ * is refused. */
 static bool take(const lbk_table *table, lbk_stream *stream, const utf8_text *piece, bool is_last, found_breaks *found)
 {
     size_t taken = 0;

@@ -1,4 +1,4 @@
-"""Where a line of text may break, and where it must, by the Unicode Line Breaking Algorithm (UAX #14).
+"""Line breaks by UAX #14, the Unicode Line Breaking Algorithm: where a line may end, and must.
 
     >>> table = lbk.Table.load("/usr/share/unicode")
     >>> list(table.segments("naïve text"))
@@ -6,7 +6,8 @@
     >>> next(table.breaks("naïve text"))
     Break(at=6, kind=<Kind.MAY: 1>, rule=<Rule.LB18: 144>)
 
-A table is made once, of four files of the Unicode Character Database, and any number of threads may use it.
+A table is made once, of four files of the Unicode Character Database. Any number of threads may
+use it at the same time.
 """
 
 from ._calls import UNICODE_VERSION, WORDS_UNICODE_VERSION, Break

@@ -16,7 +16,8 @@ class Kind(enum.IntEnum):
 
 
 class Columns(NamedTuple):
-    """The breaks of a text, in their order: numbers of the same place in each column belong together."""
+    """The breaks of a text, in their order: numbers of the same place in each column belong
+    together."""
 
     places: memoryview
     """Numbers of 8 bytes with a sign, of the format "q": those of `Break.at`."""
@@ -27,8 +28,8 @@ class Columns(NamedTuple):
 
 
 class ListColumns(NamedTuple):
-    """The breaks of many texts, one text after the other. Those of `texts[k]` stand at `offsets[k]` to `offsets[k + 1]`,
-    as in a list array of Apache Arrow."""
+    """The breaks of many texts, one text after the other. Those of `texts[k]` stand at `offsets[k]`
+    to `offsets[k + 1]`, as in a list array of Apache Arrow."""
 
     offsets: memoryview
     """Numbers of the format "q", one more than there are texts."""

@@ -16,9 +16,10 @@ class Stream:
             for found in stream.feed(piece): ...
         for found in stream.finish(): ...
 
-    However the text is cut, the breaks are those of the whole text, each once, with its place counted from the start of the
-    stream. The pieces are all `str`, or all objects of bytes, which may end within a character. No earlier piece is kept.
-    A stream can be copied and pickled, to go back to a place. One thread feeds it at a time.
+    However the text is cut, the breaks are those of the whole text, each once, with its place
+    counted from the start of the stream. The pieces are all `str`, or all objects of bytes, which
+    may end within a character. No earlier piece is kept. A stream can be copied and pickled, to go
+    back to a place. One thread feeds it at a time.
     """
 
     __slots__ = ("_table", "_state", "_is_str", "_ended")
@@ -30,15 +31,18 @@ class Stream:
         self._ended = False
 
     def feed(self, piece: Text) -> list[Break]:
-        """Takes the next piece, which may be empty, and returns the breaks that it settles: each whose following character
-        is there. Profile 2 may need more at a quotation mark, for which one break at most waits.
+        """Takes the next piece, which may be empty, and returns the breaks that it settles: each
+        whose following character is there. Profile 2 may need more at a quotation mark, for
+        which one break at most waits.
 
-        Raises TypeError where a piece is of another kind than those before it, and ValueError after the end.
+        Raises TypeError where a piece is of another kind than those before it, and ValueError after
+        the end.
         """
         return self._take(piece, False)
 
     def finish(self, piece: "Text | None" = None) -> list[Break]:
-        """Takes the last piece, where there is one, and returns the breaks that are left. The last one is the text's end."""
+        """Takes the last piece, where there is one, and returns the breaks that are left. The last
+        one is the text's end."""
         if piece is None:
             piece = "" if self._is_str else b""
         return self._take(piece, True)

@@ -22,15 +22,18 @@ _new = tuple.__new__
 
 
 class Table:
-    """What the rules know of each code point, and their steps: some 2 MB, of which one is enough for a program.
+    """What the rules know of each code point, and their steps: some 2 MB, of which one is enough
+    for a program.
 
-    Make one by `load`, `from_files`, `read`, `from_bytes` or `open`. It never changes, so any number of threads may use it.
-    Pickled it is its bytes; one that `open` mapped is the name of its file.
+    Make one by `load`, `from_files`, `read`, `from_bytes` or `open`. It never changes, so any
+    number of threads may use it. Pickled it is its bytes; one that `open` mapped is the name of its
+    file.
 
-    Texts are `str`, with places in code points, or objects of bytes in UTF-8, with places in bytes: `bytes`, `bytearray`,
-    `memoryview`, `mmap`, and others with the buffer protocol and items of a byte. Ill-formed bytes are read as U+FFFD, as
-    `decode("utf-8", "replace")` does, and so is each surrogate in a `str`. `profile` 1 has the rules of Unicode 15.0; 2 has
-    LB15a and LB15b in the place of LB15. TypeError comes for what is no text, and ValueError for what is no profile.
+    Texts are `str`, with places in code points, or objects of bytes in UTF-8, with places in bytes:
+    `bytes`, `bytearray`, `memoryview`, `mmap`, and others with the buffer protocol and items of a
+    byte. Ill-formed bytes are read as U+FFFD, as `decode("utf-8", "replace")` does, and so is each
+    surrogate in a `str`. `profile` 1 has the rules of Unicode 15.0; 2 has LB15a and LB15b in the
+    place of LB15. TypeError comes for what is no text, and ValueError for what is no profile.
     """
 
     __slots__ = ("_memory", "_name")
@@ -48,9 +51,9 @@ class Table:
 
     @classmethod
     def load(cls, folder: _database.Folder) -> Self:
-        """The table of the Unicode Character Database in a folder: LineBreak.txt, EastAsianWidth.txt,
-        extracted/DerivedGeneralCategory.txt and emoji/emoji-data.txt, or all four beside each other, in the folder or in its
-        folder `ucd`; or in the archive UCD.zip.
+        """The table of the Unicode Character Database in a folder: LineBreak.txt,
+        EastAsianWidth.txt, extracted/DerivedGeneralCategory.txt and emoji/emoji-data.txt, or all
+        four beside each other, in the folder or in its folder `ucd`; or in the archive UCD.zip.
 
         Raises OSError where a file cannot be read, and Fault where one is refused.
         """
@@ -58,15 +61,18 @@ class Table:
 
     @classmethod
     def from_files(cls, line_break: Name, east_asian: Name, category: Name, emoji: Name) -> Self:
-        """The table of four files of one's own, given by their names. Raises OSError and Fault as `load` does."""
+        """The table of four files of one's own, given by their names. Raises OSError and Fault as
+        `load` does."""
         return cls.read(*(Path(os.fsdecode(name)).read_bytes() for name in (line_break, east_asian, category, emoji)))
 
     @classmethod
     def read(cls, line_break: Bytes, east_asian: Bytes, category: Bytes, emoji: Bytes) -> Self:
-        """The table of the contents of four files. Raises Fault at the first fault that they have, and MemoryError where
-        memory is refused."""
+        """The table of the contents of four files. Raises Fault at the first fault that they have,
+        and MemoryError where memory is refused."""
         memory = bytearray(_calls.TABLE_SIZE)
-        file, line, cause = _calls.read(memory, *map(memoryview, (line_break, east_asian, category, emoji)))
+        file, line, cause = _calls.read(
+            memory, _unchanging(line_break), _unchanging(east_asian), _unchanging(category), _unchanging(emoji)
+        )
         if cause == Cause.OUT_OF_MEMORY:
             raise MemoryError
         if cause != Cause.NONE:
@@ -75,16 +81,19 @@ class Table:
 
     @classmethod
     def from_bytes(cls, data: Bytes) -> Self:
-        """The table of the bytes that `to_bytes` returned. Raises ValueError where they are no whole table of this version."""
+        """The table of the bytes that `to_bytes` returned. Raises ValueError where they are no
+        whole table of this version."""
         memory = bytearray(memoryview(data))
         _check(memory, "the bytes")
         return cls._of(memory)
 
     @classmethod
     def open(cls, name: Name) -> Self:
-        """The table that `save` put into a file, which is mapped, so that the processes of a machine share its memory.
+        """The table that `save` put into a file, which is mapped, so that the processes of a
+        machine share its memory.
 
-        Raises OSError where the file cannot be read, and ValueError where it is no whole table of this version.
+        Raises OSError where the file cannot be read, and ValueError where it is no whole table of
+        this version.
         """
         path = os.path.abspath(os.fsdecode(name))
         with open(path, "rb") as file:
@@ -100,14 +109,17 @@ class Table:
 
     def save(self, name: Name) -> None:
         """Puts the table into a file, for `open`. A file of this name is replaced in one step."""
-        path = os.fsdecode(name)
-        beside = f"{path}.{os.getpid()}.new"
-        with open(beside, "wb") as file:
-            file.write(self._memory)
-        os.replace(beside, path)
+        path = Path(os.fsdecode(name))
+        beside = path.with_name(f"{path.name}.{os.getpid()}.new")
+        try:
+            beside.write_bytes(self._memory)
+            beside.replace(path)
+        finally:
+            beside.unlink(missing_ok=True)
 
     def breaks(self, text: Text, profile: int = 1) -> Iterator[Break]:
-        """The breaks of a text, in their order. The last one of a text that is not empty is its end."""
+        """The breaks of a text, in their order. The last one of a text that is not empty is its
+        end."""
         return _calls.Found.of(self._memory, text, profile, _calls.BREAKS)
 
     @overload
@@ -138,8 +150,8 @@ class Table:
     def words(text: Bytes) -> Iterator[bytes]: ...
     @staticmethod
     def words(text: Any) -> Iterator[Any]:
-        """The words of a text (UAX #29): each part between neighbouring word boundaries that has a letter or a number. Slices
-        of a `str`, or `bytes`. No table decides these."""
+        """The words of a text (UAX #29): each part between neighbouring word boundaries that has a
+        letter or a number. Slices of a `str`, or `bytes`. No table decides these."""
         return _calls.Found.of(None, text, 1, _calls.WORDS)
 
     @staticmethod
@@ -152,7 +164,8 @@ class Table:
     @overload
     def passages(self, text: Bytes, profile: int = 1) -> Iterator[Passage[bytes]]: ...
     def passages(self, text: Any, profile: int = 1) -> Iterator[Any]:
-        """The text cut after each break of the kind MUST, each passage with its segments and words."""
+        """The text cut after each break of the kind MUST, each passage with its segments and
+        words."""
         breaks = self.breaks(text, profile)
         # These give a str or bytes as their slices.
         return _passages(breaks, text if isinstance(text, (str, bytes, mmap.mmap)) else bytes(text))
@@ -174,6 +187,10 @@ class Table:
 
     def __reduce__(self) -> tuple[Any, ...]:
         return (Table.open, (self._name,)) if self._name is not None else (Table.from_bytes, (self.to_bytes(),))
+
+
+def _unchanging(data: Bytes) -> bytes:
+    return data if isinstance(data, bytes) else bytes(memoryview(data))
 
 
 def _passages(breaks: Iterable[Break], text: Any) -> Iterator[Passage[Any]]:

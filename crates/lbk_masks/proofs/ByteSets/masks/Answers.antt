@@ -7,32 +7,32 @@ pub returns-clause-standing : goal.returns-clause-standing
 returns-clause-standing c zero h =
     c.meeting.ensures zero h
     ∙ ap₂ meets (c.one_back-behind.ensures zero h)
-      (c.picked-right.ensures zero h ∙ ap (picked c.args.self.now.right) (c.classes-class.ensures zero h ∙ ap (class_in c.args.self.now.classes) (c.block_of.ensures.lanes zero h)))
+    (c.picked-right.ensures zero h ∙ ap (picked c.args.self.now.right) (c.classes-class.ensures zero h ∙ ap (class_in c.args.self.now.classes) (c.block_of.ensures.lanes zero h)))
 returns-clause-standing c (suc i) h =
     let before : i < 64 = omega (arith, h) in
     c.meeting.ensures (suc i) h
     ∙ ap₂ meets
-      (c.one_back-behind.ensures (suc i) h ∙ c.picked.ensures i before
-      ∙ ap (picked c.args.self.now.left) (c.classes-class.ensures i before ∙ ap (class_in c.args.self.now.classes) (c.block_of.ensures.lanes i before)))
-      (c.picked-right.ensures (suc i) h
-      ∙ ap (picked c.args.self.now.right) (c.classes-class.ensures (suc i) h ∙ ap (class_in c.args.self.now.classes) (c.block_of.ensures.lanes (suc i) h)))
+    (c.one_back-behind.ensures (suc i) h ∙ c.picked.ensures i before
+    ∙ ap (picked c.args.self.now.left) (c.classes-class.ensures i before ∙ ap (class_in c.args.self.now.classes) (c.block_of.ensures.lanes i before)))
+    (c.picked-right.ensures (suc i) h
+    ∙ ap (picked c.args.self.now.right) (c.classes-class.ensures (suc i) h ∙ ap (class_in c.args.self.now.classes) (c.block_of.ensures.lanes (suc i) h)))
 
 pub returns-clause-special : goal.returns-clause-special
 returns-clause-special c zero h =
     c.meeting-2.ensures zero h
     ∙ ap₂ meets (c.one_back-behind.ensures zero h)
-      (c.both.ensures zero h
-      ∙ ap₂ bit_and
-        (c.picked-right.ensures zero h ∙ ap (picked c.args.self.now.right) (c.classes-class.ensures zero h ∙ ap (class_in c.args.self.now.classes) (c.block_of.ensures.lanes zero h)))
-        (get_or-replicate 64 zero 3 0 h))
+    (c.both.ensures zero h
+    ∙ ap₂ bit_and
+    (c.picked-right.ensures zero h ∙ ap (picked c.args.self.now.right) (c.classes-class.ensures zero h ∙ ap (class_in c.args.self.now.classes) (c.block_of.ensures.lanes zero h)))
+    (get_or-replicate 64 zero 3 0 h))
 returns-clause-special c (suc i) h =
     let before : i < 64 = omega (arith, h) in
     c.meeting-2.ensures (suc i) h
     ∙ ap₂ meets
-      (c.one_back-behind.ensures (suc i) h ∙ c.picked.ensures i before
-      ∙ ap (picked c.args.self.now.left) (c.classes-class.ensures i before ∙ ap (class_in c.args.self.now.classes) (c.block_of.ensures.lanes i before)))
-      (c.both.ensures (suc i) h
-      ∙ ap₂ bit_and
-        (c.picked-right.ensures (suc i) h
-        ∙ ap (picked c.args.self.now.right) (c.classes-class.ensures (suc i) h ∙ ap (class_in c.args.self.now.classes) (c.block_of.ensures.lanes (suc i) h)))
-        (get_or-replicate 64 (suc i) 3 0 h))
+    (c.one_back-behind.ensures (suc i) h ∙ c.picked.ensures i before
+    ∙ ap (picked c.args.self.now.left) (c.classes-class.ensures i before ∙ ap (class_in c.args.self.now.classes) (c.block_of.ensures.lanes i before)))
+    (c.both.ensures (suc i) h
+    ∙ ap₂ bit_and
+    (c.picked-right.ensures (suc i) h
+    ∙ ap (picked c.args.self.now.right) (c.classes-class.ensures (suc i) h ∙ ap (class_in c.args.self.now.classes) (c.block_of.ensures.lanes (suc i) h)))
+    (get_or-replicate 64 (suc i) 3 0 h))
