@@ -1,7 +1,7 @@
 /* Tries lbk.hpp at its edges: what its types are, what does not compile, ranges and iterators that are copied, kept and compared,
  * and tables from bytes, from a folder and from a mapped file. It writes what did not hold.
  *
- *     edges FOLDER     an empty folder, for files of its own
+ *     edges FOLDER [DATABASE]     an empty folder, for files of its own, and one with the files that Unicode published
  *
  * The last line is `N passed, M failed`.
  */
@@ -167,7 +167,8 @@ static void try_bytes(const lbk::table &table)
     lbk::error why;
     told("a file with a fault", !lbk::table::try_read("0061;AL\nno row\n", "", "", "", why) && refused(why, reason::refused)
                                     && why.fault.file == LBK_LINE_BREAK && why.fault.line == 2
-                                    && why.fault.cause == LBK_CAUSE_ROW_SYNTAX);
+                                    && why.fault.cause == LBK_CAUSE_ROW_SYNTAX
+                                    && why.message() == std::string("LineBreak.txt:2: ") + lbk_cause_text(LBK_CAUSE_ROW_SYNTAX).text);
     std::optional<lbk::table> copy = lbk::table::try_copy(table.bytes(), why);
     told("a table from its bytes", copy && !why && places(*copy, "ab cd") == these{3, 5});
     told("bytes that are too few", !lbk::table::try_copy(table.bytes().substr(1), why) && refused(why, reason::not_a_table));
@@ -201,8 +202,8 @@ static void try_files(const lbk::table &table, const std::string &folder)
     told("a folder without one of them", !lbk::table::try_load(folder, why) && why.fault.file == LBK_CATEGORY);
     told("a file is written below", ::mkdir((folder + "/extracted").c_str(), 0777) == 0
                                         && write(folder + "/extracted/DerivedGeneralCategory.txt", CATEGORIES));
-    std::optional<lbk::table> made = lbk::table::try_load(folder, why);
-    told("a table from a folder", made && !why && made->bytes() == table.bytes());
+    told("files that Unicode did not publish", !lbk::table::try_load(folder, why) && refused(why, reason::refused)
+                                                   && why.fault.cause == LBK_CAUSE_NOT_PUBLISHED);
 
     std::optional<lbk::table> mapped = lbk::table::try_map(folder + "/table", why);
     told("a mapped table", mapped && !why && places(*mapped, "ab cd") == these{3, 5});
@@ -218,11 +219,18 @@ static void try_files(const lbk::table &table, const std::string &folder)
                                     && refused(why, reason::not_a_table));
 }
 
+static void try_database(const std::string &folder)
+{
+    lbk::error why;
+    std::optional<lbk::table> made = lbk::table::try_load(folder, why);
+    told("the files that Unicode published", made && !why && places(*made, "ab cd") == these{3, 5});
+}
+
 #if defined(__cpp_exceptions)
 static void try_exceptions(const lbk::table &table, const std::string &folder)
 {
     auto is_same = [&](const lbk::table &made) { return made.bytes() == table.bytes(); };
-    told("a table by each way", is_same(lbk::table::read(LINE_BREAKS, "", CATEGORIES, "")) && is_same(lbk::table::load(folder))
+    told("a table by each way", is_same(lbk::table::read(LINE_BREAKS, "", CATEGORIES, ""))
                                     && is_same(lbk::table::copy(table.bytes())) && is_same(lbk::table::map(folder + "/table")));
     try {
         lbk::table::load(folder + "/none");
@@ -238,8 +246,8 @@ static void try_exceptions(const lbk::table &, const std::string &) {}
 
 int main(int words, char **word)
 {
-    if (words != 2) {
-        std::fprintf(stderr, "usage: edges FOLDER\n");
+    if (words < 2 || words > 3) {
+        std::fprintf(stderr, "usage: edges FOLDER [DATABASE]\n");
         return 2;
     }
     std::optional<lbk::table> table = small_table();
@@ -252,6 +260,8 @@ int main(int words, char **word)
         try_bytes(*table);
         try_files(*table, word[1]);
         try_exceptions(*table, word[1]);
+        if (words == 3)
+            try_database(word[2]);
     }
     std::printf("%u passed, %u failed\n", passed, failed);
     return failed == 0 ? 0 : 1;

@@ -65,14 +65,12 @@ struct error {
     /// What went wrong, in English.
     std::string message() const
     {
-        static const char *const names[] = {"table", "LineBreak.txt", "EastAsianWidth.txt", "DerivedGeneralCategory.txt",
-                                            "emoji-data.txt"};
-        std::string file = names[fault.file < 5 ? fault.file : 0];
+        std::string file = fault.file == LBK_NO_FILE && why == reason::unreadable ? "table" : lbk_file_name(fault.file).text;
         switch (why) {
         case reason::none:
             return "no error";
         case reason::refused:
-            return file + ':' + std::to_string(fault.line) + ": cause " + std::to_string(fault.cause);
+            return file + ':' + std::to_string(fault.line) + ": " + lbk_cause_text(fault.cause).text;
         case reason::unreadable:
             return file + ": " + std::generic_category().message(system);
         case reason::not_a_table:
@@ -159,26 +157,16 @@ inline const lbk_table *table_in(std::string_view bytes) noexcept
 /// Each way to make one has a form that throws std::bad_alloc or table_error, and a form try_.. that gives no value and an error.
 class table {
 public:
-    /// From the bytes of the four files.
+    /// From the bytes of four files of any origin.
     static std::optional<table> try_read(std::string_view line_break, std::string_view east_asian, std::string_view category,
                                          std::string_view emoji, error &why) noexcept
     {
-        lbk_table *made = new (std::nothrow) lbk_table;
-        if (made == nullptr)
-            return none(why, error::reason::out_of_memory);
-        table held(made, freed);
-        lbk_fault fault = lbk_read(made, line_break.data(), line_break.size(), east_asian.data(), east_asian.size(),
-                                   category.data(), category.size(), emoji.data(), emoji.size());
-        if (fault.cause == LBK_CAUSE_OUT_OF_MEMORY)
-            return none(why, error::reason::out_of_memory);
-        if (fault.cause != LBK_CAUSE_NONE)
-            return none(why, error::reason::refused, 0, fault);
-        why = {};
-        return held;
+        return read_by(lbk_read, line_break, east_asian, category, emoji, why);
     }
 
     /// From a folder of the Unicode Character Database, as "/usr/share/unicode": its LineBreak.txt, EastAsianWidth.txt,
-    /// extracted/DerivedGeneralCategory.txt and emoji/emoji-data.txt; the last two may also lie in the folder itself.
+    /// extracted/DerivedGeneralCategory.txt and emoji/emoji-data.txt; the last two may also lie in the folder itself. They have
+    /// to be those that Unicode published for LBK_UNICODE_VERSION.
     static std::optional<table> try_load(const std::string &folder, error &why) noexcept
     {
         static const char *const names[] = {"LineBreak.txt", "EastAsianWidth.txt", "DerivedGeneralCategory.txt", "emoji-data.txt"};
@@ -193,7 +181,7 @@ public:
             if (status != 0)
                 return none(why, error::reason::unreadable, status, {k + 1, 0, LBK_CAUSE_NONE});
         }
-        return try_read(files[0].view(), files[1].view(), files[2].view(), files[3].view(), why);
+        return read_by(lbk_read_published, files[0].view(), files[1].view(), files[2].view(), files[3].view(), why);
     }
 
     /// From the bytes of a table, as bytes() gave them. They are copied.
@@ -275,6 +263,24 @@ private:
     std::unique_ptr<const lbk_table, release> held_;
 
     table(const lbk_table *at, release how) noexcept : held_(at, how) {}
+
+    /// The table of four files, by one of the calls that read them.
+    static std::optional<table> read_by(decltype(&lbk_read) call, std::string_view line_break, std::string_view east_asian,
+                                        std::string_view category, std::string_view emoji, error &why) noexcept
+    {
+        lbk_table *made = new (std::nothrow) lbk_table;
+        if (made == nullptr)
+            return none(why, error::reason::out_of_memory);
+        table held(made, freed);
+        lbk_fault fault = call(made, line_break.data(), line_break.size(), east_asian.data(), east_asian.size(), category.data(),
+                               category.size(), emoji.data(), emoji.size());
+        if (fault.cause == LBK_CAUSE_OUT_OF_MEMORY)
+            return none(why, error::reason::out_of_memory);
+        if (fault.cause != LBK_CAUSE_NONE)
+            return none(why, error::reason::refused, 0, fault);
+        why = {};
+        return held;
+    }
 
     static void freed(const lbk_table *at) { delete at; }
     static void unmapped(const lbk_table *at) { ::munmap(const_cast<lbk_table *>(at), sizeof(lbk_table)); }

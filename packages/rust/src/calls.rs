@@ -89,6 +89,12 @@ pub struct RuleLabel {
     pub text: [u8; 4],
 }
 
+#[repr(C)]
+pub struct Text {
+    pub text: [u8; 96],
+}
+
+const _: () = assert!(size_of::<Text>() == 96);
 const _: () = assert!(size_of::<State>() == 16);
 const _: () = assert!(size_of::<Break>() == 16);
 const _: () = assert!(size_of::<Stream>() == 32);
@@ -97,6 +103,19 @@ const _: () = assert!(size_of::<WordState>() == 8);
 const _: () = assert!(size_of::<Word>() == 16);
 const _: () = assert!(size_of::<Fault>() == 12);
 const _: () = assert!(size_of::<RuleLabel>() == 4);
+
+/// A call that reads four files.
+pub type Reading = unsafe extern "C" fn(
+    *mut Table,
+    *const u8,
+    usize,
+    *const u8,
+    usize,
+    *const u8,
+    usize,
+    *const u8,
+    usize,
+) -> Fault;
 
 extern "C" {
     pub fn lbk_read(
@@ -110,6 +129,19 @@ extern "C" {
         emoji: *const u8,
         emoji_size: usize,
     ) -> Fault;
+    pub fn lbk_read_published(
+        table: *mut Table,
+        line_break: *const u8,
+        line_break_size: usize,
+        east_asian: *const u8,
+        east_asian_size: usize,
+        category: *const u8,
+        category_size: usize,
+        emoji: *const u8,
+        emoji_size: usize,
+    ) -> Fault;
+    pub fn lbk_cause_text(cause: u32) -> Text;
+    pub fn lbk_file_name(file: u32) -> Text;
     pub fn lbk_breaks(
         table: *const Table,
         state: *mut State,

@@ -1,6 +1,6 @@
 //! Why files are refused.
 
-use core::fmt;
+use core::{fmt, str};
 
 use crate::calls;
 
@@ -67,6 +67,8 @@ pub enum Cause {
     OutOfMemory,
     /// The rules need more steps than a table has, which no files make them.
     TableTooLarge,
+    /// The file is not the one that Unicode published, of [`Table::read_published`](crate::Table::read_published) alone.
+    NotPublished,
 }
 
 impl Cause {
@@ -81,33 +83,30 @@ impl Cause {
             6 => Some(Cause::Overlap),
             7 => Some(Cause::TooManyRows),
             8 => Some(Cause::OutOfMemory),
-            _ => Some(Cause::TableTooLarge),
+            9 => Some(Cause::TableTooLarge),
+            _ => Some(Cause::NotPublished),
         }
     }
 }
 
 impl fmt::Display for Fault {
     fn fmt(&self, f: &mut fmt::Formatter<'_>) -> fmt::Result {
-        let file = match self.file {
-            None => "the four files",
-            Some(File::LineBreak) => "LineBreak.txt",
-            Some(File::EastAsian) => "EastAsianWidth.txt",
-            Some(File::Category) => "DerivedGeneralCategory.txt",
-            Some(File::Emoji) => "emoji-data.txt",
+        let file = self.file.map_or(0, |file| 1 + file as u32);
+        // SAFETY: the calls take any numbers.
+        let (file, cause) = unsafe {
+            (
+                calls::lbk_file_name(file),
+                calls::lbk_cause_text(1 + self.cause as u32),
+            )
         };
-        let cause = match self.cause {
-            Cause::FileTooLong => "the file has more than 8388608 bytes",
-            Cause::LineTooLong => "the line has more than 1024 bytes",
-            Cause::RowSyntax => "the line is no row",
-            Cause::Range => "the codes are no range",
-            Cause::UnknownValue => "the value is unknown",
-            Cause::Overlap => "a code is in an earlier row",
-            Cause::TooManyRows => "there are more than 65536 rows",
-            Cause::OutOfMemory => "out of memory",
-            Cause::TableTooLarge => "the table is too large",
-        };
-        write!(f, "{}:{}: {}", file, self.line, cause)
+        write!(f, "{}:{}: {}", shown(&file), self.line, shown(&cause))
     }
+}
+
+/// The text without the zeros at its end.
+fn shown(text: &calls::Text) -> &str {
+    let end = text.text.iter().position(|&byte| byte == 0);
+    str::from_utf8(&text.text[..end.unwrap_or(0)]).unwrap_or("")
 }
 
 #[cfg(feature = "std")]

@@ -12,7 +12,7 @@ use crate::table::{Files, Table};
 impl Table {
     /// The table of a folder of the Unicode Character Database, such as `/usr/share/unicode`: of its `LineBreak.txt`,
     /// `EastAsianWidth.txt`, `extracted/DerivedGeneralCategory.txt` and `emoji/emoji-data.txt`. The last two may also lie in
-    /// the folder itself.
+    /// the folder itself. They have to be those that Unicode published for version 15.0.
     pub fn load(folder: impl AsRef<Path>) -> Result<Box<Table>, LoadError> {
         let folder = folder.as_ref();
         let files = Files {
@@ -21,7 +21,7 @@ impl Table {
             category: &read(folder, "extracted", "DerivedGeneralCategory.txt")?,
             emoji: &read(folder, "emoji", "emoji-data.txt")?,
         };
-        Table::read(files).map_err(|fault| LoadError::Refused(folder.into(), fault))
+        Table::read_published(files).map_err(|fault| LoadError::Refused(folder.into(), fault))
     }
 }
 

@@ -28,8 +28,19 @@ pub struct Files<'a> {
 pub struct Table(pub(crate) calls::Table);
 
 impl Table {
-    /// The table of four files. Returns their first fault where they have one, or that memory was refused.
+    /// The table of four files of any origin. Returns their first fault where they have one, or that memory was refused.
     pub fn read(files: Files<'_>) -> Result<Box<Table>, Fault> {
+        Table::read_by(calls::lbk_read, files)
+    }
+
+    /// The same of the files that Unicode published for version 15.0, and of no others ([`Cause::NotPublished`]).
+    ///
+    /// [`Cause::NotPublished`]: crate::Cause::NotPublished
+    pub fn read_published(files: Files<'_>) -> Result<Box<Table>, Fault> {
+        Table::read_by(calls::lbk_read_published, files)
+    }
+
+    fn read_by(call: calls::Reading, files: Files<'_>) -> Result<Box<Table>, Fault> {
         let layout = Layout::new::<Table>();
         // SAFETY: the layout has a size, and zeros are a value of each field, which are numbers.
         let mut table = unsafe {
@@ -41,7 +52,7 @@ impl Table {
         };
         // SAFETY: the slices are as long as is said, and the table is borrowed by nobody else.
         let fault = unsafe {
-            calls::lbk_read(
+            call(
                 &mut table.0,
                 files.line_break.as_ptr(),
                 files.line_break.len(),

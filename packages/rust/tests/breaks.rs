@@ -168,14 +168,16 @@ fn the_first_fault_is_named() {
             cause: Cause::UnknownValue
         }
     );
-    assert_eq!(
-        fault.to_string(),
-        "DerivedGeneralCategory.txt:3: the value is unknown"
+    let text = fault.to_string();
+    assert!(
+        text.starts_with("DerivedGeneralCategory.txt:3: no value"),
+        "{}",
+        text
     );
 }
 
 #[test]
-fn a_folder_has_a_table() {
+fn a_folder_has_the_published_files() {
     let folder = env::temp_dir().join(format!("lbk-{}", std::process::id()));
     fs::create_dir_all(folder.join("extracted")).expect("a folder is made");
     let put = |name: &str, bytes: &[u8]| fs::write(folder.join(name), bytes).expect("a file");
@@ -188,12 +190,17 @@ fn a_folder_has_a_table() {
     );
     assert!(missing.to_string().contains("emoji-data.txt: "));
     put("emoji-data.txt", FILES.emoji);
-    let loaded = Table::load(&folder).expect("the files have no fault");
-    assert!(loaded.as_bytes() == table().as_bytes());
-    put("EastAsianWidth.txt", b"\nno row\n");
     let refused = Table::load(&folder).map(|_| ()).unwrap_err();
-    assert!(matches!(&refused, LoadError::Refused(_, fault) if fault.line == 2));
+    assert!(matches!(&refused, LoadError::Refused(_, fault) if fault.cause == Cause::NotPublished));
     fs::remove_dir_all(&folder).expect("the folder is removed");
+}
+
+#[test]
+#[ignore = "LBK_DATABASE has to name the folder of the files that Unicode published"]
+fn the_published_files_have_a_table() {
+    let table = Table::load(env::var("LBK_DATABASE").expect("LBK_DATABASE is set"));
+    let table = table.expect("the files are those that Unicode published");
+    assert_eq!(places(&table, Profile::First, b"ab cd"), [3, 5]);
 }
 
 #[test]
