@@ -1,5 +1,7 @@
 """Small files of their own for the tests, and texts."""
 
+import os
+import pathlib
 import random
 
 import lbk
@@ -7,6 +9,12 @@ import lbk
 LINE_BREAK = b"000A;LF\n000D;CR\n0020;SP\n0061..007A;AL\n00AB;QU\n00BB;QU\n00E0..00FF;AL\n0301;CM\n4E00;ID\n1F600;ID\nFFFD;ID\n"
 CATEGORY = b"00AB;Pi\n00BB;Pf\n"
 FILES = (LINE_BREAK, b"", CATEGORY, b"")
+
+
+# Where the published files of this version of Unicode are, where they are.
+PUBLISHED = pathlib.Path(os.environ.get("UNICODE_DATA", "/usr/share/unicode"))
+HAS_PUBLISHED = (PUBLISHED / "LineBreak.txt").exists()
+PLACES = ("LineBreak.txt", "EastAsianWidth.txt", "extracted/DerivedGeneralCategory.txt", "emoji/emoji-data.txt")
 
 
 def table():

@@ -19,12 +19,6 @@ class Found(ctypes.Structure):
     _fields_ = [("at", ctypes.c_size_t), ("kind", ctypes.c_uint8), ("rule", ctypes.c_uint8)]
 
 
-def published_table():
-    """The table of the published files where they are there, or else of the tests' own."""
-    folder = os.environ.get("UNICODE_DATA", "/usr/share/unicode")
-    return Table.load(folder) if os.path.exists(os.path.join(folder, "LineBreak.txt")) else samples.table()
-
-
 def in_code_points(data, breaks):
     at = before = 0
     for end, kind, rule in breaks:
@@ -37,7 +31,7 @@ def in_code_points(data, breaks):
 class AgainstC(unittest.TestCase):
     @classmethod
     def setUpClass(cls):
-        cls.table = published_table()
+        cls.table = Table.load(samples.PUBLISHED) if samples.HAS_PUBLISHED else samples.table()
         cls.memory = ctypes.create_string_buffer(cls.table.to_bytes(), len(cls.table.to_bytes()))
         cls.call = ctypes.CDLL(os.environ["LBK_LIBRARY"]).lbk_breaks
         cls.call.restype = ctypes.c_size_t

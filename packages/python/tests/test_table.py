@@ -12,7 +12,6 @@ import lbk
 import samples
 from lbk import Cause, Fault, File, Table
 
-PLACES = ("LineBreak.txt", "EastAsianWidth.txt", "extracted/DerivedGeneralCategory.txt", "emoji/emoji-data.txt")
 LONG_LINE = b"#" + 1024 * b"x"
 ROW = "{:04X};AL\n"
 
@@ -22,36 +21,55 @@ class Folders(unittest.TestCase):
         folder = tempfile.TemporaryDirectory()
         self.addCleanup(folder.cleanup)
         self.folder = pathlib.Path(folder.name)
-        self.table = samples.table()
 
-    def put(self, places, root="."):
-        for place, content in zip(places, samples.FILES):
-            file = self.folder / root / place
+    def put(self, places, contents):
+        for place, content in zip(places, contents):
+            file = self.folder / place
             file.parent.mkdir(parents=True, exist_ok=True)
             file.write_bytes(content)
 
-    def test_a_folder_as_unicode_lays_it_out(self):
-        self.put(PLACES)
-        self.assertEqual(Table.load(self.folder), self.table)
-        self.assertEqual(Table.load(str(self.folder)), self.table)
-
-    def test_all_files_in_one_folder(self):
-        self.put(place.rpartition("/")[2] for place in PLACES)
-        self.assertEqual(Table.load(self.folder), self.table)
-
-    def test_a_folder_above(self):
-        self.put(PLACES, "ucd")
-        self.assertEqual(Table.load(self.folder), self.table)
-
-    def test_an_archive(self):
-        archive = self.folder / "UCD.zip"
-        with zipfile.ZipFile(archive, "w") as made:
-            for place, content in zip(PLACES, samples.FILES):
+    @unittest.skipUnless(samples.HAS_PUBLISHED, "the published files are not there")
+    def test_the_published_files_in_each_layout(self):
+        contents = [(samples.PUBLISHED / place).read_bytes() for place in samples.PLACES]
+        table = Table.read(*contents)
+        layouts = {
+            "as Unicode lays it out": samples.PLACES,
+            "side by side": [place.rpartition("/")[2] for place in samples.PLACES],
+            "below ucd": [f"ucd/{place}" for place in samples.PLACES],
+        }
+        for name, places in layouts.items():
+            with self.subTest(name):
+                self.put([f"{name}/{place}" for place in places], contents)
+                self.assertEqual(Table.load(self.folder / name), table)
+                self.assertEqual(Table.load(str(self.folder / name)), table)
+        with zipfile.ZipFile(self.folder / "UCD.zip", "w") as made:
+            for place, content in zip(samples.PLACES, contents):
                 made.writestr(place, content)
-        self.assertEqual(Table.load(archive), self.table)
+        self.assertEqual(Table.load(self.folder / "UCD.zip"), table)
+        self.put(samples.PLACES, [content.replace(b"\n", b"\r\n") for content in contents])
+        self.assertEqual(list(Table.load(self.folder).breaks("«é» 1.5")), list(table.breaks("«é» 1.5")))
+
+    @unittest.skipUnless(samples.HAS_PUBLISHED, "the published files are not there")
+    def test_files_that_were_changed_are_refused(self):
+        contents = [(samples.PUBLISHED / place).read_bytes() for place in samples.PLACES]
+        for number, content in enumerate(contents):
+            middle = len(content) // 2
+            flipped = content[:middle] + bytes([content[middle] ^ 1]) + content[middle + 1 :]
+            for wrong in (content[:-1], content[:middle], flipped, content + b"\n", b""):
+                self.put(samples.PLACES, [*contents[:number], wrong, *contents[number + 1 :]])
+                with self.assertRaises(Fault) as caught:
+                    Table.load(self.folder)
+                fault = caught.exception
+                self.assertEqual((fault.file, fault.line, fault.cause), (number + 1, 0, Cause.NOT_PUBLISHED))
+
+    def test_files_of_another_origin_are_refused(self):
+        self.put(samples.PLACES, samples.FILES)
+        with self.assertRaises(Fault) as caught:
+            Table.load(self.folder)
+        self.assertEqual((caught.exception.file, caught.exception.cause), (File.LINE_BREAK, Cause.NOT_PUBLISHED))
 
     def test_a_missing_file_is_named(self):
-        self.put(PLACES)
+        self.put(samples.PLACES, samples.FILES)
         (self.folder / "emoji/emoji-data.txt").unlink()
         with self.assertRaises(FileNotFoundError) as caught:
             Table.load(self.folder)
@@ -62,8 +80,8 @@ class Folders(unittest.TestCase):
         names = [self.folder / str(number) for number in range(4)]
         for name, content in zip(names, samples.FILES):
             name.write_bytes(content)
-        self.assertEqual(Table.from_files(*names), self.table)
-        self.assertEqual(Table.from_files(*map(os.fsencode, names)), self.table)
+        self.assertEqual(Table.from_files(*names), samples.table())
+        self.assertEqual(Table.from_files(*map(os.fsencode, names)), samples.table())
         self.assertRaises(FileNotFoundError, Table.from_files, *names[:3], self.folder / "nowhere")
 
     def test_a_table_is_made_by_its_methods(self):
@@ -99,7 +117,13 @@ class Faults(unittest.TestCase):
     def test_the_message_has_the_file_and_the_line(self):
         with self.assertRaises(Fault) as caught:
             Table.read(b"0061;AL\nno row\n", b"", b"", b"")
-        self.assertEqual(str(caught.exception), "LINE_BREAK:2: ROW_SYNTAX")
+        self.assertRegex(str(caught.exception), r"^LineBreak\.txt:2: the line ")
+        self.assertRegex(str(Fault(File.EMOJI, 0, Cause.FILE_TOO_LONG)), r"^emoji-data\.txt: the file ")
+
+    def test_each_cause_has_a_text_of_its_own(self):
+        texts = {str(Fault(File.NO_FILE, 0, cause)) for cause in Cause}
+        self.assertEqual(len(texts), len(Cause))
+        self.assertTrue(all(text.rpartition(": ")[2] for text in texts))
 
     def test_a_fault_can_be_pickled(self):
         fault = Fault(File.LINE_BREAK, 2, Cause.ROW_SYNTAX)

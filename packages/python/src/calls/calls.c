@@ -6,8 +6,8 @@
 #include "state.h"
 #include "stream.h"
 
-/* read(table, line_break, east_asian, category, emoji): fills a writable table, and returns (file,
- * line, cause). */
+/* read(table, line_break, east_asian, category, emoji, are_published): fills a writable table,
+ * of the files that Unicode published or of any, and returns (file, line, cause). */
 static PyObject *read_files(PyObject *Py_UNUSED(module), PyObject *const *given, Py_ssize_t count)
 {
     enum { FILES = 4 };
@@ -15,7 +15,7 @@ static PyObject *read_files(PyObject *Py_UNUSED(module), PyObject *const *given,
     utf8_text files[FILES];
     lbk_fault fault;
     int held = 0;
-    if (!has_arguments(count, 1 + FILES))
+    if (!has_arguments(count, 1 + FILES + 1))
         return NULL;
     lbk_table *table = hold_table(given[0], true, &table_view);
     if (table == NULL)
@@ -23,8 +23,9 @@ static PyObject *read_files(PyObject *Py_UNUSED(module), PyObject *const *given,
     while (held < FILES && hold_bytes(given[1 + held], &files[held], &views[held]))
         held++;
     if (held == FILES) {
+        bool are_published = given[1 + FILES] == Py_True;
         PyThreadState *unlocked = PyEval_SaveThread();
-        fault = lbk_read(table, files[0].bytes, files[0].size, files[1].bytes, files[1].size, files[2].bytes,
+        fault = (are_published ? lbk_read_published : lbk_read)(table, files[0].bytes, files[0].size, files[1].bytes, files[1].size, files[2].bytes,
                          files[2].size, files[3].bytes, files[3].size);
         PyEval_RestoreThread(unlocked);
     }
@@ -57,6 +58,24 @@ static PyObject *label(PyObject *Py_UNUSED(module), PyObject *rule)
     return PyUnicode_FromString(number > UINT8_MAX ? "" : lbk_label((uint8_t)number).text);
 }
 
+/* cause_text(cause): what it says in English, or an empty str. */
+static PyObject *cause_text(PyObject *Py_UNUSED(module), PyObject *cause)
+{
+    unsigned long number = PyLong_AsUnsignedLong(cause);
+    if (PyErr_Occurred())
+        return NULL;
+    return PyUnicode_FromString(number > UINT32_MAX ? "" : lbk_cause_text((uint32_t)number).text);
+}
+
+/* file_name(file): the name of a file, or an empty str. */
+static PyObject *file_name(PyObject *Py_UNUSED(module), PyObject *file)
+{
+    unsigned long number = PyLong_AsUnsignedLong(file);
+    if (PyErr_Occurred())
+        return NULL;
+    return PyUnicode_FromString(number > UINT32_MAX ? "" : lbk_file_name((uint32_t)number).text);
+}
+
 /* name_numbers(kinds, rules): for each number of a byte what stands for it in a Break. */
 static PyObject *name_numbers(PyObject *module, PyObject *const *given, Py_ssize_t count)
 {
@@ -76,6 +95,8 @@ static PyMethodDef methods[] = {
     {"read", (PyCFunction)(void (*)(void))read_files, METH_FASTCALL, NULL},
     {"check", check, METH_O, NULL},
     {"label", label, METH_O, NULL},
+    {"cause_text", cause_text, METH_O, NULL},
+    {"file_name", file_name, METH_O, NULL},
     {"name_numbers", (PyCFunction)(void (*)(void))name_numbers, METH_FASTCALL, NULL},
     {"columns", (PyCFunction)(void (*)(void))text_columns, METH_FASTCALL, NULL},
     {"list_columns", (PyCFunction)(void (*)(void))list_columns, METH_FASTCALL, NULL},
@@ -116,7 +137,7 @@ static int add_all(PyObject *module)
         && PyModule_AddObjectRef(module, "Break", state->break_type) == 0
         && PyModule_AddObjectRef(module, "Found", state->found_type) == 0
         && PyModule_AddIntConstant(module, "TABLE_SIZE", (long)sizeof(lbk_table)) == 0
-        && PyModule_AddStringConstant(module, "VERSION", LBK_VERSION) == 0
+        && PyModule_AddStringConstant(module, "VERSION", lbk_version().text) == 0
         && PyModule_AddStringConstant(module, "UNICODE_VERSION", LBK_UNICODE_VERSION) == 0
         && PyModule_AddStringConstant(module, "WORDS_UNICODE_VERSION", LBK_WORDS_UNICODE_VERSION) == 0;
     for (size_t k = 0; added && k < sizeof constants / sizeof constants[0]; k++)

@@ -1,5 +1,6 @@
 """Why files are refused."""
 
+from . import _calls
 from ._numbers import Cause, File
 
 
@@ -17,4 +18,5 @@ class Fault(ValueError):
         self.file, self.line, self.cause = File(file), line, Cause(cause)
 
     def __str__(self) -> str:
-        return f"{self.file.name}:{self.line}: {self.cause.name}"
+        place = f"{_calls.file_name(self.file)}:{self.line}" if self.line else _calls.file_name(self.file)
+        return f"{place}: {_calls.cause_text(self.cause)}"

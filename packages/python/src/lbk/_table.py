@@ -55,24 +55,28 @@ class Table:
         EastAsianWidth.txt, extracted/DerivedGeneralCategory.txt and emoji/emoji-data.txt, or all
         four beside each other, in the folder or in its folder `ucd`; or in the archive UCD.zip.
 
-        Raises OSError where a file cannot be read, and Fault where one is refused.
+        Raises OSError where a file cannot be read, and Fault where one is not that which Unicode
+        published for the version UNICODE_VERSION.
         """
-        return cls.read(*_database.contents(folder))
+        return cls._read(_database.contents(folder), True)
 
     @classmethod
     def from_files(cls, line_break: Name, east_asian: Name, category: Name, emoji: Name) -> Self:
-        """The table of four files of one's own, given by their names. Raises OSError and Fault as
-        `load` does."""
+        """The table of four files of any origin, given by their names. Raises OSError where one
+        cannot be read, and Fault as `read` does."""
         return cls.read(*(Path(os.fsdecode(name)).read_bytes() for name in (line_break, east_asian, category, emoji)))
 
     @classmethod
     def read(cls, line_break: Bytes, east_asian: Bytes, category: Bytes, emoji: Bytes) -> Self:
         """The table of the contents of four files. Raises Fault at the first fault that they have,
         and MemoryError where memory is refused."""
+        return cls._read((line_break, east_asian, category, emoji), False)
+
+    @classmethod
+    def _read(cls, files: Iterable[Bytes], are_published: bool) -> Self:
+        line_break, east_asian, category, emoji = map(_unchanging, files)
         memory = bytearray(_calls.TABLE_SIZE)
-        file, line, cause = _calls.read(
-            memory, _unchanging(line_break), _unchanging(east_asian), _unchanging(category), _unchanging(emoji)
-        )
+        file, line, cause = _calls.read(memory, line_break, east_asian, category, emoji, are_published)
         if cause == Cause.OUT_OF_MEMORY:
             raise MemoryError
         if cause != Cause.NONE:
