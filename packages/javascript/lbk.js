@@ -1,4 +1,4 @@
-// Where a line of text may break, and where it must (UAX #14, Unicode 15.0), in browsers, Node, Deno and Bun.
+// Where a line of text may break, and where it must (UAX #14, Unicode 15.0), in browsers and Node.
 //
 //     import { Table } from "lbk";
 //     const table = await Table.fromBytes("lbk.table");
