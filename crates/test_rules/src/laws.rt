@@ -4,11 +4,8 @@ use lbk_rules::annex;
 
 fn of_rules_and_paragraphs() {
     lbk_rules::laws::paragraph();
-    lbk_rules::laws::paragraph_between();
     lbk_rules::laws::look_ahead();
-    lbk_rules::laws::look_ahead_between();
     lbk_rules::laws::look_ahead_second();
-    lbk_rules::laws::look_ahead_second_between();
     lbk_rules::laws::unanswered_position();
     lbk_rules::laws::unanswered_alone();
 }
