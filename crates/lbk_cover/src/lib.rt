@@ -1,23 +1,23 @@
-//! Sets of bytes that tell what the steps tell, found by a greedy cover.
+//! Sets of bytes by which some bytes stand out behind others, found by a greedy cover.
 //!
 //! Which bytes stand out behind which is a relation. It is covered by rectangles: all of some bytes behind all of some
 //! others. Each rectangle is one thing that the left sets of the first and the right sets of the others have in common.
-//! What is found here is compared with the steps before it is used, so nothing rests on it but speed.
+//! Nothing is claimed of what is found here. A caller compares it with what it knows of the bytes before it uses it, so that
+//! nothing rests on it but speed.
+#![tactic(auto)]
 
 ghost use Rattle.std.specs.Prelude.{◌<◌, ◌≤◌};
 
-use crate::flat_table::{CODES, FlatStep, HELD, STEPS};
-use crate::neighbours::{ASCII, Neighbours};
 use lbk_masks::ByteSets;
 
+/// How many bytes have sets of their own: those below 128.
+const ASCII: usize = 128;
+
 /// Some of the bytes below 128, a bit each.
-type Bytes = u128;
+pub type Bytes = u128;
 
 /// For each byte below 128 those that are related to it, behind it.
-type Behind = [Bytes; ASCII];
-
-/// The place of no row, since rows begin at multiples of the number of kinds.
-const NO_ROW: u16 = 1;
+pub type Behind = [Bytes; 128];
 
 /// The thing by which a byte is special behind each other.
 const STOP: u8 = 1;
@@ -40,9 +40,22 @@ struct Found {
 
 /// Which bytes are special behind which others, and which of the others stand out.
 #[derive(Clone, Copy)]
-struct Related {
-    special: Behind,
-    breaks: Behind,
+pub struct Related {
+    /// The bytes that are special.
+    pub special: Behind,
+    /// The bytes that stand out and are not special.
+    pub breaks: Behind,
+    /// A number for each byte, the same for bytes that are related alike.
+    pub kinds: [u8; 128],
+}
+
+/// Sets that may tell what stands out and what is special.
+#[derive(Clone, Copy)]
+pub struct Covering {
+    /// The sets of all bytes.
+    pub sets: ByteSets,
+    /// The bytes behind which they may tell all of it. Behind others they leave something out.
+    pub known: Bytes,
 }
 
 /// The right side of the widest rectangle with it, and how many open pairs that covers.
@@ -52,29 +65,18 @@ struct Rectangle {
     covered: u32,
 }
 
-/// Sets and rows that may be those of these steps.
-pub(crate) fn cover(steps: &[FlatStep; STEPS], kinds: &[u8; CODES]) -> Neighbours {
-    let rows = rows_behind_letters(steps, kinds);
-    let related = relations(steps, kinds, &rows);
+/// Sets that may tell what is related, as far as eight things and sixteen classes reach. Bytes that are rare in texts are
+/// special behind each other.
+pub fn cover(related: &Related) -> Covering {
     let mut found = Found {
         left: [0; ASCII],
         right: [0; ASCII],
     };
     let usual = usual_bytes();
     cover_special(&related.special, usual, &mut found);
-    let different = one_of_each_kind(kinds, usual);
+    let different = one_of_each_kind(&related.kinds, usual);
     let covered = cover_breaks(&related.breaks, usual, different, &mut found);
-    classed(&found, covered, rows)
-}
-
-/// The row after each byte below 128, where it stands behind a letter.
-fn rows_behind_letters(steps: &[FlatStep; STEPS], kinds: &[u8; CODES]) -> [u16; 256] {
-    let mut rows = [NO_ROW; 256];
-    let letter = steps[kinds[b'a' as usize] as usize].next;
-    for byte in 0..ASCII {
-        rows[byte] = steps[letter as usize + kinds[byte] as usize].next;
-    }
-    rows
+    classed(&found, covered)
 }
 
 /// The bytes that are usual in texts: all but most controls.
@@ -87,25 +89,6 @@ fn usual_bytes() -> Bytes {
         }
     }
     usual
-}
-
-/// What the steps from these rows tell.
-fn relations(steps: &[FlatStep; STEPS], kinds: &[u8; CODES], rows: &[u16; 256]) -> Related {
-    let mut related = Related {
-        special: [0; ASCII],
-        breaks: [0; ASCII],
-    };
-    for before in 0..ASCII {
-        for byte in 0..ASCII {
-            let step = steps[rows[before] as usize + kinds[byte] as usize];
-            if step.code == HELD || step.next != rows[byte] {
-                related.special[before] |= 1 << byte;
-            } else if step.code % 3 != 0 {
-                related.breaks[before] |= 1 << byte;
-            }
-        }
-    }
-    related
 }
 
 /// Takes the bytes that are special behind some others for special behind all of these.
@@ -145,7 +128,7 @@ fn cover_breaks(breaks: &Behind, usual: Bytes, different: Bytes, found: &mut Fou
 }
 
 /// One byte of each kind.
-fn one_of_each_kind(kinds: &[u8; CODES], usual: Bytes) -> Bytes {
+fn one_of_each_kind(kinds: &[u8; ASCII], usual: Bytes) -> Bytes {
     let mut different = 0;
     for byte in 0..ASCII {
         if usual >> byte & 1 == 1 && !has_like(kinds, different, byte) {
@@ -156,7 +139,7 @@ fn one_of_each_kind(kinds: &[u8; CODES], usual: Bytes) -> Bytes {
 }
 
 /// Whether one of these bytes has the kind of another.
-fn has_like(kinds: &[u8; CODES], bytes: Bytes, byte: usize) -> bool
+fn has_like(kinds: &[u8; ASCII], bytes: Bytes, byte: usize) -> bool
     requires { byte < ASCII }
 {
     for other in 0..ASCII {
@@ -246,30 +229,28 @@ fn put_right(right: Bytes, thing: u8, found: &mut Found) {
 
 /// A class for each pair of sets, as long as there are classes. The first is that of all other bytes, and of those from 128
 /// on; it is special behind each.
-fn classed(found: &Found, covered: Bytes, rows: [u16; 256]) -> Neighbours {
-    let mut known = Neighbours {
-        sets: ByteSets {
-            classes: [[0; 16]; 8],
-            left: [0; CLASSES],
-            right: [STOP; CLASSES],
-        },
-        rows,
+fn classed(found: &Found, covered: Bytes) -> Covering {
+    let mut sets = ByteSets {
+        classes: [[0; 16]; 8],
+        left: [0; CLASSES],
+        right: [STOP; CLASSES],
     };
+    let mut known = 0;
     let mut count = 1;
     for byte in 0..ASCII {
-        let class = class_of(&known.sets, count, found.left[byte], found.right[byte]);
+        let class = class_of(&sets, count, found.left[byte], found.right[byte]);
         if covered >> byte & 1 == 0 || class >= CLASSES {
-            known.rows[byte] = NO_ROW;
             continue;
         }
-        known.sets.left[class] = found.left[byte];
-        known.sets.right[class] = found.right[byte];
-        known.sets.classes[byte / 16][byte % 16] = class as u8;
+        sets.left[class] = found.left[byte];
+        sets.right[class] = found.right[byte];
+        sets.classes[byte / 16][byte % 16] = class as u8;
+        known |= 1 << byte;
         if class == count {
             count = class + 1;
         }
     }
-    known
+    Covering { sets, known }
 }
 
 /// The class with these sets among the first `count`, and else the next.
