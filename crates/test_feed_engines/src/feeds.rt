@@ -1,6 +1,6 @@
 //! The feed over reads that are cut, that fail and that end, with the pieces, counts and places that must come.
 
-use crate::calls::{same, settle, use_up};
+use crate::feed_calls::{same, settle, use_up};
 use lbk_feed::devices::{MemorySource, RepeatedSource};
 use lbk_feed::{Feed, FeedFault, Source};
 use std::alloc::{AllocError, Global};

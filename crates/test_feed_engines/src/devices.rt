@@ -1,6 +1,6 @@
 //! What no clause says of the devices: when they fail, and that they give and take what they should.
 
-use crate::calls::same;
+use crate::feed_calls::same;
 use lbk_feed::devices::{MemorySink, MemorySource, RepeatedSource};
 use lbk_feed::{Device, Failed, Sink, Source, write_all};
 use std::io;

@@ -1,6 +1,6 @@
 //! What a replay of test files writes and answers, over devices in memory.
 
-use crate::calls::{line_of, outcome_of};
+use crate::line_calls::{line_of, outcome_of};
 use lbk_feed::Source;
 use lbk_feed::devices::{MemorySink, RepeatedSource};
 use lbk_notation::{Form, Mark, Outcome, ReplayFault, Report, TestLine, replay};

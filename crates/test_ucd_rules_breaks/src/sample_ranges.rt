@@ -1,7 +1,7 @@
 //! The sample files, range by range: what the tables say of the first and the last code of each, and of the code on
 //! either side.
 
-use crate::calls::{
+use crate::property_calls::{
     LAST_CODE, category_of, east_asian_of, is_pictographic, line_break_of, same_at,
 };
 use lbk_ucd::{Category, EastAsian, LineBreak, Tables};

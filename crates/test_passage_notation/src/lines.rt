@@ -1,6 +1,6 @@
 //! Lines of the notation: what is read, refused, written and marked.
 
-use crate::calls::{line_of, marked, written_line};
+use crate::line_calls::{line_of, marked, written_line};
 use lbk_notation::{
     Form, LineFault, Mark, TestLine, laws, mark_of, push_line, push_mark, push_passage_line,
     push_scalar, read_back, read_passage_line,
