@@ -1,6 +1,8 @@
 //! What tables say of codes, and how files are refused.
 
-use crate::property_calls::{category_of, east_asian_of, is_pictographic, line_break_of, run_of, same_at};
+use crate::property_calls::{
+    category_of, east_asian_of, is_pictographic, line_break_of, run_of, same_at,
+};
 use lbk_ucd::{Category, EastAsian, Files, LineBreak, Places, Tables, UcdCause, UcdFault, Which};
 use std::alloc::{AllocError, Global};
 use std::fmt::Write;
