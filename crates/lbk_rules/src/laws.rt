@@ -21,44 +21,33 @@ ghost use Rattle.lbk_rules.specs.Units.{heads, next_unit};
 ghost use Rattle.lbk_rules.specs.Verdict.{verdict, verdict_in, verdict_between, verdict_between_in};
 
 /// The paragraph law: after a position before the end where a line must end, the text before it decides
-/// nothing any more (UAX #14, section 6.1, rules LB4 and LB5).
+/// nothing any more (UAX #14, section 6.1, rules LB4 and LB5). Between a left and a right list it says so with
+/// `left` before such a position, and `cell` and `more` between it and another.
 pub fn paragraph()
-    ensures { (profile : Profile) (cells : List Cell) (p k : ℕ) → p < length cells → p < k
+    ensures at { (profile : Profile) (cells : List Cell) (p k : ℕ) → p < length cells → p < k
         → (verdict_in profile cells p).kind ≡ Must
         → verdict_in profile cells k ≡ verdict_in profile (drop p cells) (k - p) }
-{}
-
-/// The paragraph law over a left and a right list: with `left` before such a position, and `cell` and
-/// `more` between it and another.
-pub fn paragraph_between()
-    ensures { (profile : Profile) (left : List Cell) (cell : Cell) (more right : List Cell)
+    ensures between { (profile : Profile) (left : List Cell) (cell : Cell) (more right : List Cell)
         → (verdict_between_in profile left ((cell ∷ more) ++ right)).kind ≡ Must
         → verdict_between_in profile (left ++ cell ∷ more) right
         ≡ verdict_between_in profile (cell ∷ more) right }
 {}
 
-/// The look-ahead law of the first profile: no cell after the one at `k` decides there.
+/// The look-ahead law of the first profile: no cell after the one at `k` decides there. So no cell after the first
+/// on the right decides between a left and a right list.
 pub fn look_ahead()
-    ensures { (a b : List Cell) (k : ℕ) → take (k + 1) a ≡ take (k + 1) b → verdict a k ≡ verdict b k }
-{}
-
-/// The look-ahead law of the first profile over a left and two right lists.
-pub fn look_ahead_between()
-    ensures { (left a b : List Cell) → take 1 a ≡ take 1 b → verdict_between left a ≡ verdict_between left b }
+    ensures at { (a b : List Cell) (k : ℕ) → take (k + 1) a ≡ take (k + 1) b → verdict a k ≡ verdict b k }
+    ensures between { (left a b : List Cell) → take 1 a ≡ take 1 b → verdict_between left a ≡ verdict_between left b }
 {}
 
 /// The look-ahead law of the second profile: two lists that agree up to the head of the unit after the
-/// cell at `k`, or that both end before it, have the same verdict there.
+/// cell at `k`, or that both end before it, have the same verdict there. Two right lists decide by their first cell
+/// and by the unit after it.
 pub fn look_ahead_second()
-    ensures { (a b : List Cell) (k n : ℕ) → k < n → take n a ≡ take n b
+    ensures at { (a b : List Cell) (k n : ℕ) → k < n → take n a ≡ take n b
         → IsSome (next_unit (drop k (take n a))) ⊎ ((length a ≤ n) × (length b ≤ n))
         → verdict_in Second a k ≡ verdict_in Second b k }
-{}
-
-/// The look-ahead law of the second profile over a left and two right lists: these decide by their first
-/// cell and by the unit after it.
-pub fn look_ahead_second_between()
-    ensures { (left a b : List Cell) → take 1 a ≡ take 1 b → next_unit a ≡ next_unit b
+    ensures between { (left a b : List Cell) → take 1 a ≡ take 1 b → next_unit a ≡ next_unit b
         → verdict_between_in Second left a ≡ verdict_between_in Second left b }
 {}
 

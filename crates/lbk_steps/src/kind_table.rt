@@ -5,15 +5,13 @@ ghost use Rattle.std.specs.Char.{IsScalar};
 ghost use Rattle.lbk_steps.specs.Kinds.{kind_cell};
 ghost use Rattle.lbk_rules.specs.Normal.{normal};
 
+use crate::flat_table::CODES;
 use crate::kinds::{KINDS, cell_of_kind, kind_of};
 use crate::runs::CellRuns;
 use crate::source::CellSource;
 use lbk_rules::Cell;
 use lbk_ucd::Places;
 use std::alloc::{AllocError, Global};
-
-/// How many codes there are.
-const CODES: usize = 0x11_0000;
 
 /// The kind of each code.
 #[derive(Debug, Drop)]

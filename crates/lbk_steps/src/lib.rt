@@ -6,7 +6,6 @@
 #![tactic(auto)]
 
 mod ahead_machine;
-mod covering;
 mod first_bytes;
 mod flat_table;
 mod kind_table;

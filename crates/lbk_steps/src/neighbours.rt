@@ -6,13 +6,16 @@ ghost use Rattle.lbk_masks.specs.Sets.{left_in, meets, right_in};
 ghost use Rattle.lbk_steps.specs.Neighbours.{AreTold, IsTold, digest_of_neighbours, is_special};
 ghost use Rattle.lbk_steps.specs.FlatTable.{digest_with};
 
-use crate::covering::cover;
 use crate::flat_table::{CODES, FlatStep, HELD, STEPS, digest_kinds, digest_with};
 use crate::kinds::KINDS;
+use lbk_cover::{Related, cover};
 use lbk_masks::{ByteSets, SPECIAL};
 
 /// How many bytes have sets of their own: those that are scalars.
-pub(crate) const ASCII: usize = 128;
+const ASCII: usize = 128;
+
+/// The place of no row, since rows begin at multiples of the number of kinds.
+const NO_ROW: u16 = 1;
 
 /// What is known in one profile of bytes that stand side by side.
 #[repr(C)]
@@ -40,7 +43,7 @@ impl Neighbours {
     pub(crate) fn of_steps(steps: &[FlatStep; STEPS], kinds: &[u8; CODES]) -> Neighbours
         ensures { AreTold steps.now kinds.now result }
     {
-        let found = cover(steps, kinds);
+        let found = neighbours_found(steps, kinds);
         if found.are_told(steps, kinds) {
             return found;
         }
@@ -117,6 +120,50 @@ impl Neighbours {
         let right = digest_kinds(left, &self.sets.right);
         digest_places(right, &self.rows)
     }
+}
+
+/// Sets and rows that may be those of these steps.
+fn neighbours_found(steps: &[FlatStep; STEPS], kinds: &[u8; CODES]) -> Neighbours {
+    let mut rows = rows_behind_letters(steps, kinds);
+    let covering = cover(&relations(steps, kinds, &rows));
+    for byte in 0..ASCII {
+        if covering.known >> byte & 1 == 0 {
+            rows[byte] = NO_ROW;
+        }
+    }
+    let sets = covering.sets;
+    Neighbours { sets, rows }
+}
+
+/// The row after each byte below 128, where it stands behind a letter.
+fn rows_behind_letters(steps: &[FlatStep; STEPS], kinds: &[u8; CODES]) -> [u16; 256] {
+    let mut rows = [NO_ROW; 256];
+    let letter = steps[kinds[b'a' as usize] as usize].next;
+    for byte in 0..ASCII {
+        rows[byte] = steps[letter as usize + kinds[byte] as usize].next;
+    }
+    rows
+}
+
+/// What the steps from these rows tell.
+fn relations(steps: &[FlatStep; STEPS], kinds: &[u8; CODES], rows: &[u16; 256]) -> Related {
+    let mut related = Related {
+        special: [0; ASCII],
+        breaks: [0; ASCII],
+        kinds: [0; ASCII],
+    };
+    for before in 0..ASCII {
+        related.kinds[before] = kinds[before];
+        for byte in 0..ASCII {
+            let step = steps[rows[before] as usize + kinds[byte] as usize];
+            if step.code == HELD || step.next != rows[byte] {
+                related.special[before] |= 1 << byte;
+            } else if step.code % 3 != 0 {
+                related.breaks[before] |= 1 << byte;
+            }
+        }
+    }
+    related
 }
 
 /// A digest after some rows of numbers more.

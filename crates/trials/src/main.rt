@@ -3,14 +3,35 @@
 //! `trials ROW PROFILE` runs a row of the table and writes what the call answered. Without words it runs all
 //! rows, and heads each with its name. It is run by `scripts/refuse-each-growth`, which refuses the growths of
 //! memory in turn and compares.
+//!
+//! The rows are calls that want memory or take none, each on an input of its own, and what is told of their answers.
 #![tactic(auto)]
+
+mod breaks;
+mod calls;
+mod commands;
+mod counting;
+mod devices;
+mod digest;
+mod engines;
+mod inputs;
+mod lines;
+mod on_text;
+mod passages;
+mod property_files;
+mod pushes;
+mod quiet;
+mod rows;
+mod tables;
+mod told;
+mod trial;
+mod verdicts;
 
 use anyhow::Result;
 use lbk_rules::Profile;
+use rows::{GROUPS, Row, trial_of};
 use std::env;
 use std::process::ExitCode;
-use trials_rows::digest;
-use trials_rows::rows::{GROUPS, Row, trial_of};
 
 const USAGE: u8 = 2;
 

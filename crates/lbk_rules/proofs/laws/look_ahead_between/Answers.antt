@@ -1,5 +1,0 @@
-use Rattle.lbk_rules.proofs.LookAheadLemmas.{look_ahead_between}
-use Rattle.lbk_rules.proofs.laws.look_ahead_between.Goals as goal
-
-pub returns : goal.returns
-returns c = look_ahead_between
