@@ -22,12 +22,13 @@ use Rattle.lbk_rules.specs.Marks.{marks, marks_behind}
 use Rattle.lbk_rules.specs.Verdict.{verdict_between_in}
 use Rattle.lbk_rules.proofs.EndLemmas.{must_at_length, start_of_text}
 use Rattle.lbk_words.proofs.WellFormedLemmas.{good_of, pieces-encode, scalars-good}
-use Rattle.lbk_c.specs.declared.interface.RawBreak.{RawBreak}
+use Rattle.lbk_bytes.specs.declared.raw_break.RawBreak.{RawBreak}
 use Rattle.lbk_c.specs.declared.interface.State.{State}
-use Rattle.lbk_c.specs.declared.fill_state.FillState.{FillState}
-use Rattle.lbk_c.specs.Bytes.{breaks_after, breaks_of_bytes, with_break}
-use Rattle.lbk_c.specs.Reached.{Comes, ComesBy, Goes, GoesBy, IsGoing, IsSpent, Onward, Reached, ReachedBy, from_state, onward, scalars_of}
-use Rattle.lbk_c.specs.Shown.{given_in, shown}
+use Rattle.lbk_bytes.specs.declared.fill_state.FillState.{FillState}
+use Rattle.lbk_bytes.specs.Bytes.{breaks_after, breaks_of_bytes, with_break}
+use Rattle.lbk_bytes.specs.Reached.{Onward, Reached, ReachedBy, onward, scalars_of}
+use Rattle.lbk_c.specs.Coming.{Comes, ComesBy, Goes, GoesBy, IsGoing, IsSpent, from_state}
+use Rattle.lbk_bytes.specs.Shown.{given_in, shown}
 use Rattle.lbk_c.specs.State.{profile_numbered, profile_number, start_in}
 
 -- From the start on

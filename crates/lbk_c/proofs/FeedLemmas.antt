@@ -1,5 +1,5 @@
 -- How far a call has come with a piece.
-use Rattle.std.proofs.Common.{◌≡◌, ℕ, suc, ◌+◌, ◌-◌, ◌%◌, ◌^◌, ◌<◌, ◌≤◌, Bool, true, false, cond, not, List, [], ◌∷◌, ◌++◌, length, get_or, map, drop, take, add-one, append_assoc, drop-cons, refl, sym, ap, subst, ◌∙◌, length-append, length-drop, arith}
+use Rattle.std.proofs.Common.{◌≡◌, ℕ, ◌+◌, ◌-◌, ◌%◌, ◌^◌, ◌<◌, ◌≤◌, Bool, true, false, cond, not, List, [], ◌∷◌, ◌++◌, length, get_or, map, drop, take, add-one, append_assoc, drop-cons, refl, sym, ap, subst, ◌∙◌, length-append, length-drop, arith}
 use Rattle.std.proofs.lemmas.Bool.{false≢true}
 use Rattle.std.proofs.lemmas.List.{drop-append-le, drop-drop, length-take-le, map-append, take-append-drop, take-append-le}
 use Rattle.std.proofs.Math.Seq.{take-append-add}
@@ -9,14 +9,14 @@ use Rattle.lbk_rules.specs.declared.breaks.Break.{Break}
 use Rattle.lbk_rules.specs.declared.cells.Cell.{Cell}
 use Rattle.lbk_rules.specs.declared.facts.Left.{Left}
 use Rattle.lbk_values.specs.declared.profile.Profile.{Profile}
-use Rattle.lbk_c.specs.declared.interface.RawBreak.{RawBreak}
+use Rattle.lbk_bytes.specs.declared.raw_break.RawBreak.{RawBreak}
 use Rattle.lbk_c.specs.declared.stream.Cut.{Cut}
 use Rattle.lbk_c.specs.declared.stream.Feeding.{Feeding}
 use Rattle.lbk_c.specs.declared.stream.Place.{Place}
-use Rattle.lbk_c.specs.Shown.{given_in, shown}
+use Rattle.lbk_bytes.specs.Shown.{given_in, shown}
 use Rattle.lbk_c.specs.Stands.{Feeds, Stands, front_of}
-use Rattle.lbk_c.proofs.CutLemmas.{four-more}
-use Rattle.lbk_c.proofs.PieceLemmas.{rest-of}
+use Rattle.lbk_bytes.proofs.CutLemmas.{four-more}
+use Rattle.lbk_bytes.proofs.PieceLemmas.{rest-of}
 
 -- a test turned round
 pub not-true : (test : Bool) → not test ≡ true → test ≡ false

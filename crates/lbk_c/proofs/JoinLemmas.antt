@@ -1,9 +1,8 @@
 -- The breaks of the parts of a text of any bytes, joined.
-use Rattle.std.proofs.Common.{◌≡◌, ℕ, ◌+◌, ◌-◌, ◌<◌, ◌≤◌, Bool, true, false, cond, List, [], ◌∷◌, ◌++◌, length, map, take, drop, refl, sym, ap, ap₂, ◌∙◌, append-nil, arith, length-append}
-use Rattle.std.proofs.lemmas.Bool.{false≢true}
+use Rattle.std.proofs.Common.{◌≡◌, ℕ, ◌+◌, ◌-◌, ◌<◌, ◌≤◌, true, false, cond, List, [], ◌∷◌, ◌++◌, length, map, take, drop, refl, sym, ap, ap₂, ◌∙◌, append-nil, arith, length-append}
 use Rattle.std.specs.List.{flat_map}
 use Rattle.std.proofs.lemmas.List.{drop-drop, drop_at, length-map, map-append, take_at}
-use Rattle.bstr.specs.Utf8.{Decoded, lossy_chars, or_replacement, pieces}
+use Rattle.bstr.specs.Utf8.{Decoded, or_replacement, pieces}
 use Rattle.bstr.proofs.lemmas.PieceLemmas.{pieces-nil, sizes}
 use Rattle.lbk_rules.specs.declared.breaks.Break.{Break}
 use Rattle.lbk_rules.specs.declared.cells.Cell.{Cell}
@@ -18,7 +17,7 @@ use Rattle.lbk_rules.specs.Marks.{Marked, ended, marks, marks_behind}
 use Rattle.lbk_rules.specs.Joins.{must_end_between}
 use Rattle.lbk_rules.proofs.JoinLemmas.{end_before_more-must, joined-marks, map-moved, map-moved-none, with_last-snoc}
 use Rattle.lbk_rules.proofs.MarkLemmas.{last-marks}
-use Rattle.lbk_c.specs.Bytes.{breaks_after, breaks_of_bytes, with_break}
+use Rattle.lbk_bytes.specs.Bytes.{breaks_after, breaks_of_bytes}
 use Rattle.lbk_c.specs.Cuts.{AreByteParts, EndsBefore, JoinsAt, breaks_of_parts, byte_breaks_before}
 use Rattle.lbk_c.proofs.PieceStartLemmas.{pieces-cut, sizes-append, sizes-front}
 

@@ -1,10 +1,10 @@
 -- Bytes that more bytes can make a scalar of.
-use Rattle.std.proofs.Common.{◌≡◌, ℕ, ◌==◌, ◌+◌, ◌<◌, ◌≤◌, ◌||◌, ◌&&◌, true, false, cond, nat_lt, List, [], ◌∷◌, ◌++◌, length, refl, sym, ap, ◌∙◌, ⊎_elim, arith}
+use Rattle.std.proofs.Common.{◌≡◌, ℕ, ◌==◌, ◌<◌, ◌≤◌, true, cond, List, [], ◌∷◌, length, refl, ⊎_elim, arith}
 use Rattle.std.proofs.lemmas.Bool.{and_parts, cases_lt, ltb-true}
 use Rattle.std.proofs.lemmas.Bool.Decides.{nat_tests}
-use Rattle.bstr.specs.Utf8.{code_of_2, code_of_3, code_of_4, continues, decoded, good, lead_len, second}
+use Rattle.bstr.specs.Utf8.{code_of_2, code_of_3, code_of_4, lead_len, second}
 use Rattle.bstr.proofs.lemmas.PieceLemmas.{value-6, value-9, value-12}
-use Rattle.lbk_c.specs.Streams.{IsCut, could_go_on}
+use Rattle.lbk_bytes.specs.Open.{IsCut, could_go_on}
 
 lead-two : (b : ℕ) → 1 < lead_len b → (0xC2 ≤ b) × (b ≤ 0xF4)
 lead-two b leads = (grind (arith, nat_tests), grind (arith, nat_tests))

@@ -1,12 +1,12 @@
 -- Where the pieces of a text begin.
-use Rattle.std.proofs.Common.{◌≡◌, ◌⊎◌, ℕ, ◌+◌, ◌-◌, ◌<◌, ◌≤◌, Bool, true, false, List, [], ◌∷◌, ◌++◌, length, map, take, drop, slice_index, refl, sym, ap, subst, ◌∙◌, ⊎_elim, append_assoc, arith, length-append, length-drop, length-take-le, get_or-take}
-use Rattle.std.proofs.lemmas.Bool.{cases_eq, cases_lt, false≢true}
+use Rattle.std.proofs.Common.{◌≡◌, ℕ, ◌+◌, ◌-◌, ◌<◌, ◌≤◌, true, List, [], ◌∷◌, ◌++◌, length, take, drop, slice_index, refl, sym, ap, subst, ◌∙◌, ⊎_elim, append_assoc, arith, length-drop, length-take-le, get_or-take}
+use Rattle.std.proofs.lemmas.Bool.{cases_lt, false≢true}
 use Rattle.std.proofs.lemmas.List.{drop-drop, drop-take, take-take}
 use Rattle.bstr.specs.Utf8.{Decoded, IsLastPiece, continues, decoded, decoded_by, pieces, second}
 use Rattle.bstr.proofs.lemmas.PieceLemmas.{by-shape, decoded_by-cut, pieces-nil, pieces-sizes, pieces-step, size-bounds, size-within, sizes}
 use Rattle.bstr.proofs.lemmas.SoundLemmas.{IsLastPiece-decoded}
 use Rattle.lbk_c.specs.Cuts.{IsPieceStart}
-use Rattle.lbk_c.proofs.PieceLemmas.{pieces-on}
+use Rattle.lbk_bytes.proofs.PieceLemmas.{pieces-on}
 
 -- A piece whose bytes are cut
 

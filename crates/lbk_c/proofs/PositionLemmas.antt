@@ -19,18 +19,19 @@ use Rattle.lbk_rules.specs.Marks.{Marked, marks, marks_behind}
 use Rattle.lbk_rules.specs.Verdict.{verdict_between_in}
 use Rattle.lbk_rules.proofs.EndLemmas.{must_at_length, start_of_text}
 use Rattle.lbk_steps.specs.FlatTable.{IsFlatOf, KnowsTaken}
-use Rattle.lbk_c.specs.declared.deciding.Decided.{Decided}
-use Rattle.lbk_c.specs.declared.fill_state.FillState.{FillState}
+use Rattle.lbk_bytes.specs.declared.deciding.Decided.{Decided}
+use Rattle.lbk_bytes.specs.declared.fill_state.FillState.{FillState}
 use Rattle.lbk_c.specs.declared.breaking.TheConstants.{END}
 use Rattle.lbk_c.specs.declared.interface.State.{State}
 use Rattle.lbk_c.specs.declared.positions.TheConstants.{START}
-use Rattle.lbk_c.specs.Bytes.{breaks_after, breaks_of_bytes, with_break}
-use Rattle.lbk_c.specs.Decided.{IsDecided}
+use Rattle.lbk_bytes.specs.Bytes.{breaks_after, breaks_of_bytes, with_break}
+use Rattle.lbk_bytes.specs.Decided.{IsDecided}
 use Rattle.lbk_c.specs.Positions.{breaks_among, positions_after, positions_of_bytes}
-use Rattle.lbk_c.specs.Reached.{PositionsCome, ReachedBy, onward_all, scalars_of}
+use Rattle.lbk_bytes.specs.Reached.{ReachedBy, onward_all, scalars_of}
+use Rattle.lbk_c.specs.Coming.{PositionsCome}
 use Rattle.lbk_c.specs.State.{start_in}
 use Rattle.lbk_c.proofs.ComingLemmas.{Comes-by-start}
-use Rattle.lbk_c.proofs.PieceLemmas.{piece-within, pieces-on}
+use Rattle.lbk_bytes.proofs.PieceLemmas.{piece-within, pieces-on}
 
 -- From the start on
 

@@ -11,11 +11,11 @@ use Rattle.lbk_rules.specs.declared.verdicts.Verdict.{Verdict}
 use Rattle.lbk_rules.specs.Breaks.{break_by, is_no}
 use Rattle.lbk_rules.specs.Verdict.{verdict_between_in}
 use Rattle.lbk_steps.specs.FlatTable.{KnowsTaken}
-use Rattle.lbk_c.specs.declared.fill_state.FillState.{FillState}
+use Rattle.lbk_bytes.specs.declared.fill_state.FillState.{FillState}
 use Rattle.lbk_c.specs.declared.stream.Feeding.{Feeding}
 use Rattle.lbk_c.specs.declared.stream.Place.{Place}
-use Rattle.lbk_c.specs.Bytes.{with_break}
-use Rattle.lbk_c.specs.Reached.{Reached, onward, scalars_of}
+use Rattle.lbk_bytes.specs.Bytes.{with_break}
+use Rattle.lbk_bytes.specs.Reached.{Reached, onward, scalars_of}
 use Rattle.lbk_c.specs.Stands.{Feeds, Stands, front_of, moved}
 use Rattle.lbk_c.specs.Streams.{late_break}
 use Rattle.lbk_c.proofs.FeedLemmas.{none-cut}

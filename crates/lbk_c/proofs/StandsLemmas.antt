@@ -1,10 +1,10 @@
 -- One more scalar of a stream.
-use Rattle.std.proofs.Common.{◌≡◌, ℕ, ◌==◌, ◌+◌, ◌%◌, ◌^◌, ◌<◌, ◌≤◌, ◌||◌, ◌&&◌, Bool, true, false, cond, not, Option, Some, None, List, [], ◌∷◌, ◌++◌, length, get_or, map, drop, reverse, append_assoc, refl, sym, ap, subst, ◌∙◌, arith}
+use Rattle.std.proofs.Common.{◌≡◌, ℕ, ◌==◌, ◌+◌, ◌%◌, ◌^◌, ◌<◌, ◌||◌, ◌&&◌, Bool, true, false, cond, not, Some, None, List, [], ◌∷◌, ◌++◌, length, get_or, map, drop, reverse, append_assoc, refl, sym, ap, subst, ◌∙◌, arith}
 use Rattle.std.specs.Char.{IsScalar}
 use Rattle.std.proofs.lemmas.Bool.{and_parts, false≢true}
 use Rattle.std.proofs.lemmas.Bool.Decides.{nat_tests}
-use Rattle.std.proofs.lemmas.List.{append-nil, length-append, length-drop, map-append}
-use Rattle.bstr.specs.Utf8.{Decoded, decoded, lossy_chars, or_replacement, pieces}
+use Rattle.std.proofs.lemmas.List.{length-append, length-drop, map-append}
+use Rattle.bstr.specs.Utf8.{decoded, lossy_chars, or_replacement, pieces}
 use Rattle.bstr.proofs.lemmas.PieceLemmas.{lossy_chars-step, piece-bounds, pieces-step}
 use Rattle.lbk_rules.specs.declared.breaks.Break.{Break}
 use Rattle.lbk_rules.specs.declared.cells.Cell.{Cell}
@@ -15,11 +15,11 @@ use Rattle.lbk_values.specs.declared.profile.Profile.{Profile}
 use Rattle.lbk_values.specs.declared.profile.Profile.TheVariants.{First, Second}
 use Rattle.lbk_rules.specs.declared.verdicts.Verdict.{Verdict}
 use Rattle.lbk_rules.specs.Breaks.{break_by, is_no}
-use Rattle.lbk_rules.specs.Classes.{QU, closes_before, hard, is, mark, none_of}
+use Rattle.lbk_rules.specs.Classes.{QU, closes_before, hard, is, mark}
 use Rattle.lbk_rules.specs.Codes.{IsCode, kind_numbered, verdict_coded}
 use Rattle.lbk_rules.specs.Held.{is_15b, is_held}
 use Rattle.lbk_rules.specs.Normal.{normal}
-use Rattle.lbk_rules.specs.Sides.{closing, is_final, leaves_closed}
+use Rattle.lbk_rules.specs.Sides.{leaves_closed}
 use Rattle.lbk_rules.specs.Units.{heads, unit, units_after}
 use Rattle.lbk_rules.specs.Verdict.{verdict_between_in}
 use Rattle.lbk_rules.proofs.EndLemmas.{heads-joins, joins_no_break}
@@ -31,13 +31,13 @@ use Rattle.lbk_steps.specs.FlatTable.{IsFlatBy, KnowsTaken, no_flat_step}
 use Rattle.lbk_steps.specs.Kinds.{kind_cell}
 use Rattle.lbk_steps.specs.RowMachineFits.{normals}
 use Rattle.lbk_c.specs.declared.stream.Place.{Place}
-use Rattle.lbk_c.specs.Bytes.{with_break}
-use Rattle.lbk_c.specs.Reached.{onward, steps_in}
+use Rattle.lbk_bytes.specs.Bytes.{with_break}
+use Rattle.lbk_bytes.specs.Reached.{onward, steps_in}
 use Rattle.lbk_c.specs.Stands.{Stands, Waits}
 use Rattle.lbk_c.specs.Streams.{cells_of, late_break}
-use Rattle.lbk_c.proofs.AheadLemmas.{heads-tells, joins-leaves, told_by}
-use Rattle.lbk_c.proofs.ReachedLemmas.{with_break-more}
-use Rattle.lbk_c.proofs.StepLemmas.{decides-apart, decides-closed, decides-first, decides-open, held-15b, knows-more, steps-here}
+use Rattle.lbk_bytes.proofs.AheadLemmas.{heads-tells, joins-leaves, told_by}
+use Rattle.lbk_bytes.proofs.ReachedLemmas.{with_break-more}
+use Rattle.lbk_bytes.proofs.StepLemmas.{decides-apart, decides-closed, decides-first, decides-open, held-15b, knows-more, steps-here}
 
 -- What stands before a position that waits
 

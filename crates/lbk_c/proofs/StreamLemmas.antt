@@ -1,8 +1,8 @@
 -- The breaks of a stream from its start on, and some of them given.
-use Rattle.std.proofs.Common.{◌≡◌, ℕ, zero, suc, ◌==◌, ◌||◌, ◌+◌, ◌-◌, ◌^◌, ◌<◌, ◌≤◌, min, Bool, true, false, cond, ◌⊎◌, inl, inr, ⊎_elim, Some, None, List, [], ◌∷◌, ◌++◌, length, map, drop, take, append_assoc, refl, sym, ap, subst, ◌∙◌, arith}
+use Rattle.std.proofs.Common.{◌≡◌, ℕ, zero, suc, ◌==◌, ◌||◌, ◌+◌, ◌^◌, ◌<◌, ◌≤◌, true, false, cond, ◌⊎◌, inl, inr, ⊎_elim, Some, None, List, [], ◌∷◌, ◌++◌, length, map, drop, take, refl, sym, ap, subst, ◌∙◌, arith}
 use Rattle.std.specs.List.{AllByRecursion}
 use Rattle.std.proofs.lemmas.Bool.{cases_lt}
-use Rattle.std.proofs.lemmas.List.{append-nil, length-map, length-take-le, take_at}
+use Rattle.std.proofs.lemmas.List.{append-nil, length-map, take_at}
 use Rattle.std.proofs.Math.Seq.{drop-append_seam, drop-length, take-length}
 use Rattle.bstr.specs.Utf8.{Decoded, or_replacement, pieces}
 use Rattle.bstr.proofs.lemmas.PieceLemmas.{lossy_chars-nil, pieces-nil}
@@ -10,7 +10,6 @@ use Rattle.lbk_rules.specs.declared.breaks.Break.{Break}
 use Rattle.lbk_rules.specs.declared.cells.Cell.{Cell}
 use Rattle.lbk_rules.specs.declared.facts.Left.{Left}
 use Rattle.lbk_values.specs.declared.profile.Profile.{Profile}
-use Rattle.lbk_values.specs.declared.profile.Profile.TheVariants.{First, Second}
 use Rattle.lbk_rules.specs.declared.verdicts.Verdict.{Verdict}
 use Rattle.lbk_rules.specs.Breaks.{break_by, is_no}
 use Rattle.lbk_rules.specs.Codes.{verdict_coded}
@@ -26,11 +25,12 @@ use Rattle.lbk_steps.specs.FlatTable.{IsFlatBy, IsFlatOf}
 use Rattle.lbk_c.specs.declared.stream.Feeding.{Feeding}
 use Rattle.lbk_c.specs.declared.stream.Place.{Place}
 use Rattle.lbk_c.specs.declared.stream.Stream.{Stream}
-use Rattle.lbk_c.specs.Bytes.{breaks_of_bytes, with_break}
-use Rattle.lbk_c.specs.Reached.{onward, scalars_of}
+use Rattle.lbk_bytes.specs.Bytes.{breaks_of_bytes, with_break}
+use Rattle.lbk_bytes.specs.Reached.{onward, scalars_of}
 use Rattle.lbk_c.specs.State.{profile_numbered}
 use Rattle.lbk_c.specs.Stands.{Feeds, Stands, Streams, front_of}
-use Rattle.lbk_c.specs.Streams.{AreUnsettled, cells_of, could_go_on, cut_bytes, late_break, place_of, stream_start}
+use Rattle.lbk_bytes.specs.Open.{could_go_on}
+use Rattle.lbk_c.specs.Streams.{AreUnsettled, cut_bytes, late_break, place_of, stream_start}
 use Rattle.lbk_c.proofs.ComingLemmas.{onward-start, profile-same, zero_or}
 
 -- the start of a stream

@@ -6,7 +6,7 @@ use Rattle.lbk_rules.specs.declared.breaks.Break.{Break}
 use Rattle.lbk_rules.specs.declared.cells.Cell.{Cell}
 use Rattle.lbk_values.specs.declared.profile.Profile.{Profile}
 use Rattle.lbk_rules.specs.Joins.{by_rule, end_before_more, moved, must_end_between, with_last}
-use Rattle.lbk_c.specs.Bytes.{breaks_of_bytes}
+use Rattle.lbk_bytes.specs.Bytes.{breaks_of_bytes}
 
 -- at this byte a piece begins, or the text ends: where it is cut there, the pieces of its parts are its own
 abbrev pub IsPieceStart : List ℕ → ℕ → Type 0

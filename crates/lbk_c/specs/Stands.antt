@@ -16,7 +16,7 @@ use Rattle.lbk_c.specs.declared.stream.Fed.{Fed}
 use Rattle.lbk_c.specs.declared.stream.Feeding.{Feeding}
 use Rattle.lbk_c.specs.declared.stream.Place.{Place}
 use Rattle.lbk_c.specs.declared.stream.Stream.{Stream}
-use Rattle.lbk_c.specs.Reached.{onward}
+use Rattle.lbk_bytes.specs.Reached.{onward}
 use Rattle.lbk_c.specs.State.{profile_numbered}
 use Rattle.lbk_c.specs.Streams.{AreUnsettled, cut_bytes, late_break, place_of}
 

@@ -1,7 +1,7 @@
 -- A text that comes in pieces: what a stream holds of its bytes, and which breaks these do not settle.
-use Rattle.std.specs.Prelude.{◌≡◌, ℕ, ◌+◌, ◌<◌, ◌≤◌, ◌==◌, ◌&&◌, ◌||◌, Bool, true, false, ◌⊎◌, nat_lt, List, [], ◌∷◌, ◌++◌, length, map, take, slice_index, if◌then◌else◌}
+use Rattle.std.specs.Prelude.{◌≡◌, ℕ, ◌≤◌, ◌==◌, ◌||◌, true, false, ◌⊎◌, List, [], ◌∷◌, ◌++◌, map, take, if◌then◌else◌}
 use Rattle.std.specs.List.{AllByRecursion}
-use Rattle.bstr.specs.Utf8.{continues, decoded, good, lead_len, lossy_chars, second}
+use Rattle.bstr.specs.Utf8.{lossy_chars}
 use Rattle.lbk_rules.specs.declared.breaks.Break.{Break}
 use Rattle.lbk_rules.specs.declared.cells.Cell.{Cell}
 use Rattle.lbk_values.specs.declared.profile.Profile.{Profile}
@@ -11,19 +11,9 @@ use Rattle.lbk_rules.specs.Sides.{leaves_closed}
 use Rattle.lbk_rules.specs.Units.{units_after}
 use Rattle.lbk_c.specs.declared.stream.Place.{Place}
 use Rattle.lbk_c.specs.declared.stream.Stream.{Stream}
-use Rattle.lbk_c.specs.Bytes.{with_break}
+use Rattle.lbk_bytes.specs.Bytes.{with_break}
+use Rattle.lbk_bytes.specs.Open.{could_go_on}
 use Rattle.lbk_c.specs.State.{profile_number}
-
--- more bytes could make a scalar of these, which do not end it: Table 3-7
-abbrev pub could_go_on_by : ℕ → ℕ → ℕ → ℕ → Bool
-could_go_on_by n b c d = nat_lt n (lead_len b) && (nat_lt n 2 || (second b c && (nat_lt n 3 || continues d)))
-
-abbrev pub could_go_on : List ℕ → Bool
-could_go_on bs = could_go_on_by (length bs) (slice_index bs 0) (slice_index bs 1) (slice_index bs 2)
-
--- some bytes behind these make one scalar of all
-abbrev pub IsCut : List ℕ → Type 0
-IsCut bs = (more : List ℕ) × (c : ℕ) × (0 < length more) × (decoded (bs ++ more) ≡ good c (length bs + length more))
 
 -- the bytes of a stream that came and are not taken as scalars
 abbrev pub cut_bytes : Stream → List ℕ

@@ -9,15 +9,15 @@ ghost use Rattle.lbk_values.specs.declared.profile.Profile.{Profile};
 ghost use Rattle.lbk_rules.specs.Breaks.{break_by, breaks};
 ghost use Rattle.lbk_rules.specs.Ends.{end_of_text};
 ghost use Rattle.lbk_steps.specs.FlatTable.{IsFlatBy, IsFlatOf};
-ghost use Rattle.lbk_c.specs.Bytes.{breaks_of_bytes};
-ghost use Rattle.lbk_c.specs.Order.{AreInOrder};
-ghost use Rattle.lbk_c.specs.Reached.{Comes, Goes, IsGoing, IsInOrder, IsSpent, Reached, from_state};
-ghost use Rattle.lbk_c.specs.Shown.{given_in};
+ghost use Rattle.lbk_bytes.specs.Bytes.{breaks_of_bytes};
+ghost use Rattle.lbk_bytes.specs.Order.{AreInOrder};
+ghost use Rattle.lbk_bytes.specs.Reached.{IsInOrder, Reached};
+ghost use Rattle.lbk_c.specs.Coming.{Comes, Goes, IsGoing, IsSpent, from_state};
+ghost use Rattle.lbk_bytes.specs.Shown.{given_in};
 ghost use Rattle.lbk_c.specs.State.{profile_numbered, start_in};
 
-use crate::fill_state::FillState;
-use crate::filling::{fill, put};
-use crate::interface::{RawBreak, State};
+use crate::interface::State;
+use lbk_bytes::{FillState, RawBreak, fill, put};
 use lbk_rules::Profile;
 use lbk_steps::FlatTable;
 

@@ -3,7 +3,8 @@
 ghost use Rattle.std.specs.Prelude.{◌≡◌, ◌+◌, ◌<◌, ◌≤◌, ◌++◌, [], ◌∷◌, length, drop, true};
 ghost use Rattle.bstr.specs.Utf8.{continues, lead_len, second};
 ghost use Rattle.lbk_c.specs.Stands.{front_of};
-ghost use Rattle.lbk_c.specs.Streams.{could_go_on, cut_bytes};
+ghost use Rattle.lbk_bytes.specs.Open.{could_go_on};
+ghost use Rattle.lbk_c.specs.Streams.{cut_bytes};
 
 use crate::stream::{Cut, Stream};
 

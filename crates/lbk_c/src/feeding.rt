@@ -6,16 +6,16 @@ ghost use Rattle.lbk_rules.specs.declared.breaks.Break.{Break};
 ghost use Rattle.lbk_rules.specs.declared.cells.Cell.{Cell};
 ghost use Rattle.lbk_rules.specs.declared.facts.Left.{Left};
 ghost use Rattle.lbk_steps.specs.FlatTable.{IsFlatBy};
-ghost use Rattle.lbk_c.specs.Shown.{given_in};
+ghost use Rattle.lbk_bytes.specs.Shown.{given_in};
 ghost use Rattle.lbk_c.specs.Stands.{Feeds, front_of};
-ghost use Rattle.lbk_c.specs.Streams.{could_go_on};
+ghost use Rattle.lbk_bytes.specs.Open.{could_go_on};
 
 use crate::cutting::{behind, could_go_on, front_of, kept, with_byte};
-use crate::interface::RawBreak;
 use crate::skimming::skim;
 use crate::stream::{Cut, Feeding};
 use crate::taking::take_scalar;
 use bstr::decode_lossy;
+use lbk_bytes::RawBreak;
 use lbk_rules::Profile;
 use lbk_steps::FlatTable;
 

@@ -1,17 +1,5 @@
 //! What crosses between C and the library, beside the table.
 
-/// A break of a text.
-#[repr(C)]
-#[derive(Clone, Copy)]
-pub struct RawBreak {
-    /// The byte that it stands before, counted from the text's start; the text's length at its end.
-    pub at: usize,
-    /// Whether the line may or must end there: 1 for May, 2 for Must.
-    pub kind: u8,
-    /// The number of the rule that decided there: 8 times the rule's own, and the place of its letter.
-    pub rule: u8,
-}
-
 /// How far a text was taken. One of zeros stands at the start of a text, in the first profile.
 #[repr(C)]
 #[derive(Clone, Copy)]

@@ -1,7 +1,7 @@
 //! The label of a rule.
 
 ghost use Rattle.std.specs.Prelude.{◌≡◌, ◌≤◌, length};
-ghost use Rattle.lbk_c.specs.Shown.{filled, label_numbered};
+ghost use Rattle.lbk_c.specs.Labels.{filled, label_numbered};
 
 use crate::interface::RuleLabel;
 use lbk_rules::Rule;

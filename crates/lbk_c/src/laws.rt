@@ -9,10 +9,10 @@ ghost use Rattle.lbk_rules.specs.declared.cells.Cell.{Cell};
 ghost use Rattle.lbk_values.specs.declared.profile.Profile.{Profile};
 ghost use Rattle.lbk_steps.specs.declared.flat_table.FlatTable.{FlatTable};
 ghost use Rattle.lbk_c.specs.declared.interface.State.{State};
-ghost use Rattle.lbk_c.specs.Bytes.{breaks_of_bytes};
+ghost use Rattle.lbk_bytes.specs.Bytes.{breaks_of_bytes};
 ghost use Rattle.lbk_c.specs.Cuts.{AreByteParts, EndsBefore, JoinsAt, breaks_of_parts};
-ghost use Rattle.lbk_c.specs.Reached.{Comes};
-ghost use Rattle.lbk_c.specs.Streams.{IsCut, could_go_on};
+ghost use Rattle.lbk_c.specs.Coming.{Comes};
+ghost use Rattle.lbk_bytes.specs.Open.{IsCut, could_go_on};
 
 /// What comes from a state on hangs on the state and on the bytes of the text from its place on. Whatever stands before the
 /// place, as many bytes as there were: the same breaks come.

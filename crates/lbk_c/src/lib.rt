@@ -5,25 +5,17 @@
 //! `include/lbk.h` declares the calls.
 #![tactic(auto)]
 
-mod ahead;
-mod blocks;
 mod breaking;
 mod checking;
 mod cutting;
-mod deciding;
-mod decoding;
 mod faults;
 mod feeding;
-mod fill_state;
-mod filling;
 mod interface;
 mod labels;
 mod laws;
 mod positions;
 mod safe_cuts;
-mod shown;
 mod skimming;
-mod steps;
 mod stream;
 mod streaming;
 mod table_reading;
@@ -33,9 +25,10 @@ mod words;
 
 pub use breaking::lbk_breaks;
 pub use checking::lbk_check;
-pub use interface::{Fault, RawBreak, RuleLabel, State, Text};
+pub use interface::{Fault, RuleLabel, State, Text};
 pub use labels::lbk_label;
 pub use laws::{bytes_that_could_go_on, joined_parts, only_bytes_from_a_state_on};
+pub use lbk_bytes::RawBreak;
 pub use positions::lbk_positions;
 pub use safe_cuts::{lbk_cut, lbk_cut_before};
 pub use stream::{Fed, Stream};

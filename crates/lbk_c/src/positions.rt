@@ -8,18 +8,17 @@ ghost use Rattle.lbk_values.specs.declared.profile.Profile.{Profile};
 ghost use Rattle.lbk_rules.specs.Breaks.{break_by};
 ghost use Rattle.lbk_rules.specs.Codes.{IsCode, verdict_coded};
 ghost use Rattle.lbk_steps.specs.FlatTable.{IsFlatBy, IsFlatOf};
-ghost use Rattle.lbk_c.specs.Bytes.{breaks_of_bytes};
-ghost use Rattle.lbk_c.specs.Order.{ArePositionsInOrder, IsPosition};
+ghost use Rattle.lbk_bytes.specs.Bytes.{breaks_of_bytes};
+ghost use Rattle.lbk_bytes.specs.Order.{ArePositionsInOrder, IsPosition};
 ghost use Rattle.lbk_c.specs.Positions.{breaks_among, positions_of_bytes};
-ghost use Rattle.lbk_c.specs.Reached.{GoesBy, IsGoing, IsInOrderBy, PositionsCome, ReachedBy, from_state, onward_all};
-ghost use Rattle.lbk_c.specs.Shown.{given_in};
+ghost use Rattle.lbk_bytes.specs.Reached.{IsInOrderBy, ReachedBy, onward_all};
+ghost use Rattle.lbk_c.specs.Coming.{GoesBy, IsGoing, PositionsCome, from_state};
+ghost use Rattle.lbk_bytes.specs.Shown.{given_in};
 ghost use Rattle.lbk_c.specs.State.{start_in};
 
 use crate::breaking::{END, going_profile};
-use crate::deciding::decide_one;
-use crate::fill_state::FillState;
-use crate::interface::{RawBreak, State};
-use crate::shown::shown_of;
+use crate::interface::State;
+use lbk_bytes::{FillState, RawBreak, decide_one, shown_of};
 use lbk_rules::Profile;
 use lbk_steps::FlatTable;
 

@@ -6,14 +6,11 @@ ghost use Rattle.lbk_rules.specs.declared.cells.Cell.{Cell};
 ghost use Rattle.lbk_rules.specs.declared.facts.Left.{Left};
 ghost use Rattle.lbk_steps.specs.FlatTable.{IsFlatBy};
 ghost use Rattle.lbk_c.specs.declared.stream.Place.{Place};
-ghost use Rattle.lbk_c.specs.Shown.{given_in};
+ghost use Rattle.lbk_bytes.specs.Shown.{given_in};
 ghost use Rattle.lbk_c.specs.Stands.{Feeds, Stands, moved};
 
-use crate::fill_state::FillState;
-use crate::filling::quick;
-use crate::interface::RawBreak;
-use crate::steps::steps_of;
 use crate::stream::{Feeding, Place};
+use lbk_bytes::{FillState, RawBreak, quick, steps_of};
 use lbk_rules::Profile;
 use lbk_steps::FlatTable;
 

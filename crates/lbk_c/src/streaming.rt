@@ -8,8 +8,8 @@ ghost use Rattle.lbk_values.specs.declared.profile.Profile.{Profile};
 ghost use Rattle.lbk_rules.specs.Breaks.{break_by};
 ghost use Rattle.lbk_rules.specs.Ends.{end_of_text};
 ghost use Rattle.lbk_steps.specs.FlatTable.{IsFlatBy, IsFlatOf};
-ghost use Rattle.lbk_c.specs.Bytes.{breaks_of_bytes};
-ghost use Rattle.lbk_c.specs.Shown.{given_in};
+ghost use Rattle.lbk_bytes.specs.Bytes.{breaks_of_bytes};
+ghost use Rattle.lbk_bytes.specs.Shown.{given_in};
 ghost use Rattle.lbk_c.specs.State.{profile_numbered};
 ghost use Rattle.lbk_c.specs.Stands.{Feeds, Gives, Streams, front_of};
 ghost use Rattle.lbk_c.specs.Streams.{AreUnsettled, cut_bytes, place_of, stream_start};
@@ -17,9 +17,8 @@ ghost use Rattle.lbk_c.specs.Streams.{AreUnsettled, cut_bytes, place_of, stream_
 use crate::breaking::{END, profile_numbered};
 use crate::cutting::cut_of;
 use crate::feeding::{take_cut, take_piece};
-use crate::filling::put;
-use crate::interface::RawBreak;
 use crate::stream::{Fed, Feeding, Place, Stream};
+use lbk_bytes::{RawBreak, put};
 use lbk_rules::Profile;
 use lbk_steps::FlatTable;
 

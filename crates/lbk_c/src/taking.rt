@@ -10,13 +10,11 @@ ghost use Rattle.lbk_values.specs.declared.profile.Profile.TheVariants.{Second};
 ghost use Rattle.lbk_rules.specs.Classes.{mark};
 ghost use Rattle.lbk_rules.specs.Normal.{normal};
 ghost use Rattle.lbk_steps.specs.FlatTable.{AreFlatKinds, IsFlatBy};
-ghost use Rattle.lbk_c.specs.Shown.{given_in};
+ghost use Rattle.lbk_bytes.specs.Shown.{given_in};
 ghost use Rattle.lbk_c.specs.Stands.{Stands};
 
-use crate::filling::put;
-use crate::interface::RawBreak;
-use crate::steps::{step_at, steps_of};
 use crate::stream::Place;
+use lbk_bytes::{RawBreak, put, step_at, steps_of};
 use lbk_rules::Profile;
 use lbk_steps::{FlatTable, HELD};
 

@@ -1,9 +1,9 @@
 use Rattle.std.proofs.Common.{length, refl, ap, subst, ◌∙◌, inl, arith}
 use Rattle.lbk_c.specs.declared.interface.State.{State}
-use Rattle.lbk_c.specs.Reached.{IsInOrder, onward}
-use Rattle.lbk_c.specs.Shown.{given_in}
+use Rattle.lbk_bytes.specs.Reached.{IsInOrder, onward}
+use Rattle.lbk_bytes.specs.Shown.{given_in}
 use Rattle.lbk_c.proofs.ComingLemmas.{Goes-ended, Goes-full}
-use Rattle.lbk_c.proofs.OrderLemmas.{AreInOrder-none, AreInOrder-wider}
+use Rattle.lbk_bytes.proofs.OrderLemmas.{AreInOrder-none, AreInOrder-wider}
 use Rattle.lbk_c.proofs.breaking.go_on.Goals as goal
 
 pub returns-then-here-out-clause-goes : goal.returns-then-here-out-clause-goes

@@ -1,8 +1,8 @@
 use Rattle.std.proofs.Common.{length, ap, arith, refl}
-use Rattle.lbk_c.specs.Reached.{onward}
-use Rattle.lbk_c.specs.Shown.{given_in}
+use Rattle.lbk_bytes.specs.Reached.{onward}
+use Rattle.lbk_bytes.specs.Shown.{given_in}
 use Rattle.lbk_c.proofs.ComingLemmas.{Comes-goes, Comes-next, Comes-start, breaks-utf8, spent-none}
-use Rattle.lbk_c.proofs.OrderLemmas.{AreInOrder-none}
+use Rattle.lbk_bytes.proofs.OrderLemmas.{AreInOrder-none}
 use Rattle.lbk_c.proofs.breaking.lbk_breaks.Goals as goal
 
 pub returns-in_default-clause-start : goal.returns-in_default-clause-start

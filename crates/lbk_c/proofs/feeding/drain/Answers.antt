@@ -1,6 +1,6 @@
 use Rattle.std.proofs.Common.{◌++◌, drop, arith}
 use Rattle.lbk_c.specs.Stands.{front_of}
-use Rattle.lbk_c.proofs.CutLemmas.{closed-more}
+use Rattle.lbk_bytes.proofs.CutLemmas.{closed-more}
 use Rattle.lbk_c.proofs.feeding.drain.Goals as goal
 
 pub loop-here-preserved : goal.loop-here-preserved

@@ -3,7 +3,7 @@ use Rattle.lbk_rules.specs.declared.breaks.Break.{Break}
 use Rattle.lbk_rules.specs.declared.cells.Cell.{Cell}
 use Rattle.lbk_rules.specs.declared.facts.Left.{Left}
 use Rattle.lbk_steps.specs.FlatTable.{IsFlatBy}
-use Rattle.lbk_c.specs.Shown.{given_in}
+use Rattle.lbk_bytes.specs.Shown.{given_in}
 use Rattle.lbk_c.specs.Stands.{Feeds}
 use Rattle.lbk_c.proofs.feeding.drain.Given as goal
 

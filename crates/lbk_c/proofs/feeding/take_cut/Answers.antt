@@ -1,7 +1,7 @@
-use Rattle.std.proofs.Common.{◌≡◌, ℕ, ◌+◌, ◌<◌, ◌≤◌, ◌++◌, length, drop, sym, ap, ◌∙◌, length-append, arith}
+use Rattle.std.proofs.Common.{◌++◌, length, drop, sym, ap, ◌∙◌, length-append, arith}
 use Rattle.bstr.specs.Utf8.{decoded, or_replacement}
 use Rattle.bstr.proofs.lemmas.PieceLemmas.{piece-bounds}
-use Rattle.lbk_c.specs.Shown.{given_in}
+use Rattle.lbk_bytes.specs.Shown.{given_in}
 use Rattle.lbk_c.specs.Stands.{front_of}
 use Rattle.lbk_c.proofs.FeedLemmas.{Feeds-cut, Feeds-stay}
 use Rattle.lbk_c.proofs.feeding.take_cut.Goals as goal

@@ -1,5 +1,5 @@
 use Rattle.std.proofs.Common.{refl}
-use Rattle.lbk_c.specs.Shown.{given_in}
+use Rattle.lbk_bytes.specs.Shown.{given_in}
 use Rattle.lbk_c.proofs.FeedLemmas.{Feeds-byte}
 use Rattle.lbk_c.proofs.feeding.take_more.Goals as goal
 

@@ -3,9 +3,9 @@ use Rattle.lbk_rules.specs.declared.breaks.Break.{Break}
 use Rattle.lbk_rules.specs.declared.cells.Cell.{Cell}
 use Rattle.lbk_rules.specs.declared.facts.Left.{Left}
 use Rattle.lbk_steps.specs.FlatTable.{IsFlatBy}
-use Rattle.lbk_c.specs.Shown.{given_in}
+use Rattle.lbk_bytes.specs.Shown.{given_in}
 use Rattle.lbk_c.specs.Stands.{Feeds, front_of}
-use Rattle.lbk_c.specs.Streams.{could_go_on}
+use Rattle.lbk_bytes.specs.Open.{could_go_on}
 use Rattle.lbk_c.proofs.feeding.take_piece.Given as goal
 
 abbrev pub invariant-loop-here : goal.invariant-loop-here

@@ -1,8 +1,8 @@
-use Rattle.std.proofs.Common.{◌≡◌, ◌+◌, ◌-◌, ◌<◌, ◌≤◌, ◌++◌, [], cond, drop, length, take, sym, ap, subst, ◌∙◌, length-drop, length-take-le, arith}
-use Rattle.lbk_c.specs.Shown.{given_in}
-use Rattle.lbk_c.specs.Stands.{Stands, front_of}
+use Rattle.std.proofs.Common.{◌≡◌, ◌-◌, ◌++◌, [], drop, length, take, sym, ap, subst, ◌∙◌, length-drop, length-take-le, arith}
+use Rattle.lbk_bytes.specs.Shown.{given_in}
+use Rattle.lbk_c.specs.Stands.{Stands}
 use Rattle.lbk_c.proofs.FeedLemmas.{Feeds-kept, Feeds-run, is-read, none-cut, not-false, not-true}
-use Rattle.lbk_c.proofs.PieceLemmas.{rest-of}
+use Rattle.lbk_bytes.proofs.PieceLemmas.{rest-of}
 use Rattle.lbk_c.proofs.feeding.take_run.Goals as goal
 
 pub overflow_add-taken : goal.overflow_add-taken

@@ -1,5 +1,5 @@
 use Rattle.std.proofs.Common.{sym, ap, ◌∙◌}
-use Rattle.lbk_c.specs.Shown.{filled, label_in}
+use Rattle.lbk_c.specs.Labels.{filled, label_in}
 use Rattle.lbk_c.proofs.labels.lbk_label.Goals as goal
 
 pub returns-in-Some : goal.returns-in-Some

@@ -1,4 +1,4 @@
-use Rattle.lbk_c.proofs.CutLemmas.{closed-more}
+use Rattle.lbk_bytes.proofs.CutLemmas.{closed-more}
 use Rattle.lbk_c.proofs.OpenLemmas.{goes-whole}
 use Rattle.lbk_c.proofs.laws.bytes_that_could_go_on.Goals as goal
 

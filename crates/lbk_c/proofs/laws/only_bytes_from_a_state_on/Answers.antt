@@ -1,6 +1,6 @@
-use Rattle.std.proofs.Common.{sym, ap, ◌∙◌, ◌++◌}
+use Rattle.std.proofs.Common.{sym, ap, ◌∙◌}
 use Rattle.bstr.specs.Utf8.{pieces}
-use Rattle.lbk_c.specs.Reached.{from_state, onward}
+use Rattle.lbk_bytes.specs.Reached.{onward}
 use Rattle.lbk_c.proofs.laws.only_bytes_from_a_state_on.Goals as goal
 
 pub returns : goal.returns

@@ -1,5 +1,5 @@
 use Rattle.std.proofs.Common.{arith}
-use Rattle.lbk_c.specs.Shown.{given_in}
+use Rattle.lbk_bytes.specs.Shown.{given_in}
 use Rattle.lbk_c.proofs.PositionLemmas.{All-decided}
 use Rattle.lbk_c.proofs.positions.fill.Goals as goal
 

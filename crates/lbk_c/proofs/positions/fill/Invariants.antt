@@ -3,9 +3,9 @@ use Rattle.lbk_rules.specs.declared.breaks.Break.{Break}
 use Rattle.lbk_rules.specs.declared.cells.Cell.{Cell}
 use Rattle.lbk_rules.specs.declared.facts.Left.{Left}
 use Rattle.lbk_steps.specs.FlatTable.{IsFlatBy}
-use Rattle.lbk_c.specs.Order.{IsPosition}
-use Rattle.lbk_c.specs.Reached.{IsInOrderBy, ReachedBy, onward_all}
-use Rattle.lbk_c.specs.Shown.{given_in}
+use Rattle.lbk_bytes.specs.Order.{IsPosition}
+use Rattle.lbk_bytes.specs.Reached.{IsInOrderBy, ReachedBy, onward_all}
+use Rattle.lbk_bytes.specs.Shown.{given_in}
 use Rattle.lbk_c.proofs.positions.fill.Given as goal
 
 abbrev pub invariant-loop-here : goal.invariant-loop-here

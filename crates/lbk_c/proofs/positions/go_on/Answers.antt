@@ -1,10 +1,10 @@
 use Rattle.std.proofs.Common.{◌≡◌, length, inl, refl, subst, sym, ◌∙◌, arith}
 use Rattle.lbk_c.specs.declared.interface.State.{State}
-use Rattle.lbk_c.specs.Order.{IsPosition}
-use Rattle.lbk_c.specs.Reached.{IsInOrderBy, onward_all}
-use Rattle.lbk_c.specs.Shown.{given_in}
+use Rattle.lbk_bytes.specs.Order.{IsPosition}
+use Rattle.lbk_bytes.specs.Reached.{IsInOrderBy, onward_all}
+use Rattle.lbk_bytes.specs.Shown.{given_in}
 use Rattle.lbk_c.proofs.ComingLemmas.{Goes-all, Goes-full}
-use Rattle.lbk_c.proofs.OrderLemmas.{AreInOrder-none, AreInOrder-wider}
+use Rattle.lbk_bytes.proofs.OrderLemmas.{AreInOrder-none, AreInOrder-wider}
 use Rattle.lbk_c.proofs.PositionLemmas.{All-end, end-coded, start-coded}
 use Rattle.lbk_c.proofs.positions.go_on.Goals as goal
 use Rattle.lbk_c.proofs.positions.go_on.Goals.{then-len-eq0, else-len-eq0}

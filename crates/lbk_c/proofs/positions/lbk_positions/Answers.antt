@@ -1,8 +1,8 @@
 use Rattle.std.proofs.Common.{length, ap, arith, refl}
-use Rattle.lbk_c.specs.Reached.{onward_all}
-use Rattle.lbk_c.specs.Shown.{given_in}
+use Rattle.lbk_bytes.specs.Reached.{onward_all}
+use Rattle.lbk_bytes.specs.Shown.{given_in}
 use Rattle.lbk_c.proofs.ComingLemmas.{Comes-goes, Comes-next, spent-none}
-use Rattle.lbk_c.proofs.OrderLemmas.{AreInOrder-none}
+use Rattle.lbk_bytes.proofs.OrderLemmas.{AreInOrder-none}
 use Rattle.lbk_c.proofs.PositionLemmas.{Positions-start, breaks-among}
 use Rattle.lbk_c.proofs.positions.lbk_positions.Goals as goal
 

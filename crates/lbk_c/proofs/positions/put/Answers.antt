@@ -3,12 +3,12 @@ use Rattle.std.proofs.Math.ListN.{set}
 use Rattle.std.proofs.lemmas.List.{map-append, take_more_set}
 use Rattle.lbk_rules.specs.Breaks.{break_by}
 use Rattle.lbk_rules.specs.Codes.{verdict_coded}
-use Rattle.lbk_c.specs.declared.interface.RawBreak.{RawBreak}
-use Rattle.lbk_c.specs.Order.{ArePositionsInOrder, IsPosition}
-use Rattle.lbk_c.specs.Reached.{numbers_of}
-use Rattle.lbk_c.specs.Shown.{shown}
-use Rattle.lbk_c.proofs.OrderLemmas.{AreInOrder-added}
-use Rattle.lbk_c.proofs.ShownLemmas.{raw-split, shown-raw}
+use Rattle.lbk_bytes.specs.declared.raw_break.RawBreak.{RawBreak}
+use Rattle.lbk_bytes.specs.Order.{ArePositionsInOrder, IsPosition}
+use Rattle.lbk_bytes.specs.Reached.{numbers_of}
+use Rattle.lbk_bytes.specs.Shown.{shown}
+use Rattle.lbk_bytes.proofs.OrderLemmas.{AreInOrder-added}
+use Rattle.lbk_bytes.proofs.ShownLemmas.{raw-split, shown-raw}
 use Rattle.lbk_c.proofs.positions.put.Goals as goal
 
 pub returns-clause-in_order : goal.returns-clause-in_order

@@ -1,8 +1,8 @@
-use Rattle.std.proofs.Common.{drop, ap, ◌∙◌}
+use Rattle.std.proofs.Common.{ap, ◌∙◌}
 use Rattle.bstr.specs.Utf8.{decoded, or_replacement}
 use Rattle.lbk_rules.specs.declared.cells.Cell.{Cell}
 use Rattle.lbk_rules.specs.Normal.{normal}
-use Rattle.lbk_c.proofs.PieceLemmas.{rest-of}
+use Rattle.lbk_bytes.proofs.PieceLemmas.{rest-of}
 use Rattle.lbk_c.proofs.safe_cuts.class_at.Goals as goal
 
 pub returns-clause-class : goal.returns-clause-class

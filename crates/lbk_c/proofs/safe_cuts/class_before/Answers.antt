@@ -1,5 +1,5 @@
-use Rattle.std.proofs.Common.{◌≡◌, ◌-◌, drop, sym, ap, ◌∙◌}
-use Rattle.bstr.specs.Utf8.{Decoded, decoded, or_replacement}
+use Rattle.std.proofs.Common.{sym, ap, ◌∙◌}
+use Rattle.bstr.specs.Utf8.{Decoded, or_replacement}
 use Rattle.lbk_rules.specs.declared.cells.Cell.{Cell}
 use Rattle.lbk_rules.specs.Normal.{normal}
 use Rattle.lbk_c.proofs.PieceStartLemmas.{last-begins, last-whole}

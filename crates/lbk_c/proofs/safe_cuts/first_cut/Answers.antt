@@ -1,11 +1,9 @@
-use Rattle.std.proofs.Common.{◌≡◌, ◌+◌, ◌<◌, ◌≤◌, ℕ, length, drop, subst, sym, ap, ◌∙◌, ⊎_elim, arith}
+use Rattle.std.proofs.Common.{◌≡◌, ◌+◌, ℕ, subst, sym, ◌∙◌, ⊎_elim, arith}
 use Rattle.std.proofs.lemmas.Bool.{cases_lt}
-use Rattle.bstr.specs.Utf8.{decoded}
-use Rattle.lbk_rules.specs.declared.cells.Cell.{Cell}
 use Rattle.lbk_c.specs.Cuts.{IsPieceStart, IsSafeCut}
 use Rattle.lbk_c.specs.Looking.{LastIs}
 use Rattle.lbk_c.proofs.PieceStartLemmas.{starts_next}
-use Rattle.lbk_c.proofs.PieceLemmas.{piece-within}
+use Rattle.lbk_bytes.proofs.PieceLemmas.{piece-within}
 use Rattle.lbk_c.proofs.SafeLemmas.{last-next, safe, unsafe-between, unsafe-within}
 use Rattle.lbk_c.proofs.safe_cuts.first_cut.Goals as goal
 

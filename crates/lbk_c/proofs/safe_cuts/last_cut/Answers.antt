@@ -1,7 +1,5 @@
-use Rattle.std.proofs.Common.{◌≡◌, ◌+◌, ◌-◌, ◌<◌, ◌≤◌, ℕ, length, drop, subst, sym, ◌∙◌, ⊎_elim, arith}
+use Rattle.std.proofs.Common.{◌≡◌, ◌-◌, ℕ, subst, sym, ◌∙◌, ⊎_elim, arith}
 use Rattle.std.proofs.lemmas.Bool.{cases_lt}
-use Rattle.bstr.specs.Utf8.{decoded}
-use Rattle.lbk_rules.specs.declared.cells.Cell.{Cell}
 use Rattle.lbk_c.specs.Cuts.{IsSafeCut}
 use Rattle.lbk_c.proofs.SafeLemmas.{safe, unsafe-between, unsafe-within}
 use Rattle.lbk_c.proofs.safe_cuts.last_cut.Goals as goal

@@ -1,5 +1,4 @@
-use Rattle.std.proofs.Common.{◌+◌, ◌-◌, ◌<◌, ◌≤◌, ℕ, length, drop}
-use Rattle.bstr.specs.Utf8.{decoded}
+use Rattle.std.proofs.Common.{◌<◌, ◌≤◌, ℕ}
 use Rattle.lbk_rules.specs.declared.cells.Cell.{Cell}
 use Rattle.lbk_steps.specs.FlatTable.{AreFlatKinds}
 use Rattle.lbk_c.specs.Cuts.{IsPieceStart, IsSafeCut}

@@ -1,4 +1,4 @@
-use Rattle.std.proofs.Common.{◌<◌, ◌≤◌, ⊎_elim, arith}
+use Rattle.std.proofs.Common.{⊎_elim, arith}
 use Rattle.std.proofs.lemmas.Bool.{cases_lt}
 use Rattle.lbk_c.proofs.SafeLemmas.{joins-safe, unsafe-within}
 use Rattle.lbk_c.proofs.safe_cuts.lbk_cut_before.Goals as goal

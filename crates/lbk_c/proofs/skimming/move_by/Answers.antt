@@ -1,8 +1,7 @@
 use Rattle.std.proofs.Common.{◌≡◌, ◌+◌, ◌%◌, ◌^◌, ◌<◌, ◌++◌, [], ◌∷◌, get_or, length, map, drop, take, sym, ap, ◌∙◌, arith}
-use Rattle.std.proofs.Math.ListN.{set}
 use Rattle.std.proofs.lemmas.List.{drop-drop, drop-set-lt, get_or-drop, length-set, map-append, take_more, take_more_set}
-use Rattle.lbk_c.specs.declared.interface.RawBreak.{RawBreak}
-use Rattle.lbk_c.specs.Shown.{given_in, shown}
+use Rattle.lbk_bytes.specs.declared.raw_break.RawBreak.{RawBreak}
+use Rattle.lbk_bytes.specs.Shown.{given_in, shown}
 use Rattle.lbk_c.specs.Stands.{moved}
 use Rattle.lbk_c.proofs.skimming.move_by.Goals as goal
 

@@ -1,5 +1,5 @@
 use Rattle.std.proofs.Common.{◌-◌, ◌≡◌, ◌≤◌, drop, length, map}
-use Rattle.lbk_c.specs.Shown.{given_in}
+use Rattle.lbk_bytes.specs.Shown.{given_in}
 use Rattle.lbk_c.specs.Stands.{moved}
 use Rattle.lbk_c.proofs.skimming.move_by.Given as goal
 

@@ -1,7 +1,6 @@
-use Rattle.std.proofs.Common.{◌+◌, ◌-◌, ◌%◌, ◌^◌, List, refl, arith}
-use Rattle.lbk_rules.specs.declared.breaks.Break.{Break}
+use Rattle.std.proofs.Common.{◌+◌, ◌-◌, ◌%◌, ◌^◌, refl, arith}
 use Rattle.lbk_c.specs.declared.stream.Place.{Place}
-use Rattle.lbk_c.specs.Shown.{given_in}
+use Rattle.lbk_bytes.specs.Shown.{given_in}
 use Rattle.lbk_c.proofs.FeedLemmas.{given-behind}
 use Rattle.lbk_c.proofs.SkimLemmas.{Feeds-skim}
 use Rattle.lbk_c.proofs.skimming.skim.Goals as goal

@@ -1,11 +1,11 @@
 use Rattle.std.proofs.Common.{◌≡◌, ◌+◌, ◌-◌, ◌%◌, ◌^◌, ◌++◌, [], List, map, sym, ap, subst, ◌∙◌, arith}
 use Rattle.lbk_rules.specs.declared.breaks.Break.{Break}
-use Rattle.lbk_c.specs.declared.fill_state.FillState.{FillState}
-use Rattle.lbk_c.specs.Reached.{AreSwift, Reached}
-use Rattle.lbk_c.specs.Shown.{given_in}
+use Rattle.lbk_bytes.specs.declared.fill_state.FillState.{FillState}
+use Rattle.lbk_bytes.specs.Reached.{AreSwift, Reached}
+use Rattle.lbk_bytes.specs.Shown.{given_in}
 use Rattle.lbk_c.specs.Stands.{moved}
 use Rattle.lbk_c.proofs.SkimLemmas.{Stands-skim}
-use Rattle.lbk_c.proofs.StepLemmas.{flat-swift}
+use Rattle.lbk_bytes.proofs.StepLemmas.{flat-swift}
 use Rattle.lbk_c.proofs.skimming.skim_into.Goals as goal
 
 pub returns-clause-stands : goal.returns-clause-stands

@@ -1,12 +1,12 @@
-use Rattle.std.proofs.Common.{◌≡◌, ◌+◌, ◌<◌, ◌≤◌, ◌++◌, [], drop, length, sym, ap, subst, ◌∙◌, ⊎_elim, true, false, arith}
+use Rattle.std.proofs.Common.{◌≡◌, ◌+◌, ◌<◌, ◌≤◌, ◌++◌, [], drop, length, sym, ap, subst, ◌∙◌, ⊎_elim, arith}
 use Rattle.std.proofs.lemmas.Bool.{cases_lt, false≢true}
-use Rattle.lbk_c.specs.Shown.{given_in}
-use Rattle.lbk_c.specs.Stands.{Feeds, Streams, front_of}
-use Rattle.lbk_c.specs.Streams.{cut_bytes, place_of}
+use Rattle.lbk_bytes.specs.Shown.{given_in}
+use Rattle.lbk_c.specs.Stands.{Streams}
+use Rattle.lbk_c.specs.Streams.{cut_bytes}
 use Rattle.lbk_c.specs.declared.stream.Feeding.{Feeding}
 use Rattle.lbk_c.specs.declared.stream.Place.{Place}
 use Rattle.lbk_c.proofs.ComingLemmas.{given-many}
-use Rattle.lbk_c.proofs.StreamLemmas.{Closes, Feeds-closed, Feeds-front, Feeds-streams, Feeds-unsettled, Streams-next}
+use Rattle.lbk_c.proofs.StreamLemmas.{Feeds-closed, Feeds-front, Feeds-streams, Feeds-unsettled, Streams-next}
 use Rattle.lbk_c.proofs.streaming.go_with.Goals as goal
 
 pub returns-clause-gives : goal.returns-clause-gives

@@ -1,4 +1,4 @@
-use Rattle.std.proofs.Common.{◌++◌, [], false, true, refl, sym, subst, ◌∙◌, arith}
+use Rattle.std.proofs.Common.{◌++◌, [], refl, sym, subst, ◌∙◌, arith}
 use Rattle.std.proofs.lemmas.Bool.{false≢true}
 use Rattle.std.proofs.lemmas.List.{append-nil}
 use Rattle.lbk_c.specs.Stands.{Streams}

@@ -1,4 +1,4 @@
-use Rattle.std.proofs.Common.{◌<◌, lit<}
+use Rattle.std.proofs.Common.{lit<}
 use Rattle.lbk_rules.specs.Codes.{verdict_coded}
 use Rattle.lbk_c.proofs.streaming.put_last.Goals as goal
 

@@ -2,8 +2,8 @@ use Rattle.std.proofs.Common.{◌≡◌, ◌<◌, ◌==◌, true, false, Some, s
 use Rattle.std.proofs.lemmas.Bool.Decides.{nat_tests}
 use Rattle.std.proofs.lemmas.List.{append-nil}
 use Rattle.lbk_rules.specs.Normal.{normal}
-use Rattle.lbk_c.specs.Shown.{given_in}
-use Rattle.lbk_c.proofs.AheadLemmas.{told_by}
+use Rattle.lbk_bytes.specs.Shown.{given_in}
+use Rattle.lbk_bytes.proofs.AheadLemmas.{told_by}
 use Rattle.lbk_c.proofs.StandsLemmas.{Stands-settle}
 use Rattle.lbk_c.proofs.taking.meet.Goals as goal
 

@@ -1,15 +1,14 @@
-use Rattle.std.proofs.Common.{◌≡◌, ℕ, ◌+◌, ◌%◌, ◌^◌, ◌<◌, ◌++◌, [], ◌∷◌, List, drop, get_or, map, sym, ap, subst, ◌∙◌, refl, arith}
+use Rattle.std.proofs.Common.{◌+◌, ◌%◌, ◌^◌, ◌<◌, ◌++◌, [], ◌∷◌, drop, get_or, map, sym, ap, subst, ◌∙◌, refl, arith}
 use Rattle.std.proofs.lemmas.List.{append-nil}
 use Rattle.bstr.specs.Utf8.{lossy_chars}
 use Rattle.lbk_rules.specs.Codes.{verdict_coded}
 use Rattle.lbk_rules.specs.Verdict.{verdict_between_in}
-use Rattle.lbk_steps.specs.FlatTable.{KnowsTaken, no_flat_step}
+use Rattle.lbk_steps.specs.FlatTable.{no_flat_step}
 use Rattle.lbk_c.specs.declared.stream.Place.{Place}
-use Rattle.lbk_c.specs.Bytes.{with_break}
-use Rattle.lbk_c.specs.Reached.{steps_in}
-use Rattle.lbk_c.specs.Shown.{given_in}
+use Rattle.lbk_bytes.specs.Bytes.{with_break}
+use Rattle.lbk_bytes.specs.Reached.{steps_in}
+use Rattle.lbk_bytes.specs.Shown.{given_in}
 use Rattle.lbk_c.specs.Stands.{Waits}
-use Rattle.lbk_c.specs.Streams.{late_break}
 use Rattle.lbk_c.proofs.StandsLemmas.{Stands-join, Stands-on, decides-late, decides-now, knows-next, late-none, waits-now}
 use Rattle.lbk_c.proofs.taking.pass.Goals as goal
 

@@ -1,5 +1,5 @@
 use Rattle.std.proofs.Common.{cond, drop, sym, subst}
-use Rattle.lbk_c.specs.Shown.{given_in}
+use Rattle.lbk_bytes.specs.Shown.{given_in}
 use Rattle.lbk_c.specs.Stands.{Stands}
 use Rattle.lbk_c.proofs.taking.take_scalar.Goals as goal
 

@@ -1,0 +1,11 @@
+pub mod AheadLemmas
+pub mod LoopLemmas
+pub mod OrderLemmas
+pub mod PieceLemmas
+pub mod CutLemmas
+pub mod ReachedLemmas
+pub mod ShownLemmas
+pub mod StepLemmas
+pub mod BitLemmas
+pub mod BlockLemmas
+pub mod BlockOrderLemmas

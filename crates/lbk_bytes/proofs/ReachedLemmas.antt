@@ -1,0 +1,88 @@
+-- How far a call has come, scalar by scalar.
+use Rattle.std.proofs.Common.{◌≡◌, ℕ, ◌+◌, ◌<◌, true, false, cond, not, List, [], ◌∷◌, ◌++◌, length, map, drop, take, append_assoc, refl, sym, ap, subst, ◌∙◌, arith}
+use Rattle.std.specs.Int.{from_bool}
+use Rattle.std.proofs.Math.ListN.{set}
+use Rattle.std.proofs.lemmas.List.{append-nil, length-append, map-append, take-set, take_more_set}
+use Rattle.bstr.specs.Utf8.{Decoded, decoded, lossy_chars, or_replacement, pieces}
+use Rattle.lbk_rules.specs.declared.breaks.Break.{Break}
+use Rattle.lbk_rules.specs.declared.cells.Cell.{Cell}
+use Rattle.lbk_rules.specs.declared.facts.Left.{Left}
+use Rattle.lbk_values.specs.declared.profile.Profile.{Profile}
+use Rattle.lbk_rules.specs.declared.verdicts.Verdict.{Verdict}
+use Rattle.lbk_rules.specs.Breaks.{break_by, is_no}
+use Rattle.lbk_steps.specs.FlatTable.{KnowsTaken}
+use Rattle.lbk_rules.specs.Verdict.{verdict_between_in}
+use Rattle.lbk_bytes.specs.declared.raw_break.RawBreak.{RawBreak}
+use Rattle.lbk_bytes.specs.declared.fill_state.FillState.{FillState}
+use Rattle.lbk_bytes.specs.Bytes.{with_break}
+use Rattle.lbk_bytes.specs.Reached.{Reached, onward}
+use Rattle.lbk_bytes.specs.Shown.{given_in, shown}
+use Rattle.lbk_bytes.proofs.PieceLemmas.{piece-within, pieces-on}
+
+pub with_break-more : (at : ℕ) (verdict : Verdict) (more : List Break) → with_break at verdict more ≡ with_break at verdict [] ++ more
+with_break-more at verdict more =
+    elim (is_no verdict.kind)
+    as (λ k. cond k more (break_by at verdict ∷ more) ≡ cond k [] (break_by at verdict ∷ []) ++ more)
+    [ true ↦ refl | false ↦ refl ]
+
+-- one more scalar
+pub Reached-step : (profile : Profile) (cell : ℕ → Cell) (lefts : List Left) (text : List ℕ) (all : List Break) (here there : FillState) (given after : List Break)
+    (p : Decoded) (verdict : Verdict)
+    → decoded (drop here.at text) ≡ p → here.at < length text → there.at ≡ here.at + p.size
+    → ((taken : List ℕ) → KnowsTaken cell lefts here.row taken → KnowsTaken cell lefts there.row (taken ++ or_replacement p.char ∷ []))
+    → ((taken : List ℕ) → KnowsTaken cell lefts here.row taken
+    → verdict ≡ verdict_between_in profile (map cell taken) (cell (or_replacement p.char) ∷ map cell (lossy_chars (drop there.at text))))
+    → after ≡ given ++ with_break here.at verdict []
+    → Reached profile cell lefts text all here given → Reached profile cell lefts text all there after
+Reached-step profile cell lefts text all here there given after p verdict is within moved knows decides grown r =
+    let c = or_replacement p.char in
+    let rest = pieces (drop there.at text) in
+    let on = r.taken ++ c ∷ [] in
+    let bounds = piece-within text here.at within in
+    let size : (decoded (drop here.at text)).size ≡ p.size = ap (λ (q : Decoded). q.size) is in
+    let place : here.at + (decoded (drop here.at text)).size ≡ there.at = ap (λ n. here.at + n) size ∙ sym moved in
+    let begins : pieces (drop here.at text) ≡ p ∷ rest =
+    pieces-on text here.at within ∙ ap (λ n. decoded (drop here.at text) ∷ pieces (drop n text)) place ∙ ap (λ q. q ∷ rest) is in
+    let further = onward profile cell on there.at rest in
+    let stepped : onward profile cell r.taken here.at (p ∷ rest) ≡ with_break here.at verdict further =
+    ap (λ v. with_break here.at v (onward profile cell on (here.at + p.size) rest)) (sym (decides r.taken r.knows))
+    ∙ ap (λ n. with_break here.at verdict (onward profile cell on n rest)) (sym moved) in
+    let some : 0 < there.at = omega (arith, bounds.0) in
+    let longer = length-append r.taken (c ∷ []) in
+    record {
+      taken = on;
+      knows = knows r.taken r.knows;
+      none = λ zero. absurd (omega arith);
+      some = λ _. omega arith;
+      joined =
+          r.joined
+          ∙ ap (λ ps. given ++ onward profile cell r.taken here.at ps) begins
+          ∙ ap (λ l. given ++ l) (stepped ∙ with_break-more here.at verdict further)
+          ∙ sym (append_assoc given (with_break here.at verdict []) further)
+          ∙ ap (λ g. g ++ further) (sym grown);
+    }
+
+-- where nothing follows a text
+pub Reached-alone : (profile : Profile) (cell : ℕ → Cell) (lefts : List Left) (text : List ℕ) (all : List Break) (here : FillState) (given : List Break)
+    → Reached profile cell lefts (text ++ []) all here given → Reached profile cell lefts text all here given
+Reached-alone profile cell lefts text all here given r = subst (λ t. Reached profile cell lefts t all here given) (append-nil text) r
+
+pub Reached-nothing : (profile : Profile) (cell : ℕ → Cell) (lefts : List Left) (text : List ℕ) (all : List Break) (here : FillState) (given : List Break)
+    → Reached profile cell lefts text all here given → Reached profile cell lefts (text ++ []) all here given
+Reached-nothing profile cell lefts text all here given r = subst (λ t. Reached profile cell lefts t all here given) (sym (append-nil text)) r
+
+-- a break written behind the others counts where it is one
+pub written-more : (block : List RawBreak) (count : ℕ) (found : RawBreak) (at : ℕ) (verdict : Verdict) → count < length block
+    → shown found ≡ break_by at verdict
+    → given_in (set block count found) (count + from_bool (not (is_no verdict.kind))) ≡ given_in block count ++ with_break at verdict []
+written-more block count found at verdict within same =
+    elim (is_no verdict.kind)
+    as (λ k. given_in (set block count found) (count + from_bool (not k)) ≡ given_in block count ++ cond k [] (break_by at verdict ∷ [])) [
+      | true ↦
+          ap (λ n. given_in (set block count found) n) (let e : count + 0 ≡ count = omega arith in e)
+          ∙ ap (map shown) (take-set block count found) ∙ sym (append-nil (given_in block count))
+      | false ↦
+          ap (map shown) (take_more_set block count found within)
+          ∙ map-append shown (take count block) (found ∷ [])
+          ∙ ap (λ b. given_in block count ++ b ∷ []) same
+    ]

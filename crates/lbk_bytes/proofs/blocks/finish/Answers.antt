@@ -1,0 +1,38 @@
+use Rattle.std.proofs.Common.{arith}
+use Rattle.lbk_bytes.proofs.BlockLemmas.{stopped-there}
+use Rattle.lbk_bytes.proofs.BlockOrderLemmas.{order-stopped}
+use Rattle.lbk_bytes.proofs.blocks.finish.Goals as goal
+
+pub loop-here-preserved : goal.loop-here-preserved
+loop-here-preserved c =
+    let l = c.loop-here in
+    let more = c.some_breaks-here.ensures in
+    record {
+      room = omega (arith, more.within.0);
+      more = omega (arith, more.onward.0);
+      after = more.within.1;
+      within = more.within.2;
+      ahead = λ ahead. more.ahead c.args.taken (l.invariant.ahead ahead);
+      in_order = λ from ahead order. more.in_order c.args.taken from (l.invariant.ahead ahead) (l.invariant.in_order from ahead order);
+      reached = λ profile cell lefts all block left start.
+          let here = l.invariant.reached profile cell lefts all block left start in
+          more.reached profile cell lefts all c.args.taken block here.0 here.1;
+    }
+
+pub returns-clause-within : goal.returns-clause-within
+returns-clause-within c =
+    let stopped = c.stopped.ensures in
+    (omega (arith, stopped.count), stopped.within.0, omega (arith, stopped.within.1))
+
+pub returns-clause-reached : goal.returns-clause-reached
+returns-clause-reached c = λ profile cell lefts all block left start.
+    let l = c.loop-here in
+    let stopped = c.stopped.ensures in
+    stopped-there profile cell lefts c.args.text.now all c.args.steps.now c.args.kinds.now c.args.pairs.now l.out c.args.at c.args.taken l.here c.stopped.result
+    c.requires.2 block stopped.count stopped.row stopped.all stopped.some (l.invariant.reached profile cell lefts all block left start)
+
+pub returns-clause-in_order : goal.returns-clause-in_order
+returns-clause-in_order c = λ from ahead order.
+    let l = c.loop-here in
+    let stopped = c.stopped.ensures in
+    order-stopped l.out c.args.at c.args.taken from l.here c.stopped.result stopped.count stopped.all stopped.some (l.invariant.ahead ahead) (l.invariant.in_order from ahead order)

@@ -1,0 +1,58 @@
+use Rattle.std.proofs.Common.{◌≡◌, ◌-◌, length, drop, take, ap, sym, subst, ◌∙◌, arith}
+use Rattle.std.specs.Char.{IsScalar}
+use Rattle.std.proofs.lemmas.List.{length-drop}
+use Rattle.bstr.specs.Utf8.{decoded, or_replacement}
+use Rattle.lbk_bytes.proofs.LoopLemmas.{Decided-one}
+use Rattle.lbk_bytes.proofs.PieceLemmas.{piece-within, read-scalar, rest-behind, rest-of}
+use Rattle.lbk_bytes.proofs.deciding.decide_one.Goals as goal
+
+pub slice_bounds-code_ahead-count : goal.slice_bounds-code_ahead-count
+slice_bounds-code_ahead-count c =
+    let text = c.args.text.now in
+    let at = c.args.at in
+    let whole = rest-of text at in
+    let is_size = c.decode_lossy-c.ensures.size ∙ ap (λ bs. (decoded bs).size) whole in
+    let bounds = piece-within text at c.requires.1 in
+    let left = ap length whole in
+    omega (arith, bounds.1, is_size, left, length-drop at text)
+
+pub slice_bounds-code_ahead-start : goal.slice_bounds-code_ahead-start
+slice_bounds-code_ahead-start c =
+    let text = c.args.text.now in
+    let at = c.args.at in
+    let whole = rest-of text at in
+    let is_size = c.decode_lossy-c.ensures.size ∙ ap (λ bs. (decoded bs).size) whole in
+    let bounds = piece-within text at c.requires.1 in
+    let left = ap length whole in
+    omega (arith, bounds.1, is_size, left, length-drop at text)
+
+pub overflow_add-result : goal.overflow_add-result
+overflow_add-result c =
+    let text = c.args.text.now in
+    let at = c.args.at in
+    let is_size = c.decode_lossy-c.ensures.size ∙ ap (λ bs. (decoded bs).size) (rest-of text at) in
+    let bounds = piece-within text at c.requires.1 in
+    omega (arith, bounds.1, is_size)
+
+pub returns-clause-within : goal.returns-clause-within
+returns-clause-within c =
+    let text = c.args.text.now in
+    let at = c.args.at in
+    let is_size = c.decode_lossy-c.ensures.size ∙ ap (λ bs. (decoded bs).size) (rest-of text at) in
+    let bounds = piece-within text at c.requires.1 in
+    (omega arith, omega (arith, bounds.0, is_size), omega (arith, bounds.1, is_size))
+
+pub returns-clause-decided : goal.returns-clause-decided
+returns-clause-decided c = λ cell lefts taken flat known.
+    let text = c.args.text.now in
+    let at = c.args.at in
+    let x = c.decode_lossy-c.result.0 in
+    let size = c.decode_lossy-c.result.1 in
+    let whole = rest-of text at in
+    let is_char : x ≡ or_replacement (decoded (drop at text)).char = c.decode_lossy-c.ensures.char ∙ ap (λ bs. or_replacement (decoded bs).char) whole in
+    let is_size : size ≡ (decoded (drop at text)).size = c.decode_lossy-c.ensures.size ∙ ap (λ bs. (decoded bs).size) whole in
+    let scalar : IsScalar x = subst IsScalar (sym is_char) (read-scalar (drop at text)) in
+    let rest = take (length (take (length text - at) (drop at text)) - size) (drop size (take (length text - at) (drop at text))) in
+    Decided-one c.args.profile cell lefts text taken c.args.table.now c.args.row at x size
+    c.code_ahead-code.result rest c.step_at-step.result.now flat scalar is_char is_size (rest-behind text at size c.requires.1 is_size)
+    c.step_at-step.ensures (c.code_ahead-code.ensures cell lefts taken flat known) known

@@ -1,0 +1,72 @@
+-- A block of 64 bytes whose breaks the sets of its bytes tell.
+use Rattle.std.specs.Prelude.{◌≡◌, ◌≢◌, ◌⊎◌, ℕ, ◌+◌, ◌-◌, ◌<◌, ◌≤◌, Bool, true, false, List, length, slice_index_or}
+use Rattle.lbk_masks.specs.Sets.{is_set, left_in, meets, right_in}
+use Rattle.lbk_rules.specs.declared.cells.Cell.{Cell}
+use Rattle.lbk_rules.specs.declared.facts.Left.{Left}
+use Rattle.lbk_steps.specs.declared.flat_table.FlatStep.{FlatStep}
+use Rattle.lbk_steps.specs.declared.neighbours.Neighbours.{Neighbours}
+use Rattle.lbk_values.specs.declared.profile.Profile.{Profile}
+use Rattle.lbk_steps.specs.FlatTable.{AreFlatKinds}
+use Rattle.lbk_steps.specs.Neighbours.{AreSettled}
+use Rattle.lbk_bytes.specs.declared.blocks.BlockState.{BlockState}
+use Rattle.lbk_bytes.specs.declared.fill_state.FillState.{FillState}
+use Rattle.lbk_bytes.specs.Reached.{AreSwift}
+
+-- the byte at a place
+abbrev pub byte_at : List ℕ → ℕ → ℕ
+byte_at text place = slice_index_or text place 0
+
+-- the row of the byte before a place
+abbrev pub row_before : Neighbours → List ℕ → ℕ → ℕ
+row_before pairs text place = slice_index_or pairs.rows (byte_at text (place - 1)) 0
+
+-- a block can begin here, behind a byte with this left set
+pub record Rests (pairs : Neighbours) (here : FillState) (text : List ℕ) (before : ℕ) : Type 0 where
+  pub begins : 0 < here.at
+  pub within : here.at + 64 ≤ length text
+  pub below : byte_at text (here.at - 1) < 128
+  pub row : here.row ≡ row_before pairs text here.at
+  pub set : before ≡ left_in pairs.sets (byte_at text (here.at - 1))
+
+-- whether the byte at a place stands out behind the one before it
+abbrev pub stands_at : Neighbours → List ℕ → ℕ → Bool
+stands_at pairs text place = meets (left_in pairs.sets (byte_at text (place - 1))) (right_in pairs.sets (byte_at text place))
+
+-- these are the bits of a number below this one
+pub record AreKeptBelow (count bits kept : ℕ) : Type 0 where
+  pub same : (i : ℕ) → i < count → is_set kept i ≡ is_set bits i
+  pub none : (i : ℕ) → count ≤ i → i < 64 → is_set kept i ≡ false
+
+-- this is the lowest bit of a number that is set, if one is
+pub record IsLowest (bits index : ℕ) : Type 0 where
+  pub set : 0 < bits → is_set bits index ≡ true
+  pub none : (i : ℕ) → i < index → is_set bits i ≡ false
+
+-- the bits of a number but this one
+pub record AreCleared (bits index kept : ℕ) : Type 0 where
+  pub same : (i : ℕ) → i < 64 → i ≢ index → is_set kept i ≡ is_set bits i
+  pub gone : is_set kept index ≡ false
+  pub fewer : kept ≤ bits
+
+-- the first bytes of the block are scalars, and two of them tell the step by the second
+pub record IsBlock (profile : Profile) (cell : ℕ → Cell) (lefts : List Left) (steps : List FlatStep) (kinds : List ℕ) (pairs : Neighbours) (text : List ℕ) (at taken : ℕ) : Type 0 where
+  pub swift : AreSwift profile lefts steps
+  pub kinds_are : AreFlatKinds kinds cell
+  pub few : taken ≤ 64
+  pub settled : (i : ℕ) → i < taken → AreSettled steps kinds pairs (byte_at text (at + i - 1)) (byte_at text (at + i))
+
+-- no break is left but from here on, in the first bytes of the block
+pub record IsAhead (at taken : ℕ) (here : BlockState) : Type 0 where
+  pub within : here.past ≤ at + taken
+  pub none : (i : ℕ) → i < 64 → (taken ≤ i) ⊎ (at + i < here.past) → is_set here.left i ≡ false
+
+-- of the first bytes of the block those that stand out are left from here on
+pub record AreLeft (pairs : Neighbours) (text : List ℕ) (at taken : ℕ) (here : BlockState) : Type 0 where
+  pub after : at ≤ here.past
+  pub within : here.past ≤ at + taken
+  pub told : (i : ℕ) → i < taken → here.past ≤ at + i → is_set here.left i ≡ stands_at pairs text (at + i)
+  pub none : (i : ℕ) → i < 64 → (taken ≤ i) ⊎ (at + i < here.past) → is_set here.left i ≡ false
+
+-- where a call stands in a text whose bytes up to here were taken
+abbrev pub place_in : Neighbours → List ℕ → BlockState → FillState
+place_in pairs text here = record { count = here.count; row = row_before pairs text here.past; at = here.past }

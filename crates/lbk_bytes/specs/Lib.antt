@@ -1,0 +1,9 @@
+-- What a reader has to believe.
+pub mod Bytes
+pub mod Shown
+pub mod Order
+pub mod Open
+-- What only carries proofs.
+pub mod Decided
+pub mod Reached
+pub mod Blocks

@@ -1,0 +1,403 @@
+//! Blocks of 64 bytes whose breaks the sets of their bytes tell, so that no step waits for the one before it.
+
+ghost use Rattle.std.specs.Prelude.{◌≡◌, ◌≢◌, ℕ, ◌+◌, ◌-◌, ◌^◌, ◌<◌, ◌≤◌, List, length, slice_index_or, IfSome};
+ghost use Rattle.lbk_rules.specs.declared.breaks.Break.{Break};
+ghost use Rattle.lbk_rules.specs.declared.cells.Cell.{Cell};
+ghost use Rattle.lbk_rules.specs.declared.facts.Left.{Left};
+ghost use Rattle.lbk_values.specs.declared.profile.Profile.{Profile};
+ghost use Rattle.lbk_steps.specs.FlatTable.{AreFlatKinds};
+ghost use Rattle.lbk_steps.specs.Neighbours.{AreTold};
+ghost use Rattle.lbk_bytes.specs.Blocks.{AreCleared, AreKeptBelow, AreLeft, IsAhead, IsBlock, IsLowest, Rests, place_in};
+ghost use Rattle.lbk_bytes.specs.Reached.{AreSwift, IsInOrder, Reached};
+ghost use Rattle.lbk_bytes.specs.Shown.{given_in};
+
+use crate::fill_state::FillState;
+use crate::filling::put;
+use crate::raw_break::RawBreak;
+use crate::steps::{CODES, step_at};
+use lbk_steps::{FlatStep, Neighbours, STEPS};
+use std::simd::prelude::*;
+
+/// How many bytes are looked at together.
+pub(crate) const BLOCK: usize = 64;
+
+/// How many breaks are written without a test between them.
+const GROUP: usize = 8;
+
+/// How far a block of bytes was taken.
+#[derive(Clone, Copy)]
+pub(crate) struct BlockState {
+    /// How many breaks stand in the front of the block of breaks.
+    pub(crate) count: usize,
+    /// Up to here the bytes were taken.
+    pub(crate) past: usize,
+    /// Before which of the block's bytes a break is still to be written, a bit each.
+    pub(crate) left: u64,
+}
+
+/// Takes blocks of 64 bytes, as many as come one behind the other, and the front of one in which a byte is special.
+/// Nothing is taken where the row is not that of the byte before, or fewer bytes are left.
+#[inline(always)]
+pub(crate) fn blocks(
+    pairs: &Neighbours,
+    kinds: &[u8; CODES],
+    steps: &[FlatStep; STEPS],
+    start: FillState,
+    text: &[u8],
+    out: &mut [RawBreak],
+) -> FillState
+    requires { (start.count ≤ length out.old) × (start.row < 65536) × (start.at ≤ length text.now) }
+    ensures within { (result.count ≤ length out.old) × (result.row < 65536) × (result.at ≤ length text.now) }
+    ensures onward { (start.at ≤ result.at) × (start.count ≤ result.count) }
+    ensures in_order { (from : ℕ) → IsInOrder out.old start.count from start.at → IsInOrder out.new result.count from result.at }
+    ensures reached { (profile : Profile) (cell : ℕ → Cell) (lefts : List Left) (all : List Break) → AreSwift profile lefts steps.now → AreFlatKinds kinds.now cell
+        → AreTold steps.now kinds.now pairs.now
+        → Reached profile cell lefts text.now all start (given_in out.old start.count)
+        → Reached profile cell lefts text.now all result (given_in out.new result.count) }
+{
+    if text.len() - start.at < BLOCK {
+        return start;
+    }
+    each_block(pairs, kinds, steps, start, text, out)
+}
+
+/// The same, where the text is long enough. It stands apart, so that what a short text needs stays in registers.
+#[inline(never)]
+fn each_block(
+    pairs: &Neighbours,
+    kinds: &[u8; CODES],
+    steps: &[FlatStep; STEPS],
+    start: FillState,
+    text: &[u8],
+    out: &mut [RawBreak],
+) -> FillState
+    requires { (start.count ≤ length out.old) × (start.row < 65536) × (start.at ≤ length text.now) }
+    ensures within { (result.count ≤ length out.old) × (result.row < 65536) × (result.at ≤ length text.now) }
+    ensures onward { (start.at ≤ result.at) × (start.count ≤ result.count) }
+    ensures in_order { (from : ℕ) → IsInOrder out.old start.count from start.at → IsInOrder out.new result.count from result.at }
+    ensures reached { (profile : Profile) (cell : ℕ → Cell) (lefts : List Left) (all : List Break) → AreSwift profile lefts steps.now → AreFlatKinds kinds.now cell
+        → AreTold steps.now kinds.now pairs.now
+        → Reached profile cell lefts text.now all start (given_in out.old start.count)
+        → Reached profile cell lefts text.now all result (given_in out.new result.count) }
+{
+    let mut from = start.at;
+    let mut here = block(pairs, kinds, steps, start, text, out);
+    while here.at - from == BLOCK {
+        from = here.at;
+        here = block(pairs, kinds, steps, here, text, out);
+    }
+    here
+}
+
+/// Takes the front of one block, up to its first special byte.
+#[inline(always)]
+fn block(
+    pairs: &Neighbours,
+    kinds: &[u8; CODES],
+    steps: &[FlatStep; STEPS],
+    start: FillState,
+    text: &[u8],
+    out: &mut [RawBreak],
+) -> FillState
+    requires { (start.count ≤ length out.old) × (start.row < 65536) × (start.at ≤ length text.now) }
+    ensures within { (result.count ≤ length out.old) × (result.row < 65536) × (result.at ≤ length text.now) }
+    ensures onward { (start.at ≤ result.at) × (start.count ≤ result.count) }
+    ensures in_order { (from : ℕ) → IsInOrder out.old start.count from start.at → IsInOrder out.new result.count from result.at }
+    ensures reached { (profile : Profile) (cell : ℕ → Cell) (lefts : List Left) (all : List Break) → AreSwift profile lefts steps.now → AreFlatKinds kinds.now cell
+        → AreTold steps.now kinds.now pairs.now
+        → Reached profile cell lefts text.now all start (given_in out.old start.count)
+        → Reached profile cell lefts text.now all result (given_in out.new result.count) }
+{
+    let Some(before) = set_before(pairs, start, text) else {
+        return start;
+    };
+    let masks = pairs.sets.masks(before, &text[start.at..]);
+    let taken = masks.special.trailing_zeros() as usize;
+    let marked = BlockState {
+        count: start.count,
+        past: start.at,
+        left: kept_below(masks.standing, taken),
+    };
+    finish(pairs, kinds, steps, start.at, taken, marked, text, out)
+}
+
+/// The left set of the byte before a block, if the row is that byte's and a block can begin here: 64 bytes are left.
+#[inline(always)]
+fn set_before(pairs: &Neighbours, here: FillState, text: &[u8]) -> Option<u8>
+    requires { here.at ≤ length text.now }
+    ensures { IfSome result (λ before. Rests pairs.now here text.now before) }
+{
+    if here.at == 0 {
+        return None;
+    }
+    if text.len() - here.at < BLOCK {
+        return None;
+    }
+    let byte = text[here.at - 1];
+    if byte >= 128 {
+        return None;
+    }
+    if here.row != pairs.rows[byte as usize] as usize {
+        return None;
+    }
+    if wide_ahead(&text[here.at..]) != 0 {
+        return None;
+    }
+    Some(pairs.sets.left_of(byte))
+}
+
+/// Which of the next 16 bytes are of scalars of more than one byte, a bit each.
+#[inline(always)]
+pub(crate) fn wide_ahead(text: &[u8]) -> u64
+    requires { 16 ≤ length text.now }
+{
+    u8x16::from_slice(text)
+        .simd_ge(u8x16::splat(128))
+        .to_bitmask()
+}
+
+/// The bits of a number below this one.
+#[inline(always)]
+fn kept_below(bits: u64, count: usize) -> u64
+    requires { count ≤ 64 }
+    ensures { AreKeptBelow count bits result }
+{
+    if count == BLOCK {
+        return bits;
+    }
+    bits & ((1 << count) - 1)
+}
+
+/// Writes the breaks that are left in the first bytes of a block, and takes these.
+#[inline(always)]
+fn finish(
+    pairs: &Neighbours,
+    kinds: &[u8; CODES],
+    steps: &[FlatStep; STEPS],
+    at: usize,
+    taken: usize,
+    start: BlockState,
+    text: &[u8],
+    out: &mut [RawBreak],
+) -> FillState
+    requires { (start.count ≤ length out.old) × (0 < at) × (at + 64 ≤ length text.now) × (taken ≤ 64) × (at ≤ start.past) × (start.past ≤ at + 64) }
+    ensures within { (result.count ≤ length out.old) × (result.row < 65536) × (result.at ≤ length text.now) }
+    ensures onward { (at ≤ result.at) × (start.count ≤ result.count) }
+    ensures in_order { (from : ℕ) → IsAhead at taken start → IsInOrder out.old start.count from start.past → IsInOrder out.new result.count from result.at }
+    ensures reached { (profile : Profile) (cell : ℕ → Cell) (lefts : List Left) (all : List Break)
+        → IsBlock profile cell lefts steps.now kinds.now pairs.now text.now at taken
+        → AreLeft pairs.now text.now at taken start
+        → Reached profile cell lefts text.now all (place_in pairs.now text.now start) (given_in out.old start.count)
+        → Reached profile cell lefts text.now all result (given_in out.new result.count) }
+{
+    let mut here = start;
+    while here.left != 0 && here.count < out.len() {
+        here = some_breaks(pairs, kinds, steps, at, here, text, out);
+    }
+    stopped(pairs, at, taken, here, text)
+}
+
+/// Where a block was left: behind its first bytes if no break is left in them.
+#[inline(always)]
+fn stopped(pairs: &Neighbours, at: usize, taken: usize, here: BlockState, text: &[u8]) -> FillState
+    requires { (0 < at) × (at + 64 ≤ length text.now) × (taken ≤ 64) × (at ≤ here.past) × (here.past ≤ at + 64) }
+    ensures within { (result.row < 65536) × (result.at ≤ at + 64) }
+    ensures count { result.count ≡ here.count }
+    ensures row { result.row ≡ slice_index_or pairs.now.rows (slice_index_or text.now (result.at - 1) 0) 0 }
+    ensures all { here.left ≡ 0 → result.at ≡ at + taken }
+    ensures some { here.left ≢ 0 → result.at ≡ here.past }
+{
+    let past = if here.left == 0 {
+        at + taken
+    } else {
+        here.past
+    };
+    FillState {
+        count: here.count,
+        row: pairs.rows[text[past - 1] as usize] as usize,
+        at: past,
+    }
+}
+
+/// Writes one break or more, as many at once as there is room for.
+#[inline(always)]
+fn some_breaks(
+    pairs: &Neighbours,
+    kinds: &[u8; CODES],
+    steps: &[FlatStep; STEPS],
+    at: usize,
+    here: BlockState,
+    text: &[u8],
+    out: &mut [RawBreak],
+) -> BlockState
+    requires { (here.count < length out.old) × (0 < at) × (at + 64 ≤ length text.now) × (at ≤ here.past) × (here.past ≤ at + 64) }
+    ensures ahead { (taken : ℕ) → IsAhead at taken here → IsAhead at taken result }
+    ensures in_order { (taken from : ℕ) → IsAhead at taken here → IsInOrder out.old here.count from here.past → IsInOrder out.new result.count from result.past }
+    ensures within { (result.count ≤ length out.old) × (at ≤ result.past) × (result.past ≤ at + 64) }
+    ensures onward { (here.count ≤ result.count) × (result.left ≤ here.left) × (0 < here.left → result.left < here.left) }
+    ensures reached { (profile : Profile) (cell : ℕ → Cell) (lefts : List Left) (all : List Break) (taken : ℕ)
+        → IsBlock profile cell lefts steps.now kinds.now pairs.now text.now at taken
+        → AreLeft pairs.now text.now at taken here
+        → Reached profile cell lefts text.now all (place_in pairs.now text.now here) (given_in out.old here.count)
+        → AreLeft pairs.now text.now at taken result
+        × Reached profile cell lefts text.now all (place_in pairs.now text.now result) (given_in out.new result.count) }
+{
+    if here.count + GROUP <= out.len() {
+        return eight_breaks(pairs, kinds, steps, at, here, text, out);
+    }
+    take_break(pairs, kinds, steps, at, here, text, out)
+}
+
+/// Writes the next eight breaks, or as many as are left.
+#[inline(always)]
+fn eight_breaks(
+    pairs: &Neighbours,
+    kinds: &[u8; CODES],
+    steps: &[FlatStep; STEPS],
+    at: usize,
+    here: BlockState,
+    text: &[u8],
+    out: &mut [RawBreak],
+) -> BlockState
+    requires { (here.count + 8 ≤ length out.old) × (0 < at) × (at + 64 ≤ length text.now) × (at ≤ here.past) × (here.past ≤ at + 64) }
+    ensures ahead { (taken : ℕ) → IsAhead at taken here → IsAhead at taken result }
+    ensures in_order { (taken from : ℕ) → IsAhead at taken here → IsInOrder out.old here.count from here.past → IsInOrder out.new result.count from result.past }
+    ensures within { (result.count ≤ length out.old) × (at ≤ result.past) × (result.past ≤ at + 64) }
+    ensures onward { (here.count ≤ result.count) × (result.left ≤ here.left) × (0 < here.left → result.left < here.left) }
+    ensures few { result.count ≤ here.count + 8 }
+    ensures reached { (profile : Profile) (cell : ℕ → Cell) (lefts : List Left) (all : List Break) (taken : ℕ)
+        → IsBlock profile cell lefts steps.now kinds.now pairs.now text.now at taken
+        → AreLeft pairs.now text.now at taken here
+        → Reached profile cell lefts text.now all (place_in pairs.now text.now here) (given_in out.old here.count)
+        → AreLeft pairs.now text.now at taken result
+        × Reached profile cell lefts text.now all (place_in pairs.now text.now result) (given_in out.new result.count) }
+{
+    let there = four_breaks(pairs, kinds, steps, at, here, text, out);
+    four_breaks(pairs, kinds, steps, at, there, text, out)
+}
+
+/// Writes the next four breaks, or as many as are left.
+#[inline(always)]
+fn four_breaks(
+    pairs: &Neighbours,
+    kinds: &[u8; CODES],
+    steps: &[FlatStep; STEPS],
+    at: usize,
+    here: BlockState,
+    text: &[u8],
+    out: &mut [RawBreak],
+) -> BlockState
+    requires { (here.count + 4 ≤ length out.old) × (0 < at) × (at + 64 ≤ length text.now) × (at ≤ here.past) × (here.past ≤ at + 64) }
+    ensures ahead { (taken : ℕ) → IsAhead at taken here → IsAhead at taken result }
+    ensures in_order { (taken from : ℕ) → IsAhead at taken here → IsInOrder out.old here.count from here.past → IsInOrder out.new result.count from result.past }
+    ensures within { (result.count ≤ length out.old) × (at ≤ result.past) × (result.past ≤ at + 64) }
+    ensures onward { (here.count ≤ result.count) × (result.left ≤ here.left) × (0 < here.left → result.left < here.left) }
+    ensures few { result.count ≤ here.count + 4 }
+    ensures reached { (profile : Profile) (cell : ℕ → Cell) (lefts : List Left) (all : List Break) (taken : ℕ)
+        → IsBlock profile cell lefts steps.now kinds.now pairs.now text.now at taken
+        → AreLeft pairs.now text.now at taken here
+        → Reached profile cell lefts text.now all (place_in pairs.now text.now here) (given_in out.old here.count)
+        → AreLeft pairs.now text.now at taken result
+        × Reached profile cell lefts text.now all (place_in pairs.now text.now result) (given_in out.new result.count) }
+{
+    let there = two_breaks(pairs, kinds, steps, at, here, text, out);
+    two_breaks(pairs, kinds, steps, at, there, text, out)
+}
+
+/// Writes the next two breaks, or as many as are left.
+#[inline(always)]
+fn two_breaks(
+    pairs: &Neighbours,
+    kinds: &[u8; CODES],
+    steps: &[FlatStep; STEPS],
+    at: usize,
+    here: BlockState,
+    text: &[u8],
+    out: &mut [RawBreak],
+) -> BlockState
+    requires { (here.count + 2 ≤ length out.old) × (0 < at) × (at + 64 ≤ length text.now) × (at ≤ here.past) × (here.past ≤ at + 64) }
+    ensures ahead { (taken : ℕ) → IsAhead at taken here → IsAhead at taken result }
+    ensures in_order { (taken from : ℕ) → IsAhead at taken here → IsInOrder out.old here.count from here.past → IsInOrder out.new result.count from result.past }
+    ensures within { (result.count ≤ length out.old) × (at ≤ result.past) × (result.past ≤ at + 64) }
+    ensures onward { (here.count ≤ result.count) × (result.left ≤ here.left) × (0 < here.left → result.left < here.left) }
+    ensures few { result.count ≤ here.count + 2 }
+    ensures reached { (profile : Profile) (cell : ℕ → Cell) (lefts : List Left) (all : List Break) (taken : ℕ)
+        → IsBlock profile cell lefts steps.now kinds.now pairs.now text.now at taken
+        → AreLeft pairs.now text.now at taken here
+        → Reached profile cell lefts text.now all (place_in pairs.now text.now here) (given_in out.old here.count)
+        → AreLeft pairs.now text.now at taken result
+        × Reached profile cell lefts text.now all (place_in pairs.now text.now result) (given_in out.new result.count) }
+{
+    let there = take_break(pairs, kinds, steps, at, here, text, out);
+    take_break(pairs, kinds, steps, at, there, text, out)
+}
+
+/// Writes the next break, if one is left. Where none is, the place behind the breaks is written, which is of no account: so
+/// it takes no test.
+#[inline(always)]
+fn take_break(
+    pairs: &Neighbours,
+    kinds: &[u8; CODES],
+    steps: &[FlatStep; STEPS],
+    at: usize,
+    here: BlockState,
+    text: &[u8],
+    out: &mut [RawBreak],
+) -> BlockState
+    requires { (here.count < length out.old) × (0 < at) × (at + 64 ≤ length text.now) × (at ≤ here.past) × (here.past ≤ at + 64) }
+    ensures ahead { (taken : ℕ) → IsAhead at taken here → IsAhead at taken result }
+    ensures in_order { (taken from : ℕ) → IsAhead at taken here → IsInOrder out.old here.count from here.past → IsInOrder out.new result.count from result.past }
+    ensures within { (result.count ≤ length out.old) × (at ≤ result.past) × (result.past ≤ at + 64) }
+    ensures onward { (here.count ≤ result.count) × (result.left ≤ here.left) × (0 < here.left → result.left < here.left) }
+    ensures few { result.count ≤ here.count + 1 }
+    ensures reached { (profile : Profile) (cell : ℕ → Cell) (lefts : List Left) (all : List Break) (taken : ℕ)
+        → IsBlock profile cell lefts steps.now kinds.now pairs.now text.now at taken
+        → AreLeft pairs.now text.now at taken here
+        → Reached profile cell lefts text.now all (place_in pairs.now text.now here) (given_in out.old here.count)
+        → AreLeft pairs.now text.now at taken result
+        × Reached profile cell lefts text.now all (place_in pairs.now text.now result) (given_in out.new result.count) }
+{
+    let index = first_set(here.left);
+    let place = at + index;
+    let row = pairs.rows[text[place - 1] as usize] as usize;
+    let step = step_at(steps, row, kinds[text[place] as usize]);
+    let written = put(out, here.count, place, step.code);
+    next_state(here, written, at, index)
+}
+
+/// The state behind a break that was written, if one was left.
+#[inline(always)]
+fn next_state(here: BlockState, written: usize, at: usize, index: usize) -> BlockState
+    requires { (at < 2 ^ 63) × (index < 64) }
+    ensures none { here.left ≡ 0 → result ≡ here }
+    ensures count { 0 < here.left → result.count ≡ written }
+    ensures past { 0 < here.left → result.past ≡ at + index + 1 }
+    ensures left { 0 < here.left → AreCleared here.left index result.left }
+{
+    if here.left == 0 {
+        return here;
+    }
+    BlockState {
+        count: written,
+        past: at + index + 1,
+        left: cleared(here.left, index),
+    }
+}
+
+/// The lowest bit that is set, or some bit where none is.
+#[inline(always)]
+fn first_set(bits: u64) -> usize
+    ensures within { result < 64 }
+    ensures lowest { IsLowest bits result }
+{
+    (bits.trailing_zeros() & 63) as usize
+}
+
+/// The bits without this one.
+#[inline(always)]
+fn cleared(bits: u64, index: usize) -> u64
+    requires { index < 64 }
+    ensures { AreCleared bits index result }
+{
+    bits & !(1 << index)
+}

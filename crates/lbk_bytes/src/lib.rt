@@ -1,0 +1,20 @@
+//! The breaks of bytes in memory: a block of breaks is filled from a place of the text on, by the steps of a table, with
+//! nothing allocated and no state kept. The calls of the library for C stand on it.
+#![tactic(auto)]
+
+mod ahead;
+mod blocks;
+mod deciding;
+mod decoding;
+mod fill_state;
+mod filling;
+mod raw_break;
+mod shown;
+mod steps;
+
+pub use deciding::{Decided, decide_one};
+pub use fill_state::FillState;
+pub use filling::{fill, put, quick};
+pub use raw_break::RawBreak;
+pub use shown::shown_of;
+pub use steps::{step_at, steps_of};
