@@ -21,8 +21,8 @@
  * writes it; only lbk_read and lbk_read_published write a table, and each other call writes only its state or stream, and its
  * block.
  *
- * What a caller owes, and all that a caller owes:
- *   - A pointer that comes with a length has at least as many bytes (as many breaks or words, for a block) behind it. Where the
+ * What a caller must ensure, and nothing else:
+ *   - A pointer that comes with a length points to at least as many bytes (as many breaks or words, for a block). Where the
  *     length is 0 the pointer may be null. No length is over PTRDIFF_MAX bytes, as no object of C is.
  *   - A table, a state and a stream are not null, and are aligned as C aligns objects of their types.
  *   - What a call writes (the table of lbk_read; the state or the stream, and the block) overlaps nothing else that the call
@@ -31,7 +31,7 @@
  * reads and writes nothing but what it was given. A table, a state or a stream with made-up bytes gives made-up breaks, and no
  * more.
  *
- * C99 and later, and C++. 64-bit targets alone.
+ * C99 and later, and C++. 64-bit targets only.
  */
 #ifndef LBK_H
 #define LBK_H
@@ -64,11 +64,11 @@ extern "C" {
 #define LBK_CODES 0x110000
 #define LBK_STEPS 65792
 
-/* lbk_break.kind, and what stands for it in the notation of UAX #14. lbk_breaks gives breaks alone, so never LBK_NO. */
+/* lbk_break.kind, and what stands for it in the notation of UAX #14. lbk_breaks gives only breaks, so never LBK_NO. */
 enum {
     LBK_NO = 0,  /* a line does not break here */
     LBK_MAY = 1, /* a line may break here */
-    LBK_MUST = 2 /* a line ends here: behind a paragraph separator, and at the end of the text */
+    LBK_MUST = 2 /* a line ends here: after a paragraph separator, and at the end of the text */
 };
 
 /* lbk_break.rule: the rules of UAX #14, section 6, in their order. The number is made of the rule's own: 8 times it, and the
@@ -88,9 +88,9 @@ enum {
     LBK_RULE_12A = 8 * 12 + 1,
     LBK_RULE_13 = 8 * 13,
     LBK_RULE_14 = 8 * 14,
-    LBK_RULE_15 = 8 * 15,      /* in the first profile alone */
-    LBK_RULE_15A = 8 * 15 + 1, /* in the second profile alone */
-    LBK_RULE_15B = 8 * 15 + 2, /* in the second profile alone */
+    LBK_RULE_15 = 8 * 15,      /* only in the first profile */
+    LBK_RULE_15A = 8 * 15 + 1, /* only in the second profile */
+    LBK_RULE_15B = 8 * 15 + 2, /* only in the second profile */
     LBK_RULE_16 = 8 * 16,
     LBK_RULE_17 = 8 * 17,
     LBK_RULE_18 = 8 * 18,
@@ -114,7 +114,7 @@ enum {
     LBK_RULE_31 = 8 * 31
 };
 
-/* lbk_state.profile: which rules stand for quotation marks. With any other number lbk_breaks answers 0. */
+/* lbk_state.profile: which rules stand for quotation marks. With any other number lbk_breaks returns 0. */
 enum {
     LBK_FIRST = 0, /* rule 15 of Unicode 15.0 */
     LBK_SECOND = 1 /* rules 15a and 15b in its place, which look at both sides of a quotation mark */
@@ -139,10 +139,10 @@ enum {
     LBK_CAUSE_UNKNOWN_VALUE = 5, /* the name is none of the property's values */
     LBK_CAUSE_OVERLAP = 6,       /* the row shares a code with an earlier row of the file */
     LBK_CAUSE_TOO_MANY_ROWS = 7, /* the line would be the 65,537th row or default of the file */
-    LBK_CAUSE_OUT_OF_MEMORY = 8, /* the heap refused memory, at this line, or when all files were read (file and line are 0) */
-    LBK_CAUSE_TABLE_TOO_LARGE = 9, /* the rules need more steps than a table has, and it is proved that the cause comes only so. Those of
-                                      this version do not, whatever the files; that is tested and not proved. File and line are 0 */
-    LBK_CAUSE_NOT_PUBLISHED = 10 /* of lbk_read_published alone: the file is not the one that Unicode 15.0.0 published; line is 0 */
+    LBK_CAUSE_OUT_OF_MEMORY = 8, /* out of memory, at this line, or when all files were read (file and line are 0) */
+    LBK_CAUSE_TABLE_TOO_LARGE = 9, /* the rules need more steps than a table has; those of this version do not, whatever the files
+                                      (tested and not proved). File and line are 0 */
+    LBK_CAUSE_NOT_PUBLISHED = 10 /* only of lbk_read_published: the file is not the one that Unicode 15.0.0 published; line is 0 */
 };
 
 /* One step of a table: numbers of the library's own. */
@@ -175,7 +175,7 @@ typedef struct lbk_state {
     size_t at;       /* up to this byte of the text, not counting it, scalars were taken */
     uint16_t row;    /* what is known of them: a number of the table's */
     uint8_t profile; /* LBK_FIRST or LBK_SECOND; no call changes it */
-    uint8_t ended;   /* 0, or else nothing more is to come, and lbk_breaks answers 0 */
+    uint8_t ended;   /* 0, or else nothing more is to come, and lbk_breaks returns 0 */
 } lbk_state;
 
 /* How far a text was taken that comes in pieces. All zeros are its start in the first profile; set profile for the second. A
@@ -184,10 +184,10 @@ typedef struct lbk_state {
  * start. The others are numbers of the library's own. */
 typedef struct lbk_stream {
     uint64_t at;        /* up to this byte of the stream, not counting it, scalars were taken */
-    uint64_t held_at;   /* the one place that waits for what follows, where there is one; in the second profile alone */
+    uint64_t held_at;   /* the one place that waits for what follows, where there is one; only in the second profile */
     uint16_t row;       /* what is known of the scalars that were taken: a number of the table's */
     uint16_t held_code; /* the break that is due at held_at if what follows leaves the quotation open; 0: no place waits */
-    uint8_t cut[4];     /* the bytes behind `at` that came already, as those of a scalar that a piece's end cut */
+    uint8_t cut[4];     /* the bytes after `at` that came already, as those of a scalar that a piece's end cut */
     uint8_t cut_size;   /* how many these are */
     uint8_t profile;    /* LBK_FIRST or LBK_SECOND; no call changes it */
     uint8_t ended;      /* 0, or else nothing more is to come */
@@ -215,7 +215,7 @@ typedef struct lbk_fault {
 
 /* How far the words of a text were asked for. All zeros are the start of a text. As lbk_state it is
  * a value, and holds of each text that has the same bytes. `at` may also be set to any byte: the
- * text from there on is then taken alone. */
+ * text from there on is then a text of its own. */
 typedef struct lbk_word_state {
     size_t at; /* the byte from which the next words come */
 } lbk_word_state;
@@ -238,7 +238,7 @@ typedef struct lbk_text {
 /* Fills a table from the bytes of four files of the Unicode Character Database: LineBreak.txt, EastAsianWidth.txt,
  * DerivedGeneralCategory.txt and emoji-data.txt. Sizes are in bytes.
  *
- * Answers the first fault of the files, and LBK_CAUSE_NONE where they have none and memory sufficed; the table is filled then
+ * Returns the first fault of the files, and LBK_CAUSE_NONE where they have none and memory sufficed; the table is filled then
  * and only then. At a fault the table is as it was before the call. An empty file has no fault: all codes have the
  * property's fixed value. The call takes some 10 ms and some megabytes of the heap for files of Unicode 15.0. */
 lbk_fault lbk_read(lbk_table *table, const void *line_break, size_t line_break_size, const void *east_asian,
@@ -256,11 +256,11 @@ lbk_text lbk_cause_text(uint32_t cause);
 /* The name of a file by the number of lbk_fault.file, and `the four files` for LBK_NO_FILE; empty for any other number. */
 lbk_text lbk_file_name(uint32_t file);
 
-/* Puts the next breaks of a text, in the order of the text, into the front of a block with room for `room` breaks, and answers
- * how many. Fewer than `room` says that these were all; later calls with the state then answer 0. Each break of the text
+/* Puts the next breaks of a text, in the order of the text, into the front of a block with room for `room` breaks, and returns
+ * how many. Fewer than `room` says that these were all; later calls with the state then return 0. Each break of the text
  * comes once. The last one of a text that is not empty is its end: LBK_MUST by rule 3. An empty text has none.
  *
- * `text` is UTF-8, and is the whole text at each call, not the rest of it; `state` tells how far earlier calls came. Where
+ * `text` is UTF-8, and is the whole text at each call, not the rest of it; `state` says how far earlier calls came. Where
  * bytes are ill-formed, each longest piece that could have begun a scalar, or else each byte, is read as one U+FFFD at its
  * place (Unicode Standard, section 3.9, "U+FFFD Substitution of Maximal Subparts"), so each `at` counts the text's own bytes.
  *
@@ -268,9 +268,9 @@ lbk_text lbk_file_name(uint32_t file);
  * state's `at` on and up to `size`; and a state of which breaks came is further on than it was, or has ended, with its `at` at
  * `size`. So kinds and rules can be looked up in arrays, and calls while a block comes back full come to an end.
  *
- * Answers 0 and leaves the state as it is: where `room` is 0, where the state's profile is none of the two, where its `at` is
- * behind the text's end, and where it has ended. What the block has behind the breaks that are answered is not specified: any of
- * its places may be written. Takes no memory from the heap. */
+ * Returns 0 and leaves the state unchanged: where `room` is 0, where the state's profile is none of the two, where its `at` is
+ * past the text's end, and where it has ended. Entries of the block past the returned count are unspecified and may be
+ * overwritten. Takes no memory from the heap. */
 size_t lbk_breaks(const lbk_table *table, lbk_state *state, const char *text, size_t size, lbk_break *block, size_t room);
 
 /* The same for a text that comes in pieces of any size, as from a socket: takes the next piece of a stream, and puts the breaks
@@ -302,19 +302,19 @@ size_t lbk_breaks(const lbk_table *table, lbk_state *state, const char *text, si
  * and take all that they are given. Where the block is full, call again with the rest of the piece (it may be empty) and the
  * same `last`.
  *
- * A break is given by the call that brings what settles it: the whole of the scalar behind it. Where a closing quotation mark
- * stands behind it, the second profile may need the next scalar too that is no combining mark; at most one place waits so.
+ * A break is given by the call that brings what settles it: the whole of the scalar after it. Where that is a closing
+ * quotation mark, the second profile may also need the next scalar that is no combining mark; at most one place waits so.
  *
- * Takes nothing and leaves the stream as it is where `room` is 0. Gives no break and takes all where the stream's profile is
- * none of the two. A stream has fewer than 2^64 bytes. What the block has behind the breaks that are given is not specified.
- * Takes no memory from the heap. */
+ * Takes nothing and leaves the stream unchanged where `room` is 0. Gives no break and takes all where the stream's profile is
+ * none of the two. A stream has fewer than 2^64 bytes. Entries of the block past `count` are unspecified. Takes no memory from
+ * the heap. */
 lbk_fed lbk_feed(const lbk_table *table, lbk_stream *stream, const char *piece, size_t size, bool last, lbk_break *block,
                  size_t room);
 
 /* Puts the next positions of a text into the front of a block, as lbk_breaks puts its breaks, and returns how many. A text has one
  * position before each scalar and one at its end, and each comes once with what decides there: kind is LBK_NO, LBK_MAY or
  * LBK_MUST, and rule the first rule that matches. So it says why a line does not break somewhere, too. The first position is
- * always LBK_NO by rule 2; an empty text has that one alone. The positions where a line may or must end are the breaks of lbk_breaks.
+ * always LBK_NO by rule 2; an empty text has only that one. The positions where a line may or must end are the breaks of lbk_breaks.
  *
  * All else is as lbk_breaks has it: states, ill-formed bytes, room, and calls from which nothing comes. Each position of a text
  * of n bytes takes one place of a block, so there are n + 1 at most. Takes no memory from the heap. */
@@ -338,10 +338,10 @@ size_t lbk_positions(const lbk_table *table, lbk_state *state, const char *text,
  * properties are those of LBK_WORDS_UNICODE_VERSION.
  *
  * `text`, `size` and ill-formed bytes are as lbk_breaks has them. `text` is the whole text at each
- * call, and the state tells how far earlier calls came: always to a word boundary. All calls for a
- * text take time in proportion to its size, whatever `room` is. Returns 0 and leaves the state as it
- * is where `room` is 0, and where the state's `at` is the text's size or more. What the block has
- * after the words is not specified. Takes no memory from the heap. */
+ * call, and the state says how far earlier calls came: always to a word boundary. All calls for a
+ * text take time in proportion to its size, whatever `room` is. Returns 0 and leaves the state
+ * unchanged where `room` is 0, and where the state's `at` is the text's size or more. Entries of the
+ * block past the returned count are unspecified. Takes no memory from the heap. */
 size_t lbk_words(lbk_word_state *state, const char *text, size_t size, lbk_word *block, size_t room);
 
 /* Returns the first byte at or after `at` where a part of the text may begin: one before which a line
@@ -374,7 +374,7 @@ lbk_rule_label lbk_label(uint8_t rule);
 lbk_text lbk_version(void);
 
 /* Whether a table is whole: its layout is LBK_LAYOUT, and its digest is that of its other bytes. True of each table that
- * lbk_read of this version filled, and of each copy of one. Bytes that changed by accident are told in all but rare cases; the
+ * lbk_read of this version filled, and of each copy of one. Bytes that changed by accident are found in all but rare cases; the
  * digest is no defence against bytes that someone chose. A table need not be whole to be safe to use. */
 bool lbk_check(const lbk_table *table);
 

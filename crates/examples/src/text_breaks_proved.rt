@@ -15,7 +15,8 @@ use std::test::Fail;
 
 /// All breaks of a text.
 fn all_breaks(alloc: Global, cells: &CellPages, text: &str) -> Result<Vec<Break>, AllocError>
-    ensures { IfOk result (λ found. found.items ≡ breaks First (page_cell cells.now) (chars text.now)) }
+    ensures { IfOk result (λ found.
+        found.items ≡ breaks First (page_cell cells.now) (chars text.now)) }
 {
     Breaks::new(cells, text, Profile::First).collect(alloc)
 }

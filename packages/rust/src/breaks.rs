@@ -186,7 +186,7 @@ pub struct Segment<'a> {
 
 /// The segments of a text between its breaks, in their order.
 #[derive(Clone, Debug)]
-// In this order, since a zero behind the block of the breaks would have the compiler write zeros all over it.
+// In this order, since a zero after the block of the breaks would have the compiler write zeros all over it.
 #[repr(C)]
 pub struct Segments<'a> {
     text: &'a str,

@@ -67,7 +67,7 @@ pub enum Cause {
     OutOfMemory,
     /// The rules need more steps than a table has, which no files make them.
     TableTooLarge,
-    /// The file is not the one that Unicode published, of [`Table::read_published`](crate::Table::read_published) alone.
+    /// The file is not the one that Unicode published; only of [`Table::read_published`](crate::Table::read_published).
     NotPublished,
 }
 
