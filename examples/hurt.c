@@ -8,6 +8,9 @@
 #define _DEFAULT_SOURCE
 #include "trying.h"
 
+/* Most texts are short, so that there are many; some are longer than any block that the library could hold of them. */
+enum { MOST_LONG_TEXT = 20000, MOST_LONG_ROOM = 3000, LONG_EACH = 50 };
+
 static uint64_t digest(const void *of, size_t size)
 {
     const unsigned char *byte = of;
@@ -27,18 +30,76 @@ static int are_in_order(const lbk_break *block, size_t count, size_t from, size_
     return 1;
 }
 
-/* Asks for breaks until none comes, with rooms of all sizes. What holds of any table, state and text holds here. */
-static void go_over(const lbk_table *table, fenced texts, fenced states, fenced blocks, lbk_state from)
+/* Whether each position has a kind and a rule that there are, and stands behind the one before, none before `from`. */
+static int are_positions(const lbk_break *block, size_t count, size_t from, size_t to)
 {
-    char made[MOST_TEXT];
-    size_t size = random_text(made);
+    for (size_t k = 0; k < count; from = block[k++].at + 1)
+        if (block[k].kind > LBK_MUST || lbk_label(block[k].rule).text[0] == 0 || block[k].at < from || block[k].at >= to)
+            return 0;
+    return 1;
+}
+
+/* The same of positions: they rise, and the state goes on with them. */
+static void go_over_positions(const lbk_table *table, const char *text, size_t size, lbk_state *state, fenced blocks,
+                              lbk_state from, size_t most_room)
+{
+    *state = from;
+    for (unsigned calls = 0; calls < 4 * MOST_LONG_TEXT; calls++) {
+        size_t room = below(most_room + 1);
+        lbk_break *block = place(blocks, room * sizeof *block);
+        lbk_state old = *state;
+        size_t count = lbk_positions(table, state, text, size, block, room);
+        told("no more positions than there is room for", count <= room);
+        told("positions: the profile stays, the place goes on within the text",
+             state->profile == from.profile && state->at >= old.at && (state->at <= size || state->at == old.at));
+        told("positions in order, between the places", are_positions(block, count, old.at, state->ended ? size + 1 : state->at));
+        if (count < room)
+            break;
+    }
+}
+
+/* The text as a stream in pieces, from a stream of random bytes or from the start. */
+static void go_over_pieces(const lbk_table *table, const char *text, size_t size, fenced blocks, size_t most_room)
+{
+    lbk_stream stream = {0};
+    if (below(2) == 0)
+        fill_random(&stream, sizeof stream);
+    uint8_t profile = stream.profile;
+    size_t from = 0;
+    for (unsigned calls = 0; from < size && calls < 4 * MOST_LONG_TEXT; calls++) {
+        size_t room = 1 + below(most_room), piece = below(size - from) + 1;
+        lbk_break *block = place(blocks, room * sizeof *block);
+        lbk_fed fed = lbk_feed(table, &stream, text + from, piece, from + piece == size, block, room);
+        told("no more of a piece is taken than it has, and no more breaks given than there is room for",
+             fed.taken <= piece && fed.count <= room && (fed.count == room || fed.taken == piece));
+        told("pieces: the profile stays", stream.profile == profile);
+        for (size_t k = 0; k < fed.count; k++)
+            told("pieces: each break is a kind by a rule",
+                 (block[k].kind == LBK_MAY || block[k].kind == LBK_MUST) && lbk_label(block[k].rule).text[0] != 0);
+        from += fed.taken;
+    }
+}
+
+/* Cuts at a random place: they stand on the right side of it, within the text. */
+static void go_over_cuts(const lbk_table *table, const char *text, size_t size)
+{
+    size_t at = below(size + 2), next = lbk_cut(table, text, size, at), last = lbk_cut_before(table, text, size, at);
+    told("a cut at or after a place", next <= size && (at >= size ? next == size : next >= at));
+    told("a cut at or before a place", last <= size && (at >= size ? last == size : last <= at));
+}
+
+/* Asks for breaks until none comes, with rooms of all sizes. What holds of any table, state and text holds here. */
+static void go_over(const lbk_table *table, fenced texts, fenced states, fenced blocks, lbk_state from, int is_long)
+{
+    static char made[MOST_LONG_TEXT];
+    size_t size = random_text_of(made, is_long ? MOST_LONG_TEXT : MOST_TEXT), most_room = is_long ? MOST_LONG_ROOM : MOST_ROOM;
     char *text = place(texts, size);
     memcpy(text, made, size);
     lbk_state *state = place(states, sizeof *state);
     *state = from;
     size_t sum = 0;
-    for (unsigned calls = 0; calls < 4 * MOST_TEXT; calls++) {
-        size_t room = below(MOST_ROOM + 1);
+    for (unsigned calls = 0; calls < 4 * MOST_LONG_TEXT; calls++) {
+        size_t room = below(most_room + 1);
         lbk_break *block = place(blocks, room * sizeof *block);
         lbk_state old = *state;
         size_t count = lbk_breaks(table, state, text, size, block, room);
@@ -55,6 +116,9 @@ static void go_over(const lbk_table *table, fenced texts, fenced states, fenced 
     }
     told("no more breaks than places", sum <= size + 1);
     told("the text is as it was", memcmp(text, made, size) == 0);
+    go_over_positions(table, text, size, state, blocks, from, most_room);
+    go_over_pieces(table, text, size, blocks, most_room);
+    go_over_cuts(table, text, size);
 }
 
 static lbk_state random_state(void)
@@ -152,7 +216,8 @@ static void read_changed(lbk_table *table, const bytes *files)
         told("no fault: a whole table", lbk_check(table) && fault.file == LBK_NO_FILE && fault.line == 0);
     } else {
         told("a fault: the table is as it was", digest(table, sizeof *table) == old);
-        told("a fault: one of a file", fault.cause <= LBK_CAUSE_TOO_MANY_ROWS && fault.file >= LBK_LINE_BREAK && fault.file <= LBK_EMOJI);
+        told("a fault: one of a file",
+             fault.cause <= LBK_CAUSE_TOO_MANY_ROWS && fault.file >= LBK_LINE_BREAK && fault.file <= LBK_EMOJI);
     }
     for (int k = 0; k < 4; k++)
         free(changed[k].at);
@@ -188,13 +253,13 @@ int main(int words, char **word)
     for (int k = 0; k < 4; k++)
         files[k] = load(word[3 + k]);
 
-    fenced tables = fence(sizeof(lbk_table)), texts = fence(MOST_TEXT), states = fence(sizeof(lbk_state));
-    fenced blocks = fence(MOST_ROOM * sizeof(lbk_break));
+    fenced tables = fence(sizeof(lbk_table)), texts = fence(MOST_LONG_TEXT), states = fence(sizeof(lbk_state));
+    fenced blocks = fence(MOST_LONG_ROOM * sizeof(lbk_break));
     for (unsigned long round = 0; round < rounds; round += ROUNDS_WITH_A_TABLE) {
         lbk_table *table = random_table(tables, &real);
         uint64_t old = digest(table, sizeof *table);
         for (unsigned times = 0; times < ROUNDS_WITH_A_TABLE; times++) {
-            go_over(table, texts, states, blocks, random_state());
+            go_over(table, texts, states, blocks, random_state(), times % LONG_EACH == 0);
             compare_rooms(&real);
             go_over_words(texts, states, blocks);
         }

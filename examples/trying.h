@@ -13,7 +13,7 @@ enum { MOST_TEXT = 200, MOST_ROOM = 40 };
 static unsigned long passed, failed;
 static uint64_t seed;
 
-static void told(const char *what, int holds)
+static inline void told(const char *what, int holds)
 {
     if (holds) {
         passed++;
@@ -23,7 +23,7 @@ static void told(const char *what, int holds)
 }
 
 /* A number below `most` (xorshift64*, which is enough for trying). */
-static uint64_t below(uint64_t most)
+static inline uint64_t below(uint64_t most)
 {
     seed ^= seed >> 12;
     seed ^= seed << 25;
@@ -31,7 +31,7 @@ static uint64_t below(uint64_t most)
     return most == 0 ? 0 : (seed * 0x2545F4914F6CDD1DULL >> 11) % most;
 }
 
-static void fill_random(void *to, size_t size)
+static inline void fill_random(void *to, size_t size)
 {
     unsigned char *byte = to;
     for (size_t k = 0; k < size; k++)
@@ -43,7 +43,7 @@ typedef struct fenced {
     unsigned char *from, *to;
 } fenced;
 
-static fenced fence(size_t size)
+static inline fenced fence(size_t size)
 {
     size_t page = (size_t)sysconf(_SC_PAGESIZE), whole = (size + page - 1) / page * page;
     unsigned char *all = mmap(NULL, whole + 2 * page, PROT_NONE, MAP_PRIVATE | MAP_ANONYMOUS, -1, 0);
@@ -53,18 +53,18 @@ static fenced fence(size_t size)
 }
 
 /* A place of so many bytes in the pages, that ends where they end or begins where they begin. */
-static void *place(fenced pages, size_t size)
+static inline void *place(fenced pages, size_t size)
 {
     return below(2) == 0 ? (void *)pages.from : (void *)(pages.to - size);
 }
 
-/* Bytes that look like text more or less: random ones, scalars of each size, and cut ones. */
-static size_t random_text(char *to)
+/* Bytes that look like text more or less, `longest` at most: random ones, scalars of each size, and cut ones. */
+static inline size_t random_text_of(char *to, size_t longest)
 {
     static const char *const parts[] = {"a", " ", "\n", "\r\n", "(", "\"", "\xC2\xAB", "\xC2\xBB", "\xCC\x81", "\xE2\x80\x8D",
         "\xE4\xB8\x80", "\xEA\xB0\x80", "\xF0\x9F\x87\xA6", "\xF0\x9F\x98\x80", "\xF0\x9F\x8F\xBB", "\xE2\x80\x8B", "1", ",", "%",
         "-", "\xD7\x90", "\xE0", "\xF0\x9F", "\xC3", "\xED\xA0\x80", "\xF4\x90", "\xEF\xBF\xBD", "\xC2\xA0"};
-    size_t size = 0, most = below(MOST_TEXT + 1);
+    size_t size = 0, most = below(longest + 1);
     unsigned mix = (unsigned)below(3);
     while (size < most) {
         const char *part = parts[below(sizeof parts / sizeof *parts)];
@@ -77,6 +77,11 @@ static size_t random_text(char *to)
         }
     }
     return size;
+}
+
+static inline size_t random_text(char *to)
+{
+    return random_text_of(to, MOST_TEXT);
 }
 
 #endif

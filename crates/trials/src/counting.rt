@@ -1,6 +1,6 @@
 //! Where growths of memory are counted.
 //!
-//! A library that is loaded before the program, `scripts/refuse.c`, refuses growths. It is told by requests for room
+//! A library that is loaded before the program, `checks/c/refuse.c`, refuses growths. It is told by requests for room
 //! of two sizes, which nothing else here asks for, where to begin to count and where to stop. Without the library
 //! they are plain requests.
 

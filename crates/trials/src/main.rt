@@ -1,7 +1,7 @@
 //! `trials`: each call that can want memory, and each that takes none, run once on its own input.
 //!
 //! `trials ROW PROFILE` runs a row of the table and writes what the call answered. Without words it runs all
-//! rows, and heads each with its name. It is run by `scripts/refuse-each-growth`, which refuses the growths of
+//! rows, and heads each with its name. It is run by `scripts/check refused-allocations`, which refuses the growths of
 //! memory in turn and compares.
 //!
 //! The rows are calls that want memory or take none, each on an input of its own, and what is told of their answers.

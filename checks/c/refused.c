@@ -1,8 +1,8 @@
-/* Refuses each growth of memory of lbk_read in turn, alone and with all later ones. The call has to answer that it is out of
+/* Refuses each allocation of lbk_read in turn, alone and with all later ones. The call has to say that it is out of
  * memory, leave the table as it was and give back all that it took; it is called again with more room until none is refused.
  * The other calls must take no memory. Needs glibc. The words name the four files; the last line is `N passed, M failed`.
  */
-#include "../examples/example.h"
+#include "../../examples/example.h"
 #include <string.h>
 
 extern void *__libc_malloc(size_t);
@@ -11,17 +11,17 @@ extern void *__libc_realloc(void *, size_t);
 extern void *__libc_memalign(size_t, size_t);
 extern void __libc_free(void *);
 
-static unsigned long growths, refused_number, refusals;
+static unsigned long allocations, refused_number, refusals;
 static long held;
 static int is_counting, refuses_later;
 
-/* Whether this growth is refused. */
+/* Whether this allocation is refused. */
 static int is_refused(void)
 {
     if (!is_counting)
         return 0;
-    growths++;
-    if (growths < refused_number || (growths > refused_number && !refuses_later))
+    allocations++;
+    if (allocations < refused_number || (allocations > refused_number && !refuses_later))
         return 0;
     refusals++;
     return 1;
@@ -85,17 +85,17 @@ static void told(const char *what, unsigned long number, int holds)
         passed++;
     } else {
         failed++;
-        printf("FAILED  growth %lu: %s\n", number, what);
+        printf("FAILED  allocation %lu: %s\n", number, what);
     }
 }
 
 static lbk_table table, before;
 
-/* Reads the files, growth `number` refused, and tells whether one was. */
-static int try_growth(const bytes *files, unsigned long number)
+/* Reads the files, allocation `number` refused, and returns whether one was. */
+static int try_allocation(const bytes *files, unsigned long number)
 {
     memset(&table, 0xA5, sizeof table);
-    growths = refusals = 0, held = 0, refused_number = number, is_counting = 1;
+    allocations = refusals = 0, held = 0, refused_number = number, is_counting = 1;
     lbk_fault fault = lbk_read(&table, files[0].at, files[0].size, files[1].at, files[1].size, files[2].at, files[2].size,
                                files[3].at, files[3].size);
     is_counting = 0;
@@ -115,12 +115,12 @@ static void try_others(void)
     static const char text[] = "ab cd\n(e) \xE4\xB8\x80\xFF";
     lbk_state state = {0};
     lbk_break block[4];
-    growths = 0, refused_number = 1, refuses_later = 1, is_counting = 1;
+    allocations = 0, refused_number = 1, refuses_later = 1, is_counting = 1;
     size_t count = lbk_breaks(&table, &state, text, sizeof text - 1, block, 4);
     lbk_rule_label label = lbk_label(block[0].rule);
     int whole = lbk_check(&table);
     is_counting = 0;
-    told("the other calls take no memory", 0, growths == 0 && count == 4 && label.text[0] != 0 && whole);
+    told("the other calls take no memory", 0, allocations == 0 && count == 4 && label.text[0] != 0 && whole);
 }
 
 int main(int count, char **words)
@@ -136,11 +136,11 @@ int main(int count, char **words)
     unsigned long most = 0;
     for (refuses_later = 0; refuses_later < 2; refuses_later++) {
         unsigned long number = 1;
-        while (try_growth(files, number))
+        while (try_allocation(files, number))
             number++;
         most = number - 1;
     }
-    told("there are growths to refuse", most, most > 0);
+    told("there are allocations to refuse", most, most > 0);
     try_others();
     printf("%u passed, %u failed\n", passed, failed);
     return failed != 0;

@@ -1,17 +1,13 @@
-#!/usr/bin/env python3
-"""Compares docs/lbk.1 with what the program says of itself: the subcommands and options of `lbk --help` and of each subcommand's
-help are those of the man page, none missing in either. It ends with `N passed, M failed`.
-"""
-import re
-import subprocess
-import sys
-from pathlib import Path
+"""docs/lbk.1 has the subcommands and options that the program's help has, none missing in either."""
 
-TOP = Path(__file__).resolve().parent.parent
+import re
+
+from checks.harness import TOP, built_program
+from checks.program import run as run_program
 
 
 def help_of(*words):
-    return subprocess.run([TOP / "lbk", *words, "--help"], capture_output=True, text=True, check=True).stdout
+    return run_program([built_program(), *words, "--help"]).out.decode()
 
 
 def subcommands(text):
@@ -24,23 +20,14 @@ def options(text):
     return set(re.findall(r"--[a-z][a-z-]*", "\n".join(line[:25] for line in part.split("\n"))))
 
 
-def main():
+def run(tally, _arguments):
     page = (TOP / "docs/lbk.1").read_text(encoding="utf-8").replace("\\-", "-")
     sections = dict(re.findall(r"^\.SH ([A-Z ]+)\n(.*?)(?=^\.SH |\Z)", page, re.M | re.S))
     page_subcommands = set(re.findall(r"^\.TP\n\.B (\w+)$", sections["COMMANDS"], re.M))
     page_options = set(re.findall(r"--[a-z][a-z-]*", "\n".join(re.findall(r"^\.TP\n(\.B.*)$", sections["OPTIONS"], re.M))))
     own = help_of()
     said = options(own).union(*(options(help_of(name)) for name in subcommands(own) - {"help"}))
-    passed = failed = 0
     for what, there, here in [("subcommand", subcommands(own), page_subcommands), ("option", said, page_options)]:
         for name in sorted(there | here):
-            if name in there and name in here:
-                passed += 1
-            else:
-                failed += 1
-                print(f"FAILED  {what} {name} is missing in {'docs/lbk.1' if name in there else 'the help'}")
-    print(f"{passed} passed, {failed} failed")
-    return 1 if failed else 0
-
-
-sys.exit(main())
+            where = "docs/lbk.1" if name in there else "the help"
+            tally.tell(f"{what} {name}", None if name in there and name in here else f"it is missing in {where}")

@@ -1,18 +1,17 @@
-#!/usr/bin/env python3
-"""Keeps the contracts that docs/proof/contracts.md quotes as they are in the sources. A line
+"""The contracts that docs/proof/contracts.md quotes, as they are in the sources.
+
+A line
 
     <!-- contract FILE FUNCTION [CLAUSE..] -->
 
-stands above a block, which has the clauses of this function, or those that are named.
-
-    scripts/quote-contracts            compares, and ends with `N passed, M failed`
-    scripts/quote-contracts --write    puts the clauses into the page, and then compares
+stands above a block, which has the clauses of this function, or those that are named. With the argument --write it puts the
+clauses into the page, and then compares.
 """
-import re
-import sys
-from pathlib import Path
 
-TOP = Path(__file__).resolve().parent.parent
+import re
+
+from checks.harness import TOP
+
 PAGE = TOP / "docs/proof/contracts.md"
 BLOCK = re.compile(r"(<!-- contract (\S+) (\w+)((?: \w+)*) -->\n```text\n)(.*?)(```\n)", re.S)
 WIDTH = 100
@@ -44,6 +43,7 @@ def wrapped(clause):
 
 
 def quoted(path, function, names):
+    """The block of a function."""
     clauses = clauses_of(path, function)
     lost = [name for name in names if name not in clauses]
     if lost or not clauses:
@@ -51,34 +51,15 @@ def quoted(path, function, names):
     return "".join(line + "\n" for name in names or clauses for line in wrapped(clauses[name]))
 
 
-def main():
-    write = "--write" in sys.argv[1:]
-    faults, passed = [], 0
-
-    def filled(block):
-        nonlocal passed
-        head, path, function, names, old, end = block.groups()
-        try:
-            new = quoted(path, function, names.split())
-        except (LookupError, OSError) as error:
-            faults.append(str(error))
-            return block[0]
-        if new != old and not write:
-            faults.append(f"{path}: the page quotes {function} otherwise; scripts/quote-contracts --write mends it")
-        else:
-            passed += 1
-        return head + new + end
-
+def run(tally, arguments):
     page = PAGE.read_text(encoding="utf-8")
-    mended = BLOCK.sub(filled, page)
-    if page.count("<!-- contract ") != passed + len(faults) or passed + len(faults) == 0:
-        faults.append(f"{page.count('<!-- contract ')} blocks are marked, and {passed + len(faults)} are blocks")
-    if write:
-        PAGE.write_text(mended, encoding="utf-8")
-    for fault in faults:
-        print("FAILED ", fault)
-    print(f"{passed} passed, {len(faults)} failed")
-    return 1 if faults else 0
-
-
-sys.exit(main())
+    if "--write" in arguments:
+        page = BLOCK.sub(lambda block: block[1] + quoted(block[2], block[3], block[4].split()) + block[6], page)
+        PAGE.write_text(page, encoding="utf-8")
+    blocks = BLOCK.findall(page)
+    for _, path, function, names, shown, _ in blocks:
+        try:
+            tally.equal(f"{function} of {path}", shown, quoted(path, function, names.split()))
+        except (LookupError, OSError) as why:
+            tally.tell(f"{function} of {path}", str(why))
+    tally.equal("blocks that are marked", len(blocks), page.count("<!-- contract "))

@@ -1,7 +1,7 @@
 #!/usr/bin/env bash
 # Installs the library for C into a fresh folder, builds the examples and packages against it by pkg-config, and runs them.
 #
-#     scripts/library [TEXT..]
+#     scripts/check c-library -- TEXT..
 #
 # The examples have to write the segments that `lbk segment` writes, in both profiles, over the published files of Unicode 15.0
 # (on Debian the package unicode-data, elsewhere the folder that UNICODE_DATA names) and each TEXT. Where these files are not
@@ -82,9 +82,9 @@ for line in open(sys.argv[1], encoding="utf-8"):
 PYTHON
     texts+=("$here/test-lines")
     oracle=(random published scalars)
-    "$top/scripts/word-oracle" "$ucd" random 40000 1 "$here/random" > "$here/random-words" || told 'word-oracle, random bytes' "status $?"
-    "$top/scripts/word-oracle" "$ucd" published "$here/published" > "$here/published-words" || told 'word-oracle, the published test' "status $?"
-    "$top/scripts/word-oracle" "$ucd" scalars "$here/scalars" > "$here/scalars-words" || told 'word-oracle, each scalar' "status $?"
+    "$top/checks/word_oracle.py" "$ucd" random 40000 1 "$here/random" > "$here/random-words" || told 'word_oracle, random bytes' "status $?"
+    "$top/checks/word_oracle.py" "$ucd" published "$here/published" > "$here/published-words" || told 'word_oracle, the published test' "status $?"
+    "$top/checks/word_oracle.py" "$ucd" scalars "$here/scalars" > "$here/scalars-words" || told 'word_oracle, each scalar' "status $?"
 else
     left_out "the published files of Unicode 15.0, which are in the package unicode-data; the stored runs' files are taken"
     files=("${names[@]##*/}")
@@ -127,7 +127,7 @@ compare() {
 
 # try_words WHAT PROGRAM: the words that a program writes of each text have to be those of
 # `lbk segment`, whatever the block's room; and of random bytes, of the published test and of each
-# scalar those that scripts/word-oracle finds by the rules as they are printed.
+# scalar those that checks/word_oracle.py finds by the rules as they are printed.
 try_words() {
     local what=$1 program=$2 wrong='' number room
     if [ ${#oracle[@]} = 0 ]; then
@@ -184,7 +184,7 @@ try_c() {
         tried "$1: $name.c" "$1" -std=c99 "${warnings[@]}" "${checks[@]}" "${flags[@]}" "$top/examples/$name.c" "${links[@]}" \
             -o "$here/built/$name-$1"
     done
-    tried "$1: refused.c" "$1" -std=c99 "${warnings[@]}" "${flags[@]}" "$top/scripts/refused.c" "${links[@]}" -o "$here/built/refused-$1"
+    tried "$1: refused.c" "$1" -std=c99 "${warnings[@]}" "${flags[@]}" "$top/checks/c/refused.c" "${links[@]}" -o "$here/built/refused-$1"
     compare "$1: breaks.c" "$here/built/breaks-$1"
     try_words "$1: words.c" "$here/built/words-$1"
     count "$1: edges.c" "$here/built/edges-$1"
@@ -192,7 +192,7 @@ try_c() {
     count "$1: streams.c" "$here/built/streams-$1" 20000 1 "${files[@]}"
     count "$1: cuts.c" "$here/built/cuts-$1" 5000 1 "${files[@]}"
     if [ -n "$published" ]; then count "$1: published.c" "$here/built/published-$1" "${files[@]}"; fi
-    count "$1: refused.c, each growth of memory refused" "$here/built/refused-$1" "${files[@]}"
+    count "$1: refused.c, each allocation refused" "$here/built/refused-$1" "${files[@]}"
 }
 
 # refuses COMPILER RANGE: the header has to refuse a range over a temporary, in a program that compiles with another.

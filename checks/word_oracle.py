@@ -1,9 +1,9 @@
 #!/usr/bin/env python3
 """Writes the words of texts by the rules of UAX #29 as they are printed.
 
-    word-oracle FOLDER random COUNT SEED TEXT > WANTED    random bytes into TEXT, and their words
-    word-oracle FOLDER published TEXT > WANTED            the same of the published test
-    word-oracle FOLDER scalars TEXT > WANTED              the same of each assigned scalar
+    word_oracle.py FOLDER random COUNT SEED TEXT > WANTED    random bytes into TEXT, and their words
+    word_oracle.py FOLDER published TEXT > WANTED            the same of the published test
+    word_oracle.py FOLDER scalars TEXT > WANTED              the same of each assigned scalar
 
 FOLDER has the files of the Unicode Character Database, as Debian's package unicode-data does. A
 word is written as the line `W START END`. The published test and the scalars are a line each. It
@@ -14,8 +14,10 @@ import sys
 
 # Scalars of each value of Word_Break, with the same values from version 15.0 to 18.0.
 SAMPLES = (
-    "\r\n\v\u2028\u200d\u0308\u094d\u093e\u00ad\u2060\U0001f1e6\U0001f1fa\u30a2\u30fc\u05d0\u05ea\u0041\u007a\u00e9\u0436\uac00\u0627"
-    "\u003a\u00b7\u002c\u003b\u002e\u2018\u2024\u0027\u0022\u0030\u0039\u0665\u005f\u203f\u0020\u3000\u4e00\u3042\u0e01\u2615\U0001f600"
+    "\r\n\v\u2028\u200d\u0308\u094d\u093e\u00ad\u2060\U0001f1e6\U0001f1fa\u30a2\u30fc\u05d0\u05ea"
+    "\u0041\u007a\u00e9\u0436\uac00\u0627"
+    "\u003a\u00b7\u002c\u003b\u002e\u2018\u2024\u0027\u0022\u0030\u0039\u0665"
+    "\u005f\u203f\u0020\u3000\u4e00\u3042\u0e01\u2615\U0001f600"
     "\U0001f3fb\U0001f469\ufffd\uff9e\u24b6\u2160\u00bd\u002d\u0021\u0000"
 )
 ILL_FORMED = (b"\x80", b"\xc3", b"\xe0\x80", b"\xe4\xb8", b"\xed\xa0\x80", b"\xf0\x9f\x98", b"\xf4\x90", b"\xff")
@@ -202,4 +204,5 @@ def main():
         out.write(text)
 
 
-main()
+if __name__ == "__main__":
+    main()

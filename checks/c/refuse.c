@@ -1,13 +1,13 @@
-/* Refuses growths of memory of the program that it is loaded before (LD_PRELOAD).
+/* Refuses allocations of the program that it is loaded before (LD_PRELOAD).
  *
- * A growth is a request to the C library for memory: malloc, calloc, realloc or one of their aligned kin. The program
+ * An allocation is a request to the C library for memory: malloc, calloc, realloc or one of their aligned kin. The program
  * tells where they are counted by asking for BEGIN bytes, and where no longer by asking for END; such a request is
  * itself never counted.
  *
- *   REFUSE=n           the n-th growth that is counted is refused; 0 or nothing: none is
+ *   REFUSE=n           the n-th allocation that is counted is refused; 0 or nothing: none is
  *   REFUSE_LATER=1     all later ones are refused too
- *   REFUSE_FROM_START=1  growths are counted from the start of the program on, whatever it asks for
- *   REFUSE_TOLD=FILE   a byte is written to the file for each growth that is refused, `x`, and where counting begins, `b`
+ *   REFUSE_FROM_START=1  allocations are counted from the start of the program on, whatever it asks for
+ *   REFUSE_TOLD=FILE   a byte is written to the file for each allocation that is refused, `x`, and where counting begins, `b`
  */
 #include <errno.h>
 #include <fcntl.h>
@@ -41,7 +41,7 @@ static void tell(const char *what)
         abort();
 }
 
-/* Whether a growth to this many bytes is refused. */
+/* Whether an allocation of this many bytes is refused. */
 static int is_refused(size_t size)
 {
     if (!is_ready)

@@ -1,0 +1,1 @@
+"""The checks of what is built: `scripts/check --list` names them, `scripts/check NAME..` runs them."""

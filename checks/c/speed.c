@@ -1,0 +1,162 @@
+/* Times the calls of the library over texts of letters of one, two and three bytes, and over others, against a loop that takes a
+ * byte a step through a small table, as any machine does at its own speed.
+ *
+ *     speed LINE_BREAK EAST_ASIAN CATEGORY EMOJI TEXT..
+ *
+ * Writes for each text lines `TEXT CALL RATIO`: how many times as fast as the loop a call goes over its bytes, by the best of
+ * several runs of each in processor time.
+ */
+#define _DEFAULT_SOURCE
+#include "../../examples/example.h"
+
+#include <time.h>
+
+enum { ROOM = 256, RUNS = 40, SHORT = 8, PIECE = 4096 };
+
+static lbk_table table;
+static lbk_break block[ROOM];
+static lbk_word words[ROOM];
+static uint8_t small[256][4];
+static volatile uint64_t kept;
+
+static double now(void)
+{
+    struct timespec at;
+    clock_gettime(CLOCK_PROCESS_CPUTIME_ID, &at);
+    return (double)at.tv_sec + (double)at.tv_nsec * 1e-9;
+}
+
+static uint64_t go_byte_by_byte(const char *text, size_t size)
+{
+    unsigned state = 0;
+    uint64_t sum = 0;
+    for (size_t k = 0; k < size; k++) {
+        state = small[(unsigned char)text[k]][state];
+        sum += state;
+    }
+    return sum;
+}
+
+static uint64_t breaks_of(const char *text, size_t size, uint8_t profile)
+{
+    lbk_state state = {0};
+    uint64_t sum = 0;
+    size_t count;
+    state.profile = profile;
+    do {
+        count = lbk_breaks(&table, &state, text, size, block, ROOM);
+        sum += count;
+    } while (count == ROOM);
+    return sum;
+}
+
+static uint64_t go_first(const char *text, size_t size)
+{
+    return breaks_of(text, size, LBK_FIRST);
+}
+
+static uint64_t go_second(const char *text, size_t size)
+{
+    return breaks_of(text, size, LBK_SECOND);
+}
+
+/* A call for each eight bytes, as for cells of a table. */
+static uint64_t go_short(const char *text, size_t size)
+{
+    uint64_t sum = 0;
+    for (size_t at = 0; at + SHORT <= size; at += SHORT)
+        sum += breaks_of(text + at, SHORT, LBK_FIRST);
+    return sum;
+}
+
+static uint64_t go_positions(const char *text, size_t size)
+{
+    lbk_state state = {0};
+    uint64_t sum = 0;
+    size_t count;
+    do {
+        count = lbk_positions(&table, &state, text, size, block, ROOM);
+        sum += count;
+    } while (count == ROOM);
+    return sum;
+}
+
+static uint64_t feed_of(const char *text, size_t size, size_t most)
+{
+    lbk_stream stream = {0};
+    uint64_t sum = 0;
+    for (size_t from = 0; from < size;) {
+        size_t piece = size - from < most ? size - from : most;
+        lbk_fed fed = lbk_feed(&table, &stream, text + from, piece, from + piece == size, block, ROOM);
+        from += fed.taken;
+        sum += fed.count;
+    }
+    return sum;
+}
+
+static uint64_t go_feed(const char *text, size_t size)
+{
+    return feed_of(text, size, PIECE);
+}
+
+static uint64_t go_feed_short(const char *text, size_t size)
+{
+    return feed_of(text, size, SHORT);
+}
+
+static uint64_t go_words(const char *text, size_t size)
+{
+    lbk_word_state state = {0};
+    uint64_t sum = 0;
+    size_t count;
+    do {
+        count = lbk_words(&state, text, size, words, ROOM);
+        sum += count;
+    } while (count == ROOM);
+    return sum;
+}
+
+static double seconds_of(uint64_t (*go)(const char *, size_t), const bytes *text)
+{
+    double start = now();
+    kept += go(text->at, text->size);
+    return now() - start;
+}
+
+/* How many times as fast as the loop a call is, by runs of each in turn. */
+static double ratio_of(uint64_t (*go)(const char *, size_t), const bytes *text)
+{
+    double loop = 1e9, call = 1e9;
+    for (int run = 0; run < RUNS; run++) {
+        double took = seconds_of(go_byte_by_byte, text);
+        loop = took < loop ? took : loop;
+        took = seconds_of(go, text);
+        call = took < call ? took : call;
+    }
+    return loop / call;
+}
+
+int main(int count, char **word)
+{
+    static const struct {
+        const char *name;
+        uint64_t (*go)(const char *, size_t);
+    } calls[] = {
+        {"lbk_breaks", go_first},   {"lbk_breaks-2", go_second}, {"lbk_breaks-8", go_short}, {"lbk_positions", go_positions},
+        {"lbk_feed", go_feed},      {"lbk_feed-8", go_feed_short}, {"lbk_words", go_words},
+    };
+    if (count < 6) {
+        fprintf(stderr, "usage: speed LINE_BREAK EAST_ASIAN CATEGORY EMOJI TEXT..\n");
+        return 2;
+    }
+    read_table(&table, word + 1);
+    for (unsigned k = 0; k < sizeof small; k++)
+        small[k / 4][k % 4] = (uint8_t)((k * 7 + 1) % 4);
+    for (int k = 5; k < count; k++) {
+        bytes text = load(word[k]);
+        for (size_t call = 0; call < sizeof calls / sizeof *calls; call++)
+            printf("%s %s %.4f\n", word[k], calls[call].name, ratio_of(calls[call].go, &text));
+        free(text.at);
+    }
+    return 0;
+}

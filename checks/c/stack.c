@@ -1,0 +1,193 @@
+/* Runs each call of the library in a thread with so many bytes of stack, below which memory may not be used, and says how many
+ * of these it used. A call that needs more ends the program by a signal.
+ *
+ *     stack BYTES_OF_LBK_READ BYTES LINE_BREAK EAST_ASIAN CATEGORY EMOJI TEXT..
+ *
+ * The bytes are all that the thread has: its own data, which the C library puts there, count too. The last line is
+ * `N passed, M failed`.
+ */
+#define _DEFAULT_SOURCE
+#include "../../examples/example.h"
+
+#include <pthread.h>
+#include <string.h>
+#include <sys/mman.h>
+#include <unistd.h>
+
+enum { ROOM = 64, PATTERN = 0xA5, PIECE = 100 };
+
+static unsigned passed, failed;
+static size_t stack_size, used_idle;
+static bytes files[4], text;
+static lbk_table table;
+static lbk_break block[ROOM];
+static lbk_word words[ROOM];
+static lbk_fault fault;
+static size_t total;
+static uint8_t profile;
+
+static void told(const char *what, int holds)
+{
+    if (holds) {
+        passed++;
+    } else {
+        failed++;
+        printf("FAILED  %s\n", what);
+    }
+}
+
+static void *do_nothing(void *none)
+{
+    return none;
+}
+
+static void *do_read(void *none)
+{
+    fault = lbk_read(&table, files[0].at, files[0].size, files[1].at, files[1].size, files[2].at, files[2].size, files[3].at,
+                     files[3].size);
+    return none;
+}
+
+static void *do_check(void *none)
+{
+    total = lbk_check(&table) ? 1 : 0;
+    return none;
+}
+
+static void *do_breaks(void *none)
+{
+    lbk_state state = {0};
+    size_t count;
+    state.profile = profile;
+    do {
+        count = lbk_breaks(&table, &state, text.at, text.size, block, ROOM);
+        total += count;
+    } while (count == ROOM);
+    return none;
+}
+
+static void *do_positions(void *none)
+{
+    lbk_state state = {0};
+    size_t count;
+    state.profile = profile;
+    do {
+        count = lbk_positions(&table, &state, text.at, text.size, block, ROOM);
+        total += count;
+    } while (count == ROOM);
+    return none;
+}
+
+static void *do_feed(void *none)
+{
+    lbk_stream stream = {0};
+    size_t from = 0;
+    bool last;
+    stream.profile = profile;
+    do {
+        size_t size = text.size - from < PIECE ? text.size - from : PIECE;
+        last = from + size == text.size;
+        lbk_fed fed;
+        do {
+            fed = lbk_feed(&table, &stream, text.at + from, size, last, block, ROOM);
+            from += fed.taken;
+            size -= fed.taken;
+            total += fed.count;
+        } while (fed.count == ROOM);
+    } while (!last);
+    return none;
+}
+
+static void *do_words(void *none)
+{
+    lbk_word_state state = {0};
+    size_t count;
+    do {
+        count = lbk_words(&state, text.at, text.size, words, ROOM);
+        total += count;
+    } while (count == ROOM);
+    return none;
+}
+
+static void *do_cuts(void *none)
+{
+    for (size_t from = 0; from < text.size; from = lbk_cut(&table, text.at, text.size, from + 1))
+        total++;
+    total += lbk_cut_before(&table, text.at, text.size, text.size / 2) > 0;
+    return none;
+}
+
+/* How many bytes of the stack were used by a thread that makes the call: those above the lowest one that differs. */
+static size_t used_by(void *(*call)(void *))
+{
+    size_t page = (size_t)sysconf(_SC_PAGESIZE);
+    unsigned char *all = mmap(NULL, stack_size + page, PROT_NONE, MAP_PRIVATE | MAP_ANONYMOUS, -1, 0);
+    if (all == MAP_FAILED || mprotect(all + page, stack_size, PROT_READ | PROT_WRITE) != 0)
+        abort();
+    memset(all + page, PATTERN, stack_size);
+    pthread_attr_t how;
+    pthread_t thread;
+    if (pthread_attr_init(&how) != 0 || pthread_attr_setstack(&how, all + page, stack_size) != 0) {
+        fprintf(stderr, "no thread may have a stack of %zu bytes here\n", stack_size);
+        exit(2);
+    }
+    total = 0;
+    if (pthread_create(&thread, &how, call, NULL) != 0 || pthread_join(thread, NULL) != 0)
+        abort();
+    size_t unused = 0;
+    while (unused < stack_size && all[page + unused] == PATTERN)
+        unused++;
+    pthread_attr_destroy(&how);
+    munmap(all, stack_size + page);
+    return stack_size - unused;
+}
+
+/* Makes the call, and says what it used beside what each thread does. */
+static void run_in_thread(const char *what, void *(*call)(void *))
+{
+    size_t used = used_by(call);
+    printf("%-14s %6zu bytes of stack in a thread of %zu\n", what, used - used_idle, stack_size);
+    fflush(stdout);
+}
+
+/* The calls over a text, in both profiles. */
+static void try_text(void)
+{
+    for (profile = 0; profile < 2; profile++) {
+        run_in_thread("lbk_breaks", do_breaks);
+        size_t breaks = total;
+        told("lbk_breaks gives breaks", breaks > 0 || text.size == 0);
+        run_in_thread("lbk_feed", do_feed);
+        told("lbk_feed gives as many breaks as lbk_breaks", total == breaks);
+        run_in_thread("lbk_positions", do_positions);
+        told("lbk_positions gives positions", total > breaks);
+    }
+    run_in_thread("lbk_words", do_words);
+    told("lbk_words gives words", total > 0 || text.size == 0);
+    run_in_thread("lbk_cut", do_cuts);
+    told("lbk_cut gives parts", total > 0 || text.size == 0);
+}
+
+int main(int count, char **word)
+{
+    if (count < 8) {
+        fprintf(stderr, "usage: stack BYTES_OF_LBK_READ BYTES LINE_BREAK EAST_ASIAN CATEGORY EMOJI TEXT..\n");
+        return 2;
+    }
+    stack_size = strtoul(word[1], NULL, 10);
+    for (int k = 0; k < 4; k++)
+        files[k] = load(word[3 + k]);
+    used_idle = used_by(do_nothing);
+    run_in_thread("lbk_read", do_read);
+    told("lbk_read takes the files", fault.cause == LBK_CAUSE_NONE);
+    stack_size = strtoul(word[2], NULL, 10);
+    run_in_thread("lbk_check", do_check);
+    told("lbk_check holds of the table", total == 1);
+    for (int k = 7; k < count; k++) {
+        text = load(word[k]);
+        try_text();
+        free(text.at);
+    }
+    printf("%u passed, %u failed\n", passed, failed);
+    return failed != 0;
+}

@@ -1,0 +1,65 @@
+"""The speed of the calls of the library for C over letters of one, two and three bytes, held positions and short texts.
+
+Each is measured against a loop over the same bytes in the same process, and has to be at least some part as fast: a third of
+what is measured on an idle machine, so that neither the machine nor other load on it decides.
+"""
+
+import re
+import tempfile
+from pathlib import Path
+
+from checks import c_programs
+from checks.program import run as run_program
+from checks.speed import texts
+from checks.unicode_files import property_files
+
+SIZE = 500_000
+HELD = "held positions"
+
+# A text, a call, and the least ratio of its speed to the loop's. `-2` is the second profile, `-8` eight bytes a call.
+BOUNDS = [
+    ("the pages", "lbk_breaks", 0.33),
+    ("the pages", "lbk_breaks-2", 0.33),
+    ("the pages", "lbk_breaks-8", 0.11),
+    ("the pages", "lbk_feed", 0.2),
+    ("the pages", "lbk_feed-8", 0.06),
+    ("the pages", "lbk_positions", 0.04),
+    ("the pages", "lbk_words", 0.02),
+    ("letters of two bytes", "lbk_breaks", 0.15),
+    ("letters of two bytes", "lbk_breaks-2", 0.15),
+    ("letters of two bytes", "lbk_breaks-8", 0.06),
+    ("letters of two bytes", "lbk_feed", 0.15),
+    ("letters of two bytes", "lbk_words", 0.03),
+    ("letters of three bytes", "lbk_breaks", 0.17),
+    ("letters of three bytes", "lbk_breaks-2", 0.17),
+    ("letters of three bytes", "lbk_breaks-8", 0.06),
+    ("letters of three bytes", "lbk_feed", 0.17),
+    ("letters of three bytes", "lbk_words", 0.03),
+    (HELD, "lbk_breaks-2", 0.05),
+    (HELD, "lbk_feed", 0.17),
+]
+
+
+def measured(room):
+    """The ratio of each call over each text."""
+    words = c_programs.library(room / "library")
+    program = c_programs.build("c/speed.c", room / "speed", *words)
+    of_all = {**texts(), HELD: "a\u2019 \u2019\u0301 (\u2018b\u2019 c, "}
+    paths = {}
+    for number, (name, text) in enumerate(of_all.items()):
+        data = text.encode()
+        path = room / f"text-{number}"
+        path.write_bytes((data * (SIZE // len(data) + 1))[:SIZE])
+        paths[str(path)] = name
+    ran = run_program([program, *property_files(), *paths])
+    rows = re.findall(r"^(\S+) (\S+) ([0-9.]+)$", ran.out.decode(), re.M)
+    return {(paths[path], call): float(ratio) for path, call, ratio in rows}
+
+
+def run(tally, _arguments):
+    with tempfile.TemporaryDirectory() as room:
+        found = measured(Path(room))
+        for text, call, least in BOUNDS:
+            ratio = found.get((text, call), 0.0)
+            said = f"{text}: {call}: {ratio:.3f} times the loop, at least {least}"
+            tally.tell(said, None if ratio >= least else "it is slower")

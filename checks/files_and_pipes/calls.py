@@ -1,0 +1,40 @@
+"""How often the system is asked: to read in blocks, to write once for each passage or line."""
+
+import os
+import subprocess
+from pathlib import Path
+
+from checks.files_and_pipes.place import LINE_BREAK, long_file, words_of
+
+
+def run(place):
+    try:
+        Path("/proc/self/io").read_text()
+    except OSError:
+        place.tally.leave_out("calls, which this system does not count")
+        return
+    lines, length = 20_000, 6_000_000
+    place.write("long", long_file(LINE_BREAK, b"", length))
+    shown, replayed = b"ab cd\n" * lines, "× 0061 ÷ 0062 ÷\n".encode() * lines
+    for task, text, status, writes in (
+        ("mark", shown, 0, lines),
+        ("show", shown, 0, lines),
+        ("segment", shown, 0, lines),
+        ("replay", replayed, 3, lines + 1),
+    ):
+        place.write("text", text)
+        # At least a thousand bytes of text a read, and eight thousand of a file, and some reads to start and to meet the ends.
+        most = len(text) // 1000 + length // 8000 + 50
+        ended, read, wrote = counted_calls(place, words_of(task, ("long", "E", "C", "M")))
+        fault = f"status {ended}, {read} reads, at most {most}, and {wrote} writes, not {writes}"
+        place.tally.tell(f"{task}: calls", None if ended == status and read <= most and wrote == writes else fault)
+
+
+def counted_calls(place, words):
+    """The status of a run over the file text, and how often the system was asked to read and to write."""
+    with open(place.folder / "text", "rb") as text:
+        program = subprocess.Popen([place.program, *words], stdin=text, stdout=subprocess.DEVNULL, cwd=place.folder)
+        # What was counted is kept until the run is waited for.
+        os.waitid(os.P_PID, program.pid, os.WEXITED | os.WNOWAIT)
+        told_calls = dict(line.split(": ") for line in Path(f"/proc/{program.pid}/io").read_text().splitlines())
+        return program.wait(), int(told_calls["syscr"]), int(told_calls["syscw"])

@@ -1,0 +1,89 @@
+"""Property files that come from pipes, each opened once: what is read there cannot be read again."""
+
+import os
+import subprocess
+import threading
+
+from checks.files_and_pipes.files import DECIDES
+from checks.files_and_pipes.place import NAMES, long_file, with_name, words_of
+from checks.harness import shown
+from checks.program import run as run_program
+from checks.unicode_files import NAMES as OF_FOLDER
+from checks.unicode_files import OPTIONS
+
+SECONDS = 60  # until a run counts as one that waits for a pipe that nobody writes to any more
+# What a folder's files say of themselves, before and after their rows.
+HEADS = [
+    b"# LineBreak-15.0.0.txt\n",
+    b"# EastAsianWidth-15.0.0.txt\n",
+    b"# DerivedGeneralCategory-15.0.0.txt\n",
+    b"# emoji-data.txt\n# Used with Emoji Version 15.0 and so on\n",
+]
+TAILS = [b"# EOF\n", b"# EOF\n", b"# EOF\n", b"#EOF\n"]
+
+
+def give(path, contents, piece):
+    """Writes a pipe with a name once, in pieces. A run that ends before its end is told by what it wrote."""
+    try:
+        with open(path, "wb", buffering=0) as pipe:
+            for at in range(0, len(contents), piece):
+                pipe.write(contents[at : at + piece])
+    except BrokenPipeError:
+        pass
+
+
+def over_pipes(place, what, words, pipes, given, out):
+    """A run while each of these pipes with a name is written, and what is wrong with how it ended."""
+    writers = []
+    for path, (contents, piece) in pipes.items():
+        path.parent.mkdir(parents=True, exist_ok=True)
+        os.mkfifo(path)
+        writers.append(threading.Thread(target=give, args=(path, contents, piece), daemon=True))
+    for writer in writers:
+        writer.start()
+    fault = None
+    try:
+        ran = run_program([place.program, *words], given, seconds=SECONDS, cwd=place.folder)
+        if ran != (0, out, b""):
+            fault = f"status {ran.status}; it wrote {shown(ran.out)}, not {shown(out)}; standard error: {shown(ran.err)}"
+    except subprocess.TimeoutExpired:
+        fault = "it waits for a pipe that it has read to its end"
+    for path in pipes:
+        path.unlink()
+    place.tally.tell(what, fault)
+
+
+def one_by_one(place):
+    """Each file in turn from a pipe, of many sizes and in pieces of many sizes; its last row decides."""
+    for k, (front, last, text, decided, _) in enumerate(DECIDES):
+        for length, piece in ((0, 1), (0, 1 << 16), (70_000, 4_095), (3_000_000, 1 << 20), (8_388_608, 1 << 16)):
+            contents = long_file(front, last, length) if length else front + last
+            pipes = {place.folder / "pipe": (contents, piece)}
+            what = f"show {OPTIONS[k]}: {len(contents)} bytes from a pipe, {piece} at a time"
+            over_pipes(place, what, words_of("show", with_name(k, "pipe")), pipes, text.encode(), decided.encode())
+
+
+def all_four(place):
+    contents = [(place.folder / name).read_bytes() for name in NAMES]
+    pipes = {place.folder / f"pipe-{k}": (text, 7) for k, text in enumerate(contents)}
+    words = words_of("mark", [path.name for path in pipes])
+    over_pipes(place, "mark: all four files from pipes", words, pipes, b"a a", "a ÷a\n".encode())
+    texts = [head + text + tail for head, text, tail in zip(HEADS, contents, TAILS)]
+    pipes = {place.folder / "ucd" / name: (text, 100) for name, text in zip(OF_FOLDER, texts)}
+    words = ["mark", "--ucd", "ucd"]
+    over_pipes(place, "mark: a folder all files of which are pipes", words, pipes, b"a a", "a ÷a\n".encode())
+
+
+def substituted(place):
+    """As a shell writes it: each file from a command."""
+    files = " ".join(f"{option} <(cat {name})" for option, name in zip(OPTIONS, NAMES))
+    for task, out in (("mark", "a ÷a\n"), ("show", "× 0061 × 0020 ÷ 0061 !\t# 2 7 18 3\n")):
+        command = f"printf 'a a' | ./lbk {task} {files}"
+        ran = run_program(["bash", "-c", command], seconds=SECONDS, cwd=place.folder)
+        place.tally.equal(f"{task}: files from commands of a shell", tuple(ran), (0, out.encode(), b""))
+
+
+def run(place):
+    one_by_one(place)
+    all_four(place)
+    substituted(place)

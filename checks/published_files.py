@@ -1,0 +1,174 @@
+"""The program over the published files of Unicode 15.0 and their break test, and over files beside these that are faulty."""
+
+import os
+import re
+import shutil
+import tempfile
+from pathlib import Path
+
+from checks.harness import built_crate, built_program
+from checks.program import run as run_program
+from checks.unicode_files import MISSING, NAMES, options, published
+
+ALL_OF_THE_TEST = b"T 7654 7620 34 0"
+
+
+class Runs:
+    """Runs the program, and compares how it ended."""
+
+    def __init__(self, tally, room):
+        self.tally, self.room = tally, Path(room)
+        self.program = built_program()
+
+    def run(self, given, *words, **more):
+        return run_program([self.program, *map(str, words)], given, **more)
+
+    def ends(self, what, ended, status, err=""):
+        """The status, and the first line on standard error, as a pattern; none where it is empty."""
+        lines = ended.err.decode(errors="replace").splitlines()
+        fault = None
+        if ended.status != status:
+            fault = f"status {ended.status}, not {status}; standard error: {lines[:1]}"
+        elif (not err and lines) or (err and not (lines and re.search(err, lines[0]))):
+            fault = f"standard error: {lines[:1]}"
+        elif status == 1 and len(lines) != 1:
+            fault = f"{len(lines)} lines on standard error"
+        self.tally.tell(what, fault)
+
+    def same(self, what, ended, wanted):
+        self.tally.equal(what, ended.out.rstrip(b"\n"), wanted.encode())
+
+
+def without_files(runs):
+    ended = runs.run(b"ab cd")
+    runs.ends("no arguments: status", ended, 0, "^lbk: these are sample data")
+    runs.same("no arguments: text", ended, "× 0061 × 0062 × 0020 ÷ 0063 × 0064 !\t# 2 28 7 18 28 3")
+    runs.ends("--help", runs.run(b"ab cd", "--help"), 0)
+    runs.ends("--version", runs.run(b"ab cd", "--version"), 0)
+    runs.ends("a wrong subcommand", runs.run(b"ab cd", "bogus"), 2, "unrecognized subcommand 'bogus'")
+    runs.ends("no files", runs.run(b"ab cd", "show"), 2, "the property files are not named")
+
+
+def steps(runs, files):
+    """The program that measures refuses cells without a table of steps."""
+    text = runs.room / "two"
+    text.write_bytes(b"ab cd")
+    runs.ends("the published files have a table of steps", run_program([built_crate("bench"), text, *files]), 0)
+
+
+def replay(runs, folder, words):
+    tests = (folder / "auxiliary/LineBreakTest.txt").read_bytes()
+    last = lambda ended: ended.out.splitlines()[-1]
+    ended = runs.run(tests, "replay", *words)
+    runs.ends("replay of the published test: status", ended, 3)
+    runs.tally.equal("replay of the published test: T 7654 7620 34 0", last(ended), ALL_OF_THE_TEST)
+    differing = [line for line in ended.out.splitlines() if line.startswith(b"D ")]
+    good = len(differing) == 34 and all(line.endswith(b" 25") for line in differing)
+    runs.tally.tell("replay of the published test: all 34 by rule 25", None if good else f"{differing}")
+    ended = runs.run(tests, "replay", *words, "--profile", "2")
+    good = re.fullmatch(rb"T 7654 [0-9]+ [0-9]+ 0", last(ended))
+    runs.tally.tell("replay in the second profile reads every line", None if good else f"{last(ended)}")
+    ended = runs.run("× 0061 × 0062 ÷\n× D800 ÷\n".encode(), "replay", *words)
+    runs.ends("replay of a refused line: status", ended, 3)
+    runs.same("replay of a refused line: text", ended, "R 2 7\nT 2 1 0 1")
+    ended = runs.run("× 0061 × 0062 !\n".encode(), "replay", *words, "--kinds")
+    runs.ends("replay --kinds: status", ended, 0)
+    runs.same("replay --kinds: text", ended, "T 1 1 0 0")
+    ended = runs.run(tests, "replay", "--ucd", folder)
+    runs.ends("replay by the folder: status", ended, 3)
+    runs.tally.equal("replay by the folder: T 7654 7620 34 0", last(ended), ALL_OF_THE_TEST)
+
+
+def cover(lines, size):
+    """What is wrong with the passages and segments of a text of some size, which have to join, each word within its passage."""
+    end = part = passages = 0
+    for line in lines:
+        kind, *places = line.split()
+        if kind == b"P":
+            if int(places[0]) != end or part != end:
+                return f"{line} does not join"
+            end, part, passages = int(places[1]), int(places[0]), passages + 1
+        elif kind == b"S":
+            if int(places[0]) != part:
+                return f"{line} does not join"
+            part = int(places[1])
+        elif kind == b"W" and int(places[1]) > end:
+            return f"{line} is past its passage"
+    return None if end == part == size and passages > 1 else f"they end at {end} and {part} of {size}"
+
+
+def large_text(runs, folder, words):
+    names = ["NamesList.txt", "Index.txt", "LineBreak.txt", "auxiliary/LineBreakTest.txt"]
+    text = b"".join((folder / it).read_bytes() for it in names)
+    scalars = len(text.decode())
+    for profile in ("1", "2"):
+        more = [*words, "--profile", profile]
+        ended = runs.run(text, "segment", *more)
+        runs.ends(f"segment of {len(text)} bytes, profile {profile}: status", ended, 0)
+        lines = ended.out.splitlines()
+        runs.tally.tell(f"segment, profile {profile}: passages and segments cover the text", cover(lines, len(text)))
+        passages = sum(line.startswith(b"P ") for line in lines)
+        ended = runs.run(text, "show", *more)
+        runs.ends(f"show of {len(text)} bytes, profile {profile}: status", ended, 0)
+        lines = ended.out.splitlines()
+        marks = [word for line in lines for word in line.partition(b"\t")[0].split()]
+        found = sum(re.fullmatch(rb"[0-9A-F]{4,6}", word) is not None for word in marks)
+        runs.tally.equal(f"show, profile {profile}: a line a passage, each scalar once", (len(lines), found), (passages, scalars))
+
+
+def folders(runs, folder):
+    """Folders one file of which is cut, of another version, or another file."""
+    here = runs.room / "ucd"
+    versions = "(Unicode 15.1.0|Emoji 15.1)"
+    for name in NAMES:
+        for other in NAMES:
+            (here / other).parent.mkdir(parents=True, exist_ok=True)
+            shutil.copy(folder / other, here / other)
+        contents = (folder / name).read_bytes()
+        mark = lambda name=name: runs.run(b"ab cd", "mark", "--ucd", here)
+        (here / name).write_bytes(contents[:-1])
+        runs.ends(f"a folder whose {name} lacks its last byte", mark(), 1, f"^lbk: {here}/{name}: the file is cut")
+        (here / name).write_bytes(b"\n".join(line.replace(b"15.0", b"15.1", 1) for line in contents.split(b"\n")))
+        err = f"^lbk: {here}/{name}: this is of {versions}, and lbk goes by 15.0"
+        runs.ends(f"a folder whose {name} is of 15.1", mark(), 1, err)
+        shutil.copy(folder / "PropList.txt", here / name)
+        runs.ends(f"a folder whose {name} is another file", mark(), 1, f"^lbk: {here}/{name}: this is not ")
+
+
+def faults(runs, words):
+    room = runs.room
+    missing, bad = room / "none.txt", room / "bad.txt"
+    show = lambda *more, given=b"ab cd": runs.run(given, "show", *more)
+    runs.ends("a missing file", show("--line-break", missing, *words[2:]), 1, f"^lbk: {missing}: ")
+    runs.ends("a folder for a file", show(*words[:2], "--east-asian", room, *words[4:]), 1, f"^lbk: {room}: ")
+    bad.write_text("# one\n0061;AK\n", encoding="ascii")
+    runs.ends("a bad row", show("--line-break", bad, *words[2:]), 1, f"^lbk: {bad}:2: ")
+    runs.ends("a limit of 0", show(*words, "--limit", 0), 2, r"0 is not in 1\.\.=16777216")
+    runs.ends("profile 3", show(*words, "--profile", 3), 2, r"3 is not in 1\.\.=2")
+    runs.ends("a paragraph past the limit", show(*words, "--limit", 4), 1, "^lbk: standard input: byte 0: .*--limit")
+    runs.ends("ill-formed bytes", show(*words, given=b"a\nb\xff"), 1, "^lbk: standard input: byte 3: ")
+    (room / "two").write_bytes(b"ab cd")
+    closed = ["bash", "-c", '"$@" < two >&-', "bash", runs.program, "show", *words]
+    runs.ends("a closed output", run_program(closed, cwd=room), 1, "^lbk: standard output ")
+    if os.access("/dev/full", os.W_OK):
+        full = ["bash", "-c", '"$@" < two > /dev/full', "bash", runs.program, "segment", *words]
+        runs.ends("a full output", run_program(full, cwd=room), 1, "^lbk: standard output ")
+    else:
+        runs.tally.leave_out("a full output: /dev/full")
+
+
+def run(tally, _arguments):
+    with tempfile.TemporaryDirectory() as room:
+        runs = Runs(tally, room)
+        without_files(runs)
+        folder = published()
+        if folder is None:
+            tally.leave_out(MISSING)
+            return
+        files = [folder / it for it in NAMES]
+        words = options(files)
+        steps(runs, files)
+        replay(runs, folder, words)
+        large_text(runs, folder, words)
+        folders(runs, folder)
+        faults(runs, words)

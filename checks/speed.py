@@ -1,0 +1,58 @@
+"""Ratios of the speeds of layers within one run of crates/bench: a layer that has fallen back to a slow way fails.
+
+The texts are made of the pages in docs/, and of letters of two and of three bytes. Each bound is a third to half of what is
+measured, and each layer's best run of nine counts, so that other load on the machine does not fail it. The property files are the
+published ones where they are there, and else those of the stored runs.
+"""
+
+import re
+import tempfile
+from pathlib import Path
+
+from checks.harness import TOP, built_crate
+from checks.program import run as run_program
+from checks.unicode_files import property_files
+
+SIZE = 1_200_000
+
+# A layer, what it is compared with, and the least ratio of their speeds.
+BOUNDS = [
+    ("Breaks, profile 1", "ForwardMachine", 6.0),
+    ("Breaks, profile 2", "Breaks, profile 1", 0.5),
+    ("Stepper, profile 1", "LateMachine, profile 1", 5.0),
+    ("Stepper, profile 2", "LateMachine, profile 2", 5.0),
+    ("segments of passages", "Breaks, profile 1", 0.3),
+    ("next", "words", 0.2),
+]
+
+
+def texts():
+    """Texts by their names: letters of one byte, of two and of three, in words and paragraphs."""
+    pages = sorted(it for it in (TOP / "docs").rglob("*.md") if it.parent.name != "log")
+    plain = "".join(path.read_text(encoding="utf-8") for path in pages)
+    words = [word for word in plain.split(" ") if word.isascii()]
+    two = " ".join("".join(chr(0x430 + ord(it) % 32) if it.isalpha() else it for it in word) for word in words)
+    three = " ".join("".join(chr(0x4E00 + ord(it)) if it.isalpha() else it for it in word) for word in words)
+    return {"the pages": plain, "letters of two bytes": two, "letters of three bytes": three}
+
+
+def speeds(path):
+    """The speed of each layer over a text, in millions of bytes a second."""
+    ran = run_program([built_crate("bench"), path, *property_files()])
+    return {name: float(rate) for name, rate in re.findall(r"^(\S.*?) +([0-9.]+) MB/s", ran.out.decode(), re.M)}
+
+
+def run(tally, _arguments):
+    with tempfile.TemporaryDirectory() as room:
+        for name, text in texts().items():
+            path = Path(room) / "text"
+            data = text.encode()
+            path.write_bytes(data * (SIZE // len(data) + 1))
+            found = speeds(path)
+            for layer, other, least in BOUNDS:
+                if layer not in found or other not in found:
+                    tally.tell(f"{name}: {layer}", f"the speed of {layer} or of {other} was not measured")
+                    continue
+                ratio = found[layer] / found[other]
+                said = f"{name}: {layer}: {ratio:.2f} times {other}, at least {least}"
+                tally.tell(said, None if ratio >= least else "it is slower")

@@ -1,0 +1,33 @@
+"""Where the files of the Unicode Character Database are: the published ones, or those of the stored runs."""
+
+import os
+from pathlib import Path
+
+from checks.harness import TOP
+
+NAMES = ["LineBreak.txt", "EastAsianWidth.txt", "extracted/DerivedGeneralCategory.txt", "emoji/emoji-data.txt"]
+OPTIONS = ["--line-break", "--east-asian", "--category", "--emoji"]
+MISSING = "the published files of Unicode 15.0 (Debian's package unicode-data; elsewhere UNICODE_DATA names their folder)"
+
+
+def published():
+    """The folder of the published files of Unicode 15.0, or None where they are not there."""
+    folder = Path(os.environ.get("UNICODE_DATA", "/usr/share/unicode"))
+    first = folder / NAMES[0]
+    if not all((folder / it).is_file() for it in NAMES):
+        return None
+    with open(first, encoding="utf-8") as file:
+        return folder if "LineBreak-15.0.0" in file.readline() else None
+
+
+def property_files():
+    """The four property files: the published ones where they are there, and else those of the stored runs."""
+    folder = published()
+    if folder:
+        return [folder / it for it in NAMES]
+    return [TOP / "crates/lbk/data" / Path(it).name for it in NAMES]
+
+
+def options(files):
+    """The options that name four property files."""
+    return [str(word) for pair in zip(OPTIONS, files) for word in pair]

@@ -1,0 +1,82 @@
+"""A paragraph through a pipe to the program, and its line back before the next is sent: what is known is written at once.
+
+A passage is known once the scalar after it was seen, so each paragraph goes out with the first letter of the next one. A line of
+a test file is known by its line end. It needs no files but its own.
+"""
+
+import os
+import select
+import subprocess
+import tempfile
+from pathlib import Path
+
+from checks.harness import built_program
+from checks.unicode_files import OPTIONS
+
+WAIT = 20  # seconds until a line counts as kept back
+LINE_BREAK = "000A;LF\n0020;SP\n0061..007A;AL\n"
+CATEGORY = "0061..007A;Ll\n"
+LONG = b"a " * 30_000 + b"\n"  # more than a read takes
+
+# What is sent in turn, and how many lines it makes known.
+PARAGRAPHS = [(b"ab\nc", 1), (b"d\ne", 1), (b"f g\nh", 1), (b"\n" + LONG + b"i", 2), (b"\nj", 1)]
+TASKS = {
+    "": PARAGRAPHS[:3],
+    "mark": PARAGRAPHS,
+    "show": PARAGRAPHS,
+    # A line for the passage, one for each segment and one for each word: `ef g` has two of both.
+    "segment": [(b"ab\nc", 3), (b"d\ne", 3), (b"f g\nh", 5), (b"\n" + LONG + b"i", 3 + 1 + 2 * 30_000), (b"\nj", 3)],
+    "replay": [
+        ("× 0061 ÷ 0062 ÷\n".encode(), 1),
+        ("× 0061 × 0062 ÷\n× 0061 ÷ 0062 ÷\n".encode(), 1),
+        ("× D800 ÷\n".encode(), 1),
+    ],
+}
+
+
+def lines_of(out, count, seen):
+    """Waits until `count` more lines stand in what the program wrote, and returns whether they do."""
+    target = seen.count(b"\n") + count
+    while seen.count(b"\n") < target:
+        ready, _, _ = select.select([out], [], [], WAIT)
+        if not ready:
+            return False
+        part = os.read(out, 65536)
+        if not part:
+            return False
+        seen += part
+    return True
+
+
+def one_task(tally, name, steps, words):
+    program = subprocess.Popen(words, stdin=subprocess.PIPE, stdout=subprocess.PIPE, stderr=subprocess.DEVNULL, bufsize=0)
+    seen = bytearray()
+    for number, (part, count) in enumerate(steps, 1):
+        program.stdin.write(part)
+        before = len(seen)
+        if not lines_of(program.stdout.fileno(), count, seen):
+            kept_back = f"only {len(seen) - before} bytes were written before the next was sent: {bytes(seen[before:])[:80]!r}"
+            tally.tell(f"{name}, part {number}", kept_back)
+            program.kill()
+            program.wait()
+            return
+        good = seen.endswith(b"\n") and seen.count(b"\n", before) == count
+        tally.tell(f"{name}, part {number}", None if good else f"it wrote {bytes(seen[before:])[:80]!r}")
+    program.stdin.close()
+    rest = program.stdout.read()
+    wanted = 3 if name == "replay" else 0
+    # (a text that ends without a line end gets one from `mark`)
+    good = program.wait() == wanted and rest.endswith(b"j\n" if name == "mark" else b"\n")
+    tally.tell(f"{name}, the end", None if good else f"status {program.returncode}, and it wrote {rest[:80]!r}")
+
+
+def run(tally, _arguments):
+    program = built_program()
+    with tempfile.TemporaryDirectory() as here:
+        words = []
+        for option, text in zip(OPTIONS, (LINE_BREAK, "", CATEGORY, "")):
+            name = Path(here) / option.strip("-")
+            name.write_text(text, encoding="ascii")
+            words += [option, name]
+        for task, steps in TASKS.items():
+            one_task(tally, task or "no arguments", steps, [program, task, *words] if task else [program])
