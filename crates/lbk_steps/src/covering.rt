@@ -9,6 +9,7 @@ ghost use Rattle.std.specs.Prelude.{◌<◌, ◌≤◌};
 use crate::flat_table::{CODES, FlatStep, HELD, STEPS};
 use crate::neighbours::{ASCII, Neighbours};
 use lbk_masks::ByteSets;
+use lbk_rules::is_break;
 
 /// Some of the bytes below 128, a bit each.
 type Bytes = u128;
@@ -100,7 +101,7 @@ fn relations(steps: &[FlatStep; STEPS], kinds: &[u8; CODES], rows: &[u16; 256]) 
             let step = steps[rows[before] as usize + kinds[byte] as usize];
             if step.code == HELD || step.next != rows[byte] {
                 related.special[before] |= 1 << byte;
-            } else if step.code % 3 != 0 {
+            } else if is_break(step.code) {
                 related.breaks[before] |= 1 << byte;
             }
         }

@@ -10,6 +10,7 @@ use crate::covering::cover;
 use crate::flat_table::{CODES, FlatStep, HELD, STEPS, digest_kinds, digest_with};
 use crate::kinds::KINDS;
 use lbk_masks::{ByteSets, SPECIAL};
+use lbk_rules::is_break;
 
 /// How many bytes have sets of their own: those that are scalars.
 pub(crate) const ASCII: usize = 128;
@@ -104,7 +105,7 @@ impl Neighbours {
         if step.next != self.rows[byte as usize] {
             return false;
         }
-        self.stands_out(before, byte) == (step.code % 3 != 0)
+        self.stands_out(before, byte) == is_break(step.code)
     }
 
     /// A digest after these numbers too.

@@ -1,5 +1,5 @@
 use Rattle.std.proofs.Common.{arith}
-use Rattle.lbk_bytes.proofs.filling.fill.Goals as goal
+use Rattle.lbk_bytes.proofs.filling.fill_on.Goals as goal
 
 pub loop-here-preserved : goal.loop-here-preserved
 loop-here-preserved c =
