@@ -58,7 +58,7 @@ extern "C" {
 #define LBK_WORDS_UNICODE_VERSION "18.0"
 
 /* The layout of a table that this version fills and uses: what lbk_table.layout is then. */
-#define LBK_LAYOUT 2
+#define LBK_LAYOUT 3
 
 /* How many codes Unicode has, 0 to 10FFFF, and how many steps stand in each array of a table. */
 #define LBK_CODES 0x110000

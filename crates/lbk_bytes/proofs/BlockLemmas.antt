@@ -1,6 +1,5 @@
 -- A block of bytes that are scalars, two of which tell the step by the second.
-use Rattle.std.proofs.Common.{◌≡◌, ◌≢◌, ◌⊎◌, ℕ, zero, suc, ◌==◌, ◌+◌, ◌-◌, ◌%◌, ◌<◌, ◌≤◌, Bool, true, false, cond, not, List, [], ◌∷◌, ◌++◌, length, get_or, take, drop, bit_and, refl, sym, ap, subst, ◌∙◌, ⊎_elim, inl, inr, arith}
-use Rattle.std.proofs.lemmas.Bool.Decides.{nat_tests}
+use Rattle.std.proofs.Common.{◌≡◌, ◌≢◌, ◌⊎◌, ℕ, zero, suc, ◌+◌, ◌-◌, ◌<◌, ◌≤◌, Bool, true, false, cond, not, List, [], ◌∷◌, ◌++◌, length, get_or, take, drop, bit_and, refl, sym, ap, subst, ◌∙◌, ⊎_elim, inl, inr, arith}
 use Rattle.std.proofs.lemmas.List.{append-nil, get_or-drop, length-drop}
 use Rattle.bstr.specs.Utf8.{decoded, good}
 use Rattle.bstr.proofs.lemmas.PieceLemmas.{value-1}
@@ -12,7 +11,7 @@ use Rattle.lbk_steps.specs.declared.flat_table.FlatStep.{FlatStep}
 use Rattle.lbk_steps.specs.declared.neighbours.Neighbours.{Neighbours}
 use Rattle.lbk_values.specs.declared.profile.Profile.{Profile}
 use Rattle.lbk_rules.specs.Breaks.{break_by, is_no}
-use Rattle.lbk_rules.specs.Codes.{IsCode, kind_numbered, verdict_coded}
+use Rattle.lbk_rules.specs.Codes.{IsCode, verdict_coded}
 use Rattle.lbk_steps.specs.FlatTable.{AreFlatKinds, no_flat_step}
 use Rattle.lbk_steps.specs.Kinds.{kind_cell}
 use Rattle.lbk_steps.specs.Neighbours.{AreSettled, AreTold, is_special, step_behind}
@@ -60,19 +59,14 @@ one-byte profile cell lefts text all steps kinds pairs out after count next at s
     settled.leads ∙ ap (λ n. get_or pairs.rows (byte_at text n) 0) (let e : at ≡ at + 1 - 1 = omega arith in e) in
     subst (λ w. Reached profile cell lefts text all (record { count = next; row = w; at = at + 1 }) (given_in after next)) row moved
 
-no-break : (at code : ℕ) → code % 3 ≡ 0 → with_break at (verdict_coded code) [] ≡ []
-unfolding verdict_coded
-no-break at code none =
-    let is : is_no (verdict_coded code).kind ≡ true = ap (λ n. is_no (kind_numbered n)) none in
-    ap (λ b. cond b [] (break_by at (verdict_coded code) ∷ [])) is
+-- a verdict by which no line breaks
+no-break : (at code : ℕ) → is_no (verdict_coded code).kind ≡ true → with_break at (verdict_coded code) [] ≡ []
+no-break at code none = ap (λ b. cond b [] (break_by at (verdict_coded code) ∷ [])) none
 
--- no verdict's number is of no break where the sets do not meet
-not-zero : (b : Bool) (n : ℕ) → b ≡ not (n == 0) → b ≡ false → n ≡ 0
-not-zero b zero is none = refl
-not-zero b (suc n) is none =
-    let apart : (suc n == 0) ≡ false = grind (arith, nat_tests) in
-    let no : true ≡ false = sym (is ∙ ap not apart) ∙ none in
-    absurd (let never : ⊥ = cc in never)
+-- so it is where the sets do not meet
+not-set : (b no : Bool) → b ≡ not no → b ≡ false → no ≡ true
+not-set b true is none = refl
+not-set b false is none = absurd (let never : ⊥ = cc in never)
 
 -- bytes before which no line breaks
 quiet-bytes : (profile : Profile) (cell : ℕ → Cell) (lefts : List Left) (text : List ℕ) (all : List Break) (steps : List FlatStep) (kinds : List ℕ) (pairs : Neighbours)
@@ -87,7 +81,7 @@ quiet-bytes profile cell lefts text all steps kinds pairs out count at (suc n) s
     let before = quiet-bytes profile cell lefts text all steps kinds pairs out count at n swift are_kinds (omega arith) (λ i h. quiet i (omega (arith, h))) r in
     let here = quiet n (omega arith) in
     let step = step_behind steps kinds pairs (byte_at text (at + n - 1)) (byte_at text (at + n)) in
-    let none : step.code % 3 ≡ 0 = not-zero (stands_at pairs text (at + n)) (step.code % 3) here.0.breaks here.1 in
+    let none = not-set (stands_at pairs text (at + n)) (is_no (verdict_coded step.code).kind) here.0.breaks here.1 in
     let one = one-byte profile cell lefts text all steps kinds pairs out out count count (at + n) swift are_kinds (omega arith) here.0
     (λ coded. sym (ap (λ l. given_in out count ++ l) (no-break (at + n) step.code none) ∙ append-nil (given_in out count))) before in
     subst (λ p. Reached profile cell lefts text all (place_of pairs text count p) (given_in out count)) (let e : at + n + 1 ≡ at + suc n = omega arith in e) one

@@ -1,13 +1,14 @@
 -- What a break shows of a verdict.
-use Rattle.std.proofs.Common.{◌≡◌, ℕ, zero, suc, ◌==◌, ◌+◌, ◌%◌, ◌/◌, ◌<◌, List, [], ◌∷◌, get_or, not, refl, sym, ap, ◌∙◌, arith}
+use Rattle.std.proofs.Common.{◌≡◌, ℕ, zero, suc, ◌+◌, ◌%◌, ◌/◌, ◌<◌, ◌≤◌, List, [], ◌∷◌, get_or, refl, sym, ap, ◌∙◌, arith}
+use Rattle.std.proofs.lemmas.List.{get_or_past}
 use Rattle.lbk_rules.specs.declared.breaks.Break.{Break}
 use Rattle.lbk_rules.specs.declared.verdicts.Kind.{Kind}
 use Rattle.lbk_rules.specs.declared.verdicts.Kind.TheVariants.{No, May, Must}
 use Rattle.lbk_rules.specs.declared.verdicts.Rule.{Rule}
 use Rattle.lbk_rules.specs.declared.verdicts.Rule.TheVariants.{Lb2, Lb3, Lb4, Lb5, Lb6, Lb7, Lb8, Lb8a, Lb9, Lb11, Lb12, Lb12a, Lb13, Lb14, Lb15, Lb15a, Lb15b, Lb16, Lb17, Lb18, Lb19, Lb20, Lb21, Lb21a, Lb21b, Lb22, Lb23, Lb23a, Lb24, Lb25, Lb26, Lb27, Lb28, Lb29, Lb30, Lb30a, Lb30b, Lb31}
 use Rattle.lbk_rules.specs.declared.verdicts.Verdict.{Verdict}
-use Rattle.lbk_rules.specs.Breaks.{break_by, is_no}
-use Rattle.lbk_rules.specs.Codes.{kind_number, kind_numbered, rule_number, rule_numbered, verdict_coded}
+use Rattle.lbk_rules.specs.Breaks.{break_by}
+use Rattle.lbk_rules.specs.Codes.{kind_number, kind_numbered, rule_number, rule_numbered, rules, verdict_coded}
 use Rattle.lbk_bytes.specs.declared.raw_break.RawBreak.{RawBreak}
 use Rattle.lbk_bytes.specs.declared.shown.TheConstants.{SHOWN}
 use Rattle.lbk_bytes.specs.Reached.{numbers_of}
@@ -18,7 +19,7 @@ counted : ℕ → ℕ → List ℕ
 counted zero code = []
 counted (suc more) code = numbers_of (verdict_coded code) ∷ counted more (suc code)
 
-all-counted : SHOWN ≡ counted 128 0
+all-counted : SHOWN ≡ counted 114 0
 unfolding verdict_coded counted
 all-counted = refl
 
@@ -31,19 +32,28 @@ counted-at (suc more) code (suc k) few =
     ∙ ap (λ n. numbers_of (verdict_coded n)) (let e : suc code + k ≡ code + suc k = omega arith in e)
 
 -- the constant has the numbers of each verdict at its place
-pub shown-at : (code : ℕ) → code < 128 → get_or SHOWN code 0 ≡ numbers_of (verdict_coded code)
-shown-at code few = ap (λ l. get_or l code 0) all-counted ∙ counted-at 128 0 code few ∙ ap (λ n. numbers_of (verdict_coded n)) (let e : 0 + code ≡ code = omega arith in e)
+pub shown-at : (code : ℕ) → code < 114 → get_or SHOWN code 0 ≡ numbers_of (verdict_coded code)
+shown-at code few = ap (λ l. get_or l code 0) all-counted ∙ counted-at 114 0 code few ∙ ap (λ n. numbers_of (verdict_coded n)) (let e : 0 + code ≡ code = omega arith in e)
+
+-- the verdicts by which no line breaks are those of numbers behind all verdicts, too
+again : (code : ℕ) → 114 ≤ code → verdict_coded (code % 38) ≡ verdict_coded code
+unfolding verdict_coded
+again code past =
+    let made : Kind → Rule → Verdict = λ k r. record { kind = k; rule = r } in
+    let low : (code % 38) / 38 ≡ 0 = omega arith in
+    let same : (code % 38) % 38 ≡ code % 38 = omega arith in
+    let none : kind_numbered (code / 38) ≡ No = get_or_past (No ∷ May ∷ Must ∷ []) (code / 38) No (omega (arith, past)) in
+    ap (λ k. made (kind_numbered k) (get_or rules ((code % 38) % 38) Lb2)) low
+    ∙ ap (λ r. made No (get_or rules r Lb2)) same
+    ∙ ap (λ k. made k (get_or rules (code % 38) Lb2)) (sym none)
+
+pub shown-past : (code : ℕ) → 114 ≤ code → get_or SHOWN (code % 38) 0 ≡ numbers_of (verdict_coded code)
+shown-past code past = shown-at (code % 38) (omega arith) ∙ ap numbers_of (again code past)
 
 pub few-kinds : (kind : Kind) → kind_number kind < 3
 few-kinds No = omega arith
 few-kinds May = omega arith
 few-kinds Must = omega arith
-
--- no kind but No has 0
-pub no-zero : (kind : Kind) → is_no kind ≡ (kind_number kind == 0)
-no-zero No = refl
-no-zero May = refl
-no-zero Must = refl
 
 same-kind : (kind : Kind) → kind_numbered (kind_number kind) ≡ kind
 same-kind No = refl
@@ -89,13 +99,6 @@ same-rule Lb30 = refl
 same-rule Lb30a = refl
 same-rule Lb30b = refl
 same-rule Lb31 = refl
-
--- what is counted
-pub counts : (number : ℕ) (verdict : Verdict) → number ≡ numbers_of verdict → not (number % 256 == 0) ≡ not (is_no verdict.kind)
-counts number verdict is =
-    let few = few-kinds verdict.kind in
-    let kind : number % 256 ≡ kind_number verdict.kind = omega (arith, few, is) in
-    ap (λ n. not (n == 0)) kind ∙ ap not (sym (no-zero verdict.kind))
 
 -- a break as numbers stands for the break
 pub shown-raw : (found : Break) → shown (raw_of found) ≡ found

@@ -35,35 +35,11 @@ pub(crate) struct BlockState {
     pub(crate) left: u64,
 }
 
-/// Takes blocks of 64 bytes, as many as come one behind the other, and the front of one in which a byte is special.
-/// Nothing is taken where the row is not that of the byte before, or fewer bytes are left.
-#[inline(always)]
-pub(crate) fn blocks(
-    pairs: &Neighbours,
-    kinds: &[u8; CODES],
-    steps: &[FlatStep; STEPS],
-    start: FillState,
-    text: &[u8],
-    out: &mut [RawBreak],
-) -> FillState
-    requires { (start.count ≤ length out.old) × (start.row < 65536) × (start.at ≤ length text.now) }
-    ensures within { (result.count ≤ length out.old) × (result.row < 65536) × (result.at ≤ length text.now) }
-    ensures onward { (start.at ≤ result.at) × (start.count ≤ result.count) }
-    ensures in_order { (from : ℕ) → IsInOrder out.old start.count from start.at → IsInOrder out.new result.count from result.at }
-    ensures reached { (profile : Profile) (cell : ℕ → Cell) (lefts : List Left) (all : List Break) → AreSwift profile lefts steps.now → AreFlatKinds kinds.now cell
-        → AreTold steps.now kinds.now pairs.now
-        → Reached profile cell lefts text.now all start (given_in out.old start.count)
-        → Reached profile cell lefts text.now all result (given_in out.new result.count) }
-{
-    if text.len() - start.at < BLOCK {
-        return start;
-    }
-    each_block(pairs, kinds, steps, start, text, out)
-}
-
-/// The same, where the text is long enough. It stands apart, so that what a short text needs stays in registers.
+/// Takes blocks of 64 bytes, as many as come one after the other, and the front of one in which a byte is special.
+/// Nothing is taken where the row is not that of the byte before, or fewer bytes are left. It stands apart, so that what
+/// single scalars need stays in registers.
 #[inline(never)]
-fn each_block(
+pub(crate) fn blocks(
     pairs: &Neighbours,
     kinds: &[u8; CODES],
     steps: &[FlatStep; STEPS],

@@ -19,12 +19,50 @@ use crate::fill_state::FillState;
 use crate::raw_break::RawBreak;
 use crate::shown::shown_of;
 use crate::steps::{CODES, pairs_of, step_at, steps_of};
-use lbk_rules::Profile;
-use lbk_steps::{FlatStep, FlatTable, HELD, STEPS};
+use lbk_rules::{Profile, VERDICTS, is_break};
+use lbk_steps::{FlatStep, FlatTable, STEPS};
 
-/// Goes on until the block is full or the text ends, and writes the breaks before the scalars taken behind those in the
-/// front of the block.
+/// How many bytes are taken one by one where most scalars have more than one.
+const MANY: usize = 2048;
+
+/// Blocks that take fewer bytes than this cost more than they save.
+const WORTH_WHILE: usize = 16;
+
+/// Goes on until the block is full or the text ends, and writes the breaks before the scalars taken after those in the
+/// front of the block. A text of fewer bytes than a block is gone over here, with no call, as long as its scalars are common.
+#[inline(always)]
 pub fn fill(
+    table: &FlatTable,
+    profile: Profile,
+    start: FillState,
+    text: &[u8],
+    out: &mut [RawBreak],
+) -> FillState
+    requires { (start.count ≤ length out.old) × (start.row < 65536) × (start.at ≤ length text.now) }
+    ensures within { (result.count ≤ length out.old) × (result.row < 65536) × (result.at ≤ length text.now) }
+    ensures stops { result.count < length out.old → result.at ≡ length text.now }
+    ensures no_room { length out.old ≡ 0 → result ≡ start }
+    ensures in_order { (from : ℕ) → IsInOrder out.old start.count from start.at → IsInOrder out.new result.count from result.at }
+    ensures reached { (cell : ℕ → Cell) (lefts : List Left) (all : List Break) → IsFlatBy lefts table.now cell
+        → Reached profile cell lefts text.now all start (given_in out.old start.count)
+        → Reached profile cell lefts text.now all result (given_in out.new result.count) }
+{
+    if start.count == out.len() {
+        return start;
+    }
+    if BLOCK <= text.len() - start.at {
+        return fill_on(table, profile, start, text, out);
+    }
+    let here = scalars(&table.kinds, steps_of(table, profile), start, text, out);
+    if here.count == out.len() || here.at == text.len() {
+        return here;
+    }
+    fill_on(table, profile, here, text, out)
+}
+
+/// The same of any text, by blocks of bytes and single scalars in turn.
+#[inline(never)]
+fn fill_on(
     table: &FlatTable,
     profile: Profile,
     start: FillState,
@@ -74,59 +112,83 @@ fn further(
         text,
         out,
     );
-    let until = next_try(there.at, text);
-    let past = quick(&table.kinds, steps, there, until, text, out);
+    let until = next_try(here.at, there.at, text);
+    let past = quick(&table.kinds, steps, there, &text[..until], out);
     if past.at < until && past.count < out.len() {
         return take_one(table, profile, past, text, out);
     }
     past
 }
 
-/// Up to where scalars are taken one by one, before blocks are tried again.
+/// Up to where scalars are taken one by one, before blocks are tried again, where the last blocks took the bytes between two
+/// places.
 #[inline(always)]
-fn next_try(at: usize, text: &[u8]) -> usize
-    requires { at ≤ length text.now }
+fn next_try(from: usize, at: usize, text: &[u8]) -> usize
+    requires { (from ≤ at) × (at ≤ length text.now) }
     ensures { (at ≤ result) × (result ≤ length text.now) × (at < length text.now → at < result) }
 {
     if text.len() - at < BLOCK {
         return text.len();
     }
-    let pause = pause(&text[at..]);
+    let pause = pause(at - from, &text[at..]);
     if text.len() - at < pause {
         return text.len();
     }
     at + pause
 }
 
-/// How many bytes are taken one by one at the front of these: a few where all scalars at hand have one byte, up to behind
-/// the last of more bytes where few have, and many where most have.
+/// How many bytes are taken one by one at the front of these, after blocks that took so many: many where most scalars at hand
+/// have more than one byte, as many as a block has where the blocks took few, and else a few, or up to after the last scalar
+/// of more bytes.
 #[inline(always)]
-fn pause(text: &[u8]) -> usize
+fn pause(taken: usize, text: &[u8]) -> usize
     requires { 16 ≤ length text.now }
     ensures { 0 < result }
 {
     let wide = wide_ahead(text);
+    if wide.count_ones() > 8 {
+        return MANY;
+    }
+    if taken < WORTH_WHILE {
+        return BLOCK;
+    }
     if wide == 0 {
         return 4;
-    }
-    if wide.count_ones() > 8 {
-        return 256;
     }
     65 - (wide.leading_zeros() as usize)
 }
 
-/// Takes scalars up to this place or a little past it, as long as none of four bytes, no ill-formed bytes and no held
-/// position come, whatever may follow the text. It calls nothing, so that all it has stays in registers.
+/// Takes scalars as long as none of four bytes, no ill-formed bytes and no held position come, whatever may follow the text.
+/// It calls nothing, so that all it has stays in registers.
 #[inline(never)]
 pub fn quick(
     kinds: &[u8; CODES],
     steps: &[FlatStep; STEPS],
     start: FillState,
-    until: usize,
     text: &[u8],
     out: &mut [RawBreak],
 ) -> FillState
-    requires { (start.count ≤ length out.old) × (start.row < 65536) × (start.at ≤ length text.now) × (until ≤ length text.now) }
+    requires { (start.count ≤ length out.old) × (start.row < 65536) × (start.at ≤ length text.now) }
+    ensures within { (result.count ≤ length out.old) × (result.row < 65536) × (result.at ≤ length text.now) }
+    ensures onward { (start.at ≤ result.at) × (start.count ≤ result.count) }
+    ensures in_order { (from : ℕ) → IsInOrder out.old start.count from start.at → IsInOrder out.new result.count from result.at }
+    ensures reached { (profile : Profile) (cell : ℕ → Cell) (lefts : List Left) (more : List ℕ) (all : List Break) → AreSwift profile lefts steps.now → AreFlatKinds kinds.now cell
+        → Reached profile cell lefts (text.now ++ more) all start (given_in out.old start.count)
+        → Reached profile cell lefts (text.now ++ more) all result (given_in out.new result.count) }
+{
+    scalars(kinds, steps, start, text, out)
+}
+
+/// The same, where it is called from.
+#[inline(always)]
+fn scalars(
+    kinds: &[u8; CODES],
+    steps: &[FlatStep; STEPS],
+    start: FillState,
+    text: &[u8],
+    out: &mut [RawBreak],
+) -> FillState
+    requires { (start.count ≤ length out.old) × (start.row < 65536) × (start.at ≤ length text.now) }
     ensures within { (result.count ≤ length out.old) × (result.row < 65536) × (result.at ≤ length text.now) }
     ensures onward { (start.at ≤ result.at) × (start.count ≤ result.count) }
     ensures in_order { (from : ℕ) → IsInOrder out.old start.count from start.at → IsInOrder out.new result.count from result.at }
@@ -135,25 +197,24 @@ pub fn quick(
         → Reached profile cell lefts (text.now ++ more) all result (given_in out.new result.count) }
 {
     let mut from = start.at;
-    let mut here = runs(kinds, steps, start, until, text, out);
-    while from < here.at && here.at < until {
+    let mut here = runs(kinds, steps, start, text, out);
+    while from < here.at && here.at < text.len() {
         from = here.at;
-        here = runs(kinds, steps, here, until, text, out);
+        here = runs(kinds, steps, here, text, out);
     }
     here
 }
 
-/// A run of scalars of each width, one behind the other. Each may be empty.
+/// A run of scalars of each width, one after the other. Each may be empty.
 #[inline(always)]
 fn runs(
     kinds: &[u8; CODES],
     steps: &[FlatStep; STEPS],
     start: FillState,
-    until: usize,
     text: &[u8],
     out: &mut [RawBreak],
 ) -> FillState
-    requires { (start.count ≤ length out.old) × (start.row < 65536) × (start.at ≤ length text.now) × (until ≤ length text.now) }
+    requires { (start.count ≤ length out.old) × (start.row < 65536) × (start.at ≤ length text.now) }
     ensures within { (result.count ≤ length out.old) × (result.row < 65536) × (result.at ≤ length text.now) }
     ensures onward { (start.at ≤ result.at) × (start.count ≤ result.count) }
     ensures in_order { (from : ℕ) → IsInOrder out.old start.count from start.at → IsInOrder out.new result.count from result.at }
@@ -161,9 +222,9 @@ fn runs(
         → Reached profile cell lefts (text.now ++ more) all start (given_in out.old start.count)
         → Reached profile cell lefts (text.now ++ more) all result (given_in out.new result.count) }
 {
-    let behind_one = run(Width::One, kinds, steps, start, until, text, out);
-    let behind_two = run(Width::Two, kinds, steps, behind_one, until, text, out);
-    run(Width::Three, kinds, steps, behind_two, until, text, out)
+    let behind_one = run(Width::One, kinds, steps, start, text, out);
+    let behind_two = run(Width::Two, kinds, steps, behind_one, text, out);
+    run(Width::Three, kinds, steps, behind_two, text, out)
 }
 
 /// A run of scalars of one width. In a text most scalars have the width of the one before, so a loop of its own for each
@@ -174,11 +235,10 @@ fn run(
     kinds: &[u8; CODES],
     steps: &[FlatStep; STEPS],
     start: FillState,
-    until: usize,
     text: &[u8],
     out: &mut [RawBreak],
 ) -> FillState
-    requires { (start.count ≤ length out.old) × (start.row < 65536) × (start.at ≤ length text.now) × (until ≤ length text.now) }
+    requires { (start.count ≤ length out.old) × (start.row < 65536) × (start.at ≤ length text.now) }
     ensures within { (result.count ≤ length out.old) × (result.row < 65536) × (result.at ≤ length text.now) }
     ensures onward { (start.at ≤ result.at) × (start.count ≤ result.count) }
     ensures in_order { (from : ℕ) → IsInOrder out.old start.count from start.at → IsInOrder out.new result.count from result.at }
@@ -189,12 +249,12 @@ fn run(
     let mut count = start.count;
     let mut row = start.row;
     let mut at = start.at;
-    while count < out.len() && at < until {
+    while count < out.len() && at < text.len() {
         let Some(scalar) = scalar_of(width, &text[at..]) else {
             break;
         };
         let step = step_at(steps, row, kinds[scalar.code as usize]);
-        if step.code == HELD {
+        if VERDICTS <= step.code {
             break;
         }
         count = put(out, count, at, step.code);
@@ -229,7 +289,7 @@ fn take_one(
     }
 }
 
-/// Writes the verdict of a number behind the breaks in the front of the block, and answers how many these are now: one
+/// Writes the verdict of a number after the breaks in the front of the block, and returns how many these are now: one
 /// more, if it is a break.
 #[inline(always)]
 pub fn put(out: &mut [RawBreak], count: usize, at: usize, code: u16) -> usize
@@ -244,5 +304,5 @@ pub fn put(out: &mut [RawBreak], count: usize, at: usize, code: u16) -> usize
     place.at = at;
     place.kind = (shown % 256) as u8;
     place.rule = (shown / 256) as u8;
-    count + usize::from(shown % 256 != 0)
+    count + usize::from(is_break(code))
 }

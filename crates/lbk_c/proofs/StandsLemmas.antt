@@ -16,7 +16,7 @@ use Rattle.lbk_values.specs.declared.profile.Profile.TheVariants.{First, Second}
 use Rattle.lbk_rules.specs.declared.verdicts.Verdict.{Verdict}
 use Rattle.lbk_rules.specs.Breaks.{break_by, is_no}
 use Rattle.lbk_rules.specs.Classes.{QU, closes_before, hard, is, mark}
-use Rattle.lbk_rules.specs.Codes.{IsCode, kind_numbered, verdict_coded}
+use Rattle.lbk_rules.specs.Codes.{IsCode, verdict_coded}
 use Rattle.lbk_rules.specs.Held.{is_15b, is_held}
 use Rattle.lbk_rules.specs.Normal.{normal}
 use Rattle.lbk_rules.specs.Sides.{leaves_closed}
@@ -256,11 +256,25 @@ knows-next cell lefts table row c one flat scalar is_one taken known =
     let step = steps-here lefts table cell row c one other flat scalar known.0 is_one refl in
     knows-more cell lefts row one.next c kind (flat.kinds c scalar).1 step.starts step.leads taken known
 
--- a number of kind 0 is no break's
-silent-code : (at code : ℕ) → code % 3 ≡ 0 → with_break at (verdict_coded code) [] ≡ []
+-- the number of a verdict by which no line breaks
+silent-code : (at code : ℕ) → is_no (verdict_coded code).kind ≡ true → with_break at (verdict_coded code) [] ≡ []
+silent-code at code none = ap (λ b. cond b [] (break_by at (verdict_coded code) ∷ [])) none
+
+-- so it is by rule 15b
+silent-held : (at code : ℕ) → code ≡ HELD → with_break at (verdict_coded code) [] ≡ []
 unfolding verdict_coded
-silent-code at code zero =
-    ap (λ b. cond b [] (break_by at (verdict_coded code) ∷ [])) (ap (λ n. is_no (kind_numbered n)) zero)
+silent-held at code held = silent-code at code (ap (λ n. is_no (verdict_coded n).kind) held)
+
+-- the number of a verdict by which a line breaks is not 0
+loud-code : (code : ℕ) → is_no (verdict_coded code).kind ≡ false → (code == 0) ≡ false
+unfolding verdict_coded
+loud-code code loud =
+    elim (code == 0) as (λ b. (code == 0) ≡ b → b ≡ false) [
+      | true ↦ λ same.
+          let first : code ≡ 0 = grind (arith, nat_tests) in
+          absurd (false≢true (sym loud ∙ ap (λ n. is_no (verdict_coded n).kind) first))
+      | false ↦ λ apart. refl
+    ] refl
 
 -- what a number decides that waits for nothing
 pub decides-now : (profile : Profile) (cell : ℕ → Cell) (lefts : List Left) (table : FlatTable) (taken : List ℕ) (at row c : ℕ) (one other : FlatStep)
@@ -268,7 +282,7 @@ pub decides-now : (profile : Profile) (cell : ℕ → Cell) (lefts : List Left) 
     → IsFlatBy lefts table cell → KnowsTaken cell lefts row taken → IsScalar c
     → one ≡ get_or table.first (row + get_or table.kinds c 0) no_flat_step
     → other ≡ get_or (steps_in table profile) (row + get_or table.kinds c 0) no_flat_step
-    → (profile ≡ Second → other.code ≡ HELD → one.code % 3 ≡ 0)
+    → (profile ≡ Second → other.code ≡ HELD → is_no (verdict_coded one.code).kind ≡ true)
     → IsCode other.code
     × (with_break at (verdict_coded other.code) [] ≡ with_break at (verdict_between_in profile (map cell taken) (cell c ∷ right)) [])
 decides-now First cell lefts table taken at row c one other right flat known scalar is_one is_other quiet =
@@ -280,7 +294,7 @@ decides-now Second cell lefts table taken at row c one other right flat known sc
     × (with_break at (verdict_coded other.code) [] ≡ with_break at (verdict_between_in Second (map cell taken) (cell c ∷ right)) [])) [
       | true ↦ λ same.
           let held : other.code ≡ HELD = grind (arith, nat_tests) in
-          let none : with_break at (verdict_coded other.code) [] ≡ [] = silent-code at other.code (ap (λ n. n % 3) held) in
+          let none : with_break at (verdict_coded other.code) [] ≡ [] = silent-held at other.code held in
           (elim (leaves_closed (units_after (hard (normal (cell c)).class) (map normal right)))
           as (λ b. leaves_closed (units_after (hard (normal (cell c)).class) (map normal right)) ≡ b → IsCode other.code
           × (with_break at (verdict_coded other.code) [] ≡ with_break at (verdict_between_in Second (map cell taken) (cell c ∷ right)) [])) [
@@ -303,13 +317,13 @@ pub decides-late : (cell : ℕ → Cell) (lefts : List Left) (table : FlatTable)
     → IsFlatBy lefts table cell → KnowsTaken cell lefts place.row taken → IsScalar c
     → one ≡ get_or table.first (place.row + get_or table.kinds c 0) no_flat_step
     → other ≡ get_or table.second (place.row + get_or table.kinds c 0) no_flat_step
-    → other.code ≡ HELD → 0 < one.code % 3 → next.held_at ≡ place.at → next.held_code ≡ one.code
+    → other.code ≡ HELD → is_no (verdict_coded one.code).kind ≡ false → next.held_at ≡ place.at → next.held_code ≡ one.code
     → late_break cell next rest
     ≡ with_break place.at (verdict_between_in Second (map cell taken) (cell c ∷ map cell (lossy_chars rest))) []
 decides-late cell lefts table taken place next rest c one other flat known scalar is_one is_other held breaks held_same code_same =
     let right = map cell (lossy_chars rest) in
     let soft = held-soft cell lefts table taken place.row c other flat known scalar is_other held in
-    let some : (next.held_code == 0) ≡ false = grind (arith, nat_tests) in
+    let some : (next.held_code == 0) ≡ false = ap (λ n. n == 0) code_same ∙ loud-code one.code breaks in
     let same : with_break next.held_at (verdict_coded next.held_code) [] ≡ with_break place.at (verdict_coded one.code) [] =
     ap (λ n. with_break n (verdict_coded next.held_code) []) held_same ∙ ap (λ n. with_break place.at (verdict_coded n) []) code_same in
     (elim (leaves_closed (units_after false (cells_of cell rest)))
@@ -318,7 +332,7 @@ decides-late cell lefts table taken place next rest c one other flat known scala
       | true ↦ λ is.
           let closed = ap (λ b. leaves_closed (units_after b (cells_of cell rest))) soft ∙ is in
           let decided = decides-closed lefts table cell taken place.row c other right flat known scalar is_other closed in
-          late-some cell next rest true some is ∙ sym (silent-code place.at other.code (ap (λ n. n % 3) held))
+          late-some cell next rest true some is ∙ sym (silent-held place.at other.code held)
           ∙ ap (λ (v : Verdict). with_break place.at v []) decided.1
       | false ↦ λ is.
           let stays = ap (λ b. leaves_closed (units_after b (cells_of cell rest))) soft ∙ is in

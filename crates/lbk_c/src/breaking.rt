@@ -18,11 +18,11 @@ ghost use Rattle.lbk_c.specs.State.{profile_numbered, start_in};
 
 use crate::interface::State;
 use lbk_bytes::{FillState, RawBreak, fill, put};
-use lbk_rules::Profile;
+use lbk_rules::{Profile, RULES};
 use lbk_steps::FlatTable;
 
 /// The number of the verdict at a text's end, by rule 3.
-pub(crate) const END: u16 = 3 + 2;
+pub(crate) const END: u16 = 2 * RULES + 1;
 
 /// Puts the next breaks of a text (UAX #14, section 3) into the front of the block, from the state on, and answers how many:
 /// as many as the block holds, or all that are left. The text may be any bytes: each longest piece that begins no scalar is

@@ -71,14 +71,7 @@ fn skim_into(
         row: place.row as usize,
         at: from,
     };
-    let end = quick(
-        &table.kinds,
-        steps_of(table, profile),
-        start,
-        piece.len(),
-        piece,
-        room,
-    );
+    let end = quick(&table.kinds, steps_of(table, profile), start, piece, room);
     move_by(room, end.count, place.at.wrapping_sub(from as u64));
     end
 }

@@ -7,7 +7,9 @@ ghost use Rattle.lbk_rules.specs.declared.cells.Cell.{Cell};
 ghost use Rattle.lbk_rules.specs.declared.facts.Left.{Left};
 ghost use Rattle.lbk_values.specs.declared.profile.Profile.{Profile};
 ghost use Rattle.lbk_values.specs.declared.profile.Profile.TheVariants.{Second};
+ghost use Rattle.lbk_rules.specs.Breaks.{is_no};
 ghost use Rattle.lbk_rules.specs.Classes.{mark};
+ghost use Rattle.lbk_rules.specs.Codes.{verdict_coded};
 ghost use Rattle.lbk_rules.specs.Normal.{normal};
 ghost use Rattle.lbk_steps.specs.FlatTable.{AreFlatKinds, IsFlatBy};
 ghost use Rattle.lbk_bytes.specs.Shown.{given_in};
@@ -15,7 +17,7 @@ ghost use Rattle.lbk_c.specs.Stands.{Stands};
 
 use crate::stream::Place;
 use lbk_bytes::{RawBreak, put, step_at, steps_of};
-use lbk_rules::Profile;
+use lbk_rules::{Profile, is_break};
 use lbk_steps::{FlatTable, HELD};
 
 /// A place, and how many breaks stand in the front of the block.
@@ -167,11 +169,11 @@ fn pass(
 /// Whether a position waits for what follows: by rule 15b it is no break where the quotation is closed, and where it stays
 /// open the first profile decides.
 fn waits(profile: Profile, code: u16, otherwise: u16) -> bool
-    ensures held { result ≡ true → (profile ≡ Second) × (code ≡ HELD) × (0 < otherwise % 3) }
-    ensures decided { result ≡ false → profile ≡ Second → code ≡ HELD → otherwise % 3 ≡ 0 }
+    ensures held { result ≡ true → (profile ≡ Second) × (code ≡ HELD) × (is_no (verdict_coded otherwise).kind ≡ false) }
+    ensures decided { result ≡ false → profile ≡ Second → code ≡ HELD → is_no (verdict_coded otherwise).kind ≡ true }
 {
     match profile {
         Profile::First => false,
-        Profile::Second => code == HELD && otherwise % 3 != 0,
+        Profile::Second => code == HELD && is_break(otherwise),
     }
 }

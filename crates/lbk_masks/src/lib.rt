@@ -5,8 +5,8 @@
 //! things. All of it holds whatever the sets are.
 #![tactic(auto)]
 
-ghost use Rattle.std.specs.Prelude.{◌≡◌, ◌%◌, ℕ, ◌<◌, ◌≤◌, ◌∷◌, length, get_or, bit_and, bit_or};
-ghost use Rattle.lbk_masks.specs.Sets.{HasLanes, class_in, high_half, in_row, is_set, left_before, left_in, meets, picked, right_in};
+ghost use Rattle.std.specs.Prelude.{◌≡◌, ◌%◌, ℕ, ◌<◌, ◌≤◌, ◌∷◌, length, get_or, bit_and};
+ghost use Rattle.lbk_masks.specs.Sets.{HasLanes, chosen, class_in, is_set, left_before, left_in, meets, picked, right_in};
 
 use std::simd::prelude::*;
 
@@ -72,19 +72,10 @@ impl ByteSets {
 fn class_of(rows: &[[u8; 16]; 8], byte: u8) -> u8
     ensures { result ≡ class_in rows.now byte }
 {
-    let a = byte_in_row(rows[0], 0, byte) | byte_in_row(rows[1], 16, byte);
-    let b = byte_in_row(rows[2], 32, byte) | byte_in_row(rows[3], 48, byte);
-    let c = byte_in_row(rows[4], 64, byte) | byte_in_row(rows[5], 80, byte);
-    let d = byte_in_row(rows[6], 96, byte) | byte_in_row(rows[7], 112, byte);
-    (a | b) | (c | d)
-}
-
-/// What the row has at the low half of a byte with this high half, and else 0.
-fn byte_in_row(row: [u8; 16], first: u8, byte: u8) -> u8
-    ensures { result ≡ in_row row first byte }
-{
-    let all = if byte & 240 == first { 255 } else { 0 };
-    all & of_class(&row, byte)
+    if byte >= 128 {
+        return 0;
+    }
+    of_class(&rows[(byte / 16) as usize], byte)
 }
 
 /// What the row has at the low half of a byte.
@@ -125,14 +116,14 @@ fn picked(row: [u8; 16], bytes: u8x64) -> u8x64
     four_times(u8x16::from_array(row)).swizzle_dyn_within::<16>(bytes & u8x64::splat(15))
 }
 
-/// All bits at the bytes with this high half.
+/// One of two at each byte, by a bit of it: the first where it is not set.
 #[inline(always)]
-fn high_half(first: u8, bytes: u8x64) -> u8x64
-    ensures { HasLanes result (λ i. high_half first (get_or bytes i 0)) }
+fn chosen(bit: u8, low: u8x64, high: u8x64, bytes: u8x64) -> u8x64
+    ensures { HasLanes result (λ i. chosen bit (get_or low i 0) (get_or high i 0) (get_or bytes i 0)) }
 {
-    (bytes & u8x64::splat(240))
-        .simd_eq(u8x64::splat(first))
-        .select(u8x64::splat(255), u8x64::splat(0))
+    (bytes & u8x64::splat(bit))
+        .simd_eq(u8x64::splat(0))
+        .select(low, high)
 }
 
 /// What two vectors have in common.
@@ -143,32 +134,27 @@ fn both(one: u8x64, other: u8x64) -> u8x64
     one & other
 }
 
-/// What one of two vectors has.
+/// What one of two rows has at the low half of each byte, by the lowest bit of its high half.
 #[inline(always)]
-fn either(one: u8x64, other: u8x64) -> u8x64
-    ensures { HasLanes result (λ i. bit_or (get_or one i 0) (get_or other i 0)) }
+fn in_rows(low: [u8; 16], high: [u8; 16], bytes: u8x64) -> u8x64
+    ensures { HasLanes result (λ i. chosen 16 (picked low (get_or bytes i 0)) (picked high (get_or bytes i 0)) (get_or bytes i 0)) }
 {
-    one | other
+    chosen(16, picked(low, bytes), picked(high, bytes), bytes)
 }
 
-/// What the row has at the low half of each byte with this high half, and else 0.
-#[inline(always)]
-fn in_row(row: [u8; 16], first: u8, bytes: u8x64) -> u8x64
-    ensures { HasLanes result (λ i. in_row row first (get_or bytes i 0)) }
-{
-    both(high_half(first, bytes), picked(row, bytes))
-}
-
-/// The class of each byte.
+/// The class of each byte. Bits of the high half choose the row.
 #[inline(always)]
 fn classes(rows: &[[u8; 16]; 8], bytes: u8x64) -> u8x64
     ensures { HasLanes result (λ i. class_in rows.now (get_or bytes i 0)) }
 {
-    let a = either(in_row(rows[0], 0, bytes), in_row(rows[1], 16, bytes));
-    let b = either(in_row(rows[2], 32, bytes), in_row(rows[3], 48, bytes));
-    let c = either(in_row(rows[4], 64, bytes), in_row(rows[5], 80, bytes));
-    let d = either(in_row(rows[6], 96, bytes), in_row(rows[7], 112, bytes));
-    either(either(a, b), either(c, d))
+    let a = in_rows(rows[0], rows[1], bytes);
+    let b = in_rows(rows[2], rows[3], bytes);
+    let c = in_rows(rows[4], rows[5], bytes);
+    let d = in_rows(rows[6], rows[7], bytes);
+    let low = chosen(32, a, b, bytes);
+    let high = chosen(32, c, d, bytes);
+    let ascii = chosen(64, low, high, bytes);
+    chosen(128, ascii, u8x64::splat(0), bytes)
 }
 
 /// Where the sets of two vectors meet.

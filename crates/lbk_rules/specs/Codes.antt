@@ -68,8 +68,9 @@ rule_numbered number = unwrap_or (find (λ rule. rule_number rule == number) rul
 
 -- the number is that of a verdict
 abbrev pub IsCode : ℕ → Type 0
-IsCode code = code < 114
+IsCode code = code < 152
 
--- the verdict of a number, which counts verdicts by rule and then by kind
+-- the verdict of a number, which counts verdicts by kind and then by rule. A verdict by which a line does not break has two
+-- numbers: one below 38, and one from 114 on
 unfoldable pub verdict_coded : ℕ → Verdict
-verdict_coded code = record { kind = kind_numbered (code % 3); rule = slice_index_or rules (code / 3) Lb2 }
+verdict_coded code = record { kind = kind_numbered (code / 38); rule = slice_index_or rules (code % 38) Lb2 }

@@ -1,10 +1,17 @@
 //! Kinds, rules and verdicts as numbers.
 
-ghost use Rattle.std.specs.Prelude.{◌≡◌, ◌<◌, ◌==◌, find, slice_index_or};
+ghost use Rattle.std.specs.Prelude.{◌≡◌, ◌<◌, ◌==◌, find, not, slice_index_or};
 ghost use Rattle.lbk_rules.specs.declared.verdicts.Rule.TheVariants.{Lb2};
+ghost use Rattle.lbk_rules.specs.Breaks.{is_no};
 ghost use Rattle.lbk_rules.specs.Codes.{IsCode, kind_numbered, rule_number, rules, verdict_coded};
 
 use crate::verdicts::{Kind, Rule, Verdict};
+
+/// How many rules there are.
+pub const RULES: u16 = 38;
+
+/// How many verdicts there are: three kinds by each rule.
+pub const VERDICTS: u16 = 3 * RULES;
 
 impl Rule {
     /// The rule of a number, which is 8 times its own and the place of its letter: 65 for rule 8a. None comes for a number
@@ -56,12 +63,20 @@ impl Rule {
     }
 }
 
-/// The number of a verdict among all verdicts: 3 times the place of its rule among the rules, and the number of its kind.
+/// The number of a verdict among all verdicts: 38 times the number of its kind, and the place of its rule among the rules.
 pub fn code_of(verdict: Verdict) -> u16
     ensures verdict { verdict_coded result ≡ verdict }
     ensures coded { IsCode result }
 {
-    3 * place_of_rule(verdict.rule) + number_of_kind(verdict.kind)
+    RULES * number_of_kind(verdict.kind) + place_of_rule(verdict.rule)
+}
+
+/// Whether a line may or must break by the verdict of a number. By that of a number from [`VERDICTS`] on it does not.
+#[inline(always)]
+pub fn is_break(code: u16) -> bool
+    ensures { result ≡ not (is_no (verdict_coded code).kind) }
+{
+    RULES <= code && code < VERDICTS
 }
 
 /// The number of a kind.

@@ -30,7 +30,7 @@ pub use resolution::resolve;
 pub use verdicts::{Kind, Rule, Verdict};
 
 // What `lbk_steps` is made of, and what tests compare it with.
-pub use codes::code_of;
+pub use codes::{RULES, VERDICTS, code_of, is_break};
 pub use facts::{Before, Left};
 pub use forward_machine::{ForwardMachine, decide_all};
 pub use late_machine::{EndVerdicts, LateMachine, StepVerdicts, decide_all_in, unless_held};

@@ -1,5 +1,5 @@
 -- What is told where nothing is known of bytes.
-use Rattle.std.proofs.Common.{◌≡◌, ℕ, ◌<◌, true, false, List, get_or, bit_and, replicate, sym, ap, ap₂, ◌∙◌, arith}
+use Rattle.std.proofs.Common.{◌≡◌, ℕ, true, false, List, bit_and, replicate, sym, ap₂, ◌∙◌, arith}
 use Rattle.std.proofs.lemmas.Nat.{and_le_r}
 use Rattle.std.proofs.lemmas.Simd.{get_or-replicate}
 use Rattle.lbk_masks.specs.Sets.{class_in, meets, picked}

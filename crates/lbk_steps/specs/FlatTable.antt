@@ -1,5 +1,5 @@
 -- The table of steps as plain numbers: the kinds of all codes, and what happens at a cell of each kind in both profiles.
-use Rattle.std.specs.Prelude.{◌≡◌, ℕ, ◌+◌, ◌*◌, ◌^◌, ◌<◌, ◌%◌, true, false, List, [], ◌∷◌, bit_xor, fold, length, slice_index, slice_index_or, reverse}
+use Rattle.std.specs.Prelude.{◌≡◌, ℕ, ◌+◌, ◌*◌, ◌<◌, ◌%◌, true, false, List, [], ◌∷◌, fold, length, slice_index, slice_index_or, reverse}
 use Rattle.std.specs.Char.{IsScalar}
 use Rattle.lbk_rules.specs.declared.cells.Cell.{Cell}
 use Rattle.lbk_rules.specs.declared.facts.Left.{Left}

@@ -1,7 +1,9 @@
 -- What sets of bytes tell of the steps by two bytes that stand side by side.
-use Rattle.std.specs.Prelude.{◌≡◌, ℕ, ◌+◌, ◌<◌, ◌%◌, ◌==◌, Bool, true, false, not, List, bit_and, fold, slice_index_or}
+use Rattle.std.specs.Prelude.{◌≡◌, ℕ, ◌+◌, ◌<◌, ◌%◌, Bool, false, not, List, bit_and, fold, slice_index_or}
 use Rattle.lbk_masks.specs.Sets.{left_in, meets, right_in}
 use Rattle.lbk_masks.specs.declared.TheConstants.{SPECIAL}
+use Rattle.lbk_rules.specs.Breaks.{is_no}
+use Rattle.lbk_rules.specs.Codes.{verdict_coded}
 use Rattle.lbk_steps.specs.declared.flat_table.FlatStep.{FlatStep}
 use Rattle.lbk_steps.specs.declared.flat_table.TheConstants.{HELD}
 use Rattle.lbk_steps.specs.declared.kinds.TheConstants.{KINDS}
@@ -22,7 +24,8 @@ pub record AreSettled (steps : List FlatStep) (kinds : List ℕ) (pairs : Neighb
   pub below : byte < 128
   pub apart : ¬ ((step_behind steps kinds pairs before byte).code ≡ HELD)
   pub leads : (step_behind steps kinds pairs before byte).next ≡ slice_index_or pairs.rows byte 0
-  pub breaks : meets (left_in pairs.sets before) (right_in pairs.sets byte) ≡ not ((step_behind steps kinds pairs before byte).code % 3 == 0)
+  pub breaks : meets (left_in pairs.sets before) (right_in pairs.sets byte) 
+      ≡ not (is_no (verdict_coded (step_behind steps kinds pairs before byte).code).kind)
 
 -- so it is, unless the byte is special, or the one before it has no row
 abbrev pub IsTold : List FlatStep → List ℕ → Neighbours → ℕ → ℕ → Type 0

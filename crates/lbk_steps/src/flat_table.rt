@@ -13,7 +13,7 @@ use crate::kinds::{KINDS, cell_of_kind};
 use crate::neighbours::Neighbours;
 use crate::runs::CellRuns;
 use crate::step_rows::{Step, StepRows};
-use lbk_rules::{Cell, code_of};
+use lbk_rules::{Cell, VERDICTS, code_of};
 use lbk_ucd::Tables;
 use std::alloc::{AllocError, Global};
 
@@ -22,13 +22,14 @@ use std::alloc::{AllocError, Global};
 pub const STEPS: usize = 65_792;
 
 /// The number of this layout of a table. It changes with the layout, the rules and the numbers of verdicts.
-pub const LAYOUT: u64 = 2;
+pub const LAYOUT: u64 = 3;
 
 /// How many codes there are.
 pub(crate) const CODES: usize = 0x11_0000;
 
-/// The number of a verdict by rule 15b.
-pub const HELD: u16 = 48;
+/// The number of a verdict by rule 15b. It is none of the first [`VERDICTS`], so that a loop that goes by these leaves at a
+/// held position too.
+pub const HELD: u16 = VERDICTS + 16;
 
 /// What a digest begins with: the offset basis of FNV-1a for 64 bits.
 const DIGEST_START: u64 = 0xcbf2_9ce4_8422_2325;

@@ -10,6 +10,7 @@ use crate::flat_table::{CODES, FlatStep, HELD, STEPS, digest_kinds, digest_with}
 use crate::kinds::KINDS;
 use lbk_cover::{Related, cover};
 use lbk_masks::{ByteSets, SPECIAL};
+use lbk_rules::is_break;
 
 /// How many bytes have sets of their own: those that are scalars.
 const ASCII: usize = 128;
@@ -107,7 +108,7 @@ impl Neighbours {
         if step.next != self.rows[byte as usize] {
             return false;
         }
-        self.stands_out(before, byte) == (step.code % 3 != 0)
+        self.stands_out(before, byte) == is_break(step.code)
     }
 
     /// A digest after these numbers too.
@@ -158,7 +159,7 @@ fn relations(steps: &[FlatStep; STEPS], kinds: &[u8; CODES], rows: &[u16; 256]) 
             let step = steps[rows[before] as usize + kinds[byte] as usize];
             if step.code == HELD || step.next != rows[byte] {
                 related.special[before] |= 1 << byte;
-            } else if step.code % 3 != 0 {
+            } else if is_break(step.code) {
                 related.breaks[before] |= 1 << byte;
             }
         }

@@ -1,4 +1,4 @@
-use Rattle.std.proofs.Common.{◌≡◌, ℕ, ◌<◌, Bool, true, false, List, eqb, refl, cond, ◌==◌, not, map, length, get_or, bit_and, ap, ◌∙◌, sym, arith, w8}
+use Rattle.std.proofs.Common.{◌≡◌, ℕ, Bool, true, false, List, eqb, refl, cond, ◌==◌, not, map, length, get_or, bit_and, ap, ◌∙◌, sym, arith, w8}
 use Rattle.std.proofs.lemmas.List.{get_or-map}
 use Rattle.std.proofs.lemmas.Simd.{bit_mask_l, bitmask_splat, get_or-zip2, length-zip2}
 use lib.Lanes.{mask_l, zip2}

@@ -1,4 +1,4 @@
-use Rattle.std.proofs.Common.{◌≡◌, ℕ, zero, suc, ◌++◌, ◌∷◌, get_or, replicate, ap, ◌∙◌, arith, length-append, refl, get_or-take}
+use Rattle.std.proofs.Common.{zero, suc, ◌++◌, get_or, replicate, ap, ◌∙◌, arith, length-append, refl, get_or-take}
 use Rattle.std.proofs.lemmas.Simd.{pick_l-range_with_len}
 use Rattle.lbk_masks.proofs.one_back.Goals as goal
 

@@ -1,16 +1,26 @@
-use Rattle.std.proofs.Common.{arith}
+use Rattle.std.proofs.Common.{[]}
+use Rattle.lbk_bytes.specs.Shown.{given_in}
+use Rattle.lbk_bytes.proofs.ReachedLemmas.{Reached-alone, Reached-nothing}
+use Rattle.lbk_bytes.proofs.StepLemmas.{swift-as}
 use Rattle.lbk_bytes.proofs.filling.fill.Goals as goal
 
-pub loop-here-preserved : goal.loop-here-preserved
-loop-here-preserved c =
-    let l = c.loop-here in
-    let further = c.further-here in
-    let within = further.ensures.within in
-    record {
-      room = omega (arith, within.0);
-      row = within.1;
-      within = within.2;
-      no_room = λ none. absurd (omega arith);
-      in_order = λ from order. further.ensures.in_order from (l.invariant.in_order from order);
-      reached = λ cell lefts all flat start. further.ensures.reached cell lefts all flat (l.invariant.reached cell lefts all flat start);
-    }
+pub returns-then-here-out-clause-reached : goal.returns-then-here-out-clause-reached
+returns-then-here-out-clause-reached c = λ cell lefts all flat start.
+    let profile = c.args.profile in
+    let text = c.args.text.now in
+    let here = c.scalars-here in
+    let swift = swift-as profile lefts c.args.table.now cell c.steps_of.result.now flat c.steps_of.ensures in
+    Reached-alone profile cell lefts text all here.result (given_in here.new.out here.result.count)
+    (here.ensures.reached profile cell lefts [] all swift flat.kinds
+    (Reached-nothing profile cell lefts text all c.args.start (given_in c.args.out.now c.args.start.count) start))
+
+pub returns-clause-reached : goal.returns-clause-reached
+returns-clause-reached c = λ cell lefts all flat start.
+    let profile = c.args.profile in
+    let text = c.args.text.now in
+    let here = c.scalars-here in
+    let swift = swift-as profile lefts c.args.table.now cell c.steps_of.result.now flat c.steps_of.ensures in
+    c.fill_on-2.ensures.reached cell lefts all flat
+    (Reached-alone profile cell lefts text all here.result (given_in here.new.out here.result.count)
+    (here.ensures.reached profile cell lefts [] all swift flat.kinds
+    (Reached-nothing profile cell lefts text all c.args.start (given_in c.args.out.now c.args.start.count) start)))

@@ -1,4 +1,4 @@
-use Rattle.std.proofs.Common.{◌≡◌, ◌+◌, ◌%◌, ◌/◌, not, sym, ap, subst, ◌∙◌, arith}
+use Rattle.std.proofs.Common.{◌≡◌, ◌+◌, ◌%◌, ◌/◌, not, sym, ap, subst, ◌∙◌}
 use Rattle.std.specs.Int.{from_bool}
 use Rattle.std.proofs.Math.ListN.{set}
 use Rattle.std.proofs.lemmas.List.{take-set}
@@ -6,19 +6,18 @@ use Rattle.lbk_rules.specs.Breaks.{break_by, is_no}
 use Rattle.lbk_rules.specs.Codes.{verdict_coded}
 use Rattle.lbk_bytes.specs.declared.raw_break.RawBreak.{RawBreak}
 use Rattle.lbk_bytes.specs.Order.{AreInOrder}
-use Rattle.lbk_bytes.specs.Reached.{numbers_of}
 use Rattle.lbk_bytes.specs.Shown.{given_in, shown}
 use Rattle.lbk_bytes.proofs.OrderLemmas.{AreInOrder-put}
 use Rattle.lbk_bytes.proofs.ReachedLemmas.{written-more}
-use Rattle.lbk_bytes.proofs.ShownLemmas.{counts, raw-split, shown-raw}
+use Rattle.lbk_bytes.proofs.ShownLemmas.{raw-split, shown-raw}
 use Rattle.lbk_bytes.proofs.filling.put.Goals as goal
 
 pub returns-clause-in_order : goal.returns-clause-in_order
 returns-clause-in_order c = λ from to below order.
     let out = c.args.out.now in
-    let verdict = verdict_coded (c.args.code % 128) in
+    let verdict = verdict_coded c.args.code in
     let found = break_by c.args.at verdict in
-    let more : c.from.result ≡ from_bool (not (is_no verdict.kind)) = c.from.ensures ∙ ap from_bool (counts c.shown_of-shown.result verdict c.shown_of-shown.ensures) in
+    let more : c.from.result ≡ from_bool (not (is_no verdict.kind)) = c.from.ensures ∙ ap from_bool c.is_break.ensures in
     let split = raw-split c.args.at c.shown_of-shown.result verdict c.shown_of-shown.ensures in
     let put = AreInOrder-put out c.args.count found from to c.requires order.0 below order.1 in
     let written = subst (λ raw. AreInOrder (set out c.args.count raw) (c.args.count + from_bool (not (is_no verdict.kind))) from to) split put in
@@ -27,13 +26,10 @@ returns-clause-in_order c = λ from to below order.
 pub returns-clause-front : goal.returns-clause-front
 returns-clause-front c = λ coded.
     let out = c.args.out.now in
-    let code = c.args.code in
-    let same : code % 128 ≡ code = omega (arith, coded) in
-    let is : c.shown_of-shown.result ≡ numbers_of (verdict_coded code) = c.shown_of-shown.ensures ∙ ap (λ n. numbers_of (verdict_coded n)) same in
-    let verdict = verdict_coded code in
+    let verdict = verdict_coded c.args.code in
     let found : RawBreak = record { at = c.args.at; kind = c.shown_of-shown.result % 256; rule = c.shown_of-shown.result / 256 } in
-    let more : c.from.result ≡ from_bool (not (is_no verdict.kind)) = c.from.ensures ∙ ap from_bool (counts c.shown_of-shown.result verdict is) in
-    let split = raw-split c.args.at c.shown_of-shown.result verdict is in
+    let more : c.from.result ≡ from_bool (not (is_no verdict.kind)) = c.from.ensures ∙ ap from_bool c.is_break.ensures in
+    let split = raw-split c.args.at c.shown_of-shown.result verdict c.shown_of-shown.ensures in
     ap (λ n. given_in (set out c.args.count found) (c.args.count + n)) more
     ∙ written-more out c.args.count found c.args.at verdict c.requires (ap shown (sym split) ∙ shown-raw (break_by c.args.at verdict))
 

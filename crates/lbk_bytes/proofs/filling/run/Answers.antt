@@ -1,4 +1,5 @@
-use Rattle.std.proofs.Common.{◌+◌, ◌<◌, ◌++◌, length, length-append, arith}
+use Rattle.std.proofs.Common.{◌≡◌, ◌+◌, ◌<◌, ◌++◌, length, length-append, arith}
+use Rattle.lbk_steps.specs.declared.flat_table.TheConstants.{HELD}
 use Rattle.lbk_bytes.proofs.CutLemmas.{reads-more}
 use Rattle.lbk_bytes.proofs.LoopLemmas.{Reached-swift}
 use Rattle.lbk_bytes.proofs.PieceLemmas.{reads}
@@ -37,7 +38,8 @@ loop-count-preserved c =
           (omega (arith, here.0), put.ensures.in_order from (l.at + s.size) (omega (arith, r.some)) here);
       reached = λ profile cell lefts more all swift are_kinds start.
           let text = c.args.text.now in
+          let apart : ¬ (step.code ≡ HELD) = λ held. absurd (omega (arith, held, c.if-step-ge-VERDICTS.false)) in
           Reached-swift profile cell lefts (text ++ more) all c.args.steps.now c.args.kinds.now l.out put.new.out l.count put.result l.row l.at s.code s.size step
-          swift are_kinds (reads-more text more l.at s.code s.size inside r) (omega (arith, length-append text more)) c.step_at-step.ensures c.if-step-eq-HELD.false
+          swift are_kinds (reads-more text more l.at s.code s.size inside r) (omega (arith, length-append text more)) c.step_at-step.ensures apart
           put.ensures.front (l.invariant.reached profile cell lefts more all swift are_kinds start);
     }

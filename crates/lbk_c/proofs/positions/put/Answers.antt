@@ -1,11 +1,10 @@
-use Rattle.std.proofs.Common.{◌≡◌, ◌+◌, ◌%◌, ◌/◌, ◌∷◌, [], ◌++◌, map, take, refl, sym, ap, subst, ◌∙◌, arith}
+use Rattle.std.proofs.Common.{◌+◌, ◌%◌, ◌/◌, ◌∷◌, [], ◌++◌, map, take, refl, sym, ap, subst, ◌∙◌}
 use Rattle.std.proofs.Math.ListN.{set}
 use Rattle.std.proofs.lemmas.List.{map-append, take_more_set}
 use Rattle.lbk_rules.specs.Breaks.{break_by}
 use Rattle.lbk_rules.specs.Codes.{verdict_coded}
 use Rattle.lbk_bytes.specs.declared.raw_break.RawBreak.{RawBreak}
 use Rattle.lbk_bytes.specs.Order.{ArePositionsInOrder, IsPosition}
-use Rattle.lbk_bytes.specs.Reached.{numbers_of}
 use Rattle.lbk_bytes.specs.Shown.{shown}
 use Rattle.lbk_bytes.proofs.OrderLemmas.{AreInOrder-added}
 use Rattle.lbk_bytes.proofs.ShownLemmas.{raw-split, shown-raw}
@@ -14,7 +13,7 @@ use Rattle.lbk_c.proofs.positions.put.Goals as goal
 pub returns-clause-in_order : goal.returns-clause-in_order
 returns-clause-in_order c = λ from to below order.
     let out = c.args.out.now in
-    let verdict = verdict_coded (c.args.code % 128) in
+    let verdict = verdict_coded c.args.code in
     let found = break_by c.args.at verdict in
     let split = raw-split c.args.at c.shown_of-shown.result verdict c.shown_of-shown.ensures in
     subst (λ raw. ArePositionsInOrder (set out c.args.count raw) (c.args.count + 1) from to) split
@@ -23,12 +22,9 @@ returns-clause-in_order c = λ from to below order.
 pub returns-clause-front : goal.returns-clause-front
 returns-clause-front c = λ coded.
     let out = c.args.out.now in
-    let code = c.args.code in
-    let verdict = verdict_coded code in
-    let same : code % 128 ≡ code = omega (arith, coded) in
-    let is : c.shown_of-shown.result ≡ numbers_of verdict = c.shown_of-shown.ensures ∙ ap (λ n. numbers_of (verdict_coded n)) same in
+    let verdict = verdict_coded c.args.code in
     let found : RawBreak = record { at = c.args.at; kind = c.shown_of-shown.result % 256; rule = c.shown_of-shown.result / 256 } in
-    let split = raw-split c.args.at c.shown_of-shown.result verdict is in
+    let split = raw-split c.args.at c.shown_of-shown.result verdict c.shown_of-shown.ensures in
     ap (map shown) (take_more_set out c.args.count found c.requires)
     ∙ map-append shown (take c.args.count out) (found ∷ [])
     ∙ ap (λ b. map shown (take c.args.count out) ++ b ∷ []) (ap shown (sym split) ∙ shown-raw (break_by c.args.at verdict))

@@ -1,6 +1,6 @@
-use Rattle.std.proofs.Common.{◌≡◌, ℕ, zero, suc, ◌<◌, ◌∷◌, get_or, replicate, bit_and, ap, ap₂, ◌∙◌, arith}
+use Rattle.std.proofs.Common.{zero, suc, ◌<◌, bit_and, ap, ap₂, ◌∙◌, arith}
 use Rattle.std.proofs.lemmas.Simd.{get_or-replicate}
-use Rattle.lbk_masks.specs.Sets.{class_in, left_before, meets, picked, right_in}
+use Rattle.lbk_masks.specs.Sets.{class_in, meets, picked}
 use Rattle.lbk_masks.proofs.ByteSets.masks.Goals as goal
 
 pub returns-clause-standing : goal.returns-clause-standing

@@ -6,7 +6,7 @@ use Rattle.lbk_values.specs.declared.profile.Profile.{Profile}
 use Rattle.lbk_steps.specs.FlatTable.{AreFlatKinds}
 use Rattle.lbk_bytes.specs.Reached.{AreSwift, IsInOrder, Reached}
 use Rattle.lbk_bytes.specs.Shown.{given_in}
-use Rattle.lbk_bytes.proofs.filling.quick.Given as goal
+use Rattle.lbk_bytes.proofs.filling.scalars.Given as goal
 
 abbrev pub invariant-loop-from : goal.invariant-loop-from
 invariant-loop-from l = record {

@@ -7,7 +7,7 @@ use Rattle.lbk_steps.specs.FlatTable.{AreFlatKinds}
 use Rattle.lbk_steps.specs.Neighbours.{AreTold}
 use Rattle.lbk_bytes.specs.Reached.{AreSwift, IsInOrder, Reached}
 use Rattle.lbk_bytes.specs.Shown.{given_in}
-use Rattle.lbk_bytes.proofs.blocks.each_block.Given as goal
+use Rattle.lbk_bytes.proofs.blocks.blocks.Given as goal
 
 abbrev pub invariant-loop-here : goal.invariant-loop-here
 invariant-loop-here l = record {

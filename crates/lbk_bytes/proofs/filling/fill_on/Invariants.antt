@@ -5,7 +5,7 @@ use Rattle.lbk_rules.specs.declared.facts.Left.{Left}
 use Rattle.lbk_steps.specs.FlatTable.{IsFlatBy}
 use Rattle.lbk_bytes.specs.Reached.{IsInOrder, Reached}
 use Rattle.lbk_bytes.specs.Shown.{given_in}
-use Rattle.lbk_bytes.proofs.filling.fill.Given as goal
+use Rattle.lbk_bytes.proofs.filling.fill_on.Given as goal
 
 abbrev pub invariant-loop-here : goal.invariant-loop-here
 invariant-loop-here l = record {

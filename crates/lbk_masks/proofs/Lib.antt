@@ -1,0 +1,2 @@
+pub mod EveryLemmas
+pub mod ClassLemmas
