@@ -7,7 +7,9 @@ use Rattle.std.proofs.lemmas.Str.Parse.{digit_from_value}
 use Rattle.bstr.specs.Find.{FindsNeedle, OccursAt}
 use Rattle.lbk_ucd.specs.declared.which.Which.{Which}
 use Rattle.lbk_files.specs.declared.published.Version.{Version}
-use Rattle.lbk_files.specs.Published.{BeginsWithNumber, BeginsWithVersion, BeginsWithoutDigit, NamesVersion, name_before_version, rules_version, words_before_version}
+use Rattle.lbk_files.specs.declared.published.ClaimCause.{ClaimCause}
+use Rattle.lbk_files.specs.declared.published.ClaimCause.TheVariants.{Title, Version as Named, Changed}
+use Rattle.lbk_files.specs.Published.{BeginsWithNumber, BeginsWithVersion, BeginsWithoutDigit, EndsVersion, IsClaimCause, NamesVersion, name_before_version, rules_version, words_before_version}
 
 no-digit : (c : ℕ) → digit_value c < 10 → IsNotAsciiDigit c → ⊥
 no-digit c digit (inl below) = let range = digit_from_value c digit in omega (arith, range.0, below)
@@ -123,3 +125,41 @@ is-rules v same =
     ap (λ n. record { major = n; minor = v.minor; update = v.update }) (eqb-true v.major 15 (and-left (v.major == 15) _ same))
     ∙ ap (λ n. record { major = 15; minor = n; update = v.update }) (eqb-true v.minor 0 (and-left (v.minor == 0) _ others))
     ∙ ap (λ n. record { major = 15; minor = 0; update = n }) (eqb-true v.update 0 (and-right (v.minor == 0) _ others))
+
+-- a file names one version
+same-update : (text : List ℕ) (n m : ℕ) → EndsVersion text n → EndsVersion text m → n ≡ m
+same-update text n m (inl (rest, after, dot, begins)) (inl (rest', after', dot', begins')) =
+    let same : rest' ≡ rest = cc in
+    (same-number rest after after' n m begins (subst (λ l. BeginsWithNumber l m after') same begins')).0
+same-update text n m (inl (rest, after, dot, begins)) (inr (zero', none)) = absurd (none (n, rest, after, dot, begins))
+same-update text n m (inr (zero', none)) (inl (rest, after, dot, begins)) = absurd (none (m, rest, after, dot, begins))
+same-update text n m (inr first) (inr second) = first.0 ∙ sym second.0
+
+same-numbers : (v w : Version) → v.major ≡ w.major → v.minor ≡ w.minor → v.update ≡ w.update → v ≡ w
+same-numbers v w major minor update i = record { major = major i; minor = minor i; update = update i }
+
+same-begin : (text : List ℕ) (v w : Version) → BeginsWithVersion text v → BeginsWithVersion text w → v ≡ w
+same-begin text v w (rest, major, (after, minor, ends)) (rest', major', (after', minor', ends')) =
+    let first = same-number text (46 ∷ rest) (46 ∷ rest') v.major w.major major major' in
+    let tail : rest' ≡ rest = cc in
+    let second = same-number rest after after' v.minor w.minor minor (subst (λ l. BeginsWithNumber l w.minor after') tail minor') in
+    same-numbers v w first.0 second.0 (same-update after v.update w.update ends (subst (λ l. EndsVersion l w.update) (sym second.1) ends'))
+
+same-version : (which : Which) (bytes : List ℕ) (v w : Version) → NamesVersion which bytes v → NamesVersion which bytes w → v ≡ w
+same-version which bytes v w first second =
+    let words = words_before_version which in
+    let at = same-place bytes words second.told.0 first.told.0 second.told.1 first.told.1 in
+    same-begin (drop (first.told.0 + length words) bytes) v w first.told.2
+    (subst (λ n. BeginsWithVersion (drop (n + length words) bytes) w) at second.told.2)
+
+-- a refused file has one cause
+pub one-cause : (which : Which) (bytes : List ℕ) (cause other : ClaimCause) → IsClaimCause which bytes cause → IsClaimCause which bytes other → cause ≡ other
+one-cause which bytes Title Title first second = refl
+one-cause which bytes Title (Named v) first second = absurd (first.1 (v, second.1.0))
+one-cause which bytes Title Changed first second = absurd (first.1 (rules_version, second.1))
+one-cause which bytes (Named v) Title first second = absurd (second.1 (v, first.1.0))
+one-cause which bytes (Named v) (Named w) first second = ap Named (same-version which bytes v w first.1.0 second.1.0)
+one-cause which bytes (Named v) Changed first second = absurd (first.1.1 (same-version which bytes v rules_version first.1.0 second.1))
+one-cause which bytes Changed Title first second = absurd (second.1 (rules_version, first.1))
+one-cause which bytes Changed (Named w) first second = absurd (second.1.1 (same-version which bytes w rules_version second.1.0 first.1))
+one-cause which bytes Changed Changed first second = refl

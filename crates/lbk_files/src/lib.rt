@@ -6,6 +6,7 @@ mod database;
 mod faults;
 mod file_store;
 mod front;
+pub mod laws;
 mod loading;
 mod memory_store;
 mod named_fault;

@@ -40,7 +40,7 @@ pub enum ClaimCause {
 /// CR LF at the end of a line counts as LF.
 ///
 /// Of any other file, `Version` is the version that it names where that is not 15.0.0, `Changed` comes where it names
-/// 15.0.0, and `Title` where it names none.
+/// 15.0.0, and `Title` where it names none; `laws::refused_files_have_one_cause`.
 pub fn check_claim(which: Which, bytes: &[u8]) -> Result<(), ClaimCause>
     ensures { MatchResult result (λ _. IsPublished which bytes.now) (IsClaimCause which bytes.now) }
 {
