@@ -105,7 +105,8 @@ impl<'a> Message<'a> {
         which: Which,
         cause: ClaimCause,
     ) -> fmt::Result {
-        self.named(CellsFault::Claim(which, cause), which).fmt(f)?;
+        let fault = self.named(CellsFault::Claim(which, cause), which);
+        write!(f, "{fault}")?;
         match self.caller {
             Caller::Words(_) if cause == ClaimCause::Changed => {
                 let option = option_of(which);
