@@ -116,23 +116,55 @@ def large_text(runs, folder, words):
         runs.tally.equal(f"show, profile {profile}: a line a passage, each scalar once", (len(lines), found), (passages, scalars))
 
 
+def with_flipped_bit(contents):
+    """The bytes with the last bit of the middle one flipped."""
+    middle = len(contents) // 2
+    return contents[:middle] + bytes([contents[middle] ^ 1]) + contents[middle + 1 :]
+
+
+def without_rows(contents):
+    """The bytes without the lines 500 to 600."""
+    lines = contents.split(b"\n")
+    return b"\n".join(lines[:499] + lines[600:])
+
+
 def folders(runs, folder):
-    """Folders one file of which is cut, of another version, or another file."""
+    """Folders one file of which is not the published one, or has other line ends."""
     here = runs.room / "ucd"
-    versions = "(Unicode 15.1.0|Emoji 15.1)"
+    mark = lambda *more: runs.run(b"ab cd", "mark", "--ucd", here, *more)
+    marked = runs.run(b"ab cd", "mark", "--ucd", folder).out
     for name in NAMES:
         for other in NAMES:
             (here / other).parent.mkdir(parents=True, exist_ok=True)
             shutil.copy(folder / other, here / other)
         contents = (folder / name).read_bytes()
-        mark = lambda name=name: runs.run(b"ab cd", "mark", "--ucd", here)
-        (here / name).write_bytes(contents[:-1])
-        runs.ends(f"a folder whose {name} lacks its last byte", mark(), 1, f"^lbk: {here}/{name}: the file is cut")
-        (here / name).write_bytes(b"\n".join(line.replace(b"15.0", b"15.1", 1) for line in contents.split(b"\n")))
-        err = f"^lbk: {here}/{name}: this is of {versions}, and lbk goes by 15.0"
-        runs.ends(f"a folder whose {name} is of 15.1", mark(), 1, err)
-        shutil.copy(folder / "PropList.txt", here / name)
-        runs.ends(f"a folder whose {name} is another file", mark(), 1, f"^lbk: {here}/{name}: this is not ")
+        of_another = contents.replace(b"15.0", b"15.1", 1)
+        changed = f"^lbk: {here}/{name}: the file was changed or cut: .*; get it anew, or name a file of your own by --"
+        version = f"^lbk: {here}/{name}: this is of (Unicode 15.1.0|Emoji 15.1), and lbk goes by 15.0"
+        for what, bytes_of, err in [
+            ("lacks its last byte", contents[:-1], changed),
+            ("lacks rows from the middle", without_rows(contents), changed),
+            ("has one flipped bit", with_flipped_bit(contents), changed),
+            ("is of 15.1", of_another, version),
+            ("is another file", (folder / "PropList.txt").read_bytes(), f"^lbk: {here}/{name}: this is not "),
+        ]:
+            (here / name).write_bytes(bytes_of)
+            runs.ends(f"a folder whose {name} {what}", mark(), 1, err)
+        (here / name).write_bytes(contents.replace(b"\n", b"\r\n"))
+        runs.tally.equal(f"a folder whose {name} has lines that end in CR LF", mark().out, marked)
+        (here / name).write_bytes(contents)
+    one_file_less(runs, folder, here, mark, marked)
+
+
+def one_file_less(runs, folder, here, mark, marked):
+    """A file that its option names is not looked for in the folder, and may be any."""
+    wide = here / "EastAsianWidth.txt"
+    wide.unlink()
+    runs.ends("a folder that lacks a file", mark(), 1, f"^lbk: {wide}: the file cannot be read: no such file")
+    own = runs.room / "wide.txt"
+    own.write_bytes((folder / "EastAsianWidth.txt").read_bytes().partition(b"\n")[2])
+    ended = mark("--east-asian", own)
+    runs.tally.equal("a folder that lacks a file, which an option names", ended.out, marked)
 
 
 def faults(runs, words):

@@ -8,18 +8,10 @@ from checks.files_and_pipes.files import DECIDES
 from checks.files_and_pipes.place import NAMES, long_file, with_name, words_of
 from checks.harness import shown
 from checks.program import run as run_program
+from checks.unicode_files import MISSING, OPTIONS, published
 from checks.unicode_files import NAMES as OF_FOLDER
-from checks.unicode_files import OPTIONS
 
 SECONDS = 60  # until a run counts as one that waits for a pipe that nobody writes to any more
-# What a folder's files say of themselves, before and after their rows.
-HEADS = [
-    b"# LineBreak-15.0.0.txt\n",
-    b"# EastAsianWidth-15.0.0.txt\n",
-    b"# DerivedGeneralCategory-15.0.0.txt\n",
-    b"# emoji-data.txt\n# Used with Emoji Version 15.0 and so on\n",
-]
-TAILS = [b"# EOF\n", b"# EOF\n", b"# EOF\n", b"#EOF\n"]
 
 
 def give(path, contents, piece):
@@ -68,8 +60,10 @@ def all_four(place):
     pipes = {place.folder / f"pipe-{k}": (text, 7) for k, text in enumerate(contents)}
     words = words_of("mark", [path.name for path in pipes])
     over_pipes(place, "mark: all four files from pipes", words, pipes, b"a a", "a ÷a\n".encode())
-    texts = [head + text + tail for head, text, tail in zip(HEADS, contents, TAILS)]
-    pipes = {place.folder / "ucd" / name: (text, 100) for name, text in zip(OF_FOLDER, texts)}
+    if published() is None:
+        place.tally.leave_out(f"mark: a folder all files of which are pipes: {MISSING}")
+        return
+    pipes = {place.folder / "ucd" / name: ((published() / name).read_bytes(), 4_095) for name in OF_FOLDER}
     words = ["mark", "--ucd", "ucd"]
     over_pipes(place, "mark: a folder all files of which are pipes", words, pipes, b"a a", "a ÷a\n".encode())
 

@@ -15,7 +15,8 @@ from checks import c_programs
 from checks.harness import CannotRun, built_crate, built_program
 from checks.program import run as run_program
 from checks.refused_allocations import wants
-from checks.refused_allocations.program_runs import PROGRAM, write_files
+from checks.refused_allocations.program_runs import PROGRAM, by_folder, write_files
+from checks.unicode_files import MISSING, published
 
 
 class Run(NamedTuple):
@@ -137,7 +138,9 @@ def run(tally, arguments):
             try_rows(trials, refusals, chosen)
         write_files(here)
         program = built_program()
-        for name, given, words in PROGRAM:
+        if published() is None:
+            tally.leave_out(f"lbk mark --ucd: {MISSING}")
+        for name, given, words in [*PROGRAM, *([by_folder(published())] if published() else [])]:
             if name.startswith(chosen):
                 try_program(trials, refusals, program, name, given, words)
     if chosen == ("",):

@@ -25,7 +25,7 @@ TESTS = "× 0061 × 0062 ÷\n× 0061 ÷ 0062 ÷\n× D800 ÷\n# done\n"
 
 FILES = "--line-break L --east-asian E --category C --emoji M".split()
 
-# The files of a folder of the Unicode Character Database, as they name themselves.
+# Files that name themselves as those of Unicode 15.0.0 do, and are not those.
 FOLDER = {
     "LineBreak.txt": "# LineBreak-15.0.0.txt\n" + LINE_BREAK + "# EOF\n",
     "EastAsianWidth.txt": "# EastAsianWidth-15.0.0.txt\n" + EAST_ASIAN + "# EOF\n",
@@ -44,8 +44,7 @@ PROGRAM = [
     ("lbk mark", TEXT.encode(), ["mark", *FILES]),
     ("lbk mark --limit 4", TEXT.encode(), ["mark", *FILES, "--limit", "4"]),
     ("lbk mark, ill-formed", b"a\nb\xff", ["mark", *FILES]),
-    ("lbk mark --ucd", TEXT.encode(), ["mark", "--ucd", "U"]),
-    ("lbk mark --ucd, a cut file", b"a", ["mark", "--ucd", "cut"]),
+    ("lbk mark --ucd, made-up files", b"a", ["mark", "--ucd", "U"]),
     ("lbk mark, no files", b"a", ["mark"]),
     ("lbk segment", TEXT.encode(), ["segment", *FILES]),
     ("lbk segment --limit 4", TEXT.encode(), ["segment", *FILES, "--limit", "4"]),
@@ -57,11 +56,15 @@ PROGRAM = [
 ]
 
 
+def by_folder(folder):
+    """The run by the folder of the published files."""
+    return ("lbk mark --ucd", TEXT.encode(), ["mark", "--ucd", str(folder)])
+
+
 def write_files(here):
     """Writes the files that the runs name into a folder."""
     files = {"L": LINE_BREAK, "E": EAST_ASIAN, "C": CATEGORY, "M": EMOJI, "B": BAD_ROW}
     files.update({f"U/{name}": text for name, text in FOLDER.items()})
-    files.update({f"cut/{name}": text.removesuffix("EOF\n") for name, text in FOLDER.items()})
     for name, text in files.items():
         path = here / name
         path.parent.mkdir(parents=True, exist_ok=True)

@@ -357,30 +357,31 @@ record Finds (name : Text) (words : List Text) (fs : Files) (limit : ℕ) (profi
 limited_plain : (name : Text) (fs : Files) (limit : ℕ) (profile : Profile) (own last : List Text) → ArePlain fs
     → AreLimitWords limit own → AreProfileWords profile last → Finds name (words_before fs (own ++ last)) fs limit profile
 unfolding clap_on_literals
-limited_plain name (folder u) limit profile own last plain (inl none) (inl first) = rw (none.0, first.0, none.1, first.1) (record {
+limited_plain name (folder []) limit profile own last plain given more = absurd plain
+limited_plain name (folder (u ∷ us)) limit profile own last plain (inl none) (inl first) = rw (none.0, first.0, none.1, first.1) (record {
   rows = _;
-  takes = limited_alone name (folder u) plain;
+  takes = limited_alone name (folder (u ∷ us)) plain;
   files_are = refl;
   limit_is = refl;
   profile_is = refl;
 })
-limited_plain name (folder u) limit profile own last plain (inl none) (inr given) = rw (none.0, given, none.1) (record {
+limited_plain name (folder (u ∷ us)) limit profile own last plain (inl none) (inr given) = rw (none.0, given, none.1) (record {
   rows = _;
-  takes = limited_profile name (folder u) (profile_word profile) plain (profile_plain profile) (profile_taken profile);
+  takes = limited_profile name (folder (u ∷ us)) (profile_word profile) plain (profile_plain profile) (profile_taken profile);
   files_are = refl;
   limit_is = refl;
   profile_is = profile_read profile;
 })
-limited_plain name (folder u) limit profile own last plain (inr number) (inl first) = rw (number.0, first.0, first.1) (record {
+limited_plain name (folder (u ∷ us)) limit profile own last plain (inr number) (inl first) = rw (number.0, first.0, first.1) (record {
   rows = _;
-  takes = limited_limit name (folder u) (decimal limit) plain (limit_plain limit number.2) (limit_taken limit number.1 number.2);
+  takes = limited_limit name (folder (u ∷ us)) (decimal limit) plain (limit_plain limit number.2) (limit_taken limit number.1 number.2);
   files_are = refl;
   limit_is = sym (limit_read default_limit limit number.2);
   profile_is = refl;
 })
-limited_plain name (folder u) limit profile own last plain (inr number) (inr given) = rw (number.0, given) (record {
+limited_plain name (folder (u ∷ us)) limit profile own last plain (inr number) (inr given) = rw (number.0, given) (record {
   rows = _;
-  takes = limited_both name (folder u) (decimal limit) (profile_word profile) plain (limit_plain limit number.2) (limit_taken limit number.1 number.2)
+  takes = limited_both name (folder (u ∷ us)) (decimal limit) (profile_word profile) plain (limit_plain limit number.2) (limit_taken limit number.1 number.2)
       (profile_plain profile) (profile_taken profile);
   files_are = refl;
   limit_is = sym (limit_read default_limit limit number.2);
@@ -419,16 +420,17 @@ limited_plain name (four l e c m) limit profile own last plain (inr number) (inr
 replay_plain : (fs : Files) (kinds : Bool) (profile : Profile) (own last : List Text) → ArePlain fs → AreKindsWords kinds own
     → AreProfileWords profile last → Performs (codes "replay" ∷ words_before fs (own ++ last)) (task_with (Replay kinds) fs profile)
 unfolding clap_on_literals
-replay_plain (folder u) kinds profile own last plain (inl none) (inl first) =
-    rw (none.0, first.0, none.1, first.1) (replay_performs _ _ _ (replay_alone (folder u) plain) refl)
-replay_plain (folder u) kinds profile own last plain (inl none) (inr given) =
-    rw (none.0, given, none.1) (replay_performs _ _ _ (replay_profile (folder u) (profile_word profile) plain (profile_plain profile) (profile_taken profile))
-    (ap (λ (p : Profile). Some (task_with (Replay false) (folder u) p)) (profile_read profile)))
-replay_plain (folder u) kinds profile own last plain (inr flag) (inl first) =
-    rw (flag.0, first.0, flag.1, first.1) (replay_performs _ _ _ (replay_kinds (folder u) plain) refl)
-replay_plain (folder u) kinds profile own last plain (inr flag) (inr given) =
-    rw (flag.0, given, flag.1) (replay_performs _ _ _ (replay_both (folder u) (profile_word profile) plain (profile_plain profile) (profile_taken profile))
-    (ap (λ (p : Profile). Some (task_with (Replay true) (folder u) p)) (profile_read profile)))
+replay_plain (folder []) kinds profile own last plain given more = absurd plain
+replay_plain (folder (u ∷ us)) kinds profile own last plain (inl none) (inl first) =
+    rw (none.0, first.0, none.1, first.1) (replay_performs _ _ _ (replay_alone (folder (u ∷ us)) plain) refl)
+replay_plain (folder (u ∷ us)) kinds profile own last plain (inl none) (inr given) =
+    rw (none.0, given, none.1) (replay_performs _ _ _ (replay_profile (folder (u ∷ us)) (profile_word profile) plain (profile_plain profile) (profile_taken profile))
+    (ap (λ (p : Profile). Some (task_with (Replay false) (folder (u ∷ us)) p)) (profile_read profile)))
+replay_plain (folder (u ∷ us)) kinds profile own last plain (inr flag) (inl first) =
+    rw (flag.0, first.0, flag.1, first.1) (replay_performs _ _ _ (replay_kinds (folder (u ∷ us)) plain) refl)
+replay_plain (folder (u ∷ us)) kinds profile own last plain (inr flag) (inr given) =
+    rw (flag.0, given, flag.1) (replay_performs _ _ _ (replay_both (folder (u ∷ us)) (profile_word profile) plain (profile_plain profile) (profile_taken profile))
+    (ap (λ (p : Profile). Some (task_with (Replay true) (folder (u ∷ us)) p)) (profile_read profile)))
 replay_plain (four l e c m) kinds profile own last plain (inl none) (inl first) =
     rw (none.0, first.0, none.1, first.1) (replay_performs _ _ _ (replay_alone (four l e c m) plain) refl)
 replay_plain (four l e c m) kinds profile own last plain (inl none) (inr given) =

@@ -1,5 +1,5 @@
 -- What accepted words ask for, by the values that `clap` finds in them.
-use Rattle.std.specs.Prelude.{ℕ, ◌^◌, ◌==◌, ◌&&◌, Bool, false, List, Option, Some, None, if◌then◌else◌, nat_lt, codes, option_and_then, option_map}
+use Rattle.std.specs.Prelude.{ℕ, ◌^◌, ◌==◌, ◌&&◌, Bool, false, List, [], ◌∷◌, Option, Some, None, if◌then◌else◌, nat_lt, codes, option_and_then, option_map}
 use Rattle.std.specs.Str.{bytes_eq}
 use Rattle.std.specs.Str.Parse.{digits_value, without_leading_plus}
 use Rattle.clap.specs.Words.{Row, Text, first_of, one_of, subcommand_of}
@@ -48,10 +48,16 @@ files_of_names names = record {
 abbrev pub task_of : Order → Task
 task_of o = record { engine = o.engine; files = files_of_names o.files; profile = o.profile }
 
+-- a folder, where its name is not empty
+abbrev pub named_folder : Option Text → Option Named
+named_folder None = None
+named_folder (Some []) = None
+named_folder (Some (first ∷ rest)) = Some (in_folder (first ∷ rest))
+
 -- the name that a file's own option gives, or else the folder
 abbrev pub own_or_folder : Option Text → Option Text → Option Named
 own_or_folder (Some name) folder = Some (given name)
-own_or_folder None folder = option_map in_folder folder
+own_or_folder None folder = named_folder folder
 
 abbrev pub named_in : Text → List Row → Option Named
 named_in id rows = own_or_folder (first_of id rows) (first_of (codes "ucd") rows)

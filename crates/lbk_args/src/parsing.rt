@@ -1,10 +1,10 @@
 //! Words into an order.
 
-ghost use Rattle.std.specs.Prelude.{◌≡◌, [], ◌∷◌, None, Some, IfOk, IfErr, MatchOption, MatchResult, map, option_map};
+ghost use Rattle.std.specs.Prelude.{◌≡◌, [], ◌∷◌, None, Some, IfOk, IfErr, MatchOption, MatchResult, codes, map, option_map};
 ghost use Rattle.clap.specs.Words.{first_of, found_of, kind_of, one_of, rows_of};
 ghost use Rattle.clap.specs.declared.error.kind.ErrorKind.TheVariants.{MissingRequiredArgument};
 ghost use Rattle.lbk_args.specs.Accepted.{AreAccepted, faults_of};
-ghost use Rattle.lbk_args.specs.Task.{Task, engine_in, files_in, files_of_names, kinds_in, limit_in, named_in, named_of, number_or, own_or_folder, profile_in, task_by, task_in, task_of};
+ghost use Rattle.lbk_args.specs.Task.{Task, engine_in, files_in, files_of_names, kinds_in, limit_in, named_folder, named_in, named_of, number_or, own_or_folder, profile_in, task_by, task_in, task_of};
 ghost use Rattle.lbk_args.specs.PlainWords.{IsPlainFor};
 ghost use Rattle.lbk_args.specs.Refusal.{IsRefusalBy};
 
@@ -68,13 +68,23 @@ fn files<'a>(given: &ArgMatches<'a>) -> Option<FileNames<'a>>
     })
 }
 
-/// The file of this option, or else that of the folder.
+/// The file of this option, or else that of the folder, whose name is not empty.
 fn file<'a>(given: &ArgMatches<'a>, id: &str) -> Option<FileName<'a>>
     ensures { option_map named_of result ≡ named_in id.now (rows_of (found_of given.now)) }
 {
     match text(given, id) {
         Some(name) => Some(FileName::Given(name)),
-        None => text(given, "ucd").map(FileName::InFolder),
+        None => folder(given),
+    }
+}
+
+/// The folder of all files that no option names. An empty name would stand for the root.
+fn folder<'a>(given: &ArgMatches<'a>) -> Option<FileName<'a>>
+    ensures { option_map named_of result ≡ named_folder (first_of (codes "ucd") (rows_of (found_of given.now))) }
+{
+    match text(given, "ucd") {
+        Some(name) if !name.is_empty() => Some(FileName::InFolder(name)),
+        _ => None,
     }
 }
 

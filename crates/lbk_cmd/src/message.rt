@@ -4,7 +4,7 @@ use super::ending::RunFault;
 use super::faults::CmdFault;
 use lbk_args::{DEFAULT_LIMIT, Engine, FileName, FileNames, Order};
 use lbk_feed::TEXT_MAX;
-use lbk_files::{CellsFault, NamedFault, file_name, name_in_database};
+use lbk_files::{CellsFault, ClaimCause, NamedFault, file_name, name_in_database};
 use lbk_notation::ReplayFault;
 use lbk_passage::{LIMIT_MAX, PassageFault};
 use lbk_ucd::Which;
@@ -39,9 +39,7 @@ impl<'a> fmt::Display for Message<'a> {
     fn fmt<W: fmt::Write>(&self, f: &mut fmt::Formatter<W>) -> fmt::Result {
         match self.fault {
             RunFault::Load(which) => self.unloaded(f, which),
-            RunFault::Claim(which, cause) => self
-                .named(CellsFault::Claim(which, cause), which)
-                .fmt(f),
+            RunFault::Claim(which, cause) => self.unpublished(f, which, cause),
             RunFault::Tables(fault) => self.named(CellsFault::Tables(fault), fault.file).fmt(f),
             RunFault::Cmd(CmdFault::Passage(fault)) => self.passage_fault(f, fault),
             RunFault::Replay(ReplayFault::Read) => self.unread(f),
@@ -99,6 +97,23 @@ impl<'a> Message<'a> {
     fn unloaded<W: fmt::Write>(&self, f: &mut fmt::Formatter<W>, which: Which) -> fmt::Result {
         let fault = self.named(CellsFault::Load(which), which);
         write!(f, "{fault}{}", Why(self.reason))
+    }
+
+    fn unpublished<W: fmt::Write>(
+        &self,
+        f: &mut fmt::Formatter<W>,
+        which: Which,
+        cause: ClaimCause,
+    ) -> fmt::Result {
+        let fault = self.named(CellsFault::Claim(which, cause), which);
+        write!(f, "{fault}")?;
+        match self.caller {
+            Caller::Words(_) if cause == ClaimCause::Changed => {
+                let option = option_of(which);
+                write!(f, "; get it anew, or name a file of your own by {option}")
+            }
+            _ => Ok(()),
+        }
     }
 
     fn unwritten<W: fmt::Write>(&self, f: &mut fmt::Formatter<W>) -> fmt::Result {
@@ -167,6 +182,16 @@ impl<'a> Message<'a> {
                 Engine::Replay { .. } => None,
             },
         }
+    }
+}
+
+/// The option that names a file of one's own.
+fn option_of(which: Which) -> &'static str {
+    match which {
+        Which::LineBreak => "--line-break",
+        Which::EastAsianWidth => "--east-asian",
+        Which::Category => "--category",
+        Which::Emoji => "--emoji",
     }
 }
 

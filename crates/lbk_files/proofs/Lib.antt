@@ -1,2 +1,3 @@
 mod LastFile
+mod Numbers
 mod Samples

@@ -8,7 +8,8 @@ use Rattle.lbk_ucd.specs.Files.{AreLawful, IsRefused}
 use Rattle.lbk_rules.specs.declared.cells.Cell.{Cell}
 use Rattle.lbk_steps.specs.Cells.{AreCellsOf}
 use Rattle.lbk_files.specs.Store.{IsFront, IsUnreadable}
-use Rattle.lbk_files.specs.Published.{IsAsClaimed, IsClaimCause}
+use Rattle.lbk_database.specs.Digests.{IsPublished}
+use Rattle.lbk_files.specs.Published.{IsClaimCause}
 use Rattle.lbk_files.specs.declared.published.ClaimCause.{ClaimCause}
 use Rattle.lbk_files.specs.declared.faults.CellsFault.{CellsFault}
 use Rattle.lbk_files.specs.declared.faults.CellsFault.TheVariants.{Load, Claim, Tables, Memory}
@@ -17,7 +18,7 @@ use Rattle.lbk_files.specs.declared.faults.CellsFault.TheVariants.{Load, Claim, 
 unfoldable pub greatest_file : ℕ
 greatest_file = 8388608
 
--- what a store tells of a file, and whether it has to be what it claims, since no option names it
+-- what a store tells of a file, and whether it has to be the published one, since no option names it
 pub record Told : Type 0 where
   pub contents : Option (Option (List ℕ))
   pub is_claimed : Bool
@@ -33,10 +34,10 @@ pub record FourFiles : Type 0 where
 abbrev pub IsRead : Told → List ℕ → Type 0
 IsRead file bytes = IsFront file.contents greatest_file bytes
 
--- and they are what the file claims
+-- and they are the published ones, where they have to be
 pub record IsLoaded (which : Which) (file : Told) (bytes : List ℕ) : Type 0 where
   pub read : IsRead file bytes
-  pub claim : IsTrue file.is_claimed → IsAsClaimed which bytes
+  pub claim : IsTrue file.is_claimed → IsPublished which bytes
 
 -- all four are loaded
 pub record AreLoaded (four : FourFiles) (files : Files) : Type 0 where
@@ -57,7 +58,7 @@ IsFirst four Category Is = CanLoad LineBreak four.line_break × CanLoad EastAsia
 IsFirst four Emoji Is = CanLoad LineBreak four.line_break × CanLoad EastAsianWidth four.east_asian
     × CanLoad Category four.category × Is four.emoji
 
--- a file is read that has to be what it claims, and is not
+-- a file is read that has to be the published one, and is not
 abbrev pub IsUnlikeItsClaim : Which → ClaimCause → Told → Type 0
 IsUnlikeItsClaim which cause file =
     IsTrue file.is_claimed × ((bytes : List ℕ) × IsRead file bytes × IsClaimCause which bytes cause)
@@ -82,7 +83,7 @@ abbrev pub IsOutOfMemory : FourFiles → LoadCounts → LoadCounts → Type 0
 IsOutOfMemory four before after =
     (after.made ≡ before.made) ⊎ (HasFailed before.refused after.refused ⊎ ((files : Files) × AreLoaded four files × AreLawful files))
 
--- a file cannot be read or is not what it claims, or all are loaded and refused; or out of memory
+-- a file cannot be read or is not the published one, or all are loaded and refused; or out of memory
 abbrev pub IsFileFault : FourFiles → LoadCounts → LoadCounts → CellsFault → Type 0
 IsFileFault four before after (Load which) = IsFirst four which (λ file. IsUnreadable file.contents)
 IsFileFault four before after (Claim which cause) = IsFirst four which (IsUnlikeItsClaim which cause)

@@ -8,14 +8,7 @@ use Rattle.lbk_files.specs.FileFault.{FourFiles, IsUnlikeItsClaim, Told}
 use Rattle.lbk_files.specs.declared.faults.CellsFault.{CellsFault}
 use Rattle.lbk_files.specs.declared.faults.CellsFault.TheVariants.{Load, Claim, Tables, Memory}
 
--- the name of each file of the Unicode Character Database
-abbrev pub file_name : Which → List ℕ
-file_name LineBreak = codes "LineBreak.txt"
-file_name EastAsianWidth = codes "EastAsianWidth.txt"
-file_name Category = codes "DerivedGeneralCategory.txt"
-file_name Emoji = codes "emoji-data.txt"
-
--- its name in a folder of that database
+-- the name of each file in a folder of the Unicode Character Database
 abbrev pub name_in_database : Which → List ℕ
 name_in_database LineBreak = codes "LineBreak.txt"
 name_in_database EastAsianWidth = codes "EastAsianWidth.txt"
@@ -26,7 +19,7 @@ name_in_database Emoji = codes "emoji/emoji-data.txt"
 abbrev pub joined : List ℕ → Which → List ℕ
 joined folder which = folder ++ (47 ∷ name_in_database which)
 
--- what is told of a file: of one that an option names, or of one of a folder, which has to be what it claims
+-- what is told of a file: of one that an option names, or of one of a folder, which has to be the published one
 abbrev pub told_of : (List ℕ → Option (Option (List ℕ))) → Which → Named → Told
 told_of file which (given name) = record { contents = file name; is_claimed = false }
 told_of file which (in_folder folder) = record { contents = file (joined folder which); is_claimed = true }

@@ -1,22 +1,10 @@
 //! The property files in a folder of the Unicode Character Database.
 
 ghost use Rattle.std.specs.Prelude.{◌≡◌, IfOk, string_bytes};
-ghost use Rattle.lbk_files.specs.Named.{file_name, joined, name_in_database};
+ghost use Rattle.lbk_files.specs.Named.{joined, name_in_database};
 
 use lbk_ucd::Which;
 use std::alloc::{AllocError, Global};
-
-/// The name of a file of the Unicode Character Database, without a folder.
-pub fn file_name(which: Which) -> &'static str
-    ensures { result.now ≡ file_name which }
-{
-    match which {
-        Which::LineBreak => "LineBreak.txt",
-        Which::EastAsianWidth => "EastAsianWidth.txt",
-        Which::Category => "DerivedGeneralCategory.txt",
-        Which::Emoji => "emoji-data.txt",
-    }
-}
 
 /// The name of a file in a folder of the Unicode Character Database, as Unicode and Debian lay it out.
 pub fn name_in_database(which: Which) -> &'static str

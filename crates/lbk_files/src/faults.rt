@@ -1,8 +1,8 @@
 //! Why there are no cells to decide by, and why no engine runs.
 
-use super::database::file_name;
 use super::named_fault::NamedFault;
 use super::published::ClaimCause;
+use lbk_database::file_name;
 use lbk_ucd::{UcdFault, Which};
 use thiserror::Error;
 
@@ -12,7 +12,7 @@ pub enum CellsFault {
     /// The file cannot be opened or read.
     #[error("{}", named(*self, *.0))]
     Load(Which),
-    /// The file has to be that of Unicode 15.0, and is not.
+    /// The file has to be the one that Unicode 15.0.0 published, and is not.
     #[error("{}", named(*self, *.0))]
     Claim(Which, ClaimCause),
     /// The property files were refused at their first fault, or at a line where their tables could not grow.

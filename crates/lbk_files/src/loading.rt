@@ -19,9 +19,9 @@ use std::alloc::Global;
 
 /// The cells of the files that are named: they are loaded in the order of `Files`, then read.
 ///
-/// A file of a folder has to be what it claims: it names itself and Unicode 15.0 at its beginning, and has its last line.
+/// A file of a folder has to be, byte for byte, the one that Unicode 15.0.0 published, as `check_claim` tests it.
 ///
-/// `Load` names the first file that cannot be read, and `Claim` the first that is not what it claims. `Tables` comes as
+/// `Load` names the first file that cannot be read, and `Claim` the first of a folder that is not the published one. `Tables` comes as
 /// in `read_cells`. `Memory` comes before any load, for the names of the files of a folder; where a load was refused
 /// memory; or for lawful files, once all four are loaded.
 pub fn load_cells<S: Store>(
@@ -90,7 +90,7 @@ fn load_file<S: Store>(
     }
 }
 
-/// The bytes of the file of this name, which has to be what it claims.
+/// The bytes of the file of this name, which has to be the published one.
 fn load_claimed<S: Store>(
     alloc: Global,
     name: &str,

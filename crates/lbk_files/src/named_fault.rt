@@ -1,9 +1,9 @@
 //! A fault of the property files, as a person reads it.
 
-use super::database::file_name;
 use super::faults::CellsFault;
 use super::published::ClaimCause;
-use lbk_ucd::{LONGEST_FILE, UcdCause, UcdFault, Which};
+use lbk_database::{cause_text, file_name};
+use lbk_ucd::{UcdFault, Which};
 use std::fmt;
 
 /// A fault of the property files behind the name of its file: `NAME: cause`, or `NAME:LINE: cause` where a line is meant.
@@ -29,50 +29,42 @@ impl<N: fmt::Display> fmt::Display for NamedFault<N> {
                     write!(f, "{line}:")?;
                 }
                 f.write_char(' ')?;
-                table_fault(f, cause)
+                f.write_str(cause_text(cause))
             }
             CellsFault::Memory => write!(f, "out of memory"),
         }
     }
 }
 
-/// What a file of a folder is, that is not the file of Unicode 15.0.
+/// What a file of a folder is, that is not the file of Unicode 15.0.0.
 fn claim_fault<W: fmt::Write>(
     f: &mut fmt::Formatter<W>,
     which: Which,
     cause: ClaimCause,
 ) -> fmt::Result {
+    let name = file_name(which);
     match cause {
-        ClaimCause::Title => {
-            let name = file_name(which);
-            write!(f, "this is not {name} as Unicode 15.0 published it")
-        }
-        ClaimCause::Version(version) if which == Which::Emoji => write!(
+        ClaimCause::Title => write!(f, "this is not {name} as Unicode 15.0 published it"),
+        ClaimCause::Version(version) if which == Which::Emoji && version.update == 0 => write!(
             f,
             "this is of Emoji {}.{}, and lbk goes by 15.0",
             version.major, version.minor
         ),
-        ClaimCause::Version(version) => write!(
+        ClaimCause::Version(version) => {
+            let of = if which == Which::Emoji {
+                "Emoji"
+            } else {
+                "Unicode"
+            };
+            write!(
+                f,
+                "this is of {of} {}.{}.{}, and lbk goes by 15.0.0",
+                version.major, version.minor, version.update
+            )
+        }
+        ClaimCause::Changed => write!(
             f,
-            "this is of Unicode {}.{}.{}, and lbk goes by 15.0.0",
-            version.major, version.minor, version.update
+            "the file was changed or cut: it is not {name} as Unicode 15.0.0 published it"
         ),
-        ClaimCause::End => write!(f, "the file is cut: its last line is missing"),
     }
-}
-
-/// What is wrong with a file or with one of its lines (UCD file format).
-fn table_fault<W: fmt::Write>(f: &mut fmt::Formatter<W>, cause: UcdCause) -> fmt::Result {
-    let text = match cause {
-        UcdCause::FileTooLong => return write!(f, "the file has more than {LONGEST_FILE} bytes"),
-        UcdCause::LineTooLong => "the line has more than 1024 bytes",
-        UcdCause::RowSyntax => "the line is neither a row `code; value` nor a comment nor blank",
-        UcdCause::Range => "a range whose first code is past its last, or a code past 10FFFF",
-        UcdCause::UnknownValue =>
-            "no value of the property has this name; lbk knows the names up to Unicode 15.0",
-        UcdCause::Overlap => "a row before this one holds a code of this row",
-        UcdCause::TooManyRows => "the file has more than 65536 rows and default lines",
-        UcdCause::Memory => "out of memory",
-    };
-    f.write_str(text)
 }

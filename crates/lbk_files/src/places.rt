@@ -15,7 +15,7 @@ use std::alloc::{AllocError, Global};
 pub(crate) enum Place<'a> {
     /// That of its option.
     Given(&'a str),
-    /// That of a file of a folder, which has to be what it claims.
+    /// That of a file of a folder, which has to be the published one.
     InFolder(String),
 }
 

@@ -1,9 +1,13 @@
-//! What a property file of Unicode 15.0 says of itself.
+//! The property files that Unicode 15.0.0 published, and what another file says of itself.
 
-ghost use Rattle.std.specs.Prelude.{◌≡◌, ◌↔◌, IfSome, IsTrue, MatchResult};
-ghost use Rattle.lbk_files.specs.Published.{BeginsWithNumber, BeginsWithVersion, HasEnd, IsAsClaimed, IsClaimCause, NamesItself, NamesVersion, last_line, name_before_version, title, version_line, words_before_version};
+ghost use Rattle.std.specs.Prelude.{◌≡◌, ◌∷◌, ◌≤◌, ℕ, List, drop, length, take, MatchOption, MatchResult};
+ghost use Rattle.std.specs.Str.Parse.{AllDigits};
+ghost use Rattle.lbk_database.specs.Digests.{IsPublished};
+ghost use Rattle.lbk_files.specs.declared.published.Version.{Version};
+ghost use Rattle.lbk_files.specs.Published.{BeginsWithNumber, BeginsWithVersion, BeginsWithoutDigit, EndsVersion, IsClaimCause, NamesVersion, name_before_version, words_before_version};
 
 use bstr::ByteSlice;
+use lbk_database::is_published;
 use lbk_ucd::Which;
 
 /// A version of Unicode, or of its emoji.
@@ -21,91 +25,38 @@ const RULES: Version = Version {
     update: 0,
 };
 
-/// Why a file is not the one of Unicode 15.0 that it has to be.
+/// Why a file is not the one of Unicode 15.0.0 that it has to be.
 #[derive(Clone, Copy, Debug, PartialEq, Eq)]
 pub enum ClaimCause {
-    /// It does not name itself, or not as Unicode published it.
+    /// It names no version as a file of its name does.
     Title,
     /// It is of another version.
     Version(Version),
-    /// Its last line is missing.
-    End,
+    /// It names the version 15.0.0, and is not the published file.
+    Changed,
 }
 
-/// Tests that a file names itself and the version 15.0 at its beginning, and that it has its last line, as Unicode
-/// published it.
+/// Tests that a file is, byte for byte, the one of its name that Unicode 15.0.0 published, by its SHA-256 digest, where
+/// CR LF at the end of a line counts as LF.
 ///
-/// `Title` and `Version` come where it does not name itself so, and `End` where its last line alone is missing.
+/// Of any other file, `Version` is the version that it names where that is not 15.0.0, `Changed` comes where it names
+/// 15.0.0, and `Title` where it names none; `laws::refused_files_have_one_cause`.
 pub fn check_claim(which: Which, bytes: &[u8]) -> Result<(), ClaimCause>
-    ensures { MatchResult result (λ _. IsAsClaimed which bytes.now) (IsClaimCause which bytes.now) }
+    ensures { MatchResult result (λ _. IsPublished which bytes.now) (IsClaimCause which bytes.now) }
 {
-    if !names_itself(which, bytes) {
-        return Err(other_file(which, bytes));
+    if is_published(which, bytes) {
+        return Ok(());
     }
-    if !has_end(which, bytes) {
-        return Err(ClaimCause::End);
-    }
-    Ok(())
-}
-
-fn names_itself(which: Which, bytes: &[u8]) -> bool
-    ensures { IsTrue result ↔ NamesItself which bytes.now }
-{
-    bytes.starts_with_str(title(which).as_bytes())
-        && bytes.contains_str(version_line(which).as_bytes())
-}
-
-fn has_end(which: Which, bytes: &[u8]) -> bool
-    ensures { IsTrue result ↔ HasEnd which bytes.now }
-{
-    bytes.ends_with_str(last_line(which).as_bytes())
-}
-
-/// The first line of a file.
-fn title(which: Which) -> &'static str
-    ensures { result.now ≡ title which }
-{
-    match which {
-        Which::LineBreak => "# LineBreak-15.0.0.txt\n",
-        Which::EastAsianWidth => "# EastAsianWidth-15.0.0.txt\n",
-        Which::Category => "# DerivedGeneralCategory-15.0.0.txt\n",
-        Which::Emoji => "# emoji-data.txt\n",
-    }
-}
-
-/// Where a file names its version.
-fn version_line(which: Which) -> &'static str
-    ensures { result.now ≡ version_line which }
-{
-    match which {
-        Which::Emoji => "\n# Used with Emoji Version 15.0 ",
-        _ => title(which),
-    }
-}
-
-/// The last line of a file.
-fn last_line(which: Which) -> &'static str
-    ensures { result.now ≡ last_line which }
-{
-    match which {
-        Which::Emoji => "\n#EOF\n",
-        _ => "\n# EOF\n",
-    }
-}
-
-/// What a file is that does not name itself and the version 15.0.
-fn other_file(which: Which, bytes: &[u8]) -> ClaimCause
-    ensures { ¬ (NamesItself which bytes.now) → IsClaimCause which bytes.now result }
-{
     match version_in(which, bytes) {
-        Some(version) if version != RULES => ClaimCause::Version(version),
-        _ => ClaimCause::Title,
+        None => Err(ClaimCause::Title),
+        Some(version) if version == RULES => Err(ClaimCause::Changed),
+        Some(version) => Err(ClaimCause::Version(version)),
     }
 }
 
 /// The version that a file of this name has.
 fn version_in(which: Which, bytes: &[u8]) -> Option<Version>
-    ensures { IfSome result (λ version. NamesVersion which bytes.now version) }
+    ensures { MatchOption result (¬ ((version : Version) × NamesVersion which bytes.now version)) (NamesVersion which bytes.now) }
 {
     if !bytes.starts_with_str(name_before_version(which).as_bytes()) {
         return None;
@@ -117,19 +68,28 @@ fn version_in(which: Which, bytes: &[u8]) -> Option<Version>
 
 /// The version that bytes begin with.
 fn version_at(bytes: &[u8]) -> Option<Version>
-    ensures { IfSome result (λ version. BeginsWithVersion bytes.now version) }
+    ensures { MatchOption result (¬ ((version : Version) × BeginsWithVersion bytes.now version)) (BeginsWithVersion bytes.now) }
 {
     let (major, rest) = number(bytes)?;
-    let (minor, rest) = number(rest.strip_prefix(b".".as_slice())?)?;
-    let update = match rest.strip_prefix(b".".as_slice()).and_then(number) {
-        Some((update, _)) => update,
-        None => 0,
-    };
+    let (minor, rest) = number(after_dot(rest)?)?;
     Some(Version {
         major,
         minor,
-        update,
+        update: update_at(rest),
     })
+}
+
+/// The third number of a version, after the first two.
+fn update_at(bytes: &[u8]) -> u32
+    ensures { EndsVersion bytes.now result }
+{
+    match after_dot(bytes) {
+        None => 0,
+        Some(rest) => match number(rest) {
+            None => 0,
+            Some((update, _)) => update,
+        },
+    }
 }
 
 /// What a file of any version begins with.
@@ -154,14 +114,40 @@ fn words_before_version(which: Which) -> &'static str
     }
 }
 
-/// The number that bytes begin with, and what stands behind it.
-fn number(bytes: &[u8]) -> Option<(u32, &[u8])>
-    ensures { IfSome result (λ read. BeginsWithNumber bytes.now read.0 read.1.now) }
+/// What stands after the dot that bytes begin with.
+fn after_dot(bytes: &[u8]) -> Option<&[u8]>
+    ensures { MatchOption result (¬ ((rest : List ℕ) × (bytes.now ≡ 46 ∷ rest))) (λ rest. bytes.now ≡ 46 ∷ rest.now) }
 {
-    let len = bytes
-        .iter()
-        .position(|byte| !byte.is_ascii_digit())
-        .unwrap_or(bytes.len());
-    let digits = str::from_utf8(&bytes[..len]).ok()?;
-    Some((digits.parse().ok()?, &bytes[len..]))
+    match bytes {
+        [b'.', rest @ ..] => Some(rest),
+        _ => None,
+    }
+}
+
+/// The number that bytes begin with, and what stands after it.
+fn number(bytes: &[u8]) -> Option<(u32, &[u8])>
+    ensures { MatchOption result (¬ ((number : ℕ) × (rest : List ℕ) × BeginsWithNumber bytes.now number rest))
+        (λ read. BeginsWithNumber bytes.now read.0 read.1.now) }
+{
+    let len = digits_ahead(bytes);
+    let Ok(digits) = str::from_utf8(&bytes[..len]) else {
+        return None;
+    };
+    match digits.parse() {
+        Ok(number) => Some((number, &bytes[len..])),
+        Err(_) => None,
+    }
+}
+
+/// How many digits bytes begin with.
+fn digits_ahead(bytes: &[u8]) -> usize
+    ensures within { result ≤ length bytes.now }
+    ensures digits { AllDigits 10 (take result bytes.now) }
+    ensures rest { BeginsWithoutDigit (drop result bytes.now) }
+{
+    let mut len = 0;
+    while len < bytes.len() && bytes[len].is_ascii_digit() {
+        len += 1;
+    }
+    len
 }

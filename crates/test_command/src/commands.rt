@@ -272,7 +272,13 @@ static HELP: [&[&str]; 5] = [
 ];
 
 /// Words without files that no command line has.
-static WRONG_ALONE: [&[&str]; 3] = [&["bogus"], &["show"], &["--limit", "4"]];
+static WRONG_ALONE: [&[&str]; 5] = [
+    &["bogus"],
+    &["show"],
+    &["--limit", "4"],
+    &["mark", "--ucd", ""],
+    &["mark", "--ucd", "", "--line-break", "L"],
+];
 
 fn check_all_help(rt: &impl Abort, alloc: Global) -> Result<(), Fail> {
     for help in &HELP {

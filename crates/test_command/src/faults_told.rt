@@ -34,7 +34,7 @@ const VERSION: Version = Version {
     update: 0,
 };
 
-static OF_FILES: [(CellsFault, &str); 6] = [
+static OF_FILES: [(CellsFault, &str); 8] = [
     (
         CellsFault::Load(Which::LineBreak),
         "LineBreak.txt: the file cannot be read",
@@ -46,6 +46,20 @@ static OF_FILES: [(CellsFault, &str); 6] = [
     (
         CellsFault::Claim(Which::Emoji, ClaimCause::Title),
         "emoji-data.txt: this is not emoji-data.txt as Unicode 15.0 published it",
+    ),
+    (
+        CellsFault::Claim(
+            Which::Emoji,
+            ClaimCause::Version(Version {
+                update: 1,
+                ..VERSION
+            }),
+        ),
+        "emoji-data.txt: this is of Emoji 15.1.1, and lbk goes by 15.0.0",
+    ),
+    (
+        CellsFault::Claim(Which::Category, ClaimCause::Changed),
+        "DerivedGeneralCategory.txt: the file was changed or cut: it is not DerivedGeneralCategory.txt as Unicode 15.0.0 published it",
     ),
     (
         CellsFault::Tables(ROW),

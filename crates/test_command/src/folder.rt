@@ -44,65 +44,71 @@ fn marked(
     Ok((ending, writer))
 }
 
-/// A run that is done and writes this.
-fn writes(
+/// A run that is refused at a file of the folder.
+fn claims(
     rt: &impl Abort,
     alloc: Global,
     words: &[&'static str],
     line_break: &'static str,
-    text: &str,
+    want: (Which, ClaimCause),
 ) -> Result<(), Fail> {
     let (ending, writer) = marked(alloc, words, line_break)?;
-    assert_eq!(rt; writer.bytes(), text.as_bytes());
-    assert_eq!(rt; ending.status(), 0);
-    Ok(())
-}
-
-/// A run that is refused at `LineBreak.txt`.
-fn claims(
-    rt: &impl Abort,
-    alloc: Global,
-    line_break: &'static str,
-    want: ClaimCause,
-) -> Result<(), Fail> {
-    let (ending, writer) = marked(alloc, &["mark", "--ucd", "U"], line_break)?;
     assert_eq!(rt; writer.bytes(), b"".as_slice());
     assert!(rt;
-        matches!(ending, Ending::Refused(RunFault::Claim(Which::LineBreak, cause)) if cause == want)
+        matches!(ending, Ending::Refused(RunFault::Claim(which, cause)) if (which, cause) == want)
     );
     Ok(())
 }
 
 #[test]
-fn folder(rt: HostRuntime) -> Result<(), Fail> {
-    writes(
-        &rt,
-        rt.alloc(),
-        &["mark", "--ucd", "U"],
-        LINE_BREAK,
-        "ab ÷cd\n",
-    )
+fn made_up_folder(rt: HostRuntime) -> Result<(), Fail> {
+    let want = (Which::LineBreak, ClaimCause::Changed);
+    claims(&rt, rt.alloc(), &["mark", "--ucd", "U"], LINE_BREAK, want)
 }
 
+/// A file that an option names may be any; the next of the folder has to be the published one.
 #[test]
 fn file_beside_a_folder(rt: HostRuntime) -> Result<(), Fail> {
-    let alloc = rt.alloc();
     let words = ["mark", "--line-break", "N", "--ucd", "U"];
-    writes(&rt, alloc, &words, LINE_BREAK, "ab cd\n")?;
-    writes(&rt, alloc, &words, NO_SPACES, "ab cd\n")
+    let want = (Which::EastAsianWidth, ClaimCause::Changed);
+    claims(&rt, rt.alloc(), &words, NO_SPACES, want)
+}
+
+/// All four by options: nothing of the folder is looked at.
+#[test]
+fn four_files_beside_a_folder(rt: HostRuntime) -> Result<(), Fail> {
+    let words = [
+        "mark",
+        "--ucd",
+        "U",
+        "--line-break",
+        "N",
+        "--east-asian",
+        "U/EastAsianWidth.txt",
+        "--category",
+        "U/extracted/DerivedGeneralCategory.txt",
+        "--emoji",
+        "U/emoji/emoji-data.txt",
+    ];
+    let (ending, writer) = marked(rt.alloc(), &words, LINE_BREAK)?;
+    assert_eq!(&rt; writer.bytes(), b"ab cd\n".as_slice());
+    assert_eq!(&rt; ending.status(), 0);
+    Ok(())
 }
 
 #[test]
 fn another_file_in_the_folder(rt: HostRuntime) -> Result<(), Fail> {
     let alloc = rt.alloc();
-    claims(&rt, alloc, NO_SPACES, ClaimCause::Title)?;
-    claims(&rt, alloc, EAST_ASIAN, ClaimCause::Title)?;
-    claims(
-        &rt,
-        alloc,
-        "# LineBreak-15.0.0.txt\n0020;SP\n",
-        ClaimCause::End,
-    )
+    let words = ["mark", "--ucd", "U"];
+    for (line_break, cause) in [
+        (NO_SPACES, ClaimCause::Title),
+        (EAST_ASIAN, ClaimCause::Title),
+        ("# LineBreak-15.0.0.txt\n0020;SP\n", ClaimCause::Changed),
+        ("# LineBreak-14.0.0.txt\n# EOF\n", version(14, 0, 0)),
+    ] {
+        claims(&rt, alloc, &words, line_break, (Which::LineBreak, cause))?;
+    }
+    Ok(())
 }
 
 fn version(major: u32, minor: u32, update: u32) -> ClaimCause {
@@ -125,34 +131,53 @@ fn versions(rt: HostRuntime) {
     refuses(&rt, Which::EastAsianWidth, earlier, version(9, 0, 0));
     let update = "# DerivedGeneralCategory-15.0.1.txt\n# EOF\n";
     refuses(&rt, Which::Category, update, version(15, 0, 1));
+    let two_numbers = "# LineBreak-15.1.txt\n# EOF\n";
+    refuses(&rt, Which::LineBreak, two_numbers, version(15, 1, 0));
+    let many_digits = "# LineBreak-4294967295.10.12345.txt\n";
+    let version_of_many = version(4_294_967_295, 10, 12_345);
+    refuses(&rt, Which::LineBreak, many_digits, version_of_many);
     let emoji = "# emoji-data.txt\n# Used with Emoji Version 16.0 and so on\n#EOF\n";
     refuses(&rt, Which::Emoji, emoji, version(16, 0, 0));
+    let update = "# emoji-data.txt\n# Used with Emoji Version 15.0.1 and so on\n#EOF\n";
+    refuses(&rt, Which::Emoji, update, version(15, 0, 1));
 }
 
 #[test]
-fn files_as_published(rt: HostRuntime) {
-    for (which, text) in [
-        (Which::LineBreak, LINE_BREAK),
-        (Which::EastAsianWidth, EAST_ASIAN),
-        (Which::Category, CATEGORY),
-        (Which::Emoji, EMOJI),
+fn files_of_no_version(rt: HostRuntime) {
+    for text in [
+        "",
+        "# LineBreak-",
+        "# LineBreak-15.txt\n",
+        "# LineBreak-15.x.txt\n",
+        "# LineBreak-+15.0.0.txt\n",
+        "# LineBreak-4294967296.0.0.txt\n",
+        "#LineBreak-15.0.0.txt\n",
+        EAST_ASIAN,
     ] {
-        assert_eq!(&rt; check_claim(which, text.as_bytes()), Ok(()));
+        refuses(&rt, Which::LineBreak, text, ClaimCause::Title);
     }
-    refuses(&rt, Which::LineBreak, EAST_ASIAN, ClaimCause::Title);
-    refuses(
-        &rt,
-        Which::LineBreak,
-        "# LineBreak-15.0.0.txt\r\n# EOF\r\n",
-        ClaimCause::Title,
-    );
     refuses(
         &rt,
         Which::Emoji,
         "# emoji-data.txt\n#EOF\n",
         ClaimCause::Title,
     );
-    refuses(&rt, Which::LineBreak, "", ClaimCause::Title);
+}
+
+/// Files that name the version, and are not those that Unicode published.
+#[test]
+fn changed_files(rt: HostRuntime) {
+    for (which, text) in [
+        (Which::LineBreak, LINE_BREAK),
+        (Which::LineBreak, "# LineBreak-15.0.0.txt\r\n# EOF\r\n"),
+        (Which::LineBreak, "# LineBreak-15.0.0"),
+        (Which::LineBreak, "# LineBreak-15.00.txt"),
+        (Which::EastAsianWidth, EAST_ASIAN),
+        (Which::Category, CATEGORY),
+        (Which::Emoji, EMOJI),
+    ] {
+        refuses(&rt, which, text, ClaimCause::Changed);
+    }
 }
 
 #[test]
