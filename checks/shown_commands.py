@@ -10,10 +10,11 @@ import difflib
 import os
 import re
 import tempfile
+from pathlib import Path
 
 from checks.harness import TOP, built_program, has, page
 from checks.program import run as run_program
-from checks.unicode_files import MISSING, published
+from checks.unicode_files import MISSING, NAMES
 
 NOT_RUN = ("rt ", "git ", "apt-get ", "scripts/", ".ci/")
 SIGNS = [("\\(mu", "×"), ("\\(di", "÷"), ("\\-", "-")]
@@ -27,6 +28,10 @@ class Shown:
         self.environment = {**os.environ, "TMPDIR": room}
         self.left = 0
 
+    def has_files(self):
+        """Whether the folder that the page names has the published files."""
+        return os.access(Path(self.environment.get("U", "/usr/share/unicode")) / NAMES[0], os.R_OK)
+
     def ran(self, text):
         """What a shell writes that runs this in the folder of the repository."""
         return run_program(["bash", "-c", text], cwd=TOP, env=self.environment).out.decode(errors="replace").rstrip("\n")
@@ -37,7 +42,7 @@ class Shown:
         elif command.startswith(("U=", "T=")):
             name = command.partition("=")[0]
             self.environment[name] = self.ran(f'{command}; printf %s "${name}"')
-        elif "$U" in command and not published():
+        elif "$U" in command and not self.has_files():
             self.tally.leave_out(f"{command}: {MISSING}")
         elif re.search(r"parallel|at-once", command) and not has("parallel"):
             self.tally.leave_out(f"{command}: GNU parallel")
