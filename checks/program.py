@@ -4,6 +4,7 @@ import os
 import resource
 import subprocess
 import tempfile
+from pathlib import Path
 from typing import NamedTuple
 
 BLOCK = 1 << 16
@@ -27,7 +28,7 @@ def run(words, given=b"", seconds=600, **more):
 
 class Long:
     """How a run over a long stream ended: status, standard error, the front and the end of what was written, its bytes and
-    lines, the seconds of processor time, and the most bytes that it held. `memory` is the most bytes that it may take."""
+    lines, the seconds of processor time, and the most bytes that it held before its input ended. `memory` is the most bytes that it may take."""
 
     def __init__(self, words, parts, memory=ANY):
         with tempfile.TemporaryFile() as out, tempfile.TemporaryFile() as err:
@@ -40,11 +41,13 @@ class Long:
                 preexec_fn=lambda: resource.setrlimit(resource.RLIMIT_AS, (memory, memory)),
             ) as process:
                 feed(process.stdin, parts)
+                # (what wait4 says of the peak counts this program's own too)
+                self.peak = peak_of(process.pid)
+                close(process.stdin)
                 _, status, usage = os.wait4(process.pid, 0)
                 process.returncode = os.waitstatus_to_exitcode(status)
             self.status = process.returncode
             self.seconds = usage.ru_utime + usage.ru_stime
-            self.peak = usage.ru_maxrss * 1024
             self._read(out, err)
 
     def _read(self, out, err):
@@ -76,9 +79,25 @@ def feed(pipe, parts):
             for _ in range(whole):
                 pipe.write(block)
             pipe.write(block[:rest])
+    except BrokenPipeError:
+        pass
+
+
+def close(pipe):
+    """Closes a pipe, whether its reader is there or not."""
+    try:
         pipe.close()
     except BrokenPipeError:
         pass
+
+
+def peak_of(pid):
+    """The most bytes that a process has held up to now; 0 where it has ended, or where the system does not say."""
+    try:
+        lines = Path(f"/proc/{pid}/status").read_text(encoding="ascii").splitlines()
+    except OSError:
+        return 0
+    return next((int(line.split()[1]) * 1024 for line in lines if line.startswith("VmHWM:")), 0)
 
 
 def redirected(redirections, words, given=b"", **more):

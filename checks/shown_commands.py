@@ -9,10 +9,11 @@ opens shows a file or a part of one, which is the last name in backquotes in the
 import os
 import re
 import tempfile
+from pathlib import Path
 
 from checks.harness import TOP, built_program, has, page
 from checks.program import run as run_program
-from checks.unicode_files import MISSING, published
+from checks.unicode_files import MISSING, NAMES
 
 NOT_RUN = ("rt ", "git ", "apt-get ", "scripts/", ".ci/")
 SIGNS = [("\\(mu", "×"), ("\\(di", "÷"), ("\\-", "-")]
@@ -26,6 +27,10 @@ class Shown:
         self.environment = {**os.environ, "TMPDIR": room}
         self.left = 0
 
+    def has_files(self):
+        """Whether the folder that the page names has the published files."""
+        return os.access(Path(self.environment.get("U", "/usr/share/unicode")) / NAMES[0], os.R_OK)
+
     def ran(self, text):
         """What a shell writes that runs this in the folder of the repository."""
         return run_program(["bash", "-c", text], cwd=TOP, env=self.environment).out.decode(errors="replace").rstrip("\n")
@@ -36,7 +41,7 @@ class Shown:
         elif command.startswith(("U=", "T=")):
             name = command.partition("=")[0]
             self.environment[name] = self.ran(f'{command}; printf %s "${name}"')
-        elif "$U" in command and not published():
+        elif "$U" in command and not self.has_files():
             self.tally.leave_out(f"{command}: {MISSING}")
         elif re.search(r"parallel|at-once", command) and not has("parallel"):
             self.tally.leave_out(f"{command}: GNU parallel")

@@ -20,6 +20,8 @@ SAMPLES = (
     "\u005f\u203f\u0020\u3000\u4e00\u3042\u0e01\u2615\U0001f600"
     "\U0001f3fb\U0001f469\ufffd\uff9e\u24b6\u2160\u00bd\u002d\u0021\u0000"
 )
+ENDS = ("CR", "LF", "Newline")
+SKIPPED = ("Extend", "Format", "ZWJ")
 ILL_FORMED = (b"\x80", b"\xc3", b"\xe0\x80", b"\xe4\xb8", b"\xed\xa0\x80", b"\xf0\x9f\x98", b"\xf4\x90", b"\xff")
 
 
@@ -56,37 +58,45 @@ class Rules:
         """Whether a boundary stands before codes[at], by the rules in their order (UAX #29, section 4.1.1)."""
         if at == 0 or at == len(codes):
             return True  # WB1, WB2
-        ends = ("CR", "LF", "Newline")
-        skipped = ("Extend", "Format", "ZWJ")
         last, value = self.value(codes[at - 1]), self.value(codes[at])
         if (last, value) == ("CR", "LF"):
             return False  # WB3
-        if last in ends or value in ends:
+        if last in ENDS or value in ENDS:
             return True  # WB3a, WB3b
         if last == "ZWJ" and codes[at] in self.pictographic:
             return False  # WB3c
         if last == value == "WSegSpace":
             return False  # WB3d
-        if value in skipped:
+        if value in SKIPPED:
             return False  # WB4
-        # What WB4 leaves: marks count as one with what stands before them, but at the start of the
-        # text or a line.
-        units = []
+        units = self.units(codes)
+        here = next(n for n, (k, _) in enumerate(units) if k == at)
+        unit = lambda n: units[n][1] if 0 <= n < len(units) else None
+        if self.is_joined(*(unit(here + n) for n in (-2, -1, 0, 1))):
+            return False
+        if unit(here - 1) == unit(here) == "Regional_Indicator":  # WB15, WB16
+            run = 0
+            while unit(here - 1 - run) == "Regional_Indicator":
+                run += 1
+            return run % 2 == 0
+        return True  # WB999
+
+    def units(self, codes):
+        """What WB4 leaves, as places and values: marks count as one with what stands before them, but at the start of the
+        text or a line."""
+        found = []
         for k, code in enumerate(codes):
             own = self.value(code)
-            if own in skipped and k > 0 and self.value(codes[k - 1]) not in ends:
-                continue
-            units.append((k, own))
-        here = next(n for n, (k, _) in enumerate(units) if k == at)
+            if own not in SKIPPED or k == 0 or self.value(codes[k - 1]) in ENDS:
+                found.append((k, own))
+        return found
 
-        def unit(n):
-            return units[n][1] if 0 <= n < len(units) else None
-
+    def is_joined(self, far_left, left, right, far_right):
+        """Whether one of the rules WB5 to WB13b matches between the values of two units on each side."""
         letter = ("ALetter", "Hebrew_Letter")
         mid_letter = ("MidLetter", "MidNumLet", "Single_Quote")
         mid_num = ("MidNum", "MidNumLet", "Single_Quote")
-        far_left, left, right, far_right = (unit(here + n) for n in (-2, -1, 0, 1))
-        joined = (
+        return (
             left in letter and right in letter  # WB5
             or left in letter and right in mid_letter and far_right in letter  # WB6
             or far_left in letter and left in mid_letter and right in letter  # WB7
@@ -102,14 +112,6 @@ class Rules:
             or left in letter + ("Numeric", "Katakana", "ExtendNumLet") and right == "ExtendNumLet"  # WB13a
             or left == "ExtendNumLet" and right in letter + ("Numeric", "Katakana")  # WB13b
         )
-        if joined:
-            return False
-        if left == right == "Regional_Indicator":  # WB15, WB16
-            run = 0
-            while unit(here - 1 - run) == "Regional_Indicator":
-                run += 1
-            return run % 2 == 0
-        return True  # WB999
 
     def words(self, codes, sizes, start=0):
         """The byte ranges of the parts between boundaries that have a letter or a number."""

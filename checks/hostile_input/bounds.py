@@ -13,7 +13,7 @@ LEAST_SECONDS = 0.05
 # than is written of it.
 STREAM_MEMORY = 16 * MIB
 # By so much may the memory that a stream takes differ from what its quarter takes.
-MOST_MORE = MIB // 2
+MOST_MORE = MIB // 4
 LIMIT = 16_777_216
 
 LINE_BREAK = b"""\
