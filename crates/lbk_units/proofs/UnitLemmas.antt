@@ -3,7 +3,7 @@ use Rattle.std.proofs.Common.{◌≡◌, ℕ, ◌+◌, ◌-◌, ◌<◌, ◌≤�
 use Rattle.std.specs.Char.{IsScalar}
 use Rattle.std.specs.Option.{SomeIff, unwrap_or}
 use Rattle.std.specs.Char.Escape.{encode_utf16}
-use Rattle.std.specs.Char.Utf16.{lone_unit_char, surrogate_pair_char, utf16_chars}
+use Rattle.std.specs.Char.Utf16.{lone_unit_char, surrogate_pair_char}
 use Rattle.std.proofs.lemmas.Bool.Decides.{nat_tests}
 use Rattle.std.proofs.lemmas.List.{drop-drop, length-drop, take_all}
 use Rattle.std.proofs.lemmas.Str.{utf16_chars_lone, utf16_chars_pair}

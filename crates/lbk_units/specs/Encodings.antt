@@ -1,5 +1,5 @@
 -- The same scalars in several encodings.
-use Rattle.std.specs.Prelude.{ℕ, List, length, map, take}
+use Rattle.std.specs.Prelude.{ℕ, List, length, take}
 use Rattle.std.specs.Char.Escape.{encode_utf16}
 use Rattle.std.specs.List.{flat_map}
 use Rattle.lbk_rules.specs.declared.breaks.Break.{Break}

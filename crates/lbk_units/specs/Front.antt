@@ -1,5 +1,5 @@
 -- What some units begin with.
-use Rattle.std.specs.Prelude.{◌≡◌, ℕ, ◌<◌, ◌≤◌, List, ◌∷◌, length, drop}
+use Rattle.std.specs.Prelude.{◌≡◌, ◌<◌, ◌≤◌, List, ◌∷◌, length, drop}
 use Rattle.bstr.specs.Utf8.{Decoded, or_replacement}
 use Rattle.lbk_units.specs.declared.unit.Piece.{Piece}
 
