@@ -1,6 +1,6 @@
 -- The breaks of a text of units from its start on, and some of them given.
-use Rattle.std.proofs.Common.{◌≡◌, ℕ, ◌+◌, ◌<◌, ◌≤◌, true, ◌⊎◌, inl, inr, ⊎_elim, Some, List, [], ◌∷◌, ◌++◌, length, map, drop, take, refl, sym, ap, subst, ◌∙◌, arith}
-use Rattle.std.specs.Str.{chars, encode_utf8_all}
+use Rattle.std.proofs.Common.{◌≡◌, ℕ, ◌<◌, ◌≤◌, true, inl, inr, ⊎_elim, List, [], ◌∷◌, ◌++◌, length, map, drop, take, refl, sym, ap, subst, ◌∙◌, arith}
+use Rattle.std.specs.Str.{encode_utf8_all}
 use Rattle.std.proofs.lemmas.List.{append-nil, length-map}
 use Rattle.std.proofs.lemmas.Str.{chars-encodes}
 use Rattle.std.proofs.Math.Seq.{drop-length, take-length}
@@ -33,7 +33,6 @@ use Rattle.lbk_c.specs.UnitsComing.{UnitsCome, UnitsGo}
 use Rattle.lbk_c.proofs.ComingLemmas.{breaks-utf8, given-many, gives, onward-start, profile-same, same-profile, zero_or}
 
 module _ {A : Type 0} (pieces_of : List A → List Decoded) where
-
   pub units-start : (cell : ℕ → Cell) (table : FlatTable) (text : List A) (profile : Profile) (state : State) → IsFlatOf table cell → state ≡ start_in profile
       → UnitsCome pieces_of cell table text state (breaks_of_pieces profile cell (pieces_of text))
   units-start cell table text profile state flat starts =
