@@ -180,7 +180,7 @@ try_c() {
     for name in breaks save_table words; do
         tried "$1: $name.c" "$1" -std=c99 "${warnings[@]}" "${flags[@]}" "$top/examples/$name.c" "${links[@]}" -o "$here/built/$name-$1"
     done
-    for name in edges hurt published streams cuts; do
+    for name in edges hurt published streams cuts units; do
         tried "$1: $name.c" "$1" -std=c99 "${warnings[@]}" "${checks[@]}" "${flags[@]}" "$top/examples/$name.c" "${links[@]}" \
             -o "$here/built/$name-$1"
     done
@@ -191,6 +191,7 @@ try_c() {
     count "$1: hurt.c" "$here/built/hurt-$1" 5000 1 "${files[@]}"
     count "$1: streams.c" "$here/built/streams-$1" 20000 1 "${files[@]}"
     count "$1: cuts.c" "$here/built/cuts-$1" 5000 1 "${files[@]}"
+    count "$1: units.c" "$here/built/units-$1" 20000 1 "${files[@]}" ${published:+"$here/test-lines"}
     if [ -n "$published" ]; then count "$1: published.c" "$here/built/published-$1" "${files[@]}"; fi
     count "$1: refused.c, each allocation refused" "$here/built/refused-$1" "${files[@]}"
 }
@@ -262,6 +263,10 @@ compare 'cc: breaks.c with liblbk.a' env -u LD_LIBRARY_PATH "$here/built/breaks-
 tried 'cc: streams.c with no checkers' cc -std=c99 "${warnings[@]}" "${flags[@]}" "$top/examples/streams.c" "${links[@]}" \
     -o "$here/built/streams-quick"
 count 'cc: streams.c, a million random cuttings' "$here/built/streams-quick" 1000000 2 "${files[@]}"
+tried 'cc: units.c with no checkers' cc -std=c99 "${warnings[@]}" "${flags[@]}" "$top/examples/units.c" "${links[@]}" \
+    -o "$here/built/units-quick"
+count 'cc: units.c, a million random texts in UTF-16 and UTF-32' "$here/built/units-quick" 1000000 2 "${files[@]}" \
+    ${published:+"$here/test-lines"}
 
 # A table that one process saved is mapped by others.
 table=$here/table

@@ -32,6 +32,13 @@ static_assert(!std::is_constructible_v<lbk::breaks, lbk::table, std::string_view
 static_assert(!std::is_constructible_v<lbk::breaks, const lbk::table, std::string_view, lbk::profile>);
 static_assert(!std::is_constructible_v<lbk::breaks, lbk_table, std::string_view>);
 static_assert(!std::is_constructible_v<lbk::breaks, lbk::table &, std::string>);
+static_assert(std::is_constructible_v<lbk::breaks_utf16, lbk::table &, std::u16string_view, lbk::profile>);
+static_assert(std::is_constructible_v<lbk::breaks_utf16, lbk::table &, std::u16string &>);
+static_assert(std::is_constructible_v<lbk::breaks_utf32, lbk::table &, const char32_t *>);
+static_assert(!std::is_constructible_v<lbk::breaks_utf16, lbk::table, std::u16string_view>);
+static_assert(!std::is_constructible_v<lbk::breaks_utf32, lbk_table, std::u32string_view>);
+static_assert(!std::is_constructible_v<lbk::breaks_utf16, lbk::table &, std::u16string>);
+static_assert(!std::is_constructible_v<lbk::breaks_utf32, lbk::table &, std::u32string>);
 static_assert(!std::is_convertible_v<lbk::table, const lbk_table &>);
 
 static_assert(std::is_constructible_v<lbk::words, std::string &> && !std::is_constructible_v<lbk::words, std::string>);
@@ -74,6 +81,15 @@ static std::vector<std::size_t> places(const lbk_table &table, std::string_view 
     return found;
 }
 
+template <typename Breaks>
+static std::vector<std::size_t> unit_places(const Breaks &range)
+{
+    std::vector<std::size_t> found;
+    for (lbk_break one : range)
+        found.push_back(one.at);
+    return found;
+}
+
 using these = std::vector<std::size_t>;
 
 static void try_ranges(const lbk_table &table)
@@ -93,6 +109,11 @@ static void try_ranges(const lbk_table &table)
     lbk::breaks twice(table, many);
     told("a range is gone through again", std::distance(twice.begin(), twice.end()) == 1000
                                               && std::distance(twice.begin(), twice.end()) == 1000);
+    told("the breaks of UTF-16", unit_places(lbk::breaks_utf16(table, u"a \xD83D\xDE00\nb \xD83D ")) == these{2, 5, 7, 9});
+    told("the breaks of UTF-32", unit_places(lbk::breaks_utf32(table, U"a \x1F600\nb \x110000 ")) == these{2, 4, 6, 8});
+    told("profiles differ in UTF-16", unit_places(lbk::breaks_utf16(table, u"a \u00AB b", lbk::profile::first)) == these{2, 4, 5}
+                                          && unit_places(lbk::breaks_utf16(table, u"a \u00AB b", lbk::profile::second)) == these{2, 5});
+    told("no break of no units", unit_places(lbk::breaks_utf16(table, u"")).empty() && unit_places(lbk::breaks_utf32(table, U"")).empty());
     told("labels", lbk::label(LBK_RULE_8A) == "8a" && lbk::label(255).empty());
 }
 

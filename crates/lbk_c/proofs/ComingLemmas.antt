@@ -132,12 +132,12 @@ pub zero_or : (n : ℕ) → (n ≡ 0) ⊎ (0 < n)
 zero_or zero = inl refl
 zero_or (suc n) = inr (omega arith)
 
-record Gives (to_come front : List Break) (count room : ℕ) (rest : List Break) : Type 0 where
-  counted : count ≡ min room (length to_come)
-  same : front ≡ take count to_come
-  left : drop count to_come ≡ rest
+pub record Gives (to_come front : List Break) (count room : ℕ) (rest : List Break) : Type 0 where
+  pub counted : count ≡ min room (length to_come)
+  pub same : front ≡ take count to_come
+  pub left : drop count to_come ≡ rest
 
-gives : (to_come front more : List Break) (count room : ℕ) → to_come ≡ front ++ more → length front ≡ count → count ≤ room
+pub gives : (to_come front more : List Break) (count room : ℕ) → to_come ≡ front ++ more → length front ≡ count → count ≤ room
     → (count ≡ room) ⊎ (more ≡ []) → Gives to_come front count room more
 gives to_come front more count room joined many within full = record {
   counted =
@@ -208,7 +208,7 @@ Goes-ended profile cell lefts text to_come here state before block count room r 
 
 -- Between the calls
 
-same-profile : (p q : Profile) (state : State) → profile_numbered state.profile ≡ Some p → profile_numbered state.profile ≡ Some q → p ≡ q
+pub same-profile : (p q : Profile) (state : State) → profile_numbered state.profile ≡ Some p → profile_numbered state.profile ≡ Some q → p ≡ q
 same-profile p q state is also = cc
 
 -- from a spent state nothing comes

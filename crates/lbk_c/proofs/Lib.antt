@@ -5,6 +5,7 @@ pub mod SkimLemmas
 pub mod StreamLemmas
 pub mod TableLemmas
 pub mod ComingLemmas
+pub mod UnitsComingLemmas
 pub mod PositionLemmas
 pub mod PieceStartLemmas
 pub mod JoinLemmas

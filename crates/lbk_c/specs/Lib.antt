@@ -8,5 +8,6 @@ pub mod Cuts
 pub mod Texts
 -- What only carries proofs.
 pub mod Coming
+pub mod UnitsComing
 pub mod Stands
 pub mod Looking

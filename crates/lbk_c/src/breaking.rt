@@ -120,7 +120,7 @@ fn go_on(
 
 /// Writes the break at the end of a text behind those in the front of the block, and answers how many these are now. An empty
 /// text has none.
-fn put_end(out: &mut [RawBreak], count: usize, len: usize) -> usize
+pub(crate) fn put_end(out: &mut [RawBreak], count: usize, len: usize) -> usize
     requires { count < length out.old }
     ensures within { result ≤ length out.old }
     ensures in_order { (from : ℕ) → IsInOrder out.old count from len → AreInOrder out.new result from (suc len) }

@@ -150,6 +150,22 @@ extern "C" {
         block: *mut Break,
         room: usize,
     ) -> usize;
+    pub fn lbk_breaks_utf16(
+        table: *const Table,
+        state: *mut State,
+        text: *const u16,
+        size: usize,
+        block: *mut Break,
+        room: usize,
+    ) -> usize;
+    pub fn lbk_breaks_utf32(
+        table: *const Table,
+        state: *mut State,
+        text: *const u32,
+        size: usize,
+        block: *mut Break,
+        room: usize,
+    ) -> usize;
     pub fn lbk_feed(
         table: *const Table,
         stream: *mut Stream,

@@ -30,6 +30,7 @@ mod load;
 mod reader;
 mod stream;
 mod table;
+mod units;
 mod words;
 
 pub use breaks::{Break, Breaks, Kind, Profile, Rule, Segment, Segments};
@@ -40,4 +41,5 @@ pub use load::LoadError;
 pub use reader::ReaderBreaks;
 pub use stream::Stream;
 pub use table::{Aligned, Files, Table};
+pub use units::{ScalarUnit, Unit, UnitBreaks};
 pub use words::{word_ranges, words, WordRanges, Words};

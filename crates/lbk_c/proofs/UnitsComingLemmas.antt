@@ -1,0 +1,165 @@
+-- The breaks of a text of units from its start on, and some of them given.
+use Rattle.std.proofs.Common.{◌≡◌, ℕ, ◌<◌, ◌≤◌, true, inl, inr, ⊎_elim, List, [], ◌∷◌, ◌++◌, length, map, drop, take, refl, sym, ap, subst, ◌∙◌, arith}
+use Rattle.std.specs.Str.{encode_utf8_all}
+use Rattle.std.proofs.lemmas.List.{append-nil, length-map}
+use Rattle.std.proofs.lemmas.Str.{chars-encodes}
+use Rattle.std.proofs.Math.Seq.{drop-length, take-length}
+use lib.Utf8.{scalars}
+use Rattle.bstr.specs.Utf8.{Decoded}
+use Rattle.lbk_rules.specs.declared.breaks.Break.{Break}
+use Rattle.lbk_rules.specs.declared.cells.Cell.{Cell}
+use Rattle.lbk_rules.specs.declared.facts.Left.{Left}
+use Rattle.lbk_steps.specs.declared.flat_table.FlatTable.{FlatTable}
+use Rattle.lbk_values.specs.declared.profile.Profile.{Profile}
+use Rattle.lbk_rules.specs.declared.verdicts.Verdict.{Verdict}
+use Rattle.lbk_rules.specs.Breaks.{break_by, breaks}
+use Rattle.lbk_rules.specs.Ends.{end_of_text}
+use Rattle.lbk_steps.specs.FlatTable.{IsFlatBy, IsFlatOf, KnowsTaken}
+use Rattle.lbk_rules.specs.Verdict.{verdict_between_in}
+use Rattle.lbk_rules.proofs.EndLemmas.{must_at_length, start_of_text}
+use Rattle.lbk_bytes.specs.declared.fill_state.FillState.{FillState}
+use Rattle.lbk_bytes.specs.declared.raw_break.RawBreak.{RawBreak}
+use Rattle.lbk_bytes.specs.Bytes.{with_break}
+use Rattle.lbk_bytes.specs.Reached.{onward}
+use Rattle.lbk_bytes.specs.Shown.{given_in}
+use Rattle.lbk_units.specs.Encodings.{placed_in}
+use Rattle.lbk_units.specs.Reached.{UnitsReached, on_from}
+use Rattle.lbk_units.specs.Units.{breaks_of_pieces, breaks_of_utf32}
+use Rattle.lbk_units.proofs.EncodingLemmas as encoding
+use Rattle.lbk_c.specs.declared.interface.State.{State}
+use Rattle.lbk_c.specs.Coming.{IsGoing, IsSpent, from_state}
+use Rattle.lbk_c.specs.State.{profile_numbered, start_in}
+use Rattle.lbk_c.specs.UnitsComing.{UnitsCome, UnitsGo}
+use Rattle.lbk_c.proofs.ComingLemmas.{breaks-utf8, given-many, gives, onward-start, profile-same, same-profile, zero_or}
+
+module _ {A : Type 0} (pieces_of : List A → List Decoded) where
+  pub units-start : (cell : ℕ → Cell) (table : FlatTable) (text : List A) (profile : Profile) (state : State) → IsFlatOf table cell → state ≡ start_in profile
+      → UnitsCome pieces_of cell table text state (breaks_of_pieces profile cell (pieces_of text))
+  units-start cell table text profile state flat starts =
+      subst (λ s. UnitsCome pieces_of cell table text s (breaks_of_pieces profile cell (pieces_of text))) (sym starts) (record {
+        profile = profile;
+        named = profile-same profile;
+        lefts = flat.0;
+        flat = flat.1;
+        onto = record {
+          within = omega arith;
+          goes_on = λ _. record {
+            taken = [];
+            knows = (flat.1.begins, flat.1.start);
+            none = λ _. refl;
+            some = λ more. absurd (omega arith);
+            joined = onward-start profile cell (pieces_of text);
+          };
+          none_come = λ more. absurd (omega arith);
+        };
+      })
+
+  -- where all is taken, the break at the end comes, if the text has any units
+  units-end : (profile : Profile) (cell : ℕ → Cell) (lefts : List Left) (text : List A) (all : List Break) (here : FillState) (given : List Break)
+      → pieces_of [] ≡ [] → here.at ≡ length text → UnitsReached profile cell lefts (on_from pieces_of text) all here given
+      → (length text ≡ 0 → all ≡ given) × (0 < length text → all ≡ given ++ break_by (length text) end_of_text ∷ [])
+  units-end profile cell lefts text all here given empty ends r =
+      let at = here.at in
+      let none_left : on_from pieces_of text at ≡ [] = ap (on_from pieces_of text) ends ∙ ap pieces_of (drop-length text) ∙ empty in
+      let last : all ≡ given ++ with_break at (verdict_between_in profile (map cell r.taken) []) [] =
+      r.joined ∙ ap (λ ps. given ++ onward profile cell r.taken at ps) none_left in (
+        (λ none.
+            let at_start : at ≡ 0 = ends ∙ none in
+            last ∙ ap (λ taken. given ++ with_break at (verdict_between_in profile (map cell taken) []) []) (r.none at_start)
+            ∙ ap (λ (v : Verdict). given ++ with_break at v []) (start_of_text profile []) ∙ append-nil given),
+        (λ more.
+            let cells = map cell r.taken in
+            let some : 0 < length cells = (let taken = r.some (omega arith) in omega (arith, length-map r.taken cell)) in
+            let must : verdict_between_in profile cells [] ≡ end_of_text =
+            ap (λ l. verdict_between_in profile l []) (sym (take-length cells))
+            ∙ ap (λ l. verdict_between_in profile (take (length cells) cells) l) (sym (drop-length cells))
+            ∙ must_at_length profile cells some in
+            last ∙ ap (λ (v : Verdict). given ++ with_break at v []) must ∙ ap (λ n. given ++ break_by n end_of_text ∷ []) ends),
+      )
+
+  -- the block is full
+  pub units-full : (profile : Profile) (cell : ℕ → Cell) (lefts : List Left) (text : List A) (to_come : List Break) (here : FillState) (state : State) (block : List RawBreak) (room : ℕ)
+      → UnitsReached profile cell lefts (on_from pieces_of text) to_come here (given_in block here.count) → here.at ≤ length text → state.at ≡ here.at → state.row ≡ here.row
+      → state.ended ≡ 0 → here.count ≤ length block → here.count ≡ room
+      → UnitsGo pieces_of profile cell lefts text to_come state (given_in block here.count) here.count room
+  units-full profile cell lefts text to_come here state block room r within at_same row_same unended few full =
+      let on = on_from pieces_of text in
+      let more = onward profile cell r.taken here.at (on here.at) in
+      let g = gives to_come (given_in block here.count) more here.count room r.joined (given-many block here.count few) (omega arith) (inl full) in
+      record {
+        counted = g.counted;
+        front = g.same;
+        onto = record {
+          within = omega arith;
+          goes_on = λ _. record {
+            taken = r.taken;
+            knows = subst (λ n. KnowsTaken cell lefts n r.taken) (sym row_same) r.knows;
+            none = λ zero. r.none (sym at_same ∙ zero);
+            some = λ more. r.some (omega arith);
+            joined = g.left ∙ ap (λ n. onward profile cell r.taken n (on n)) (sym at_same);
+          };
+          none_come = λ ended. absurd (omega arith);
+        };
+      }
+
+  -- all were given, and the text is at its end, which is one of them
+  pub units-ended : (profile : Profile) (cell : ℕ → Cell) (lefts : List Left) (text : List A) (to_come : List Break) (here : FillState) (state : State) (before block : List RawBreak)
+      (count room : ℕ)
+      → pieces_of [] ≡ [] → UnitsReached profile cell lefts (on_from pieces_of text) to_come here (given_in before here.count) → here.at ≡ length text → state.at ≡ here.at → state.ended ≡ 1
+      → (0 < length text → given_in block count ≡ given_in before here.count ++ break_by (length text) end_of_text ∷ [])
+      → (length text ≡ 0 → given_in block count ≡ given_in before here.count)
+      → count ≤ length block → length block ≡ room
+      → UnitsGo pieces_of profile cell lefts text to_come state (given_in block count) count room
+  units-ended profile cell lefts text to_come here state before block count room empty r ends at_same ended some none few same_room =
+      let last = units-end profile cell lefts text to_come here (given_in before here.count) empty ends r in
+      let all : to_come ≡ given_in block count =
+      ⊎_elim (λ (is : length text ≡ 0). last.0 is ∙ sym (none is)) (λ (more : 0 < length text). last.1 more ∙ sym (some more)) (zero_or (length text)) in
+      let g = gives to_come (given_in block count) [] count room (all ∙ sym (append-nil (given_in block count))) (given-many block count few) (omega arith) (inr refl) in
+      record {
+        counted = g.counted;
+        front = g.same;
+        onto = record {
+          within = omega arith;
+          goes_on = λ unended. absurd (omega arith);
+          none_come = λ _. g.left;
+        };
+      }
+
+  -- from a spent state nothing comes
+  pub units-none : (cell : ℕ → Cell) (table : FlatTable) (text : List A) (state : State) (to_come : List Break)
+      → IsSpent state (length text) → UnitsCome pieces_of cell table text state to_come → to_come ≡ []
+  units-none cell table text state to_come (inl unnamed) c = absurd (let no : ⊥ = (let named = c.named in cc) in no)
+  units-none cell table text state to_come (inr (inl ended)) c = c.onto.none_come ended
+  units-none cell table text state to_come (inr (inr past)) c = absurd (let within = c.onto.within in omega arith)
+
+  -- what a call gives of the breaks to come
+  pub units-go : (profile : Profile) (cell : ℕ → Cell) (table : FlatTable) (text : List A) (old new : State) (to_come given : List Break) (count room : ℕ)
+      → ((cell : ℕ → Cell) (lefts : List Left) (to_come : List Break) → IsFlatBy lefts table cell
+      → UnitsReached profile cell lefts (on_from pieces_of text) to_come (from_state old) []
+      → UnitsGo pieces_of profile cell lefts text to_come new given count room)
+      → IsGoing profile old (length text) → (c : UnitsCome pieces_of cell table text old to_come)
+      → UnitsGo pieces_of profile cell c.lefts text to_come new given count room
+  units-go profile cell table text old new to_come given count room goes going c =
+      let same = same-profile c.profile profile old c.named going.named in
+      goes cell c.lefts to_come c.flat
+      (subst (λ p. UnitsReached p cell c.lefts (on_from pieces_of text) to_come (from_state old) []) same (c.onto.goes_on going.unended))
+
+  -- and the others come from the next state on
+  pub units-next : (profile : Profile) (cell : ℕ → Cell) (table : FlatTable) (text : List A) (old new : State) (to_come given : List Break) (count room : ℕ)
+      → IsGoing profile old (length text) → new.profile ≡ old.profile → (c : UnitsCome pieces_of cell table text old to_come)
+      → UnitsGo pieces_of profile cell c.lefts text to_come new given count room
+      → UnitsCome pieces_of cell table text new (drop count to_come)
+  units-next profile cell table text old new to_come given count room going kept c goes = record {
+    profile = profile;
+    named = ap profile_numbered kept ∙ going.named;
+    lefts = c.lefts;
+    flat = c.flat;
+    onto = goes.onto;
+  }
+
+-- the breaks of scalars, by their places in UTF-8
+pub breaks-scalars : (profile : Profile) (cell : ℕ → Cell) (cs : List ℕ) → scalars cs ≡ true
+    → breaks profile cell cs ≡ map (placed_in encode_utf8_all cs) (breaks_of_utf32 profile cell cs)
+breaks-scalars profile cell cs all =
+    sym (breaks-utf8 profile cell (encode_utf8_all cs) (cs, (all, refl)) ∙ ap (λ l. breaks profile cell l) (chars-encodes cs all))
+    ∙ encoding.breaks-utf8 profile cell cs all

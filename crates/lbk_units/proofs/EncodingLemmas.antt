@@ -1,0 +1,152 @@
+-- The same scalars in several encodings.
+use Rattle.std.proofs.Common.{◌≡◌, ℕ, ◌+◌, ◌-◌, ◌/◌, ◌%◌, ◌<◌, ◌≤◌, ◌⊎◌, ⊎_elim, inl, inr, true, false, cond, Some, List, [], ◌∷◌, ◌++◌, append_assoc, length, map, take, refl, sym, ap, ◌∙◌, arith}
+use Rattle.std.specs.Char.{IsScalar, encode_utf8}
+use Rattle.std.specs.Char.Escape.{encode_utf16}
+use Rattle.std.specs.Char.Utf16.{surrogate_pair_char, utf16_chars}
+use Rattle.std.specs.Str.{encode_utf8_all}
+use Rattle.std.proofs.lemmas.Bool.{and_parts, cases_lt}
+use Rattle.std.proofs.lemmas.Bool.Decides.{nat_tests}
+use Rattle.std.proofs.lemmas.List.{length-append, take_at}
+use Rattle.std.proofs.lemmas.Str.{utf16_chars-nil, utf16_chars_lone, utf16_chars_pair}
+use lib.Utf8.{scalar, scalar_cases, scalars}
+use Rattle.bstr.specs.Utf8.{Decoded, bad, good, pieces}
+use Rattle.lbk_rules.specs.declared.breaks.Break.{Break}
+use Rattle.lbk_rules.specs.declared.cells.Cell.{Cell}
+use Rattle.lbk_values.specs.declared.profile.Profile.{Profile}
+use Rattle.lbk_rules.specs.declared.verdicts.Verdict.{Verdict}
+use Rattle.lbk_rules.specs.Breaks.{break_by, is_no}
+use Rattle.lbk_rules.specs.Marks.{Marked, marks}
+use Rattle.lbk_words.proofs.WellFormedLemmas.{pieces-encode}
+use Rattle.lbk_bytes.specs.Bytes.{breaks_after, breaks_of_bytes, with_break}
+use Rattle.lbk_bytes.specs.Reached.{scalars_of}
+use Rattle.lbk_units.specs.Encodings.{encode_utf16_all, placed_in}
+use Rattle.lbk_units.specs.Units.{breaks_of_pieces, breaks_of_utf16, breaks_of_utf32, pieces_of_utf16, pieces_of_utf32, utf16_piece}
+use Rattle.lbk_units.proofs.UnitLemmas.{lone-high, lone-low}
+
+-- a scalar that takes so many units
+abbrev sized : (ℕ → ℕ) → ℕ → Decoded
+sized size c = good c (size c)
+
+abbrev one : ℕ → ℕ
+one c = 1
+
+abbrev units16 : ℕ → ℕ
+units16 c = length (encode_utf16 c)
+
+abbrev units8 : ℕ → ℕ
+units8 c = length (encode_utf8 c)
+
+scalars-sized : (size : ℕ → ℕ) (cs : List ℕ) → scalars_of (map (sized size) cs) ≡ cs
+scalars-sized size [] = refl
+scalars-sized size (c ∷ cs) = ap (λ l. c ∷ l) (scalars-sized size cs)
+
+-- In each encoding the pieces of some scalars are these
+
+pieces-utf32 : (cs : List ℕ) → scalars cs ≡ true → pieces_of_utf32 cs ≡ map (sized one) cs
+pieces-utf32 [] all = refl
+pieces-utf32 (c ∷ cs) all =
+    let both = and_parts (scalar c) (scalars cs) all in
+    ap (λ b. cond b (good c 1) (bad 1) ∷ pieces_of_utf32 cs) both.0 ∙ ap (λ l. good c 1 ∷ l) (pieces-utf32 cs both.1)
+
+-- one unit
+encodes-one : (c : ℕ) → c < 0x10000 → encode_utf16 c ≡ c ∷ []
+encodes-one c below = grind (arith, nat_tests)
+
+-- two
+encodes-two : (c : ℕ) → 0x10000 ≤ c → encode_utf16 c ≡ (0xD800 + (c - 0x10000) / 0x400) ∷ (0xDC00 + (c - 0x10000) % 0x400) ∷ []
+encodes-two c above = grind (arith, nat_tests)
+
+chars-low : (c : ℕ) (more : List ℕ) → (c < 0xD800) ⊎ (0xE000 ≤ c) → c < 0x10000 → utf16_chars (encode_utf16 c ++ more) ≡ Some c ∷ utf16_chars more
+chars-low c more apart below =
+    ap (λ l. utf16_chars (l ++ more)) (encodes-one c below)
+    ∙ utf16_chars_lone c more (λ pair. ⊎_elim (λ low. (let no : ⊥ = omega (arith, pair.0) in no)) (λ high. (let no : ⊥ = omega (arith, pair.1) in no)) apart)
+    ∙ ap (λ o. o ∷ utf16_chars more) (⊎_elim (λ low. lone-low c low) (λ high. lone-high c high) apart)
+
+chars-high : (c : ℕ) (more : List ℕ) → 0x10000 ≤ c → c < 0x110000 → utf16_chars (encode_utf16 c ++ more) ≡ Some c ∷ utf16_chars more
+chars-high c more above below =
+    let high = 0xD800 + (c - 0x10000) / 0x400 in
+    let low = 0xDC00 + (c - 0x10000) % 0x400 in
+    let same : surrogate_pair_char high low ≡ c = omega arith in
+    ap (λ l. utf16_chars (l ++ more)) (encodes-two c above)
+    ∙ utf16_chars_pair high low more (omega arith, omega arith, omega arith, omega arith)
+    ∙ ap (λ n. Some n ∷ utf16_chars more) same
+
+chars-first : (c : ℕ) (more : List ℕ) → IsScalar c → utf16_chars (encode_utf16 c ++ more) ≡ Some c ∷ utf16_chars more
+chars-first c more is_scalar =
+    ⊎_elim (λ low. chars-low c more (inl low) (omega arith))
+    (λ high. ⊎_elim (λ few. chars-low c more (inr high.0) few) (λ many. chars-high c more many high.1) (cases_lt c 0x10000))
+    (scalar_cases c is_scalar)
+
+pieces-utf16 : (cs : List ℕ) → scalars cs ≡ true → pieces_of_utf16 (encode_utf16_all cs) ≡ map (sized units16) cs
+pieces-utf16 [] all = ap (map utf16_piece) utf16_chars-nil
+pieces-utf16 (c ∷ cs) all =
+    let both = and_parts (scalar c) (scalars cs) all in
+    ap (map utf16_piece) (chars-first c (encode_utf16_all cs) both.0) ∙ ap (λ l. good c (units16 c) ∷ l) (pieces-utf16 cs both.1)
+
+-- One scalar more, encoded
+
+joins16 : (xs : List ℕ) (c : ℕ) → length (encode_utf16_all (xs ++ c ∷ [])) ≡ length (encode_utf16_all xs) + units16 c
+joins16 [] c = length-append (encode_utf16 c) [] ∙ (let e : units16 c + 0 ≡ 0 + units16 c = omega arith in e)
+joins16 (x ∷ xs) c =
+    let on = length-append (encode_utf16 x) (encode_utf16_all (xs ++ c ∷ [])) in
+    let here = length-append (encode_utf16 x) (encode_utf16_all xs) in
+    let rest = joins16 xs c in
+    omega (arith, on, here, rest)
+
+joins8 : (xs : List ℕ) (c : ℕ) → length (encode_utf8_all (xs ++ c ∷ [])) ≡ length (encode_utf8_all xs) + units8 c
+joins8 [] c = length-append (encode_utf8 c) [] ∙ (let e : units8 c + 0 ≡ 0 + units8 c = omega arith in e)
+joins8 (x ∷ xs) c =
+    let on = length-append (encode_utf8 x) (encode_utf8_all (xs ++ c ∷ [])) in
+    let here = length-append (encode_utf8 x) (encode_utf8_all xs) in
+    let rest = joins8 xs c in
+    omega (arith, on, here, rest)
+
+-- The breaks
+
+placed-more : (encode : List ℕ → List ℕ) (all : List ℕ) (at place : ℕ) (verdict : Verdict) (more : List Break) → length (encode (take at all)) ≡ place
+    → with_break place verdict (map (placed_in encode all) more) ≡ map (placed_in encode all) (with_break at verdict more)
+placed-more encode all at place verdict more same =
+    elim (is_no verdict.kind)
+    as (λ no. cond no (map (placed_in encode all) more) (break_by place verdict ∷ map (placed_in encode all) more)
+    ≡ map (placed_in encode all) (cond no more (break_by at verdict ∷ more))) [
+      | true ↦ refl
+      | false ↦ ap (λ n. break_by n verdict ∷ map (placed_in encode all) more) (sym same)
+    ]
+
+after-placed : (encode : List ℕ → List ℕ) (size : ℕ → ℕ) → ((xs : List ℕ) (c : ℕ) → length (encode (xs ++ c ∷ [])) ≡ length (encode xs) + size c)
+    → (all before cs : List ℕ) (ms : List Marked) → all ≡ before ++ cs
+    → breaks_after (length (encode before)) (map (sized size) cs) ms ≡ map (placed_in encode all) (breaks_after (length before) (map (sized one) cs) ms)
+after-placed encode size joins all before [] ms same = refl
+after-placed encode size joins all before (c ∷ cs) [] same = refl
+after-placed encode size joins all before (c ∷ cs) (m ∷ ms) same =
+    let on = before ++ c ∷ [] in
+    let split : all ≡ on ++ cs = same ∙ sym (append_assoc before (c ∷ []) cs) in
+    let place = length (encode on) in
+    let here : length (encode before) + size c ≡ place = sym (joins before c) in
+    let count : length before + 1 ≡ length on = sym (length-append before (c ∷ [])) in
+    let front : take (length on) all ≡ on = ap (take (length on)) split ∙ take_at on cs (length on) refl in
+    ap (λ n. with_break n m.after (breaks_after n (map (sized size) cs) ms)) here
+    ∙ ap (with_break place m.after) (after-placed encode size joins all on cs ms split)
+    ∙ placed-more encode all (length on) place m.after (breaks_after (length on) (map (sized one) cs) ms) (ap (λ l. length (encode l)) front)
+    ∙ ap (λ n. map (placed_in encode all) (with_break n m.after (breaks_after n (map (sized one) cs) ms))) (sym count)
+
+-- the breaks of some scalars in an encoding
+encoded : (encode : List ℕ → List ℕ) (size : ℕ → ℕ) → ((xs : List ℕ) (c : ℕ) → length (encode (xs ++ c ∷ [])) ≡ length (encode xs) + size c)
+    → length (encode []) ≡ 0 → (profile : Profile) (cell : ℕ → Cell) (cs : List ℕ) (ps : List Decoded) → ps ≡ map (sized size) cs → scalars cs ≡ true
+    → breaks_of_pieces profile cell ps ≡ map (placed_in encode cs) (breaks_of_utf32 profile cell cs)
+encoded encode size joins empty profile cell cs ps are all =
+    let told = marks profile cell cs in
+    ap (breaks_of_pieces profile cell) are
+    ∙ ap (λ l. breaks_after 0 (map (sized size) cs) (marks profile cell l)) (scalars-sized size cs)
+    ∙ ap (λ n. breaks_after n (map (sized size) cs) told) (sym empty)
+    ∙ after-placed encode size joins cs [] cs told refl
+    ∙ sym (ap (map (placed_in encode cs))
+    (ap (breaks_of_pieces profile cell) (pieces-utf32 cs all) ∙ ap (λ l. breaks_after 0 (map (sized one) cs) (marks profile cell l)) (scalars-sized one cs)))
+
+pub breaks-utf16 : (profile : Profile) (cell : ℕ → Cell) (cs : List ℕ) → scalars cs ≡ true
+    → breaks_of_utf16 profile cell (encode_utf16_all cs) ≡ map (placed_in encode_utf16_all cs) (breaks_of_utf32 profile cell cs)
+breaks-utf16 profile cell cs all = encoded encode_utf16_all units16 joins16 refl profile cell cs (pieces_of_utf16 (encode_utf16_all cs)) (pieces-utf16 cs all) all
+
+pub breaks-utf8 : (profile : Profile) (cell : ℕ → Cell) (cs : List ℕ) → scalars cs ≡ true
+    → breaks_of_bytes profile cell (encode_utf8_all cs) ≡ map (placed_in encode_utf8_all cs) (breaks_of_utf32 profile cell cs)
+breaks-utf8 profile cell cs all = encoded encode_utf8_all units8 joins8 refl profile cell cs (pieces (encode_utf8_all cs)) (pieces-encode cs all) all

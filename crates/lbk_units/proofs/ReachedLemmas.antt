@@ -1,0 +1,127 @@
+-- How far a call has come, scalar by scalar.
+use Rattle.std.proofs.Common.{◌≡◌, ℕ, ◌+◌, ◌<◌, List, [], ◌∷◌, ◌++◌, drop, get_or, map, append_assoc, reverse, sym, ap, subst, ◌∙◌, arith}
+use Rattle.std.specs.Char.{IsScalar}
+use Rattle.std.proofs.lemmas.List.{length-append}
+use Rattle.bstr.specs.Utf8.{Decoded, or_replacement}
+use Rattle.lbk_rules.specs.declared.breaks.Break.{Break}
+use Rattle.lbk_rules.specs.declared.cells.Cell.{Cell}
+use Rattle.lbk_rules.specs.declared.facts.Left.{Left}
+use Rattle.lbk_steps.specs.declared.flat_table.FlatStep.{FlatStep}
+use Rattle.lbk_steps.specs.declared.flat_table.FlatTable.{FlatTable}
+use Rattle.lbk_steps.specs.declared.flat_table.TheConstants.{HELD}
+use Rattle.lbk_values.specs.declared.profile.Profile.{Profile}
+use Rattle.lbk_rules.specs.declared.verdicts.Verdict.{Verdict}
+use Rattle.lbk_rules.specs.Codes.{IsCode, verdict_coded}
+use Rattle.lbk_rules.specs.Facts.{facts}
+use Rattle.lbk_rules.specs.Normal.{normal}
+use Rattle.lbk_rules.specs.Sides.{Side}
+use Rattle.lbk_rules.specs.Verdict.{verdict_between_in}
+use Rattle.lbk_steps.specs.FlatTable.{AreFlatKinds, IsFlatBy, KnowsTaken, no_flat_step}
+use Rattle.lbk_steps.specs.Kinds.{kind_cell}
+use Rattle.lbk_steps.specs.RowMachineFits.{normals}
+use Rattle.lbk_steps.specs.Steps.{IsStart, left_at}
+use Rattle.lbk_bytes.specs.declared.deciding.Decided.{Decided}
+use Rattle.lbk_bytes.specs.declared.fill_state.FillState.{FillState}
+use Rattle.lbk_bytes.specs.declared.raw_break.RawBreak.{RawBreak}
+use Rattle.lbk_bytes.specs.Bytes.{with_break}
+use Rattle.lbk_bytes.specs.Reached.{AreSwift, IsSwiftStep, onward, scalars_of}
+use Rattle.lbk_bytes.specs.Shown.{given_in}
+use Rattle.lbk_bytes.proofs.ReachedLemmas.{with_break-more}
+use Rattle.lbk_bytes.proofs.StepLemmas.{decides-text, flat_step_at, knows-more}
+use Rattle.lbk_units.specs.declared.unit.Piece.{Piece}
+use Rattle.lbk_units.specs.Reached.{IsUnitDecided, UnitsReached, on_from}
+use Rattle.lbk_units.proofs.UnitLemmas.{IsFrontAt}
+
+-- one more scalar
+pub reached-step : (profile : Profile) (cell : ℕ → Cell) (lefts : List Left) (on : ℕ → List Decoded) (all : List Break) (here there : FillState) (given after : List Break)
+    (p : Decoded) (verdict : Verdict) (r : UnitsReached profile cell lefts on all here given)
+    → on here.at ≡ p ∷ on there.at → there.at ≡ here.at + p.size → 0 < p.size
+    → KnowsTaken cell lefts there.row (r.taken ++ or_replacement p.char ∷ [])
+    → verdict ≡ verdict_between_in profile (map cell r.taken) (cell (or_replacement p.char) ∷ map cell (scalars_of (on there.at)))
+    → after ≡ given ++ with_break here.at verdict []
+    → UnitsReached profile cell lefts on all there after
+reached-step profile cell lefts on all here there given after p verdict r begins moved more knows decides grown =
+    let c = or_replacement p.char in
+    let rest = on there.at in
+    let taken = r.taken ++ c ∷ [] in
+    let further = onward profile cell taken there.at rest in
+    let stepped : onward profile cell r.taken here.at (p ∷ rest) ≡ with_break here.at verdict further =
+    ap (λ v. with_break here.at v (onward profile cell taken (here.at + p.size) rest)) (sym decides)
+    ∙ ap (λ n. with_break here.at verdict (onward profile cell taken n rest)) (sym moved) in
+    let longer = length-append r.taken (c ∷ []) in
+    record {
+      taken = taken;
+      knows = knows;
+      none = λ zero. absurd (omega arith);
+      some = λ _. omega arith;
+      joined =
+          r.joined
+          ∙ ap (λ ps. given ++ onward profile cell r.taken here.at ps) begins
+          ∙ ap (λ l. given ++ l) (stepped ∙ with_break-more here.at verdict further)
+          ∙ sym (append_assoc given (with_break here.at verdict []) further)
+          ∙ ap (λ g. g ++ further) (sym grown);
+    }
+
+-- by a step that decides
+pub reached-swift : (profile : Profile) (cell : ℕ → Cell) (lefts : List Left) (on : ℕ → List Decoded) (all : List Break) (steps : List FlatStep) (kinds : List ℕ)
+    (out after : List RawBreak) (count next row at c size : ℕ) (p : Decoded) (step : FlatStep)
+    → AreSwift profile lefts steps → AreFlatKinds kinds cell → IsScalar c
+    → on at ≡ p ∷ on (at + size) → or_replacement p.char ≡ c → p.size ≡ size → 0 < size
+    → step ≡ get_or steps (row + get_or kinds c 0) no_flat_step → ¬ (step.code ≡ HELD)
+    → (IsCode step.code → given_in after next ≡ given_in out count ++ with_break at (verdict_coded step.code) [])
+    → UnitsReached profile cell lefts on all (record { count = count; row = row; at = at }) (given_in out count)
+    → UnitsReached profile cell lefts on all (record { count = next; row = step.next; at = at + size }) (given_in after next)
+reached-swift profile cell lefts on all steps kinds out after count next row at c size p step swift are_kinds is_scalar begins reads sized some same apart front r =
+    let kind = get_or kinds c 0 in
+    let is_kind = are_kinds c is_scalar in
+    let here : IsSwiftStep profile lefts (left_at lefts row) (kind_cell kind) step =
+    subst (λ s. IsSwiftStep profile lefts (left_at lefts row) (kind_cell kind) s) (sym same) (swift row kind r.knows.0 is_kind.0) in
+    let right = map cell (scalars_of (on (at + size))) in
+    reached-step profile cell lefts on all (record { count = count; row = row; at = at }) (record { count = next; row = step.next; at = at + size })
+    (given_in out count) (given_in after next) p (verdict_coded step.code) r begins (ap (λ n. at + n) (sym sized)) (omega arith)
+    (subst (λ x. KnowsTaken cell lefts step.next (r.taken ++ x ∷ [])) (sym reads)
+    (knows-more cell lefts row step.next c kind is_kind.1 here.starts here.leads r.taken r.knows))
+    (decides-text profile cell r.taken c kind step.code right is_kind.1
+    (here.decides apart (reverse (normals cell r.taken)) (map normal right) (sym r.knows.1))
+    ∙ ap (λ x. verdict_between_in profile (map cell r.taken) (cell x ∷ right)) (sym reads))
+    (front here.coded)
+
+-- by what follows
+pub reached-decided : (profile : Profile) (cell : ℕ → Cell) (lefts : List Left) (on : ℕ → List Decoded) (all : List Break)
+    (out after : List RawBreak) (here : FillState) (next : ℕ) (found : Decided)
+    → ((taken : List ℕ) → KnowsTaken cell lefts here.row taken → IsUnitDecided profile cell lefts on here.at taken found)
+    → (IsCode found.code → given_in after next ≡ given_in out here.count ++ with_break here.at (verdict_coded found.code) [])
+    → UnitsReached profile cell lefts on all here (given_in out here.count)
+    → UnitsReached profile cell lefts on all (record { count = next; row = found.row; at = found.at }) (given_in after next)
+reached-decided profile cell lefts on all out after here next found decided front r =
+    let d = decided r.taken r.knows in
+    reached-step profile cell lefts on all here (record { count = next; row = found.row; at = found.at })
+    (given_in out here.count) (given_in after next) d.piece (verdict_coded found.code) r d.begins d.moved d.some d.knows d.decides (front d.coded)
+
+pub unit-decided : {A : Type 0} (pieces_of : List A → List Decoded) (text rest : List A) (at : ℕ) (found : Piece)
+    (profile : Profile) (cell : ℕ → Cell) (lefts : List Left) (taken : List ℕ) (table : FlatTable) (row code : ℕ) (step : FlatStep)
+    → IsFrontAt pieces_of text at found → IsFlatBy lefts table cell → IsScalar found.scalar → rest ≡ drop (at + found.size) text
+    → step ≡ get_or table.first (row + get_or table.kinds found.scalar 0) no_flat_step
+    → IsCode code × (verdict_coded code ≡ verdict_between_in profile (map cell taken) (cell found.scalar ∷ map cell (scalars_of (pieces_of rest))))
+    → KnowsTaken cell lefts row taken
+    → IsUnitDecided profile cell lefts (on_from pieces_of text) at taken (record { code = code; row = step.next; at = at + found.size })
+unit-decided pieces_of text rest at found profile cell lefts taken table row code step front flat is_scalar is_rest same decides known =
+    let c = found.scalar in
+    let kind = get_or table.kinds c 0 in
+    let is_kind = flat.kinds c is_scalar in
+    let here = flat_step_at lefts table.first table.second row kind flat.steps known.0 is_kind.0 in
+    let starts = subst (λ (s : FlatStep). IsStart lefts s.next) (sym same) here.starts in
+    let leads : (side : Side) → facts side ≡ left_at lefts row → facts (kind_cell kind ∷ side) ≡ left_at lefts step.next =
+    λ side known. here.leads side known ∙ ap (λ (s : FlatStep). left_at lefts s.next) (sym same) in
+    record {
+      piece = front.piece;
+      begins = front.begins;
+      moved = ap (λ n. at + n) (sym front.sized);
+      some = omega (arith, front.some, front.sized);
+      knows = subst (λ x. KnowsTaken cell lefts step.next (taken ++ x ∷ [])) (sym front.reads)
+          (knows-more cell lefts row step.next c kind is_kind.1 starts leads taken known);
+      coded = decides.0;
+      decides = decides.1
+          ∙ ap (λ l. verdict_between_in profile (map cell taken) (cell c ∷ map cell (scalars_of (pieces_of l)))) is_rest
+          ∙ ap (λ x. verdict_between_in profile (map cell taken) (cell x ∷ map cell (scalars_of (pieces_of (drop (at + found.size) text))))) (sym front.reads);
+    }

@@ -1,0 +1,16 @@
+use Rattle.std.proofs.Common.{arith}
+use Rattle.lbk_units.proofs.filling.fill_units.Goals as goal
+
+pub loop-here-preserved : goal.loop-here-preserved
+loop-here-preserved g c =
+    let l = c.loop-here in
+    let further = c.further-here in
+    let within = further.ensures.within in
+    record {
+      room = omega (arith, within.0);
+      row = within.1;
+      within = within.2;
+      no_room = λ none. absurd (omega arith);
+      in_order = λ from order. further.ensures.in_order from (l.invariant.in_order from order);
+      reached = λ cell lefts all flat start. further.ensures.reached cell lefts all flat (l.invariant.reached cell lefts all flat start);
+    }

@@ -1,0 +1,24 @@
+use Rattle.std.proofs.Common.{◌≡◌, ◌+◌, ◌-◌, ◌<◌, ◌≤◌, ℕ, List, length}
+use Rattle.lbk_rules.specs.declared.breaks.Break.{Break}
+use Rattle.lbk_rules.specs.declared.cells.Cell.{Cell}
+use Rattle.lbk_rules.specs.declared.facts.Left.{Left}
+use Rattle.lbk_steps.specs.FlatTable.{IsFlatBy}
+use Rattle.lbk_bytes.specs.Reached.{IsInOrder}
+use Rattle.lbk_units.specs.Reached.{UnitsReached, on_from}
+use Rattle.lbk_bytes.specs.Shown.{given_in}
+use Rattle.lbk_units.proofs.filling.fill_units.Given as goal
+
+abbrev pub invariant-loop-here : goal.invariant-loop-here
+invariant-loop-here g l = record {
+  room : l.here.count ≤ length l.out;
+  row : l.here.row < 65536;
+  within : l.here.at ≤ length l.text;
+  no_room : length l.out ≡ 0 → l.here ≡ l.fn.start;
+  in_order : (from : ℕ) → IsInOrder l.fn.out l.fn.start.count from l.fn.start.at → IsInOrder l.out l.here.count from l.here.at;
+  reached : (cell : ℕ → Cell) (lefts : List Left) (all : List Break) → IsFlatBy lefts l.fn.table cell
+      → UnitsReached l.fn.profile cell lefts (on_from g.U.Unit.pieces_of l.text) all l.fn.start (given_in l.fn.out l.fn.start.count)
+      → UnitsReached l.fn.profile cell lefts (on_from g.U.Unit.pieces_of l.text) all l.here (given_in l.out l.here.count);
+}
+
+abbrev pub decreases-loop-here : goal.decreases-loop-here
+decreases-loop-here g l = length l.text + length l.out - (l.here.at + l.here.count)

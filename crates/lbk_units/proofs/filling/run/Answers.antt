@@ -1,0 +1,38 @@
+use Rattle.std.proofs.Common.{◌+◌, arith}
+use Rattle.lbk_units.specs.Reached.{on_from}
+use Rattle.lbk_units.proofs.ReachedLemmas.{reached-swift}
+use Rattle.lbk_units.proofs.UnitLemmas.{front-at}
+use Rattle.lbk_units.proofs.filling.run.Goals as goal
+
+pub overflow_add-at : goal.overflow_add-at
+overflow_add-at g c =
+    let front = front-at g.U.Unit.pieces_of c.args.text.now c.loop-count.at c.front-piece.result (omega arith) c.front-piece.ensures in
+    omega (arith, front.within)
+
+pub loop-count-smaller : goal.loop-count-smaller
+loop-count-smaller g c =
+    let front = front-at g.U.Unit.pieces_of c.args.text.now c.loop-count.at c.front-piece.result (omega arith) c.front-piece.ensures in
+    omega (arith, front.within, front.some)
+
+pub loop-count-preserved : goal.loop-count-preserved
+loop-count-preserved g c =
+    let l = c.loop-count in
+    let of = g.U.Unit.pieces_of in
+    let found = c.front-piece.result in
+    let step = c.step_at-step.result.now in
+    let put = c.put-count in
+    let front = front-at of c.args.text.now l.at found (omega arith) c.front-piece.ensures in
+    record {
+      room = omega (arith, put.ensures.within);
+      row = omega arith;
+      within = front.within;
+      onward = omega (arith, l.invariant.onward);
+      more = omega (arith, l.invariant.more);
+      in_order = λ from order.
+          let here = l.invariant.in_order from order in
+          (omega (arith, here.0), put.ensures.in_order from (l.at + found.size) (omega (arith, front.some)) here);
+      reached = λ profile cell lefts all swift are_kinds start.
+          reached-swift profile cell lefts (on_from of c.args.text.now) all c.args.steps.now c.args.kinds.now l.out put.new.out l.count put.result l.row l.at
+          found.scalar found.size front.piece step swift are_kinds c.front-piece.type_inv.1.1.0.1 front.begins front.reads front.sized front.some
+          c.step_at-step.ensures c.if-step-eq-HELD.false put.ensures.front (l.invariant.reached profile cell lefts all swift are_kinds start);
+    }

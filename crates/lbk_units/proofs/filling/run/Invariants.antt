@@ -1,0 +1,27 @@
+use Rattle.std.proofs.Common.{◌-◌, ◌<◌, ◌≤◌, ℕ, List, length}
+use Rattle.lbk_rules.specs.declared.breaks.Break.{Break}
+use Rattle.lbk_rules.specs.declared.cells.Cell.{Cell}
+use Rattle.lbk_rules.specs.declared.facts.Left.{Left}
+use Rattle.lbk_values.specs.declared.profile.Profile.{Profile}
+use Rattle.lbk_steps.specs.FlatTable.{AreFlatKinds}
+use Rattle.lbk_bytes.specs.Reached.{AreSwift, IsInOrder}
+use Rattle.lbk_bytes.specs.Shown.{given_in}
+use Rattle.lbk_units.specs.Reached.{UnitsReached, on_from}
+use Rattle.lbk_units.proofs.filling.run.Given as goal
+
+abbrev pub invariant-loop-count : goal.invariant-loop-count
+invariant-loop-count g l = record {
+  room : l.count ≤ length l.out;
+  row : l.row < 65536;
+  within : l.at ≤ length l.text;
+  onward : l.initial.at ≤ l.at;
+  more : l.initial.count ≤ l.count;
+  in_order : (from : ℕ) → IsInOrder l.initial.out l.initial.count from l.initial.at → IsInOrder l.out l.count from l.at;
+  reached : (profile : Profile) (cell : ℕ → Cell) (lefts : List Left) (all : List Break) → AreSwift profile lefts l.steps → AreFlatKinds l.kinds cell
+      → UnitsReached profile cell lefts (on_from g.U.Unit.pieces_of l.text) all
+      (record { count = l.initial.count; row = l.initial.row; at = l.initial.at }) (given_in l.initial.out l.initial.count)
+      → UnitsReached profile cell lefts (on_from g.U.Unit.pieces_of l.text) all (record { count = l.count; row = l.row; at = l.at }) (given_in l.out l.count);
+}
+
+abbrev pub decreases-loop-count : goal.decreases-loop-count
+decreases-loop-count g l = length l.text - l.at

@@ -1,0 +1,6 @@
+-- What a reader has to believe.
+pub mod Units
+pub mod Encodings
+-- What only carries proofs.
+pub mod Front
+pub mod Reached

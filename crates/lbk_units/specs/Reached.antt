@@ -1,0 +1,36 @@
+-- How far a call has come with a text of units.
+use Rattle.std.specs.Prelude.{◌≡◌, ℕ, ◌+◌, ◌<◌, List, [], ◌∷◌, ◌++◌, length, map, drop}
+use Rattle.bstr.specs.Utf8.{Decoded, or_replacement}
+use Rattle.lbk_rules.specs.declared.breaks.Break.{Break}
+use Rattle.lbk_rules.specs.declared.cells.Cell.{Cell}
+use Rattle.lbk_rules.specs.declared.facts.Left.{Left}
+use Rattle.lbk_values.specs.declared.profile.Profile.{Profile}
+use Rattle.lbk_rules.specs.Codes.{IsCode, verdict_coded}
+use Rattle.lbk_rules.specs.Verdict.{verdict_between_in}
+use Rattle.lbk_steps.specs.FlatTable.{KnowsTaken}
+use Rattle.lbk_bytes.specs.declared.deciding.Decided.{Decided}
+use Rattle.lbk_bytes.specs.declared.fill_state.FillState.{FillState}
+use Rattle.lbk_bytes.specs.Reached.{onward, scalars_of}
+
+-- the pieces of a text from each of its units on
+abbrev pub on_from : {A : Type 0} → (List A → List Decoded) → List A → ℕ → List Decoded
+on_from pieces_of text at = pieces_of (drop at text)
+
+-- after the scalars taken, the position at this unit is decided, and what begins there is taken
+pub record IsUnitDecided (profile : Profile) (cell : ℕ → Cell) (lefts : List Left) (on : ℕ → List Decoded) (at : ℕ) (taken : List ℕ) (found : Decided) : Type 0 where
+  pub piece : Decoded
+  pub begins : on at ≡ piece ∷ on found.at
+  pub moved : found.at ≡ at + piece.size
+  pub some : 0 < piece.size
+  pub knows : KnowsTaken cell lefts found.row (taken ++ or_replacement piece.char ∷ [])
+  pub coded : IsCode found.code
+  pub decides : verdict_coded found.code
+      ≡ verdict_between_in profile (map cell taken) (cell (or_replacement piece.char) ∷ map cell (scalars_of (on found.at)))
+
+-- of all these breaks some were given, and the others come from here on
+pub record UnitsReached (profile : Profile) (cell : ℕ → Cell) (lefts : List Left) (on : ℕ → List Decoded) (all : List Break) (here : FillState) (given : List Break) : Type 0 where
+  pub taken : List ℕ
+  pub knows : KnowsTaken cell lefts here.row taken
+  pub none : here.at ≡ 0 → taken ≡ []
+  pub some : 0 < here.at → 0 < length taken
+  pub joined : all ≡ given ++ onward profile cell taken here.at (on here.at)
