@@ -90,7 +90,7 @@ static bool fill(request *request, int64_t *places, uint8_t *kinds, uint8_t *rul
         if (room == 0)
             return false;
         const utf8_text *text = &request->texts[request->current];
-        size_t count = next_breaks(request->table, &request->from, text, request->block, room);
+        size_t count = next_breaks(lbk_breaks, request->table, &request->from, text, request->block, room);
         split(request->block, count, places + found->count, kinds + found->count, rules + found->count);
         found->count += count;
         if (count < room) {
