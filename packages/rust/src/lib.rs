@@ -24,6 +24,7 @@ extern crate std;
 mod breaks;
 mod calls;
 mod fault;
+mod found;
 #[cfg(feature = "std")]
 mod load;
 #[cfg(feature = "std")]
@@ -32,7 +33,7 @@ mod stream;
 mod table;
 mod words;
 
-pub use breaks::{Break, Breaks, Kind, Profile, Rule, Segment, Segments};
+pub use breaks::{Break, Breaks, Kind, Position, Positions, Profile, Rule, Segment, Segments};
 pub use fault::{Cause, Fault, File};
 #[cfg(feature = "std")]
 pub use load::LoadError;
