@@ -9,6 +9,7 @@ use core::slice;
 use crate::breaks::{Breaks, Positions, Profile, Segments};
 use crate::calls;
 use crate::fault::Fault;
+use crate::processor;
 
 /// The bytes of four files of the Unicode Character Database.
 #[derive(Clone, Copy, Debug)]
@@ -41,6 +42,7 @@ impl Table {
     }
 
     fn read_by(call: calls::Reading, files: Files<'_>) -> Result<Box<Table>, Fault> {
+        processor::require();
         let layout = Layout::new::<Table>();
         // SAFETY: the layout has a size, and zeros are a value of each field, which are numbers.
         let mut table = unsafe {
@@ -74,6 +76,7 @@ impl Table {
     /// ([`include_bytes_aligned!`](crate::include_bytes_aligned)). `None` where they are no whole table of this version, or do
     /// not begin at a multiple of 8 bytes.
     pub fn of_bytes(bytes: &[u8]) -> Option<&Table> {
+        processor::require();
         if bytes.len() != size_of::<Table>() || bytes.as_ptr() as usize % align_of::<Table>() != 0 {
             return None;
         }
