@@ -223,7 +223,7 @@ CPP
 }
 
 try_cpp() {
-    local version without checks
+    local version without name checks
     find_checks "$1"
     for version in c++17 c++20; do
         for without in '' '-fno-exceptions -fno-rtti'; do
@@ -234,9 +234,11 @@ try_cpp() {
                 "$top/examples/edges.cpp" "${links[@]}" -o "$here/built/edges-cpp-$1" \
                 && count "$1: edges.cpp in $version $without, run" "$here/built/edges-cpp-$1" "$here/edges" ${LBK_DATABASE:+"$LBK_DATABASE"}
         done
-        tried "$1: breaks.cpp in $version" "$1" -std=$version "${warnings[@]}" "${flags[@]}" "$top/examples/breaks.cpp" "${links[@]}" \
-            -o "$here/built/breaks-cpp-$1"
-        compare "$1: breaks.cpp in $version" "$here/built/breaks-cpp-$1"
+        for name in breaks parts; do
+            tried "$1: $name.cpp in $version" "$1" -std=$version "${warnings[@]}" "${flags[@]}" "$top/examples/$name.cpp" "${links[@]}" \
+                -o "$here/built/$name-cpp-$1"
+            compare "$1: $name.cpp in $version" "$here/built/$name-cpp-$1"
+        done
     done
     for temporary in 'lbk::breaks(lbk::table::load("/"), "a b")' 'lbk::breaks(std::move(table), "a b")' \
         'lbk::breaks(lbk_table(), "a b")' 'lbk::breaks(table, std::string("a b"))'; do
@@ -302,15 +304,17 @@ fi
 
 # try_cargo CARGO: the tests and examples of the crate, linked statically, as it does by itself, and to liblbk.so.
 try_cargo() {
-    local way linked skipped=() crate=(env -C "$top/packages/rust")
+    local way linked name skipped=() crate=(env -C "$top/packages/rust")
     [ -n "${LBK_DATABASE:-}" ] || skipped=(--skip the_published_files_have_a_table)
     export CARGO_TARGET_DIR=$here/cargo$1
     for way in static shared; do
         linked=(env -u LD_LIBRARY_PATH)
         [ $way = static ] || linked=(env LBK_SHARED=1)
         tried "$1: test, $way" "${crate[@]}" "${linked[@]}" "$1" test --offline --locked -- --include-ignored "${skipped[@]}"
-        tried "$1: breaks.rs, $way" "${crate[@]}" "${linked[@]}" "$1" build --offline --locked --release --lib --example breaks
-        compare "$1: breaks.rs, $way" "${linked[@]}" "$CARGO_TARGET_DIR/release/examples/breaks"
+        tried "$1: the examples, $way" "${crate[@]}" "${linked[@]}" "$1" build --offline --locked --release --lib --examples
+        for name in breaks parts; do
+            compare "$1: $name.rs, $way" "${linked[@]}" "$CARGO_TARGET_DIR/release/examples/$name"
+        done
     done
     tried "$1: build without std" "${crate[@]}" "$1" build --offline --locked --no-default-features
     if [ -n "${LBK_DATABASE:-}" ]; then

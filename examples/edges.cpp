@@ -41,10 +41,12 @@ static_assert(!std::is_constructible_v<lbk::breaks_utf16, lbk::table &, std::u16
 static_assert(!std::is_constructible_v<lbk::breaks_utf32, lbk::table &, std::u32string>);
 static_assert(!std::is_convertible_v<lbk::table, const lbk_table &>);
 
+static_assert(!std::is_constructible_v<lbk::positions, lbk::table, std::string_view>);
 static_assert(std::is_constructible_v<lbk::words, std::string &> && !std::is_constructible_v<lbk::words, std::string>);
 static_assert(std::is_constructible_v<lbk::stream, lbk::table &> && !std::is_constructible_v<lbk::stream, lbk::table>);
 
 #if defined(__cpp_lib_ranges)
+static_assert(std::ranges::view<lbk::positions> && std::ranges::borrowed_range<lbk::positions>);
 static_assert(std::ranges::view<lbk::words> && std::ranges::borrowed_range<lbk::words>);
 static_assert(std::forward_iterator<iterator>);
 static_assert(std::ranges::forward_range<lbk::breaks> && std::ranges::common_range<lbk::breaks>);
@@ -134,6 +136,46 @@ static void try_iterators(const lbk_table &table)
     told("two ways to one place", place == before && place->at == before->at);
     before = range.begin();
     told("an iterator is assigned", before->at == 2);
+}
+
+static void try_positions(const lbk_table &table)
+{
+    std::string shown, text = "ab \xC2\xAB";
+    for (lbk_break one : lbk::positions(table, text))
+        shown += std::to_string(one.at) + (one.kind == LBK_NO ? '-' : '+') + lbk::label(one.rule) + ' ';
+    told("the positions of a text", shown == "0-2 1-28 2-7 3+18 5+3 ");
+    for (int k = 0; k < 200; k++)
+        text += "a b\n \xE4\xB8\x80";
+    for (lbk::profile rules : {lbk::profile::first, lbk::profile::second}) {
+        these ends;
+        std::size_t scalars = 0;
+        for (lbk_break one : lbk::positions(table, text, rules)) {
+            scalars++;
+            if (one.kind != LBK_NO)
+                ends.push_back(one.at);
+        }
+        told("positions where a line ends are the breaks", ends == places(table, text, rules) && scalars == 5 + 200 * 6);
+    }
+}
+
+static void try_cuts(const lbk_table &table)
+{
+    std::string text = "ab\ncd\n\nef";
+    these after, before;
+    for (std::size_t at = 0; at <= text.size() + 1; at++) {
+        after.push_back(lbk::cut(table, text, at));
+        before.push_back(lbk::cut_before(table, text, at));
+    }
+    told("cuts at or after a byte", after == these{0, 3, 3, 3, 6, 6, 6, 7, 9, 9, 9});
+    told("cuts at or before a byte", before == these{0, 0, 0, 3, 3, 3, 6, 7, 7, 9, 9});
+    these joined;
+    for (std::size_t from = 0, to; from < text.size(); from = to) {
+        to = lbk::cut(table, text, from + 1);
+        for (std::size_t at : places(table, std::string_view(text).substr(from, to - from)))
+            joined.push_back(from + at);
+    }
+    told("the breaks of the parts are those of the text", joined == places(table, text));
+    told("no cut of no text", lbk::cut(table, "", 0) == 0 && lbk::cut_before(table, {}, 3) == 0);
 }
 
 static void try_words()
@@ -276,6 +318,8 @@ int main(int words, char **word)
     if (table) {
         try_ranges(*table);
         try_iterators(*table);
+        try_positions(*table);
+        try_cuts(*table);
         try_words();
         try_streams(*table);
         try_bytes(*table);

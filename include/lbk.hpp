@@ -306,7 +306,7 @@ private:
 namespace detail {
 
 /// A place among what a call of the library gives, a block at a time. Copies go on by themselves. It holds what was asked for at
-/// once, and gives it by value.
+/// once, packed as the call says, and gives it by value. Where `Call::fits` says that a block is too wide for that, it holds one.
 template <typename Call>
 class iterator {
 public:
@@ -336,7 +336,7 @@ public:
 
     explicit iterator(Call call) noexcept : call_(call) { fill(); }
 
-    value_type operator*() const noexcept { return block_[next_]; }
+    value_type operator*() const noexcept { return Call::unpacked(block_[next_], base_); }
     arrow operator->() const noexcept { return arrow(**this); }
 
     iterator &operator++() noexcept
@@ -358,43 +358,67 @@ public:
     {
         if (a.count_ == 0 || b.count_ == 0)
             return a.count_ == b.count_;
-        return Call::is_same(a.block_[a.next_], b.block_[b.next_]);
+        return Call::place(*a) == Call::place(*b);
     }
 
     friend bool operator!=(const iterator &a, const iterator &b) noexcept { return !(a == b); }
 
 private:
-    static constexpr std::size_t room = 12;
+    static constexpr std::size_t room = Call::most;
 
     Call call_;
+    std::size_t base_ = 0;
     std::uint32_t next_ = 0, count_ = 0;
-    value_type block_[room];
+    typename Call::packed block_[room];
 
     void fill() noexcept
     {
+        value_type found[room];
+        Call before = call_;
+        std::size_t count = call_(found, room);
+        if (count > 1 && !Call::fits(found[0], found[count - 1])) {
+            call_ = before;
+            count = call_(found, 1);
+        }
         next_ = 0;
-        count_ = static_cast<std::uint32_t>(call_(block_, room));
+        count_ = static_cast<std::uint32_t>(count);
+        base_ = count == 0 ? 0 : Call::place(found[0]);
+        for (std::size_t k = 0; k < count; k++)
+            block_[k] = Call::pack(found[k], base_);
     }
 };
 
-} // namespace detail
+/// What lbk_breaks and lbk_positions have.
+using break_call = decltype(&lbk_breaks);
 
-/// The breaks of a text in their order: a view that can be gone through any number of times.
-class breaks {
+/// What one of these gives of a text, in the order of the text: a view that can be gone through any number of times.
+template <break_call Next>
+class break_view {
     struct call {
         using value_type = lbk_break;
+
+        /// `after` counts from the first break of the block.
+        struct packed {
+            std::uint32_t after;
+            std::uint8_t kind, rule;
+        };
+
+        static constexpr std::size_t most = 24;
 
         const lbk_table *table = nullptr;
         const char *text = nullptr;
         std::size_t size = 0;
         lbk_state state = {0, 0, LBK_FIRST, 0};
 
-        std::size_t operator()(lbk_break *block, std::size_t room) noexcept
-        {
-            return lbk_breaks(table, &state, text, size, block, room);
-        }
+        std::size_t operator()(lbk_break *block, std::size_t room) noexcept { return Next(table, &state, text, size, block, room); }
 
-        static bool is_same(lbk_break a, lbk_break b) noexcept { return a.at == b.at; }
+        static std::size_t place(lbk_break one) noexcept { return one.at; }
+        static bool fits(lbk_break first, lbk_break last) noexcept { return last.at - first.at <= UINT32_MAX; }
+        static packed pack(lbk_break one, std::size_t base) noexcept
+        {
+            return {static_cast<std::uint32_t>(one.at - base), one.kind, one.rule};
+        }
+        static lbk_break unpacked(packed one, std::size_t base) noexcept { return {base + one.after, one.kind, one.rule}; }
     };
 
 public:
@@ -402,16 +426,16 @@ public:
     using const_iterator = iterator;
     using value_type = lbk_break;
 
-    breaks(const lbk_table &by, std::string_view text, profile rules = profile::first) noexcept
+    break_view(const lbk_table &by, std::string_view text, profile rules = profile::first) noexcept
         : start_{&by, text.data(), text.size(), {0, 0, static_cast<std::uint8_t>(rules), 0}}
     {
     }
 
     /// A temporary would be gone before the range is gone through.
-    breaks(const lbk_table &&, std::string_view, profile = profile::first) = delete;
-    breaks(const table &&, std::string_view, profile = profile::first) = delete;
+    break_view(const lbk_table &&, std::string_view, profile = profile::first) = delete;
+    break_view(const table &&, std::string_view, profile = profile::first) = delete;
     template <typename Text, typename = std::enable_if_t<std::is_same_v<Text, std::string>>>
-    breaks(const lbk_table &, Text &&, profile = profile::first) = delete;
+    break_view(const lbk_table &, Text &&, profile = profile::first) = delete;
 
     iterator begin() const noexcept { return iterator(start_); }
     iterator end() const noexcept { return iterator(); }
@@ -419,6 +443,28 @@ public:
 private:
     call start_;
 };
+
+} // namespace detail
+
+/// The breaks of a text in their order: a view that can be gone through any number of times.
+using breaks = detail::break_view<&lbk_breaks>;
+
+/// All positions of a text in their order, each with what decides there: one before each scalar, and one at the end. The kind of those
+/// that are no break is LBK_NO.
+using positions = detail::break_view<&lbk_positions>;
+
+/// The first byte at or after `at` where a part of the text may begin: one before which a line must end, or the text's size where
+/// there is none. The breaks of the parts are those of the text, as lbk.h says of lbk_cut.
+inline std::size_t cut(const lbk_table &by, std::string_view text, std::size_t at) noexcept
+{
+    return lbk_cut(&by, text.data(), text.size(), at);
+}
+
+/// The last such byte at or before `at`: no break after it depends on the bytes before it.
+inline std::size_t cut_before(const lbk_table &by, std::string_view text, std::size_t at) noexcept
+{
+    return lbk_cut_before(&by, text.data(), text.size(), at);
+}
 
 namespace detail {
 
@@ -492,13 +538,20 @@ class words {
     struct call {
         using value_type = lbk_word;
 
+        using packed = lbk_word;
+
+        static constexpr std::size_t most = 12;
+
         const char *text = nullptr;
         std::size_t size = 0;
         lbk_word_state state = {0};
 
         std::size_t operator()(lbk_word *block, std::size_t room) noexcept { return lbk_words(&state, text, size, block, room); }
 
-        static bool is_same(lbk_word a, lbk_word b) noexcept { return a.start == b.start; }
+        static std::size_t place(lbk_word one) noexcept { return one.start; }
+        static bool fits(lbk_word, lbk_word) noexcept { return true; }
+        static lbk_word pack(lbk_word one, std::size_t) noexcept { return one; }
+        static lbk_word unpacked(lbk_word one, std::size_t) noexcept { return one; }
     };
 
 public:
@@ -569,10 +622,10 @@ inline std::string label(std::uint8_t rule) { return lbk_label(rule).text; }
 } // namespace lbk
 
 #if defined(__cpp_lib_ranges)
-template <>
-inline constexpr bool std::ranges::enable_view<lbk::breaks> = true;
-template <>
-inline constexpr bool std::ranges::enable_borrowed_range<lbk::breaks> = true;
+template <lbk::detail::break_call Next>
+inline constexpr bool std::ranges::enable_view<lbk::detail::break_view<Next>> = true;
+template <lbk::detail::break_call Next>
+inline constexpr bool std::ranges::enable_borrowed_range<lbk::detail::break_view<Next>> = true;
 template <typename Unit>
 inline constexpr bool std::ranges::enable_view<lbk::detail::unit_breaks<Unit>> = true;
 template <typename Unit>

@@ -2,10 +2,10 @@
 
 use core::fmt;
 use core::iter::FusedIterator;
-use core::mem::MaybeUninit;
 use core::str;
 
 use crate::calls;
+use crate::found::{Call, Found};
 use crate::table::Table;
 
 /// Which rules stand for quotation marks.
@@ -80,57 +80,22 @@ impl From<calls::Break> for Break {
     }
 }
 
-/// How many breaks are asked for at once.
-const ROOM: usize = 64;
+/// lbk_breaks
+#[derive(Clone)]
+struct ByBreaks;
+
+impl Call for ByBreaks {
+    const CALL: calls::Finding = calls::lbk_breaks;
+}
 
 /// The breaks of a text in their order. A copy goes on by itself.
 #[derive(Clone)]
-pub struct Breaks<'a> {
-    table: &'a Table,
-    text: &'a [u8],
-    state: calls::State,
-    /// The next break is that of the block.
-    next: usize,
-    /// So many breaks the block has. They are the last ones where it has room for more.
-    count: usize,
-    block: MaybeUninit<[calls::Break; ROOM]>,
-}
+pub struct Breaks<'a>(Found<'a, ByBreaks>);
 
 impl<'a> Breaks<'a> {
     #[inline]
     pub(crate) fn new(table: &'a Table, profile: Profile, text: &'a [u8]) -> Breaks<'a> {
-        let state = calls::State {
-            at: 0,
-            row: 0,
-            profile: profile as u8,
-            ended: 0,
-        };
-        Breaks {
-            table,
-            text,
-            state,
-            // As if a full block had been used up.
-            next: ROOM,
-            count: ROOM,
-            block: MaybeUninit::uninit(),
-        }
-    }
-
-    #[inline]
-    fn fill(&mut self) {
-        // SAFETY: the text and the block are as long as is said, and the state and the block are borrowed by nobody else.
-        let count = unsafe {
-            calls::lbk_breaks(
-                &self.table.0,
-                &mut self.state,
-                self.text.as_ptr(),
-                self.text.len(),
-                self.block.as_mut_ptr().cast(),
-                ROOM,
-            )
-        };
-        self.next = 0;
-        self.count = count.min(ROOM);
+        Breaks(Found::new(table, profile, text))
     }
 }
 
@@ -139,25 +104,14 @@ impl Iterator for Breaks<'_> {
 
     #[inline]
     fn next(&mut self) -> Option<Break> {
-        if self.next == self.count {
-            if self.count == ROOM {
-                self.fill();
-            }
-            if self.next == self.count {
-                return None;
-            }
-        }
-        // SAFETY: the call wrote the first `count` breaks of the block, and `next` is below that.
-        let found = unsafe { *self.block.as_ptr().cast::<calls::Break>().add(self.next) };
-        self.next += 1;
-        Some(found.into())
+        self.0.next().map(Break::from)
     }
 
     #[inline]
     fn size_hint(&self) -> (usize, Option<usize>) {
-        let held = self.count - self.next;
+        let (held, at) = self.0.held();
         // Before each of the bytes that are left, and at the end.
-        let most = held + self.text.len().saturating_sub(self.state.at) + 1;
+        let most = held + self.0.text().len().saturating_sub(at) + 1;
         (held, Some(most))
     }
 }
@@ -167,7 +121,61 @@ impl FusedIterator for Breaks<'_> {}
 impl fmt::Debug for Breaks<'_> {
     fn fmt(&self, f: &mut fmt::Formatter<'_>) -> fmt::Result {
         f.debug_struct("Breaks")
-            .field("text", &self.text)
+            .field("text", &self.0.text())
+            .finish_non_exhaustive()
+    }
+}
+
+/// A place of a text before one of its scalars, or at its end.
+#[derive(Clone, Copy, PartialEq, Eq, Debug)]
+pub struct Position {
+    /// The byte of the text that it stands before, or the text's length.
+    pub at: usize,
+    /// `None` where a line does not break.
+    pub kind: Option<Kind>,
+    /// The rule that decided it.
+    pub rule: Rule,
+}
+
+/// lbk_positions
+#[derive(Clone)]
+struct ByPositions;
+
+impl Call for ByPositions {
+    const CALL: calls::Finding = calls::lbk_positions;
+}
+
+/// All positions of a text in their order. A copy goes on by itself.
+#[derive(Clone)]
+pub struct Positions<'a>(Found<'a, ByPositions>);
+
+impl<'a> Positions<'a> {
+    #[inline]
+    pub(crate) fn new(table: &'a Table, profile: Profile, text: &'a [u8]) -> Positions<'a> {
+        Positions(Found::new(table, profile, text))
+    }
+}
+
+impl Iterator for Positions<'_> {
+    type Item = Position;
+
+    #[inline]
+    fn next(&mut self) -> Option<Position> {
+        let found = self.0.next()?;
+        Some(Position {
+            at: found.at,
+            kind: (found.kind != calls::NO).then(|| Break::from(found).kind),
+            rule: Rule(found.rule),
+        })
+    }
+}
+
+impl FusedIterator for Positions<'_> {}
+
+impl fmt::Debug for Positions<'_> {
+    fn fmt(&self, f: &mut fmt::Formatter<'_>) -> fmt::Result {
+        f.debug_struct("Positions")
+            .field("text", &self.0.text())
             .finish_non_exhaustive()
     }
 }

@@ -5,6 +5,9 @@ use core::mem::size_of;
 /// `sizeof(lbk_table)`, in numbers of 8 bytes.
 const TABLE_WORDS: usize = 205_226;
 
+/// `LBK_NO`
+pub const NO: u8 = 0;
+
 /// `LBK_MUST`
 pub const MUST: u8 = 2;
 
@@ -117,6 +120,10 @@ pub type Reading = unsafe extern "C" fn(
     usize,
 ) -> Fault;
 
+/// A call that finds breaks or positions.
+pub type Finding =
+    unsafe extern "C" fn(*const Table, *mut State, *const u8, usize, *mut Break, usize) -> usize;
+
 extern "C" {
     pub fn lbk_read(
         table: *mut Table,
@@ -166,6 +173,16 @@ extern "C" {
         block: *mut Break,
         room: usize,
     ) -> usize;
+    pub fn lbk_positions(
+        table: *const Table,
+        state: *mut State,
+        text: *const u8,
+        size: usize,
+        block: *mut Break,
+        room: usize,
+    ) -> usize;
+    pub fn lbk_cut(table: *const Table, text: *const u8, size: usize, at: usize) -> usize;
+    pub fn lbk_cut_before(table: *const Table, text: *const u8, size: usize, at: usize) -> usize;
     pub fn lbk_feed(
         table: *const Table,
         stream: *mut Stream,

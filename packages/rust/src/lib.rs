@@ -15,6 +15,8 @@
 //!
 //! The work is done by liblbk, whose header `lbk.h` says what is promised. A [`Table`] is made once, and can then be used by
 //! any number of threads at the same time. Finding breaks takes no memory from the heap.
+//!
+//! On x86-64 the library's code is for x86-64-v2, so for processors with SSE4.2. On others of that family the first call panics.
 #![no_std]
 
 extern crate alloc;
@@ -24,8 +26,10 @@ extern crate std;
 mod breaks;
 mod calls;
 mod fault;
+mod found;
 #[cfg(feature = "std")]
 mod load;
+mod processor;
 #[cfg(feature = "std")]
 mod reader;
 mod stream;
@@ -33,7 +37,7 @@ mod table;
 mod units;
 mod words;
 
-pub use breaks::{Break, Breaks, Kind, Profile, Rule, Segment, Segments};
+pub use breaks::{Break, Breaks, Kind, Position, Positions, Profile, Rule, Segment, Segments};
 pub use fault::{Cause, Fault, File};
 #[cfg(feature = "std")]
 pub use load::LoadError;

@@ -6,9 +6,10 @@ use core::fmt;
 use core::mem::{align_of, size_of};
 use core::slice;
 
-use crate::breaks::{Breaks, Profile, Segments};
+use crate::breaks::{Breaks, Positions, Profile, Segments};
 use crate::calls;
 use crate::fault::Fault;
+use crate::processor;
 
 /// The bytes of four files of the Unicode Character Database.
 #[derive(Clone, Copy, Debug)]
@@ -41,6 +42,7 @@ impl Table {
     }
 
     fn read_by(call: calls::Reading, files: Files<'_>) -> Result<Box<Table>, Fault> {
+        processor::require();
         let layout = Layout::new::<Table>();
         // SAFETY: the layout has a size, and zeros are a value of each field, which are numbers.
         let mut table = unsafe {
@@ -74,6 +76,7 @@ impl Table {
     /// ([`include_bytes_aligned!`](crate::include_bytes_aligned)). `None` where they are no whole table of this version, or do
     /// not begin at a multiple of 8 bytes.
     pub fn of_bytes(bytes: &[u8]) -> Option<&Table> {
+        processor::require();
         if bytes.len() != size_of::<Table>() || bytes.as_ptr() as usize % align_of::<Table>() != 0 {
             return None;
         }
@@ -112,6 +115,33 @@ impl Table {
     /// The segments of a text between its breaks, in a profile and in their order. Joined they are the text.
     pub fn segments_in<'a>(&'a self, profile: Profile, text: &'a str) -> Segments<'a> {
         Segments::new(self, profile, text)
+    }
+
+    /// All positions of a text in the first profile, in their order: one before each scalar and one at the end, each with the rule that
+    /// decided.
+    pub fn positions<'a>(&'a self, text: &'a str) -> Positions<'a> {
+        self.positions_in(Profile::First, text.as_bytes())
+    }
+
+    /// All positions of a text of bytes in a profile, in their order. Ill-formed bytes are as [`Table::breaks_in`] has them.
+    pub fn positions_in<'a>(&'a self, profile: Profile, text: &'a [u8]) -> Positions<'a> {
+        Positions::new(self, profile, text)
+    }
+
+    /// The first byte at or after `at` where a part of the text may begin: one before which a line must end, or the text's length
+    /// where there is none. In a `str` it is a boundary of characters.
+    ///
+    /// The breaks of the parts of a text are those of the text, if the places of each part are moved by the bytes before it. Only the
+    /// rule of a part's last break differs: where another part follows it is 4 or 5 in the text, and 3 in the part.
+    pub fn cut(&self, text: &[u8], at: usize) -> usize {
+        // SAFETY: the text is as long as is said.
+        unsafe { calls::lbk_cut(&self.0, text.as_ptr(), text.len(), at) }
+    }
+
+    /// The last such byte at or before `at`: no break after it depends on the bytes before it.
+    pub fn cut_before(&self, text: &[u8], at: usize) -> usize {
+        // SAFETY: the text is as long as is said.
+        unsafe { calls::lbk_cut_before(&self.0, text.as_ptr(), text.len(), at) }
     }
 }
 

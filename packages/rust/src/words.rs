@@ -6,6 +6,7 @@ use core::mem::MaybeUninit;
 use core::ops::Range;
 
 use crate::calls;
+use crate::processor;
 
 /// How many words are asked for at once.
 const ROOM: usize = 32;
@@ -27,6 +28,7 @@ pub fn words(text: &str) -> Words<'_> {
 /// The bytes of each word of a text of bytes, in their order. Ill-formed bytes are read as `String::from_utf8_lossy` does.
 #[inline]
 pub fn word_ranges(text: &[u8]) -> WordRanges<'_> {
+    processor::require();
     WordRanges {
         text,
         state: calls::WordState { at: 0 },

@@ -97,6 +97,12 @@ bool hold_bytes(PyObject *owner, utf8_text *text, Py_buffer *view)
         text->size = (size_t)size;
         return text->bytes != NULL;
     }
+    if (PyBytes_Check(owner)) {
+        /* The caller has a reference, and bytes stay where they are. */
+        text->bytes = PyBytes_AsString(owner);
+        text->size = (size_t)PyBytes_Size(owner);
+        return true;
+    }
     if (PyObject_GetBuffer(owner, view, PyBUF_SIMPLE) != 0)
         return false;
     text->bytes = view->buf;

@@ -3,6 +3,7 @@
 #include "break.h"
 #include "columns.h"
 #include "found.h"
+#include "places.h"
 #include "state.h"
 #include "stream.h"
 
@@ -76,6 +77,48 @@ static PyObject *file_name(PyObject *Py_UNUSED(module), PyObject *file)
     return PyUnicode_FromString(number > UINT32_MAX ? "" : lbk_file_name((uint32_t)number).text);
 }
 
+/* Where a text may be cut, by one of the calls that say so: (table, text, at). */
+static PyObject *cut_by(cut_call *call, PyObject *const *given, Py_ssize_t count)
+{
+    Py_buffer table_view, text_view;
+    utf8_text text;
+    size_t cut = 0;
+    bool is_found = false;
+    if (!has_arguments(count, 3))
+        return NULL;
+    Py_ssize_t at = PyNumber_AsSsize_t(given[2], PyExc_OverflowError);
+    if (at < 0)
+        return PyErr_Occurred() ? NULL : PyErr_Format(PyExc_ValueError, "a place is not negative");
+    PyObject *owner = text_owner(given[1], &text.in_code_points);
+    if (owner == NULL)
+        return NULL;
+    const lbk_table *table = hold_table(given[0], false, &table_view);
+    if (table != NULL) {
+        if (hold_bytes(owner, &text, &text_view)) {
+            PyThreadState *unlocked = unlock(text.size);
+            cut = find_cut(call, table, &text, (size_t)at);
+            lock_again(unlocked);
+            PyBuffer_Release(&text_view);
+            is_found = true;
+        }
+        PyBuffer_Release(&table_view);
+    }
+    Py_DECREF(owner);
+    return is_found ? PyLong_FromSize_t(cut) : NULL;
+}
+
+/* cut(table, text, at): the first place at or after it where a part may begin. */
+static PyObject *cut(PyObject *Py_UNUSED(module), PyObject *const *given, Py_ssize_t count)
+{
+    return cut_by(lbk_cut, given, count);
+}
+
+/* cut_before(table, text, at): the last such place at or before it. */
+static PyObject *cut_before(PyObject *Py_UNUSED(module), PyObject *const *given, Py_ssize_t count)
+{
+    return cut_by(lbk_cut_before, given, count);
+}
+
 /* name_numbers(kinds, rules): for each number of a byte what stands for it in a Break. */
 static PyObject *name_numbers(PyObject *module, PyObject *const *given, Py_ssize_t count)
 {
@@ -98,6 +141,8 @@ static PyMethodDef methods[] = {
     {"cause_text", cause_text, METH_O, NULL},
     {"file_name", file_name, METH_O, NULL},
     {"name_numbers", (PyCFunction)(void (*)(void))name_numbers, METH_FASTCALL, NULL},
+    {"cut", (PyCFunction)(void (*)(void))cut, METH_FASTCALL, NULL},
+    {"cut_before", (PyCFunction)(void (*)(void))cut_before, METH_FASTCALL, NULL},
     {"columns", (PyCFunction)(void (*)(void))text_columns, METH_FASTCALL, NULL},
     {"list_columns", (PyCFunction)(void (*)(void))list_columns, METH_FASTCALL, NULL},
     {"new_stream", new_stream, METH_O, NULL},

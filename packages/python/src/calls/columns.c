@@ -2,7 +2,11 @@
 
 #include "places.h"
 
+#include <stddef.h>
 #include <sys/mman.h>
+#if defined(__SSE2__)
+#include <emmintrin.h>
+#endif
 
 /* How many breaks are asked for at once: FEW on the stack, or else MANY. From LARGE bytes on a
  * column is worth large pages. */
@@ -68,15 +72,44 @@ static void release(columns *found)
     Py_XDECREF(found->rules);
 }
 
+enum { TOGETHER = 8 };
+
+/* Splits so many breaks. */
+static void split_some(const lbk_break *block, int64_t *places, uint8_t *kinds, uint8_t *rules)
+{
+#if defined(__SSE2__)
+    _Static_assert(offsetof(lbk_break, kind) == 8 && offsetof(lbk_break, rule) == 9, "kind and rule stand after the place");
+    __m128i codes[TOGETHER / 2];
+    for (size_t k = 0; k < TOGETHER / 2; k++) {
+        __m128i one = _mm_loadu_si128((const __m128i *)&block[2 * k]), two = _mm_loadu_si128((const __m128i *)&block[2 * k + 1]);
+        _mm_storeu_si128((__m128i *)&places[2 * k], _mm_unpacklo_epi64(one, two));
+        codes[k] = _mm_unpackhi_epi16(one, two);
+    }
+    /* A number of 16 bits for each: its kind and its rule. */
+    __m128i front = _mm_unpacklo_epi32(codes[0], codes[1]), back = _mm_unpacklo_epi32(codes[2], codes[3]);
+    __m128i all = _mm_unpacklo_epi64(front, back), none = _mm_setzero_si128();
+    _mm_storel_epi64((__m128i *)kinds, _mm_packus_epi16(_mm_and_si128(all, _mm_set1_epi16(0xff)), none));
+    _mm_storel_epi64((__m128i *)rules, _mm_packus_epi16(_mm_srli_epi16(all, 8), none));
+#else
+    for (size_t k = 0; k < TOGETHER; k++) {
+        places[k] = (int64_t)block[k].at;
+        kinds[k] = block[k].kind;
+        rules[k] = block[k].rule;
+    }
+#endif
+}
+
 static void split(const lbk_break *restrict block, size_t count, int64_t *restrict places, uint8_t *restrict kinds,
                   uint8_t *restrict rules)
 {
-    for (size_t k = 0; k < count; k++)
+    size_t k = 0;
+    for (; k + TOGETHER <= count; k += TOGETHER)
+        split_some(block + k, places + k, kinds + k, rules + k);
+    for (; k < count; k++) {
         places[k] = (int64_t)block[k].at;
-    for (size_t k = 0; k < count; k++)
         kinds[k] = block[k].kind;
-    for (size_t k = 0; k < count; k++)
         rules[k] = block[k].rule;
+    }
 }
 
 /* Puts breaks into the columns until these are full or no text is left. Returns whether no text
@@ -90,7 +123,7 @@ static bool fill(request *request, int64_t *places, uint8_t *kinds, uint8_t *rul
         if (room == 0)
             return false;
         const utf8_text *text = &request->texts[request->current];
-        size_t count = next_breaks(request->table, &request->from, text, request->block, room);
+        size_t count = next_breaks(lbk_breaks, request->table, &request->from, text, request->block, room);
         split(request->block, count, places + found->count, kinds + found->count, rules + found->count);
         found->count += count;
         if (count < room) {

@@ -5,7 +5,7 @@
 #include "state.h"
 
 /* What comes, one at a time. The Python modules know these numbers by their names. */
-enum { BREAKS, SEGMENTS, WORDS, WORD_RANGES };
+enum { BREAKS, SEGMENTS, POSITIONS, WORDS, WORD_RANGES };
 
 /* So many are asked for at first, and each time so many times more, up to the most. So a short
  * text costs little, the first of a long one comes soon, and the interpreter's lock is seldom
@@ -96,7 +96,7 @@ static bool ask(found *at, const utf8_text *text)
     at->is_busy = true;
     PyThreadState *unlocked = unlock(left);
     if (table != NULL)
-        at->count = next_breaks(table, &at->from, text, &at->block->a_break, at->room);
+        at->count = next_breaks(at->what == POSITIONS ? lbk_positions : lbk_breaks, table, &at->from, text, &at->block->a_break, at->room);
     else
         at->count = next_words(&at->from, text, &at->block->word, at->room);
     lock_again(unlocked);
@@ -146,6 +146,7 @@ static PyObject *next(PyObject *self)
     size_t start = at->start;
     switch (at->what) {
     case BREAKS:
+    case POSITIONS:
         return new_break((PyTypeObject *)at->break_type, &one->a_break);
     case SEGMENTS:
         at->start = one->a_break.at;
@@ -205,6 +206,7 @@ PyObject *new_found_type(PyObject *module)
 {
     bool added = PyModule_AddIntConstant(module, "BREAKS", BREAKS) == 0
         && PyModule_AddIntConstant(module, "SEGMENTS", SEGMENTS) == 0
+        && PyModule_AddIntConstant(module, "POSITIONS", POSITIONS) == 0
         && PyModule_AddIntConstant(module, "WORDS", WORDS) == 0
         && PyModule_AddIntConstant(module, "WORD_RANGES", WORD_RANGES) == 0;
     return added ? PyType_FromModuleAndSpec(module, &spec, NULL) : NULL;

@@ -44,9 +44,9 @@ static size_t to_unit(cursor *from, const utf8_text *text, size_t at)
     return from->given;
 }
 
-size_t next_breaks(const lbk_table *table, cursor *from, const utf8_text *text, lbk_break *block, size_t room)
+size_t next_breaks(break_call *call, const lbk_table *table, cursor *from, const utf8_text *text, lbk_break *block, size_t room)
 {
-    size_t count = lbk_breaks(table, &from->state, text->bytes, text->size, block, room);
+    size_t count = call(table, &from->state, text->bytes, text->size, block, room);
     for (size_t k = 0; text->in_code_points && k < count; k++)
         block[k].at = to_unit(from, text, block[k].at);
     return count;
@@ -60,4 +60,22 @@ size_t next_words(cursor *from, const utf8_text *text, lbk_word *block, size_t r
         block[k].end = to_unit(from, text, block[k].end);
     }
     return count;
+}
+
+/* The byte before which so many code points stand, or the size of the text where it has fewer. */
+static size_t byte_of(const utf8_text *text, size_t points)
+{
+    size_t at = 0;
+    for (; at < text->size; at++)
+        if (((unsigned char)text->bytes[at] & 0xc0) != 0x80 && points-- == 0)
+            break;
+    return at;
+}
+
+size_t find_cut(cut_call *call, const lbk_table *table, const utf8_text *text, size_t at)
+{
+    if (!text->in_code_points)
+        return call(table, text->bytes, text->size, at);
+    size_t cut = call(table, text->bytes, text->size, byte_of(text, at));
+    return code_points(text->bytes, cut, text->size);
 }

@@ -21,10 +21,19 @@ bool start_of_text(PyObject *profile, cursor *start);
  * 10xxxxxx in binary. So many bytes may be read as are `readable`, of which `size` are counted. */
 size_t code_points(const char *bytes, size_t size, size_t readable);
 
-/* As lbk_breaks, with each `at` in the unit of the text. */
-size_t next_breaks(const lbk_table *table, cursor *from, const utf8_text *text, lbk_break *block, size_t room);
+/* lbk_breaks or lbk_positions */
+typedef size_t break_call(const lbk_table *table, lbk_state *state, const char *text, size_t size, lbk_break *block, size_t room);
+
+/* As the call, with each `at` in the unit of the text. */
+size_t next_breaks(break_call *call, const lbk_table *table, cursor *from, const utf8_text *text, lbk_break *block, size_t room);
 
 /* As lbk_words, with each place in the unit of the text. */
 size_t next_words(cursor *from, const utf8_text *text, lbk_word *block, size_t room);
+
+/* lbk_cut or lbk_cut_before */
+typedef size_t cut_call(const lbk_table *table, const char *text, size_t size, size_t at);
+
+/* As the call, with both places in the unit of the text. */
+size_t find_cut(cut_call *call, const lbk_table *table, const utf8_text *text, size_t at);
 
 #endif

@@ -9,8 +9,9 @@ from ._numbers import Rule
 
 
 class Kind(enum.IntEnum):
-    """Whether a line may or must end at a break."""
+    """Whether a line may or must end at a place. That of a break is MAY or MUST."""
 
+    NO = _calls.LBK_NO
     MAY = _calls.LBK_MAY
     MUST = _calls.LBK_MUST
 

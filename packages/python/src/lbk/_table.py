@@ -126,6 +126,11 @@ class Table:
         end."""
         return _calls.Found.of(self._memory, text, profile, _calls.BREAKS)
 
+    def positions(self, text: Text, profile: int = 1) -> Iterator[Break]:
+        """All positions of a text, in their order: one before each character and one at the end,
+        each with the rule that decided. The kind of those that are no break is NO."""
+        return _calls.Found.of(self._memory, text, profile, _calls.POSITIONS)
+
     @overload
     def segments(self, text: str, profile: int = 1) -> Iterator[str]: ...
     @overload
@@ -145,6 +150,21 @@ class Table:
             raise TypeError(f"many texts are expected, and not one {type(texts).__name__}")
         offsets, places, kinds, rules = _calls.list_columns(self._memory, texts, profile)
         return ListColumns(memoryview(offsets).cast("q"), memoryview(places).cast("q"), kinds, rules)
+
+    def cut(self, text: Text, at: int) -> int:
+        """The first place at or after `at` where a part of the text may begin: one before which a
+        line must end, or the text's end where there is none.
+
+        The breaks of the parts of a text are those of the text, if the places of each part are
+        moved by what stands before it. Only the rule of a part's last break differs: where another
+        part follows it is LB4 or LB5 in the text, and LB3 in the part. ValueError comes for a
+        negative place.
+        """
+        return _calls.cut(self._memory, text, at)
+
+    def cut_before(self, text: Text, at: int) -> int:
+        """The last such place at or before `at`: no break after it depends on the text before it."""
+        return _calls.cut_before(self._memory, text, at)
 
     @overload
     @staticmethod

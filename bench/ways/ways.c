@@ -1,0 +1,47 @@
+/* Breaks by the calls of lbk.h: each function goes through all breaks of a text, adds up their places and kinds, and returns how many
+ * there are. bench/speeds calls them. */
+#include <lbk.h>
+
+enum { ROOM = 256, PIECE = 4096 };
+
+static size_t sum(const lbk_break *block, size_t count, size_t *total)
+{
+    for (size_t k = 0; k < count; k++)
+        *total += block[k].at + block[k].kind;
+    return count;
+}
+
+/* The text in pieces of so many bytes, each a text of its own. */
+size_t c_texts(const lbk_table *table, const char *text, size_t size, size_t piece, size_t *total)
+{
+    lbk_break block[ROOM];
+    size_t found = 0;
+    for (size_t from = 0; from < size; from += piece) {
+        size_t length = size - from < piece ? size - from : piece, count;
+        lbk_state state = {0};
+        do {
+            count = lbk_breaks(table, &state, text + from, length, block, ROOM);
+            found += sum(block, count, total);
+        } while (count == ROOM);
+    }
+    return found;
+}
+
+/* The text as a stream in pieces of 4 KB. */
+size_t c_stream(const lbk_table *table, const char *text, size_t size, size_t unused, size_t *total)
+{
+    lbk_break block[ROOM];
+    lbk_stream stream = {0};
+    size_t found = 0, from = 0;
+    (void)unused;
+    do {
+        size_t length = size - from < PIECE ? size - from : PIECE, end = from + length;
+        lbk_fed fed;
+        do {
+            fed = lbk_feed(table, &stream, text + from, end - from, end == size, block, ROOM);
+            from += fed.taken;
+            found += sum(block, fed.count, total);
+        } while (fed.count == ROOM);
+    } while (from < size);
+    return found;
+}

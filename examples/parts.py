@@ -1,0 +1,60 @@
+#!/usr/bin/env python3
+"""Breaks of texts in parts, for GNU parallel:
+
+    parts.py plan TABLE BYTES FILE..        writes the range of each part, as lines `START END FILE`
+    parts.py count TABLE RANGE..            writes how many breaks the ranges have, each a line as above
+
+A part has so many BYTES and what is left of the paragraph there. TABLE is a file that Table.save made.
+"""
+
+import mmap
+import os
+import sys
+
+import lbk
+
+
+def plan(table, size, path):
+    """The ranges of a file's parts."""
+    whole = os.path.getsize(path)
+    start = 0
+    if whole == 0:
+        return
+    with open(path, "rb") as file, mmap.mmap(file.fileno(), 0, access=mmap.ACCESS_READ) as text:
+        while start < whole:
+            end = table.cut(text, min(whole, start + size))
+            yield start, end
+            start = end
+
+
+def columns(table, path, start, end):
+    """The breaks of a part, in columns, with places from the part's start. The character after the part says that the file goes on, so
+    that the part's last break is by the rule that it has in the file."""
+    with open(path, "rb") as file:
+        file.seek(start)
+        text = file.read(end - start + 4)
+    places, kinds, rules = table.break_columns(text)
+    count = len(places)
+    while count and places[count - 1] > end - start:
+        count -= 1
+    return places[:count], kinds[:count], rules[:count]
+
+
+def main():
+    if len(sys.argv) < 4 or sys.argv[1] not in ("plan", "count"):
+        sys.exit(__doc__)
+    table = lbk.Table.open(sys.argv[2])
+    if sys.argv[1] == "plan":
+        for path in sys.argv[4:]:
+            for start, end in plan(table, int(sys.argv[3]), path):
+                print(start, end, path)
+        return
+    found = 0
+    for line in sys.argv[3:]:
+        start, end, path = line.split(" ", 2)
+        found += len(columns(table, path, int(start), int(end))[0])
+    print(found)
+
+
+if __name__ == "__main__":
+    main()

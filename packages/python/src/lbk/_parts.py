@@ -1,0 +1,169 @@
+"""Parts of files: ranges of bytes that are broken apart, and how each is read by itself."""
+
+import mmap
+from dataclasses import dataclass
+from typing import Any, Literal, NamedTuple
+
+import numpy as np
+from fsspec.core import OpenFile, get_fs_token_paths
+from fsspec.implementations.local import LocalFileSystem
+from fsspec.utils import infer_compression
+
+from ._results import Kind
+from ._table import Table
+
+Errors = Literal["replace", "strict"]
+
+# So much of a file that is not on this machine is read for a cut at first.
+WINDOW = 1 << 16
+
+# A character has so many bytes at most. So many before a place are read for a cut there, and so
+# many after a part, which say that the text goes on.
+LONGEST = 4
+
+
+class TextFault(ValueError):
+    """A file that cannot be read, changed since it was cut, or is ill-formed where `errors` is
+    "strict"."""
+
+    path: str
+    at: int
+    """The byte of the file, from 0; the part's first one where the fault is in no byte."""
+    why: str
+
+    def __init__(self, path: str, at: int, why: str) -> None:
+        super().__init__(path, at, why)
+        self.path, self.at, self.why = path, at, why
+
+    def __str__(self) -> str:
+        return f"{self.path}: byte {self.at}: {self.why}"
+
+
+@dataclass(frozen=True)
+class Part:
+    """The bytes `start` to `end` of a file, between two places where a line must end, or where the
+    file begins or ends. `end` is None for a file that is read whole."""
+
+    file: OpenFile
+    start: int
+    end: "int | None"
+    is_last: bool
+
+    @property
+    def path(self) -> str:
+        """The file's name, with its protocol where it is not on this machine."""
+        return str(self.file.path if isinstance(self.file.fs, LocalFileSystem) else self.file.full_name)
+
+
+class PartColumns(NamedTuple):
+    """The breaks of a part, in their order, as numpy arrays. The columns of all parts of a file,
+    joined, are those of the file."""
+
+    path: str
+    start: int
+    end: int
+    """The part's bytes in the file; in the decompressed text of a compressed one."""
+    places: Any
+    """int64: the bytes of the file that stand before each break."""
+    kinds: Any
+    """uint8: the numbers of `Kind`."""
+    rules: Any
+    """uint8: the numbers of `Rule`."""
+
+
+def plan(
+    paths: Any, table: Table, blocksize: "int | None", compression: "str | None", storage_options: "dict[str, Any] | None"
+) -> list[Part]:
+    """The parts of all files, in the order of the files. One that cannot be cut is a part, so that
+    the task that reads it reports why."""
+    fs, _, names = get_fs_token_paths(paths, mode="rb", storage_options=storage_options or {})
+    parts = []
+    for name in names:
+        kind = infer_compression(name) if compression == "infer" else compression
+        file = OpenFile(fs, name, compression=kind)
+        places: list[Any] = [0, None]
+        if kind is None and blocksize is not None:
+            try:
+                places = _cuts(file, table, blocksize)
+            except Exception:
+                pass
+        parts += [Part(file, start, end, k == len(places) - 2) for k, (start, end) in enumerate(zip(places, places[1:]))]
+    return parts
+
+
+def _cuts(file: OpenFile, table: Table, blocksize: int) -> list[int]:
+    """The start of each part of a file, and the file's end."""
+    size = file.fs.size(file.path)
+    places = [0]
+    if isinstance(file.fs, LocalFileSystem):
+        with open(file.path, "rb") as opened, mmap.mmap(opened.fileno(), 0, access=mmap.ACCESS_READ) as data:
+            while places[-1] + blocksize < size:
+                places.append(min(table.cut(data, places[-1] + blocksize), size))
+    else:
+        while places[-1] + blocksize < size:
+            places.append(_cut_from_afar(file, size, table, places[-1] + blocksize))
+    return places if len(places) > 1 and places[-1] == size else [*places, size]
+
+
+def _cut_from_afar(file: OpenFile, size: int, table: Table, at: int) -> int:
+    """As Table.cut, of a file of which only what is near the place is read. What comes depends on
+    no byte before the last four before the place; and on none after the character at the cut."""
+    start, window = max(0, at - LONGEST), WINDOW
+    data = b""
+    while True:
+        data += file.fs.cat_file(file.path, start=start + len(data), end=min(size, start + window))
+        cut = table.cut(data, at - start)
+        if cut + LONGEST <= len(data) or start + len(data) >= size:
+            return start + cut
+        window *= 2
+
+
+def read_part(part: Part, errors: Errors = "replace") -> tuple[bytes, int]:
+    """A part's bytes, with those of the character that follows it, and how many are the part's."""
+    try:
+        with part.file as file:
+            if part.end is None:
+                data = file.read()
+                size = len(data)
+            else:
+                size = part.end - part.start
+                file.seek(part.start)
+                data = file.read(size + LONGEST)
+    except Exception as error:
+        raise TextFault(part.path, part.start, f"{type(error).__name__}: {error}") from error
+    if len(data) < size:
+        raise TextFault(part.path, part.start + len(data), "the file has become shorter since it was cut into parts")
+    if part.is_last != (len(data) == size):
+        raise TextFault(part.path, part.start + size, "the file has another size than when it was cut into parts")
+    if errors == "strict":
+        try:
+            data[:size].decode()
+        except UnicodeDecodeError as error:
+            raise TextFault(part.path, part.start + error.start, f"ill-formed UTF-8: {error.reason}") from error
+    return data, size
+
+
+def _columns(data: bytes, size: int, table: Table, profile: int) -> tuple[Any, Any, Any]:
+    """The breaks of the first `size` bytes, of which the others say whether the text goes on."""
+    places, kinds, rules = (
+        np.frombuffer(column, kind) for column, kind in zip(table.break_columns(data, profile), (np.int64, np.uint8, np.uint8))
+    )
+    count = len(places)
+    while count and places[count - 1] > size:
+        count -= 1
+    return places[:count], kinds[:count], rules[:count]
+
+
+def part_columns(part: Part, table: Table, profile: int, errors: Errors) -> PartColumns:
+    data, size = read_part(part, errors)
+    places, kinds, rules = _columns(data, size, table, profile)
+    places += part.start
+    return PartColumns(part.path, part.start, part.start + size, places, kinds, rules)
+
+
+def part_paragraphs(part: Part, table: Table, errors: Errors) -> list[str]:
+    """The text of a part up to each place where a line must end."""
+    data, size = read_part(part, errors)
+    places, kinds, _ = _columns(data, size, table, 1)
+    ends = places[kinds == Kind.MUST].tolist()
+    return [data[start:end].decode("utf-8", "replace") for start, end in zip([0, *ends], ends)]

@@ -1,0 +1,277 @@
+"""Texts larger than a machine, by Dask. It needs the extra `lbk[dask]`.
+
+    >>> import lbk.dask
+    >>> table = lbk.dask.share(lbk.Table.load("/usr/share/unicode"), "/shared/lbk.table")
+    >>> lbk.dask.save(lbk.dask.read_columns("/shared/corpus/*.txt", table), "/shared/breaks").compute()
+
+Each file is a text. It is cut into parts where a line must end (`Table.cut`), and each task gets the
+name and the range of a part, reads it by itself, and keeps its result where it is made: to move
+texts or breaks costs more than to find them. Tables go by the names of their files, and each
+process maps them once. Tasks are pure: one that runs again, since its worker died, gives and saves
+the same once more, under the same name.
+
+The breaks of all parts of a file, joined, are those of the file. That is the law of joined texts
+(`joined_parts`, proved for any number of parts of any bytes), by which the last break of a part has
+another rule in the file, LB4 or LB5, than in the part alone. To have that rule, a task reads also
+the first character after its part, breaks both together, and leaves out what comes after the part:
+by the same law the breaks up to the part's end are then those of the file.
+"""
+
+import os
+from collections.abc import Callable, Iterable
+from pathlib import Path
+from typing import Any, Literal
+
+import dask.bag as db
+from dask.utils import parse_bytes
+
+from ._parts import Errors, Part, PartColumns, TextFault, part_columns, part_paragraphs, plan
+from ._results import Columns
+from ._saving import Format, Saved, save_items
+from ._table import Name, Table
+
+__all__ = [
+    "PartColumns", "Saved", "TextFault", "breaks", "broadcast", "faults", "read_columns", "read_text", "save", "segments", "share",
+    "words",
+]
+
+Faults = Literal["raise", "keep"]
+
+# The tables that this process has mapped, and where it has those that `broadcast` sent.
+_tables: dict[str, Table] = {}
+_broadcast: dict[str, str] = {}
+
+
+def share(table: Table, name: Name) -> str:
+    """Saves a table into a file that all workers can read, and returns its name for the calls
+    here."""
+    path = os.path.abspath(os.fsdecode(name))
+    table.save(path)
+    return path
+
+
+def broadcast(client: Any, table: Table) -> str:
+    """Sends a table once to each worker of a cluster whose machines share no folder, also to those
+    that come later. Each saves and maps it. Returns a name for the calls here."""
+    from distributed import WorkerPlugin
+
+    class Receive(WorkerPlugin):  # type: ignore[misc]
+        def __init__(self, name: str, data: bytes) -> None:
+            self.name, self.data = name, data
+
+        def setup(self, worker: Any) -> None:
+            # (by its name, since this class is sent without the module)
+            from lbk import Table, dask
+
+            path = Path(worker.local_directory, f"{self.name}-{os.getpid()}")
+            Table.from_bytes(self.data).save(path)
+            dask._broadcast[self.name] = str(path)
+
+    data = table.to_bytes()
+    name = f"lbk-table-{data[8:16].hex()}"
+    register = getattr(client, "register_plugin", None) or client.register_worker_plugin
+    register(Receive(name, data))
+    _broadcast_here(name, table)
+    return name
+
+
+def _broadcast_here(name: str, table: Table) -> None:
+    """The process that sends it cuts files by it."""
+    _tables[name] = table
+
+
+def _open(name: str) -> Table:
+    if name not in _tables:
+        _tables[name] = Table.open(_broadcast.get(name, name))
+    return _tables[name]
+
+
+def _name_of(table: Any) -> str:
+    if isinstance(table, Table):
+        raise TypeError("tables are given by name, as share and broadcast return it, so that no task has a table in it")
+    return os.fsdecode(table)
+
+
+def read_text(
+    paths: Any,
+    table: Name,
+    blocksize: "int | str | None" = "32 MiB",
+    *,
+    errors: Errors = "replace",
+    on_fault: Faults = "raise",
+    compression: "str | None" = "infer",
+    storage_options: "dict[str, Any] | None" = None,
+) -> db.Bag:
+    """A bag of the paragraphs of files, as str: the text up to each place where a line must end,
+    its line end with it. Joined they are the texts.
+
+    `paths` are a name, a pattern or a list, with a protocol or without, as fsspec has them. A part
+    has `blocksize` bytes and what is left of the paragraph there; with None, and where a file is
+    compressed, it is a whole file. Ill-formed bytes are read as U+FFFD, or are a fault where
+    `errors` is "strict".
+
+    TextFault names a file and its byte: one that cannot be read, is not as it was when it was cut,
+    or is ill-formed. The task with it raises it, or where `on_fault` is "keep" the bag has the
+    fault in the part's place, the calls here hand it on, and `faults` finds it.
+    """
+    parts = _plan(paths, table, blocksize, compression, storage_options)
+    return parts.map_partitions(_paragraphs, _name_of(table), errors, on_fault)
+
+
+def read_columns(
+    paths: Any,
+    table: Name,
+    blocksize: "int | str | None" = "32 MiB",
+    *,
+    profile: int = 1,
+    errors: Errors = "replace",
+    on_fault: Faults = "raise",
+    compression: "str | None" = "infer",
+    storage_options: "dict[str, Any] | None" = None,
+) -> db.Bag:
+    """A bag with the PartColumns of each part of files: all breaks, with their places in bytes of
+    the file. All else is as read_text has it."""
+    _check_profile(profile)
+    parts = _plan(paths, table, blocksize, compression, storage_options)
+    return parts.map_partitions(_part_columns, _name_of(table), profile, errors, on_fault)
+
+
+def breaks(texts: Any, table: Name, profile: int = 1) -> Any:
+    """The breaks of each text: of a bag a bag of Columns, of a dataframe's column a dataframe with
+    `places`, `kinds` and `rules`. These are numpy arrays, and the places of a str count its code
+    points. Each item is a text by itself, so its end is LB3. None stays None."""
+    _check_profile(profile)
+    name = _name_of(table)
+    if isinstance(texts, db.Bag):
+        return texts.map_partitions(_map_texts, _all_breaks, name, profile)
+    return _series(texts).map_partitions(_breaks_frame, name, profile, meta={column: object for column in Columns._fields})
+
+
+def segments(texts: Any, table: Name, profile: int = 1) -> Any:
+    """The segments of each text, as a list: of a bag a bag, of a dataframe's column a column."""
+    _check_profile(profile)
+    return _lists(texts, _all_segments, _name_of(table), profile)
+
+
+def words(texts: Any) -> Any:
+    """The words of each text (UAX #29), as a list: of a bag a bag, of a dataframe's column a
+    column. Those of a paragraph are what `Table.passages` has."""
+    return _lists(texts, _all_words, None, 1)
+
+
+def faults(bag: db.Bag) -> db.Bag:
+    """The faults in a bag that was read with `on_fault="keep"`."""
+    return bag.filter(_is_fault)
+
+
+def save(bag: db.Bag, folder: Name, format: "Format | None" = None) -> db.Bag:
+    """Saves each partition into a file of a folder, and gives a bag with a Saved for each.
+
+    `format` is "parquet", "npz" or "jsonl". Left out it is "parquet" where pyarrow is there, else
+    "npz" for columns and "jsonl" for others. In the first two the items of a partition stand in
+    columns, those of a list at `offsets[k]` to `offsets[k + 1]`. Kept faults are written to a file
+    of their own, in lines of JSON. A file has the partition's number, and comes whole or not at
+    all.
+    """
+    if format not in (None, "parquet", "npz", "jsonl"):
+        raise ValueError(f"the format is parquet, npz or jsonl, and not {format!r}")
+    numbers = db.from_sequence(range(bag.npartitions), npartitions=bag.npartitions)
+    return bag.map_partitions(save_items, numbers, os.fsdecode(folder), format)
+
+
+def _check_profile(profile: int) -> None:
+    if profile not in (1, 2):
+        raise ValueError(f"the profile is 1 or 2, and not {profile!r}")
+
+
+def _plan(paths: Any, table: Name, blocksize: Any, compression: Any, storage_options: Any) -> db.Bag:
+    size = parse_bytes(blocksize) if isinstance(blocksize, str) else blocksize
+    if size is not None and size < 1:
+        raise ValueError("a part has one byte at least")
+    parts = plan(paths, _open(_name_of(table)), size, compression, storage_options)
+    if not parts:
+        raise FileNotFoundError(f"no file has the name {paths}")
+    return db.from_sequence(parts, npartitions=len(parts))
+
+
+def _or_fault(call: "Callable[[], list[Any]]", on_fault: Faults) -> list[Any]:
+    try:
+        return call()
+    except TextFault as fault:
+        if on_fault == "raise":
+            raise
+        return [fault]
+
+
+def _paragraphs(parts: Iterable[Part], table: str, errors: Errors, on_fault: Faults) -> list[Any]:
+    found = []
+    for part in parts:
+        found += _or_fault(lambda: part_paragraphs(part, _open(table), errors), on_fault)
+    return found
+
+
+def _part_columns(parts: Iterable[Part], table: str, profile: int, errors: Errors, on_fault: Faults) -> list[Any]:
+    found = []
+    for part in parts:
+        found += _or_fault(lambda: [part_columns(part, _open(table), profile, errors)], on_fault)
+    return found
+
+
+def _is_fault(item: Any) -> bool:
+    return isinstance(item, TextFault)
+
+
+def _is_text(item: Any) -> bool:
+    """Whether it is none of a fault, None, or what pandas has for a missing value."""
+    return not _is_fault(item) and item is not None and item == item and type(item).__name__ != "NAType"
+
+
+def _map_texts(items: Iterable[Any], call: Any, table: "str | None", profile: int) -> list[Any]:
+    """What a call finds in each text. Faults stay, and None does."""
+    items = list(items)
+    found = iter(call([item for item in items if _is_text(item)], None if table is None else _open(table), profile))
+    return [next(found) if _is_text(item) else item if _is_fault(item) else None for item in items]
+
+
+def _all_breaks(texts: list[Any], table: Table, profile: int) -> Iterable[Columns]:
+    import numpy as np
+
+    offsets, places, kinds, rules = table.break_list_columns(texts, profile)
+    columns = [np.frombuffer(places, np.int64), np.frombuffer(kinds, np.uint8), np.frombuffer(rules, np.uint8)]
+    for start, end in zip(offsets, offsets[1:]):
+        yield Columns(*(column[start:end] for column in columns))
+
+
+def _all_segments(texts: list[Any], table: Table, profile: int) -> Iterable[list[Any]]:
+    return (list(table.segments(text, profile)) for text in texts)
+
+
+def _all_words(texts: list[Any], _table: None, _profile: int) -> Iterable[list[Any]]:
+    return (list(Table.words(text)) for text in texts)
+
+
+def _series(texts: Any) -> Any:
+    if not hasattr(texts, "map_partitions") or getattr(texts, "ndim", 0) != 1:
+        raise TypeError(f"a bag or a dataframe's column is expected, and not a {type(texts).__name__}")
+    return texts
+
+
+def _lists(texts: Any, call: Any, table: "str | None", profile: int) -> Any:
+    if isinstance(texts, db.Bag):
+        return texts.map_partitions(_map_texts, call, table, profile)
+    column = _series(texts)
+    return column.map_partitions(_list_column, call, table, profile, meta=(column.name, object))
+
+
+def _list_column(texts: Any, call: Any, table: "str | None", profile: int) -> Any:
+    import pandas as pd
+
+    return pd.Series(_map_texts(texts.tolist(), call, table, profile), index=texts.index, name=texts.name, dtype=object)
+
+
+def _breaks_frame(texts: Any, table: str, profile: int) -> Any:
+    import pandas as pd
+
+    found = _map_texts(texts.tolist(), _all_breaks, table, profile)
+    none = Columns(None, None, None)  # type: ignore[arg-type]
+    return pd.DataFrame([one or none for one in found], index=texts.index, columns=Columns._fields, dtype=object)

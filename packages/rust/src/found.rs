@@ -1,0 +1,134 @@
+//! What the library finds in a text, a block at a time.
+
+use core::iter::FusedIterator;
+use core::marker::PhantomData;
+use core::mem::MaybeUninit;
+
+use crate::breaks::Profile;
+use crate::calls;
+use crate::table::Table;
+
+/// How many are asked for at once.
+const ROOM: usize = 64;
+
+type Block = [calls::Break; ROOM];
+
+/// One of the calls that find breaks or positions.
+pub trait Call {
+    const CALL: calls::Finding;
+}
+
+/// What a call finds in a text, in its order. A copy goes on by itself.
+#[derive(Clone)]
+// In this order, and no call is given a part of it: so a loop has `next` and `count` in registers.
+#[repr(C)]
+pub struct Found<'a, C> {
+    /// The next one is that of the block.
+    next: u32,
+    /// So many the block has. They are the last ones where it has room for more.
+    count: u32,
+    table: &'a Table,
+    text: &'a [u8],
+    call: PhantomData<C>,
+    state: calls::State,
+    block: MaybeUninit<Block>,
+}
+
+impl<'a, C: Call> Found<'a, C> {
+    #[inline]
+    pub fn new(table: &'a Table, profile: Profile, text: &'a [u8]) -> Found<'a, C> {
+        let state = calls::State {
+            at: 0,
+            row: 0,
+            profile: profile as u8,
+            ended: 0,
+        };
+        Found {
+            // As if a full block had been used up.
+            next: ROOM as u32,
+            count: ROOM as u32,
+            table,
+            text,
+            call: PhantomData,
+            state,
+            block: MaybeUninit::uninit(),
+        }
+    }
+
+    /// The next block, by way of one that is no part of the iterator.
+    #[inline]
+    fn refill(&mut self) {
+        let mut state = self.state;
+        let mut block = MaybeUninit::uninit();
+        let count = fill::<C>(self.table, self.text, &mut state, &mut block);
+        // SAFETY: the call wrote so many, which both blocks have room for.
+        unsafe {
+            let from = block.as_ptr().cast::<calls::Break>();
+            let to = self.block.as_mut_ptr().cast::<calls::Break>();
+            core::ptr::copy_nonoverlapping(from, to, count);
+        }
+        self.state = state;
+        self.next = 0;
+        self.count = count as u32;
+    }
+
+    pub fn text(&self) -> &'a [u8] {
+        self.text
+    }
+
+    /// How many are held, and up to which byte of the text they came.
+    #[inline]
+    pub fn held(&self) -> (usize, usize) {
+        ((self.count - self.next) as usize, self.state.at)
+    }
+}
+
+/// Asks for the next ones.
+#[inline(never)]
+fn fill<C: Call>(
+    table: &Table,
+    text: &[u8],
+    state: &mut calls::State,
+    block: &mut MaybeUninit<Block>,
+) -> usize {
+    // SAFETY: the text and the block are as long as is said, and the state and the block are borrowed by nobody else.
+    let count = unsafe {
+        C::CALL(
+            &table.0,
+            state,
+            text.as_ptr(),
+            text.len(),
+            block.as_mut_ptr().cast(),
+            ROOM,
+        )
+    };
+    count.min(ROOM)
+}
+
+impl<C: Call> Iterator for Found<'_, C> {
+    type Item = calls::Break;
+
+    #[inline]
+    fn next(&mut self) -> Option<calls::Break> {
+        if self.next == self.count {
+            if self.count == ROOM as u32 {
+                self.refill();
+            }
+            if self.next == self.count {
+                return None;
+            }
+        }
+        // SAFETY: the call wrote the first `count` of the block, and `next` is below that.
+        let found = unsafe {
+            *self
+                .block
+                .as_ptr()
+                .cast::<calls::Break>()
+                .add(self.next as usize)
+        };
+        self.next += 1;
+        Some(found)
+    }
+}
+
+impl<C: Call> FusedIterator for Found<'_, C> {}

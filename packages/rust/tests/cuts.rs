@@ -1,0 +1,96 @@
+//! Where a text may be cut, and positions that are no breaks.
+
+use lbk::{Files, Kind, Profile, Table};
+
+/// By `line_break`, and CR and LF are line ends in it or not.
+fn table(line_break: &[u8]) -> Box<Table> {
+    let files = Files {
+        line_break,
+        east_asian: b"",
+        category: b"",
+        emoji: b"",
+    };
+    Table::read(files).expect("the small files have no fault")
+}
+
+const USUAL: &[u8] = b"000A;LF\n000D;CR\n0020;SP\n0061..007A;AL\n4E00;ID\n";
+
+#[test]
+fn cuts_are_at_the_ends_of_lines() {
+    let table = table(USUAL);
+    let text = b"ab\r\ncd\n\nef";
+    let cuts: Vec<usize> = (0..=11).map(|at| table.cut(text, at)).collect();
+    assert_eq!(cuts, [0, 4, 4, 4, 4, 7, 7, 7, 8, 10, 10, 10]);
+    let cuts: Vec<usize> = (0..=11).map(|at| table.cut_before(text, at)).collect();
+    assert_eq!(cuts, [0, 0, 0, 0, 4, 4, 4, 7, 8, 8, 10, 10]);
+    assert_eq!((table.cut(b"", 0), table.cut_before(b"", 3)), (0, 0));
+}
+
+#[test]
+fn the_table_decides() {
+    let text = b"b\nbab\n";
+    assert_eq!(table(USUAL).cut(text, 1), 2);
+    assert_eq!(table(b"000A;AL\n0061;BK\n0062;AL\n").cut(text, 1), 4);
+}
+
+#[test]
+fn the_breaks_of_the_parts_are_those_of_the_text() {
+    let table = table(USUAL);
+    let text = "ab c\r\n一d\n\r\n a\r".repeat(20).into_bytes();
+    for profile in [Profile::First, Profile::Second] {
+        let whole: Vec<(usize, Kind)> = table
+            .breaks_in(profile, &text)
+            .map(|found| (found.at, found.kind))
+            .collect();
+        for size in 1..20 {
+            let (mut joined, mut from) = (Vec::new(), 0);
+            while from < text.len() {
+                let to = table.cut(&text, from + size);
+                let part = table.breaks_in(profile, &text[from..to]);
+                joined.extend(part.map(|found| (from + found.at, found.kind)));
+                from = to;
+            }
+            assert_eq!(joined, whole);
+        }
+    }
+}
+
+#[test]
+fn positions_of_a_text() {
+    let table = table(USUAL);
+    let shown: Vec<String> = table
+        .positions("ab c\n")
+        .map(|it| format!("{} {:?} {}", it.at, it.kind, it.rule))
+        .collect();
+    assert_eq!(
+        shown,
+        [
+            "0 None 2",
+            "1 None 28",
+            "2 None 7",
+            "3 Some(May) 18",
+            "4 None 6",
+            "5 Some(Must) 3"
+        ]
+    );
+    assert_eq!(table.positions("").count(), 1);
+}
+
+#[test]
+fn positions_where_a_line_ends_are_the_breaks() {
+    let table = table(USUAL);
+    for times in [1, 5, 6, 7, 100] {
+        let text = "ab c\r\n一d \u{301}".repeat(times);
+        for profile in [Profile::First, Profile::Second] {
+            let all: Vec<_> = table.positions_in(profile, text.as_bytes()).collect();
+            assert_eq!(all.len(), text.chars().count() + 1);
+            let ends = all
+                .iter()
+                .filter_map(|it| it.kind.map(|kind| (it.at, kind, it.rule)));
+            let breaks = table
+                .breaks_in(profile, text.as_bytes())
+                .map(|it| (it.at, it.kind, it.rule));
+            assert!(ends.eq(breaks));
+        }
+    }
+}
