@@ -7,3 +7,4 @@ pub mod Open
 pub mod Decided
 pub mod Reached
 pub mod Blocks
+pub mod Widths

@@ -2,6 +2,7 @@
 
 ghost use Rattle.std.specs.Prelude.{◌≡◌, ◌<◌, ◌≤◌, true, length, IfSome};
 ghost use Rattle.bstr.specs.Utf8.{code_of_2, code_of_3, continues, decoded, good, second};
+ghost use Rattle.lbk_bytes.specs.Widths.{more_of};
 
 /// A scalar value and how many bytes it takes.
 #[derive(Clone, Copy)]
@@ -18,10 +19,24 @@ pub(crate) enum Width {
     Three,
 }
 
+impl Width {
+    /// How many bytes a scalar of this width has after its first.
+    #[inline(always)]
+    pub(crate) fn more(self) -> usize
+        ensures { result ≡ more_of self }
+    {
+        match self {
+            Width::One => 0,
+            Width::Two => 1,
+            Width::Three => 2,
+        }
+    }
+}
+
 /// The scalar of this width at the front of some bytes (Unicode Standard, table 3-7). None comes where none stands there.
 #[inline(always)]
 pub(crate) fn scalar_of(width: Width, bytes: &[u8]) -> Option<Scalar>
-    requires { 0 < length bytes.now }
+    requires { more_of width < length bytes.now }
     ensures { IfSome result (λ scalar. decoded bytes.now ≡ good scalar.code scalar.size) }
 {
     match width {
@@ -50,7 +65,7 @@ fn scalar_of_one(bytes: &[u8]) -> Option<Scalar>
 /// The scalar of two bytes at the front of some bytes.
 #[inline(always)]
 fn scalar_of_two(bytes: &[u8]) -> Option<Scalar>
-    requires { 0 < length bytes.now }
+    requires { 1 < length bytes.now }
     ensures { IfSome result (λ scalar. decoded bytes.now ≡ good scalar.code scalar.size) }
 {
     let first = bytes[0];
@@ -58,9 +73,6 @@ fn scalar_of_two(bytes: &[u8]) -> Option<Scalar>
         return None;
     }
     if 0xDF < first {
-        return None;
-    }
-    if bytes.len() < 2 {
         return None;
     }
     let next = bytes[1];
@@ -76,7 +88,7 @@ fn scalar_of_two(bytes: &[u8]) -> Option<Scalar>
 /// The scalar of three bytes at the front of some bytes.
 #[inline(always)]
 fn scalar_of_three(bytes: &[u8]) -> Option<Scalar>
-    requires { 0 < length bytes.now }
+    requires { 2 < length bytes.now }
     ensures { IfSome result (λ scalar. decoded bytes.now ≡ good scalar.code scalar.size) }
 {
     let first = bytes[0];
@@ -84,9 +96,6 @@ fn scalar_of_three(bytes: &[u8]) -> Option<Scalar>
         return None;
     }
     if 0xEF < first {
-        return None;
-    }
-    if bytes.len() < 3 {
         return None;
     }
     let next = bytes[1];

@@ -22,7 +22,7 @@ use crate::steps::{CODES, pairs_of, step_at, steps_of};
 use lbk_rules::{Profile, VERDICTS, is_break};
 use lbk_steps::{FlatStep, FlatTable, STEPS};
 
-/// How many bytes are taken one by one where most scalars have more than one.
+/// How many bytes are taken one by one where scalars of more than one are usual.
 const MANY: usize = 2048;
 
 /// Blocks that take fewer bytes than this cost more than they save.
@@ -137,8 +137,8 @@ fn next_try(from: usize, at: usize, text: &[u8]) -> usize
     at + pause
 }
 
-/// How many bytes are taken one by one at the front of these, after blocks that took so many: many where most scalars at hand
-/// have more than one byte, as many as a block has where the blocks took few, and else a few, or up to after the last scalar
+/// How many bytes are taken one by one at the front of these, after blocks that took so many: many where two scalars at hand
+/// or more have more than one byte, as many as a block has where the blocks took few, and else a few, or up to after the scalar
 /// of more bytes.
 #[inline(always)]
 fn pause(taken: usize, text: &[u8]) -> usize
@@ -146,7 +146,7 @@ fn pause(taken: usize, text: &[u8]) -> usize
     ensures { 0 < result }
 {
     let wide = wide_ahead(text);
-    if wide.count_ones() > 8 {
+    if wide.count_ones() > 2 {
         return MANY;
     }
     if taken < WORTH_WHILE {
@@ -249,7 +249,8 @@ fn run(
     let mut count = start.count;
     let mut row = start.row;
     let mut at = start.at;
-    while count < out.len() && at < text.len() {
+    let end = text.len().saturating_sub(width.more());
+    while count < out.len() && at < end {
         let Some(scalar) = scalar_of(width, &text[at..]) else {
             break;
         };
