@@ -1,7 +1,7 @@
-"""Ratios of the speeds of layers within one run of crates/bench: a layer that has fallen back to a slow way fails.
+"""Ratios of the speeds of subcommands, and of layers in one run of crates/bench: one that fell back to a slow way fails.
 
 The texts are made of the pages in docs/, and of letters of two and of three bytes. Each bound is a third to half of what is
-measured, and each layer's best run of nine counts, so that other load on the machine does not fail it. The property files are the
+measured, and each layer's best run counts, so that other load on the machine does not fail it. The property files are the
 published ones where they are there, and else those of the stored runs.
 """
 
@@ -9,21 +9,33 @@ import re
 import tempfile
 from pathlib import Path
 
-from checks.harness import TOP, built_crate
+from checks.harness import TOP, built_crate, built_program
+from checks.program import Long
 from checks.program import run as run_program
-from checks.unicode_files import property_files
+from checks.unicode_files import options, property_files
 
 SIZE = 1_200_000
 
-# A layer, what it is compared with, and the least ratio of their speeds.
+# A layer, what it is compared with, and the least ratio of their speeds over each text.
 BOUNDS = [
-    ("Breaks, profile 1", "ForwardMachine", 6.0),
-    ("Breaks, profile 2", "Breaks, profile 1", 0.5),
-    ("Stepper, profile 1", "LateMachine, profile 1", 5.0),
-    ("Stepper, profile 2", "LateMachine, profile 2", 5.0),
-    ("segments of passages", "Breaks, profile 1", 0.3),
-    ("next", "words", 0.2),
+    ("Breaks, profile 1", "ForwardMachine", (6.0, 3.5, 2.5)),
+    ("Breaks, profile 2", "Breaks, profile 1", (0.5, 0.5, 0.5)),
+    ("Stepper, profile 1", "LateMachine, profile 1", (5.0, 4.0, 3.0)),
+    ("Stepper, profile 2", "LateMachine, profile 2", (5.0, 4.0, 3.0)),
+    ("segments of passages", "Breaks, profile 1", (0.3, 0.3, 0.3)),
+    ("next", "words", (0.2, 0.2, 0.2)),
 ]
+
+# A text, two subcommands, and the least ratio of their speeds.
+SUBCOMMANDS = [
+    ("the pages", "mark", "show", 0.9),
+    ("the pages", "segment", "show", 0.6),
+    ("letters of two bytes", "mark", "show", 0.6),
+    ("letters of two bytes", "segment", "show", 0.4),
+    ("letters of three bytes", "mark", "show", 0.5),
+    ("letters of three bytes", "segment", "show", 0.3),
+]
+STREAM, RUNS = 6_000_000, 5
 
 
 def texts():
@@ -42,17 +54,43 @@ def speeds(path):
     return {name: float(rate) for name, rate in re.findall(r"^(\S.*?) +([0-9.]+) MB/s", ran.out.decode(), re.M)}
 
 
-def run(tally, _arguments):
+def seconds(program, task, text, size):
+    """The processor time of a run over a text that is repeated up to a size."""
+    words = [program, task, *options(property_files()), "--limit", "16777216"]
+    return Long(words, [(text, size // len(text) * len(text))]).seconds
+
+
+def subcommands(tally, of_all):
+    """Ratios of the speeds of subcommands over long streams, what a run takes to start not counted."""
+    program = built_program()
+    for name, task, other, least in SUBCOMMANDS:
+        text = of_all[name].encode()
+        took = {it: [seconds(program, it, text, STREAM) for _ in range(RUNS)] for it in (task, other)}
+        starts = min(seconds(program, task, b"a ", 100) for _ in range(RUNS))
+        ratio = (min(took[other]) - starts) / (min(took[task]) - starts)
+        said = f"{name}: {task}: {ratio:.2f} times {other}, at least {least}"
+        tally.tell(said, None if ratio >= least else "it is slower")
+
+
+def layers(tally, of_all):
+    """Ratios of the speeds of the layers that crates/bench measures."""
     with tempfile.TemporaryDirectory() as room:
-        for name, text in texts().items():
+        for number, (name, text) in enumerate(of_all.items()):
             path = Path(room) / "text"
             data = text.encode()
             path.write_bytes(data * (SIZE // len(data) + 1))
             found = speeds(path)
-            for layer, other, least in BOUNDS:
+            for layer, other, leasts in BOUNDS:
+                least = leasts[number]
                 if layer not in found or other not in found:
                     tally.tell(f"{name}: {layer}", f"the speed of {layer} or of {other} was not measured")
                     continue
                 ratio = found[layer] / found[other]
                 said = f"{name}: {layer}: {ratio:.2f} times {other}, at least {least}"
                 tally.tell(said, None if ratio >= least else "it is slower")
+
+
+def run(tally, _arguments):
+    of_all = texts()
+    subcommands(tally, of_all)
+    layers(tally, of_all)
