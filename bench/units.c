@@ -128,8 +128,8 @@ int main(int count, char **word)
     for (int k = 5; k < count; k++) {
         text of = read_text(word[k]);
         const char *name = strrchr(word[k], '/');
-        printf("%-12s %8.0f %8.0f %8.0f %8.1f %10.1f\n", name == NULL ? word[k] : name + 1, best(ours_utf8, &of), best(ours_utf16, &of),
-               best(ours_utf32, &of), best(icu, &of), best(unibreak, &of));
+        printf("%-12s %8.0f %8.0f %8.0f %8.1f %10.1f\n", name == NULL ? word[k] : name + 1, best(ours_utf8, &of),
+               best(ours_utf16, &of), best(ours_utf32, &of), best(icu, &of), best(unibreak, &of));
     }
     fprintf(stderr, "sum of places: %zu\n", total);
     return 0;

@@ -21,11 +21,13 @@ int main(int count, char **word)
         fprintf(stderr, "standard input cannot be read, or ends within a unit\n");
         return 1;
     }
+    /* (memory of malloc suits units of any size) */
+    const uint16_t *units = (const void *)text.at;
     lbk_state state = {0};
     lbk_break block[ROOM];
     size_t got;
     do {
-        got = lbk_breaks_utf16(&table, &state, (const uint16_t *)(const void *)text.at, text.size / sizeof(uint16_t), block, ROOM);
+        got = lbk_breaks_utf16(&table, &state, units, text.size / sizeof *units, block, ROOM);
         for (size_t k = 0; k < got; k++)
             printf("%zu %u %s\n", block[k].at, (unsigned)block[k].kind, lbk_label(block[k].rule).text);
     } while (got == ROOM);

@@ -98,7 +98,8 @@ static void try_marks(void)
     char marks[5];
     set_linebreaks_utf16(ill, 5, "", marks);
     told("surrogates that stand alone", memcmp(marks, "\2\1\2\1\0", 5) == 0);
-    told("two scalars", is_line_breakable('a', 'b', "") == LINEBREAK_NOBREAK && is_line_breakable(0x4E00, 0x4E00, "") == LINEBREAK_ALLOWBREAK
+    told("two scalars", is_line_breakable('a', 'b', "") == LINEBREAK_NOBREAK
+                            && is_line_breakable(0x4E00, 0x4E00, "") == LINEBREAK_ALLOWBREAK
                             && is_line_breakable('\n', 'b', "") == LINEBREAK_MUSTBREAK);
 }
 

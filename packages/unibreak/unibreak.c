@@ -44,7 +44,8 @@ static void find_table(void)
 {
     table = map_table();
     if (table == NULL)
-        fprintf(stderr, "linebreak: %s is no whole table of lbk %s: write it with examples/save_table.c\n", LBK_TABLE_FILE, LBK_VERSION);
+        fprintf(stderr, "linebreak: %s is no whole table of lbk %s: write it with examples/save_table.c\n", LBK_TABLE_FILE,
+                LBK_VERSION);
 }
 
 void init_linebreak(void) { pthread_once(&once, find_table); }
