@@ -13,7 +13,7 @@
 #include <time.h>
 #include <unicode/ubrk.h>
 
-enum { ROOM = 256, RUNS = 25, MILLION = 1000000 };
+enum { ROOM = 256, RUNS = 25, CALLS = 5, MILLION = 1000000 };
 
 static lbk_table table;
 static UBreakIterator *iterator;
@@ -69,17 +69,20 @@ static void unibreak(const text *of)
             total += k + 1;
 }
 
-static double best(void (*call)(const text *), const text *of)
+/* The least time of each call, which take turns, so that a busy machine is busy for all of them. */
+static void measure(const text *of, double *least)
 {
-    double least = 1e9;
-    for (int run = 0; run < RUNS; run++) {
-        double from = now();
-        call(of);
-        double took = now() - from;
-        if (took < least)
-            least = took;
-    }
-    return (double)of->scalars / least / 1e6;
+    static void (*const calls[CALLS])(const text *) = {ours_utf8, ours_utf16, ours_utf32, icu, unibreak};
+    for (int k = 0; k < CALLS; k++)
+        least[k] = 1e9;
+    for (int run = 0; run < RUNS; run++)
+        for (int k = 0; k < CALLS; k++) {
+            double from = now();
+            calls[k](of);
+            double took = now() - from;
+            if (took < least[k])
+                least[k] = took;
+        }
 }
 
 static text read_text(const char *name)
@@ -124,12 +127,16 @@ int main(int count, char **word)
     if (U_FAILURE(error) || marks == NULL)
         return 1;
     init_linebreak();
-    printf("%-12s %8s %8s %8s %8s %10s\n", "text", "UTF-8", "UTF-16", "UTF-32", "ICU", "libunibreak");
+    printf("%-12s %8s %8s %8s %8s %s\n", "text", "UTF-8", "UTF-16", "UTF-32", "ICU", "libunibreak");
     for (int k = 5; k < count; k++) {
         text of = read_text(word[k]);
         const char *name = strrchr(word[k], '/');
-        printf("%-12s %8.0f %8.0f %8.0f %8.1f %10.1f\n", name == NULL ? word[k] : name + 1, best(ours_utf8, &of), best(ours_utf16, &of),
-               best(ours_utf32, &of), best(icu, &of), best(unibreak, &of));
+        double least[CALLS];
+        measure(&of, least);
+        printf("%-12s", name == NULL ? word[k] : name + 1);
+        for (int call = 0; call < CALLS; call++)
+            printf(" %8.1f", (double)of.scalars / least[call] / 1e6);
+        printf("\n");
     }
     fprintf(stderr, "sum of places: %zu\n", total);
     return 0;

@@ -103,7 +103,7 @@ for profile in 1 2; do
 done
 
 # The names that the libraries show: those of the header, and in the shared one with the version.
-calls=$(sed -n 's/^[a-z].* \**\(lbk_[a-z_]*\)(.*/\1/p' "$prefix/include/lbk.h" | sort)
+calls=$(sed -n 's/^[a-z].* \**\(lbk_[a-z0-9_]*\)(.*/\1/p' "$prefix/include/lbk.h" | sort)
 shown=$(nm -g --defined-only "$folder/liblbk.a" | sed -n 's/.* //p' | grep -v '^lbk\.o:$' | sort)
 told 'liblbk.a shows the calls of the header alone' "$([ -n "$calls" ] && [ "$shown" = "$calls" ] && echo yes || echo "it shows $shown")"
 shown=$(nm -D --defined-only --with-symbol-versions "$folder/liblbk.so" | sed -n 's/.* T //p' | sort)
@@ -177,7 +177,7 @@ try_c() {
     for version in c99 c11 c17; do
         tried "$1: lbk.h in $version" "$1" -std=$version "${warnings[@]}" "${flags[@]}" -fsyntax-only -xc "$prefix/include/lbk.h"
     done
-    for name in breaks save_table words; do
+    for name in breaks save_table utf16 words; do
         tried "$1: $name.c" "$1" -std=c99 "${warnings[@]}" "${flags[@]}" "$top/examples/$name.c" "${links[@]}" -o "$here/built/$name-$1"
     done
     for name in edges hurt published streams cuts units; do
@@ -186,6 +186,10 @@ try_c() {
     done
     tried "$1: refused.c" "$1" -std=c99 "${warnings[@]}" "${flags[@]}" "$top/checks/c/refused.c" "${links[@]}" -o "$here/built/refused-$1"
     compare "$1: breaks.c" "$here/built/breaks-$1"
+    python3 -c 'import array, sys; sys.stdout.buffer.write(array.array("H", [97, 98, 32, 0xD83D, 0xDE00, 32, 99, 10, 100]))' \
+        | "$here/built/utf16-$1" "${files[@]}" > "$here/out" 2> "$here/log"
+    wrong=$(cut -d ' ' -f 1 "$here/out" | tr '\n' ' ')
+    told "$1: utf16.c" "$([ "$wrong" = '3 6 8 9 ' ] && echo yes || echo "it wrote $wrong")"
     try_words "$1: words.c" "$here/built/words-$1"
     count "$1: edges.c" "$here/built/edges-$1"
     count "$1: hurt.c" "$here/built/hurt-$1" 5000 1 "${files[@]}"
@@ -280,10 +284,23 @@ for number in "${!texts[@]}"; do
     [ "$wrote" = "$wanted" ] || wrong="it wrote $wrote and not $wanted for ${texts[number]}"
 done
 told 'save_table.c: a mapped table gives as many breaks' "${wrong:-yes}"
+
+# libunibreak's calls, by a table that is whole, and then by one that is not.
+unibreak=()
+if [ -n "$published" ] && tried 'packages/unibreak: build' "$top/packages/unibreak/build" "$table" "$here/unibreak" \
+    && tried 'packages/unibreak: trying.c' cc -std=c99 "${warnings[@]}" -I"$here/unibreak/include" "$top/packages/unibreak/trying.c" \
+        -L"$here/unibreak/lib" -llbk-unibreak -o "$here/built/unibreak"; then
+    unibreak=(env LD_LIBRARY_PATH="$here/unibreak/lib" "$here/built/unibreak")
+    count 'packages/unibreak: trying.c, run' "${unibreak[@]}"
+fi
 printf 'x' | dd of="$table" bs=1 seek=100000 conv=notrunc status=none
 "$here/built/save_table-cc" "$table" < "$here/few" > "$here/log" 2>&1
 status=$?
 told 'save_table.c: a table that is not whole is refused' "$([ $status = 1 ] && echo yes || echo "status $status")"
+if [ ${#unibreak[@]} != 0 ]; then
+    count 'packages/unibreak: a table that is not whole' "${unibreak[@]}" no-table
+    told 'packages/unibreak: the table is named' "$(grep -qF "$table is no whole table" "$here/log" && echo yes || cat "$here/log")"
+fi
 
 # CMake
 if has cmake; then

@@ -84,7 +84,8 @@ static int agrees(int wide, uint8_t profile, const void *units, size_t size, siz
     size_t whole = size * (wide ? sizeof(uint32_t) : sizeof(uint16_t));
     lbk_state state = {0}, over = {0};
     state.profile = over.profile = profile;
-    size_t count = lbk_breaks(&table, &over, (const char *)read->utf8, read->size, wanted, 4 * MOST_UNITS), given = 0, scalar = 0, got;
+    size_t count = lbk_breaks(&table, &over, (const char *)read->utf8, read->size, wanted, 4 * MOST_UNITS);
+    size_t given = 0, scalar = 0, got;
     void *text = place(texts, whole);
     memcpy(text, units, whole);
     int holds = read->in_units[read->count] == size;
@@ -96,7 +97,8 @@ static int agrees(int wide, uint8_t profile, const void *units, size_t size, siz
         for (size_t k = 0; holds && k < got; k++, given++) {
             while (scalar < read->count && read->in_utf8[scalar] < wanted[given].at)
                 scalar++;
-            holds &= block[k].at == read->in_units[scalar] && block[k].kind == wanted[given].kind && block[k].rule == wanted[given].rule;
+            holds &= block[k].at == read->in_units[scalar] && block[k].kind == wanted[given].kind
+                && block[k].rule == wanted[given].rule;
         }
     } while (holds && got == room);
     holds &= given == count && state.ended != 0 && state.at == size && memcmp(text, units, whole) == 0;
@@ -109,8 +111,9 @@ static int agrees(int wide, uint8_t profile, const void *units, size_t size, siz
 /* Scalars of all widths that rules ask for, and any others. */
 static uint32_t random_scalar(void)
 {
-    static const uint32_t codes[] = {'a', ' ', '\n', '\r', '(', '"', 0xAB, 0xBB, 0x301, 0x200D, 0x4E00, 0xAC00, 0x1F1E6, 0x1F600, 0x1F3FB,
-        0x200B, '1', ',', '%', '-', 0x5D0, 0x2019, 0x201D, 0xFFFD, 0xFFFF, 0x10000, 0x10FFFF, 0x20000, 0xD7FF, 0xE000, 0xA0, 0x1D165, 0xE0100};
+    static const uint32_t codes[] = {'a', ' ', '\n', '\r', '(', '"', '1', ',', '%', '-', 0xA0, 0xAB, 0xBB, 0x301, 0x5D0, 0x200B,
+        0x200D, 0x2019, 0x201D, 0x4E00, 0xAC00, 0xD7FF, 0xE000, 0xFFFD, 0xFFFF, 0x10000, 0x1D165, 0x1F1E6, 0x1F3FB, 0x1F600,
+        0x20000, 0xE0100, 0x10FFFF};
     if (below(8) != 0)
         return codes[below(sizeof codes / sizeof *codes)];
     uint32_t code = (uint32_t)below(0x110000 - 0x800);
@@ -137,7 +140,8 @@ static size_t random_utf16(uint16_t *to)
 
 static size_t random_utf32(uint32_t *to)
 {
-    static const uint32_t none[] = {0xD800, 0xDBFF, 0xDC00, 0xDFFF, 0x110000, 0x110041, 0x200041, 0x80000041, 0xFFFFFFFF, 0xFFFF0020};
+    static const uint32_t none[] = {0xD800, 0xDBFF, 0xDC00, 0xDFFF, 0x110000, 0x110041, 0x200041, 0x80000041, 0xFFFF0020,
+        0xFFFFFFFF};
     size_t size = 0, most = below(MOST_TEXT + 1);
     unsigned ill = (unsigned)below(3);
     while (size < most) {

@@ -273,14 +273,16 @@ lbk_text lbk_file_name(uint32_t file);
  * overwritten. Takes no memory from the heap. */
 size_t lbk_breaks(const lbk_table *table, lbk_state *state, const char *text, size_t size, lbk_break *block, size_t room);
 
-/* The same for a text in UTF-16 or UTF-32, in the machine's order of bytes: `size`, each `at` and the state's `at` count units of 16
- * or of 32 bits. Any units may come: a surrogate that stands alone, and a number that is no scalar value, is read as one U+FFFD
- * at its place (Unicode Standard, section 3.9, D90 and D91). No break comes between the two halves of a pair.
+/* The same for a text in UTF-16 or UTF-32, in the machine's order of bytes: `size`, each `at` and the state's `at` count units
+ * of 16 or of 32 bits. Any units may come: a surrogate that stands alone, and a number that is no scalar value, is read as one
+ * U+FFFD at its place (Unicode Standard, section 3.9, D90 and D91). No break comes between the two halves of a pair.
  *
  * Texts of the same scalars have the same breaks in all three encodings, by the same rules, each at the units that spell the
  * scalars before it. All else is as lbk_breaks has it. A state goes on with the encoding that it began with. */
-size_t lbk_breaks_utf16(const lbk_table *table, lbk_state *state, const uint16_t *text, size_t size, lbk_break *block, size_t room);
-size_t lbk_breaks_utf32(const lbk_table *table, lbk_state *state, const uint32_t *text, size_t size, lbk_break *block, size_t room);
+size_t lbk_breaks_utf16(const lbk_table *table, lbk_state *state, const uint16_t *text, size_t size, lbk_break *block,
+                        size_t room);
+size_t lbk_breaks_utf32(const lbk_table *table, lbk_state *state, const uint32_t *text, size_t size, lbk_break *block,
+                        size_t room);
 
 /* The same for a text that comes in pieces of any size, as from a socket: takes the next piece of a stream, and puts the breaks
  * that it settles into the front of a block with room for `room` breaks.

@@ -466,72 +466,6 @@ inline std::size_t cut_before(const lbk_table &by, std::string_view text, std::s
     return lbk_cut_before(&by, text.data(), text.size(), at);
 }
 
-namespace detail {
-
-inline std::size_t next_breaks(const lbk_table *table, lbk_state *state, const char16_t *text, std::size_t size, lbk_break *block,
-                               std::size_t room) noexcept
-{
-    static_assert(sizeof(char16_t) == sizeof(std::uint16_t) && alignof(char16_t) == alignof(std::uint16_t));
-    return lbk_breaks_utf16(table, state, reinterpret_cast<const std::uint16_t *>(text), size, block, room);
-}
-
-inline std::size_t next_breaks(const lbk_table *table, lbk_state *state, const char32_t *text, std::size_t size, lbk_break *block,
-                               std::size_t room) noexcept
-{
-    static_assert(sizeof(char32_t) == sizeof(std::uint32_t) && alignof(char32_t) == alignof(std::uint32_t));
-    return lbk_breaks_utf32(table, state, reinterpret_cast<const std::uint32_t *>(text), size, block, room);
-}
-
-/// The breaks of a text of units, as lbk::breaks are those of a text in UTF-8. Places are in units.
-template <typename Unit>
-class unit_breaks {
-    struct call {
-        using value_type = lbk_break;
-
-        const lbk_table *table = nullptr;
-        const Unit *text = nullptr;
-        std::size_t size = 0;
-        lbk_state state = {0, 0, LBK_FIRST, 0};
-
-        std::size_t operator()(lbk_break *block, std::size_t room) noexcept
-        {
-            return next_breaks(table, &state, text, size, block, room);
-        }
-
-        static bool is_same(lbk_break a, lbk_break b) noexcept { return a.at == b.at; }
-    };
-
-public:
-    using iterator = detail::iterator<call>;
-    using const_iterator = iterator;
-    using value_type = lbk_break;
-
-    unit_breaks(const lbk_table &by, std::basic_string_view<Unit> text, profile rules = profile::first) noexcept
-        : start_{&by, text.data(), text.size(), {0, 0, static_cast<std::uint8_t>(rules), 0}}
-    {
-    }
-
-    /// A temporary would be gone before the range is gone through.
-    unit_breaks(const lbk_table &&, std::basic_string_view<Unit>, profile = profile::first) = delete;
-    unit_breaks(const table &&, std::basic_string_view<Unit>, profile = profile::first) = delete;
-    template <typename Text, typename = std::enable_if_t<std::is_same_v<Text, std::basic_string<Unit>>>>
-    unit_breaks(const lbk_table &, Text &&, profile = profile::first) = delete;
-
-    iterator begin() const noexcept { return iterator(start_); }
-    iterator end() const noexcept { return iterator(); }
-
-private:
-    call start_;
-};
-
-} // namespace detail
-
-/// The breaks of a text in UTF-16 in their order. A surrogate that stands alone is read as U+FFFD.
-using breaks_utf16 = detail::unit_breaks<char16_t>;
-
-/// The breaks of a text in UTF-32 in their order. A unit that is no scalar value is read as U+FFFD.
-using breaks_utf32 = detail::unit_breaks<char32_t>;
-
 /// The words of a text in their order, as the bytes that each has: a view that can be gone through any number of times. It needs no
 /// table.
 class words {
@@ -619,6 +553,72 @@ private:
 /// The name of a rule without `LB`, as "8a"; empty for a number that no rule has.
 inline std::string label(std::uint8_t rule) { return lbk_label(rule).text; }
 
+namespace detail {
+
+inline std::size_t next_breaks(const lbk_table *table, lbk_state *state, const char16_t *text, std::size_t size, lbk_break *block,
+                               std::size_t room) noexcept
+{
+    static_assert(sizeof(char16_t) == sizeof(std::uint16_t) && alignof(char16_t) == alignof(std::uint16_t));
+    return lbk_breaks_utf16(table, state, reinterpret_cast<const std::uint16_t *>(text), size, block, room);
+}
+
+inline std::size_t next_breaks(const lbk_table *table, lbk_state *state, const char32_t *text, std::size_t size, lbk_break *block,
+                               std::size_t room) noexcept
+{
+    static_assert(sizeof(char32_t) == sizeof(std::uint32_t) && alignof(char32_t) == alignof(std::uint32_t));
+    return lbk_breaks_utf32(table, state, reinterpret_cast<const std::uint32_t *>(text), size, block, room);
+}
+
+/// The breaks of a text of units, as lbk::breaks are those of a text in UTF-8. Places are in units.
+template <typename Unit>
+class unit_breaks {
+    struct call {
+        using value_type = lbk_break;
+
+        const lbk_table *table = nullptr;
+        const Unit *text = nullptr;
+        std::size_t size = 0;
+        lbk_state state = {0, 0, LBK_FIRST, 0};
+
+        std::size_t operator()(lbk_break *block, std::size_t room) noexcept
+        {
+            return next_breaks(table, &state, text, size, block, room);
+        }
+
+        static bool is_same(lbk_break a, lbk_break b) noexcept { return a.at == b.at; }
+    };
+
+public:
+    using iterator = detail::iterator<call>;
+    using const_iterator = iterator;
+    using value_type = lbk_break;
+
+    unit_breaks(const lbk_table &by, std::basic_string_view<Unit> text, profile rules = profile::first) noexcept
+        : start_{&by, text.data(), text.size(), {0, 0, static_cast<std::uint8_t>(rules), 0}}
+    {
+    }
+
+    /// A temporary would be gone before the range is gone through.
+    unit_breaks(const lbk_table &&, std::basic_string_view<Unit>, profile = profile::first) = delete;
+    unit_breaks(const table &&, std::basic_string_view<Unit>, profile = profile::first) = delete;
+    template <typename Text, typename = std::enable_if_t<std::is_same_v<Text, std::basic_string<Unit>>>>
+    unit_breaks(const lbk_table &, Text &&, profile = profile::first) = delete;
+
+    iterator begin() const noexcept { return iterator(start_); }
+    iterator end() const noexcept { return iterator(); }
+
+private:
+    call start_;
+};
+
+} // namespace detail
+
+/// The breaks of a text in UTF-16 in their order. A surrogate that stands alone is read as U+FFFD.
+using breaks_utf16 = detail::unit_breaks<char16_t>;
+
+/// The breaks of a text in UTF-32 in their order. A unit that is no scalar value is read as U+FFFD.
+using breaks_utf32 = detail::unit_breaks<char32_t>;
+
 } // namespace lbk
 
 #if defined(__cpp_lib_ranges)
@@ -626,14 +626,14 @@ template <lbk::detail::break_call Next>
 inline constexpr bool std::ranges::enable_view<lbk::detail::break_view<Next>> = true;
 template <lbk::detail::break_call Next>
 inline constexpr bool std::ranges::enable_borrowed_range<lbk::detail::break_view<Next>> = true;
-template <typename Unit>
-inline constexpr bool std::ranges::enable_view<lbk::detail::unit_breaks<Unit>> = true;
-template <typename Unit>
-inline constexpr bool std::ranges::enable_borrowed_range<lbk::detail::unit_breaks<Unit>> = true;
 template <>
 inline constexpr bool std::ranges::enable_view<lbk::words> = true;
 template <>
 inline constexpr bool std::ranges::enable_borrowed_range<lbk::words> = true;
+template <typename Unit>
+inline constexpr bool std::ranges::enable_view<lbk::detail::unit_breaks<Unit>> = true;
+template <typename Unit>
+inline constexpr bool std::ranges::enable_borrowed_range<lbk::detail::unit_breaks<Unit>> = true;
 #endif
 
 #endif

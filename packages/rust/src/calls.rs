@@ -157,22 +157,6 @@ extern "C" {
         block: *mut Break,
         room: usize,
     ) -> usize;
-    pub fn lbk_breaks_utf16(
-        table: *const Table,
-        state: *mut State,
-        text: *const u16,
-        size: usize,
-        block: *mut Break,
-        room: usize,
-    ) -> usize;
-    pub fn lbk_breaks_utf32(
-        table: *const Table,
-        state: *mut State,
-        text: *const u32,
-        size: usize,
-        block: *mut Break,
-        room: usize,
-    ) -> usize;
     pub fn lbk_positions(
         table: *const Table,
         state: *mut State,
@@ -201,4 +185,20 @@ extern "C" {
     ) -> usize;
     pub fn lbk_label(rule: u8) -> RuleLabel;
     pub fn lbk_check(table: *const Table) -> bool;
+    pub fn lbk_breaks_utf16(
+        table: *const Table,
+        state: *mut State,
+        text: *const u16,
+        size: usize,
+        block: *mut Break,
+        room: usize,
+    ) -> usize;
+    pub fn lbk_breaks_utf32(
+        table: *const Table,
+        state: *mut State,
+        text: *const u32,
+        size: usize,
+        block: *mut Break,
+        room: usize,
+    ) -> usize;
 }

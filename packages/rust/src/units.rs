@@ -15,8 +15,14 @@ mod sealed {
 }
 
 /// A call that gives the next breaks of a text of units.
-type Call<U> =
-    unsafe extern "C" fn(*const calls::Table, *mut calls::State, *const U, usize, *mut calls::Break, usize) -> usize;
+type Call<U> = unsafe extern "C" fn(
+    *const calls::Table,
+    *mut calls::State,
+    *const U,
+    usize,
+    *mut calls::Break,
+    usize,
+) -> usize;
 
 /// A unit of a text: `u16` in UTF-16, and `char` or `u32` in UTF-32.
 pub trait Unit: sealed::Unit {}
@@ -84,7 +90,11 @@ impl Table {
 
     /// The breaks of some scalars in a profile, in their order: of a `&[char]`, or of a `&[u32]`, in which a number that is no
     /// scalar value is read as U+FFFD.
-    pub fn breaks_utf32<'a, U: ScalarUnit>(&'a self, profile: Profile, text: &'a [U]) -> UnitBreaks<'a, U> {
+    pub fn breaks_utf32<'a, U: ScalarUnit>(
+        &'a self,
+        profile: Profile,
+        text: &'a [U],
+    ) -> UnitBreaks<'a, U> {
         UnitBreaks::new(self, profile, text)
     }
 }

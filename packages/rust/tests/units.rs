@@ -14,7 +14,10 @@ fn table() -> Box<Table> {
 }
 
 /// Each break as its place, kind and rule, the place by a function of the byte that it stands before.
-fn placed(breaks: impl Iterator<Item = Break>, place: impl Fn(usize) -> usize) -> Vec<(usize, Kind, String)> {
+fn placed(
+    breaks: impl Iterator<Item = Break>,
+    place: impl Fn(usize) -> usize,
+) -> Vec<(usize, Kind, String)> {
     breaks
         .map(|found| (place(found.at), found.kind, found.rule.to_string()))
         .collect()
@@ -28,11 +31,24 @@ fn the_same_breaks_in_each_encoding() {
     let scalars: Vec<char> = text.chars().collect();
     let numbers: Vec<u32> = scalars.iter().map(|&c| u32::from(c)).collect();
     for profile in [Profile::First, Profile::Second] {
-        let in_utf16 = placed(table.breaks_in(profile, text.as_bytes()), |at| text[..at].encode_utf16().count());
-        assert_eq!(placed(table.breaks_utf16(profile, &units), |at| at), in_utf16);
-        let in_utf32 = placed(table.breaks_in(profile, text.as_bytes()), |at| text[..at].chars().count());
-        assert_eq!(placed(table.breaks_utf32(profile, &scalars), |at| at), in_utf32);
-        assert_eq!(placed(table.breaks_utf32(profile, &numbers), |at| at), in_utf32);
+        let in_utf16 = placed(table.breaks_in(profile, text.as_bytes()), |at| {
+            text[..at].encode_utf16().count()
+        });
+        assert_eq!(
+            placed(table.breaks_utf16(profile, &units), |at| at),
+            in_utf16
+        );
+        let in_utf32 = placed(table.breaks_in(profile, text.as_bytes()), |at| {
+            text[..at].chars().count()
+        });
+        assert_eq!(
+            placed(table.breaks_utf32(profile, &scalars), |at| at),
+            in_utf32
+        );
+        assert_eq!(
+            placed(table.breaks_utf32(profile, &numbers), |at| at),
+            in_utf32
+        );
     }
 }
 
@@ -42,9 +58,15 @@ fn what_is_no_scalar_is_a_replacement_character() {
     let units = [0x61, 0x20, 0xD83D, 0x61, 0x20, 0xDE00, 0xD83D];
     let text = String::from_utf16_lossy(&units);
     let wanted = placed(table.breaks(&text), |at| text[..at].chars().count());
-    assert_eq!(placed(table.breaks_utf16(Profile::First, &units), |at| at), wanted);
+    assert_eq!(
+        placed(table.breaks_utf16(Profile::First, &units), |at| at),
+        wanted
+    );
     let numbers = [0x61, 0x20, 0x110000, 0x61, 0x20, 0xDE00, u32::MAX];
-    assert_eq!(placed(table.breaks_utf32(Profile::First, &numbers), |at| at), wanted);
+    assert_eq!(
+        placed(table.breaks_utf32(Profile::First, &numbers), |at| at),
+        wanted
+    );
 }
 
 #[test]

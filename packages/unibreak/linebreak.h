@@ -1,0 +1,46 @@
+/* Line breaks under the names of libunibreak's public header, found by liblbk (UAX #14, Unicode 15.0).
+ *
+ * A program that was written for libunibreak is built against this header and linked to the library that
+ * packages/unibreak/build makes, unchanged. The rules are those of the annex, with no tailoring: the argument for a language
+ * is taken and not looked at. */
+#ifndef LINEBREAK_H
+#define LINEBREAK_H
+
+#include <stddef.h>
+
+#ifdef __cplusplus
+extern "C" {
+#endif
+
+#ifndef LINEBREAK_UTF_TYPES_DEFINED
+#define LINEBREAK_UTF_TYPES_DEFINED
+typedef unsigned char utf8_t;
+typedef unsigned short utf16_t;
+typedef unsigned int utf32_t;
+#endif
+
+/* What a mark says of the position after its unit. */
+#define LINEBREAK_MUSTBREAK 0     /* the line must end */
+#define LINEBREAK_ALLOWBREAK 1    /* it may end */
+#define LINEBREAK_NOBREAK 2       /* it does not end */
+#define LINEBREAK_INSIDEACHAR 3   /* the position is inside of a scalar, or of bytes that are read as one U+FFFD */
+#define LINEBREAK_INDETERMINATE 4 /* there is no table, so nothing is known */
+
+/* Maps the table, once in a process; the first of the other calls does so too. Where there is no whole table it writes one line
+ * to standard error that names the file, and all marks are LINEBREAK_INDETERMINATE. Any number of threads may call at once. */
+void init_linebreak(void);
+
+/* Writes a mark for each of the `len` units of a text: what holds of the position after it. The last one is
+ * LINEBREAK_MUSTBREAK, by rule 3. Ill-formed units are read as U+FFFD. */
+void set_linebreaks_utf8(const utf8_t *s, size_t len, const char *lang, char *brks);
+void set_linebreaks_utf16(const utf16_t *s, size_t len, const char *lang, char *brks);
+void set_linebreaks_utf32(const utf32_t *s, size_t len, const char *lang, char *brks);
+
+/* The mark between two scalars with nothing around them. */
+int is_line_breakable(utf32_t char1, utf32_t char2, const char *lang);
+
+#ifdef __cplusplus
+}
+#endif
+
+#endif
