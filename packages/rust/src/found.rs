@@ -9,7 +9,7 @@ use crate::calls;
 use crate::table::Table;
 
 /// How many are asked for at once.
-const ROOM: usize = 64;
+const ROOM: usize = 128;
 
 type Block = [calls::Break; ROOM];
 

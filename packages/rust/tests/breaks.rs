@@ -48,7 +48,7 @@ fn more_breaks_than_one_block_has() {
 #[test]
 fn a_block_that_is_just_full_ends_the_text() {
     let table = table();
-    for words in 60..70 {
+    for words in (60..70).chain(124..134) {
         let text = "a ".repeat(words);
         let mut breaks = table.breaks(&text);
         assert_eq!(breaks.by_ref().count(), words);
