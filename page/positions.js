@@ -88,6 +88,17 @@ export class PositionsView {
     document.getElementById(`position-${to}`).scrollIntoView({ block: "nearest" });
   }
 
+  /** The place of the chosen position, if one is. */
+  get chosenAt() {
+    return this.#positions[this.#chosen]?.at;
+  }
+
+  /** Chooses the position at a place of the text, if one is there. */
+  chooseAt(place) {
+    const k = this.#positions.findIndex(({ at }) => at === place);
+    if (k >= 0) this.choose(k);
+  }
+
   /** Chooses the k-th position, from 0, and says what decides there. */
   choose(k) {
     document.getElementById(`position-${this.#chosen}`)?.setAttribute("aria-selected", "false");

@@ -50,7 +50,8 @@ export type Source = ArrayBuffer | ArrayBufferView | Response | URL | string;
 /** The tables made from the files of the Unicode Character Database, with the module that decides by them. */
 export class Table {
   /**
-   * A table saved by `save_table` of the C library.
+   * A table saved by `save_table` of the C library, or one that `pack.js` made of it, compressed by gzip or not. The module
+   * checks its digest.
    * @param saved The bytes of the table, or where they are.
    * @param module The module `lbk.wasm`; the one beside this file unless given.
    * @throws RangeError if the bytes are not a whole table of this version.

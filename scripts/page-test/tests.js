@@ -20,11 +20,6 @@ async function untilTrue(holds, what) {
   throw new Error(`${what} did not come within 5 s`);
 }
 
-async function loadTable() {
-  const response = await fetch("/page/lbk.table.gz");
-  return Table.fromBytes(new Response(response.body.pipeThrough(new DecompressionStream("gzip"))));
-}
-
 async function digestOf(table, { at, kind, rule }) {
   const lines = [];
   for (let k = 0; k < at.length; k++) lines.push(`${at[k]} ${kind[k]} ${table.ruleLabel(rule[k])}\n`);
@@ -50,21 +45,42 @@ function bestTime(action) {
   return best;
 }
 
-/** How fast columns are of a string, beside the line iterator of ICU that Chromium has. */
+function timeOfIcu(text) {
+  if (!Intl.v8BreakIterator) return undefined;
+  const iterator = new Intl.v8BreakIterator("en", { type: "line" });
+  return bestTime(() => {
+    iterator.adoptText(text);
+    iterator.first();
+    while (iterator.next() >= 0);
+  });
+}
+
+/** How fast columns are, beside the C library and the line iterator of ICU that Chromium has. Speeds are of UTF-8, in MB/s. */
 async function trySpeed(table) {
-  const text = (await (await fetch("speed.txt")).text()).slice(0, 1_000_000);
-  const ours = bestTime(() => table.breakColumns(text));
-  const told = [`columns of a string: ${(text.length / ours / 1000).toFixed(0)} million units a second`];
-  if (Intl.v8BreakIterator) {
-    const iterator = new Intl.v8BreakIterator("en", { type: "line" });
-    const theirs = bestTime(() => {
-      iterator.adoptText(text);
-      iterator.first();
-      while (iterator.next() >= 0);
-    });
-    told.push(`${(theirs / ours).toFixed(1)} times as fast as Intl.v8BreakIterator`);
+  for (const [name, file, whole, pieces] of await (await fetch("speed.json")).json()) {
+    const bytes = new Uint8Array(await (await fetch(file)).arrayBuffer());
+    const text = new TextDecoder().decode(bytes);
+    const speed = (time) => Math.round(bytes.length / time / 1000);
+    const ours = speed(bestTime(() => table.breakColumns(bytes)));
+    const ofString = speed(bestTime(() => table.breakColumns(text)));
+    const theirs = speed(timeOfIcu(text));
+    const share = [whole, pieces].map((it) => (ours / it).toFixed(2));
+    say(
+      `speed over ${name}: columns ${ours} MB/s, ${share[0]} of lbk_breaks and ${share[1]} of lbk_feed in C; of a string ${ofString}, ICU ${theirs}`,
+      ofString <= theirs ? "slower than ICU" : "",
+    );
   }
-  say(told.join(", "));
+}
+
+/** How long the page takes until it shows its first text, at first and at best. */
+async function tryStart() {
+  const times = [];
+  for (let k = 0; k < 8; k++) {
+    const page = await openPage();
+    times.push(Math.round(page.document.documentElement.dataset.readyAfter));
+  }
+  const best = Math.min(...times);
+  say(`the page is ready ${times[0]} ms after it was asked for, ${best} at best of ${times.length}`, best > 100 ? "over 100 ms" : "");
 }
 
 async function openPage(fragment = "", width = 900) {
@@ -95,7 +111,6 @@ function press(page, key) {
 
 async function tryPage() {
   const page = await openPage();
-  say(`the page is ready ${Math.round(page.document.documentElement.dataset.readyAfter)} ms after it was asked for`);
   write(page, "ab cd");
   equal("a text that is typed is shown", signs(page), "×××÷×!");
   press(page, "ArrowRight");
@@ -133,17 +148,36 @@ async function tryPage() {
 async function tryLinks() {
   const page = await openPage("#text=a%20b&profile=2");
   equal("a link holds the text", [page.find("text").value, page.find("profile").value, signs(page)], ["a b", "2", "××÷!"]);
+  const chosen = await openPage("#text=a%20b&profile=1&at=2");
+  const detail = chosen.find("detail").textContent;
+  say("a link chooses a position", /at 2\. ?Rule LB18/.test(detail) ? "" : detail);
   const narrow = await openPage("#text=" + encodeURIComponent("A narrow window shows all of a text that is longer than it."), 320);
   const { scrollWidth } = narrow.document.documentElement;
   say("nothing is wider than 320 pixels", scrollWidth <= 320 ? "" : `${scrollWidth} pixels`);
 }
 
+/** The pages that docs/javascript.md shows write what stands below them. */
+async function tryShown() {
+  const wanted = await (await fetch("shown.json")).json();
+  for (const [number, text] of wanted.entries()) {
+    const frame = document.createElement("iframe");
+    frame.src = `/shown/shown-${number}.html`;
+    document.body.append(frame);
+    const shows = () => frame.contentDocument?.body?.innerText.trim();
+    await untilTrue(() => shows() === text.trim(), `what the docs show, but ${JSON.stringify(shows())}`).catch(() => {});
+    equal(`page ${number + 1} of the docs`, shows(), text.trim());
+    frame.remove();
+  }
+}
+
 try {
-  const table = await loadTable();
+  await tryStart();
+  const table = await Table.fromBytes("/page/lbk.table.gz");
   await tryCases(table);
   await trySpeed(table);
   await tryPage();
   await tryLinks();
+  await tryShown();
 } catch (error) {
   say("the tests came to their end", String(error.stack ?? error));
 }

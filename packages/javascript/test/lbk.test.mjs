@@ -1,9 +1,14 @@
 // The package in Node. LBK_TABLE names a table of Unicode 15.0 that save_table wrote, and LBK_CASES a file of lines
 // "SHA-256 of the lines, call, profile, file of the text", which the C library wrote. scripts/page makes both.
 import assert from "node:assert/strict";
+import { spawnSync } from "node:child_process";
 import { createHash } from "node:crypto";
-import { readFileSync } from "node:fs";
+import { mkdtempSync, readFileSync, rmSync, writeFileSync } from "node:fs";
+import { tmpdir } from "node:os";
+import { join } from "node:path";
 import { test } from "node:test";
+import { fileURLToPath } from "node:url";
+import { gunzipSync } from "node:zlib";
 import { Table } from "../lbk.js";
 
 const saved = readFileSync(process.env.LBK_TABLE);
@@ -73,6 +78,54 @@ test("a table that is not whole is refused", async () => {
   const damaged = new Uint8Array(saved);
   damaged[saved.length >> 1] ^= 1;
   await assert.rejects(Table.fromBytes(damaged), RangeError);
+});
+
+/** Runs pack.js on a table in a folder of its own: its status, what it said, and what it packed. */
+function pack(table) {
+  const folder = mkdtempSync(join(tmpdir(), "lbk-"));
+  try {
+    const [from, to] = [join(folder, "table"), join(folder, "packed")];
+    writeFileSync(from, table);
+    const { status, stderr } = spawnSync(process.execPath, [fileURLToPath(new URL("../pack.js", import.meta.url)), from, to], { encoding: "utf8" });
+    return { status, stderr, packed: status === 0 ? readFileSync(to) : null };
+  } finally {
+    rmSync(folder, { recursive: true });
+  }
+}
+
+test("a packed table gives the positions that the table gives", async () => {
+  const { status, packed } = pack(saved);
+  assert.equal(status, 0);
+  assert.ok(packed.length < 5000);
+  const text = "a « b », 「きょう」 1 234,50 € 👩🏽\r\n";
+  for (const source of [packed, gunzipSync(packed)]) {
+    const other = await Table.fromBytes(source);
+    for (const profile of [1, 2]) {
+      assert.deepEqual([...other.positions(text, { profile })], [...table.positions(text, { profile })]);
+    }
+  }
+});
+
+test("a packed table that is damaged is refused", async () => {
+  const { packed } = pack(saved);
+  const plain = gunzipSync(packed);
+  await assert.rejects(Table.fromBytes(packed.subarray(0, -9)), RangeError);
+  for (const bytes of [plain.subarray(1), plain.subarray(0, -1), new Uint8Array(0), new Uint8Array(20)]) {
+    await assert.rejects(Table.fromBytes(bytes), RangeError);
+  }
+  for (let at = 0; at < plain.length; at += 1009) {
+    const damaged = new Uint8Array(plain);
+    damaged[at] ^= 1;
+    await assert.rejects(Table.fromBytes(damaged), RangeError, `byte ${at}`);
+  }
+});
+
+test("pack.js refuses what is no table", () => {
+  for (const bytes of [saved.subarray(1), new Uint8Array(saved.length).fill(1)]) {
+    const { status, stderr } = pack(bytes);
+    assert.equal(status, 1);
+    assert.match(stderr, /^pack.js: /);
+  }
 });
 
 test("pieces of a text give what the whole gives, in memory that does not grow", () => {
