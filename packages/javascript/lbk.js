@@ -226,6 +226,9 @@ class Machine {
   }
 }
 
+/** How many UTF-16 code units begin with each byte of UTF-8: none with a continuation byte, two with the first of four. */
+const UNITS_OF_BYTE = Uint8Array.from({ length: 256 }, (_, byte) => (byte < 0x80 || byte >= 0xc0) + (byte >= 0xf0));
+
 /** Where the bytes of a string stand in it, asked for in rising order while pieces of it are in a window. */
 class UnitCounter {
   #bytes;
@@ -244,30 +247,26 @@ class UnitCounter {
 
   /** The piece is done with. `heldAt` is a place of which may be asked yet, or undefined. */
   end(heldAt) {
-    if (heldAt !== undefined && heldAt >= this.#base) this.#held = { at: heldAt, units: this.unitsUpTo(heldAt) };
-    this.unitsUpTo(this.#base + this.#bytes.length);
+    const places = new Uint32Array([heldAt ?? 0, this.#base + this.#bytes.length]);
+    const isNew = heldAt !== undefined && heldAt >= this.#base;
+    this.convert(isNew ? places : places.subarray(1));
+    if (isNew) this.#held = { at: heldAt, units: places[0] };
   }
 
-  /** Replaces places in bytes, which rise, by those in units. */
+  /** Replaces places in bytes, which rise, by those in units. Only the first may be one before the piece, which was held. */
   convert(places) {
-    for (let k = 0; k < places.length; k++) places[k] = this.unitsUpTo(places[k]);
-  }
-
-  unitsUpTo(at) {
-    if (at === this.#held.at) return this.#held.units;
-    const bytes = this.#bytes;
-    const last = at - this.#base;
-    let k = this.#at - this.#base;
-    let units = this.#units;
-    if (this.#isAscii) {
-      units += last - k;
-      k = last;
+    const [bytes, isAscii, base] = [this.#bytes, this.#isAscii, this.#base];
+    let [at, units, k] = [this.#at - base, this.#units, 0];
+    if (places.length > 0 && places[0] === this.#held.at) places[k++] = this.#held.units;
+    for (; k < places.length; k++) {
+      const last = places[k] - base;
+      if (isAscii) units += last - at;
+      else for (; at < last; at++) units += UNITS_OF_BYTE[bytes[at]];
+      at = last;
+      places[k] = units;
     }
-    // Each scalar has one byte that is no continuation byte, and one of four bytes has two units.
-    for (; k < last; k++) units += ((bytes[k] & 0xc0) !== 0x80) + (bytes[k] >= 0xf0);
-    this.#at = at;
+    this.#at = at + base;
     this.#units = units;
-    return units;
   }
 }
 
