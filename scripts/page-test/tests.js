@@ -144,6 +144,9 @@ async function tryPage() {
   equal("both columns have the same lines of plain English", page.find("differences").textContent, "Both columns have the same lines.");
   say("the columns have several lines", page.find("ours").getClientRects()[0].height > 60 ? "" : "one line");
   equal("no error in the page", page.faults, []);
+  const asked = page.window.performance.getEntriesByType("resource").map((it) => new URL(it.name));
+  equal("the page asks its own server alone", asked.filter((it) => it.origin !== location.origin).map(String), []);
+  say("and it did ask it", asked.length > 5 ? "" : asked.join(" "));
   const unlabelled = [...page.document.querySelectorAll("input, select, textarea, button")].filter((it) => !it.labels?.length && !it.textContent.trim());
   equal("each control has a label", unlabelled.map((it) => it.id), []);
 }
