@@ -142,6 +142,19 @@ test("pieces of a text give what the whole gives, in memory that does not grow",
   }
 });
 
+test("after the module stopped the table has a new instance", async () => {
+  const { instantiate } = WebAssembly;
+  const lbk_feed = () => {
+    throw new WebAssembly.RuntimeError("unreachable");
+  };
+  WebAssembly.instantiate = async (...words) => ({ exports: { ...(await instantiate(...words)).exports, lbk_feed } });
+  const broken = await Table.fromBytes(saved).finally(() => {
+    WebAssembly.instantiate = instantiate;
+  });
+  assert.throws(() => broken.breakColumns("ab cd"), /stopped in the middle of a call/);
+  assert.deepEqual([...broken.breaks("ab cd")], [...table.breaks("ab cd")]);
+});
+
 test("a call after a long text is right", () => {
   const long = "word ".repeat(2_000_000);
   assert.equal(table.breakColumns(long).at.length, 2_000_000);
