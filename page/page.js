@@ -54,7 +54,7 @@ function takeFiles(changed) {
 }
 
 function start(table, chosen) {
-  const positions = new PositionsView(find("positions"), find("detail"));
+  const positions = new PositionsView(find("positions"), find("detail"), (scalar) => table.classOf(scalar));
   const columns = new ColumnsView(find("ours"), find("theirs"), find("differences"));
   let decided = [];
 

@@ -73,6 +73,11 @@ export class Table {
   positionColumns(text: Text, options?: Options): Columns;
   /** The number of a rule as it is written, without `LB`, as "8a"; "" for a number that no rule has. */
   ruleLabel(rule: number): string;
+  /**
+   * The line breaking class of a code point, as "AL", once rule LB1 has resolved it (UAX #14, section 5.1); "" for a surrogate.
+   * @throws RangeError if the number is not a code point.
+   */
+  classOf(codePoint: number): string;
   /** How many bytes of memory the module has. */
   readonly memorySize: number;
 }

@@ -162,10 +162,19 @@ class Machine {
     }
   }
 
-  ruleLabel(number) {
-    this.#exports.lbk_label(BigInt(this.block), number);
+  /** The label that a call of the module writes into the block. */
+  #label(write) {
+    write(BigInt(this.block));
     const label = this.bytes(this.block, 4);
     return String.fromCharCode(...label.subarray(0, label.indexOf(0)));
+  }
+
+  ruleLabel(number) {
+    return this.#label((to) => this.#exports.lbk_label(to, number));
+  }
+
+  classLabel(scalar) {
+    return this.#label((to) => this.#exports.lbk_class(to, BigInt(this.table), scalar));
   }
 
   /** Copies the next piece of a text, from this unit or byte on, into the window: how many of these were read, and bytes written. */
@@ -297,6 +306,11 @@ export class Table {
 
   ruleLabel(rule) {
     return this.#labels[rule] ?? "";
+  }
+
+  classOf(scalar) {
+    if (!Number.isInteger(scalar) || scalar < 0 || scalar > 0x10ffff) throw new RangeError("a code point is 0 to 0x10FFFF");
+    return this.#machine.classLabel(scalar);
   }
 
   breakColumns(text, options) {

@@ -157,6 +157,11 @@ async function tryLinks() {
   const chosen = await openPage("#text=a%20b&profile=1&at=2");
   const detail = chosen.find("detail").textContent;
   say("a link chooses a position", /at 2\. ?Rule LB18/.test(detail) ? "" : detail);
+  const joined = await openPage("#text=" + encodeURIComponent("a\u0301\u0308 \u0301") + "&at=3");
+  const classes = (page) => page.find("detail").lastChild.textContent;
+  equal("a mark joins the character before it", classes(joined), "Classes: AL before, SP after.");
+  joined.document.querySelectorAll(".position")[4].click();
+  equal("a mark after a space is a letter", classes(joined), "Classes: SP before, AL after.");
   const wide = "A narrow window shows all of a text that is longer than it.";
   const narrow = await openPage(`#text=${encodeURIComponent(wide)}`, 320);
   const { scrollWidth } = narrow.document.documentElement;

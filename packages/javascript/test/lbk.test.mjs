@@ -60,6 +60,14 @@ test("a lone surrogate is U+FFFD at its place", () => {
   }
 });
 
+test("the class of a code point, as rule LB1 resolves it", () => {
+  const classes = { a: "AL", " ": "SP", "\n": "LF", "(": "OP", "«": "QU", "漢": "ID", "\u0301": "CM", "\u200d": "ZWJ", ก: "AL", ぁ: "NS", 가: "H2" };
+  for (const [character, name] of Object.entries(classes)) assert.equal(table.classOf(character.codePointAt(0)), name);
+  assert.equal(table.classOf(0xd800), "");
+  assert.equal(table.classOf(0x10ffff), "AL");
+  for (const wrong of [-1, 0x110000, 1.5, "a", undefined]) assert.throws(() => table.classOf(wrong), RangeError);
+});
+
 test("the second profile", () => {
   const rules = (profile) => [...table.positions("a « b », c", { profile })].map((it) => it.rule).join(" ");
   assert.notEqual(rules(1), rules(2));
