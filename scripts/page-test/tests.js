@@ -35,27 +35,25 @@ async function tryCases(table) {
   }
 }
 
-/** The shortest time of an action that is done again and again for a second, as browsers compile better what runs long. */
-function bestTime(action) {
-  const began = performance.now();
-  let best = Infinity;
-  for (let start = began; start - began < 1000; ) {
-    action();
-    const end = performance.now();
-    best = Math.min(best, end - start);
-    start = end;
+/** The shortest time of each action. They take turns for three seconds, as browsers compile better what runs long. */
+function bestTimes(actions) {
+  const best = actions.map(() => Infinity);
+  for (const began = performance.now(); performance.now() - began < 3000; ) {
+    actions.forEach((action, k) => {
+      const start = performance.now();
+      action();
+      best[k] = Math.min(best[k], performance.now() - start);
+    });
   }
   return best;
 }
 
-function timeOfIcu(text) {
-  if (!Intl.v8BreakIterator) return undefined;
+/** Goes over a text with the line iterator of ICU that Chromium has. */
+function goWithIcu(text) {
   const iterator = new Intl.v8BreakIterator("en", { type: "line" });
-  return bestTime(() => {
-    iterator.adoptText(text);
-    iterator.first();
-    while (iterator.next() >= 0);
-  });
+  iterator.adoptText(text);
+  iterator.first();
+  while (iterator.next() >= 0);
 }
 
 /** How fast columns are, beside the C library and the line iterator of ICU that Chromium has. Speeds are of UTF-8, in MB/s. */
@@ -63,14 +61,13 @@ async function trySpeed(table) {
   for (const [name, file, whole, pieces] of await (await fetch("speed.json")).json()) {
     const bytes = new Uint8Array(await (await fetch(file)).arrayBuffer());
     const text = new TextDecoder().decode(bytes);
-    const speed = (time) => Math.round(bytes.length / time / 1000);
-    const ours = speed(bestTime(() => table.breakColumns(bytes)));
-    const ofString = speed(bestTime(() => table.breakColumns(text)));
-    const icu = timeOfIcu(text);
+    const actions = [() => table.breakColumns(bytes), () => table.breakColumns(text)];
+    if (Intl.v8BreakIterator) actions.push(() => goWithIcu(text));
+    const [ours, ofString, icu] = bestTimes(actions).map((time) => Math.round(bytes.length / time / 1000));
     const share = [whole, pieces].map((it) => `${(ours / it).toFixed(2)} of`);
     const ofBytes = `columns ${ours} MB/s, ${share[0]} lbk_breaks and ${share[1]} lbk_feed in C (${whole}, ${pieces})`;
-    const beside = icu ? `, ICU ${speed(icu)}` : "";
-    say(`speed over ${name}: ${ofBytes}; of a string ${ofString}${beside}`, ofString <= speed(icu) ? "slower than ICU" : "");
+    const beside = icu ? `, ICU ${icu}` : "";
+    say(`speed over ${name}: ${ofBytes}; of a string ${ofString}${beside}`, ofString <= icu ? "slower than ICU" : "");
   }
 }
 
