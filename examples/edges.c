@@ -243,6 +243,22 @@ static void try_labels(void)
     }
 }
 
+static void try_classes(void)
+{
+    static const struct {
+        uint32_t scalar;
+        const char *name;
+    } rows[] = {
+        {'a', "AL"}, {' ', "SP"}, {'\n', "LF"}, {'"', "QU"}, {'(', "OP"}, {0x0301, "CM"}, {0x4E00, "ID"}, {0x1F600, "ID"},
+        {0x10FFFF, "AL"}, {0xD800, ""}, {0xDFFF, ""}, {0x110000, ""}, {UINT32_MAX, ""},
+    };
+    for (size_t k = 0; k < sizeof rows / sizeof rows[0]; k++) {
+        lbk_class_label label = lbk_class(&table, rows[k].scalar), wanted = {{0}};
+        strcpy(wanted.text, rows[k].name);
+        told("a scalar's class", memcmp(label.text, wanted.text, sizeof wanted.text) == 0);
+    }
+}
+
 /* Whether the text has just these words, each as its start and its end, in the order of `places`,
  * which two zeros end. */
 static int has_words(const char *text, size_t size, const size_t *places)
@@ -327,6 +343,7 @@ int main(void)
     try_sizes();
     try_tables();
     try_labels();
+    try_classes();
     try_words();
     try_texts();
     printf("%u passed, %u failed\n", passed, failed);

@@ -230,6 +230,11 @@ typedef struct lbk_rule_label {
     char text[4];
 } lbk_rule_label;
 
+/* The name of a line breaking class, as "AL": ASCII, and zeros up to the end. The last byte is always zero. */
+typedef struct lbk_class_label {
+    char text[4];
+} lbk_class_label;
+
 /* A text: ASCII, and zeros up to the end. The last byte is always zero. */
 typedef struct lbk_text {
     char text[96];
@@ -381,6 +386,10 @@ size_t lbk_cut_before(const lbk_table *table, const char *text, size_t size, siz
 /* The name of a rule by its number; an empty name for a number that no rule has. */
 lbk_rule_label lbk_label(uint8_t rule);
 
+/* The name of the line breaking class of a scalar value, once rule LB1 has resolved it (UAX #14, section 5.1); an empty
+ * name for a surrogate, and for a number over 10FFFF. */
+lbk_class_label lbk_class(const lbk_table *table, uint32_t scalar);
+
 /* The version of the library that is called, as LBK_VERSION. */
 lbk_text lbk_version(void);
 
@@ -407,6 +416,7 @@ LBK_ASSERT(a_word_state_has_8_bytes, sizeof(lbk_word_state) == 8);
 LBK_ASSERT(a_word_has_16_bytes, sizeof(lbk_word) == 16);
 LBK_ASSERT(a_fault_has_12_bytes, sizeof(lbk_fault) == 12);
 LBK_ASSERT(a_label_has_4_bytes, sizeof(lbk_rule_label) == 4);
+LBK_ASSERT(a_class_label_has_4_bytes, sizeof(lbk_class_label) == 4);
 LBK_ASSERT(a_text_has_96_bytes, sizeof(lbk_text) == 96);
 LBK_ASSERT(neighbours_have_672_bytes, sizeof(lbk_neighbours) == 672);
 LBK_ASSERT(a_table_has_no_gaps, sizeof(lbk_table) == 16 + 8 * LBK_STEPS + 2 * 672 + LBK_CODES);

@@ -9,22 +9,16 @@ const find = (id) => document.getElementById(id);
 const text = find("text");
 const profile = find("profile");
 
-/** The saved table, which is compressed so that any static server will do. */
-async function tableBytes() {
-  const response = await fetch("lbk.table.gz");
-  if (!response.ok) throw new Error(`lbk.table.gz: ${response.status} ${response.statusText}`);
-  const unpacked = response.body.pipeThrough(new DecompressionStream("gzip"));
-  return new Response(unpacked).arrayBuffer();
-}
-
+/** Takes the text and the profile of a link, and returns the place of the position that it chooses, if it does. */
 function readFragment() {
   const given = new URLSearchParams(location.hash.slice(1));
   if (given.has("text")) text.value = given.get("text");
   if (["1", "2"].includes(given.get("profile"))) profile.value = given.get("profile");
+  return given.has("at") ? Number(given.get("at")) : undefined;
 }
 
-function linkToText() {
-  const given = new URLSearchParams({ text: text.value, profile: profile.value });
+function linkToText(at) {
+  const given = new URLSearchParams({ text: text.value, profile: profile.value, ...(at === undefined ? {} : { at }) });
   return `${location.href.split("#")[0]}#${given}`;
 }
 
@@ -59,8 +53,8 @@ function takeFiles(changed) {
   });
 }
 
-function start(table) {
-  const positions = new PositionsView(find("positions"), find("detail"));
+function start(table, chosen) {
+  const positions = new PositionsView(find("positions"), find("detail"), (scalar) => table.classOf(scalar));
   const columns = new ColumnsView(find("ours"), find("theirs"), find("differences"));
   let decided = [];
 
@@ -87,23 +81,26 @@ function start(table) {
   });
   find("width").addEventListener("input", widen);
   find("copy").addEventListener("click", () => copy(testLine(text.value, decided), "The line"));
-  find("link").addEventListener("click", () => copy(linkToText(), "The link"));
+  find("link").addEventListener("click", () => copy(linkToText(positions.chosenAt), "The link"));
   window.addEventListener("hashchange", () => {
-    readFragment();
+    const at = readFragment();
     changed();
+    positions.chooseAt(at);
   });
   takeFiles(changed);
   changed();
+  positions.chooseAt(chosen);
   widen();
   document.documentElement.dataset.readyAfter = performance.now();
   document.documentElement.dataset.ready = "yes";
 }
 
+const loading = Table.fromBytes("lbk.table.gz");
 fillExamples();
 text.value = EXAMPLES[0][1];
-readFragment();
+const chosen = readFragment();
 try {
-  start(await Table.fromBytes(await tableBytes()));
+  start(await loading, chosen);
 } catch (error) {
   find("fault").hidden = false;
   find("fault").textContent = `The page cannot start: ${error.message}`;

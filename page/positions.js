@@ -5,6 +5,10 @@ import { RULES } from "./rules.js";
 /** The most positions that are shown, so that a page stays quick. */
 export const MOST_SHOWN = 4000;
 
+/** After these classes a mark stands for itself (rule LB10). */
+const HARD = ["BK", "CR", "LF", "NL", "SP", "ZW"];
+const MARKS = ["CM", "ZWJ"];
+
 const SAYS = { no: "No break", may: "A line may break", must: "A line must end" };
 
 function element(tag, className, text) {
@@ -25,10 +29,13 @@ export class PositionsView {
   #text = "";
   #positions = [];
   #chosen = -1;
+  #classOf;
 
-  constructor(list, detail) {
+  /** `classOf` gives the line breaking class of a code point. */
+  constructor(list, detail, classOf) {
     this.#list = list;
     this.#detail = detail;
+    this.#classOf = classOf;
     list.addEventListener("click", (event) => this.#chooseElement(event.target));
     list.addEventListener("pointerover", (event) => {
       if (event.pointerType === "mouse") this.#chooseElement(event.target);
@@ -88,6 +95,17 @@ export class PositionsView {
     document.getElementById(`position-${to}`).scrollIntoView({ block: "nearest" });
   }
 
+  /** The place of the chosen position, if one is. */
+  get chosenAt() {
+    return this.#positions[this.#chosen]?.at;
+  }
+
+  /** Chooses the position at a place of the text, if one is there. */
+  chooseAt(place) {
+    const k = this.#positions.findIndex(({ at }) => at === place);
+    if (k >= 0) this.choose(k);
+  }
+
   /** Chooses the k-th position, from 0, and says what decides there. */
   choose(k) {
     document.getElementById(`position-${this.#chosen}`)?.setAttribute("aria-selected", "false");
@@ -101,7 +119,37 @@ export class PositionsView {
     what.append(element("span", `sign ${kind}`, signOf(kind)), ` ${SAYS[kind]} between ${before} and ${after}, at ${at}.`);
     const why = element("p");
     why.append(element("span", "rule", `Rule LB${rule}`), ` ${RULES[rule]}`);
-    this.#detail.replaceChildren(what, why);
+    const classes = element("p", "", `Classes: ${this.#classBefore(k)} before, ${this.#classAfter(k)} after.`);
+    this.#detail.replaceChildren(what, why, classes);
+  }
+
+  /** The class of the k-th character, or undefined. */
+  #classAt(k) {
+    const character = this.#characterAt(k);
+    return character && this.#classOf(character.codePointAt(0));
+  }
+
+  /** Whether the k-th character is a mark that joins the one before it (rule LB9). */
+  #joins(k) {
+    return k > 0 && MARKS.includes(this.#classAt(k)) && !HARD.includes(this.#classAt(k - 1));
+  }
+
+  /** The class of what ends before the k-th position: of a character with its marks, that of the character. */
+  #classBefore(k) {
+    if (k === 0) return "none";
+    let head = k - 1;
+    while (this.#joins(head)) head--;
+    return this.#standing(this.#classAt(head));
+  }
+
+  #classAfter(k) {
+    const found = this.#classAt(k);
+    return this.#joins(k) ? `${found}, which joins what is before,` : this.#standing(found) || "none";
+  }
+
+  /** A mark that joins nothing is read as a letter (rule LB10). */
+  #standing(found) {
+    return MARKS.includes(found) ? "AL" : found;
   }
 
   #nameOf(character) {

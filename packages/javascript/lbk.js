@@ -6,9 +6,8 @@
 //
 // lbk.wasm does the work. It is proved, and has no imports. This file is tested and not proved: it copies text into the
 // module's memory and positions out of it, and counts the places of strings in UTF-16 code units.
+import { TABLE_SIZE, unpackTable } from "./packed_table.js";
 
-/** How many bytes an lbk_table of include/lbk.h has: its head, two profiles of steps and of pairs, and a kind a code. */
-const TABLE_SIZE = 16 + 2 * 4 * 65792 + 2 * 672 + 0x110000;
 /** How many breaks or positions a call of the module has room for. */
 const ROOM = 4096;
 /** How many bytes of a text are in the module's memory at once, where its breaks are asked for. */
@@ -40,6 +39,17 @@ async function bytesOf(source) {
   return new Uint8Array(await response.arrayBuffer());
 }
 
+/** The bytes themselves, or what gzip compressed into them. */
+async function unzipped(bytes) {
+  if (bytes[0] !== 0x1f || bytes[1] !== 0x8b) return bytes;
+  const stream = new Blob([bytes]).stream().pipeThrough(new DecompressionStream("gzip"));
+  try {
+    return new Uint8Array(await new Response(stream).arrayBuffer());
+  } catch (error) {
+    throw new RangeError("the compressed table is damaged", { cause: error });
+  }
+}
+
 function checkText(text) {
   if (typeof text !== "string" && !(text instanceof Uint8Array)) {
     throw new TypeError("a text is a string or a Uint8Array");
@@ -63,14 +73,15 @@ class ColumnsBuilder {
   /** Adds the first `count` positions of a block, with their places in units where these are counted. */
   add(rows, count, units) {
     this.#reserve(count);
+    const { at, kind, rule, size } = this;
     for (let k = 0; k < count; k++) {
-      const at = rows[4 * k];
       const code = rows[4 * k + 2];
-      this.at[this.size] = units ? units.unitsUpTo(at) : at;
-      this.kind[this.size] = code & 0xff;
-      this.rule[this.size] = (code >> 8) & 0xff;
-      this.size++;
+      at[size + k] = rows[4 * k];
+      kind[size + k] = code;
+      rule[size + k] = code >> 8;
     }
+    this.size += count;
+    units?.convert(at.subarray(size, this.size));
   }
 
   #reserve(more) {
@@ -95,7 +106,7 @@ class Machine {
   #memory;
   #encoder = new TextEncoder();
 
-  constructor(instance, table) {
+  constructor(instance) {
     this.#exports = instance.exports;
     this.#memory = instance.exports.memory;
     let end = Number(instance.exports.__heap_base.value);
@@ -104,14 +115,27 @@ class Machine {
       end = start + size;
       return start;
     };
-    this.table = place(table.length);
+    this.table = place(TABLE_SIZE);
     this.state = place(STATE_SIZE);
     this.stream = place(STREAM_SIZE);
     this.fed = place(FED_SIZE);
     this.block = place(POSITION_SIZE * ROOM);
     this.text = place(0);
     this.#reserve(this.text + WINDOW);
-    this.bytes(this.table, table.length).set(table);
+  }
+
+  /** The bytes of the table, which no call of the module changes. */
+  get tableBytes() {
+    return this.bytes(this.table, TABLE_SIZE);
+  }
+
+  /** Puts a table, packed or not, into memory that is zeros yet. */
+  loadTable(saved) {
+    if (saved.length === TABLE_SIZE) this.tableBytes.set(saved);
+    else unpackTable(saved, this.tableBytes);
+    if (this.#exports.lbk_check(BigInt(this.table)) === 0) {
+      throw new RangeError("these bytes are not a whole table of this version");
+    }
   }
 
   get memorySize() {
@@ -138,14 +162,19 @@ class Machine {
     }
   }
 
-  isWhole() {
-    return this.#exports.lbk_check(BigInt(this.table)) !== 0;
+  /** The label that a call of the module writes into the block. */
+  #label(write) {
+    write(BigInt(this.block));
+    const label = this.bytes(this.block, 4);
+    return String.fromCharCode(...label.subarray(0, label.indexOf(0)));
   }
 
   ruleLabel(number) {
-    this.#exports.lbk_label(BigInt(this.block), number);
-    const label = this.bytes(this.block, 4);
-    return String.fromCharCode(...label.subarray(0, label.indexOf(0)));
+    return this.#label((to) => this.#exports.lbk_label(to, number));
+  }
+
+  classLabel(scalar) {
+    return this.#label((to) => this.#exports.lbk_class(to, BigInt(this.table), scalar));
   }
 
   /** Copies the next piece of a text, from this unit or byte on, into the window: how many of these were read, and bytes written. */
@@ -206,63 +235,69 @@ class Machine {
   }
 }
 
+/** How many UTF-16 code units begin with each byte of UTF-8: none with a continuation byte, two with the first of four. */
+const UNITS_OF_BYTE = Uint8Array.from({ length: 256 }, (_, byte) => (byte < 0x80 || byte >= 0xc0) + (byte >= 0xf0));
+
 /** Where the bytes of a string stand in it, asked for in rising order while pieces of it are in a window. */
 class UnitCounter {
   #bytes;
+  #isAscii = false;
   #base = 0;
   #at = 0;
   #units = 0;
   #held = {};
 
-  /** A piece is in the window, whose first byte is this one of the text. */
-  begin(bytes, base) {
+  /** A piece is in the window, of so many units, whose first byte is this one of the text. */
+  begin(bytes, units, base) {
     this.#bytes = bytes;
+    this.#isAscii = bytes.length === units;
     this.#base = base;
   }
 
   /** The piece is done with. `heldAt` is a place of which may be asked yet, or undefined. */
   end(heldAt) {
-    if (heldAt !== undefined && heldAt >= this.#base) this.#held = { at: heldAt, units: this.unitsUpTo(heldAt) };
-    this.unitsUpTo(this.#base + this.#bytes.length);
+    const places = new Uint32Array([heldAt ?? 0, this.#base + this.#bytes.length]);
+    const isNew = heldAt !== undefined && heldAt >= this.#base;
+    this.convert(isNew ? places : places.subarray(1));
+    if (isNew) this.#held = { at: heldAt, units: places[0] };
   }
 
-  unitsUpTo(at) {
-    if (at === this.#held.at) return this.#held.units;
-    const bytes = this.#bytes;
-    const last = at - this.#base;
-    let units = this.#units;
-    // Each scalar has one byte that is no continuation byte, and one of four bytes has two units.
-    for (let k = this.#at - this.#base; k < last; k++) units += ((bytes[k] & 0xc0) !== 0x80) + (bytes[k] >= 0xf0);
-    this.#at = at;
+  /** Replaces places in bytes, which rise, by those in units. Only the first may be one before the piece, which was held. */
+  convert(places) {
+    const [bytes, isAscii, base] = [this.#bytes, this.#isAscii, this.#base];
+    let [at, units, k] = [this.#at - base, this.#units, 0];
+    if (places.length > 0 && places[0] === this.#held.at) places[k++] = this.#held.units;
+    for (; k < places.length; k++) {
+      const last = places[k] - base;
+      if (isAscii) units += last - at;
+      else for (; at < last; at++) units += UNITS_OF_BYTE[bytes[at]];
+      at = last;
+      places[k] = units;
+    }
+    this.#at = at + base;
     this.#units = units;
-    return units;
   }
 }
 
 export class Table {
   #module;
-  #saved;
   #machine;
   #labels;
 
-  constructor(module, saved, machine) {
+  constructor(module, machine) {
     this.#module = module;
-    this.#saved = saved;
     this.#machine = machine;
     this.#labels = Array.from({ length: RULE_NUMBERS }, (_, number) => machine.ruleLabel(number));
   }
 
   static async fromBytes(saved, module = new URL("lbk.wasm", import.meta.url)) {
-    const [code, bytes] = await Promise.all([bytesOf(module), bytesOf(saved)]);
-    if (bytes.length !== TABLE_SIZE) {
-      throw new RangeError(`a table of this version has ${TABLE_SIZE} bytes, and not ${bytes.length}`);
-    }
-    const compiled = await WebAssembly.compile(code);
-    const instance = await WebAssembly.instantiate(compiled, {});
-    const copy = bytes.slice();
-    const machine = new Machine(instance, copy);
-    if (!machine.isWhole()) throw new RangeError("these bytes are not a whole table of this version");
-    return new Table(compiled, copy, machine);
+    const [compiled, bytes] = await Promise.all([
+      bytesOf(module).then((code) => WebAssembly.compile(code)),
+      bytesOf(saved).then(unzipped),
+    ]);
+    const machine = new Machine(await WebAssembly.instantiate(compiled, {}));
+    machine.loadTable(bytes);
+    return new Table(compiled, machine);
   }
 
   get memorySize() {
@@ -271,6 +306,11 @@ export class Table {
 
   ruleLabel(rule) {
     return this.#labels[rule] ?? "";
+  }
+
+  classOf(scalar) {
+    if (!Number.isInteger(scalar) || scalar < 0 || scalar > 0x10ffff) throw new RangeError("a code point is 0 to 0x10FFFF");
+    return this.#machine.classLabel(scalar);
   }
 
   breakColumns(text, options) {
@@ -313,11 +353,17 @@ export class Table {
     } catch (error) {
       // After a trap an instance is of no use.
       if (error instanceof WebAssembly.RuntimeError) {
-        this.#machine = new Machine(new WebAssembly.Instance(this.#module, {}), this.#saved);
+        this.#startAgain();
         throw new Error("the module stopped in the middle of a call", { cause: error });
       }
       throw error;
     }
+  }
+
+  #startAgain() {
+    const machine = new Machine(new WebAssembly.Instance(this.#module, {}));
+    machine.loadTable(this.#machine.tableBytes);
+    this.#machine = machine;
   }
 
   /** The breaks, with a piece of the text in memory at a time. */
@@ -330,7 +376,7 @@ export class Table {
     do {
       const { read, written } = machine.loadPiece(text, from);
       from += read;
-      units?.begin(machine.bytes(machine.text, written), base);
+      units?.begin(machine.bytes(machine.text, written), read, base);
       this.#feedPiece(written, from === text.length, columns, units);
       units?.end(machine.heldAt());
       base += written;
@@ -353,7 +399,7 @@ export class Table {
     const size = machine.loadAll(text);
     const columns = new ColumnsBuilder(size + 1);
     const units = typeof text === "string" ? new UnitCounter() : null;
-    units?.begin(machine.bytes(machine.text, size), 0);
+    units?.begin(machine.bytes(machine.text, size), text.length, 0);
     machine.startState(profile);
     let count;
     do {

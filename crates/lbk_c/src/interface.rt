@@ -33,6 +33,13 @@ pub struct RuleLabel {
     pub text: [u8; 4],
 }
 
+/// The name of a line breaking class: ASCII, filled up by zeros.
+#[repr(C)]
+#[derive(Clone, Copy)]
+pub struct ClassLabel {
+    pub text: [u8; 4],
+}
+
 /// A text of at most 95 bytes: ASCII, filled up by zeros.
 #[repr(C)]
 #[derive(Clone, Copy)]

@@ -7,6 +7,7 @@
 
 mod breaking;
 mod checking;
+mod class_labels;
 mod cutting;
 mod faults;
 mod feeding;
@@ -26,7 +27,8 @@ mod words;
 
 pub use breaking::lbk_breaks;
 pub use checking::lbk_check;
-pub use interface::{Fault, RuleLabel, State, Text};
+pub use class_labels::lbk_class;
+pub use interface::{ClassLabel, Fault, RuleLabel, State, Text};
 pub use labels::lbk_label;
 pub use laws::{bytes_that_could_go_on, joined_parts, only_bytes_from_a_state_on};
 pub use lbk_bytes::RawBreak;

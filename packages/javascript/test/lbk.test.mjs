@@ -1,9 +1,14 @@
 // The package in Node. LBK_TABLE names a table of Unicode 15.0 that save_table wrote, and LBK_CASES a file of lines
 // "SHA-256 of the lines, call, profile, file of the text", which the C library wrote. scripts/page makes both.
 import assert from "node:assert/strict";
+import { spawnSync } from "node:child_process";
 import { createHash } from "node:crypto";
-import { readFileSync } from "node:fs";
+import { mkdtempSync, readFileSync, rmSync, writeFileSync } from "node:fs";
+import { tmpdir } from "node:os";
+import { join } from "node:path";
 import { test } from "node:test";
+import { fileURLToPath } from "node:url";
+import { gunzipSync } from "node:zlib";
 import { Table } from "../lbk.js";
 
 const saved = readFileSync(process.env.LBK_TABLE);
@@ -55,6 +60,14 @@ test("a lone surrogate is U+FFFD at its place", () => {
   }
 });
 
+test("the class of a code point, as rule LB1 resolves it", () => {
+  const classes = { a: "AL", " ": "SP", "\n": "LF", "(": "OP", "«": "QU", "漢": "ID", "\u0301": "CM", "\u200d": "ZWJ", ก: "AL", ぁ: "NS", 가: "H2" };
+  for (const [character, name] of Object.entries(classes)) assert.equal(table.classOf(character.codePointAt(0)), name);
+  assert.equal(table.classOf(0xd800), "");
+  assert.equal(table.classOf(0x10ffff), "AL");
+  for (const wrong of [-1, 0x110000, 1.5, "a", undefined]) assert.throws(() => table.classOf(wrong), RangeError);
+});
+
 test("the second profile", () => {
   const rules = (profile) => [...table.positions("a « b », c", { profile })].map((it) => it.rule).join(" ");
   assert.notEqual(rules(1), rules(2));
@@ -75,6 +88,54 @@ test("a table that is not whole is refused", async () => {
   await assert.rejects(Table.fromBytes(damaged), RangeError);
 });
 
+/** Runs pack.js on a table in a folder of its own: its status, what it said, and what it packed. */
+function pack(table) {
+  const folder = mkdtempSync(join(tmpdir(), "lbk-"));
+  try {
+    const [from, to] = [join(folder, "table"), join(folder, "packed")];
+    writeFileSync(from, table);
+    const { status, stderr } = spawnSync(process.execPath, [fileURLToPath(new URL("../pack.js", import.meta.url)), from, to], { encoding: "utf8" });
+    return { status, stderr, packed: status === 0 ? readFileSync(to) : null };
+  } finally {
+    rmSync(folder, { recursive: true });
+  }
+}
+
+test("a packed table gives the positions that the table gives", async () => {
+  const { status, packed } = pack(saved);
+  assert.equal(status, 0);
+  assert.ok(packed.length < 5000);
+  const text = "a « b », 「きょう」 1 234,50 € 👩🏽\r\n";
+  for (const source of [packed, gunzipSync(packed)]) {
+    const other = await Table.fromBytes(source);
+    for (const profile of [1, 2]) {
+      assert.deepEqual([...other.positions(text, { profile })], [...table.positions(text, { profile })]);
+    }
+  }
+});
+
+test("a packed table that is damaged is refused", async () => {
+  const { packed } = pack(saved);
+  const plain = gunzipSync(packed);
+  await assert.rejects(Table.fromBytes(packed.subarray(0, -9)), RangeError);
+  for (const bytes of [plain.subarray(1), plain.subarray(0, -1), new Uint8Array(0), new Uint8Array(20)]) {
+    await assert.rejects(Table.fromBytes(bytes), RangeError);
+  }
+  for (let at = 0; at < plain.length; at += 1009) {
+    const damaged = new Uint8Array(plain);
+    damaged[at] ^= 1;
+    await assert.rejects(Table.fromBytes(damaged), RangeError, `byte ${at}`);
+  }
+});
+
+test("pack.js refuses what is no table", () => {
+  for (const bytes of [saved.subarray(1), new Uint8Array(saved.length).fill(1)]) {
+    const { status, stderr } = pack(bytes);
+    assert.equal(status, 1);
+    assert.match(stderr, /^pack.js: /);
+  }
+});
+
 test("pieces of a text give what the whole gives, in memory that does not grow", () => {
   const few = "a « b »\u0301 c 😀 – ";
   for (const profile of [1, 2]) {
@@ -87,6 +148,19 @@ test("pieces of a text give what the whole gives, in memory that does not grow",
     const breaks = [...table.positions(marked, { profile })].filter((it) => it.kind !== "no").map((it) => it.at);
     assert.deepEqual([...found.at], breaks);
   }
+});
+
+test("after the module stopped the table has a new instance", async () => {
+  const { instantiate } = WebAssembly;
+  const lbk_feed = () => {
+    throw new WebAssembly.RuntimeError("unreachable");
+  };
+  WebAssembly.instantiate = async (...words) => ({ exports: { ...(await instantiate(...words)).exports, lbk_feed } });
+  const broken = await Table.fromBytes(saved).finally(() => {
+    WebAssembly.instantiate = instantiate;
+  });
+  assert.throws(() => broken.breakColumns("ab cd"), /stopped in the middle of a call/);
+  assert.deepEqual([...broken.breaks("ab cd")], [...table.breaks("ab cd")]);
 });
 
 test("a call after a long text is right", () => {
