@@ -274,7 +274,7 @@ lbk_text lbk_file_name(uint32_t file);
 size_t lbk_breaks(const lbk_table *table, lbk_state *state, const char *text, size_t size, lbk_break *block, size_t room);
 
 /* The same for a text in UTF-16 or UTF-32, in the machine's order of bytes: `size`, each `at` and the state's `at` count units of 16
- * or of 32 bits. Any units may come: a surrogate that stands alone, and a number that is no scalar value, is read as one U+FFFD
+ * or of 32 bits. Any units may come: a lone surrogate, and a number that is no scalar value, is read as one U+FFFD
  * at its place (Unicode Standard, section 3.9, D90 and D91). No break comes between the two halves of a pair.
  *
  * Texts of the same scalars have the same breaks in all three encodings, by the same rules, each at the units that spell the

@@ -526,7 +526,7 @@ private:
 
 } // namespace detail
 
-/// The breaks of a text in UTF-16 in their order. A surrogate that stands alone is read as U+FFFD.
+/// The breaks of a text in UTF-16 in their order. A lone surrogate is read as U+FFFD.
 using breaks_utf16 = detail::unit_breaks<char16_t>;
 
 /// The breaks of a text in UTF-32 in their order. A unit that is no scalar value is read as U+FFFD.
