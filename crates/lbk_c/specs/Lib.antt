@@ -1,7 +1,6 @@
 -- What a reader has to believe.
 pub mod Positions
 pub mod Labels
-pub mod ClassLabels
 pub mod State
 pub mod Streams
 pub mod Faults

@@ -1,5 +1,6 @@
 -- What a reader has to believe.
 pub mod Cells
+pub mod ClassLabels
 -- What only carries proofs.
 pub mod AheadFits
 pub mod CellOfTables

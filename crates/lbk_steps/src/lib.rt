@@ -6,6 +6,7 @@
 #![tactic(auto)]
 
 mod ahead_machine;
+mod class_labels;
 mod first_bytes;
 mod flat_table;
 mod kind_table;
@@ -21,6 +22,7 @@ mod step_table;
 mod stepper;
 
 // What callers name.
+pub use class_labels::class_label;
 pub use pages::CellPages;
 pub use source::CellSource;
 pub use stepper::Stepper;
