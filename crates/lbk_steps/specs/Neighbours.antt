@@ -24,7 +24,7 @@ pub record AreSettled (steps : List FlatStep) (kinds : List ℕ) (pairs : Neighb
   pub below : byte < 128
   pub apart : ¬ ((step_behind steps kinds pairs before byte).code ≡ HELD)
   pub leads : (step_behind steps kinds pairs before byte).next ≡ slice_index_or pairs.rows byte 0
-  pub breaks : meets (left_in pairs.sets before) (right_in pairs.sets byte) 
+  pub breaks : meets (left_in pairs.sets before) (right_in pairs.sets byte)
       ≡ not (is_no (verdict_coded (step_behind steps kinds pairs before byte).code).kind)
 
 -- so it is, unless the byte is special, or the one before it has no row
