@@ -223,6 +223,9 @@ fn runs(
         → Reached profile cell lefts (text.now ++ more) all result (given_in out.new result.count) }
 {
     let behind_one = run(Width::One, kinds, steps, start, text, out);
+    if behind_one.at == text.len() {
+        return behind_one;
+    }
     let behind_two = run(Width::Two, kinds, steps, behind_one, text, out);
     run(Width::Three, kinds, steps, behind_two, text, out)
 }
