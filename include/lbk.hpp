@@ -575,6 +575,10 @@ class unit_breaks {
     struct call {
         using value_type = lbk_break;
 
+        using packed = lbk_break;
+
+        static constexpr std::size_t most = 12;
+
         const lbk_table *table = nullptr;
         const Unit *text = nullptr;
         std::size_t size = 0;
@@ -585,7 +589,10 @@ class unit_breaks {
             return next_breaks(table, &state, text, size, block, room);
         }
 
-        static bool is_same(lbk_break a, lbk_break b) noexcept { return a.at == b.at; }
+        static std::size_t place(lbk_break one) noexcept { return one.at; }
+        static bool fits(lbk_break, lbk_break) noexcept { return true; }
+        static lbk_break pack(lbk_break one, std::size_t) noexcept { return one; }
+        static lbk_break unpacked(lbk_break one, std::size_t) noexcept { return one; }
     };
 
 public:
