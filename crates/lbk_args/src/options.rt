@@ -14,8 +14,8 @@ use std::alloc::{AllocError, Global};
 const VERSION: &str = "0.1.0 (breaks by UAX #14 of Unicode 15.0, words by UAX #29 of Unicode 18.0)";
 
 const ABOUT: &str = "\
-Says where the text on standard input may break and where it must, and which rule of UAX #14 says so.
-Without words it shows the text by four small sample files.";
+Finds where the text on standard input may break and where it must, and says which rule of UAX #14 decided.
+Without arguments it shows the text by four small sample files.";
 
 const EXAMPLES: &str = "\
 FOLDER is the Unicode Character Database of Unicode 15.0. Without --ucd name its files, all four:
@@ -28,7 +28,7 @@ Examples:
   lbk segment --ucd FOLDER --limit 1000000 < text.txt    the breaks as byte offsets
   lbk replay --ucd FOLDER < LineBreakTest.txt            the lines that do not agree
 
-Exit status: 0 done, 1 a refused file or text, 2 wrong words, 3 a replay with lines that differ or are refused.";
+Exit status: 0 done, 1 a refused file or text, 2 invalid arguments, 3 a replay with lines that differ or are refused.";
 
 const MARK_USAGE: &str = "lbk mark --ucd <FOLDER> [OPTIONS] < TEXT";
 
@@ -56,7 +56,7 @@ end gets one. Example:
   ab ÷cd";
 
 const SHOW_AFTER: &str = "\
-A mark stands before and after each scalar: × no break, ÷ a break may be, ! a break must be. Example:
+A mark stands before and after each scalar: × no break, ÷ break allowed, ! break required. Example:
   $ printf 'ab cd' | lbk show --ucd FOLDER
   × 0061 × 0062 × 0020 ÷ 0063 × 0064 !\t# 2 28 7 18 28 3";
 

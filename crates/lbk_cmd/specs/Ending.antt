@@ -11,7 +11,7 @@ use Rattle.lbk_cmd.specs.declared.ending.Ending.{Ending}
 use Rattle.lbk_cmd.specs.declared.ending.Ending.TheVariants.{Done, Help, Usage, Differs, Refused}
 use Rattle.lbk_cmd.specs.declared.ending.RunFault.TheVariants.{Load, Claim, Tables, Cmd, Replay, Memory}
 
--- 0 done or help, 1 refused, 2 wrong words, 3 a replay with lines that differ or are refused
+-- 0 done or help, 1 refused, 2 invalid arguments, 3 a replay with lines that differ or are refused
 abbrev pub status_of : Ending → ℕ
 status_of Done = 0
 status_of (Help text) = 0

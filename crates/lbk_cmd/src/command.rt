@@ -22,7 +22,7 @@ use lbk_rules::Profile;
 use std::alloc::Global;
 
 /// Runs the engine that the words behind the program's name ask for, by the files that they name, from the reader to
-/// the writer. Without words it shows the text by the sample files, in the first profile, with paragraphs of at most
+/// the writer. Without arguments it shows the text by the sample files, in the first profile, with paragraphs of at most
 /// 65,536 bytes.
 ///
 /// The answer says how the run ended. `Help` and `Usage` come for words that ask for no engine, and `Refused` has the

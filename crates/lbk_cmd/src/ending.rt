@@ -44,7 +44,7 @@ pub enum Ending {
 }
 
 impl Ending {
-    /// The exit status: 0 done or help, 1 refused, 2 wrong words, 3 a replay with lines that differ or are refused.
+    /// The exit status: 0 done or help, 1 refused, 2 invalid arguments, 3 a replay with lines that differ or are refused.
     pub fn status(&self) -> u8
         ensures { result ≡ status_of self.now }
     {

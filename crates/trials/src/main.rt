@@ -1,6 +1,6 @@
 //! `trials`: each call that can want memory, and each that takes none, run once on its own input.
 //!
-//! `trials ROW PROFILE` runs a row of the table and writes what the call answered. Without words it runs all
+//! `trials ROW PROFILE` runs a row of the table and writes what the call answered. Without arguments it runs all
 //! rows, and heads each with its name. It is run by `scripts/check refused-allocations`, which refuses the growths of
 //! memory in turn and compares.
 //!
