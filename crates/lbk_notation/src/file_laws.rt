@@ -11,7 +11,7 @@ ghost use Rattle.lbk_notation.specs.Findings.{IsFinding};
 ghost use Rattle.lbk_notation.specs.Replay.{IsEndedText, IsReplayText};
 ghost use Rattle.lbk_notation.specs.Stream.{HasNoLineEnd, cut_of, ended_lines, with_line_ends, without_mark};
 
-/// A file without its byte order mark is its lines, each with its LF, and what stands behind the last LF;
+/// A file without its byte order mark is its lines, each with its LF, and what stands after the last LF;
 /// none of these holds an LF.
 pub fn lines_make_up_the_file()
     ensures whole { (bytes : List ℕ) → with_line_ends (ended_lines bytes) ++ (cut_of bytes).rest ≡ without_mark bytes }
@@ -19,7 +19,7 @@ pub fn lines_make_up_the_file()
     ensures rest { (bytes : List ℕ) → HasNoLineEnd (cut_of bytes).rest }
 {}
 
-/// A line comes to one thing alone, and so a file has one replay text and one report.
+/// A line comes to one thing only, and so a file has one replay text and one report.
 pub fn one_replay_text()
     ensures line { (cell : ℕ → Cell) (form : Form) (profile : Profile) (bytes : List ℕ) (finding other : Finding)
         → IsFinding cell form profile bytes finding → IsFinding cell form profile bytes other → other ≡ finding }

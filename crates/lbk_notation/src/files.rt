@@ -35,7 +35,7 @@ const BLOCK: usize = 4096;
 ///
 /// ```rust
 /// let mut sink = MemorySink::new(alloc, ROOM)?;
-/// let answer = replay(alloc, source, &mut sink, cells, form, profile);
+/// let report = replay(alloc, source, &mut sink, cells, form, profile);
 /// ```
 pub fn replay<R: Source, W: Sink, C: CellSource>(
     alloc: Global,
@@ -49,7 +49,7 @@ pub fn replay<R: Source, W: Sink, C: CellSource>(
     ensures replayed { IfOk result (λ report. IfSome (R.unread reader.old) (λ input.
         IsReplayed (C.cell_of cells.now) form profile input report (W.written writer.old) (W.written writer.new))) }
 
-    // What is written of what was read, whatever the answer.
+    // What is written of what was read, whatever the result.
     ensures run { Ran (is_read_fault result) (R.unread reader.old) (R.unread reader.new) (W.written writer.old) (W.written writer.new)
         (IsReplay (C.cell_of cells.now) form profile (IsTrue (R.has_ended reader.new) × IsAtEnd (R.unread reader.new)) result) }
     ensures ended { OnOk result (IsTrue (R.has_ended reader.new) × IsAtEnd (R.unread reader.new)) }

@@ -53,7 +53,7 @@ pub enum ReplayFault {
     Read,
     /// The writer failed in this call.
     Write,
-    /// A growth of memory was refused.
+    /// An allocation was refused.
     Memory,
     /// More than 1,073,741,824 bytes were read.
     StreamTooLong,

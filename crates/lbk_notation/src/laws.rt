@@ -30,7 +30,7 @@ pub fn one_value()
         → IsLine form bytes other → other ≡ value }
 {}
 
-/// A written line with a tab and a comment behind it says what the written line says.
+/// A written line with a tab and a comment after it says what the written line says.
 pub fn comments()
     ensures { (form : Form) (line : Line) (comment : List ℕ) → length line.marks ≡ length line.scalars + 1
         → AllByRecursion (λ scalar. IsScalar scalar) line.scalars → AllByRecursion (λ byte. byte ≢ 10) comment

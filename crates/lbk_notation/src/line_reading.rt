@@ -19,7 +19,7 @@ pub(crate) const LONGEST: usize = 268_435_456;
 /// Reads a line of the notation, without its line end: its scalars and marks, or None for a blank line or
 /// a comment. A line over 268,435,456 bytes is `LineTooLong`, which is looked at first; one that is none
 /// of the notation is `Bad`, with the place where it stops being the beginning of any line. `Memory` may
-/// come in place of a line with marks, where a growth was refused; the other answers need no memory.
+/// come in place of a line with marks, where an allocation was refused; the other results need no memory.
 pub fn read_line(alloc: Global, bytes: &[u8], form: Form) -> Result<Option<TestLine>, LineFault>
     ensures long { IsErrOf result LineTooLong ↔ (longest < length bytes.now) }
     // The line is one that the grammar relates to the bytes, and it relates no other.
@@ -40,7 +40,7 @@ pub fn read_line(alloc: Global, bytes: &[u8], form: Form) -> Result<Option<TestL
     }
 }
 
-/// Reads a line that is not too long, or says where it goes wrong. An error comes where a growth was refused.
+/// Reads a line that is not too long, or says where it goes wrong. An error comes where an allocation was refused.
 fn read_bytes(
     alloc: Global,
     bytes: &[u8],
@@ -74,7 +74,7 @@ fn read_bytes(
 }
 
 /// What can be said without memory of a line that is not too long: where it goes wrong, or that it has no
-/// marks. Of a line with marks the answer is `Memory`.
+/// marks. Of a line with marks the result is `Memory`.
 fn judge(bytes: &[u8], form: Form) -> Result<Option<TestLine>, LineFault>
     requires { length bytes.now ≤ longest }
     ensures line { IfOk result (λ line. run_line form bytes.now ≡ Ok line) }

@@ -56,7 +56,7 @@ fn marks_of<C: CellSource>(
     Ok(marks)
 }
 
-/// Puts the answer of a position that was held at its place.
+/// Puts the mark of a position that was held at its place.
 fn put_late(marks: &mut Vec<Mark>, late: Option<(u64, Verdict)>)
     requires { ForSome late (λ answer. answer.0 < length marks.old.items) }
     ensures { marks.new.items ≡ put late marks.old.items }
@@ -66,7 +66,7 @@ fn put_late(marks: &mut Vec<Mark>, late: Option<(u64, Verdict)>)
     }
 }
 
-/// The mark of a verdict; a position that is held has one in its place until its answer comes.
+/// The mark of a verdict; a position that is held has one in its place until its verdict comes.
 fn mark_now(now: Option<Verdict>) -> Mark
     ensures { result ≡ mark_now now }
 {

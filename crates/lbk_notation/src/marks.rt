@@ -5,9 +5,9 @@
 pub enum Mark {
     /// `×`: no break.
     No,
-    /// `÷`: a break that may be; in form Plain any break.
+    /// `÷`: an allowed break; in form Plain any break.
     May,
-    /// `!`: a break that must be; in form Kinds alone.
+    /// `!`: a required break; only in form Kinds.
     Must,
 }
 

@@ -37,7 +37,7 @@ pub fn replay_line<C: CellSource>(
     met_now(outcome, form, marks, scalars.len(), Some(end.end))
 }
 
-/// With the answer that came late, if one came.
+/// With the verdict that came late, if one came.
 fn met_late(outcome: Outcome, form: Form, marks: &[Mark], late: Option<(u64, Verdict)>) -> Outcome
     requires { ForSome late (λ answer. answer.0 < length marks.now) }
     ensures { MatchOption late (result ≡ outcome) (λ answer. Meets form marks.now answer.0 answer.1 outcome result) }

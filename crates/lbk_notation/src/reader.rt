@@ -49,7 +49,7 @@ pub(crate) enum Taken {
     /// No line begins with what was read.
     Dead,
     On(State),
-    /// White space behind a token: its scalar.
+    /// White space after a token: its scalar.
     OneScalar(char),
     OneMark(Mark),
 }

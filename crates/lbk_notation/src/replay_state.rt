@@ -17,7 +17,7 @@ const MARK: [u8; 3] = [0xEF, 0xBB, 0xBF];
 /// The state of a replay, which holds at most one line of the file.
 #[derive(Drop)]
 pub struct ReplayState {
-    // The bytes behind the last LF, unless they are too many for a line.
+    // The bytes after the last LF, unless they are too many for a line.
     line: Vec<u8>,
     is_long: bool,
     // What the last line that was ended writes.
@@ -151,7 +151,7 @@ impl ReplayState {
         self.settle(alloc, replayer)
     }
 
-    /// Whether bytes stand behind the last LF.
+    /// Whether bytes stand after the last LF.
     fn holds_line(&self) -> bool
         ensures yes { OnTrue result ((self.now.is_long ≡ true) ⊎ (0 < length self.now.line.items)) }
         ensures no { OnFalse result ((self.now.is_long ≡ false) × (self.now.line.items ≡ [])) }

@@ -21,8 +21,8 @@ use super::writing::write_line;
 use std::alloc::Global;
 
 /// Writes a line and reads what it wrote: in form Kinds the line itself, in Plain the line with each Must
-/// as a May. `LineTooLong` comes where the written line is over 268,435,456 bytes, `Memory` where a growth
-/// was refused.
+/// as a May. `LineTooLong` comes where the written line is over 268,435,456 bytes, `Memory` where an
+/// allocation was refused.
 pub fn read_back(alloc: Global, line: &TestLine, form: Form) -> Result<Option<TestLine>, LineFault>
     ensures same { IfOk result (λ read. read ≡ Some (shown_line form line.now)) }
     ensures within { OnOk result (length (written_line form line.now) ≤ longest) }
@@ -34,12 +34,12 @@ pub fn read_back(alloc: Global, line: &TestLine, form: Form) -> Result<Option<Te
 }
 
 /// Reads a line in form Kinds. The line that is written of a passage of at most 16,777,216 bytes, with the
-/// rules' labels in its comment, is read as the passage's scalars and marks, or answered `Memory`.
+/// rules' labels in its comment, is read as the passage's scalars and marks, or `Memory` is returned.
 pub fn read_passage_line(alloc: Global, bytes: &[u8]) -> Result<Option<TestLine>, LineFault>
-    // Of any bytes, what `read_line` answers in form Kinds.
+    // Of any bytes, what `read_line` returns in form Kinds.
     ensures found { IfOk result (λ line. IsLine Kinds bytes.now line) }
     ensures bad { IfErr result (λ fault. IsFault Kinds bytes.now fault) }
-    // Of the line of a passage, its scalars and marks, or want of memory.
+    // Of the line of a passage, its scalars and marks, or out of memory.
     ensures same { (scalars : List ℕ) (verdicts : List Verdict) → bytes.now ≡ passage_line scalars verdicts
         → length verdicts ≡ length scalars + 1 → AllByRecursion (λ scalar. IsScalar scalar) scalars
         → IfOk result (λ read. read ≡ Some (passage_marks scalars verdicts)) }

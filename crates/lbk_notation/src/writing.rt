@@ -44,7 +44,7 @@ pub fn push_line(
     Ok(())
 }
 
-/// Puts a space, a scalar's token, a space and the mark behind it at the end of the text. An error comes where memory
+/// Puts a space, a scalar's token, a space and the mark after it at the end of the text. An error comes where memory
 /// could not grow; some of these may stand there then.
 pub fn push_scalar(
     text: &mut Vec<u8>,

@@ -18,7 +18,7 @@ pub struct Cell {
     pub pict_cn: bool,
     /// Whether it opens or closes a quotation.
     pub quote: Quote,
-    /// Whether its category begins with L or N. No rule reads it; words are told by it.
+    /// Whether its category begins with L or N. No rule reads it; it tells words from other pieces.
     pub letter: bool,
 }
 
@@ -55,7 +55,7 @@ impl Cell {
         None
     }
 
-    /// Whether a mark behind it heads a unit (rule LB10): it is one after which lines may end.
+    /// Whether a mark after it heads a unit (rule LB10): it is one after which lines may end.
     pub fn leaves_fresh(self) -> bool
         ensures { result ≡ hard self.class }
     {

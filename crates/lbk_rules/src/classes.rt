@@ -4,7 +4,7 @@ ghost use Rattle.std.specs.Prelude.{◌≡◌};
 ghost use Rattle.lbk_rules.specs.Classes.{is, hard, mark, closes_before, opens_after, ◌or◌, AL, BA, BK, CL, CP, CR, EB, EM, EX, GL, isH2, isH3, HL, HY, ID, IS, isJL, isJT, isJV, LF, NL, NS, NU, OP, PO, PR, QU, SP, SY, WJ, ZW};
 
 /// A line breaking class once rule LB1 has resolved the text (UAX #14, section 5.1): the values of
-/// `Line_Break` but for AI, CJ, SA, SG and XX.
+/// `Line_Break` without AI, CJ, SA, SG and XX.
 #[derive(Clone, Copy, PartialEq, Eq, Debug)]
 pub enum Class {
     Alphabetic,

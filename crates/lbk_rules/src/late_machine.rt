@@ -1,4 +1,4 @@
-//! The machine of either profile, which answers a position late where what follows decides it.
+//! The machine of either profile, which decides a position late where what follows decides it.
 
 ghost use Rattle.std.specs.Prelude.{◌≡◌, ◌+◌, ◌<◌, ◌≤◌, ℕ, List, [], ◌∷◌, ◌++◌, length, reverse, Some, None, if◌then◌else◌, slice_get, option_map};
 ghost use Rattle.std.specs.Option.{ForSome};
@@ -29,7 +29,7 @@ pub struct LateMachine {
     held: Option<Held>,
 }
 
-/// What a step answers. Positions count cells from 0.
+/// What a step decides. Positions count cells from 0.
 #[derive(Clone, Copy, PartialEq, Eq, Debug)]
 pub struct StepVerdicts {
     /// The verdict of the position before the cell, unless it is held.
@@ -38,7 +38,7 @@ pub struct StepVerdicts {
     pub late: Option<(u64, Verdict)>,
 }
 
-/// What the end of the text answers. Positions count cells from 0.
+/// What the end of the text decides. Positions count cells from 0.
 #[derive(Clone, Copy, PartialEq, Eq, Debug)]
 pub struct EndVerdicts {
     /// The position that was held until now, and its verdict.
@@ -139,7 +139,7 @@ impl LateMachine {
             .verdict(self.profile, cell, is_second(self.profile))
     }
 
-    /// The answer that `cell` brings with it: none, if it heads no unit.
+    /// The verdict that `cell` settles: none, if it heads no unit.
     fn late(&self, cell: Cell) -> Option<(u64, Verdict)>
         ensures { (profile : Profile) (cells more : List Cell) → LateFits self.now profile cells
             → result ≡ late_at profile cells cell more }
@@ -181,8 +181,8 @@ pub fn unless_held(verdict: Verdict) -> Option<Verdict>
     }
 }
 
-/// Writes the verdict of every position of a text, all its paragraphs, by one late machine, and tells how
-/// many answers came: as many as positions, so that each position's came once (UAX #14, section 6). There is room
+/// Writes the verdict of every position of a text, all its paragraphs, by one late machine, and returns how
+/// many verdicts came: as many as positions, so that each position's came once (UAX #14, section 6). There is room
 /// for one verdict more than there are cells.
 pub fn decide_all_in(profile: Profile, cells: &[Cell], verdicts: &mut [Verdict]) -> usize
     requires { length verdicts.old ≡ length cells.now + 1 }
@@ -204,7 +204,7 @@ pub fn decide_all_in(profile: Profile, cells: &[Cell], verdicts: &mut [Verdict])
     answers + 1
 }
 
-/// Writes an answer at its position, if there is one, and tells how many there were.
+/// Writes a verdict at its position, if there is one, and returns how many there were.
 fn write_late(verdicts: &mut [Verdict], late: Option<(u64, Verdict)>) -> usize
     requires { ForSome late (λ answer. answer.0 < length verdicts.old) }
     ensures list { verdicts.new ≡ written late verdicts.old }

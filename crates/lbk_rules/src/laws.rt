@@ -1,4 +1,4 @@
-//! What the verdicts of a text have in common, over the definitions alone. Each law is the contract of a
+//! What the verdicts of a text have in common, over definitions only. Each law is the contract of a
 //! function that does nothing.
 ghost use Rattle.std.specs.Prelude.{◌≡◌, ℕ, ◌+◌, ◌-◌, ◌<◌, ◌≤◌, ◌⊎◌, true, false, not, List, [], ◌∷◌, ◌++◌, length, map, reverse, take, drop, encode_utf8_all, IsSome, IsTrue, Some, None};
 ghost use Rattle.std.specs.List.{flat_map};
@@ -51,7 +51,7 @@ pub fn look_ahead_second()
         → verdict_between_in Second left a ≡ verdict_between_in Second left b }
 {}
 
-/// What waits in the second profile: a position is unanswered after some cells where it is held and no
+/// What waits in the second profile: a position is open after some cells where it is held and no
 /// unit has come after its closing quotation mark.
 pub fn unanswered_position()
     ensures { (profile : Profile) (cells : List Cell) (p : ℕ) → unanswered profile cells ≡ Some p
@@ -59,7 +59,7 @@ pub fn unanswered_position()
         × (next_unit (drop p cells) ≡ None) }
 {}
 
-/// At most one position is unanswered, the one that a machine names: each position that is held and after
+/// At most one position is open, the one that a machine names: each position that is held and after
 /// whose quotation mark no unit has come.
 pub fn unanswered_alone()
     ensures { (profile : Profile) (cells : List Cell) (p : ℕ) → p < length cells
@@ -67,7 +67,7 @@ pub fn unanswered_alone()
         → unanswered profile cells ≡ Some p }
 {}
 
-/// A line must end before more text exactly between a cell of BK, CR, LF or NL and the next cell, but for CR
+/// A line must end before more text exactly between a cell of BK, CR, LF or NL and the next cell, except CR
 /// and LF, by rule 4 after BK and by rule 5 after the others. Such a position is never held (UAX #14, section
 /// 6.1, rules LB2, LB4 and LB5).
 pub fn must_end()
@@ -92,7 +92,7 @@ pub fn must_end_of_text()
         → verdict_in profile cells (length cells) ≡ end_of_text }
 {}
 
-/// Nothing behind a cell of BK, CR, LF or NL decides before that cell.
+/// Nothing after a cell of BK, CR, LF or NL decides before that cell.
 pub fn before_line_end()
     ensures between { (profile : Profile) (left middle : List Cell) (x : Cell) (a b : List Cell)
         → IsTrue (ends_line x.class)
@@ -126,14 +126,14 @@ pub fn held_or_settled()
         → IsTrue (is_held profile left (cell ∷ more)) → IsTrue (heads (reverse left) cell) }
 {}
 
-/// A late machine that has taken some cells holds the position that is unanswered after them, and none else.
+/// A late machine that has taken some cells holds the position that is open after them, and no other.
 pub fn machine_holds()
     ensures { (machine : LateMachine) (profile : Profile) (cells : List Cell) → LateFits machine profile cells
         → held_position machine ≡ unanswered profile cells }
 {}
 
-/// A step answers each position once: the positions that come late, that stay open and that come now are
-/// the one that was open and the step's own. The end answers the one that is open then.
+/// A step decides each position once: the positions that come late, that stay open and that come now are
+/// the one that was open and the step's own. The end decides the one that is open then.
 pub fn answered_once()
     ensures step { (profile : Profile) (cells : List Cell) (cell : Cell) (more : List Cell)
         → came_late (late_at profile cells cell more)
@@ -157,7 +157,7 @@ pub fn normal_cells()
         → is_held profile (map normal left) (map normal right) ≡ is_held profile left right }
 {}
 
-/// Texts between which a line must end may be decided apart. Joined, their marks are those of the whole, but for the end of
+/// Texts between which a line must end may be decided apart. Joined, their marks are those of the whole, except at the end of
 /// the first: a text ends by rule 3, and by rule 4 or 5 where another follows. Their breaks are those of the whole, if the
 /// places of the second are moved by the bytes of the first (UAX #14, section 6.1, rules LB3 to LB5).
 pub fn joined_texts()
@@ -168,7 +168,7 @@ pub fn joined_texts()
         ≡ breaks_before profile cell true first ++ breaks_in profile cell (length (encode_utf8_all first)) false second }
 {}
 
-/// So may any number of parts: each is decided alone, with the byte at which it begins and whether another follows it.
+/// So may any number of parts: each is decided by itself, with the byte at which it begins and whether another follows it.
 pub fn joined_parts()
     ensures marks { (profile : Profile) (cell : ℕ → Cell) (parts : List (List ℕ)) → AreParts cell parts
         → marks profile cell (flat_map (λ part. part) parts) ≡ of_parts (λ at. marks_in profile cell) 0 parts }

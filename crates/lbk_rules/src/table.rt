@@ -1,5 +1,5 @@
 //! The rules of UAX #14, section 6, in their order, a method for each group: the first that matches
-//! answers.
+//! decides.
 ghost use Rattle.std.specs.Prelude.{◌≡◌, ◌&&◌, [], ◌∷◌};
 ghost use Rattle.lbk_values.specs.declared.profile.Profile.TheVariants.{First, Second};
 ghost use Rattle.lbk_rules.specs.Chain.{choose, from_11, from_14, from_15, from_16, from_19, from_23, from_25, from_26, from_28, from_cells};

@@ -19,7 +19,7 @@ pub enum UcdCause {
     Overlap,
     /// The line would be the 65,537th kept row or default of the file.
     TooManyRows,
-    /// A growth of the tables was refused at this line. Where all lines are read and the tables are made of them, it is
+    /// Memory for the tables was refused at this line. Where all lines are read and the tables are made of them, it is
     /// the last line that gave a row or a default.
     Memory,
 }

@@ -71,7 +71,7 @@ pub(crate) fn read_file<V: Copy>(
     }
 }
 
-/// Keeps what a line gives, or answers its first cause.
+/// Keeps what a line gives, or returns its first cause.
 #[tactic(auto, unfolding(crate::specs::File::cause_beside))]
 fn take_line<V: Copy>(
     gathered: &mut Gathered<V>,
@@ -94,7 +94,7 @@ fn take_line<V: Copy>(
     }
 }
 
-/// Keeps an entry as a row or as a default, or answers its first cause.
+/// Keeps an entry as a row or as a default, or returns its first cause.
 #[tactic(auto, unfolding(crate::specs::File::cause_of_entry))]
 fn take_entry<V: Copy>(
     gathered: &mut Gathered<V>,

@@ -85,7 +85,7 @@ impl<V: Copy> Gathered<V> {
         Ok(())
     }
 
-    /// Keeps a default line behind those kept.
+    /// Keeps a default line after those kept.
     pub(crate) fn add_default(&mut self, row: Row<V>) -> Result<(), AllocError>
         requires range { IsRange row }
         requires room { count_of self.old < MOST_ROWS }

@@ -29,7 +29,7 @@ pub fn shared_codes_are_held<V: Copy>()
         → (shares first last row ≡ true) ↔ ((code : ℕ) × (first ≤ code) × (code ≤ last) × (holds code row ≡ true)) }
 {}
 
-/// A file is lawful or has a fault, never both, and never two faults.
+/// A file is well-formed or has a fault, never both, and never two faults.
 pub fn files_have_one_fault_or_none<V: Copy>()
     ensures either { (format : Format V) (bytes : List ℕ) → IsLawful format bytes ⊎ ((line : ℕ) × (cause : UcdCause) × IsFault format bytes line cause) }
     ensures not_both { (format : Format V) (bytes : List ℕ) (line : ℕ) (cause : UcdCause) → IsLawful format bytes → IsFault format bytes line cause → ⊥ }
@@ -37,12 +37,12 @@ pub fn files_have_one_fault_or_none<V: Copy>()
         → IsFault format bytes line cause → IsFault format bytes other why → (line ≡ other) × (cause ≡ why) }
 {}
 
-/// No code is in two kept rows of a lawful file, so the row that holds a code is one.
+/// No code is in two kept rows of a well-formed file, so the row that holds a code is one.
 pub fn kept_rows_are_apart<V: Copy>()
     ensures { (format : Format V) (bytes : List ℕ) → IsLawful format bytes → AllPairs AreApart (rows_in format (lines_of bytes)) }
 {}
 
-/// Files without a fault are refused for want of memory alone.
+/// Files without a fault are refused only where memory runs out.
 pub fn lawful_files_want_memory()
     ensures { (files : Files) (fault : UcdFault) → AreLawful files → IsRefused files fault → fault.cause ≡ UcdCause.Memory }
 {}

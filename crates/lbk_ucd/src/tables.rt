@@ -48,7 +48,7 @@ pub struct Run {
 }
 
 /// Where the properties of a code were found in the tables, by which those of the next codes are found sooner. No
-/// answer depends on it.
+/// result depends on it.
 #[derive(Clone, Copy, PartialEq, Eq, Debug)]
 pub struct Places {
     line_break: usize,

@@ -6,8 +6,8 @@ ghost use Rattle.lbk_words.specs.Words.{AreRising, words_on};
 use crate::pieces::first_piece;
 use crate::word::{Filled, Word};
 
-/// Puts the first words of a text, taken alone from the byte `start` on, into the front of a block: as many as it holds, or
-/// all. The others come from the byte on that is answered.
+/// Puts the first words of what a text has from the byte `start` on, as a text of its own, into the front of a block: as many as
+/// it holds, or all. The others come from the byte on that is returned.
 ///
 /// The text may be any bytes: each longest piece that begins no scalar is read as U+FFFD (Unicode Standard, section 3.9).
 pub fn fill(text: &[u8], start: usize, out: &mut [Word]) -> Filled

@@ -11,13 +11,13 @@ use crate::scalars::scalar_at;
 /// A piece of a text between two neighbouring word boundaries.
 #[derive(Clone, Copy)]
 pub(crate) struct Piece {
-    /// The byte behind it.
+    /// The byte after it.
     pub(crate) end: usize,
     /// Whether it has a letter or a number.
     pub(crate) is_word: bool,
 }
 
-/// The first piece of a text that is taken alone from a byte on.
+/// The first piece of what a text has from a byte on, as a text of its own.
 #[inline(always)]
 pub(crate) fn first_piece(text: &[u8], start: usize) -> Piece
     requires { start < length text.now }

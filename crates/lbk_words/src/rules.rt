@@ -32,7 +32,7 @@ pub(crate) fn is_break(context: Context, next: Scalar, text: &[u8]) -> bool
     !joins(context.far_left, context.left, next.value, ahead)
 }
 
-/// By the rules WB3 to WB4, which ask for the two neighbours alone. None comes where none of them decides.
+/// By the rules WB3 to WB4, which ask only for the two neighbours. None comes where none of them decides.
 #[inline(always)]
 fn break_by_pair(last: WordBreak, next: Scalar) -> Option<bool>
     requires { next.value ≡ word_break next.c }
@@ -47,7 +47,7 @@ fn break_by_pair(last: WordBreak, next: Scalar) -> Option<bool>
     }
 }
 
-/// Whether the rules WB6, WB7b or WB12 ask for the value behind two.
+/// Whether the rules WB6, WB7b or WB12 ask for the value after two.
 #[inline(always)]
 fn asks_ahead(left: WordBreak, right: WordBreak) -> bool
     ensures { result ≡ asks_ahead left right }

@@ -17,7 +17,7 @@ pub(crate) struct Scalar {
     pub(crate) c: char,
     /// Its value of Word_Break.
     pub(crate) value: WordBreak,
-    /// The byte behind it.
+    /// The byte after it.
     pub(crate) end: usize,
 }
 

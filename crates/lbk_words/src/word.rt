@@ -6,7 +6,7 @@
 pub struct Word {
     /// The byte that it begins with, counted from the text's start.
     pub start: usize,
-    /// The byte behind its last one: the text's length at its end.
+    /// The byte after its last one: the text's length at its end.
     pub end: usize,
 }
 
