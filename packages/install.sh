@@ -13,7 +13,8 @@
 # LIBDIR is PREFIX/lib unless it is given. Both are taken as the places where the files will be used; DESTDIR, where it is set, stands
 # in front of them while they are copied.
 #
-# The code is for x86-64-v2, so for processors with SSE4.2, which nearly all since 2009 have. Without DESTDIR this processor has to.
+# Without DESTDIR this machine has to be one that the code is for; on x86-64 its processor needs SSE4.2, which nearly all since 2009
+# have.
 set -eu
 if [ $# = 0 ] || [ $# -gt 2 ] || [ -z "$1" ]; then
     echo "usage: ./install.sh PREFIX [LIBDIR]" >&2
@@ -25,13 +26,18 @@ absolute() {
     *) printf '%s\n' "$PWD/$1" ;;
     esac
 }
-if [ -z "${DESTDIR:-}" ] && [ -r /proc/cpuinfo ] && ! grep -q -w sse4_2 /proc/cpuinfo; then
-    echo "install.sh: this processor has no SSE4.2, and the code is for x86-64-v2" >&2
-    exit 1
-fi
 prefix=$(absolute "$1")
 libdir=$(absolute "${2:-$prefix/lib}")
 cd "$(dirname "$0")"
+machine=$(cat machine)
+if [ -z "${DESTDIR:-}" ] && [ "$(uname -m)" != "$machine" ]; then
+    echo "install.sh: this machine is $(uname -m), and the code is for $machine" >&2
+    exit 1
+fi
+if [ -z "${DESTDIR:-}" ] && [ "$machine" = x86_64 ] && [ -r /proc/cpuinfo ] && ! grep -q -w sse4_2 /proc/cpuinfo; then
+    echo "install.sh: this processor has no SSE4.2, and the code is for x86-64-v2" >&2
+    exit 1
+fi
 to=${DESTDIR:-}$prefix
 lib=${DESTDIR:-}$libdir
 
