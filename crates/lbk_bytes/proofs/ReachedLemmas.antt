@@ -1,21 +1,25 @@
 -- How far a call has come, scalar by scalar.
-use Rattle.std.proofs.Common.{◌≡◌, ℕ, ◌+◌, ◌<◌, true, false, cond, not, List, [], ◌∷◌, ◌++◌, length, map, drop, take, append_assoc, refl, sym, ap, subst, ◌∙◌, arith}
+use Rattle.std.proofs.Common.{◌≡◌, ℕ, ◌+◌, ◌<◌, ◌≤◌, true, false, cond, not, Some, List, [], ◌∷◌, ◌++◌, length, map, drop, take, append_assoc, refl, sym, ap, subst, ◌∙◌, arith}
 use Rattle.std.specs.Int.{from_bool}
 use Rattle.std.proofs.Math.ListN.{set}
-use Rattle.std.proofs.lemmas.List.{append-nil, length-append, map-append, take-set, take_more_set}
+use Rattle.std.proofs.lemmas.List.{append-nil, length-append, length-map, length-take-le, map-append, take-set, take_more_set}
 use Rattle.bstr.specs.Utf8.{Decoded, decoded, lossy_chars, or_replacement, pieces}
 use Rattle.lbk_rules.specs.declared.breaks.Break.{Break}
 use Rattle.lbk_rules.specs.declared.cells.Cell.{Cell}
 use Rattle.lbk_rules.specs.declared.facts.Left.{Left}
 use Rattle.lbk_values.specs.declared.profile.Profile.{Profile}
+use Rattle.lbk_values.specs.declared.profile.Profile.TheVariants.{First, Second}
 use Rattle.lbk_rules.specs.declared.verdicts.Verdict.{Verdict}
 use Rattle.lbk_rules.specs.Breaks.{break_by, is_no}
 use Rattle.lbk_steps.specs.FlatTable.{KnowsTaken}
+use Rattle.lbk_rules.specs.Marks.{marks, marks_behind}
 use Rattle.lbk_rules.specs.Verdict.{verdict_between_in}
+use Rattle.lbk_rules.proofs.EndLemmas.{start_of_text}
 use Rattle.lbk_bytes.specs.declared.raw_break.RawBreak.{RawBreak}
 use Rattle.lbk_bytes.specs.declared.fill_state.FillState.{FillState}
-use Rattle.lbk_bytes.specs.Bytes.{with_break}
-use Rattle.lbk_bytes.specs.Reached.{Reached, onward}
+use Rattle.lbk_bytes.specs.Bytes.{breaks_after, with_break}
+use Rattle.lbk_bytes.specs.Profiles.{profile_number, profile_numbered}
+use Rattle.lbk_bytes.specs.Reached.{Reached, onward, scalars_of}
 use Rattle.lbk_bytes.specs.Shown.{given_in, shown}
 use Rattle.lbk_bytes.proofs.PieceLemmas.{piece-within, pieces-on}
 
@@ -86,3 +90,27 @@ written-more block count found at verdict within same =
           ∙ map-append shown (take count block) (found ∷ [])
           ∙ ap (λ b. given_in block count ++ b ∷ []) same
     ]
+
+-- as many breaks were given as were counted
+pub given-many : (block : List RawBreak) (count : ℕ) → count ≤ length block → length (given_in block count) ≡ count
+given-many block count within = length-map (take count block) shown ∙ length-take-le count block within
+
+-- From the start on
+
+onward-marks : (profile : Profile) (cell : ℕ → Cell) (before : List ℕ) (at : ℕ) (p : Decoded) (ps : List Decoded)
+    → breaks_after at (p ∷ ps) (marks_behind profile cell before (scalars_of (p ∷ ps))) ≡ onward profile cell (before ++ or_replacement p.char ∷ []) (at + p.size) ps
+onward-marks profile cell before at p [] = refl
+onward-marks profile cell before at p (q ∷ qs) =
+    let on = before ++ or_replacement p.char ∷ [] in
+    let next = at + p.size in
+    ap (with_break next (verdict_between_in profile (map cell on) (map cell (scalars_of (q ∷ qs))))) (onward-marks profile cell on next q qs)
+
+pub onward-start : (profile : Profile) (cell : ℕ → Cell) (ps : List Decoded) → breaks_after 0 ps (marks profile cell (scalars_of ps)) ≡ onward profile cell [] 0 ps
+onward-start profile cell [] = sym (ap (λ (v : Verdict). with_break 0 v []) (start_of_text profile []))
+onward-start profile cell (p ∷ ps) =
+    onward-marks profile cell [] 0 p ps
+    ∙ sym (ap (λ (v : Verdict). with_break 0 v (onward profile cell (or_replacement p.char ∷ []) (0 + p.size) ps)) (start_of_text profile (map cell (scalars_of (p ∷ ps)))))
+
+pub profile-same : (profile : Profile) → profile_numbered (profile_number profile) ≡ Some profile
+profile-same First = refl
+profile-same Second = refl

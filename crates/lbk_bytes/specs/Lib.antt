@@ -1,5 +1,6 @@
 -- What a reader has to believe.
 pub mod Bytes
+pub mod Profiles
 pub mod Shown
 pub mod Order
 pub mod Open

@@ -29,27 +29,11 @@ use Rattle.lbk_bytes.specs.Bytes.{breaks_after, breaks_of_bytes, with_break}
 use Rattle.lbk_bytes.specs.Reached.{Onward, Reached, ReachedBy, onward, scalars_of}
 use Rattle.lbk_c.specs.Coming.{Comes, ComesBy, Goes, GoesBy, IsGoing, IsSpent, from_state}
 use Rattle.lbk_bytes.specs.Shown.{given_in, shown}
-use Rattle.lbk_c.specs.State.{profile_numbered, profile_number, start_in}
+use Rattle.lbk_c.specs.State.{profile_numbered, start_in}
+use Rattle.lbk_bytes.proofs.BlockLemmas.{zero-or}
+use Rattle.lbk_bytes.proofs.ReachedLemmas.{given-many, onward-start, profile-same}
 
 -- From the start on
-
-onward-marks : (profile : Profile) (cell : ℕ → Cell) (before : List ℕ) (at : ℕ) (p : Decoded) (ps : List Decoded)
-    → breaks_after at (p ∷ ps) (marks_behind profile cell before (scalars_of (p ∷ ps))) ≡ onward profile cell (before ++ or_replacement p.char ∷ []) (at + p.size) ps
-onward-marks profile cell before at p [] = refl
-onward-marks profile cell before at p (q ∷ qs) =
-    let on = before ++ or_replacement p.char ∷ [] in
-    let next = at + p.size in
-    ap (with_break next (verdict_between_in profile (map cell on) (map cell (scalars_of (q ∷ qs))))) (onward-marks profile cell on next q qs)
-
-pub onward-start : (profile : Profile) (cell : ℕ → Cell) (ps : List Decoded) → breaks_after 0 ps (marks profile cell (scalars_of ps)) ≡ onward profile cell [] 0 ps
-onward-start profile cell [] = sym (ap (λ (v : Verdict). with_break 0 v []) (start_of_text profile []))
-onward-start profile cell (p ∷ ps) =
-    onward-marks profile cell [] 0 p ps
-    ∙ sym (ap (λ (v : Verdict). with_break 0 v (onward profile cell (or_replacement p.char ∷ []) (0 + p.size) ps)) (start_of_text profile (map cell (scalars_of (p ∷ ps)))))
-
-pub profile-same : (profile : Profile) → profile_numbered (profile_number profile) ≡ Some profile
-profile-same First = refl
-profile-same Second = refl
 
 pub Comes-by-start : (from : Onward) (cell : ℕ → Cell) (table : FlatTable) (text : List ℕ) (profile : Profile) (state : State) (to_come : List Break)
     → IsFlatOf table cell → state ≡ start_in profile → to_come ≡ from profile cell [] 0 (pieces text)
@@ -128,10 +112,6 @@ Reached-end profile cell lefts text all here given ends r =
 
 -- Some more given
 
-pub zero_or : (n : ℕ) → (n ≡ 0) ⊎ (0 < n)
-zero_or zero = inl refl
-zero_or (suc n) = inr (omega arith)
-
 pub record Gives (to_come front : List Break) (count room : ℕ) (rest : List Break) : Type 0 where
   pub counted : count ≡ min room (length to_come)
   pub same : front ≡ take count to_come
@@ -149,9 +129,6 @@ gives to_come front more count room joined many within full = record {
 }
 
 -- how many are in the front of a block
-pub given-many : (block : List RawBreak) (count : ℕ) → count ≤ length block → length (given_in block count) ≡ count
-given-many block count within = length-map (take count block) shown ∙ length-take-le count block within
-
 -- the block is full
 pub Goes-full : (from : Onward) (profile : Profile) (cell : ℕ → Cell) (lefts : List Left) (text : List ℕ) (to_come : List Break) (here : FillState) (state : State) (block : List RawBreak) (room : ℕ)
     → ReachedBy from profile cell lefts text to_come here (given_in block here.count) → here.at ≤ length text → state.at ≡ here.at → state.row ≡ here.row → state.ended ≡ 0
@@ -203,7 +180,7 @@ pub Goes-ended : (profile : Profile) (cell : ℕ → Cell) (lefts : List Left) (
 Goes-ended profile cell lefts text to_come here state before block count room r ends at_same ended some none few same_room =
     let last = Reached-end profile cell lefts text to_come here (given_in before here.count) ends r in
     let all : to_come ≡ given_in block count =
-    ⊎_elim (λ (empty : length text ≡ 0). last.0 empty ∙ sym (none empty)) (λ (more : 0 < length text). last.1 more ∙ sym (some more)) (zero_or (length text)) in
+    ⊎_elim (λ (empty : length text ≡ 0). last.0 empty ∙ sym (none empty)) (λ (more : 0 < length text). last.1 more ∙ sym (some more)) (zero-or (length text)) in
     Goes-all onward profile cell lefts text to_come state block count room all (at_same ∙ ends) ended few same_room
 
 -- Between the calls

@@ -1,8 +1,3 @@
-pub mod FeedLemmas
-pub mod OpenLemmas
-pub mod StandsLemmas
-pub mod SkimLemmas
-pub mod StreamLemmas
 pub mod TableLemmas
 pub mod ComingLemmas
 pub mod UnitsComingLemmas

@@ -21,7 +21,7 @@ use Rattle.lbk_rules.proofs.EndLemmas.{must_at_length, start_of_text}
 use Rattle.lbk_steps.specs.FlatTable.{IsFlatOf, KnowsTaken}
 use Rattle.lbk_bytes.specs.declared.deciding.Decided.{Decided}
 use Rattle.lbk_bytes.specs.declared.fill_state.FillState.{FillState}
-use Rattle.lbk_c.specs.declared.breaking.TheConstants.{END}
+use Rattle.lbk_bytes.specs.declared.ending.TheConstants.{END}
 use Rattle.lbk_c.specs.declared.interface.State.{State}
 use Rattle.lbk_c.specs.declared.positions.TheConstants.{START}
 use Rattle.lbk_bytes.specs.Bytes.{breaks_after, breaks_of_bytes, with_break}

@@ -30,7 +30,9 @@ use Rattle.lbk_c.specs.declared.interface.State.{State}
 use Rattle.lbk_c.specs.Coming.{IsGoing, IsSpent, from_state}
 use Rattle.lbk_c.specs.State.{profile_numbered, start_in}
 use Rattle.lbk_c.specs.UnitsComing.{UnitsCome, UnitsGo}
-use Rattle.lbk_c.proofs.ComingLemmas.{breaks-utf8, given-many, gives, onward-start, profile-same, same-profile, zero_or}
+use Rattle.lbk_c.proofs.ComingLemmas.{breaks-utf8, gives, same-profile}
+use Rattle.lbk_bytes.proofs.BlockLemmas.{zero-or}
+use Rattle.lbk_bytes.proofs.ReachedLemmas.{given-many, onward-start, profile-same}
 
 module _ {A : Type 0} (pieces_of : List A → List Decoded) where
   pub units-start : (cell : ℕ → Cell) (table : FlatTable) (text : List A) (profile : Profile) (state : State) → IsFlatOf table cell → state ≡ start_in profile
@@ -113,7 +115,7 @@ module _ {A : Type 0} (pieces_of : List A → List Decoded) where
   units-ended profile cell lefts text to_come here state before block count room empty r ends at_same ended some none few same_room =
       let last = units-end profile cell lefts text to_come here (given_in before here.count) empty ends r in
       let all : to_come ≡ given_in block count =
-      ⊎_elim (λ (is : length text ≡ 0). last.0 is ∙ sym (none is)) (λ (more : 0 < length text). last.1 more ∙ sym (some more)) (zero_or (length text)) in
+      ⊎_elim (λ (is : length text ≡ 0). last.0 is ∙ sym (none is)) (λ (more : 0 < length text). last.1 more ∙ sym (some more)) (zero-or (length text)) in
       let g = gives to_come (given_in block count) [] count room (all ∙ sym (append-nil (given_in block count))) (given-many block count few) (omega arith) (inr refl) in
       record {
         counted = g.counted;

@@ -1,17 +1,7 @@
--- States, and the numbers of profiles.
-use Rattle.std.specs.Prelude.{ℕ, ◌==◌, Option, Some, None, if◌then◌else◌}
+-- States.
 use Rattle.lbk_values.specs.declared.profile.Profile.{Profile}
-use Rattle.lbk_values.specs.declared.profile.Profile.TheVariants.{First, Second}
+pub use Rattle.lbk_bytes.specs.Profiles.{profile_number, profile_numbered}
 use Rattle.lbk_c.specs.declared.interface.State.{State}
-
--- the number of a profile
-abbrev pub profile_number : Profile → ℕ
-profile_number First = 0
-profile_number Second = 1
-
--- the profile that a number names
-abbrev pub profile_numbered : ℕ → Option Profile
-profile_numbered number = if number == 0 then Some First else (if number == 1 then Some Second else None)
 
 -- the state at the start of a text
 abbrev pub start_in : Profile → State

@@ -17,12 +17,9 @@ ghost use Rattle.lbk_bytes.specs.Shown.{given_in};
 ghost use Rattle.lbk_c.specs.State.{profile_numbered, start_in};
 
 use crate::interface::State;
-use lbk_bytes::{FillState, RawBreak, fill, put};
-use lbk_rules::{Profile, RULES};
+use lbk_bytes::{FillState, RawBreak, fill, profile_numbered, put_end};
+use lbk_rules::Profile;
 use lbk_steps::FlatTable;
-
-/// The number of the verdict at a text's end, by rule 3.
-pub(crate) const END: u16 = 2 * RULES + 1;
 
 /// Puts the next breaks of a text (UAX #14, section 3) into the front of the block, from the state on, and answers how many:
 /// as many as the block holds, or all that are left. The text may be any bytes: each longest piece that begins no scalar is
@@ -116,30 +113,4 @@ fn go_on(
     }
     state.ended = 1;
     put_end(out, here.count, text.len())
-}
-
-/// Writes the break at the end of a text behind those in the front of the block, and answers how many these are now. An empty
-/// text has none.
-pub(crate) fn put_end(out: &mut [RawBreak], count: usize, len: usize) -> usize
-    requires { count < length out.old }
-    ensures within { result ≤ length out.old }
-    ensures in_order { (from : ℕ) → IsInOrder out.old count from len → AreInOrder out.new result from (suc len) }
-    ensures some { 0 < len → given_in out.new result ≡ given_in out.old count ++ break_by len end_of_text ∷ [] }
-    ensures none { len ≡ 0 → (result ≡ count) × (out.new ≡ out.old) }
-{
-    if len == 0 {
-        return count;
-    }
-    put(out, count, len, END)
-}
-
-/// The profile of a number: 0 for the first, 1 for the second. None comes for any other.
-pub(crate) fn profile_numbered(number: u8) -> Option<Profile>
-    ensures { result ≡ profile_numbered number }
-{
-    match number {
-        0 => Some(Profile::First),
-        1 => Some(Profile::Second),
-        _ => None,
-    }
 }

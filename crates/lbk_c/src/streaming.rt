@@ -1,26 +1,18 @@
 //! A text that comes in pieces.
 
-ghost use Rattle.std.specs.Prelude.{◌≡◌, ◌⊎◌, ℕ, ◌+◌, ◌^◌, ◌<◌, ◌≤◌, ◌++◌, true, false, [], ◌∷◌, List, MatchOption, None, Some, drop, length, take};
+ghost use Rattle.std.specs.Prelude.{◌≡◌, ◌⊎◌, ℕ, ◌+◌, ◌^◌, ◌<◌, ◌≤◌, ◌++◌, true, false, [], List, drop, length, take};
 ghost use Rattle.lbk_rules.specs.declared.breaks.Break.{Break};
 ghost use Rattle.lbk_rules.specs.declared.cells.Cell.{Cell};
-ghost use Rattle.lbk_rules.specs.declared.facts.Left.{Left};
 ghost use Rattle.lbk_values.specs.declared.profile.Profile.{Profile};
-ghost use Rattle.lbk_rules.specs.Breaks.{break_by};
-ghost use Rattle.lbk_rules.specs.Ends.{end_of_text};
-ghost use Rattle.lbk_steps.specs.FlatTable.{IsFlatBy, IsFlatOf};
+ghost use Rattle.lbk_steps.specs.FlatTable.{IsFlatOf};
 ghost use Rattle.lbk_bytes.specs.Bytes.{breaks_of_bytes};
 ghost use Rattle.lbk_bytes.specs.Shown.{given_in};
-ghost use Rattle.lbk_c.specs.State.{profile_numbered};
-ghost use Rattle.lbk_c.specs.Stands.{Feeds, Gives, Streams, front_of};
-ghost use Rattle.lbk_c.specs.Streams.{AreUnsettled, cut_bytes, place_of, stream_start};
+ghost use Rattle.lbk_streams.specs.Stands.{Streams};
+ghost use Rattle.lbk_streams.specs.Streams.{AreUnsettled, cut_bytes, stream_start};
 
-use crate::breaking::{END, profile_numbered};
-use crate::cutting::cut_of;
-use crate::feeding::{take_cut, take_piece};
-use crate::stream::{Fed, Feeding, Place, Stream};
-use lbk_bytes::{RawBreak, put};
-use lbk_rules::Profile;
+use lbk_bytes::RawBreak;
 use lbk_steps::FlatTable;
+use lbk_streams::{Fed, Stream, feed};
 
 /// Takes the next piece of a stream, and puts the breaks that it settles (UAX #14, section 3) into the front of the block, as
 /// many as that holds. All bytes of the piece are taken, unless the block is full. Where `last`, nothing follows the piece: the
@@ -60,150 +52,5 @@ pub extern "C" fn lbk_feed(
     ensures stays { 0 < stream.old.ended ⊎ ((1 < stream.old.profile) ⊎ (length out.old ≡ 0)) → (result.count ≡ 0) × (stream.new ≡ stream.old) }
     ensures no_room { length out.old ≡ 0 → result.taken ≡ 0 }
 {
-    if out.is_empty() {
-        return Fed { taken: 0, count: 0 };
-    }
-    let Some(profile) = live_profile(stream) else {
-        return Fed {
-            taken: piece.len(),
-            count: 0,
-        };
-    };
-    go_with(table, profile, stream, piece, last, out)
-}
-
-/// The same from a stream that names a profile and has not ended.
-fn go_with(
-    table: &FlatTable,
-    profile: Profile,
-    stream: &mut Stream,
-    piece: &[u8],
-    last: bool,
-    out: &mut [RawBreak],
-) -> Fed
-    requires { (stream.old.ended ≡ 0) × (profile_numbered stream.old.profile ≡ Some profile) }
-    ensures within { (result.count ≤ length out.old) × (result.taken ≤ length piece.now) }
-    ensures all_taken { result.count < length out.old → result.taken ≡ length piece.now }
-    ensures profile_same { stream.new.profile ≡ stream.old.profile }
-    ensures ended { last ≡ true → result.count < length out.old → 0 < stream.new.ended }
-    ensures gives { (cell : ℕ → Cell) (more : List ℕ) (to_come : List Break) → Streams cell table.now stream.old (piece.now ++ more) to_come
-        → (last ≡ true → more ≡ [])
-        → Gives cell table.now stream.old stream.new piece.now more last to_come result (given_in out.new result.count) (length out.old) }
-{
-    let start = start_of(stream);
-    let here = take_piece(table, profile, start, piece, out);
-    if last {
-        let done = finish(table, profile, here, out);
-        return close(stream, done, out);
-    }
-    keep(stream, here);
-    Fed {
-        taken: here.taken,
-        count: here.count,
-    }
-}
-
-/// The profile of a stream from which breaks may come: none where it has ended, or names none.
-fn live_profile(stream: &Stream) -> Option<Profile>
-    ensures { MatchOption result ((0 < stream.now.ended) ⊎ (profile_numbered stream.now.profile ≡ None))
-        (λ profile. (stream.now.ended ≡ 0) × (profile_numbered stream.now.profile ≡ Some profile)) }
-{
-    if stream.ended != 0 {
-        return None;
-    }
-    profile_numbered(stream.profile)
-}
-
-/// Where a call begins.
-fn start_of(stream: &Stream) -> Feeding
-    ensures place { result.place ≡ place_of stream.now }
-    ensures cut { (result.cut.size ≤ 4) × (front_of result.cut ≡ cut_bytes stream.now) × (result.cut.size ≡ length (cut_bytes stream.now)) }
-    ensures fresh { (result.taken ≡ 0) × (result.count ≡ 0) }
-{
-    Feeding {
-        place: Place {
-            at: stream.at,
-            held_at: stream.held_at,
-            row: stream.row,
-            held_code: stream.held_code,
-        },
-        cut: cut_of(stream),
-        taken: 0,
-        count: 0,
-    }
-}
-
-/// Writes how far a call has come into the stream.
-fn keep(stream: &mut Stream, here: Feeding)
-    requires { here.cut.size ≤ 4 }
-    ensures place { place_of stream.new ≡ here.place }
-    ensures cut { (cut_bytes stream.new ≡ front_of here.cut) × (length (cut_bytes stream.new) ≡ here.cut.size) }
-    ensures same { (stream.new.profile ≡ stream.old.profile) × (stream.new.ended ≡ stream.old.ended) }
-{
-    let cut = here.cut.bytes;
-    stream.at = here.place.at;
-    stream.held_at = here.place.held_at;
-    stream.row = here.place.row;
-    stream.held_code = here.place.held_code;
-    stream.cut = cut;
-    stream.cut_size = here.cut.size as u8;
-}
-
-/// Takes the scalars that are left where nothing follows, until the block is full.
-fn finish(table: &FlatTable, profile: Profile, start: Feeding, out: &mut [RawBreak]) -> Feeding
-    requires { (start.cut.size ≤ 4) × (start.count ≤ length out.old) }
-    ensures within { (result.cut.size ≤ 4) × (result.count ≤ length out.old) × (result.taken ≡ start.taken) }
-    ensures done { result.count < length out.old → result.cut.size ≡ 0 }
-    ensures same { start.count ≡ length out.old → (result ≡ start) × (out.new ≡ out.old) }
-    ensures feeds { (cell : ℕ → Cell) (lefts : List Left) (base : ℕ) (piece : List ℕ) (all : List Break) → IsFlatBy lefts table.now cell
-        → (start.count < length out.old → start.taken ≡ length piece)
-        → Feeds profile cell lefts base piece [] start all (given_in out.old start.count)
-        → Feeds profile cell lefts base piece [] result all (given_in out.new result.count) }
-{
-    let mut here = start;
-    while here.count < out.len() && 0 < here.cut.size {
-        here = take_cut(table, profile, here, out);
-    }
-    here
-}
-
-/// Writes how far a call has come into the stream, and the break at its end, where the block has room for it.
-fn close(stream: &mut Stream, here: Feeding, out: &mut [RawBreak]) -> Fed
-    requires { (here.cut.size ≤ 4) × (here.count ≤ length out.old) }
-    ensures within { (result.count ≤ length out.old) × (result.taken ≡ here.taken) }
-    ensures profile_same { stream.new.profile ≡ stream.old.profile }
-    ensures full { here.count ≡ length out.old → (result.count ≡ here.count) × (out.new ≡ out.old) × (place_of stream.new ≡ here.place)
-        × (cut_bytes stream.new ≡ front_of here.cut) × (stream.new.ended ≡ stream.old.ended) }
-    ensures ended { here.count < length out.old → stream.new.ended ≡ 1 }
-    ensures some { here.count < length out.old → 0 < here.place.at → given_in out.new result.count ≡ given_in out.old here.count ++ break_by here.place.at end_of_text ∷ [] }
-    ensures none { here.count < length out.old → here.place.at ≡ 0 → given_in out.new result.count ≡ given_in out.old here.count }
-{
-    keep(stream, here);
-    if here.count == out.len() {
-        return Fed {
-            taken: here.taken,
-            count: here.count,
-        };
-    }
-    stream.ended = 1;
-    stream.held_code = 0;
-    let count = put_last(out, here.count, here.place.at);
-    Fed {
-        taken: here.taken,
-        count,
-    }
-}
-
-/// Writes the break at the end of a stream behind those in the front of the block, and answers how many these are now. An empty
-/// stream has none.
-fn put_last(out: &mut [RawBreak], count: usize, at: u64) -> usize
-    requires { count < length out.old }
-    ensures within { result ≤ length out.old }
-    ensures some { 0 < at → given_in out.new result ≡ given_in out.old count ++ break_by at end_of_text ∷ [] }
-    ensures none { at ≡ 0 → (result ≡ count) × (out.new ≡ out.old) }
-{
-    if at == 0 {
-        return count;
-    }
-    put(out, count, at as usize, END)
+    feed(table, stream, piece, last, out)
 }

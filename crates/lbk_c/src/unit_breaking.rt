@@ -17,9 +17,9 @@ ghost use Rattle.lbk_c.specs.Coming.{IsGoing, from_state};
 ghost use Rattle.lbk_c.specs.State.{start_in};
 ghost use Rattle.lbk_c.specs.UnitsComing.{UnitsCome, UnitsGo};
 
-use crate::breaking::{going_profile, put_end};
+use crate::breaking::going_profile;
 use crate::interface::State;
-use lbk_bytes::{FillState, RawBreak};
+use lbk_bytes::{FillState, RawBreak, put_end};
 use lbk_rules::Profile;
 use lbk_steps::FlatTable;
 use lbk_units::{Unit, fill_units};

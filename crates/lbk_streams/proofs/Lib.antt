@@ -1,0 +1,5 @@
+pub mod FeedLemmas
+pub mod OpenLemmas
+pub mod StandsLemmas
+pub mod SkimLemmas
+pub mod StreamLemmas

@@ -1,0 +1,358 @@
+-- One more scalar of a stream.
+use Rattle.std.proofs.Common.{◌≡◌, ℕ, ◌==◌, ◌+◌, ◌%◌, ◌^◌, ◌<◌, ◌||◌, ◌&&◌, Bool, true, false, cond, not, Some, None, List, [], ◌∷◌, ◌++◌, length, get_or, map, drop, reverse, append_assoc, refl, sym, ap, subst, ◌∙◌, arith}
+use Rattle.std.specs.Char.{IsScalar}
+use Rattle.std.proofs.lemmas.Bool.{and_parts, false≢true}
+use Rattle.std.proofs.lemmas.Bool.Decides.{nat_tests}
+use Rattle.std.proofs.lemmas.List.{length-append, length-drop, map-append}
+use Rattle.bstr.specs.Utf8.{decoded, lossy_chars, or_replacement, pieces}
+use Rattle.bstr.proofs.lemmas.PieceLemmas.{lossy_chars-step, piece-bounds, pieces-step}
+use Rattle.lbk_rules.specs.declared.breaks.Break.{Break}
+use Rattle.lbk_rules.specs.declared.cells.Cell.{Cell}
+use Rattle.lbk_rules.specs.declared.classes.Class.{Class}
+use Rattle.lbk_rules.specs.declared.classes.Class.TheVariants.{CombiningMark, Quotation, ZWJ}
+use Rattle.lbk_rules.specs.declared.facts.Left.{Left}
+use Rattle.lbk_values.specs.declared.profile.Profile.{Profile}
+use Rattle.lbk_values.specs.declared.profile.Profile.TheVariants.{First, Second}
+use Rattle.lbk_rules.specs.declared.verdicts.Verdict.{Verdict}
+use Rattle.lbk_rules.specs.Breaks.{break_by, is_no}
+use Rattle.lbk_rules.specs.Classes.{QU, closes_before, hard, is, mark}
+use Rattle.lbk_rules.specs.Codes.{IsCode, verdict_coded}
+use Rattle.lbk_rules.specs.Held.{is_15b, is_held}
+use Rattle.lbk_rules.specs.Normal.{normal}
+use Rattle.lbk_rules.specs.Sides.{leaves_closed}
+use Rattle.lbk_rules.specs.Units.{heads, unit, units_after}
+use Rattle.lbk_rules.specs.Verdict.{verdict_between_in}
+use Rattle.lbk_rules.proofs.EndLemmas.{heads-joins, joins_no_break}
+use Rattle.lbk_rules.proofs.HeldLemmas.{is_held-chain}
+use Rattle.lbk_steps.specs.declared.flat_table.FlatStep.{FlatStep}
+use Rattle.lbk_steps.specs.declared.flat_table.FlatTable.{FlatTable}
+use Rattle.lbk_steps.specs.declared.flat_table.TheConstants.{HELD}
+use Rattle.lbk_steps.specs.FlatTable.{IsFlatBy, KnowsTaken, no_flat_step}
+use Rattle.lbk_steps.specs.Kinds.{kind_cell}
+use Rattle.lbk_steps.specs.RowMachineFits.{normals}
+use Rattle.lbk_streams.specs.declared.stream.Place.{Place}
+use Rattle.lbk_bytes.specs.Bytes.{with_break}
+use Rattle.lbk_bytes.specs.Reached.{onward, steps_in}
+use Rattle.lbk_streams.specs.Stands.{Stands, Waits}
+use Rattle.lbk_streams.specs.Streams.{cells_of, late_break}
+use Rattle.lbk_bytes.proofs.AheadLemmas.{heads-tells, joins-leaves, told_by}
+use Rattle.lbk_bytes.proofs.ReachedLemmas.{with_break-more}
+use Rattle.lbk_bytes.proofs.StepLemmas.{decides-apart, decides-closed, decides-first, decides-open, held-15b, knows-more, steps-here}
+
+-- What stands before a position that waits
+
+QU-soft : (class : Class) → QU class ≡ true → hard class ≡ false
+unfolding is
+QU-soft Quotation _ = refl
+QU-soft _ h = absurd (false≢true h)
+
+mark-soft : (class : Class) → mark class ≡ true → hard class ≡ false
+unfolding is
+mark-soft CombiningMark _ = refl
+mark-soft ZWJ _ = refl
+mark-soft _ h = absurd (false≢true h)
+
+-- a position that rule 15b decides stands before a quotation mark
+held-soft : (cell : ℕ → Cell) (lefts : List Left) (table : FlatTable) (taken : List ℕ) (row c : ℕ) (other : FlatStep)
+    → IsFlatBy lefts table cell → KnowsTaken cell lefts row taken → IsScalar c
+    → other ≡ get_or table.second (row + get_or table.kinds c 0) no_flat_step → other.code ≡ HELD
+    → hard (normal (cell c)).class ≡ false
+unfolding is_held
+held-soft cell lefts table taken row c other flat known scalar is_other held =
+    let kind = get_or table.kinds c 0 in
+    let one = get_or table.first (row + kind) no_flat_step in
+    let same = (flat.kinds c scalar).1 in
+    let step = steps-here lefts table cell row c one other flat scalar known.0 refl is_other in
+    let left = normals cell taken in
+    let at_15b : is_held Second left (kind_cell kind ∷ []) ≡ true =
+    is_held-chain Second left (kind_cell kind) []
+    ∙ ap (λ (v : Verdict). is_15b v.rule) (sym (step.closes (reverse left) [] (sym known.1) refl))
+    ∙ ap (λ n. is_15b (verdict_coded n).rule) held ∙ held-15b in
+    let quotes = (and_parts _ _ (and_parts _ _ at_15b).0).0 in
+    ap (λ (x : Cell). hard x.class) (sym same) ∙ QU-soft (kind_cell kind).class quotes
+
+-- before a mark that joins a line does not break
+mark-no : (profile : Profile) (cell : ℕ → Cell) (taken front : List ℕ) (last c : ℕ) (right : List Cell)
+    → taken ≡ front ++ last ∷ [] → hard (normal (cell last)).class ≡ false → mark (normal (cell c)).class ≡ true
+    → is_no (verdict_between_in profile (map cell taken) (cell c ∷ right)).kind ≡ true
+unfolding normal
+mark-no profile cell taken front last c right joined soft is_mark =
+    let left = map cell front in
+    let split : map cell taken ≡ left ++ cell last ∷ [] = ap (map cell) joined ∙ map-append cell front (last ∷ []) in
+    let both : (not (hard (cell last).class) && mark (cell c).class) ≡ true =
+    ap (λ b. not b && mark (cell c).class) soft ∙ is_mark in
+    let headless : heads (reverse (left ++ cell last ∷ [])) (cell c) ≡ false =
+    heads-joins left (cell last) (cell c) ∙ ap not both in
+    ap (λ l. is_no (verdict_between_in profile l (cell c ∷ right)).kind) split
+    ∙ ap is_no (joins_no_break profile (left ++ cell last ∷ []) (cell c) right headless)
+
+-- The first scalar of some bytes
+
+pub cells-first : (cell : ℕ → Cell) (bytes : List ℕ) (c size : ℕ) → 0 < length bytes → c ≡ or_replacement (decoded bytes).char
+    → size ≡ (decoded bytes).size → cells_of cell bytes ≡ normal (cell c) ∷ cells_of cell (drop size bytes)
+cells-first cell bytes c size some is_char is_size =
+    ap (λ cs. map normal (map cell cs)) (lossy_chars-step bytes some)
+    ∙ ap (λ x. normal (cell x) ∷ cells_of cell (drop (decoded bytes).size bytes)) (sym is_char)
+    ∙ ap (λ n. normal (cell c) ∷ cells_of cell (drop n bytes)) (sym is_size)
+
+onward-first : (profile : Profile) (cell : ℕ → Cell) (taken : List ℕ) (at : ℕ) (bytes : List ℕ) (c size : ℕ) → 0 < length bytes
+    → c ≡ or_replacement (decoded bytes).char → size ≡ (decoded bytes).size
+    → onward profile cell taken at (pieces bytes)
+    ≡ with_break at (verdict_between_in profile (map cell taken) (cell c ∷ map cell (lossy_chars (drop size bytes))))
+    (onward profile cell (taken ++ c ∷ []) (at + size) (pieces (drop size bytes)))
+onward-first profile cell taken at bytes c size some is_char is_size =
+    let p = decoded bytes in
+    ap (onward profile cell taken at) (pieces-step bytes some)
+    ∙ ap (λ x. with_break at (verdict_between_in profile (map cell taken) (cell x ∷ map cell (lossy_chars (drop p.size bytes))))
+    (onward profile cell (taken ++ x ∷ []) (at + p.size) (pieces (drop p.size bytes)))) (sym is_char)
+    ∙ ap (λ n. with_break at (verdict_between_in profile (map cell taken) (cell c ∷ map cell (lossy_chars (drop n bytes))))
+    (onward profile cell (taken ++ c ∷ []) (at + n) (pieces (drop n bytes)))) (sym is_size)
+
+-- The position that waits
+
+pub late-none : (cell : ℕ → Cell) (place : Place) (bytes : List ℕ) → place.held_code ≡ 0 → late_break cell place bytes ≡ []
+late-none cell place bytes zero =
+    ap (λ n. cond (n == 0 || leaves_closed (units_after false (cells_of cell bytes))) [] (with_break place.held_at (verdict_coded n) [])) zero
+
+late-some : (cell : ℕ → Cell) (place : Place) (bytes : List ℕ) (closes : Bool) → (place.held_code == 0) ≡ false
+    → leaves_closed (units_after false (cells_of cell bytes)) ≡ closes
+    → late_break cell place bytes ≡ cond closes [] (with_break place.held_at (verdict_coded place.held_code) [])
+late-some cell place bytes closes held is =
+    let late = with_break place.held_at (verdict_coded place.held_code) [] in
+    ap (λ b. cond (b || leaves_closed (units_after false (cells_of cell bytes))) [] late) held ∙ ap (λ b. cond b [] late) is
+
+-- the next scalar decides it
+pub Stands-settle : (profile : Profile) (cell : ℕ → Cell) (lefts : List Left) (place : Place) (bytes : List ℕ) (all given after : List Break)
+    (c : ℕ) (closes : Bool)
+    → 0 < length bytes → c ≡ or_replacement (decoded bytes).char → (place.held_code == 0) ≡ false
+    → told_by false (normal (cell c)) ≡ Some closes
+    → after ≡ given ++ cond closes [] (with_break place.held_at (verdict_coded place.held_code) [])
+    → Stands profile cell lefts place bytes all given
+    → Stands profile cell lefts (record { at = place.at; held_at = place.held_at; row = place.row; held_code = 0 }) bytes all after
+Stands-settle profile cell lefts place bytes all given after c closes some is_char held told grown s =
+    let size = (decoded bytes).size in
+    let on = onward profile cell s.taken place.at (pieces bytes) in
+    let front = cond closes [] (with_break place.held_at (verdict_coded place.held_code) []) in
+    let is : leaves_closed (units_after false (cells_of cell bytes)) ≡ closes =
+    ap (λ cs. leaves_closed (units_after false cs)) (cells-first cell bytes c size some is_char refl)
+    ∙ heads-tells false (normal (cell c)) (cells_of cell (drop size bytes)) closes told in
+    record {
+      taken = s.taken;
+      knows = s.knows;
+      none = s.none;
+      some = s.some;
+      fits = s.fits;
+      waits = λ more. absurd (omega arith);
+      joined =
+          s.joined
+          ∙ ap (λ l. given ++ (l ++ on)) (late-some cell place bytes closes held is)
+          ∙ sym (append_assoc given front on)
+          ∙ ap (λ g. g ++ on) (sym grown);
+    }
+
+-- a mark that joins leaves it waiting
+pub Stands-join : (profile : Profile) (cell : ℕ → Cell) (lefts : List Left) (place next : Place) (bytes : List ℕ) (all given : List Break)
+    (c size : ℕ)
+    → 0 < length bytes → c ≡ or_replacement (decoded bytes).char → size ≡ (decoded bytes).size
+    → 0 < place.held_code → mark (normal (cell c)).class ≡ true
+    → next.at ≡ (place.at + size) % 2 ^ 64 → next.held_at ≡ place.held_at → next.held_code ≡ place.held_code
+    → ((taken : List ℕ) → KnowsTaken cell lefts place.row taken → KnowsTaken cell lefts next.row (taken ++ c ∷ []))
+    → Stands profile cell lefts place bytes all given
+    → Stands profile cell lefts next (drop size bytes) all given
+Stands-join profile cell lefts place next bytes all given c size some is_char is_size held is_mark moved held_same code_same knows s =
+    let rest = drop size bytes in
+    let bounds = piece-bounds bytes some in
+    let left = length-drop size bytes in
+    let w = s.waits held in
+    let at_same : next.at ≡ place.at + size = (let fits = s.fits in omega arith) in
+    let x = normal (cell c) in
+    let soft = mark-soft x.class is_mark in
+    let told : told_by false x ≡ None = ap (λ b. cond (false || not b) (Some (closes_before (unit x).class)) None) is_mark in
+    let closes : leaves_closed (units_after false (cells_of cell bytes)) ≡ leaves_closed (units_after false (cells_of cell rest)) =
+    ap (λ cs. leaves_closed (units_after false cs)) (cells-first cell bytes c size some is_char is_size)
+    ∙ joins-leaves false x (cells_of cell rest) told
+    ∙ ap (λ b. leaves_closed (units_after b (cells_of cell rest))) soft in
+    let late : late_break cell place bytes ≡ late_break cell next rest =
+    ap (λ b. cond (place.held_code == 0 || b) [] (with_break place.held_at (verdict_coded place.held_code) [])) closes
+    ∙ ap (λ n. cond (n == 0 || leaves_closed (units_after false (cells_of cell rest))) [] (with_break place.held_at (verdict_coded n) [])) (sym code_same)
+    ∙ ap (λ n. cond (next.held_code == 0 || leaves_closed (units_after false (cells_of cell rest))) [] (with_break n (verdict_coded next.held_code) [])) (sym held_same) in
+    let right = map cell (lossy_chars rest) in
+    let verdict = verdict_between_in profile (map cell s.taken) (cell c ∷ right) in
+    let on = onward profile cell (s.taken ++ c ∷ []) (place.at + size) (pieces rest) in
+    let silent : with_break place.at verdict on ≡ on =
+    ap (λ b. cond b on (break_by place.at verdict ∷ on)) (mark-no profile cell s.taken w.front w.last c right w.joined w.soft is_mark) in
+    record {
+      taken = s.taken ++ c ∷ [];
+      knows = knows s.taken s.knows;
+      none = λ zero. absurd (omega arith);
+      some = λ _. omega (arith, length-append s.taken (c ∷ []));
+      fits = (let fits = s.fits in omega arith);
+      waits = λ _. record {
+        second = w.second;
+        coded = subst IsCode (sym code_same) w.coded;
+        before = (let before = w.before in omega arith);
+        front = s.taken;
+        last = c;
+        joined = refl;
+        soft = soft;
+      };
+      joined =
+          s.joined
+          ∙ ap (λ l. given ++ (late_break cell place bytes ++ l)) (onward-first profile cell s.taken place.at bytes c size some is_char is_size ∙ silent)
+          ∙ ap (λ l. given ++ (l ++ on)) late
+          ∙ ap (λ n. given ++ (late_break cell next rest ++ onward profile cell (s.taken ++ c ∷ []) n (pieces rest))) (sym at_same);
+    }
+
+-- The position before a scalar
+
+same-test : (a b : ℕ) → a ≡ b → (a == b) ≡ true
+same-test a b same = grind (arith, nat_tests)
+
+-- a scalar is taken where none waits: of its position this comes now, and this waits
+pub Stands-on : (profile : Profile) (cell : ℕ → Cell) (lefts : List Left) (place next : Place) (bytes : List ℕ) (all given front after : List Break)
+    (c size : ℕ)
+    → 0 < length bytes → c ≡ or_replacement (decoded bytes).char → size ≡ (decoded bytes).size
+    → place.held_code ≡ 0 → next.at ≡ (place.at + size) % 2 ^ 64
+    → ((taken : List ℕ) → KnowsTaken cell lefts place.row taken → KnowsTaken cell lefts next.row (taken ++ c ∷ []))
+    → ((taken : List ℕ) → KnowsTaken cell lefts place.row taken
+    → front ++ late_break cell next (drop size bytes)
+    ≡ with_break place.at (verdict_between_in profile (map cell taken) (cell c ∷ map cell (lossy_chars (drop size bytes)))) [])
+    → ((taken : List ℕ) → KnowsTaken cell lefts place.row taken → place.at < next.at → 0 < next.held_code → Waits profile cell (taken ++ c ∷ []) next)
+    → after ≡ given ++ front
+    → Stands profile cell lefts place bytes all given
+    → Stands profile cell lefts next (drop size bytes) all after
+Stands-on profile cell lefts place next bytes all given front after c size some is_char is_size none_waits moved knows decides waits grown s =
+    let rest = drop size bytes in
+    let bounds = piece-bounds bytes some in
+    let left = length-drop size bytes in
+    let at_same : next.at ≡ place.at + size = (let fits = s.fits in omega arith) in
+    let verdict = verdict_between_in profile (map cell s.taken) (cell c ∷ map cell (lossy_chars rest)) in
+    let late = late_break cell next rest in
+    let on = onward profile cell (s.taken ++ c ∷ []) (place.at + size) (pieces rest) in
+    record {
+      taken = s.taken ++ c ∷ [];
+      knows = knows s.taken s.knows;
+      none = λ zero. absurd (omega arith);
+      some = λ _. omega (arith, length-append s.taken (c ∷ []));
+      fits = (let fits = s.fits in omega arith);
+      waits = waits s.taken s.knows (omega arith);
+      joined =
+          s.joined
+          ∙ ap (λ l. given ++ (l ++ onward profile cell s.taken place.at (pieces bytes))) (late-none cell place bytes none_waits)
+          ∙ ap (λ l. given ++ l) (onward-first profile cell s.taken place.at bytes c size some is_char is_size ∙ with_break-more place.at verdict on
+          ∙ ap (λ l. l ++ on) (sym (decides s.taken s.knows)) ∙ append_assoc front late on)
+          ∙ sym (append_assoc given front (late ++ on))
+          ∙ ap (λ g. g ++ (late ++ on)) (sym grown)
+          ∙ ap (λ n. after ++ (late ++ onward profile cell (s.taken ++ c ∷ []) n (pieces rest))) (sym at_same);
+    }
+
+-- the row that a step leads to
+pub knows-next : (cell : ℕ → Cell) (lefts : List Left) (table : FlatTable) (row c : ℕ) (one : FlatStep) → IsFlatBy lefts table cell → IsScalar c
+    → one ≡ get_or table.first (row + get_or table.kinds c 0) no_flat_step
+    → (taken : List ℕ) → KnowsTaken cell lefts row taken → KnowsTaken cell lefts one.next (taken ++ c ∷ [])
+knows-next cell lefts table row c one flat scalar is_one taken known =
+    let kind = get_or table.kinds c 0 in
+    let other = get_or table.second (row + kind) no_flat_step in
+    let step = steps-here lefts table cell row c one other flat scalar known.0 is_one refl in
+    knows-more cell lefts row one.next c kind (flat.kinds c scalar).1 step.starts step.leads taken known
+
+-- the number of a verdict by which no line breaks
+silent-code : (at code : ℕ) → is_no (verdict_coded code).kind ≡ true → with_break at (verdict_coded code) [] ≡ []
+silent-code at code none = ap (λ b. cond b [] (break_by at (verdict_coded code) ∷ [])) none
+
+-- so it is by rule 15b
+silent-held : (at code : ℕ) → code ≡ HELD → with_break at (verdict_coded code) [] ≡ []
+unfolding verdict_coded
+silent-held at code held = silent-code at code (ap (λ n. is_no (verdict_coded n).kind) held)
+
+-- the number of a verdict by which a line breaks is not 0
+loud-code : (code : ℕ) → is_no (verdict_coded code).kind ≡ false → (code == 0) ≡ false
+unfolding verdict_coded
+loud-code code loud =
+    elim (code == 0) as (λ b. (code == 0) ≡ b → b ≡ false) [
+      | true ↦ λ same.
+          let first : code ≡ 0 = grind (arith, nat_tests) in
+          absurd (false≢true (sym loud ∙ ap (λ n. is_no (verdict_coded n).kind) first))
+      | false ↦ λ apart. refl
+    ] refl
+
+-- what a number decides that waits for nothing
+pub decides-now : (profile : Profile) (cell : ℕ → Cell) (lefts : List Left) (table : FlatTable) (taken : List ℕ) (at row c : ℕ) (one other : FlatStep)
+    (right : List Cell)
+    → IsFlatBy lefts table cell → KnowsTaken cell lefts row taken → IsScalar c
+    → one ≡ get_or table.first (row + get_or table.kinds c 0) no_flat_step
+    → other ≡ get_or (steps_in table profile) (row + get_or table.kinds c 0) no_flat_step
+    → (profile ≡ Second → other.code ≡ HELD → is_no (verdict_coded one.code).kind ≡ true)
+    → IsCode other.code
+    × (with_break at (verdict_coded other.code) [] ≡ with_break at (verdict_between_in profile (map cell taken) (cell c ∷ right)) [])
+decides-now First cell lefts table taken at row c one other right flat known scalar is_one is_other quiet =
+    let decided = decides-first lefts table cell taken row c other right flat known scalar is_other in
+    (decided.0, ap (λ (v : Verdict). with_break at v []) decided.1)
+decides-now Second cell lefts table taken at row c one other right flat known scalar is_one is_other quiet =
+    (elim (other.code == HELD)
+    as (λ b. (other.code == HELD) ≡ b → IsCode other.code
+    × (with_break at (verdict_coded other.code) [] ≡ with_break at (verdict_between_in Second (map cell taken) (cell c ∷ right)) [])) [
+      | true ↦ λ same.
+          let held : other.code ≡ HELD = grind (arith, nat_tests) in
+          let none : with_break at (verdict_coded other.code) [] ≡ [] = silent-held at other.code held in
+          (elim (leaves_closed (units_after (hard (normal (cell c)).class) (map normal right)))
+          as (λ b. leaves_closed (units_after (hard (normal (cell c)).class) (map normal right)) ≡ b → IsCode other.code
+          × (with_break at (verdict_coded other.code) [] ≡ with_break at (verdict_between_in Second (map cell taken) (cell c ∷ right)) [])) [
+            | true ↦ λ closed.
+                let decided = decides-closed lefts table cell taken row c other right flat known scalar is_other closed in
+                (decided.0, ap (λ (v : Verdict). with_break at v []) decided.1)
+            | false ↦ λ stays.
+                let decided = decides-open lefts table cell taken row c one other right flat known scalar is_one is_other held stays in
+                let step = steps-here lefts table cell row c one other flat scalar known.0 is_one is_other in
+                (step.coded.1, none ∙ sym (silent-code at one.code (quiet refl held)) ∙ ap (λ (v : Verdict). with_break at v []) decided.1)
+          ]) refl
+      | false ↦ λ apart.
+          let unheld : ¬ (other.code ≡ HELD) = λ held. absurd (false≢true (sym apart ∙ same-test other.code HELD held)) in
+          let decided = decides-apart lefts table cell taken row c other right flat known scalar is_other unheld in
+          (decided.0, ap (λ (v : Verdict). with_break at v []) decided.1)
+    ]) refl
+
+-- what waits where rule 15b decides
+pub decides-late : (cell : ℕ → Cell) (lefts : List Left) (table : FlatTable) (taken : List ℕ) (place next : Place) (rest : List ℕ) (c : ℕ) (one other : FlatStep)
+    → IsFlatBy lefts table cell → KnowsTaken cell lefts place.row taken → IsScalar c
+    → one ≡ get_or table.first (place.row + get_or table.kinds c 0) no_flat_step
+    → other ≡ get_or table.second (place.row + get_or table.kinds c 0) no_flat_step
+    → other.code ≡ HELD → is_no (verdict_coded one.code).kind ≡ false → next.held_at ≡ place.at → next.held_code ≡ one.code
+    → late_break cell next rest
+    ≡ with_break place.at (verdict_between_in Second (map cell taken) (cell c ∷ map cell (lossy_chars rest))) []
+decides-late cell lefts table taken place next rest c one other flat known scalar is_one is_other held breaks held_same code_same =
+    let right = map cell (lossy_chars rest) in
+    let soft = held-soft cell lefts table taken place.row c other flat known scalar is_other held in
+    let some : (next.held_code == 0) ≡ false = ap (λ n. n == 0) code_same ∙ loud-code one.code breaks in
+    let same : with_break next.held_at (verdict_coded next.held_code) [] ≡ with_break place.at (verdict_coded one.code) [] =
+    ap (λ n. with_break n (verdict_coded next.held_code) []) held_same ∙ ap (λ n. with_break place.at (verdict_coded n) []) code_same in
+    (elim (leaves_closed (units_after false (cells_of cell rest)))
+    as (λ b. leaves_closed (units_after false (cells_of cell rest)) ≡ b
+    → late_break cell next rest ≡ with_break place.at (verdict_between_in Second (map cell taken) (cell c ∷ right)) []) [
+      | true ↦ λ is.
+          let closed = ap (λ b. leaves_closed (units_after b (cells_of cell rest))) soft ∙ is in
+          let decided = decides-closed lefts table cell taken place.row c other right flat known scalar is_other closed in
+          late-some cell next rest true some is ∙ sym (silent-held place.at other.code held)
+          ∙ ap (λ (v : Verdict). with_break place.at v []) decided.1
+      | false ↦ λ is.
+          let stays = ap (λ b. leaves_closed (units_after b (cells_of cell rest))) soft ∙ is in
+          let decided = decides-open lefts table cell taken place.row c one other right flat known scalar is_one is_other held stays in
+          late-some cell next rest false some is ∙ same ∙ ap (λ (v : Verdict). with_break place.at v []) decided.1
+    ]) refl
+
+-- that it waits
+pub waits-now : (cell : ℕ → Cell) (lefts : List Left) (table : FlatTable) (taken : List ℕ) (place next : Place) (c : ℕ) (one other : FlatStep)
+    → IsFlatBy lefts table cell → KnowsTaken cell lefts place.row taken → IsScalar c
+    → one ≡ get_or table.first (place.row + get_or table.kinds c 0) no_flat_step
+    → other ≡ get_or table.second (place.row + get_or table.kinds c 0) no_flat_step
+    → other.code ≡ HELD → next.held_at ≡ place.at → next.held_code ≡ one.code → place.at < next.at
+    → Waits Second cell (taken ++ c ∷ []) next
+waits-now cell lefts table taken place next c one other flat known scalar is_one is_other held held_same code_same onward = record {
+  second = refl;
+  coded = subst IsCode (sym code_same) (steps-here lefts table cell place.row c one other flat scalar known.0 is_one is_other).coded.0;
+  before = omega arith;
+  front = taken;
+  last = c;
+  joined = refl;
+  soft = held-soft cell lefts table taken place.row c other flat known scalar is_other held;
+}

@@ -1,0 +1,298 @@
+-- The breaks of a stream from its start on, and some of them given.
+use Rattle.std.proofs.Common.{◌≡◌, ℕ, zero, suc, ◌==◌, ◌||◌, ◌+◌, ◌^◌, ◌<◌, ◌≤◌, true, false, cond, ◌⊎◌, inl, inr, ⊎_elim, Some, None, List, [], ◌∷◌, ◌++◌, length, map, drop, take, refl, sym, ap, subst, ◌∙◌, arith}
+use Rattle.std.specs.List.{AllByRecursion}
+use Rattle.std.proofs.lemmas.Bool.{cases_lt}
+use Rattle.std.proofs.lemmas.List.{append-nil, length-map, take_at}
+use Rattle.std.proofs.Math.Seq.{drop-append_seam, drop-length, take-length}
+use Rattle.bstr.specs.Utf8.{Decoded, or_replacement, pieces}
+use Rattle.bstr.proofs.lemmas.PieceLemmas.{lossy_chars-nil, pieces-nil}
+use Rattle.lbk_rules.specs.declared.breaks.Break.{Break}
+use Rattle.lbk_rules.specs.declared.cells.Cell.{Cell}
+use Rattle.lbk_rules.specs.declared.facts.Left.{Left}
+use Rattle.lbk_values.specs.declared.profile.Profile.{Profile}
+use Rattle.lbk_rules.specs.declared.verdicts.Verdict.{Verdict}
+use Rattle.lbk_rules.specs.Breaks.{break_by, is_no}
+use Rattle.lbk_rules.specs.Codes.{verdict_coded}
+use Rattle.lbk_rules.specs.Ends.{end_of_text}
+use Rattle.lbk_rules.specs.Normal.{normal}
+use Rattle.lbk_rules.specs.Sides.{leaves_closed}
+use Rattle.lbk_rules.specs.Units.{units_after}
+use Rattle.lbk_rules.specs.Verdict.{verdict_between_in}
+use Rattle.lbk_rules.proofs.ParagraphLemmas.{or-true}
+use Rattle.lbk_rules.proofs.EndLemmas.{must_at_length, start_of_text}
+use Rattle.lbk_steps.specs.declared.flat_table.FlatTable.{FlatTable}
+use Rattle.lbk_steps.specs.FlatTable.{IsFlatBy, IsFlatOf}
+use Rattle.lbk_streams.specs.declared.stream.Feeding.{Feeding}
+use Rattle.lbk_streams.specs.declared.stream.Place.{Place}
+use Rattle.lbk_streams.specs.declared.stream.Stream.{Stream}
+use Rattle.lbk_bytes.specs.Bytes.{breaks_of_bytes, with_break}
+use Rattle.lbk_bytes.specs.Reached.{onward, scalars_of}
+use Rattle.lbk_bytes.specs.Profiles.{profile_numbered}
+use Rattle.lbk_streams.specs.Stands.{Feeds, Stands, Streams, front_of}
+use Rattle.lbk_bytes.specs.Open.{could_go_on}
+use Rattle.lbk_streams.specs.Streams.{AreUnsettled, cut_bytes, late_break, place_of, stream_start}
+use Rattle.lbk_bytes.proofs.BlockLemmas.{zero-or}
+use Rattle.lbk_bytes.proofs.ReachedLemmas.{onward-start, profile-same}
+
+-- the start of a stream
+pub Streams-start : (cell : ℕ → Cell) (table : FlatTable) (profile : Profile) (text : List ℕ) (stream : Stream) → IsFlatOf table cell → length text < 2 ^ 64
+    → stream ≡ stream_start profile → Streams cell table stream text (breaks_of_bytes profile cell text)
+Streams-start cell table profile text stream flat short starts =
+    subst (λ s. Streams cell table s text (breaks_of_bytes profile cell text)) (sym starts) (record {
+      profile = profile;
+      named = profile-same profile;
+      lefts = flat.0;
+      flat = flat.1;
+      goes_on = λ _. record {
+        taken = [];
+        knows = (flat.1.begins, flat.1.start);
+        none = λ _. refl;
+        some = λ more. absurd (omega arith);
+        fits = omega arith;
+        waits = λ more. absurd (omega arith);
+        joined = onward-start profile cell (pieces text);
+      };
+      none_come = λ more. absurd (omega arith);
+    })
+
+-- of the breaks to come these were given, and the others come
+pub Stands-rest : (profile : Profile) (cell : ℕ → Cell) (lefts : List Left) (place : Place) (bytes : List ℕ) (all given : List Break) (count : ℕ)
+    → length given ≡ count → Stands profile cell lefts place bytes all given
+    → (given ≡ take count all) × Stands profile cell lefts place bytes (drop count all) []
+Stands-rest profile cell lefts place bytes all given count many s =
+    let more = late_break cell place bytes ++ onward profile cell s.taken place.at (pieces bytes) in (
+      sym (ap (take count) s.joined ∙ take_at given more count many),
+      record {
+        taken = s.taken;
+        knows = s.knows;
+        none = s.none;
+        some = s.some;
+        fits = s.fits;
+        waits = s.waits;
+        joined = ap (drop count) s.joined ∙ ap (λ n. drop n (given ++ more)) (sym many) ∙ drop-append_seam given more;
+      },
+    )
+
+-- where a call begins
+pub Feeds-start : (profile : Profile) (cell : ℕ → Cell) (lefts : List Left) (stream : Stream) (piece more : List ℕ) (start : Feeding) (all : List Break)
+    → start.place ≡ place_of stream → front_of start.cut ≡ cut_bytes stream → start.taken ≡ 0 → start.cut.size ≡ length (cut_bytes stream)
+    → Stands profile cell lefts (place_of stream) (cut_bytes stream ++ (piece ++ more)) all []
+    → Feeds profile cell lefts (stream.at + length (cut_bytes stream)) piece more start all []
+Feeds-start profile cell lefts stream piece more start all place_same cut_same none size s =
+    let at : start.place.at ≡ stream.at = ap (λ (p : Place). p.at) place_same in
+    record {
+      stands =
+          subst (λ n. Stands profile cell lefts start.place (front_of start.cut ++ (drop n piece ++ more)) all []) (sym none)
+          (subst (λ l. Stands profile cell lefts start.place (l ++ (piece ++ more)) all []) (sym cut_same)
+          (subst (λ p. Stands profile cell lefts p (cut_bytes stream ++ (piece ++ more)) all []) (sym place_same) s));
+      seen = omega arith;
+    }
+
+-- the breaks from a byte on stand there or behind
+with_break-onward : (least at : ℕ) (verdict : Verdict) (more : List Break) → least ≤ at → AllByRecursion (λ found. least ≤ found.at) more
+    → AllByRecursion (λ found. least ≤ found.at) (with_break at verdict more)
+with_break-onward least at verdict more high all =
+    elim (is_no verdict.kind) as (λ b. AllByRecursion (λ found. least ≤ found.at) (cond b more (break_by at verdict ∷ more)))
+    [ true ↦ all | false ↦ (high, all) ]
+
+pub onward-onward : (profile : Profile) (cell : ℕ → Cell) (taken : List ℕ) (least at : ℕ) (ps : List Decoded) → least ≤ at
+    → AllByRecursion (λ found. least ≤ found.at) (onward profile cell taken at ps)
+onward-onward profile cell taken least at [] high = with_break-onward least at (verdict_between_in profile (map cell taken) []) [] high tt
+onward-onward profile cell taken least at (p ∷ ps) high =
+    with_break-onward least at (verdict_between_in profile (map cell taken) (map cell (scalars_of (p ∷ ps))))
+    (onward profile cell (taken ++ or_replacement p.char ∷ []) (at + p.size) ps) high
+    (onward-onward profile cell (taken ++ or_replacement p.char ∷ []) least (at + p.size) ps (omega arith))
+
+-- at the end a quotation is closed
+late-end : (cell : ℕ → Cell) (place : Place) → late_break cell place [] ≡ []
+late-end cell place =
+    let late = with_break place.held_at (verdict_coded place.held_code) [] in
+    ap (λ cs. cond (place.held_code == 0 || leaves_closed (units_after false (map normal (map cell cs)))) [] late) lossy_chars-nil
+    ∙ ap (λ b. cond b [] late) (or-true (place.held_code == 0))
+
+-- where nothing is left, the end comes, if there was anything
+pub Stands-end : (profile : Profile) (cell : ℕ → Cell) (lefts : List Left) (place : Place) (bytes : List ℕ) (all given : List Break)
+    → bytes ≡ [] → Stands profile cell lefts place bytes all given
+    → (place.at ≡ 0 → all ≡ given) × (0 < place.at → all ≡ given ++ break_by place.at end_of_text ∷ [])
+Stands-end profile cell lefts place bytes all given empty s =
+    let at = place.at in
+    let cells = map cell s.taken in
+    let none_left : pieces bytes ≡ [] = ap pieces empty ∙ pieces-nil in
+    let none_late : late_break cell place bytes ≡ [] = ap (late_break cell place) empty ∙ late-end cell place in
+    let last : all ≡ given ++ with_break at (verdict_between_in profile cells []) [] =
+    s.joined ∙ ap (λ l. given ++ (l ++ onward profile cell s.taken at (pieces bytes))) none_late
+    ∙ ap (λ ps. given ++ onward profile cell s.taken at ps) none_left in (
+      (λ zero. last ∙ ap (λ taken. given ++ with_break at (verdict_between_in profile (map cell taken) []) []) (s.none zero)
+          ∙ ap (λ (v : Verdict). given ++ with_break at v []) (start_of_text profile []) ∙ append-nil given),
+      (λ more.
+          let some : 0 < length cells = (let taken = s.some more in omega (arith, length-map s.taken cell)) in
+          let must : verdict_between_in profile cells [] ≡ end_of_text =
+          ap (λ l. verdict_between_in profile l []) (sym (take-length cells))
+          ∙ ap (λ l. verdict_between_in profile (take (length cells) cells) l) (sym (drop-length cells))
+          ∙ must_at_length profile cells some in
+          last ∙ ap (λ (v : Verdict). given ++ with_break at v []) must),
+    )
+
+-- Between the calls
+
+named-one : (p q : Profile) (stream : Stream) → profile_numbered stream.profile ≡ Some p → profile_numbered stream.profile ≡ Some q → p ≡ q
+named-one p q stream is also = cc
+
+-- where a call begins on a stream from which breaks may come
+pub Feeds-streams : (profile : Profile) (cell : ℕ → Cell) (table : FlatTable) (old : Stream) (piece more : List ℕ) (to_come given : List Break) (start : Feeding)
+    → profile_numbered old.profile ≡ Some profile → old.ended ≡ 0
+    → start.place ≡ place_of old → front_of start.cut ≡ cut_bytes old → start.taken ≡ 0 → start.cut.size ≡ length (cut_bytes old) → given ≡ []
+    → (s : Streams cell table old (piece ++ more) to_come)
+    → Feeds profile cell s.lefts (old.at + length (cut_bytes old)) piece more start to_come given
+Feeds-streams profile cell table old piece more to_come given start named unended place_same cut_same none size nothing s =
+    let same : s.profile ≡ profile = named-one s.profile profile old s.named named in
+    subst (λ g. Feeds profile cell s.lefts (old.at + length (cut_bytes old)) piece more start to_come g) (sym nothing)
+    (Feeds-start profile cell s.lefts old piece more start to_come place_same cut_same none size
+    (subst (λ p. Stands p cell s.lefts (place_of old) (cut_bytes old ++ (piece ++ more)) to_come []) same (s.goes_on unended)))
+
+-- the others come from where it ends
+pub Streams-next : (profile : Profile) (cell : ℕ → Cell) (table : FlatTable) (lefts : List Left) (base : ℕ) (old new : Stream) (piece more : List ℕ) (to_come given : List Break)
+    (here : Feeding) (count : ℕ)
+    → profile_numbered old.profile ≡ Some profile → old.ended ≡ 0 → IsFlatBy lefts table cell
+    → place_of new ≡ here.place → cut_bytes new ≡ front_of here.cut → new.profile ≡ old.profile → new.ended ≡ old.ended
+    → length given ≡ count → Feeds profile cell lefts base piece more here to_come given
+    → Streams cell table new (drop here.taken piece ++ more) (drop count to_come)
+Streams-next profile cell table lefts base old new piece more to_come given here count named unended flat place_same cut_same kept ended_same many f =
+    let bytes = drop here.taken piece ++ more in
+    record {
+      profile = profile;
+      named = ap profile_numbered kept ∙ named;
+      lefts = lefts;
+      flat = flat;
+      goes_on = λ _.
+          subst (λ p. Stands profile cell lefts p (cut_bytes new ++ bytes) (drop count to_come) []) (sym place_same)
+          (subst (λ l. Stands profile cell lefts here.place (l ++ bytes) (drop count to_come) []) (sym cut_same)
+          (Stands-rest profile cell lefts here.place (front_of here.cut ++ bytes) to_come given count many f.stands).1);
+      none_come = λ ended. absurd (omega arith);
+    }
+
+-- the breaks that a call gave are the first of those to come
+pub Feeds-front : (profile : Profile) (cell : ℕ → Cell) (lefts : List Left) (base : ℕ) (piece more : List ℕ) (to_come given : List Break) (here : Feeding) (count : ℕ)
+    → length given ≡ count → Feeds profile cell lefts base piece more here to_come given → given ≡ take count to_come
+Feeds-front profile cell lefts base piece more to_come given here count many f =
+    (Stands-rest profile cell lefts here.place (front_of here.cut ++ (drop here.taken piece ++ more)) to_come given count many f.stands).0
+
+-- what a call leaves that was not full
+pub Feeds-unsettled : (profile : Profile) (cell : ℕ → Cell) (lefts : List Left) (base : ℕ) (new : Stream) (piece more : List ℕ) (to_come given : List Break) (here : Feeding) (count : ℕ)
+    → place_of new ≡ here.place → cut_bytes new ≡ front_of here.cut
+    → (here.cut.size ≡ 0) ⊎ (could_go_on (front_of here.cut) ≡ true) → here.taken ≡ length piece
+    → length given ≡ count → Feeds profile cell lefts base piece more here to_come given
+    → AreUnsettled cell new more (drop count to_come)
+Feeds-unsettled profile cell lefts base new piece more to_come given here count place_same cut_same unfinished all many f =
+    let bytes = front_of here.cut ++ (drop here.taken piece ++ more) in
+    let s = (Stands-rest profile cell lefts here.place bytes to_come given count many f.stands).1 in
+    let at : new.at ≡ here.place.at = ap (λ (p : Place). p.at) place_same in
+    let rest : drop here.taken piece ++ more ≡ more = ap (λ n. drop n piece ++ more) all ∙ ap (λ l. l ++ more) (drop-length piece) in
+    let same : bytes ≡ cut_bytes new ++ more = ap (λ l. front_of here.cut ++ l) rest ∙ ap (λ l. l ++ more) (sym cut_same) in
+    let later = onward profile cell s.taken here.place.at (pieces bytes) in
+    record {
+      cut =
+          ⊎_elim (λ (none : here.cut.size ≡ 0). inl (cut_same ∙ ap (λ n. take n here.cut.bytes) none))
+          (λ (goes : could_go_on (front_of here.cut) ≡ true). inr (ap could_go_on cut_same ∙ goes)) unfinished;
+      later = later;
+      onward = onward-onward profile cell s.taken new.at here.place.at (pieces bytes) (omega arith);
+      joined = s.joined ∙ ap (λ p. late_break cell p bytes ++ later) (sym place_same) ∙ ap (λ l. late_break cell (place_of new) l ++ later) same;
+    }
+
+-- after the last piece, all were given
+pub Feeds-ended : (profile : Profile) (cell : ℕ → Cell) (lefts : List Left) (base : ℕ) (piece : List ℕ) (to_come given after : List Break) (here : Feeding)
+    → here.cut.size ≡ 0 → here.taken ≡ length piece
+    → (0 < here.place.at → after ≡ given ++ break_by here.place.at end_of_text ∷ []) → (here.place.at ≡ 0 → after ≡ given)
+    → Feeds profile cell lefts base piece [] here to_come given → to_come ≡ after
+Feeds-ended profile cell lefts base piece to_come given after here none all some empty f =
+    let bytes = front_of here.cut ++ (drop here.taken piece ++ []) in
+    let nothing : bytes ≡ [] =
+    ap (λ n. take n here.cut.bytes ++ (drop here.taken piece ++ [])) none ∙ ap (λ n. drop n piece ++ []) all ∙ ap (λ l. l ++ []) (drop-length piece) in
+    let ends = Stands-end profile cell lefts here.place bytes to_come given nothing f.stands in
+    ⊎_elim (λ (zero : here.place.at ≡ 0). ends.0 zero ∙ sym (empty zero)) (λ (more : 0 < here.place.at). ends.1 more ∙ sym (some more)) (zero-or here.place.at)
+
+pub Streams-end : (profile : Profile) (cell : ℕ → Cell) (table : FlatTable) (lefts : List Left) (old new : Stream) (bytes : List ℕ) (to_come after : List Break) (count : ℕ)
+    → profile_numbered old.profile ≡ Some profile → IsFlatBy lefts table cell → new.profile ≡ old.profile → new.ended ≡ 1
+    → to_come ≡ after → length after ≡ count → Streams cell table new bytes (drop count to_come)
+Streams-end profile cell table lefts old new bytes to_come after count named flat kept ended all many = record {
+  profile = profile;
+  named = ap profile_numbered kept ∙ named;
+  lefts = lefts;
+  flat = flat;
+  goes_on = λ unended. absurd (omega arith);
+  none_come = λ _. ap (drop count) all ∙ ap (λ n. drop n after) (sym many) ∙ drop-length after;
+}
+
+-- from a stream that has ended nothing comes
+pub ended-none : (cell : ℕ → Cell) (table : FlatTable) (old : Stream) (more : List ℕ) (to_come : List Break)
+    → (0 < old.ended) ⊎ (profile_numbered old.profile ≡ None) → Streams cell table old more to_come → (to_come ≡ []) × (0 < old.ended)
+ended-none cell table old more to_come (inl ended) s = (s.none_come ended, ended)
+ended-none cell table old more to_come (inr unnamed) s = absurd (let unknown : ⊥ = (let named = s.named in cc) in unknown)
+
+-- what has ended goes on as it is, whatever follows
+pub ended-stays : (cell : ℕ → Cell) (table : FlatTable) (old : Stream) (more other : List ℕ) (to_come : List Break)
+    → (0 < old.ended) ⊎ (profile_numbered old.profile ≡ None) → Streams cell table old more to_come → Streams cell table old other to_come
+ended-stays cell table old more other to_come spent s =
+    let none = ended-none cell table old more to_come spent s in
+    record {
+      profile = s.profile;
+      named = s.named;
+      lefts = s.lefts;
+      flat = s.flat;
+      goes_on = λ unended. absurd (let ended = none.1 in omega arith);
+      none_come = λ _. none.0;
+    }
+
+-- the numbers that name no profile
+pub unnamed-high : (number : ℕ) → profile_numbered number ≡ None → 1 < number
+unnamed-high zero none = absurd (let unknown : ⊥ = cc in unknown)
+unnamed-high (suc zero) none = absurd (let unknown : ⊥ = cc in unknown)
+unnamed-high (suc (suc n)) none = omega arith
+
+-- what the last call gives
+pub record IsClosed (cell : ℕ → Cell) (table : FlatTable) (new : Stream) (bytes : List ℕ) (to_come after : List Break) (count room : ℕ) : Type 0 where
+  pub front : after ≡ take count to_come
+  pub rest : Streams cell table new bytes (drop count to_come)
+  pub end : count < room → count ≡ length to_come
+
+-- how the call ends: with a full block, or with the end of the stream
+pub record Closes (old new : Stream) (done : Feeding) (piece : List ℕ) (given after : List Break) (count room : ℕ) : Type 0 where
+  pub within : done.count ≤ room
+  pub many : length given ≡ done.count
+  pub counted : length after ≡ count
+  pub kept : new.profile ≡ old.profile
+  pub full : done.count ≡ room
+      → (after ≡ given) × (place_of new ≡ done.place) × (cut_bytes new ≡ front_of done.cut) × (new.ended ≡ old.ended)
+  pub taken : done.count < room → done.taken ≡ length piece
+  pub cut : done.count < room → done.cut.size ≡ 0
+  pub ended : done.count < room → new.ended ≡ 1
+  pub some : done.count < room → 0 < done.place.at → after ≡ given ++ break_by done.place.at end_of_text ∷ []
+  pub none : done.count < room → done.place.at ≡ 0 → after ≡ given
+
+pub Feeds-closed : (profile : Profile) (cell : ℕ → Cell) (table : FlatTable) (lefts : List Left) (base : ℕ) (old new : Stream) (piece : List ℕ) (to_come given after : List Break)
+    (done : Feeding) (count room : ℕ)
+    → profile_numbered old.profile ≡ Some profile → old.ended ≡ 0 → IsFlatBy lefts table cell → Closes old new done piece given after count room
+    → Feeds profile cell lefts base piece [] done to_come given
+    → IsClosed cell table new (drop done.taken piece ++ []) to_come after count room
+Feeds-closed profile cell table lefts base old new piece to_come given after done count room named unended flat x f =
+    ⊎_elim
+    (λ (free : done.count < room).
+    let all : to_come ≡ after =
+    Feeds-ended profile cell lefts base piece to_come given after done (x.cut free) (x.taken free) (x.some free) (x.none free) f in
+    record {
+      front = sym (ap (take count) all ∙ ap (λ n. take n after) (sym x.counted) ∙ take-length after);
+      rest = Streams-end profile cell table lefts old new (drop done.taken piece ++ []) to_come after count named flat x.kept (x.ended free) all x.counted;
+      end = λ _. sym x.counted ∙ ap length (sym all);
+    })
+    (λ (no_room : room ≤ done.count).
+    let within = x.within in
+    let full = x.full (omega arith) in
+    let same : count ≡ done.count = sym x.counted ∙ ap length full.0 ∙ x.many in
+    let many : length given ≡ count = x.many ∙ sym same in
+    record {
+      front = full.0 ∙ Feeds-front profile cell lefts base piece [] to_come given done count many f;
+      rest =
+          Streams-next profile cell table lefts base old new piece [] to_come given done count named unended flat full.1 full.2 x.kept full.3 many f;
+      end = λ free. absurd (omega arith);
+    })
+    (cases_lt done.count room)

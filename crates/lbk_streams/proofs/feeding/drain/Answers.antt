@@ -1,0 +1,19 @@
+use Rattle.std.proofs.Common.{◌++◌, drop, arith}
+use Rattle.lbk_streams.specs.Stands.{front_of}
+use Rattle.lbk_bytes.proofs.CutLemmas.{closed-more}
+use Rattle.lbk_streams.proofs.feeding.drain.Goals as goal
+
+pub loop-here-preserved : goal.loop-here-preserved
+loop-here-preserved c =
+    let here = c.loop-here.here in
+    let take = c.take_cut-here in
+    let within = take.ensures.within in
+    let whole = c.is_whole.ensures.whole c.if-is_whole.true in
+    record {
+      cut = within.0;
+      room = omega (arith, within.1);
+      taken = omega (arith, within.2, c.loop-here.invariant.taken);
+      feeds = λ cell lefts base piece more all flat start.
+          take.ensures.feeds cell lefts base piece more all flat (closed-more (front_of here.cut) (drop here.taken piece ++ more) whole.1 whole.2)
+          (c.loop-here.invariant.feeds cell lefts base piece more all flat start);
+    }

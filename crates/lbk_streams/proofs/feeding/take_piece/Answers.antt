@@ -1,0 +1,32 @@
+use Rattle.std.proofs.Common.{arith}
+use Rattle.lbk_streams.proofs.feeding.take_piece.Goals as goal
+
+pub loop-here-init : goal.loop-here-init
+loop-here-init c =
+    let drain = c.drain-here in
+    let within = drain.ensures.within in
+    record {
+      cut = within.0;
+      room = omega (arith, within.1);
+      within = omega (arith, within.2, c.requires.2);
+      unfinished = λ free. drain.ensures.unfinished (omega arith);
+      few = λ free. drain.ensures.few (omega arith);
+      feeds = λ cell lefts base more all flat start. drain.ensures.feeds cell lefts base c.args.piece.now more all flat start;
+    }
+
+pub take_more-here-requires : goal.take_more-here-requires
+take_more-here-requires c = (c.loop-here.invariant.few (omega arith), omega arith, omega arith)
+
+pub loop-here-preserved : goal.loop-here-preserved
+loop-here-preserved c =
+    let l = c.loop-here in
+    let take = c.take_more-here in
+    let within = take.ensures.within in
+    record {
+      cut = within.0;
+      room = omega (arith, within.1);
+      within = within.3;
+      unfinished = λ free. take.ensures.unfinished (omega arith);
+      few = λ free. take.ensures.few (omega arith);
+      feeds = λ cell lefts base more all flat start. take.ensures.feeds cell lefts base more all flat (l.invariant.feeds cell lefts base more all flat start);
+    }

@@ -1,0 +1,105 @@
+use Rattle.std.proofs.Common.{◌≡◌, ◌-◌, ◌++◌, [], drop, length, take, sym, ap, subst, ◌∙◌, length-drop, length-take-le, arith}
+use Rattle.lbk_bytes.specs.Shown.{given_in}
+use Rattle.lbk_streams.specs.Stands.{Stands}
+use Rattle.lbk_streams.proofs.FeedLemmas.{Feeds-kept, Feeds-run, is-read, none-cut, not-false, not-true}
+use Rattle.lbk_bytes.proofs.PieceLemmas.{rest-of}
+use Rattle.lbk_streams.proofs.feeding.take_run.Goals as goal
+
+pub overflow_add-taken : goal.overflow_add-taken
+overflow_add-taken c =
+    let read = is-read c.args.piece.now [] c.args.here.taken c.decode_lossy-c.result.0 c.decode_lossy-c.result.1 c.requires.2 c.decode_lossy-c.ensures.char c.decode_lossy-c.ensures.size in
+    omega (arith, read.few, c.requires.2)
+
+pub slice_bounds-kept-end : goal.slice_bounds-kept-end
+slice_bounds-kept-end c =
+    let piece = c.args.piece.now in
+    let at = c.args.here.taken in
+    let read = is-read piece [] at c.decode_lossy-c.result.0 c.decode_lossy-c.result.1 c.requires.2 c.decode_lossy-c.ensures.char c.decode_lossy-c.ensures.size in
+    let left : length (take (length piece - at) (drop at piece)) ≡ length piece - at = ap length (rest-of piece at) ∙ length-drop at piece in
+    sym (length-take-le c.decode_lossy-c.result.1 (take (length piece - at) (drop at piece)) (omega (arith, read.few, c.requires.2)))
+
+pub kept-cut-requires : goal.kept-cut-requires
+kept-cut-requires c =
+    let piece = c.args.piece.now in
+    let at = c.args.here.taken in
+    let read = is-read piece [] at c.decode_lossy-c.result.0 c.decode_lossy-c.result.1 c.requires.2 c.decode_lossy-c.ensures.char c.decode_lossy-c.ensures.size in
+    let left : length (take (length piece - at) (drop at piece)) ≡ length piece - at = ap length (rest-of piece at) ∙ length-drop at piece in
+    let long = length-take-le c.decode_lossy-c.result.1 (take (length piece - at) (drop at piece)) (omega (arith, read.few, c.requires.2)) in
+    omega (arith, read.few)
+
+pub returns-then-not-step-clause-within : goal.returns-then-not-step-clause-within
+returns-then-not-step-clause-within c =
+    let piece = c.args.piece.now in
+    let at = c.args.here.taken in
+    let read = is-read piece [] at c.decode_lossy-c.result.0 c.decode_lossy-c.result.1 c.requires.2 c.decode_lossy-c.ensures.char c.decode_lossy-c.ensures.size in
+    let left : length (take (length piece - at) (drop at piece)) ≡ length piece - at = ap length (rest-of piece at) ∙ length-drop at piece in
+    let long = length-take-le c.decode_lossy-c.result.1 (take (length piece - at) (drop at piece)) (omega (arith, read.few, c.requires.2)) in
+    (omega (arith, read.few, c.kept-cut.ensures.within), c.take_scalar-step.ensures.within.1, omega (arith, read.some), omega (arith, read.few, c.requires.2))
+
+pub returns-then-not-step-clause-feeds : goal.returns-then-not-step-clause-feeds
+returns-then-not-step-clause-feeds c = λ cell lefts base more all flat feeds.
+    let piece = c.args.piece.now in
+    let here = c.args.here in
+    let at = here.taken in
+    let x = c.decode_lossy-c.result.0 in
+    let size = c.decode_lossy-c.result.1 in
+    let step = c.take_scalar-step in
+    let bytes = drop at piece ++ more in
+    let given = given_in c.args.out.now here.count in
+    let read = is-read piece more at x size c.requires.2 c.decode_lossy-c.ensures.char c.decode_lossy-c.ensures.size in
+    let left : length (take (length piece - at) (drop at piece)) ≡ length piece - at = ap length (rest-of piece at) ∙ length-drop at piece in
+    let long = length-take-le size (take (length piece - at) (drop at piece)) (omega (arith, read.few, c.requires.2)) in
+    let stands = subst (λ l. Stands c.args.profile cell lefts here.place l all given) (none-cut here.cut bytes c.requires.0) feeds.stands in
+    Feeds-kept c.args.profile cell lefts base piece more here step.result.place c.kept-cut.result step.result.count size step.result.passed all given
+    (given_in step.new.out step.result.count) c.requires.0 (omega (arith, read.few, c.requires.2)) (not-true step.result.passed c.if-not-step.true)
+    (c.kept-cut.ensures.bytes ∙ ap (take size) (rest-of piece at)) (c.kept-cut.ensures.within ∙ long) step.ensures.at
+    (step.ensures.stands cell lefts bytes all flat read.bytes read.char read.is_size stands) feeds
+
+pub returns-then-past-ne0-clause-within : goal.returns-then-past-ne0-clause-within
+returns-then-past-ne0-clause-within c =
+    let read = is-read c.args.piece.now [] c.args.here.taken c.decode_lossy-c.result.0 c.decode_lossy-c.result.1 c.requires.2 c.decode_lossy-c.ensures.char c.decode_lossy-c.ensures.size in
+    (omega (arith, c.requires.0), c.take_scalar-step.ensures.within.1, omega (arith, read.some), omega (arith, read.few, c.requires.2))
+
+pub returns-then-past-ne0-clause-feeds : goal.returns-then-past-ne0-clause-feeds
+returns-then-past-ne0-clause-feeds c = λ cell lefts base more all flat feeds.
+    let piece = c.args.piece.now in
+    let here = c.args.here in
+    let at = here.taken in
+    let x = c.decode_lossy-c.result.0 in
+    let size = c.decode_lossy-c.result.1 in
+    let step = c.take_scalar-step in
+    let bytes = drop at piece ++ more in
+    let given = given_in c.args.out.now here.count in
+    let read = is-read piece more at x size c.requires.2 c.decode_lossy-c.ensures.char c.decode_lossy-c.ensures.size in
+    let stands = subst (λ l. Stands c.args.profile cell lefts here.place l all given) (none-cut here.cut bytes c.requires.0) feeds.stands in
+    Feeds-run c.args.profile cell lefts base piece more here step.result.place step.result.count size step.result.passed all given
+    (given_in step.new.out step.result.count) c.requires.0 (omega (arith, read.few, c.requires.2)) (not-false step.result.passed c.if-not-step.false) step.ensures.at
+    (step.ensures.stands cell lefts bytes all flat read.bytes read.char read.is_size stands) feeds
+
+pub skim-requires : goal.skim-requires
+skim-requires c =
+    let read = is-read c.args.piece.now [] c.args.here.taken c.decode_lossy-c.result.0 c.decode_lossy-c.result.1 c.requires.2 c.decode_lossy-c.ensures.char c.decode_lossy-c.ensures.size in
+    (c.requires.0, c.if-past-ne0.false, omega (arith, c.take_scalar-step.ensures.within.1), omega (arith, read.some), omega (arith, read.few, c.requires.2))
+
+pub returns-clause-within : goal.returns-clause-within
+returns-clause-within c =
+    let read = is-read c.args.piece.now [] c.args.here.taken c.decode_lossy-c.result.0 c.decode_lossy-c.result.1 c.requires.2 c.decode_lossy-c.ensures.char c.decode_lossy-c.ensures.size in
+    let within = c.skim.ensures.within in
+    (omega (arith, within.0), omega (arith, within.1), omega (arith, within.2, read.some), within.3)
+
+pub returns-clause-feeds : goal.returns-clause-feeds
+returns-clause-feeds c = λ cell lefts base more all flat feeds.
+    let piece = c.args.piece.now in
+    let here = c.args.here in
+    let at = here.taken in
+    let x = c.decode_lossy-c.result.0 in
+    let size = c.decode_lossy-c.result.1 in
+    let step = c.take_scalar-step in
+    let bytes = drop at piece ++ more in
+    let given = given_in c.args.out.now here.count in
+    let read = is-read piece more at x size c.requires.2 c.decode_lossy-c.ensures.char c.decode_lossy-c.ensures.size in
+    let stands = subst (λ l. Stands c.args.profile cell lefts here.place l all given) (none-cut here.cut bytes c.requires.0) feeds.stands in
+    c.skim.ensures.feeds cell lefts base more all flat
+    (Feeds-run c.args.profile cell lefts base piece more here step.result.place step.result.count size step.result.passed all given
+    (given_in step.new.out step.result.count) c.requires.0 (omega (arith, read.few, c.requires.2)) (not-false step.result.passed c.if-not-step.false) step.ensures.at
+    (step.ensures.stands cell lefts bytes all flat read.bytes read.char read.is_size stands) feeds)

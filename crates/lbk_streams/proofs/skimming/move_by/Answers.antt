@@ -1,0 +1,35 @@
+use Rattle.std.proofs.Common.{◌≡◌, ◌+◌, ◌%◌, ◌^◌, ◌<◌, ◌++◌, [], ◌∷◌, get_or, length, map, drop, take, sym, ap, ◌∙◌, arith}
+use Rattle.std.proofs.lemmas.List.{drop-drop, drop-set-lt, get_or-drop, length-set, map-append, take_more, take_more_set}
+use Rattle.lbk_bytes.specs.declared.raw_break.RawBreak.{RawBreak}
+use Rattle.lbk_bytes.specs.Shown.{given_in, shown}
+use Rattle.lbk_streams.specs.Stands.{moved}
+use Rattle.lbk_streams.proofs.skimming.move_by.Goals as goal
+
+pub loop-k-preserved : goal.loop-k-preserved
+loop-k-preserved c =
+    let l = c.loop-k in
+    let k = l.k in
+    let out = l.out in
+    let start = c.args.out.now in
+    let by = c.args.by in
+    let none : RawBreak = record { at = 0; kind = 0; rule = 0 } in
+    let old = get_or out k none in
+    let new : RawBreak = record { at = (old.at + by) % 2 ^ 64; kind = old.kind; rule = old.rule } in
+    let inside : k < length out = omega (arith, l.invariant.room) in
+    let inside_start : k < length start = omega (arith, c.requires) in
+    let same : old ≡ get_or start k none =
+    ap (λ n. get_or out n none) (let e : k ≡ k + 0 = omega arith in e) ∙ sym (get_or-drop k out 0 none) ∙ ap (λ xs. get_or xs 0 none) l.invariant.rest
+    ∙ get_or-drop k start 0 none ∙ ap (λ n. get_or start n none) (let e : k + 0 ≡ k = omega arith in e) in
+    record {
+      within = omega arith;
+      room = omega (arith, length-set out k new, l.invariant.room);
+      front =
+          ap (map shown) (take_more_set out k new inside) ∙ map-append shown (take k out) (new ∷ [])
+          ∙ ap (λ xs. xs ++ moved by (shown old) ∷ []) l.invariant.front
+          ∙ ap (λ found. map (moved by) (given_in start k) ++ moved by (shown found) ∷ []) same
+          ∙ sym (map-append (moved by) (given_in start k) (shown (get_or start k none) ∷ []))
+          ∙ ap (map (moved by)) (sym (map-append shown (take k start) (get_or start k none ∷ [])))
+          ∙ ap (λ xs. map (moved by) (map shown xs)) (sym (take_more start k none inside_start));
+      rest =
+          drop-set-lt (k + 1) out k new (omega arith) ∙ sym (drop-drop 1 k out) ∙ ap (drop 1) l.invariant.rest ∙ drop-drop 1 k start;
+    }

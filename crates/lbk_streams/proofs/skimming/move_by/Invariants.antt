@@ -1,0 +1,15 @@
+use Rattle.std.proofs.Common.{◌-◌, ◌≡◌, ◌≤◌, drop, length, map}
+use Rattle.lbk_bytes.specs.Shown.{given_in}
+use Rattle.lbk_streams.specs.Stands.{moved}
+use Rattle.lbk_streams.proofs.skimming.move_by.Given as goal
+
+abbrev pub invariant-loop-k : goal.invariant-loop-k
+invariant-loop-k l = record {
+  within : l.k ≤ l.count;
+  room : l.count ≤ length l.out;
+  front : given_in l.out l.k ≡ map (moved l.by) (given_in l.fn.out l.k);
+  rest : drop l.k l.out ≡ drop l.k l.fn.out;
+}
+
+abbrev pub decreases-loop-k : goal.decreases-loop-k
+decreases-loop-k l = l.count - l.k

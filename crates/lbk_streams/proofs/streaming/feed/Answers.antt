@@ -1,0 +1,41 @@
+use Rattle.std.proofs.Common.{◌++◌, [], refl, sym, subst, ◌∙◌, arith}
+use Rattle.std.proofs.lemmas.Bool.{false≢true}
+use Rattle.std.proofs.lemmas.List.{append-nil}
+use Rattle.lbk_streams.specs.Stands.{Streams}
+use Rattle.lbk_streams.proofs.StreamLemmas.{Streams-start, ended-none}
+use Rattle.lbk_streams.proofs.streaming.feed.Goals as goal
+
+pub returns-then-is_empty-clause-start : goal.returns-then-is_empty-clause-start
+returns-then-is_empty-clause-start c = λ cell profile text flat short starts.
+    Streams-start cell c.args.table.now profile text c.args.stream.now flat short starts
+
+pub returns-in_default-clause-start : goal.returns-in_default-clause-start
+returns-in_default-clause-start c = λ cell profile text flat short starts.
+    Streams-start cell c.args.table.now profile text c.args.stream.now flat short starts
+
+pub returns-in_default-clause-settled : goal.returns-in_default-clause-settled
+returns-in_default-clause-settled c = λ cell more to_come s unfinished unended free.
+    absurd (let ended = (ended-none cell c.args.table.now c.args.stream.now (c.args.piece.now ++ more) to_come c.in_default.ensures s).1 in omega arith)
+
+pub returns-clause-start : goal.returns-clause-start
+returns-clause-start c = λ cell profile text flat short starts.
+    Streams-start cell c.args.table.now profile text c.args.stream.now flat short starts
+
+pub returns-clause-front : goal.returns-clause-front
+returns-clause-front c = λ cell more to_come s lasts. (c.go_with.ensures.gives cell more to_come s lasts).front
+
+pub returns-clause-rest : goal.returns-clause-rest
+returns-clause-rest c = λ cell more to_come s lasts. (c.go_with.ensures.gives cell more to_come s lasts).rest
+
+pub returns-clause-settled : goal.returns-clause-settled
+returns-clause-settled c = λ cell more to_come s unfinished unended free.
+    (c.go_with.ensures.gives cell more to_come s (λ is_last. absurd (false≢true (sym unfinished ∙ is_last)))).settled unfinished free
+
+pub returns-clause-seen : goal.returns-clause-seen
+returns-clause-seen c = λ cell more to_come s unfinished unended.
+    (c.go_with.ensures.gives cell more to_come s (λ is_last. absurd (false≢true (sym unfinished ∙ is_last)))).seen unfinished
+
+pub returns-clause-end : goal.returns-clause-end
+returns-clause-end c = λ cell to_come s is_last free.
+    let whole = subst (λ bytes. Streams cell c.args.table.now c.args.stream.now bytes to_come) (sym (append-nil c.args.piece.now)) s in
+    (c.go_with.ensures.gives cell [] to_come whole (λ _. refl)).end is_last free

@@ -1,0 +1,95 @@
+use Rattle.std.proofs.Common.{◌≡◌, ◌+◌, ◌<◌, ◌≤◌, ◌++◌, [], drop, length, sym, ap, subst, ◌∙◌, ⊎_elim, arith}
+use Rattle.std.proofs.lemmas.Bool.{cases_lt, false≢true}
+use Rattle.lbk_bytes.specs.Shown.{given_in}
+use Rattle.lbk_streams.specs.Stands.{Streams}
+use Rattle.lbk_streams.specs.Streams.{cut_bytes}
+use Rattle.lbk_streams.specs.declared.stream.Feeding.{Feeding}
+use Rattle.lbk_streams.specs.declared.stream.Place.{Place}
+use Rattle.lbk_bytes.proofs.ReachedLemmas.{given-many}
+use Rattle.lbk_streams.proofs.StreamLemmas.{Feeds-closed, Feeds-front, Feeds-streams, Feeds-unsettled, Streams-next}
+use Rattle.lbk_streams.proofs.streaming.go_with.Goals as goal
+
+pub returns-clause-gives : goal.returns-clause-gives
+returns-clause-gives c = λ cell more to_come s lasts.
+    let table = c.args.table.now in
+    let profile = c.args.profile in
+    let old = c.args.stream.now in
+    let new = c.keep.new.stream in
+    let piece = c.args.piece.now in
+    let start = c.start_of-start in
+    let take = c.take_piece-here in
+    let here = take.result in
+    let base = old.at + length (cut_bytes old) in
+    let given = given_in take.new.out here.count in
+    let nothing : given_in c.args.out.now start.result.count ≡ [] = ap (given_in c.args.out.now) start.ensures.fresh.1 in
+    let first = Feeds-streams profile cell table old piece more to_come (given_in c.args.out.now start.result.count) start.result c.requires.1 c.requires.0 start.ensures.place
+    start.ensures.cut.1 start.ensures.fresh.0 start.ensures.cut.2 nothing s in
+    let feeds = take.ensures.feeds cell s.lefts base more to_come s.flat first in
+    let many : length given ≡ here.count = given-many take.new.out here.count (omega (arith, take.ensures.within.1)) in
+    let kept = c.keep.ensures in
+    let at : new.at ≡ here.place.at = ap (λ (p : Place). p.at) kept.place in
+    record {
+      front = Feeds-front profile cell s.lefts base piece more to_come given here here.count many feeds;
+      rest =
+          Streams-next profile cell table s.lefts base old new piece more to_come given here here.count c.requires.1 c.requires.0 s.flat kept.place kept.cut.0
+          kept.same.0 kept.same.1 many feeds;
+      settled = λ _ free.
+          Feeds-unsettled profile cell s.lefts base new piece more to_come given here here.count kept.place kept.cut.0 (take.ensures.unfinished free)
+          (take.ensures.all free) many feeds;
+      seen = λ _. (let seen = feeds.seen in let size = kept.cut.1 in omega arith);
+      end = λ is_last free. absurd (false≢true (sym c.if-last.false ∙ is_last));
+    }
+
+pub returns-then-last-clause-gives : goal.returns-then-last-clause-gives
+returns-then-last-clause-gives c = λ cell more to_come s lasts.
+    let table = c.args.table.now in
+    let profile = c.args.profile in
+    let old = c.args.stream.now in
+    let new = c.close.new.stream in
+    let piece = c.args.piece.now in
+    let start = c.start_of-start in
+    let take = c.take_piece-here in
+    let here = take.result in
+    let finish = c.finish-done in
+    let done = finish.result in
+    let close = c.close in
+    let base = old.at + length (cut_bytes old) in
+    let room = length c.args.out.now in
+    let given = given_in finish.new.out done.count in
+    let after = given_in close.new.out close.result.count in
+    let none : more ≡ [] = lasts c.if-last.true in
+    let whole = subst (λ m. Streams cell table old (piece ++ m) to_come) none s in
+    let nothing : given_in c.args.out.now start.result.count ≡ [] = ap (given_in c.args.out.now) start.ensures.fresh.1 in
+    let first = Feeds-streams profile cell table old piece [] to_come (given_in c.args.out.now start.result.count) start.result c.requires.1 c.requires.0 start.ensures.place
+    start.ensures.cut.1 start.ensures.fresh.0 start.ensures.cut.2 nothing whole in
+    let feeds = take.ensures.feeds cell whole.lefts base [] to_come whole.flat first in
+    let ends = finish.ensures.feeds cell whole.lefts base piece to_come whole.flat (λ free. take.ensures.all (omega arith)) feeds in
+    let taken : close.result.taken ≡ done.taken = close.ensures.within.1 in
+    let closed = Feeds-closed profile cell table whole.lefts base old new piece to_come given after done close.result.count room c.requires.1 c.requires.0 whole.flat
+    (record {
+      within = omega (arith, finish.ensures.within.1);
+      many = given-many finish.new.out done.count (omega (arith, finish.ensures.within.1));
+      counted = given-many close.new.out close.result.count (omega (arith, close.ensures.within.0));
+      kept = close.ensures.profile_same;
+      full = λ full.
+          (let f = close.ensures.full (omega arith) in
+          (ap (λ b. given_in b close.result.count) f.1 ∙ ap (given_in finish.new.out) f.0, f.2, f.3, f.4));
+      taken = λ free.
+          ⊎_elim (λ (less : here.count < room). finish.ensures.within.2 ∙ take.ensures.all less)
+          (λ (full : room ≤ here.count).
+          let same = ap (λ (h : Feeding). h.count) (finish.ensures.same (omega (arith, take.ensures.within.1))).0 in absurd (omega arith))
+          (cases_lt here.count room);
+      cut = λ free. finish.ensures.done (omega arith);
+      ended = λ free. close.ensures.ended (omega arith);
+      some = λ free. close.ensures.some (omega arith);
+      none = λ free. close.ensures.none (omega arith);
+    }) ends in
+    record {
+      front = closed.front;
+      rest =
+          subst (λ m. Streams cell table new (drop close.result.taken piece ++ m) (drop close.result.count to_come)) (sym none)
+          (subst (λ n. Streams cell table new (drop n piece ++ []) (drop close.result.count to_come)) (sym taken) closed.rest);
+      settled = λ unfinished. absurd (false≢true (sym unfinished ∙ c.if-last.true));
+      seen = λ unfinished. absurd (false≢true (sym unfinished ∙ c.if-last.true));
+      end = λ _ free. closed.end (omega arith);
+    }

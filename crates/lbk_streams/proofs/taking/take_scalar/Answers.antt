@@ -1,0 +1,13 @@
+use Rattle.std.proofs.Common.{cond, drop, sym, subst}
+use Rattle.lbk_bytes.specs.Shown.{given_in}
+use Rattle.lbk_streams.specs.Stands.{Stands}
+use Rattle.lbk_streams.proofs.taking.take_scalar.Goals as goal
+
+pub returns-clause-stands : goal.returns-clause-stands
+returns-clause-stands c = λ cell lefts bytes all flat some is_char is_size stands.
+    let size = c.args.size in
+    let pass = c.pass in
+    subst (λ b. Stands c.args.profile cell lefts pass.result.place (cond b (drop size bytes) bytes) all (given_in pass.new.out pass.result.count))
+    (sym pass.ensures.passed)
+    (pass.ensures.stands cell lefts bytes all flat some is_char is_size (c.meet-met.ensures.joins cell flat.kinds)
+    (c.meet-met.ensures.stands c.args.profile cell lefts bytes all flat some is_char stands))

@@ -1,0 +1,70 @@
+-- How far a call has come with a piece of a text, and what is to come from a stream on.
+use Rattle.std.specs.Prelude.{◌≡◌, ℕ, ◌+◌, ◌<◌, ◌%◌, ◌^◌, Bool, true, false, Some, List, [], ◌∷◌, ◌++◌, length, drop, take}
+use Rattle.bstr.specs.Utf8.{pieces}
+use Rattle.lbk_rules.specs.declared.breaks.Break.{Break}
+use Rattle.lbk_rules.specs.declared.cells.Cell.{Cell}
+use Rattle.lbk_rules.specs.declared.facts.Left.{Left}
+use Rattle.lbk_values.specs.declared.profile.Profile.{Profile}
+use Rattle.lbk_values.specs.declared.profile.Profile.TheVariants.{Second}
+use Rattle.lbk_rules.specs.Classes.{hard}
+use Rattle.lbk_rules.specs.Codes.{IsCode}
+use Rattle.lbk_rules.specs.Normal.{normal}
+use Rattle.lbk_steps.specs.declared.flat_table.FlatTable.{FlatTable}
+use Rattle.lbk_steps.specs.FlatTable.{IsFlatBy, KnowsTaken}
+use Rattle.lbk_streams.specs.declared.stream.Cut.{Cut}
+use Rattle.lbk_streams.specs.declared.stream.Fed.{Fed}
+use Rattle.lbk_streams.specs.declared.stream.Feeding.{Feeding}
+use Rattle.lbk_streams.specs.declared.stream.Place.{Place}
+use Rattle.lbk_streams.specs.declared.stream.Stream.{Stream}
+use Rattle.lbk_bytes.specs.Reached.{onward}
+use Rattle.lbk_bytes.specs.Profiles.{profile_numbered}
+use Rattle.lbk_streams.specs.Streams.{AreUnsettled, cut_bytes, late_break, place_of}
+
+abbrev pub front_of : Cut → List ℕ
+front_of cut = take cut.size cut.bytes
+
+-- a position waits: it stands before a quotation mark and the marks that join it
+pub record Waits (profile : Profile) (cell : ℕ → Cell) (taken : List ℕ) (place : Place) : Type 0 where
+  pub second : profile ≡ Second
+  pub coded : IsCode place.held_code
+  pub before : place.held_at < place.at
+  pub front : List ℕ
+  pub last : ℕ
+  pub joined : taken ≡ front ++ last ∷ []
+  pub soft : hard (normal (cell last)).class ≡ false
+
+-- of all breaks these were given, and the others come from here on, where these bytes follow
+pub record Stands (profile : Profile) (cell : ℕ → Cell) (lefts : List Left) (place : Place) (bytes : List ℕ) (all given : List Break) : Type 0 where
+  pub taken : List ℕ
+  pub knows : KnowsTaken cell lefts place.row taken
+  pub none : place.at ≡ 0 → taken ≡ []
+  pub some : 0 < place.at → 0 < length taken
+  pub fits : place.at + length bytes < 2 ^ 64
+  pub waits : 0 < place.held_code → Waits profile cell taken place
+  pub joined : all ≡ given ++ (late_break cell place bytes ++ onward profile cell taken place.at (pieces bytes))
+
+-- how far a call has come with a piece, behind which these bytes follow; base: the place of the piece in the stream
+pub record Feeds (profile : Profile) (cell : ℕ → Cell) (lefts : List Left) (base : ℕ) (piece more : List ℕ) (here : Feeding) (all given : List Break) : Type 0 where
+  pub stands : Stands profile cell lefts here.place (front_of here.cut ++ (drop here.taken piece ++ more)) all given
+  pub seen : here.place.at + here.cut.size ≡ base + here.taken
+
+-- the break so many bytes further on, as a number of 64 bits
+abbrev pub moved : ℕ → Break → Break
+moved by found = record { at = (found.at + by) % 2 ^ 64; kind = found.kind; rule = found.rule }
+
+-- where these bytes are still to come, these breaks are
+pub record Streams (cell : ℕ → Cell) (table : FlatTable) (stream : Stream) (more : List ℕ) (to_come : List Break) : Type 0 where
+  pub profile : Profile
+  pub named : profile_numbered stream.profile ≡ Some profile
+  pub lefts : List Left
+  pub flat : IsFlatBy lefts table cell
+  pub goes_on : stream.ended ≡ 0 → Stands profile cell lefts (place_of stream) (cut_bytes stream ++ more) to_come []
+  pub none_come : 0 < stream.ended → to_come ≡ []
+
+-- what a call does with a piece, behind which these bytes follow
+pub record Gives (cell : ℕ → Cell) (table : FlatTable) (old new : Stream) (piece more : List ℕ) (last : Bool) (to_come : List Break) (fed : Fed) (given : List Break) (room : ℕ) : Type 0 where
+  pub front : given ≡ take fed.count to_come
+  pub rest : Streams cell table new (drop fed.taken piece ++ more) (drop fed.count to_come)
+  pub settled : last ≡ false → fed.count < room → AreUnsettled cell new more (drop fed.count to_come)
+  pub seen : last ≡ false → new.at + length (cut_bytes new) ≡ old.at + length (cut_bytes old) + fed.taken
+  pub end : last ≡ true → fed.count < room → fed.count ≡ length to_come

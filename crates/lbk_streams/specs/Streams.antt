@@ -1,0 +1,56 @@
+-- A text that comes in pieces: what a stream holds of its bytes, and which breaks these do not settle.
+use Rattle.std.specs.Prelude.{◌≡◌, ℕ, ◌≤◌, ◌==◌, ◌||◌, true, false, ◌⊎◌, List, [], ◌∷◌, ◌++◌, map, take, if◌then◌else◌}
+use Rattle.std.specs.List.{AllByRecursion}
+use Rattle.bstr.specs.Utf8.{lossy_chars}
+use Rattle.lbk_rules.specs.declared.breaks.Break.{Break}
+use Rattle.lbk_rules.specs.declared.cells.Cell.{Cell}
+use Rattle.lbk_values.specs.declared.profile.Profile.{Profile}
+use Rattle.lbk_rules.specs.Codes.{verdict_coded}
+use Rattle.lbk_rules.specs.Normal.{normal}
+use Rattle.lbk_rules.specs.Sides.{leaves_closed}
+use Rattle.lbk_rules.specs.Units.{units_after}
+use Rattle.lbk_streams.specs.declared.stream.Place.{Place}
+use Rattle.lbk_streams.specs.declared.stream.Stream.{Stream}
+use Rattle.lbk_bytes.specs.Bytes.{with_break}
+use Rattle.lbk_bytes.specs.Open.{could_go_on}
+use Rattle.lbk_bytes.specs.Profiles.{profile_number}
+
+-- the bytes of a stream that came and are not taken as scalars
+abbrev pub cut_bytes : Stream → List ℕ
+cut_bytes stream = take stream.cut_size stream.cut
+
+-- the stream at the start of a text
+abbrev pub stream_start : Profile → Stream
+stream_start profile = record {
+  at = 0;
+  held_at = 0;
+  row = 0;
+  held_code = 0;
+  cut = 0 ∷ 0 ∷ 0 ∷ 0 ∷ [];
+  cut_size = 0;
+  profile = profile_number profile;
+  ended = 0;
+}
+
+-- where it stands between two scalars
+abbrev pub place_of : Stream → Place
+place_of stream = record { at = stream.at; held_at = stream.held_at; row = stream.row; held_code = stream.held_code }
+
+-- the cells of some bytes, without what no rule asks of them
+abbrev pub cells_of : (ℕ → Cell) → List ℕ → List Cell
+cells_of cell bytes = map normal (map cell (lossy_chars bytes))
+
+-- the break at the position that waits, if one does, where these bytes follow: none, if they close the quotation (rule 15b)
+abbrev pub late_break : (ℕ → Cell) → Place → List ℕ → List Break
+late_break cell place bytes =
+    if place.held_code == 0 || leaves_closed (units_after false (cells_of cell bytes))
+    then []
+    else with_break place.held_at (verdict_coded place.held_code) []
+
+-- These breaks are to come, and the bytes so far settle none of them: all stand where the last bytes could be part of a
+-- scalar yet, or behind all bytes, but for one at most that waits for the next unit
+pub record AreUnsettled (cell : ℕ → Cell) (stream : Stream) (more : List ℕ) (to_come : List Break) : Type 0 where
+  pub cut : (cut_bytes stream ≡ []) ⊎ (could_go_on (cut_bytes stream) ≡ true)
+  pub later : List Break
+  pub onward : AllByRecursion (λ found. stream.at ≤ found.at) later
+  pub joined : to_come ≡ late_break cell (place_of stream) (cut_bytes stream ++ more) ++ later

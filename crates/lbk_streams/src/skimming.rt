@@ -1,0 +1,89 @@
+//! The part of a piece that needs no care: scalars of at most three bytes, before which no position waits.
+
+ghost use Rattle.std.specs.Prelude.{◌≡◌, ℕ, ◌+◌, ◌-◌, ◌<◌, ◌≤◌, ◌++◌, [], List, drop, length, map};
+ghost use Rattle.lbk_rules.specs.declared.breaks.Break.{Break};
+ghost use Rattle.lbk_rules.specs.declared.cells.Cell.{Cell};
+ghost use Rattle.lbk_rules.specs.declared.facts.Left.{Left};
+ghost use Rattle.lbk_steps.specs.FlatTable.{IsFlatBy};
+ghost use Rattle.lbk_streams.specs.declared.stream.Place.{Place};
+ghost use Rattle.lbk_bytes.specs.Shown.{given_in};
+ghost use Rattle.lbk_streams.specs.Stands.{Feeds, Stands, moved};
+
+use crate::stream::{Feeding, Place};
+use lbk_bytes::{FillState, RawBreak, quick, steps_of};
+use lbk_rules::Profile;
+use lbk_steps::FlatTable;
+
+/// Goes on until a scalar needs care, the block is full or the piece ends.
+pub(crate) fn skim(
+    table: &FlatTable,
+    profile: Profile,
+    here: Feeding,
+    piece: &[u8],
+    out: &mut [RawBreak],
+) -> Feeding
+    requires { (here.cut.size ≡ 0) × (here.place.held_code ≡ 0) × (here.count ≤ length out.old) × (0 < here.taken) × (here.taken ≤ length piece.now) }
+    ensures within { (result.cut.size ≡ 0) × (result.count ≤ length out.old) × (here.taken ≤ result.taken) × (result.taken ≤ length piece.now) }
+    ensures feeds { (cell : ℕ → Cell) (lefts : List Left) (base : ℕ) (more : List ℕ) (all : List Break) → IsFlatBy lefts table.now cell
+        → Feeds profile cell lefts base piece.now more here all (given_in out.old here.count)
+        → Feeds profile cell lefts base piece.now more result all (given_in out.new result.count) }
+{
+    let end = skim_into(
+        table,
+        profile,
+        here.place,
+        here.taken,
+        piece,
+        &mut out[here.count..],
+    );
+    Feeding {
+        place: Place {
+            at: here.place.at.wrapping_add((end.at - here.taken) as u64),
+            held_at: here.place.held_at,
+            row: end.row as u16,
+            held_code: here.place.held_code,
+        },
+        cut: here.cut,
+        taken: end.at,
+        count: here.count + end.count,
+    }
+}
+
+/// The same from a byte of the piece, into what is left of the block.
+fn skim_into(
+    table: &FlatTable,
+    profile: Profile,
+    place: Place,
+    from: usize,
+    piece: &[u8],
+    room: &mut [RawBreak],
+) -> FillState
+    requires { from ≤ length piece.now }
+    ensures within { (result.count ≤ length room.old) × (result.row < 65536) × (from ≤ result.at) × (result.at ≤ length piece.now) }
+    ensures stands { (cell : ℕ → Cell) (lefts : List Left) (more : List ℕ) (all : List Break) (next : Place) → IsFlatBy lefts table.now cell
+        → place.held_code ≡ 0 → 0 < from → from ≤ place.at
+        → next.at ≡ place.at + (result.at - from) → next.row ≡ result.row → next.held_code ≡ 0
+        → Stands profile cell lefts place (drop from piece.now ++ more) all []
+        → Stands profile cell lefts next (drop result.at piece.now ++ more) all (given_in room.new result.count) }
+{
+    let start = FillState {
+        count: 0,
+        row: place.row as usize,
+        at: from,
+    };
+    let end = quick(&table.kinds, steps_of(table, profile), start, piece, room);
+    move_by(room, end.count, place.at.wrapping_sub(from as u64));
+    end
+}
+
+/// Moves the places of the breaks in the front of a block.
+fn move_by(out: &mut [RawBreak], count: usize, by: u64)
+    requires { count ≤ length out.old }
+    ensures { given_in out.new count ≡ map (moved by) (given_in out.old count) }
+{
+    let mut k = 0;
+    while k < count {
+        out[k].at = out[k].at.wrapping_add(by as usize);
+        k += 1;
+    }
+}

@@ -1,0 +1,193 @@
+//! A text that comes in pieces.
+
+ghost use Rattle.std.specs.Prelude.{◌≡◌, ◌⊎◌, ℕ, ◌+◌, ◌^◌, ◌<◌, ◌≤◌, ◌++◌, true, false, [], ◌∷◌, List, MatchOption, None, Some, drop, length, take};
+ghost use Rattle.lbk_rules.specs.declared.breaks.Break.{Break};
+ghost use Rattle.lbk_rules.specs.declared.cells.Cell.{Cell};
+ghost use Rattle.lbk_rules.specs.declared.facts.Left.{Left};
+ghost use Rattle.lbk_values.specs.declared.profile.Profile.{Profile};
+ghost use Rattle.lbk_rules.specs.Breaks.{break_by};
+ghost use Rattle.lbk_rules.specs.Ends.{end_of_text};
+ghost use Rattle.lbk_steps.specs.FlatTable.{IsFlatBy, IsFlatOf};
+ghost use Rattle.lbk_bytes.specs.Bytes.{breaks_of_bytes};
+ghost use Rattle.lbk_bytes.specs.Shown.{given_in};
+ghost use Rattle.lbk_bytes.specs.Profiles.{profile_numbered};
+ghost use Rattle.lbk_streams.specs.Stands.{Feeds, Gives, Streams, front_of};
+ghost use Rattle.lbk_streams.specs.Streams.{AreUnsettled, cut_bytes, place_of, stream_start};
+
+use crate::cutting::cut_of;
+use crate::feeding::{take_cut, take_piece};
+use crate::stream::{Fed, Feeding, Place, Stream};
+use lbk_bytes::{RawBreak, profile_numbered, put_end};
+use lbk_rules::Profile;
+use lbk_steps::FlatTable;
+
+/// Takes the next piece of a stream, and puts the breaks that it settles (UAX #14, section 3) into the front of the block, as
+/// many as that holds. All bytes of the piece are taken, unless the block is full. Where `last`, nothing follows the piece: the
+/// breaks left are settled then, and the end is the last of them.
+///
+/// The bytes may be any: over all calls the breaks are those of the joined pieces, as `lbk_breaks` has them, at places from the
+/// start of the stream. Where the block has no room, nothing is taken and the stream stays. Where the stream has ended or names
+/// no profile, all is taken and no break comes.
+pub fn feed(
+    table: &FlatTable,
+    stream: &mut Stream,
+    piece: &[u8],
+    last: bool,
+    out: &mut [RawBreak],
+) -> Fed
+    ensures within { (result.count ≤ length out.old) × (result.taken ≤ length piece.now) }
+    ensures all_taken { result.count < length out.old → result.taken ≡ length piece.now }
+    ensures profile_same { stream.new.profile ≡ stream.old.profile }
+    ensures start { (cell : ℕ → Cell) (profile : Profile) (text : List ℕ) → IsFlatOf table.now cell → length text < 2 ^ 64
+        → stream.old ≡ stream_start profile → Streams cell table.now stream.old text (breaks_of_bytes profile cell text) }
+    // Whatever bytes follow the piece (none, where it is the last): what comes of all of them comes first of this call.
+    ensures front { (cell : ℕ → Cell) (more : List ℕ) (to_come : List Break) → Streams cell table.now stream.old (piece.now ++ more) to_come
+        → (last ≡ true → more ≡ []) → given_in out.new result.count ≡ take result.count to_come }
+    ensures rest { (cell : ℕ → Cell) (more : List ℕ) (to_come : List Break) → Streams cell table.now stream.old (piece.now ++ more) to_come
+        → (last ≡ true → more ≡ [])
+        → Streams cell table.now stream.new (drop result.taken piece.now ++ more) (drop result.count to_come) }
+    ensures settled { (cell : ℕ → Cell) (more : List ℕ) (to_come : List Break) → Streams cell table.now stream.old (piece.now ++ more) to_come
+        → last ≡ false → stream.old.ended ≡ 0 → result.count < length out.old
+        → AreUnsettled cell stream.new more (drop result.count to_come) }
+    ensures seen { (cell : ℕ → Cell) (more : List ℕ) (to_come : List Break) → Streams cell table.now stream.old (piece.now ++ more) to_come
+        → last ≡ false → stream.old.ended ≡ 0
+        → stream.new.at + length (cut_bytes stream.new) ≡ stream.old.at + length (cut_bytes stream.old) + result.taken }
+    ensures end { (cell : ℕ → Cell) (to_come : List Break) → Streams cell table.now stream.old piece.now to_come
+        → last ≡ true → result.count < length out.old → result.count ≡ length to_come }
+    ensures ended { last ≡ true → result.count < length out.old → 0 < stream.new.ended ⊎ (1 < stream.old.profile) }
+    ensures stays { 0 < stream.old.ended ⊎ ((1 < stream.old.profile) ⊎ (length out.old ≡ 0)) → (result.count ≡ 0) × (stream.new ≡ stream.old) }
+    ensures no_room { length out.old ≡ 0 → result.taken ≡ 0 }
+{
+    if out.is_empty() {
+        return Fed { taken: 0, count: 0 };
+    }
+    let Some(profile) = live_profile(stream) else {
+        return Fed {
+            taken: piece.len(),
+            count: 0,
+        };
+    };
+    go_with(table, profile, stream, piece, last, out)
+}
+
+/// The same from a stream that names a profile and has not ended.
+fn go_with(
+    table: &FlatTable,
+    profile: Profile,
+    stream: &mut Stream,
+    piece: &[u8],
+    last: bool,
+    out: &mut [RawBreak],
+) -> Fed
+    requires { (stream.old.ended ≡ 0) × (profile_numbered stream.old.profile ≡ Some profile) }
+    ensures within { (result.count ≤ length out.old) × (result.taken ≤ length piece.now) }
+    ensures all_taken { result.count < length out.old → result.taken ≡ length piece.now }
+    ensures profile_same { stream.new.profile ≡ stream.old.profile }
+    ensures ended { last ≡ true → result.count < length out.old → 0 < stream.new.ended }
+    ensures gives { (cell : ℕ → Cell) (more : List ℕ) (to_come : List Break) → Streams cell table.now stream.old (piece.now ++ more) to_come
+        → (last ≡ true → more ≡ [])
+        → Gives cell table.now stream.old stream.new piece.now more last to_come result (given_in out.new result.count) (length out.old) }
+{
+    let start = start_of(stream);
+    let here = take_piece(table, profile, start, piece, out);
+    if last {
+        let done = finish(table, profile, here, out);
+        return close(stream, done, out);
+    }
+    keep(stream, here);
+    Fed {
+        taken: here.taken,
+        count: here.count,
+    }
+}
+
+/// The profile of a stream from which breaks may come: none where it has ended, or names none.
+fn live_profile(stream: &Stream) -> Option<Profile>
+    ensures { MatchOption result ((0 < stream.now.ended) ⊎ (profile_numbered stream.now.profile ≡ None))
+        (λ profile. (stream.now.ended ≡ 0) × (profile_numbered stream.now.profile ≡ Some profile)) }
+{
+    if stream.ended != 0 {
+        return None;
+    }
+    profile_numbered(stream.profile)
+}
+
+/// Where a call begins.
+fn start_of(stream: &Stream) -> Feeding
+    ensures place { result.place ≡ place_of stream.now }
+    ensures cut { (result.cut.size ≤ 4) × (front_of result.cut ≡ cut_bytes stream.now) × (result.cut.size ≡ length (cut_bytes stream.now)) }
+    ensures fresh { (result.taken ≡ 0) × (result.count ≡ 0) }
+{
+    Feeding {
+        place: Place {
+            at: stream.at,
+            held_at: stream.held_at,
+            row: stream.row,
+            held_code: stream.held_code,
+        },
+        cut: cut_of(stream),
+        taken: 0,
+        count: 0,
+    }
+}
+
+/// Writes how far a call has come into the stream.
+fn keep(stream: &mut Stream, here: Feeding)
+    requires { here.cut.size ≤ 4 }
+    ensures place { place_of stream.new ≡ here.place }
+    ensures cut { (cut_bytes stream.new ≡ front_of here.cut) × (length (cut_bytes stream.new) ≡ here.cut.size) }
+    ensures same { (stream.new.profile ≡ stream.old.profile) × (stream.new.ended ≡ stream.old.ended) }
+{
+    let cut = here.cut.bytes;
+    stream.at = here.place.at;
+    stream.held_at = here.place.held_at;
+    stream.row = here.place.row;
+    stream.held_code = here.place.held_code;
+    stream.cut = cut;
+    stream.cut_size = here.cut.size as u8;
+}
+
+/// Takes the scalars that are left where nothing follows, until the block is full.
+fn finish(table: &FlatTable, profile: Profile, start: Feeding, out: &mut [RawBreak]) -> Feeding
+    requires { (start.cut.size ≤ 4) × (start.count ≤ length out.old) }
+    ensures within { (result.cut.size ≤ 4) × (result.count ≤ length out.old) × (result.taken ≡ start.taken) }
+    ensures done { result.count < length out.old → result.cut.size ≡ 0 }
+    ensures same { start.count ≡ length out.old → (result ≡ start) × (out.new ≡ out.old) }
+    ensures feeds { (cell : ℕ → Cell) (lefts : List Left) (base : ℕ) (piece : List ℕ) (all : List Break) → IsFlatBy lefts table.now cell
+        → (start.count < length out.old → start.taken ≡ length piece)
+        → Feeds profile cell lefts base piece [] start all (given_in out.old start.count)
+        → Feeds profile cell lefts base piece [] result all (given_in out.new result.count) }
+{
+    let mut here = start;
+    while here.count < out.len() && 0 < here.cut.size {
+        here = take_cut(table, profile, here, out);
+    }
+    here
+}
+
+/// Writes how far a call has come into the stream, and the break at its end, where the block has room for it.
+fn close(stream: &mut Stream, here: Feeding, out: &mut [RawBreak]) -> Fed
+    requires { (here.cut.size ≤ 4) × (here.count ≤ length out.old) }
+    ensures within { (result.count ≤ length out.old) × (result.taken ≡ here.taken) }
+    ensures profile_same { stream.new.profile ≡ stream.old.profile }
+    ensures full { here.count ≡ length out.old → (result.count ≡ here.count) × (out.new ≡ out.old) × (place_of stream.new ≡ here.place)
+        × (cut_bytes stream.new ≡ front_of here.cut) × (stream.new.ended ≡ stream.old.ended) }
+    ensures ended { here.count < length out.old → stream.new.ended ≡ 1 }
+    ensures some { here.count < length out.old → 0 < here.place.at → given_in out.new result.count ≡ given_in out.old here.count ++ break_by here.place.at end_of_text ∷ [] }
+    ensures none { here.count < length out.old → here.place.at ≡ 0 → given_in out.new result.count ≡ given_in out.old here.count }
+{
+    keep(stream, here);
+    if here.count == out.len() {
+        return Fed {
+            taken: here.taken,
+            count: here.count,
+        };
+    }
+    stream.ended = 1;
+    stream.held_code = 0;
+    let count = put_end(out, here.count, here.place.at as usize);
+    Fed {
+        taken: here.taken,
+        count,
+    }
+}

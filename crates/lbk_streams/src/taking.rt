@@ -1,0 +1,179 @@
+//! One scalar of a stream.
+
+ghost use Rattle.std.specs.Prelude.{◌≡◌, ℕ, ◌+◌, ◌<◌, ◌≤◌, ◌%◌, ◌^◌, true, false, List, drop, length, if◌then◌else◌};
+ghost use Rattle.bstr.specs.Utf8.{decoded, or_replacement};
+ghost use Rattle.lbk_rules.specs.declared.breaks.Break.{Break};
+ghost use Rattle.lbk_rules.specs.declared.cells.Cell.{Cell};
+ghost use Rattle.lbk_rules.specs.declared.facts.Left.{Left};
+ghost use Rattle.lbk_values.specs.declared.profile.Profile.{Profile};
+ghost use Rattle.lbk_values.specs.declared.profile.Profile.TheVariants.{Second};
+ghost use Rattle.lbk_rules.specs.Breaks.{is_no};
+ghost use Rattle.lbk_rules.specs.Classes.{mark};
+ghost use Rattle.lbk_rules.specs.Codes.{verdict_coded};
+ghost use Rattle.lbk_rules.specs.Normal.{normal};
+ghost use Rattle.lbk_steps.specs.FlatTable.{AreFlatKinds, IsFlatBy};
+ghost use Rattle.lbk_bytes.specs.Shown.{given_in};
+ghost use Rattle.lbk_streams.specs.Stands.{Stands};
+
+use crate::stream::Place;
+use lbk_bytes::{RawBreak, put, step_at, steps_of};
+use lbk_rules::{Profile, is_break};
+use lbk_steps::{FlatTable, HELD};
+
+/// A place, and how many breaks stand in the front of the block.
+#[derive(Clone, Copy)]
+pub(crate) struct Step {
+    pub(crate) place: Place,
+    pub(crate) count: usize,
+    /// Whether the scalar was taken. It was not where the block is full before.
+    pub(crate) passed: bool,
+}
+
+/// Takes the scalar `c` of `size` bytes: first it decides the position that waits, and then the one before the scalar.
+pub(crate) fn take_scalar(
+    table: &FlatTable,
+    profile: Profile,
+    place: Place,
+    c: char,
+    size: usize,
+    out: &mut [RawBreak],
+    count: usize,
+) -> Step
+    requires { count < length out.old }
+    ensures within { (count ≤ result.count) × (result.count ≤ length out.old) }
+    ensures full { result.passed ≡ false → result.count ≡ length out.old }
+    ensures at { result.place.at ≡ (if result.passed then (place.at + size) % 2 ^ 64 else place.at) }
+    ensures stands { (cell : ℕ → Cell) (lefts : List Left) (bytes : List ℕ) (all : List Break) → IsFlatBy lefts table.now cell
+        → 0 < length bytes → c ≡ or_replacement (decoded bytes).char → size ≡ (decoded bytes).size
+        → Stands profile cell lefts place bytes all (given_in out.old count)
+        → Stands profile cell lefts result.place (if result.passed then drop size bytes else bytes) all (given_in out.new result.count) }
+{
+    let met = meet(table, place, c, out, count);
+    if met.count == out.len() {
+        return met;
+    }
+    pass(table, profile, met.place, c, size, out, met.count)
+}
+
+/// Decides the position that waits, if `c` heads a unit.
+fn meet(table: &FlatTable, place: Place, c: char, out: &mut [RawBreak], count: usize) -> Step
+    requires { count < length out.old }
+    ensures within { (count ≤ result.count) × (result.count ≤ length out.old) }
+    ensures passed { result.passed ≡ false }
+    ensures at { result.place.at ≡ place.at }
+    ensures joins { (cell : ℕ → Cell) → AreFlatKinds table.now.kinds cell → 0 < result.place.held_code → mark (normal (cell c)).class ≡ true }
+    ensures stands { (profile : Profile) (cell : ℕ → Cell) (lefts : List Left) (bytes : List ℕ) (all : List Break) → IsFlatBy lefts table.now cell
+        → 0 < length bytes → c ≡ or_replacement (decoded bytes).char
+        → Stands profile cell lefts place bytes all (given_in out.old count)
+        → Stands profile cell lefts result.place bytes all (given_in out.new result.count) }
+{
+    if place.held_code == 0 {
+        return Step {
+            place,
+            count,
+            passed: false,
+        };
+    }
+    let cell = table.cell(c);
+    let Some(closes) = cell.unit_closes(false) else {
+        return Step {
+            place,
+            count,
+            passed: false,
+        };
+    };
+    let free = Place {
+        at: place.at,
+        held_at: place.held_at,
+        row: place.row,
+        held_code: 0,
+    };
+    if closes {
+        return Step {
+            place: free,
+            count,
+            passed: false,
+        };
+    }
+    let more = put(out, count, place.held_at as usize, place.held_code);
+    Step {
+        place: free,
+        count: more,
+        passed: false,
+    }
+}
+
+/// Takes the scalar. Where a position waits yet, the scalar is a mark that joins what is before it.
+fn pass(
+    table: &FlatTable,
+    profile: Profile,
+    place: Place,
+    c: char,
+    size: usize,
+    out: &mut [RawBreak],
+    count: usize,
+) -> Step
+    requires { count < length out.old }
+    ensures within { (count ≤ result.count) × (result.count ≤ length out.old) }
+    ensures passed { result.passed ≡ true }
+    ensures at { result.place.at ≡ (place.at + size) % 2 ^ 64 }
+    ensures stands { (cell : ℕ → Cell) (lefts : List Left) (bytes : List ℕ) (all : List Break) → IsFlatBy lefts table.now cell
+        → 0 < length bytes → c ≡ or_replacement (decoded bytes).char → size ≡ (decoded bytes).size
+        → (0 < place.held_code → mark (normal (cell c)).class ≡ true)
+        → Stands profile cell lefts place bytes all (given_in out.old count)
+        → Stands profile cell lefts result.place (drop size bytes) all (given_in out.new result.count) }
+{
+    let kind = table.kinds[c as usize];
+    let row = place.row as usize;
+    let first = step_at(&table.first, row, kind);
+    let at = place.at.wrapping_add(size as u64);
+    if place.held_code != 0 {
+        return Step {
+            place: Place {
+                at,
+                held_at: place.held_at,
+                row: first.next,
+                held_code: place.held_code,
+            },
+            count,
+            passed: true,
+        };
+    }
+    let steps = steps_of(table, profile);
+    let step = step_at(steps, row, kind);
+    if waits(profile, step.code, first.code) {
+        return Step {
+            place: Place {
+                at,
+                held_at: place.at,
+                row: first.next,
+                held_code: first.code,
+            },
+            count,
+            passed: true,
+        };
+    }
+    let more = put(out, count, place.at as usize, step.code);
+    Step {
+        place: Place {
+            at,
+            held_at: place.held_at,
+            row: first.next,
+            held_code: place.held_code,
+        },
+        count: more,
+        passed: true,
+    }
+}
+
+/// Whether a position waits for what follows: by rule 15b it is no break where the quotation is closed, and where it stays
+/// open the first profile decides.
+fn waits(profile: Profile, code: u16, otherwise: u16) -> bool
+    ensures held { result ≡ true → (profile ≡ Second) × (code ≡ HELD) × (is_no (verdict_coded otherwise).kind ≡ false) }
+    ensures decided { result ≡ false → profile ≡ Second → code ≡ HELD → is_no (verdict_coded otherwise).kind ≡ true }
+{
+    match profile {
+        Profile::First => false,
+        Profile::Second => code == HELD && is_break(otherwise),
+    }
+}
