@@ -2,22 +2,21 @@
 #![tactic(auto)]
 
 mod hints;
-mod noting;
-mod prompted;
 mod system_files;
+mod waiting;
 
 use lbk_args::{WordsFault, parse};
 use lbk_cmd::{Caller, CmdFault, Ending, Message, RunFault, run};
+use lbk_devices::{Input, InputKind, Notes, Noting, Prompted};
 use lbk_feed::Device;
 use lbk_files::FileStore;
 use lbk_notation::ReplayFault;
-use noting::{Input, InputKind, Notes, Noting};
-use prompted::Prompted;
 use std::alloc::{AllocError, Global};
-use std::io::ErrorKind;
+use std::io::{ErrorKind, IsTerminal};
 use std::process::ExitCode;
 use std::{env, io};
 use system_files::SystemFiles;
+use waiting::Waiting;
 
 fn main(rt: HostRuntime) -> ExitCode {
     let ending = run_and_tell(&rt);
@@ -48,7 +47,11 @@ fn run_on_devices(rt: &HostRuntime, words: &[&str], notes: &Notes) -> Ending {
     } else {
         InputKind::Text
     };
-    let mut reader = Device::new(Input::new(Prompted::new(rt), kind, notes));
+    let input = rt.stdin();
+    let is_terminal = input.is_terminal();
+    let input = Device::new(Noting::new(input, notes));
+    let input = Prompted::new(input, Waiting::new(rt), is_terminal);
+    let mut reader = Input::new(input, kind, notes);
     let mut writer = Device::new(Noting::new(rt.stdout(), notes));
     let files = SystemFiles::new(rt, notes);
     let mut store = FileStore::new(&files);

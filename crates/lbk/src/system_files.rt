@@ -2,7 +2,7 @@
 
 ghost use Rattle.std.specs.Prelude.{None};
 
-use super::noting::{Notes, Noting};
+use lbk_devices::{Notes, Noting};
 use lbk_feed::Device;
 use lbk_files::{LoadFault, Opens};
 use std::fs::File;

@@ -1,6 +1,8 @@
-//! Readers and writers that note why they failed, and how the input begins.
+//! Readers and writers of std that note why they failed.
+#![tactic(auto, unfolding(crate::specs::Within::within_noting))]
 
 ghost use Rattle.std.specs.Prelude.{◌≡◌};
+ghost use Rattle.lbk_devices.specs.Within.{within_noting};
 
 use std::cell::Cell;
 use std::io::{self, ErrorKind, Read, Write};
@@ -17,6 +19,7 @@ pub struct Notes {
 }
 
 impl Notes {
+    /// Nothing noted yet.
     pub fn new() -> Notes {
         Notes {
             error: Cell::new(None),
@@ -25,7 +28,7 @@ impl Notes {
         }
     }
 
-    /// The outcome, whose error is noted.
+    /// The outcome as it is; the kind of its error is noted.
     pub fn noted<T>(&self, outcome: io::Result<T>) -> io::Result<T>
         ensures { result ≡ outcome }
     {
@@ -36,7 +39,7 @@ impl Notes {
     }
 }
 
-/// A reader or a writer whose errors are noted.
+/// A reader or a writer of std whose errors are noted. It gives and takes exactly the bytes that the one within does.
 #[derive(Drop)]
 pub struct Noting<'a, D> {
     inner: D,
@@ -44,68 +47,30 @@ pub struct Noting<'a, D> {
 }
 
 impl<'a, D> Noting<'a, D> {
-    pub fn new(inner: D, notes: &'a Notes) -> Noting<'a, D> {
+    /// The reader or writer `inner`, whose errors `notes` gets.
+    pub fn new(inner: D, notes: &'a Notes) -> Noting<'a, D>
+        ensures { within_noting result ≡ inner }
+    {
         Noting { inner, notes }
     }
 }
 
 impl<'a, R: Read> Read for Noting<'a, R> {
+    ghost remaining = { λ noting. R.remaining (within_noting noting) };
+
     fn read(&mut self, buf: &mut [u8]) -> io::Result<usize> {
         self.notes.noted(self.inner.read(buf))
     }
 }
 
 impl<'a, W: Write> Write for Noting<'a, W> {
+    ghost contents = { λ noting. W.contents (within_noting noting) };
+
     fn write(&mut self, buf: &[u8]) -> io::Result<usize> {
         self.notes.noted(self.inner.write(buf))
     }
 
     fn flush(&mut self) -> io::Result<()> {
         self.notes.noted(self.inner.flush())
-    }
-}
-
-/// What the input is read as.
-#[derive(Clone, Copy, Debug, PartialEq, Eq)]
-pub enum InputKind {
-    Text,
-    TestLines,
-}
-
-/// The input, of which it is noted how it begins, and of test lines whether they have `!`.
-#[derive(Drop)]
-pub struct Input<'a, R> {
-    inner: Noting<'a, R>,
-    kind: InputKind,
-    has_begun: bool,
-}
-
-impl<'a, R> Input<'a, R> {
-    pub fn new(inner: R, kind: InputKind, notes: &'a Notes) -> Input<'a, R> {
-        Input {
-            inner: Noting::new(inner, notes),
-            kind,
-            has_begun: false,
-        }
-    }
-
-    fn note(&mut self, bytes: &[u8]) {
-        let notes = self.inner.notes;
-        if !self.has_begun {
-            self.has_begun = true;
-            let is_utf16 = matches!(bytes, [0xFF, 0xFE, ..] | [0xFE, 0xFF, ..]);
-            notes.is_utf16.set(is_utf16);
-        }
-        if self.kind == InputKind::TestLines && bytes.contains(&b'!') {
-            notes.has_kinds.set(true);
-        }
-    }
-}
-
-impl<'a, R: Read> Read for Input<'a, R> {
-    fn read(&mut self, buf: &mut [u8]) -> io::Result<usize> {
-        let count = self.inner.read(buf)?;
-        self.note(&buf[..count]);
-        Ok(count)
     }
 }

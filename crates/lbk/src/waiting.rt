@@ -1,0 +1,22 @@
+//! What is said where a person is waited for.
+
+use super::hints;
+use lbk_devices::Prompt;
+
+/// Says on standard error that text is waited for.
+#[derive(Drop)]
+pub struct Waiting<'a> {
+    rt: &'a HostRuntime,
+}
+
+impl<'a> Waiting<'a> {
+    pub fn new(rt: &'a HostRuntime) -> Waiting<'a> {
+        Waiting { rt }
+    }
+}
+
+impl Prompt for Waiting<'_> {
+    fn tell(&self) {
+        let _ = eprintln!(self.rt; "lbk: {}", hints::WAITING);
+    }
+}

@@ -1,0 +1,81 @@
+//! The input, of which it is noted what it looks like.
+#![tactic(auto, unfolding(crate::specs::Within::within_input))]
+
+ghost use Rattle.std.specs.Prelude.{◌≡◌};
+ghost use Rattle.lbk_devices.specs.Within.{within_input};
+
+use crate::noting::Notes;
+use lbk_feed::{Failed, Source};
+
+/// What the input is read as.
+#[derive(Clone, Copy, Debug, PartialEq, Eq)]
+pub enum InputKind {
+    Text,
+    TestLines,
+}
+
+/// A source of which it is noted how it begins, and of test lines whether they have `!`. Each read is one read of the
+/// source within, with its bytes and its failure.
+#[derive(Drop)]
+pub struct Input<'a, S> {
+    inner: S,
+    kind: InputKind,
+    notes: &'a Notes,
+    has_begun: bool,
+}
+
+impl<'a, S> Input<'a, S> {
+    /// The source `inner`, nothing of which was read yet.
+    pub fn new(inner: S, kind: InputKind, notes: &'a Notes) -> Input<'a, S>
+        ensures { within_input result ≡ inner }
+    {
+        Input {
+            inner,
+            kind,
+            notes,
+            has_begun: false,
+        }
+    }
+
+    /// Notes what these bytes show, the next of the input.
+    fn note(&mut self, bytes: &[u8])
+        ensures { within_input self.new ≡ within_input self.old }
+    {
+        if !self.has_begun {
+            self.has_begun = true;
+            let is_utf16 = matches!(bytes, [0xFF, 0xFE, ..] | [0xFE, 0xFF, ..]);
+            self.notes.is_utf16.set(is_utf16);
+        }
+        if self.kind == InputKind::TestLines && bytes.contains(&b'!') {
+            self.notes.has_kinds.set(true);
+        }
+    }
+}
+
+impl<'a, S: Source> Source for Input<'a, S> {
+    ghost unread = { λ input. S.unread (within_input input) };
+
+    ghost read_count = { λ input. S.read_count (within_input input) };
+
+    ghost failure_count = { λ input. S.failure_count (within_input input) };
+
+    ghost has_ended = { λ input. S.has_ended (within_input input) };
+
+    fn read(&mut self, buf: &mut [u8]) -> Result<usize, Failed> {
+        let count = self.inner.read(buf)?;
+        self.note(&buf[..count]);
+        Ok(count)
+    }
+
+    fn reads(&self) -> u64 {
+        self.inner.reads()
+    }
+
+    fn failures(&self) -> u64 {
+        self.inner.failures()
+    }
+
+    fn ended(&self) -> bool {
+        self.inner.ended()
+    }
+}

@@ -1,0 +1,11 @@
+//! Devices around the program's: they hand on what the one within gives and takes, byte by byte, and note beside it what a
+//! person is told.
+#![tactic(auto)]
+
+mod input;
+mod noting;
+mod prompted;
+
+pub use input::{Input, InputKind};
+pub use noting::{Notes, Noting};
+pub use prompted::{Prompt, Prompted};
