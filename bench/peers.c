@@ -25,6 +25,10 @@ size_t xi_count(const char *text, size_t size, size_t *total);
 size_t linebreak_count(const char *text, size_t size, size_t *total);
 void xi_each(const char *text, size_t size, found tell);
 void linebreak_each(const char *text, size_t size, found tell);
+#ifdef OLDER
+int older_read(const char *const *at, const size_t *size);
+size_t older_count(uint8_t profile, const char *text, size_t size, size_t *total);
+#endif
 
 /* A text, in UTF-8 and UTF-16, and the pieces that it is cut into, each given to a call of its own. */
 typedef struct cut_text {
@@ -34,7 +38,7 @@ typedef struct cut_text {
     const size_t *ends, *wide_ends;
 } cut_text;
 
-enum { ROOM = 256, RUNS = 25, MILLION = 1000000 };
+enum { ROOM = 256, RUNS = 31, MILLION = 1000000 };
 
 static lbk_table table;
 static UBreakIterator *iterator;
@@ -129,15 +133,32 @@ static size_t linebreak(const cut_text *text, size_t piece)
     return linebreak_count(text->text + start, text->ends[piece] - start, &total);
 }
 
+#ifdef OLDER
+static size_t older_1(const cut_text *text, size_t piece)
+{
+    size_t start = start_of(text->ends, piece);
+    return older_count(LBK_FIRST, text->text + start, text->ends[piece] - start, &total);
+}
+
+static size_t older_2(const cut_text *text, size_t piece)
+{
+    size_t start = start_of(text->ends, piece);
+    return older_count(LBK_SECOND, text->text + start, text->ends[piece] - start, &total);
+}
+#endif
+
 static const struct {
     const char *name;
     size_t (*count)(const cut_text *text, size_t piece);
 } peers[] = {
     {"lbk, profile 1", ours_1}, {"lbk, profile 2", ours_2}, {"xi-unicode", xi}, {"unicode-linebreak", linebreak},
     {"ICU, UTF-16", icu_utf16}, {"ICU, UTF-8", icu_utf8}, {"libunibreak", unibreak},
+#ifdef OLDER
+    {"older lbk, profile 1", older_1}, {"older lbk, profile 2", older_2},
+#endif
 };
 
-enum { PEERS = sizeof peers / sizeof *peers, XI = 2 };
+enum { PEERS = sizeof peers / sizeof *peers, XI = 2, OLD = 7 };
 
 static double seconds(clockid_t clock)
 {
@@ -208,9 +229,13 @@ static void compare(const char *name, cut_text text)
             found_by[k] = sum;
         }
     double size = (double)text.ends[text.pieces - 1];
-    for (int k = 0; k < PEERS; k++)
-        printf("%s\t%s\t%.0f MB/s\t%.2f of xi-unicode\t%.0f ns a call\t%zu breaks\n", name, peers[k].name, size / best[k] * 1e-6,
+    for (int k = 0; k < PEERS; k++) {
+        printf("%s\t%s\t%.0f MB/s\t%.2f of xi-unicode\t%.0f ns a call\t%zu breaks", name, peers[k].name, size / best[k] * 1e-6,
                best[XI] / best[k], best[k] / (double)text.pieces * 1e9, found_by[k]);
+        if (k < XI && OLD + k < PEERS)
+            printf("\t%.2f of older lbk", best[OLD + k] / best[k]);
+        putchar('\n');
+    }
     fflush(stdout);
 }
 
@@ -221,6 +246,20 @@ static void open_peers(void)
     must(U_SUCCESS(status), "ICU has no line breaks");
     init_linebreak();
 }
+
+#ifdef OLDER
+static void read_older(char **files)
+{
+    const char *at[4];
+    size_t size[4];
+    for (int k = 0; k < 4; k++) {
+        bytes file = load(files[k]);
+        at[k] = file.at;
+        size[k] = file.size;
+    }
+    must(older_read(at, size), "the older library refuses the four files");
+}
+#endif
 
 static void speed(char **names)
 {
@@ -346,6 +385,9 @@ int main(int words, char **word)
 {
     if (words >= 7 && strcmp(word[1], "speed") == 0) {
         read_table(&table, word + 2);
+#ifdef OLDER
+        read_older(word + 2);
+#endif
         speed(word + 6);
     } else if (words == 7 && strcmp(word[1], "first") == 0) {
         first(word + 2, word[6]);

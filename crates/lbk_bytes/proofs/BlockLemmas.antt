@@ -1,6 +1,6 @@
 -- A block of bytes that are scalars, two of which tell the step by the second.
 use Rattle.std.proofs.Common.{◌≡◌, ◌≢◌, ◌⊎◌, ℕ, zero, suc, ◌+◌, ◌-◌, ◌<◌, ◌≤◌, Bool, true, false, cond, not, List, [], ◌∷◌, ◌++◌, length, get_or, take, drop, bit_and, refl, sym, ap, subst, ◌∙◌, ⊎_elim, inl, inr, arith}
-use Rattle.std.proofs.lemmas.List.{append-nil, get_or-drop, length-drop}
+use Rattle.std.proofs.lemmas.List.{append-nil, get_or-drop, length-append, length-drop}
 use Rattle.bstr.specs.Utf8.{decoded, good}
 use Rattle.bstr.proofs.lemmas.PieceLemmas.{value-1}
 use Rattle.lbk_masks.specs.Sets.{is_set, left_before, left_in, meets, right_in}
@@ -24,6 +24,7 @@ use Rattle.lbk_bytes.specs.Bytes.{with_break}
 use Rattle.lbk_bytes.specs.Reached.{AreSwift, IsSwiftStep, Reached}
 use Rattle.lbk_bytes.specs.Shown.{given_in}
 use Rattle.lbk_bytes.proofs.BitLemmas.{none-set}
+use Rattle.lbk_bytes.proofs.CutLemmas.{reads-more}
 use Rattle.lbk_bytes.proofs.LoopLemmas.{Reached-swift}
 use Rattle.lbk_bytes.proofs.PieceLemmas.{Reads, reads, rest-of}
 
@@ -42,22 +43,22 @@ place_of : Neighbours → List ℕ → ℕ → ℕ → FillState
 place_of pairs text count at = record { count = count; row = row_before pairs text at; at = at }
 
 -- one byte more, whatever stands before it
-one-byte : (profile : Profile) (cell : ℕ → Cell) (lefts : List Left) (text : List ℕ) (all : List Break) (steps : List FlatStep) (kinds : List ℕ) (pairs : Neighbours)
+one-byte : (profile : Profile) (cell : ℕ → Cell) (lefts : List Left) (text more : List ℕ) (all : List Break) (steps : List FlatStep) (kinds : List ℕ) (pairs : Neighbours)
     (out after : List RawBreak) (count next at : ℕ)
     → AreSwift profile lefts steps → AreFlatKinds kinds cell → at < length text
     → AreSettled steps kinds pairs (byte_at text (at - 1)) (byte_at text at)
     → (IsCode (step_behind steps kinds pairs (byte_at text (at - 1)) (byte_at text at)).code
     → given_in after next ≡ given_in out count ++ with_break at (verdict_coded (step_behind steps kinds pairs (byte_at text (at - 1)) (byte_at text at)).code) [])
-    → Reached profile cell lefts text all (place_of pairs text count at) (given_in out count)
-    → Reached profile cell lefts text all (place_of pairs text next (at + 1)) (given_in after next)
+    → Reached profile cell lefts (text ++ more) all (place_of pairs text count at) (given_in out count)
+    → Reached profile cell lefts (text ++ more) all (place_of pairs text next (at + 1)) (given_in after next)
 unfolding place_of
-one-byte profile cell lefts text all steps kinds pairs out after count next at swift are_kinds inside settled front r =
+one-byte profile cell lefts text more all steps kinds pairs out after count next at swift are_kinds inside settled front r =
     let step = step_behind steps kinds pairs (byte_at text (at - 1)) (byte_at text at) in
-    let moved = Reached-swift profile cell lefts text all steps kinds out after count next (row_before pairs text at) at (byte_at text at) 1 step swift are_kinds
-    (ascii-reads text at inside settled.below) inside refl settled.apart front r in
+    let moved = Reached-swift profile cell lefts (text ++ more) all steps kinds out after count next (row_before pairs text at) at (byte_at text at) 1 step swift are_kinds
+    (reads-more text more at (byte_at text at) 1 inside (ascii-reads text at inside settled.below)) (omega (arith, inside, length-append text more)) refl settled.apart front r in
     let row : step.next ≡ row_before pairs text (at + 1) =
     settled.leads ∙ ap (λ n. get_or pairs.rows (byte_at text n) 0) (let e : at ≡ at + 1 - 1 = omega arith in e) in
-    subst (λ w. Reached profile cell lefts text all (record { count = next; row = w; at = at + 1 }) (given_in after next)) row moved
+    subst (λ w. Reached profile cell lefts (text ++ more) all (record { count = next; row = w; at = at + 1 }) (given_in after next)) row moved
 
 -- a verdict by which no line breaks
 no-break : (at code : ℕ) → is_no (verdict_coded code).kind ≡ true → with_break at (verdict_coded code) [] ≡ []
@@ -69,32 +70,32 @@ not-set b true is none = refl
 not-set b false is none = absurd (let never : ⊥ = cc in never)
 
 -- bytes before which no line breaks
-quiet-bytes : (profile : Profile) (cell : ℕ → Cell) (lefts : List Left) (text : List ℕ) (all : List Break) (steps : List FlatStep) (kinds : List ℕ) (pairs : Neighbours)
+quiet-bytes : (profile : Profile) (cell : ℕ → Cell) (lefts : List Left) (text more : List ℕ) (all : List Break) (steps : List FlatStep) (kinds : List ℕ) (pairs : Neighbours)
     (out : List RawBreak) (count at n : ℕ)
     → AreSwift profile lefts steps → AreFlatKinds kinds cell → at + n ≤ length text
     → ((i : ℕ) → i < n → AreSettled steps kinds pairs (byte_at text (at + i - 1)) (byte_at text (at + i)) × (stands_at pairs text (at + i) ≡ false))
-    → Reached profile cell lefts text all (place_of pairs text count at) (given_in out count)
-    → Reached profile cell lefts text all (place_of pairs text count (at + n)) (given_in out count)
-quiet-bytes profile cell lefts text all steps kinds pairs out count at zero swift are_kinds within quiet r =
-    subst (λ p. Reached profile cell lefts text all (place_of pairs text count p) (given_in out count)) (let e : at ≡ at + 0 = omega arith in e) r
-quiet-bytes profile cell lefts text all steps kinds pairs out count at (suc n) swift are_kinds within quiet r =
-    let before = quiet-bytes profile cell lefts text all steps kinds pairs out count at n swift are_kinds (omega arith) (λ i h. quiet i (omega (arith, h))) r in
+    → Reached profile cell lefts (text ++ more) all (place_of pairs text count at) (given_in out count)
+    → Reached profile cell lefts (text ++ more) all (place_of pairs text count (at + n)) (given_in out count)
+quiet-bytes profile cell lefts text more all steps kinds pairs out count at zero swift are_kinds within quiet r =
+    subst (λ p. Reached profile cell lefts (text ++ more) all (place_of pairs text count p) (given_in out count)) (let e : at ≡ at + 0 = omega arith in e) r
+quiet-bytes profile cell lefts text more all steps kinds pairs out count at (suc n) swift are_kinds within quiet r =
+    let before = quiet-bytes profile cell lefts text more all steps kinds pairs out count at n swift are_kinds (omega arith) (λ i h. quiet i (omega (arith, h))) r in
     let here = quiet n (omega arith) in
     let step = step_behind steps kinds pairs (byte_at text (at + n - 1)) (byte_at text (at + n)) in
     let none = not-set (stands_at pairs text (at + n)) (is_no (verdict_coded step.code).kind) here.0.breaks here.1 in
-    let one = one-byte profile cell lefts text all steps kinds pairs out out count count (at + n) swift are_kinds (omega arith) here.0
+    let one = one-byte profile cell lefts text more all steps kinds pairs out out count count (at + n) swift are_kinds (omega arith) here.0
     (λ coded. sym (ap (λ l. given_in out count ++ l) (no-break (at + n) step.code none) ∙ append-nil (given_in out count))) before in
-    subst (λ p. Reached profile cell lefts text all (place_of pairs text count p) (given_in out count)) (let e : at + n + 1 ≡ at + suc n = omega arith in e) one
+    subst (λ p. Reached profile cell lefts (text ++ more) all (place_of pairs text count p) (given_in out count)) (let e : at + n + 1 ≡ at + suc n = omega arith in e) one
 
 -- the bytes from here on up to a break that is left
-up-to : (profile : Profile) (cell : ℕ → Cell) (lefts : List Left) (text : List ℕ) (all : List Break) (steps : List FlatStep) (kinds : List ℕ) (pairs : Neighbours)
+up-to : (profile : Profile) (cell : ℕ → Cell) (lefts : List Left) (text more : List ℕ) (all : List Break) (steps : List FlatStep) (kinds : List ℕ) (pairs : Neighbours)
     (out : List RawBreak) (at taken index : ℕ) (here : BlockState)
     → at + 64 ≤ length text → IsBlock profile cell lefts steps kinds pairs text at taken → AreLeft pairs text at taken here
     → index ≤ taken → here.past ≤ at + index → ((i : ℕ) → i < index → is_set here.left i ≡ false)
-    → Reached profile cell lefts text all (place_in pairs text here) (given_in out here.count)
-    → Reached profile cell lefts text all (place_of pairs text here.count (at + index)) (given_in out here.count)
+    → Reached profile cell lefts (text ++ more) all (place_in pairs text here) (given_in out here.count)
+    → Reached profile cell lefts (text ++ more) all (place_of pairs text here.count (at + index)) (given_in out here.count)
 unfolding place_of
-up-to profile cell lefts text all steps kinds pairs out at taken index here room block left few after none r =
+up-to profile cell lefts text more all steps kinds pairs out at taken index here room block left few after none r =
     let n = at + index - here.past in
     let ends : here.past + n ≡ at + index = omega arith in
     let first = here.past - at in
@@ -108,18 +109,18 @@ up-to profile cell lefts text all steps kinds pairs out at taken index here room
       ap (stands_at pairs text) (sym same) ∙ sym (left.told (first + i) inside (omega arith)) ∙ none (first + i) below,
     ) in
     let f = block.few in
-    subst (λ p. Reached profile cell lefts text all (record { count = here.count; row = row_before pairs text p; at = p }) (given_in out here.count)) ends
-    (quiet-bytes profile cell lefts text all steps kinds pairs out here.count here.past n block.swift block.kinds_are (omega arith) quiet r)
+    subst (λ p. Reached profile cell lefts (text ++ more) all (record { count = here.count; row = row_before pairs text p; at = p }) (given_in out here.count)) ends
+    (quiet-bytes profile cell lefts text more all steps kinds pairs out here.count here.past n block.swift block.kinds_are (omega arith) quiet r)
 
 -- all bytes of the block that are taken, where no break is left
-pub taken-all : (profile : Profile) (cell : ℕ → Cell) (lefts : List Left) (text : List ℕ) (all : List Break) (steps : List FlatStep) (kinds : List ℕ) (pairs : Neighbours)
+pub taken-all : (profile : Profile) (cell : ℕ → Cell) (lefts : List Left) (text more : List ℕ) (all : List Break) (steps : List FlatStep) (kinds : List ℕ) (pairs : Neighbours)
     (out : List RawBreak) (at taken : ℕ) (here : BlockState)
     → at + 64 ≤ length text → IsBlock profile cell lefts steps kinds pairs text at taken → AreLeft pairs text at taken here → here.left ≡ 0
-    → Reached profile cell lefts text all (place_in pairs text here) (given_in out here.count)
-    → Reached profile cell lefts text all (record { count = here.count; row = row_before pairs text (at + taken); at = at + taken }) (given_in out here.count)
+    → Reached profile cell lefts (text ++ more) all (place_in pairs text here) (given_in out here.count)
+    → Reached profile cell lefts (text ++ more) all (record { count = here.count; row = row_before pairs text (at + taken); at = at + taken }) (given_in out here.count)
 unfolding place_of
-taken-all profile cell lefts text all steps kinds pairs out at taken here room block left empty r =
-    up-to profile cell lefts text all steps kinds pairs out at taken taken here room block left (omega arith) left.within
+taken-all profile cell lefts text more all steps kinds pairs out at taken here room block left empty r =
+    up-to profile cell lefts text more all steps kinds pairs out at taken taken here room block left (omega arith) left.within
     (λ i h. ap (λ n. is_set n i) empty ∙ none-set i) r
 
 -- Where the lowest bit is one that stands out
@@ -143,22 +144,22 @@ stands-first pairs text at taken index here left few set =
     record { inside = inside; after = after; stands = sym (left.told index inside after) ∙ set }
 
 -- the break that stands first is written, and the others are left
-pub break-taken : (profile : Profile) (cell : ℕ → Cell) (lefts : List Left) (text : List ℕ) (all : List Break) (steps : List FlatStep) (kinds : List ℕ) (pairs : Neighbours)
+pub break-taken : (profile : Profile) (cell : ℕ → Cell) (lefts : List Left) (text more : List ℕ) (all : List Break) (steps : List FlatStep) (kinds : List ℕ) (pairs : Neighbours)
     (out after : List RawBreak) (at taken index : ℕ) (here there : BlockState) (step : FlatStep)
     → at + 64 ≤ length text → IsBlock profile cell lefts steps kinds pairs text at taken → AreLeft pairs text at taken here → index < 64 → 0 < here.left
     → IsLowest here.left index → AreCleared here.left index there.left → there.past ≡ at + index + 1
     → step ≡ step_behind steps kinds pairs (byte_at text (at + index - 1)) (byte_at text (at + index))
     → (IsCode step.code → given_in after there.count ≡ given_in out here.count ++ with_break (at + index) (verdict_coded step.code) [])
-    → Reached profile cell lefts text all (place_in pairs text here) (given_in out here.count)
-    → AreLeft pairs text at taken there × Reached profile cell lefts text all (place_in pairs text there) (given_in after there.count)
+    → Reached profile cell lefts (text ++ more) all (place_in pairs text here) (given_in out here.count)
+    → AreLeft pairs text at taken there × Reached profile cell lefts (text ++ more) all (place_in pairs text there) (given_in after there.count)
 unfolding place_of
-break-taken profile cell lefts text all steps kinds pairs out after at taken index here there step room block left few some lowest cleared moved is_step front r =
+break-taken profile cell lefts text more all steps kinds pairs out after at taken index here there step room block left few some lowest cleared moved is_step front r =
     let first = stands-first pairs text at taken index here left few (lowest.set some) in
     let inside = first.inside in
     let behind = first.after in
-    let up = up-to profile cell lefts text all steps kinds pairs out at taken index here room block left (omega arith) first.after lowest.none r in
+    let up = up-to profile cell lefts text more all steps kinds pairs out at taken index here room block left (omega arith) first.after lowest.none r in
     let f = block.few in
-    let one = one-byte profile cell lefts text all steps kinds pairs out after here.count there.count (at + index) block.swift block.kinds_are (omega arith)
+    let one = one-byte profile cell lefts text more all steps kinds pairs out after here.count there.count (at + index) block.swift block.kinds_are (omega arith)
     (block.settled index inside)
     (subst (λ (s : FlatStep). IsCode s.code → given_in after there.count ≡ given_in out here.count ++ with_break (at + index) (verdict_coded s.code) []) is_step front) up in (
       record {
@@ -169,7 +170,7 @@ break-taken profile cell lefts text all steps kinds pairs out after at taken ind
             cleared.same i (omega arith) apart ∙ left.told i h (omega arith);
         none = λ i h out_of. left-none i h out_of;
       },
-      subst (λ p. Reached profile cell lefts text all (record { count = there.count; row = row_before pairs text p; at = p }) (given_in after there.count)) (sym moved) one,
+      subst (λ p. Reached profile cell lefts (text ++ more) all (record { count = there.count; row = row_before pairs text p; at = p }) (given_in after there.count)) (sym moved) one,
     )
   where
     below : (i : ℕ) → i < 64 → i < index → is_set there.left i ≡ false
@@ -288,34 +289,34 @@ pub zero-or : (n : ℕ) → (n ≡ 0) ⊎ (0 < n)
 zero-or zero = inl refl
 zero-or (suc n) = inr (omega arith)
 
-pub reached-there : (profile : Profile) (cell : ℕ → Cell) (lefts : List Left) (text : List ℕ) (all : List Break) (pairs : Neighbours) (out : List RawBreak) (count at : ℕ) (there : FillState)
+pub reached-there : (profile : Profile) (cell : ℕ → Cell) (lefts : List Left) (text more : List ℕ) (all : List Break) (pairs : Neighbours) (out : List RawBreak) (count at : ℕ) (there : FillState)
     → there.count ≡ count → there.row ≡ row_before pairs text there.at → there.at ≡ at
-    → Reached profile cell lefts text all (record { count = count; row = row_before pairs text at; at = at }) (given_in out count)
-    → Reached profile cell lefts text all there (given_in out there.count)
-reached-there profile cell lefts text all pairs out count at there is_count is_row is_at r =
-    subst (λ n. Reached profile cell lefts text all (record { count = n; row = there.row; at = there.at }) (given_in out n)) (sym is_count)
-    (subst (λ w. Reached profile cell lefts text all (record { count = count; row = w; at = there.at }) (given_in out count)) (sym is_row)
-    (subst (λ p. Reached profile cell lefts text all (record { count = count; row = row_before pairs text p; at = p }) (given_in out count)) (sym is_at) r))
+    → Reached profile cell lefts (text ++ more) all (record { count = count; row = row_before pairs text at; at = at }) (given_in out count)
+    → Reached profile cell lefts (text ++ more) all there (given_in out there.count)
+reached-there profile cell lefts text more all pairs out count at there is_count is_row is_at r =
+    subst (λ n. Reached profile cell lefts (text ++ more) all (record { count = n; row = there.row; at = there.at }) (given_in out n)) (sym is_count)
+    (subst (λ w. Reached profile cell lefts (text ++ more) all (record { count = count; row = w; at = there.at }) (given_in out count)) (sym is_row)
+    (subst (λ p. Reached profile cell lefts (text ++ more) all (record { count = count; row = row_before pairs text p; at = p }) (given_in out count)) (sym is_at) r))
 
 -- behind the bytes that are taken if no break is left, else behind the last break that was written
-pub stopped-there : (profile : Profile) (cell : ℕ → Cell) (lefts : List Left) (text : List ℕ) (all : List Break) (steps : List FlatStep) (kinds : List ℕ) (pairs : Neighbours)
+pub stopped-there : (profile : Profile) (cell : ℕ → Cell) (lefts : List Left) (text more : List ℕ) (all : List Break) (steps : List FlatStep) (kinds : List ℕ) (pairs : Neighbours)
     (out : List RawBreak) (at taken : ℕ) (here : BlockState) (there : FillState)
     → at + 64 ≤ length text → IsBlock profile cell lefts steps kinds pairs text at taken
     → there.count ≡ here.count → there.row ≡ row_before pairs text there.at → (here.left ≡ 0 → there.at ≡ at + taken) → (here.left ≢ 0 → there.at ≡ here.past)
-    → AreLeft pairs text at taken here × Reached profile cell lefts text all (place_in pairs text here) (given_in out here.count)
-    → Reached profile cell lefts text all there (given_in out there.count)
-stopped-there profile cell lefts text all steps kinds pairs out at taken here there room block is_count is_row done stopped known =
+    → AreLeft pairs text at taken here × Reached profile cell lefts (text ++ more) all (place_in pairs text here) (given_in out here.count)
+    → Reached profile cell lefts (text ++ more) all there (given_in out there.count)
+stopped-there profile cell lefts text more all steps kinds pairs out at taken here there room block is_count is_row done stopped known =
     ⊎_elim
     (λ (none : here.left ≡ 0).
-    reached-there profile cell lefts text all pairs out here.count (at + taken) there is_count is_row (done none)
-    (taken-all profile cell lefts text all steps kinds pairs out at taken here room block known.0 none known.1))
+    reached-there profile cell lefts text more all pairs out here.count (at + taken) there is_count is_row (done none)
+    (taken-all profile cell lefts text more all steps kinds pairs out at taken here room block known.0 none known.1))
     (λ (some : 0 < here.left).
     let apart : here.left ≢ 0 = omega arith in
-    reached-there profile cell lefts text all pairs out here.count here.past there is_count is_row (stopped apart) known.1)
+    reached-there profile cell lefts text more all pairs out here.count here.past there is_count is_row (stopped apart) known.1)
     (zero-or here.left)
 
 -- a break is written, if one is left
-pub taken-or-kept : (profile : Profile) (cell : ℕ → Cell) (lefts : List Left) (text : List ℕ) (all : List Break) (steps : List FlatStep) (kinds : List ℕ) (pairs : Neighbours)
+pub taken-or-kept : (profile : Profile) (cell : ℕ → Cell) (lefts : List Left) (text more : List ℕ) (all : List Break) (steps : List FlatStep) (kinds : List ℕ) (pairs : Neighbours)
     (out after : List RawBreak) (at taken index written : ℕ) (here there : BlockState) (step : FlatStep)
     → at + 64 ≤ length text → IsBlock profile cell lefts steps kinds pairs text at taken → AreLeft pairs text at taken here → index < 64
     → IsLowest here.left index → (0 < here.left → AreCleared here.left index there.left) → (0 < here.left → there.past ≡ at + index + 1)
@@ -323,14 +324,14 @@ pub taken-or-kept : (profile : Profile) (cell : ℕ → Cell) (lefts : List Left
     → step ≡ step_behind steps kinds pairs (byte_at text (at + index - 1)) (byte_at text (at + index))
     → (IsCode step.code → given_in after written ≡ given_in out here.count ++ with_break (at + index) (verdict_coded step.code) [])
     → given_in after here.count ≡ given_in out here.count
-    → Reached profile cell lefts text all (place_in pairs text here) (given_in out here.count)
-    → AreLeft pairs text at taken there × Reached profile cell lefts text all (place_in pairs text there) (given_in after there.count)
-taken-or-kept profile cell lefts text all steps kinds pairs out after at taken index written here there step room block left few lowest cleared moved counted same is_step front kept r =
+    → Reached profile cell lefts (text ++ more) all (place_in pairs text here) (given_in out here.count)
+    → AreLeft pairs text at taken there × Reached profile cell lefts (text ++ more) all (place_in pairs text there) (given_in after there.count)
+taken-or-kept profile cell lefts text more all steps kinds pairs out after at taken index written here there step room block left few lowest cleared moved counted same is_step front kept r =
     ⊎_elim
     (λ (none : here.left ≡ 0).
-    subst (λ (h : BlockState). AreLeft pairs text at taken h × Reached profile cell lefts text all (place_in pairs text h) (given_in after h.count)) (sym (same none))
-    (left, subst (λ g. Reached profile cell lefts text all (place_in pairs text here) g) (sym kept) r))
+    subst (λ (h : BlockState). AreLeft pairs text at taken h × Reached profile cell lefts (text ++ more) all (place_in pairs text h) (given_in after h.count)) (sym (same none))
+    (left, subst (λ g. Reached profile cell lefts (text ++ more) all (place_in pairs text here) g) (sym kept) r))
     (λ (some : 0 < here.left).
-    break-taken profile cell lefts text all steps kinds pairs out after at taken index here there step room block left few some lowest (cleared some) (moved some) is_step
+    break-taken profile cell lefts text more all steps kinds pairs out after at taken index here there step room block left few some lowest (cleared some) (moved some) is_step
     (λ coded. ap (given_in after) (counted some) ∙ front coded) r)
     (zero-or here.left)

@@ -1,6 +1,6 @@
 //! Blocks of 64 bytes whose breaks the sets of their bytes tell, so that no step waits for the one before it.
 
-ghost use Rattle.std.specs.Prelude.{◌≡◌, ◌≢◌, ℕ, ◌+◌, ◌-◌, ◌^◌, ◌<◌, ◌≤◌, List, length, slice_index_or, IfSome};
+ghost use Rattle.std.specs.Prelude.{◌≡◌, ◌≢◌, ℕ, ◌+◌, ◌-◌, ◌^◌, ◌<◌, ◌≤◌, ◌++◌, List, length, slice_index_or, IfSome};
 ghost use Rattle.lbk_rules.specs.declared.breaks.Break.{Break};
 ghost use Rattle.lbk_rules.specs.declared.cells.Cell.{Cell};
 ghost use Rattle.lbk_rules.specs.declared.facts.Left.{Left};
@@ -51,10 +51,10 @@ pub(crate) fn blocks(
     ensures within { (result.count ≤ length out.old) × (result.row < 65536) × (result.at ≤ length text.now) }
     ensures onward { (start.at ≤ result.at) × (start.count ≤ result.count) }
     ensures in_order { (from : ℕ) → IsInOrder out.old start.count from start.at → IsInOrder out.new result.count from result.at }
-    ensures reached { (profile : Profile) (cell : ℕ → Cell) (lefts : List Left) (all : List Break) → AreSwift profile lefts steps.now → AreFlatKinds kinds.now cell
+    ensures reached { (profile : Profile) (cell : ℕ → Cell) (lefts : List Left) (more : List ℕ) (all : List Break) → AreSwift profile lefts steps.now → AreFlatKinds kinds.now cell
         → AreTold steps.now kinds.now pairs.now
-        → Reached profile cell lefts text.now all start (given_in out.old start.count)
-        → Reached profile cell lefts text.now all result (given_in out.new result.count) }
+        → Reached profile cell lefts (text.now ++ more) all start (given_in out.old start.count)
+        → Reached profile cell lefts (text.now ++ more) all result (given_in out.new result.count) }
 {
     let mut from = start.at;
     let mut here = block(pairs, kinds, steps, start, text, out);
@@ -79,10 +79,10 @@ fn block(
     ensures within { (result.count ≤ length out.old) × (result.row < 65536) × (result.at ≤ length text.now) }
     ensures onward { (start.at ≤ result.at) × (start.count ≤ result.count) }
     ensures in_order { (from : ℕ) → IsInOrder out.old start.count from start.at → IsInOrder out.new result.count from result.at }
-    ensures reached { (profile : Profile) (cell : ℕ → Cell) (lefts : List Left) (all : List Break) → AreSwift profile lefts steps.now → AreFlatKinds kinds.now cell
+    ensures reached { (profile : Profile) (cell : ℕ → Cell) (lefts : List Left) (more : List ℕ) (all : List Break) → AreSwift profile lefts steps.now → AreFlatKinds kinds.now cell
         → AreTold steps.now kinds.now pairs.now
-        → Reached profile cell lefts text.now all start (given_in out.old start.count)
-        → Reached profile cell lefts text.now all result (given_in out.new result.count) }
+        → Reached profile cell lefts (text.now ++ more) all start (given_in out.old start.count)
+        → Reached profile cell lefts (text.now ++ more) all result (given_in out.new result.count) }
 {
     let Some(before) = set_before(pairs, start, text) else {
         return start;
@@ -160,11 +160,11 @@ fn finish(
     ensures within { (result.count ≤ length out.old) × (result.row < 65536) × (result.at ≤ length text.now) }
     ensures onward { (at ≤ result.at) × (start.count ≤ result.count) }
     ensures in_order { (from : ℕ) → IsAhead at taken start → IsInOrder out.old start.count from start.past → IsInOrder out.new result.count from result.at }
-    ensures reached { (profile : Profile) (cell : ℕ → Cell) (lefts : List Left) (all : List Break)
+    ensures reached { (profile : Profile) (cell : ℕ → Cell) (lefts : List Left) (more : List ℕ) (all : List Break)
         → IsBlock profile cell lefts steps.now kinds.now pairs.now text.now at taken
         → AreLeft pairs.now text.now at taken start
-        → Reached profile cell lefts text.now all (place_in pairs.now text.now start) (given_in out.old start.count)
-        → Reached profile cell lefts text.now all result (given_in out.new result.count) }
+        → Reached profile cell lefts (text.now ++ more) all (place_in pairs.now text.now start) (given_in out.old start.count)
+        → Reached profile cell lefts (text.now ++ more) all result (given_in out.new result.count) }
 {
     let mut here = start;
     while here.left != 0 && here.count < out.len() {
@@ -211,12 +211,12 @@ fn some_breaks(
     ensures in_order { (taken from : ℕ) → IsAhead at taken here → IsInOrder out.old here.count from here.past → IsInOrder out.new result.count from result.past }
     ensures within { (result.count ≤ length out.old) × (at ≤ result.past) × (result.past ≤ at + 64) }
     ensures onward { (here.count ≤ result.count) × (result.left ≤ here.left) × (0 < here.left → result.left < here.left) }
-    ensures reached { (profile : Profile) (cell : ℕ → Cell) (lefts : List Left) (all : List Break) (taken : ℕ)
+    ensures reached { (profile : Profile) (cell : ℕ → Cell) (lefts : List Left) (more : List ℕ) (all : List Break) (taken : ℕ)
         → IsBlock profile cell lefts steps.now kinds.now pairs.now text.now at taken
         → AreLeft pairs.now text.now at taken here
-        → Reached profile cell lefts text.now all (place_in pairs.now text.now here) (given_in out.old here.count)
+        → Reached profile cell lefts (text.now ++ more) all (place_in pairs.now text.now here) (given_in out.old here.count)
         → AreLeft pairs.now text.now at taken result
-        × Reached profile cell lefts text.now all (place_in pairs.now text.now result) (given_in out.new result.count) }
+        × Reached profile cell lefts (text.now ++ more) all (place_in pairs.now text.now result) (given_in out.new result.count) }
 {
     if here.count + GROUP <= out.len() {
         return eight_breaks(pairs, kinds, steps, at, here, text, out);
@@ -241,12 +241,12 @@ fn eight_breaks(
     ensures within { (result.count ≤ length out.old) × (at ≤ result.past) × (result.past ≤ at + 64) }
     ensures onward { (here.count ≤ result.count) × (result.left ≤ here.left) × (0 < here.left → result.left < here.left) }
     ensures few { result.count ≤ here.count + 8 }
-    ensures reached { (profile : Profile) (cell : ℕ → Cell) (lefts : List Left) (all : List Break) (taken : ℕ)
+    ensures reached { (profile : Profile) (cell : ℕ → Cell) (lefts : List Left) (more : List ℕ) (all : List Break) (taken : ℕ)
         → IsBlock profile cell lefts steps.now kinds.now pairs.now text.now at taken
         → AreLeft pairs.now text.now at taken here
-        → Reached profile cell lefts text.now all (place_in pairs.now text.now here) (given_in out.old here.count)
+        → Reached profile cell lefts (text.now ++ more) all (place_in pairs.now text.now here) (given_in out.old here.count)
         → AreLeft pairs.now text.now at taken result
-        × Reached profile cell lefts text.now all (place_in pairs.now text.now result) (given_in out.new result.count) }
+        × Reached profile cell lefts (text.now ++ more) all (place_in pairs.now text.now result) (given_in out.new result.count) }
 {
     let there = four_breaks(pairs, kinds, steps, at, here, text, out);
     four_breaks(pairs, kinds, steps, at, there, text, out)
@@ -269,12 +269,12 @@ fn four_breaks(
     ensures within { (result.count ≤ length out.old) × (at ≤ result.past) × (result.past ≤ at + 64) }
     ensures onward { (here.count ≤ result.count) × (result.left ≤ here.left) × (0 < here.left → result.left < here.left) }
     ensures few { result.count ≤ here.count + 4 }
-    ensures reached { (profile : Profile) (cell : ℕ → Cell) (lefts : List Left) (all : List Break) (taken : ℕ)
+    ensures reached { (profile : Profile) (cell : ℕ → Cell) (lefts : List Left) (more : List ℕ) (all : List Break) (taken : ℕ)
         → IsBlock profile cell lefts steps.now kinds.now pairs.now text.now at taken
         → AreLeft pairs.now text.now at taken here
-        → Reached profile cell lefts text.now all (place_in pairs.now text.now here) (given_in out.old here.count)
+        → Reached profile cell lefts (text.now ++ more) all (place_in pairs.now text.now here) (given_in out.old here.count)
         → AreLeft pairs.now text.now at taken result
-        × Reached profile cell lefts text.now all (place_in pairs.now text.now result) (given_in out.new result.count) }
+        × Reached profile cell lefts (text.now ++ more) all (place_in pairs.now text.now result) (given_in out.new result.count) }
 {
     let there = two_breaks(pairs, kinds, steps, at, here, text, out);
     two_breaks(pairs, kinds, steps, at, there, text, out)
@@ -297,12 +297,12 @@ fn two_breaks(
     ensures within { (result.count ≤ length out.old) × (at ≤ result.past) × (result.past ≤ at + 64) }
     ensures onward { (here.count ≤ result.count) × (result.left ≤ here.left) × (0 < here.left → result.left < here.left) }
     ensures few { result.count ≤ here.count + 2 }
-    ensures reached { (profile : Profile) (cell : ℕ → Cell) (lefts : List Left) (all : List Break) (taken : ℕ)
+    ensures reached { (profile : Profile) (cell : ℕ → Cell) (lefts : List Left) (more : List ℕ) (all : List Break) (taken : ℕ)
         → IsBlock profile cell lefts steps.now kinds.now pairs.now text.now at taken
         → AreLeft pairs.now text.now at taken here
-        → Reached profile cell lefts text.now all (place_in pairs.now text.now here) (given_in out.old here.count)
+        → Reached profile cell lefts (text.now ++ more) all (place_in pairs.now text.now here) (given_in out.old here.count)
         → AreLeft pairs.now text.now at taken result
-        × Reached profile cell lefts text.now all (place_in pairs.now text.now result) (given_in out.new result.count) }
+        × Reached profile cell lefts (text.now ++ more) all (place_in pairs.now text.now result) (given_in out.new result.count) }
 {
     let there = take_break(pairs, kinds, steps, at, here, text, out);
     take_break(pairs, kinds, steps, at, there, text, out)
@@ -326,12 +326,12 @@ fn take_break(
     ensures within { (result.count ≤ length out.old) × (at ≤ result.past) × (result.past ≤ at + 64) }
     ensures onward { (here.count ≤ result.count) × (result.left ≤ here.left) × (0 < here.left → result.left < here.left) }
     ensures few { result.count ≤ here.count + 1 }
-    ensures reached { (profile : Profile) (cell : ℕ → Cell) (lefts : List Left) (all : List Break) (taken : ℕ)
+    ensures reached { (profile : Profile) (cell : ℕ → Cell) (lefts : List Left) (more : List ℕ) (all : List Break) (taken : ℕ)
         → IsBlock profile cell lefts steps.now kinds.now pairs.now text.now at taken
         → AreLeft pairs.now text.now at taken here
-        → Reached profile cell lefts text.now all (place_in pairs.now text.now here) (given_in out.old here.count)
+        → Reached profile cell lefts (text.now ++ more) all (place_in pairs.now text.now here) (given_in out.old here.count)
         → AreLeft pairs.now text.now at taken result
-        × Reached profile cell lefts text.now all (place_in pairs.now text.now result) (given_in out.new result.count) }
+        × Reached profile cell lefts (text.now ++ more) all (place_in pairs.now text.now result) (given_in out.new result.count) }
 {
     let index = first_set(here.left);
     let place = at + index;

@@ -85,6 +85,33 @@ fn fill_on(
     here
 }
 
+/// Takes blocks of bytes and common scalars until another comes, the block is full or the text ends, whatever may follow the
+/// text.
+#[inline(never)]
+pub fn fill_common(
+    table: &FlatTable,
+    profile: Profile,
+    start: FillState,
+    text: &[u8],
+    out: &mut [RawBreak],
+) -> FillState
+    requires { (start.count ≤ length out.old) × (start.row < 65536) × (start.at ≤ length text.now) }
+    ensures within { (result.count ≤ length out.old) × (result.row < 65536) × (result.at ≤ length text.now) }
+    ensures onward { (start.at ≤ result.at) × (start.count ≤ result.count) }
+    ensures reached { (cell : ℕ → Cell) (lefts : List Left) (more : List ℕ) (all : List Break) → IsFlatBy lefts table.now cell
+        → Reached profile cell lefts (text.now ++ more) all start (given_in out.old start.count)
+        → Reached profile cell lefts (text.now ++ more) all result (given_in out.new result.count) }
+{
+    if start.at == text.len() {
+        return start;
+    }
+    let mut part = common_part(table, profile, start, text, out);
+    while part.here.at == part.until && part.until < text.len() {
+        part = common_part(table, profile, part.here, text, out);
+    }
+    part.here
+}
+
 /// Takes blocks of bytes and then some scalars, at least one of them or a break more.
 #[inline(always)]
 fn further(
@@ -103,6 +130,38 @@ fn further(
         → Reached profile cell lefts text.now all here (given_in out.old here.count)
         → Reached profile cell lefts text.now all result (given_in out.new result.count) }
 {
+    let part = common_part(table, profile, here, text, out);
+    if part.here.at < part.until && part.here.count < out.len() {
+        return take_one(table, profile, part.here, text, out);
+    }
+    part.here
+}
+
+/// How far a part of a text was taken, and up to where it goes.
+#[derive(Clone, Copy)]
+struct Part {
+    here: FillState,
+    until: usize,
+}
+
+/// Takes blocks of bytes and then common scalars, up to where blocks are tried again, unless another scalar comes or the block
+/// is full before.
+#[inline(always)]
+fn common_part(
+    table: &FlatTable,
+    profile: Profile,
+    here: FillState,
+    text: &[u8],
+    out: &mut [RawBreak],
+) -> Part
+    requires { (here.count ≤ length out.old) × (here.row < 65536) × (here.at < length text.now) }
+    ensures within { (result.here.count ≤ length out.old) × (result.here.row < 65536) × (result.here.at ≤ result.until) × (result.until ≤ length text.now) }
+    ensures onward { (here.count ≤ result.here.count) × (here.at ≤ result.here.at) × (here.at < result.until) }
+    ensures in_order { (from : ℕ) → IsInOrder out.old here.count from here.at → IsInOrder out.new result.here.count from result.here.at }
+    ensures reached { (cell : ℕ → Cell) (lefts : List Left) (more : List ℕ) (all : List Break) → IsFlatBy lefts table.now cell
+        → Reached profile cell lefts (text.now ++ more) all here (given_in out.old here.count)
+        → Reached profile cell lefts (text.now ++ more) all result.here (given_in out.new result.here.count) }
+{
     let steps = steps_of(table, profile);
     let there = blocks(
         pairs_of(table, profile),
@@ -113,11 +172,10 @@ fn further(
         out,
     );
     let until = next_try(here.at, there.at, text);
-    let past = quick(&table.kinds, steps, there, &text[..until], out);
-    if past.at < until && past.count < out.len() {
-        return take_one(table, profile, past, text, out);
+    Part {
+        here: quick(&table.kinds, steps, there, &text[..until], out),
+        until,
     }
-    past
 }
 
 /// Up to where scalars are taken one by one, before blocks are tried again, where the last blocks took the bytes between two
@@ -161,7 +219,7 @@ fn pause(taken: usize, text: &[u8]) -> usize
 /// Takes scalars as long as none of four bytes, no ill-formed bytes and no held position come, whatever may follow the text.
 /// It calls nothing, so that all it has stays in registers.
 #[inline(never)]
-pub fn quick(
+fn quick(
     kinds: &[u8; CODES],
     steps: &[FlatStep; STEPS],
     start: FillState,

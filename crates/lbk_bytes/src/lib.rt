@@ -17,7 +17,7 @@ mod steps;
 pub use deciding::{Decided, decide_one};
 pub use ending::{END, put_end};
 pub use fill_state::FillState;
-pub use filling::{fill, put, quick};
+pub use filling::{fill, fill_common, put};
 pub use profiles::profile_numbered;
 pub use raw_break::RawBreak;
 pub use shown::shown_of;

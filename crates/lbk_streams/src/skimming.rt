@@ -10,7 +10,7 @@ ghost use Rattle.lbk_bytes.specs.Shown.{given_in};
 ghost use Rattle.lbk_streams.specs.Stands.{Feeds, Stands, moved};
 
 use crate::stream::{Feeding, Place};
-use lbk_bytes::{FillState, RawBreak, quick, steps_of};
+use lbk_bytes::{FillState, RawBreak, fill_common};
 use lbk_rules::Profile;
 use lbk_steps::FlatTable;
 
@@ -71,7 +71,7 @@ fn skim_into(
         row: place.row as usize,
         at: from,
     };
-    let end = quick(&table.kinds, steps_of(table, profile), start, piece, room);
+    let end = fill_common(table, profile, start, piece, room);
     move_by(room, end.count, place.at.wrapping_sub(from as u64));
     end
 }

@@ -1,4 +1,4 @@
-use Rattle.std.proofs.Common.{refl, sym, subst, ◌∙◌, arith, w64}
+use Rattle.std.proofs.Common.{◌++◌, refl, sym, subst, ◌∙◌, arith, w64}
 use Rattle.std.specs.Int.{trailing_zeros}
 use Rattle.lbk_bytes.specs.declared.blocks.BlockState.{BlockState}
 use Rattle.lbk_bytes.specs.Reached.{Reached}
@@ -9,7 +9,7 @@ use Rattle.lbk_bytes.proofs.BlockOrderLemmas.{ahead-begins}
 use Rattle.lbk_bytes.proofs.blocks.block.Goals as goal
 
 pub returns-clause-reached : goal.returns-clause-reached
-returns-clause-reached c = λ profile cell lefts all swift are_kinds told start.
+returns-clause-reached c = λ profile cell lefts more all swift are_kinds told start.
     let text = c.args.text.now in
     let pairs = c.args.pairs.now in
     let here = c.args.start in
@@ -24,8 +24,8 @@ returns-clause-reached c = λ profile cell lefts all swift are_kinds told start.
     let marked : BlockState = record { count = here.count; past = here.at; left = c.kept_below.result } in
     let left = are-left pairs text here.at taken masks.result.standing marked few refl c.kept_below.ensures
     (λ i h. masks.ensures.standing i h ∙ stands-is pairs text here before i rests) in
-    c.finish.ensures.reached profile cell lefts all block left
-    (subst (λ w. Reached profile cell lefts text all (record { count = here.count; row = w; at = here.at }) (given_in c.args.out.now here.count)) rests.row start)
+    c.finish.ensures.reached profile cell lefts more all block left
+    (subst (λ w. Reached profile cell lefts (text ++ more) all (record { count = here.count; row = w; at = here.at }) (given_in c.args.out.now here.count)) rests.row start)
 
 pub returns-clause-in_order : goal.returns-clause-in_order
 returns-clause-in_order c = λ from order.

@@ -1,4 +1,4 @@
-use Rattle.std.proofs.Common.{◌-◌, ◌<◌, ◌≤◌, ℕ, List, length}
+use Rattle.std.proofs.Common.{◌++◌, ◌-◌, ◌<◌, ◌≤◌, ℕ, List, length}
 use Rattle.lbk_rules.specs.declared.breaks.Break.{Break}
 use Rattle.lbk_rules.specs.declared.cells.Cell.{Cell}
 use Rattle.lbk_rules.specs.declared.facts.Left.{Left}
@@ -18,10 +18,10 @@ invariant-loop-here l = record {
   ahead : l.from ≤ l.here.at;
   more : l.fn.start.count ≤ l.here.count;
   in_order : (from : ℕ) → IsInOrder l.fn.out l.fn.start.count from l.fn.start.at → IsInOrder l.out l.here.count from l.here.at;
-  reached : (profile : Profile) (cell : ℕ → Cell) (lefts : List Left) (all : List Break) → AreSwift profile lefts l.steps → AreFlatKinds l.kinds cell
+  reached : (profile : Profile) (cell : ℕ → Cell) (lefts : List Left) (more : List ℕ) (all : List Break) → AreSwift profile lefts l.steps → AreFlatKinds l.kinds cell
       → AreTold l.steps l.kinds l.pairs
-      → Reached profile cell lefts l.text all l.fn.start (given_in l.fn.out l.fn.start.count)
-      → Reached profile cell lefts l.text all l.here (given_in l.out l.here.count);
+      → Reached profile cell lefts (l.text ++ more) all l.fn.start (given_in l.fn.out l.fn.start.count)
+      → Reached profile cell lefts (l.text ++ more) all l.here (given_in l.out l.here.count);
 }
 
 abbrev pub decreases-loop-here : goal.decreases-loop-here

@@ -6,17 +6,17 @@ use Rattle.lbk_bytes.proofs.blocks.finish.Goals as goal
 pub loop-here-preserved : goal.loop-here-preserved
 loop-here-preserved c =
     let l = c.loop-here in
-    let more = c.some_breaks-here.ensures in
+    let some = c.some_breaks-here.ensures in
     record {
-      room = omega (arith, more.within.0);
-      more = omega (arith, more.onward.0);
-      after = more.within.1;
-      within = more.within.2;
-      ahead = λ ahead. more.ahead c.args.taken (l.invariant.ahead ahead);
-      in_order = λ from ahead order. more.in_order c.args.taken from (l.invariant.ahead ahead) (l.invariant.in_order from ahead order);
-      reached = λ profile cell lefts all block left start.
-          let here = l.invariant.reached profile cell lefts all block left start in
-          more.reached profile cell lefts all c.args.taken block here.0 here.1;
+      room = omega (arith, some.within.0);
+      more = omega (arith, some.onward.0);
+      after = some.within.1;
+      within = some.within.2;
+      ahead = λ ahead. some.ahead c.args.taken (l.invariant.ahead ahead);
+      in_order = λ from ahead order. some.in_order c.args.taken from (l.invariant.ahead ahead) (l.invariant.in_order from ahead order);
+      reached = λ profile cell lefts more all block left start.
+          let here = l.invariant.reached profile cell lefts more all block left start in
+          some.reached profile cell lefts more all c.args.taken block here.0 here.1;
     }
 
 pub returns-clause-within : goal.returns-clause-within
@@ -25,11 +25,11 @@ returns-clause-within c =
     (omega (arith, stopped.count), stopped.within.0, omega (arith, stopped.within.1))
 
 pub returns-clause-reached : goal.returns-clause-reached
-returns-clause-reached c = λ profile cell lefts all block left start.
+returns-clause-reached c = λ profile cell lefts more all block left start.
     let l = c.loop-here in
     let stopped = c.stopped.ensures in
-    stopped-there profile cell lefts c.args.text.now all c.args.steps.now c.args.kinds.now c.args.pairs.now l.out c.args.at c.args.taken l.here c.stopped.result
-    c.requires.2 block stopped.count stopped.row stopped.all stopped.some (l.invariant.reached profile cell lefts all block left start)
+    stopped-there profile cell lefts c.args.text.now more all c.args.steps.now c.args.kinds.now c.args.pairs.now l.out c.args.at c.args.taken l.here c.stopped.result
+    c.requires.2 block stopped.count stopped.row stopped.all stopped.some (l.invariant.reached profile cell lefts more all block left start)
 
 pub returns-clause-in_order : goal.returns-clause-in_order
 returns-clause-in_order c = λ from ahead order.

@@ -1,41 +1,25 @@
-use Rattle.std.proofs.Common.{drop, sym, subst}
-use Rattle.std.proofs.lemmas.List.{take-append-drop}
-use Rattle.lbk_bytes.specs.Reached.{Reached}
+use Rattle.std.proofs.Common.{[]}
 use Rattle.lbk_bytes.specs.Shown.{given_in}
-use Rattle.lbk_bytes.proofs.StepLemmas.{swift-as, told-as}
+use Rattle.lbk_bytes.proofs.ReachedLemmas.{Reached-alone, Reached-nothing}
 use Rattle.lbk_bytes.proofs.filling.further.Goals as goal
 
-pub returns-then-past-out-clause-reached : goal.returns-then-past-out-clause-reached
-returns-then-past-out-clause-reached c = λ cell lefts all flat start.
-    let table = c.args.table.now in
+pub returns-then-part-out-clause-reached : goal.returns-then-part-out-clause-reached
+returns-then-part-out-clause-reached c = λ cell lefts all flat start.
     let profile = c.args.profile in
     let text = c.args.text.now in
-    let steps = c.steps_of-steps in
-    let there = c.blocks-there in
-    let past = c.quick-past in
-    let until = c.next_try-until.result in
-    let swift = swift-as profile lefts table cell steps.result.now flat steps.ensures in
-    let told = told-as profile lefts table cell steps.result.now c.pairs_of.result.now flat steps.ensures c.pairs_of.ensures in
-    let whole = take-append-drop until text in
+    let part = c.common_part-part in
+    let past = part.result.here in
     c.take_one.ensures.reached cell lefts all flat
-    (subst (λ t. Reached profile cell lefts t all past.result (given_in past.new.out past.result.count)) whole
-    (past.ensures.reached profile cell lefts (drop until text) all swift flat.kinds
-    (subst (λ t. Reached profile cell lefts t all there.result (given_in there.new.out there.result.count)) (sym whole)
-    (there.ensures.reached profile cell lefts all swift flat.kinds told start))))
+    (Reached-alone profile cell lefts text all past (given_in part.new.out past.count)
+    (part.ensures.reached cell lefts [] all flat
+    (Reached-nothing profile cell lefts text all c.args.here (given_in c.args.out.now c.args.here.count) start)))
 
 pub returns-clause-reached : goal.returns-clause-reached
 returns-clause-reached c = λ cell lefts all flat start.
-    let table = c.args.table.now in
     let profile = c.args.profile in
     let text = c.args.text.now in
-    let steps = c.steps_of-steps in
-    let there = c.blocks-there in
-    let past = c.quick-past in
-    let until = c.next_try-until.result in
-    let swift = swift-as profile lefts table cell steps.result.now flat steps.ensures in
-    let told = told-as profile lefts table cell steps.result.now c.pairs_of.result.now flat steps.ensures c.pairs_of.ensures in
-    let whole = take-append-drop until text in
-    subst (λ t. Reached profile cell lefts t all past.result (given_in past.new.out past.result.count)) whole
-    (past.ensures.reached profile cell lefts (drop until text) all swift flat.kinds
-    (subst (λ t. Reached profile cell lefts t all there.result (given_in there.new.out there.result.count)) (sym whole)
-    (there.ensures.reached profile cell lefts all swift flat.kinds told start)))
+    let part = c.common_part-part in
+    let past = part.result.here in
+    Reached-alone profile cell lefts text all past (given_in part.new.out past.count)
+    (part.ensures.reached cell lefts [] all flat
+    (Reached-nothing profile cell lefts text all c.args.here (given_in c.args.out.now c.args.here.count) start))

@@ -1,11 +1,10 @@
-use Rattle.std.proofs.Common.{◌≡◌, ◌+◌, ◌-◌, ◌%◌, ◌^◌, ◌++◌, [], List, map, sym, ap, subst, ◌∙◌, arith}
+use Rattle.std.proofs.Common.{◌≡◌, ◌+◌, ◌-◌, ◌%◌, ◌^◌, ◌++◌, [], List, map, ap, ◌∙◌, arith}
 use Rattle.lbk_rules.specs.declared.breaks.Break.{Break}
 use Rattle.lbk_bytes.specs.declared.fill_state.FillState.{FillState}
-use Rattle.lbk_bytes.specs.Reached.{AreSwift, Reached}
+use Rattle.lbk_bytes.specs.Reached.{Reached}
 use Rattle.lbk_bytes.specs.Shown.{given_in}
 use Rattle.lbk_streams.specs.Stands.{moved}
 use Rattle.lbk_streams.proofs.SkimLemmas.{Stands-skim}
-use Rattle.lbk_bytes.proofs.StepLemmas.{flat-swift}
 use Rattle.lbk_streams.proofs.skimming.skim_into.Goals as goal
 
 pub returns-clause-stands : goal.returns-clause-stands
@@ -14,15 +13,14 @@ returns-clause-stands c = λ cell lefts more all next flat free some behind at_s
     let piece = c.args.piece.now in
     let place = c.args.place in
     let from = c.args.from in
-    let end = c.quick-end in
+    let end = c.fill_common-end in
     let given = given_in end.new.out end.result.count in
     let by = (place.at + (2 ^ 64 - from)) % 2 ^ 64 in
     let fits = stands.fits in
     let by_same : by ≡ place.at - from = omega arith in
     let start : FillState = record { count = 0; row = place.row; at = from } in
-    let swift = subst (AreSwift profile lefts) (sym c.steps_of.ensures) (flat-swift profile lefts c.args.table.now cell flat) in
     let reached = λ (coming : List Break) (r : Reached profile cell lefts (piece ++ more) coming start []).
-    end.ensures.reached profile cell lefts more coming swift flat.kinds r in
+    end.ensures.reached cell lefts more coming flat r in
     Stands-skim profile cell lefts piece more all given (given_in c.move_by.new.out end.result.count) place next from end.result
     end.ensures.onward.0 end.ensures.within.2 free some behind at_same row_same none_waits reached
     (c.move_by.ensures ∙ ap (λ n. map (moved n) given) by_same) stands
