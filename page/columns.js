@@ -43,17 +43,21 @@ export class ColumnsView {
     observer.observe(theirs);
   }
 
-  /** Shows a text by its segments. */
-  show(text, segments) {
+  /** Shows a text up to the last of some positions, with breaks where these have one. */
+  show(text, positions) {
     const parts = document.createDocumentFragment();
-    for (const { segment, kind } of segments) {
+    const end = positions.at(-1).at;
+    let start = 0;
+    for (const { at, kind } of positions) {
+      if (kind === "no" && at < end) continue;
       const span = document.createElement("span");
       span.className = "segment";
-      span.textContent = segment;
+      span.textContent = text.slice(start, at);
       parts.append(span, document.createElement(kind === "must" ? "br" : "wbr"));
+      start = at;
     }
     this.#ours.replaceChildren(parts);
-    this.#theirs.textContent = text;
+    this.#theirs.textContent = text.slice(0, end);
     this.compare();
   }
 

@@ -25,10 +25,12 @@ export function codeOf(character) {
 /** A line of the break test: a sign for each position, a code between two, and the rules. */
 export function testLine(text, positions) {
   const words = [];
-  for (const { at, kind } of positions) {
+  const rules = [];
+  for (const { at, kind, rule } of positions) {
     words.push(SIGNS[kind]);
+    rules.push(rule);
     const code = text.codePointAt(at);
     if (code !== undefined) words.push(code.toString(16).toUpperCase().padStart(4, "0"));
   }
-  return `${words.join(" ")}\t# ${positions.map((it) => it.rule).join(" ")}`;
+  return `${words.join(" ")}\t# ${rules.join(" ")}`;
 }

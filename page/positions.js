@@ -43,10 +43,10 @@ export class PositionsView {
     list.addEventListener("keydown", (event) => this.#onKey(event));
   }
 
-  /** Shows the first positions of a text, and returns how many were left out. */
+  /** Shows positions of a text, from its start on. */
   show(text, positions) {
     this.#text = text;
-    this.#positions = positions.slice(0, MOST_SHOWN);
+    this.#positions = positions;
     this.#chosen = -1;
     const parts = document.createDocumentFragment();
     this.#positions.forEach((position, k) => {
@@ -58,7 +58,6 @@ export class PositionsView {
     this.#list.replaceChildren(parts);
     this.#list.removeAttribute("aria-activedescendant");
     this.#detail.replaceChildren();
-    return positions.length - this.#positions.length;
   }
 
   #positionElement({ kind, rule }, k) {
@@ -83,9 +82,12 @@ export class PositionsView {
 
   #onKey(event) {
     const last = this.#positions.length - 1;
+    const [before, next] = [Math.max(0, this.#chosen - 1), Math.min(last, this.#chosen + 1)];
     const to = {
-      ArrowRight: Math.min(last, this.#chosen + 1),
-      ArrowLeft: Math.max(0, this.#chosen - 1),
+      ArrowRight: next,
+      ArrowDown: next,
+      ArrowLeft: before,
+      ArrowUp: before,
       Home: 0,
       End: last,
     }[event.key];

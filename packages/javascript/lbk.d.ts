@@ -59,6 +59,16 @@ export class Table {
   static fromBytes(saved: Source, module?: Source): Promise<Table>;
 
   /**
+   * A table of the four property files that Unicode 15.0 published: LineBreak.txt, EastAsianWidth.txt,
+   * DerivedGeneralCategory.txt and emoji-data.txt. It is, byte for byte, the one that the library for C makes of them.
+   * @param files The URL or, in Node, the path of a folder with `LineBreak.txt`, `EastAsianWidth.txt`,
+   *   `extracted/DerivedGeneralCategory.txt` and `emoji/emoji-data.txt`; or these four files, in this order.
+   * @param module The module `lbk.wasm`; the one beside this file unless given.
+   * @throws RangeError if the files are others.
+   */
+  static fromFiles(files: URL | string | readonly Source[], module?: Source): Promise<Table>;
+
+  /**
    * The breaks of a text, in their order. The last is the text's end; an empty text has none. Of a text of any size the
    * module holds 64 KB at a time.
    */

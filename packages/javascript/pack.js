@@ -2,11 +2,17 @@
 // Packs a table for a web page: some 4 KB instead of 1.6 MB. Table.fromBytes takes both.
 //
 //     node pack.js TABLE PACKED
+//     node pack.js TABLE STEPS LINE_BREAK EAST_ASIAN CATEGORY EMOJI
 //
-// TABLE is what save_table of the library for C wrote, or the Python package's Table.save. PACKED is compressed by gzip.
-import { readFileSync, writeFileSync } from "node:fs";
-import { gzipSync } from "node:zlib";
+// TABLE is the folder of the property files of Unicode 15.0, or a table that save_table of the library for C or Table.save of
+// the Python package wrote. PACKED is compressed by gzip. With the four files of a table it writes what Table.fromFiles needs:
+// the table without its characters, packed, and then which kind goes with which values, as JSON.
+import { readFileSync, statSync, writeFileSync } from "node:fs";
+import { join } from "node:path";
+import { gunzipSync, gzipSync } from "node:zlib";
+import { Table } from "./lbk.js";
 import { CODES, FIRST_AT, HEAD_SIZE, KINDS, KINDS_AT, PAIRS_AT, SECOND_AT, TABLE_SIZE, unpackTable } from "./packed_table.js";
+import { FILES, runsOfValues, tableOf } from "./property_files.js";
 
 const LONGEST_RUN = 0xffff;
 
@@ -35,10 +41,10 @@ function runsOf(kinds) {
   return runs;
 }
 
-function packTable(table) {
+/** A table with its steps and these runs, packed. */
+function packTable(table, runs) {
   const [first, second] = stepsOf(table);
   const rows = first.length / KINDS;
-  const runs = runsOf(table.subarray(KINDS_AT));
   const byKind = first.map((_, place) => first[KINDS * (place % rows) + Math.floor(place / rows)]);
   return Uint8Array.from([
     ...table.subarray(0, HEAD_SIZE),
@@ -59,16 +65,36 @@ function fail(fault, status = 1) {
   process.exit(status);
 }
 
-const [from, to, ...more] = process.argv.slice(2);
-if (to === undefined || more.length > 0) fail("usage: node pack.js TABLE PACKED", 2);
-try {
-  const table = new Uint8Array(readFileSync(from));
-  if (table.length !== TABLE_SIZE) fail(`${from} has ${table.length} bytes, and a table of this version ${TABLE_SIZE}`);
-  const packed = packTable(table);
+function packWhole(table) {
+  const packed = packTable(table, runsOf(table.subarray(KINDS_AT)));
   const unpacked = new Uint8Array(TABLE_SIZE);
   unpackTable(packed, unpacked);
-  if (Buffer.compare(table, unpacked) !== 0) fail(`${from} is not a table of this version`);
+  return { packed, unpacked };
+}
+
+function packSteps(table, files) {
+  const kinds = new Map([...runsOfValues(files)].map(({ values, first }) => [values, table[KINDS_AT + first]]));
+  const packed = Buffer.concat([packTable(table, []), Buffer.from(JSON.stringify([...kinds]))]);
+  return { packed, unpacked: tableOf(files, packed) };
+}
+
+/** The table that a file has, or that comes of the property files of a folder. The module says whether it is whole. */
+async function tableFrom(from) {
+  const known = () => gunzipSync(readFileSync(new URL("lbk.steps.gz", import.meta.url)));
+  const isFolder = statSync(from).isDirectory();
+  const table = isFolder ? tableOf(FILES.map((name) => readFileSync(join(from, name))), known()) : new Uint8Array(readFileSync(from));
+  if (table.length !== TABLE_SIZE) throw new RangeError(`it has ${table.length} bytes, and a table of this version ${TABLE_SIZE}`);
+  await Table.fromBytes(table);
+  return table;
+}
+
+const [from, to, ...names] = process.argv.slice(2);
+if (to === undefined || ![0, 4].includes(names.length)) fail("usage: node pack.js TABLE PACKED [FILE FILE FILE FILE]", 2);
+try {
+  const table = await tableFrom(from);
+  const { packed, unpacked } = names.length === 0 ? packWhole(table) : packSteps(table, names.map((name) => readFileSync(name)));
+  if (Buffer.compare(table, unpacked) !== 0) throw new RangeError("it is not the table of these files");
   writeFileSync(to, gzipSync(packed, { level: 9 }));
 } catch (error) {
-  fail(error.message);
+  fail(`${from}: ${error.message}`);
 }

@@ -24,11 +24,22 @@ export const KINDS_AT = PAIRS_AT + PAIRS_SIZE;
 /** How many bytes an lbk_table of include/lbk.h has. */
 export const TABLE_SIZE = KINDS_AT + CODES;
 
+/** How many rows of steps and how many runs a packed table says that it has. */
+function countsOf(packed) {
+  return [16, 18].map((at) => packed[at] + 256 * packed[at + 1]);
+}
+
+/** How many bytes a packed table has that begins so. */
+export function packedSize(packed) {
+  const [rows, runs] = countsOf(packed);
+  return HEAD_SIZE + 4 + 3 * KINDS * rows + PAIRS_SIZE + 3 * runs;
+}
+
 /** Writes the table of packed bytes over zeros. */
 export function unpackTable(packed, table) {
-  const [rows, runs] = [16, 18].map((at) => packed[at] + 256 * packed[at + 1]);
+  const [rows, runs] = countsOf(packed);
   const steps = KINDS * rows;
-  if (packed.length !== HEAD_SIZE + 4 + 3 * steps + PAIRS_SIZE + 3 * runs || FIRST_AT + 4 * steps > SECOND_AT) {
+  if (packed.length !== packedSize(packed) || FIRST_AT + 4 * steps > SECOND_AT) {
     throw new RangeError("these bytes are neither a table of this version nor a packed one");
   }
   let end = 0;

@@ -1,4 +1,7 @@
 /** Tries the package and the page in this browser, and posts what was found to the server that scripts/page runs. */
+import { Table as Packaged } from "/package/lbk.js";
+import { Words } from "/package/words.js";
+import { EXAMPLES } from "/page/examples.js";
 import { Table } from "/page/lbk.js";
 
 const results = [];
@@ -20,19 +23,58 @@ async function untilTrue(holds, what) {
   throw new Error(`${what} did not come within 5 s`);
 }
 
-async function digestOf(table, { at, kind, rule }) {
-  const lines = [];
-  for (let k = 0; k < at.length; k++) lines.push(`${at[k]} ${kind[k]} ${table.ruleLabel(rule[k])}\n`);
-  const hash = await crypto.subtle.digest("SHA-256", new TextEncoder().encode(lines.join("")));
+async function digestOf(count, line) {
+  const lines = Array.from({ length: count }, (_, k) => line(k)).join("");
+  const hash = await crypto.subtle.digest("SHA-256", new TextEncoder().encode(lines));
   return [...new Uint8Array(hash)].map((it) => it.toString(16).padStart(2, "0")).join("");
 }
 
+async function bytesOf(file) {
+  return new Uint8Array(await (await fetch(file)).arrayBuffer());
+}
+
 async function tryCases(table) {
-  for (const [digest, call, profile, text] of await (await fetch("cases.json")).json()) {
-    const bytes = new Uint8Array(await (await fetch(text)).arrayBuffer());
-    const columns = table[`${call}Columns`](bytes, { profile: Number(profile) });
-    equal(`${call}s of ${text} in profile ${profile} are those of the C library`, await digestOf(table, columns), digest);
+  const words = await Words.load();
+  for (const [digest, call, profile, file] of await (await fetch("cases.json")).json()) {
+    const text = await bytesOf(file);
+    let found;
+    if (call === "word") {
+      const { start, end } = words.wordColumns(text);
+      found = await digestOf(start.length, (k) => `W ${start[k]} ${end[k]}\n`);
+    } else {
+      const { at, kind, rule } = table[`${call}Columns`](text, { profile: Number(profile) });
+      found = await digestOf(at.length, (k) => `${at[k]} ${kind[k]} ${table.ruleLabel(rule[k])}\n`);
+    }
+    equal(`${call}s of ${file}${profile && ` in profile ${profile}`} are those of the C library`, found, digest);
   }
+}
+
+/** The lines of the published test, each alone, and strings with lone surrogates. */
+async function tryStrings(table) {
+  const rows = await (await fetch("strings.json")).json();
+  const show = (found) => [...found].map(({ at, kind, rule }) => `${at} ${kind} ${rule}`);
+  const wrong = rows.filter(([text, profile, wanted]) => {
+    const positions = show(table.positions(text, { profile }));
+    const breaks = show(table.breaks(text, { profile }));
+    return positions.join(", ") !== wanted || breaks.join() !== positions.filter((it) => !it.includes(" no ")).join();
+  });
+  equal(`positions and breaks of ${rows.length} strings are those of the C library`, wrong.slice(0, 3), []);
+}
+
+/** Fifty times a text that ends with its last line has fifty times its breaks. */
+async function tryPieces(table) {
+  const [, , , file] = (await (await fetch("cases.json")).json()).find((row) => row[3].endsWith("latin"));
+  const text = new TextDecoder().decode(await bytesOf(file));
+  const once = table.breakColumns(text);
+  const { at, kind } = table.breakColumns(text.repeat(50));
+  const count = once.at.length;
+  const isWrong = (place, k) => place !== Math.floor(k / count) * text.length + once.at[k % count] || kind[k] !== once.kind[k % count];
+  equal("50 MB in pieces have the breaks that their parts have", [at.length, at.findIndex(isWrong)], [50 * count, -1]);
+}
+
+async function tryFiles(table) {
+  const read = await Packaged.fromFiles("/unicode");
+  equal("a table of four property files gives the same breaks", [...read.breaks("a « b »")], [...table.breaks("a « b »")]);
 }
 
 /** The shortest time of each action. They take turns for three seconds, as browsers compile better what runs long. */
@@ -59,7 +101,7 @@ function goWithIcu(text) {
 /** How fast columns are, beside the C library and the line iterator of ICU that Chromium has. Speeds are of UTF-8, in MB/s. */
 async function trySpeed(table) {
   for (const [name, file, whole, pieces] of await (await fetch("speed.json")).json()) {
-    const bytes = new Uint8Array(await (await fetch(file)).arrayBuffer());
+    const bytes = await bytesOf(file);
     const text = new TextDecoder().decode(bytes);
     const actions = [() => table.breakColumns(bytes), () => table.breakColumns(text)];
     if (Intl.v8BreakIterator) actions.push(() => goWithIcu(text));
@@ -67,7 +109,8 @@ async function trySpeed(table) {
     const share = [whole, pieces].map((it) => `${(ours / it).toFixed(2)} of`);
     const ofBytes = `columns ${ours} MB/s, ${share[0]} lbk_breaks and ${share[1]} lbk_feed in C (${whole}, ${pieces})`;
     const beside = icu ? `, ICU ${icu}` : "";
-    say(`speed over ${name}: ${ofBytes}; of a string ${ofString}${beside}`, ofString <= icu ? "slower than ICU" : "");
+    const isSlow = icu && 2 * ours < whole;
+    say(`speed over ${name}: ${ofBytes}; of a string ${ofString}${beside}`, ofString <= icu ? "slower than ICU" : isSlow ? "less than half" : "");
   }
 }
 
@@ -109,7 +152,17 @@ function press(page, key) {
   page.find("positions").dispatchEvent(new page.window.KeyboardEvent("keydown", { key, bubbles: true, cancelable: true }));
 }
 
-async function tryPage() {
+/** Each example has a position that its rule decides, and CR stays what it is. */
+function tryExamples(page, table) {
+  const missing = EXAMPLES.filter(([, rule, text]) => ![...table.positions(text)].some((it) => it.rule === rule));
+  equal("each example has a position of its rule", missing.map(([name]) => name), []);
+  page.find("example").value = EXAMPLES.findIndex(([name]) => name === "Hidden characters");
+  page.find("example").dispatchEvent(new page.window.Event("change"));
+  const names = [...page.document.querySelectorAll(".hidden-character")].map((it) => it.textContent);
+  equal("an example can hold CR LF", names.filter((it) => it !== "·"), ["ZWSP", "NBSP", "WJ", "SHY", "CR", "LF"]);
+}
+
+async function tryPage(table) {
   const page = await openPage();
   write(page, "ab cd");
   equal("a text that is typed is shown", signs(page), "×××÷×!");
@@ -133,8 +186,10 @@ async function tryPage() {
   page.find("text").dispatchEvent(new page.window.DragEvent("drop", { dataTransfer: files, cancelable: true }));
   await untilTrue(() => page.find("text").value === "dropped text", "the text of a dropped file");
   say("a file can be dropped");
-  write(page, "word ".repeat(3000));
-  say("a long text is cut, and the page says so", page.find("cut").hidden ? "it does not" : "");
+  write(page, "word ".repeat(200_000));
+  equal("a long text is cut, and the page says so", page.find("cut").textContent, "The first 4000 positions are shown, and 996001 are not.");
+  equal("and so are the columns", page.find("ours").textContent.length, 3999);
+  tryExamples(page, table);
   write(page, "one two three four five six seven eight nine ten");
   page.find("width").value = "120";
   page.find("width").dispatchEvent(new page.window.Event("input"));
@@ -154,6 +209,8 @@ async function tryLinks() {
   const chosen = await openPage("#text=a%20b&profile=1&at=2");
   const detail = chosen.find("detail").textContent;
   say("a link chooses a position", /at 2\. ?Rule LB18/.test(detail) ? "" : detail);
+  const ends = await openPage("#text=a%0D%0Ab&at=2");
+  equal("a link can hold CR LF", [signs(ends), /Rule LB5 /.test(ends.find("detail").textContent)], ["×××!!", true]);
   const joined = await openPage("#text=" + encodeURIComponent("a\u0301\u0308 \u0301") + "&at=3");
   const classes = (page) => page.find("detail").lastChild.textContent;
   equal("a mark joins the character before it", classes(joined), "Classes: AL before, SP after.");
@@ -183,8 +240,11 @@ try {
   await tryStart();
   const table = await Table.fromBytes("/page/lbk.table.gz");
   await tryCases(table);
+  await tryStrings(table);
+  await tryPieces(table);
+  await tryFiles(table);
   await trySpeed(table);
-  await tryPage();
+  await tryPage(table);
   await tryLinks();
   await tryShown();
 } catch (error) {

@@ -1,5 +1,6 @@
-// The package in Node. LBK_TABLE names a table of Unicode 15.0 that save_table wrote, and LBK_CASES a file of lines
-// "SHA-256 of the lines, call, profile, file of the text", which the C library wrote. scripts/page makes both.
+// The package in Node. LBK_TABLE names a table of Unicode 15.0 that save_table wrote, and LBK_UNICODE the folder of its files.
+// By the library for C there are LBK_CASES, JSON rows of "SHA-256 of what its example writes, call, profile, file of the text",
+// and LBK_STRINGS, JSON rows of "string, profile, positions". scripts/page makes all.
 import assert from "node:assert/strict";
 import { spawnSync } from "node:child_process";
 import { createHash } from "node:crypto";
@@ -7,27 +8,106 @@ import { mkdtempSync, readFileSync, rmSync, writeFileSync } from "node:fs";
 import { tmpdir } from "node:os";
 import { join } from "node:path";
 import { test } from "node:test";
+import { runInNewContext } from "node:vm";
 import { fileURLToPath } from "node:url";
 import { gunzipSync } from "node:zlib";
 import { Table } from "../lbk.js";
+import { FILES, tableOf } from "../property_files.js";
+import { Words } from "../words.js";
 
 const saved = readFileSync(process.env.LBK_TABLE);
 const table = await Table.fromBytes(saved);
-const cases = readFileSync(process.env.LBK_CASES, "utf8").trim().split("\n").map((line) => line.split("\t"));
+const words = await Words.load();
+const cases = JSON.parse(readFileSync(process.env.LBK_CASES, "utf8"));
 
-function digestOf({ at, kind, rule }) {
+function digestOf(count, line) {
   const hash = createHash("sha256");
-  for (let k = 0; k < at.length; k++) hash.update(`${at[k]} ${kind[k]} ${table.ruleLabel(rule[k])}\n`);
+  for (let k = 0; k < count; k++) hash.update(line(k));
   return hash.digest("hex");
 }
 
+function digestOfPositions({ at, kind, rule }) {
+  return digestOf(at.length, (k) => `${at[k]} ${kind[k]} ${table.ruleLabel(rule[k])}\n`);
+}
+
+function digestOfWords({ start, end }) {
+  return digestOf(start.length, (k) => `W ${start[k]} ${end[k]}\n`);
+}
+
 for (const [digest, call, profile, file] of cases) {
-  test(`${call} of ${file} in profile ${profile}`, () => {
+  test(`${call}s of ${file}${profile && ` in profile ${profile}`}`, () => {
     const text = new Uint8Array(readFileSync(file));
-    const options = { profile: Number(profile) };
-    assert.equal(digestOf(table[`${call}Columns`](text, options)), digest);
+    if (call === "word") assert.equal(digestOfWords(words.wordColumns(text)), digest);
+    else assert.equal(digestOfPositions(table[`${call}Columns`](text, { profile: Number(profile) })), digest);
   });
 }
+
+test("the lines of the published test, and strings with lone surrogates", () => {
+  const rows = JSON.parse(readFileSync(process.env.LBK_STRINGS, "utf8"));
+  assert.ok(rows.length > 2 * 7654);
+  for (const [text, profile, wanted] of rows) {
+    const found = [...table.positions(text, { profile })];
+    assert.equal(found.map(({ at, kind, rule }) => `${at} ${kind} ${rule}`).join(", "), wanted, JSON.stringify(text));
+    const breaks = found.filter((it) => it.kind !== "no");
+    assert.deepEqual([...table.breaks(text, { profile })], breaks, JSON.stringify(text));
+    // (the same string after a character that is not ASCII goes another way)
+    assert.deepEqual(table.breakColumns(`é\n${text}`, { profile }).at.map((at) => at - 2).subarray(1), Uint32Array.from(breaks, (it) => it.at));
+  }
+});
+
+/** Sees that the breaks of fifty copies of a text, which ends with its last line, are fifty times those of one. */
+function seeFiftyCopies(text, copies) {
+  const once = table.breakColumns(text);
+  const found = table.breakColumns(copies);
+  const count = once.at.length;
+  assert.equal(found.at.length, 50 * count);
+  for (let copy = 0; copy < 50; copy++) {
+    for (let k = 0; k < count; k++) {
+      const place = copy * count + k;
+      if (found.at[place] !== copy * text.length + once.at[k] || found.kind[place] !== once.kind[k] || (k < count - 1 && found.rule[place] !== once.rule[k])) {
+        assert.fail(`break ${place}`);
+      }
+    }
+  }
+}
+
+test("50 MB in pieces have the breaks that their parts have, in memory that does not grow", () => {
+  const bytes = new Uint8Array(readFileSync(cases.find((row) => row[3].endsWith("latin"))[3]));
+  const before = table.memorySize;
+  seeFiftyCopies(bytes, new Uint8Array(Buffer.concat(Array(50).fill(bytes))));
+  assert.equal(table.memorySize, before);
+  const text = new TextDecoder().decode(bytes);
+  table.breakColumns("é".repeat(200_000));
+  const ofStrings = table.memorySize;
+  seeFiftyCopies(text, text.repeat(50));
+  assert.equal(table.memorySize, ofStrings);
+});
+
+test("the words of a string", () => {
+  assert.deepEqual([...words.words("😀 naïve, 3.14")], [{ word: "naïve", at: 3 }, { word: "3.14", at: 10 }]);
+  assert.deepEqual([...words.words("")], []);
+  assert.equal([...words.words("one ".repeat(10_000))].length, 10_000);
+  for (const text of [3, null, new Uint8Array(1)]) assert.throws(() => [...words.words(text)], TypeError);
+  assert.throws(() => words.wordColumns({}), TypeError);
+});
+
+test("the table of four property files is the one of the library, byte for byte", async () => {
+  const files = FILES.map((name) => readFileSync(join(process.env.LBK_UNICODE, name)));
+  const known = gunzipSync(readFileSync(new URL("../lbk.steps.gz", import.meta.url)));
+  assert.equal(Buffer.compare(tableOf(files, known), saved), 0);
+  for (const given of [process.env.LBK_UNICODE, `${process.env.LBK_UNICODE}/`, files]) {
+    assert.deepEqual([...(await Table.fromFiles(given)).breaks("a « b »")], [...table.breaks("a « b »")]);
+  }
+});
+
+test("other property files are refused", async () => {
+  const files = FILES.map((name) => readFileSync(join(process.env.LBK_UNICODE, name)));
+  const edited = (k, from, to) => files.with(k, Buffer.from(files[k].toString().replace(from, to)));
+  const wrong = [files.slice(1), [...files, files[0]], files.toReversed(), files.with(2, new Uint8Array(0)), edited(0, "0028;OP", "0028;CL")];
+  wrong.push(edited(0, "0028;OP", "0028;QQ"), edited(1, "FF08;F", "FF08;N"), edited(3, "1FC00..1FFFD", "1FC00"));
+  for (const given of wrong) await assert.rejects(Table.fromFiles(given), RangeError);
+  await assert.rejects(Table.fromFiles("/absent"), { code: "ENOENT" });
+});
 
 test("the breaks of a string, in UTF-16 code units", () => {
   const found = [...table.breaks("😀 naïve\n")];
@@ -88,12 +168,13 @@ test("a table that is not whole is refused", async () => {
   await assert.rejects(Table.fromBytes(damaged), RangeError);
 });
 
-/** Runs pack.js on a table in a folder of its own: its status, what it said, and what it packed. */
+/** Runs pack.js on a table, or a folder, in a folder of its own: its status, what it said, and what it packed. */
 function pack(table) {
   const folder = mkdtempSync(join(tmpdir(), "lbk-"));
   try {
-    const [from, to] = [join(folder, "table"), join(folder, "packed")];
-    writeFileSync(from, table);
+    const to = join(folder, "packed");
+    const from = typeof table === "string" ? table : join(folder, "table");
+    if (from !== table) writeFileSync(from, table);
     const { status, stderr } = spawnSync(process.execPath, [fileURLToPath(new URL("../pack.js", import.meta.url)), from, to], { encoding: "utf8" });
     return { status, stderr, packed: status === 0 ? readFileSync(to) : null };
   } finally {
@@ -105,6 +186,7 @@ test("a packed table gives the positions that the table gives", async () => {
   const { status, packed } = pack(saved);
   assert.equal(status, 0);
   assert.ok(packed.length < 5000);
+  assert.deepEqual(pack(process.env.LBK_UNICODE).packed, packed);
   const text = "a « b », 「きょう」 1 234,50 € 👩🏽\r\n";
   for (const source of [packed, gunzipSync(packed)]) {
     const other = await Table.fromBytes(source);
@@ -129,24 +211,21 @@ test("a packed table that is damaged is refused", async () => {
 });
 
 test("pack.js refuses what is no table", () => {
-  for (const bytes of [saved.subarray(1), new Uint8Array(saved.length).fill(1)]) {
+  for (const bytes of [saved.subarray(1), new Uint8Array(saved.length).fill(1), tmpdir(), "absent"]) {
     const { status, stderr } = pack(bytes);
     assert.equal(status, 1);
     assert.match(stderr, /^pack.js: /);
   }
 });
 
-test("pieces of a text give what the whole gives, in memory that does not grow", () => {
+test("pieces of a text give what the whole gives", () => {
   const few = "a « b »\u0301 c 😀 – ";
   for (const profile of [1, 2]) {
-    const { at } = table.breakColumns(few.repeat(10_000), { profile });
-    const before = table.memorySize;
-    const marked = few.repeat(10_000) + "»" + "\u0301".repeat(200_000) + " x";
-    const found = table.breakColumns(marked, { profile });
-    assert.equal(table.memorySize, before);
-    assert.deepEqual(found.at.subarray(0, at.length - 1), at.subarray(0, at.length - 1));
-    const breaks = [...table.positions(marked, { profile })].filter((it) => it.kind !== "no").map((it) => it.at);
-    assert.deepEqual([...found.at], breaks);
+    for (const start of ["", "ascii ".repeat(20_000)]) {
+      const marked = start + few.repeat(10_000) + "»" + "\u0301".repeat(200_000) + " x" + few.repeat(10_000);
+      const breaks = [...table.positions(marked, { profile })].filter((it) => it.kind !== "no");
+      assert.deepEqual([...table.breaks(marked, { profile })], breaks);
+    }
   }
 });
 
@@ -161,6 +240,10 @@ test("after the module stopped the table has a new instance", async () => {
   });
   assert.throws(() => broken.breakColumns("ab cd"), /stopped in the middle of a call/);
   assert.deepEqual([...broken.breaks("ab cd")], [...table.breaks("ab cd")]);
+});
+
+test("a text of another context is a text", () => {
+  assert.deepEqual(table.breakColumns(runInNewContext("new Uint8Array([97, 32, 98])")).at, Uint32Array.of(2, 3));
 });
 
 test("a call after a long text is right", () => {
