@@ -6,7 +6,7 @@ from importlib import import_module
 
 from checks.harness import ALL_RIGHT, FAILED, USAGE, CannotRun, Tally
 
-# In the order in which the gate runs them. Each is a module of this package with `run(tally, arguments)`, and the first line
+# In the order in which the gate runs them, which leaves out `clients`. Each is a module of this package with `run(tally, arguments)`, and the first line
 # of its text says what it checks.
 NAMES = [
     "stored-runs",
@@ -24,6 +24,7 @@ NAMES = [
     "c-stack",
     "c-speed",
     "packages",
+    "clients",
     "speed",
     "hostile-input",
 ]

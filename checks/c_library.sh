@@ -285,21 +285,37 @@ for number in "${!texts[@]}"; do
 done
 told 'save_table.c: a mapped table gives as many breaks' "${wrong:-yes}"
 
-# libunibreak's calls, by a table that is whole, and then by one that is not.
+# libunibreak's calls, by a table and a folder that are whole, and then by those that are not.
+# try_no_table WHAT TABLE LINE: without a table each mark has to say so, and the line to name the file and what to do.
+try_no_table() {
+    tried "packages/unibreak: build for $1" "$top/packages/unibreak/build" "$2" "$here/without"
+    count "packages/unibreak: $1" env LD_LIBRARY_PATH="$here/without/lib" "$here/built/unibreak" no-table
+    told "packages/unibreak: $1 is named once" "$([ "$(grep '^linebreak: ' "$here/log")" = "linebreak: $3" ] && echo yes || cat "$here/log")"
+}
 unibreak=()
 if [ -n "$published" ] && tried 'packages/unibreak: build' "$top/packages/unibreak/build" "$table" "$here/unibreak" \
     && tried 'packages/unibreak: trying.c' cc -std=c99 "${warnings[@]}" -I"$here/unibreak/include" "$top/packages/unibreak/trying.c" \
         -L"$here/unibreak/lib" -llbk-unibreak -o "$here/built/unibreak"; then
     unibreak=(env LD_LIBRARY_PATH="$here/unibreak/lib" "$here/built/unibreak")
     count 'packages/unibreak: trying.c, run' "${unibreak[@]}"
+    tried 'packages/unibreak: build for a folder' "$top/packages/unibreak/build" "$ucd" "$here/unibreak-folder"
+    count 'packages/unibreak: trying.c with a folder' env LD_LIBRARY_PATH="$here/unibreak-folder/lib" "$here/built/unibreak"
 fi
 printf 'x' | dd of="$table" bs=1 seek=100000 conv=notrunc status=none
 "$here/built/save_table-cc" "$table" < "$here/few" > "$here/log" 2>&1
 status=$?
 told 'save_table.c: a table that is not whole is refused' "$([ $status = 1 ] && echo yes || echo "status $status")"
 if [ ${#unibreak[@]} != 0 ]; then
-    count 'packages/unibreak: a table that is not whole' "${unibreak[@]}" no-table
-    told 'packages/unibreak: the table is named' "$(grep -qF "$table is no whole table" "$here/log" && echo yes || cat "$here/log")"
+    remedy='install the files of Unicode 15.0 (Debian: unicode-data)'
+    try_no_table 'a table that is not whole' "$table" "$table: it is no whole table: write it with examples/save_table.c of lbk $(pkg-config --modversion lbk)"
+    try_no_table 'no table' "$here/none" "$here/none: No such file or directory: put the table there that this library was built for"
+    mkdir "$here/files"
+    cp -rs "$ucd/." "$here/files"
+    rm "$here/files/extracted/DerivedGeneralCategory.txt"
+    try_no_table 'a folder that lacks a file' "$here/files" "$here/files/extracted/DerivedGeneralCategory.txt: No such file or directory: $remedy"
+    head -n 100 "$ucd/extracted/DerivedGeneralCategory.txt" > "$here/files/extracted/DerivedGeneralCategory.txt"
+    try_no_table 'a folder with a part of a file' "$here/files" \
+        "$here/files/extracted/DerivedGeneralCategory.txt: the file is not the one that Unicode 15.0.0 published: $remedy"
 fi
 
 # CMake
@@ -339,6 +355,7 @@ try_cargo() {
         printf 'ab cd\nef' | env -u LD_LIBRARY_PATH "$CARGO_TARGET_DIR/debug/embedded" > "$here/out" 2> "$here/log"
         printf '"ab " May 18\n"cd\\n" Must 5\n"ef" Must 3\n' > "$here/wanted"
         tried "$1: embedded, run" diff "$here/wanted" "$here/out"
+        tried "$1: packages/linebreak" env -C "$top/packages/linebreak" -u LD_LIBRARY_PATH UNICODE_DATA="$LBK_DATABASE" "$1" test --offline --locked
     fi
 }
 

@@ -26,8 +26,9 @@ typedef unsigned int utf32_t;
 #define LINEBREAK_INSIDEACHAR 3   /* the position is inside of a scalar, or of bytes that are read as one U+FFFD */
 #define LINEBREAK_INDETERMINATE 4 /* there is no table, so nothing is known */
 
-/* Maps the table, once in a process; the first of the other calls does so too. Where there is no whole table it writes one line
- * to standard error that names the file, and all marks are LINEBREAK_INDETERMINATE. Any number of threads may call at once. */
+/* Maps the table's file, or reads its folder, once in a process; the first of the other calls does so too. Where there is no
+ * whole table it writes one line to standard error, which names the file and says what to do, and all marks are
+ * LINEBREAK_INDETERMINATE. Any number of threads may call at once. */
 void init_linebreak(void);
 
 /* Writes a mark for each of the `len` units of a text: what holds of the position after it. The last one is

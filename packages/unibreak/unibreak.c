@@ -2,73 +2,147 @@
 #define _POSIX_C_SOURCE 200809L
 #include "linebreak.h"
 
+#include <errno.h>
 #include <fcntl.h>
 #include <lbk.h>
 #include <pthread.h>
 #include <stdio.h>
+#include <stdlib.h>
 #include <string.h>
 #include <sys/mman.h>
 #include <sys/stat.h>
 #include <unistd.h>
 
-/* The file of the table, as examples/save_table.c writes it. */
-#ifndef LBK_TABLE_FILE
-#error "name the file of the table: -DLBK_TABLE_FILE='\"/usr/share/lbk/table\"'"
+/* Where the table is: a file as examples/save_table.c writes it, or a folder of the Unicode Character Database. */
+#ifndef LBK_TABLE
+#error "name the table: -DLBK_TABLE='\"/usr/share/unicode\"'"
 #endif
 
-enum { ROOM = 256 };
+enum { ROOM = 256, FILES = 4 };
+
+typedef struct bytes {
+    char *at; /* NULL where there are none */
+    size_t size;
+} bytes;
 
 static pthread_once_t once = PTHREAD_ONCE_INIT;
 static const lbk_table *table;
 
-/* The file's table, or NULL where there is none or it is not whole. */
-static const lbk_table *map_table(void)
+/* Says in one line why there is no table. */
+static void complain(const char *path, const char *why, const char *remedy)
 {
-    const lbk_table *found = NULL;
+    fprintf(stderr, "linebreak: %s: %s: %s\n", path, why, remedy);
+}
+
+/* A whole file. Where it cannot be read, errno says why. */
+static bytes read_file(const char *path)
+{
+    bytes file = {NULL, 0};
     struct stat about;
-    int file = open(LBK_TABLE_FILE, O_RDONLY | O_CLOEXEC);
-    if (file < 0)
-        return NULL;
-    if (fstat(file, &about) == 0 && about.st_size == (off_t)sizeof(lbk_table)) {
-        void *at = mmap(NULL, sizeof(lbk_table), PROT_READ, MAP_PRIVATE, file, 0);
-        if (at != MAP_FAILED && lbk_check(at))
-            found = at;
-        else if (at != MAP_FAILED)
-            munmap(at, sizeof(lbk_table));
+    int number = open(path, O_RDONLY | O_CLOEXEC);
+    if (number < 0)
+        return file;
+    if (fstat(number, &about) == 0 && (file.at = malloc((size_t)about.st_size + 1)) != NULL) {
+        ssize_t got = 0;
+        while (file.size < (size_t)about.st_size
+               && (got = read(number, file.at + file.size, (size_t)about.st_size - file.size)) > 0)
+            file.size += (size_t)got;
+        if (got < 0) {
+            free(file.at);
+            file.at = NULL;
+        }
     }
-    close(file);
+    close(number);
+    return file;
+}
+
+/* The table of four files of a folder, or NULL after a complaint. */
+static const lbk_table *read_files(bytes *files)
+{
+    static const char *const names[FILES] = {"LineBreak.txt", "EastAsianWidth.txt", "extracted/DerivedGeneralCategory.txt",
+        "emoji/emoji-data.txt"};
+    static const char remedy[] = "install the files of Unicode 15.0 (Debian: unicode-data)";
+    static lbk_table read;
+    char path[sizeof LBK_TABLE + 48];
+    for (int k = 0; k < FILES; k++) {
+        snprintf(path, sizeof path, "%s/%s", LBK_TABLE, names[k]);
+        files[k] = read_file(path);
+        if (files[k].at == NULL) {
+            complain(path, strerror(errno), remedy);
+            return NULL;
+        }
+    }
+    lbk_fault fault = lbk_read_published(&read, files[0].at, files[0].size, files[1].at, files[1].size, files[2].at,
+        files[2].size, files[3].at, files[3].size);
+    if (fault.cause == LBK_CAUSE_NONE)
+        return &read;
+    if (fault.file >= 1 && fault.file <= FILES)
+        snprintf(path, sizeof path, "%s/%s", LBK_TABLE, names[fault.file - 1]);
+    complain(fault.file == 0 ? LBK_TABLE : path, lbk_cause_text(fault.cause).text, remedy);
+    return NULL;
+}
+
+static const lbk_table *read_folder(void)
+{
+    bytes files[FILES] = {{NULL, 0}};
+    const lbk_table *found = read_files(files);
+    for (int k = 0; k < FILES; k++)
+        free(files[k].at);
     return found;
+}
+
+/* The table that is a file of this size, or NULL after a complaint. */
+static const lbk_table *map_file(int file, off_t size)
+{
+    static const char remedy[] = "write it with examples/save_table.c of lbk " LBK_VERSION;
+    if (size != (off_t)sizeof(lbk_table)) {
+        complain(LBK_TABLE, "it is no whole table", remedy);
+        return NULL;
+    }
+    void *at = mmap(NULL, sizeof(lbk_table), PROT_READ, MAP_PRIVATE, file, 0);
+    if (at == MAP_FAILED) {
+        complain(LBK_TABLE, strerror(errno), remedy);
+        return NULL;
+    }
+    if (lbk_check(at))
+        return at;
+    munmap(at, sizeof(lbk_table));
+    complain(LBK_TABLE, "it is no whole table", remedy);
+    return NULL;
 }
 
 static void find_table(void)
 {
-    table = map_table();
-    if (table == NULL)
-        fprintf(stderr, "linebreak: %s is no whole table of lbk %s: write it with examples/save_table.c\n", LBK_TABLE_FILE,
-                LBK_VERSION);
+    struct stat about;
+    int file = open(LBK_TABLE, O_RDONLY | O_CLOEXEC);
+    if (file < 0 || fstat(file, &about) != 0)
+        complain(LBK_TABLE, strerror(errno), "put the table there that this library was built for");
+    else
+        table = S_ISDIR(about.st_mode) ? read_folder() : map_file(file, about.st_size);
+    if (file >= 0)
+        close(file);
 }
 
 void init_linebreak(void) { pthread_once(&once, find_table); }
 
-/* Whether there is a table. Where there is none all marks say so. */
+/* Whether marks are to be set: there are some, and there is a table. Where there is none all marks say so. */
 static int is_known(char *brks, size_t len)
 {
+    if (len == 0)
+        return 0;
     init_linebreak();
-    if (table == NULL && len > 0)
+    if (table == NULL)
         memset(brks, LINEBREAK_INDETERMINATE, len);
     return table != NULL;
 }
 
-static char mark_of(lbk_break found)
-{
-    return found.kind == LBK_MUST ? LINEBREAK_MUSTBREAK : found.kind == LBK_MAY ? LINEBREAK_ALLOWBREAK : LINEBREAK_NOBREAK;
-}
-
 static void set_marks(const lbk_break *block, size_t count, char *brks)
 {
+    static const char marks[] = {
+        [LBK_NO] = LINEBREAK_NOBREAK, [LBK_MAY] = LINEBREAK_ALLOWBREAK, [LBK_MUST] = LINEBREAK_MUSTBREAK};
     for (size_t k = 0; k < count; k++)
         if (block[k].at > 0)
-            brks[block[k].at - 1] = mark_of(block[k]);
+            brks[block[k].at - 1] = marks[block[k].kind];
 }
 
 void set_linebreaks_utf8(const utf8_t *s, size_t len, const char *lang, char *brks)
@@ -77,7 +151,7 @@ void set_linebreaks_utf8(const utf8_t *s, size_t len, const char *lang, char *br
     lbk_break block[ROOM];
     size_t count;
     (void)lang;
-    if (len == 0 || !is_known(brks, len))
+    if (!is_known(brks, len))
         return;
     /* Each position is given, so what is left is inside of a scalar. */
     memset(brks, LINEBREAK_INSIDEACHAR, len);
@@ -93,7 +167,7 @@ void set_linebreaks_utf16(const utf16_t *s, size_t len, const char *lang, char *
     lbk_break block[ROOM];
     size_t count;
     (void)lang;
-    if (len == 0 || !is_known(brks, len))
+    if (!is_known(brks, len))
         return;
     for (size_t k = 0; k < len; k++) {
         int is_pair = k + 1 < len && (s[k] & 0xFC00) == 0xD800 && (s[k + 1] & 0xFC00) == 0xDC00;
@@ -111,7 +185,7 @@ void set_linebreaks_utf32(const utf32_t *s, size_t len, const char *lang, char *
     lbk_break block[ROOM];
     size_t count;
     (void)lang;
-    if (len == 0 || !is_known(brks, len))
+    if (!is_known(brks, len))
         return;
     memset(brks, LINEBREAK_NOBREAK, len);
     do {
