@@ -22,12 +22,12 @@ export function codeOf(character) {
   return `U+${character.codePointAt(0).toString(16).toUpperCase().padStart(4, "0")}`;
 }
 
-/** A line of the break test: a sign for each position, a code between two, and the rules. */
+/** A line of the break test, which tells no required break from others: a sign for each position, and then the rules. */
 export function testLine(text, positions) {
   const words = [];
   const rules = [];
   for (const { at, kind, rule } of positions) {
-    words.push(SIGNS[kind]);
+    words.push(kind === "no" ? "×" : "÷");
     rules.push(rule);
     const code = text.codePointAt(at);
     if (code !== undefined) words.push(code.toString(16).toUpperCase().padStart(4, "0"));

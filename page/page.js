@@ -52,14 +52,15 @@ function fillExamples() {
   });
 }
 
-/** Has the text of a file that is dropped on the field read, and `taken` called with it. */
+/** Has a file that is dropped anywhere read as the text, and `taken` called with what is to be said of it. */
 function takeFiles(taken) {
-  field.addEventListener("dragover", (event) => {
+  document.addEventListener("dragover", (event) => {
+    if (!event.dataTransfer.types.includes("Files")) return;
     event.preventDefault();
     field.classList.add("over");
   });
-  field.addEventListener("dragleave", () => field.classList.remove("over"));
-  field.addEventListener("drop", async (event) => {
+  document.addEventListener("dragleave", () => field.classList.remove("over"));
+  document.addEventListener("drop", async (event) => {
     const [file] = event.dataTransfer.files;
     field.classList.remove("over");
     if (!file) return;

@@ -50,7 +50,7 @@ export type Source = ArrayBuffer | ArrayBufferView | Response | URL | string;
 /** The tables made from the files of the Unicode Character Database, with the module that decides by them. */
 export class Table {
   /**
-   * A table saved by `save_table` of the C library, or one that `pack.js` made of it, compressed by gzip or not. The module
+   * A table saved by `save_table` of the C library, or one that `pack.js` made, compressed by gzip or not. The module
    * checks its digest.
    * @param saved The bytes of the table, or where they are.
    * @param module The module `lbk.wasm`; the one beside this file unless given.
@@ -64,13 +64,13 @@ export class Table {
    * @param files The URL or, in Node, the path of a folder with `LineBreak.txt`, `EastAsianWidth.txt`,
    *   `extracted/DerivedGeneralCategory.txt` and `emoji/emoji-data.txt`; or these four files, in this order.
    * @param module The module `lbk.wasm`; the one beside this file unless given.
-   * @throws RangeError if the files are others.
+   * @throws RangeError if that would make another table of the files than of those published.
    */
   static fromFiles(files: URL | string | readonly Source[], module?: Source): Promise<Table>;
 
   /**
    * The breaks of a text, in their order. The last is the text's end; an empty text has none. Of a text of any size the
-   * module holds 64 KB at a time.
+   * module holds 64 KB at a time, and of a string 256 KB, or more where so much has no break.
    */
   breaks(text: Text, options?: Options): IterableIterator<Break>;
   /** All positions of a text, the start and the end among them, with what decided each. The module holds the whole text. */

@@ -2,6 +2,7 @@
 import { Table as Packaged } from "/package/lbk.js";
 import { Words } from "/package/words.js";
 import { EXAMPLES } from "/page/examples.js";
+import { testLine } from "/page/notation.js";
 import { Table } from "/page/lbk.js";
 
 const results = [];
@@ -183,13 +184,15 @@ async function tryPage(table) {
   say("the profile changes positions", signs(page) === first ? "they are the same" : "");
   const files = new page.window.DataTransfer();
   files.items.add(new page.window.File(["dropped text"], "text.txt"));
-  page.find("text").dispatchEvent(new page.window.DragEvent("drop", { dataTransfer: files, cancelable: true }));
+  page.find("text").dispatchEvent(new page.window.DragEvent("drop", { dataTransfer: files, cancelable: true, bubbles: true }));
   await untilTrue(() => page.find("text").value === "dropped text", "the text of a dropped file");
   say("a file can be dropped");
   write(page, "word ".repeat(200_000));
   equal("a long text is cut, and the page says so", page.find("cut").textContent, "The first 4000 positions are shown, and 996001 are not.");
   equal("and so are the columns", page.find("ours").textContent.length, 3999);
   tryExamples(page, table);
+  const line = testLine("a\u{1F600} b", table.positions("a\u{1F600} b"));
+  equal("a line of the break test is written", line, "× 0061 ÷ 1F600 × 0020 ÷ 0062 ÷\t# 2 31 7 18 3");
   write(page, "one two three four five six seven eight nine ten");
   page.find("width").value = "120";
   page.find("width").dispatchEvent(new page.window.Event("input"));

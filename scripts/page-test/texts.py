@@ -8,6 +8,7 @@ import subprocess
 from pathlib import Path
 
 SEED = 36
+SIZE = 1_000_000
 ROOM = 64
 # The letters of made-up texts of a million bytes, the most of them in a word, and what stands between words.
 SCRIPTS = {
@@ -61,16 +62,16 @@ def short_strings(draw, count):
 
 
 def write_texts(here, folder, given):
-    """The texts that are tried, as files: those given, those of the database, and made-up ones."""
+    """The texts that are tried, as files: those of the database, made-up ones, and the first million bytes of those given."""
     draw = random.Random(SEED)
-    made = {name: made_text(draw, *how, 1_000_000) for name, how in SCRIPTS.items()}
-    made |= {"published-test": "\n".join(test_lines(folder)).encode("utf-8", "replace"), "ill-formed": random_bytes(draw, 1_000_000)}
+    made = {name: made_text(draw, *how, SIZE) for name, how in SCRIPTS.items()}
+    made |= {"published-test": "\n".join(test_lines(folder)).encode("utf-8", "replace"), "ill-formed": random_bytes(draw, SIZE)}
     made |= {"empty": b"", "one-byte": b"a"}
+    made |= {f"first-of-{Path(it).name}": Path(it).read_bytes()[:SIZE] for it in given}
     for name, text in made.items():
         (here / name).write_bytes(text)
     print(f"made-up texts are of the seed {SEED}")
-    texts = [*given, folder / "NamesList.txt", folder / "LineBreak.txt", *(here / it for it in made)]
-    return [Path(it).resolve() for it in texts]
+    return [folder / "NamesList.txt", folder / "LineBreak.txt", *(here / it for it in made)]
 
 
 def decide_texts(here, texts):
