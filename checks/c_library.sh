@@ -382,16 +382,16 @@ else
     left_out 'rustc is not there'
 fi
 
-# The programs of README.md and docs/c.md, each in a block after its name, and in the next block what it prints. A block
+# The programs of README.md, docs/c.md and docs/coming-from.md, each in a block after its name, and in the next block what it prints. A block
 # without a name is a part of one of these.
 try_page() {
     local name build run
     if [ -z "${LBK_DATABASE:-}" ]; then
-        left_out 'texts.py, embedded and the programs of README.md and docs/c.md, which take the published files'
+        left_out 'texts.py, embedded, packages/linebreak and the programs of the pages, which take the published files'
         return
     fi
     mkdir "$here/page"
-    python3 - "$here/page" "$LBK_DATABASE" "$top/README.md" "$top/docs/c.md" > "$here/programs" << 'PYTHON'
+    python3 - "$here/page" "$LBK_DATABASE" "$top/README.md" "$top"/docs/{c,coming-from}.md > "$here/programs" << 'PYTHON'
 import re
 import sys
 
