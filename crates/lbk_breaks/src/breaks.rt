@@ -68,8 +68,8 @@ impl<'a, C: CellSource> Breaks<'a, C> {
         }
     }
 
-    /// Puts the next breaks into the front of the block, as many as it holds or all that are left, and answers how
-    /// many: 0 at the end, or where the block has no room. What stands in the block behind them is of no account.
+    /// Puts the next breaks into the front of the block, as many as it holds or all that are left, and returns how
+    /// many: 0 at the end, or where the block has no room. What stands in the block after them is of no account.
     pub fn fill(&mut self, block: &mut [Break]) -> usize
         ensures count { result ≡ min (length block.old) (length self.old) }
         ensures front { take result block.new ≡ take result self.old }

@@ -15,7 +15,7 @@ pub(crate) struct FilledTo {
     pub(crate) at: usize,
 }
 
-/// Writes what the rules say of the position at a byte behind the breaks in the front of the block, and answers how
+/// Writes what the rules say of the position at a byte after the breaks in the front of the block, and returns how
 /// many these are now: one more, if it is a break.
 #[inline(always)]
 pub(crate) fn put(block: &mut [Break], count: usize, at: usize, verdict: Verdict) -> usize

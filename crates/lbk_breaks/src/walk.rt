@@ -43,7 +43,7 @@ impl<'a, C: CellSource> Walk<'a, C> {
     }
 
     /// Takes scalars of a text from the byte `start` on, until the block is full or the text ends, and writes the breaks
-    /// before them into the front of the block, and that at the text's end behind them.
+    /// before them into the front of the block, and that at the text's end after them.
     pub(crate) fn fill(&mut self, text: &str, start: usize, block: &mut [Break]) -> Filling
         requires { IsCharBoundary text.now start }
         ensures place { IsCharBoundary text.now result.at }
