@@ -16,6 +16,8 @@ const WINDOW = 65536;
 /** How many units of a string are, and how many of its breaks are asked for at once. */
 const UNITS_WINDOW = 131072;
 const UNITS_ROOM = 1024;
+/** For how many positions columns get room before these are found. */
+const MOST_EXPECTED = 1 << 22;
 const STATE_SIZE = 16;
 const STREAM_SIZE = 32;
 const FED_SIZE = 16;
@@ -36,16 +38,22 @@ function profileNumber({ profile = 1 } = {}) {
 
 /** The columns of positions, which grow as positions are added. */
 class ColumnsBuilder {
-  constructor(room) {
+  constructor(room = 16) {
     this.size = 0;
     this.at = new Uint32Array(room);
     this.kind = new Uint8Array(room);
     this.rule = new Uint8Array(room);
   }
 
+  /** Makes room for the positions of a text, of which a share was gone through, if the rest has as many. */
+  expect(share) {
+    const all = Math.min(MOST_EXPECTED, Math.ceil((1.05 * this.size) / share));
+    if (all > this.at.length) this.#grow(all);
+  }
+
   /** Adds the first `count` positions of a block, counted from `base` on, with their places in units where these are counted. */
   add(rows, count, units, base = 0) {
-    this.#reserve(count);
+    if (this.size + count > this.at.length) this.#grow(2 * (this.size + count));
     const { at, kind, rule, size } = this;
     for (let k = 0; k < count; k++) {
       const code = rows[4 * k + 2];
@@ -57,9 +65,7 @@ class ColumnsBuilder {
     units?.convert(at.subarray(size, this.size));
   }
 
-  #reserve(more) {
-    if (this.size + more <= this.at.length) return;
-    const room = 2 * (this.size + more);
+  #grow(room) {
     for (const name of ["at", "kind", "rule"]) {
       const grown = new this[name].constructor(room);
       grown.set(this[name]);
@@ -281,7 +287,7 @@ export class Table {
   /** The breaks, with a piece of the text in memory at a time. */
   #feed(text, profile) {
     const machine = this.#machine;
-    const columns = new ColumnsBuilder(Math.max(16, text.length >> 2));
+    const columns = new ColumnsBuilder();
     const units = typeof text === "string" ? new UnitCounter() : null;
     machine.startStream(profile);
     let [from, base] = [0, 0];
@@ -290,6 +296,7 @@ export class Table {
       from += read;
       units?.begin(machine.memory.bytes(machine.text, written), read, base);
       this.#feedPiece(written, from === text.length, columns, units);
+      if (base === 0) columns.expect(from / text.length);
       units?.end(machine.heldAt());
       base += written;
     } while (from < text.length);
@@ -308,7 +315,7 @@ export class Table {
   /** The breaks of a string, with a window of its units in memory at a time. */
   #unitBreaks(text, profile) {
     const machine = this.#machine;
-    const columns = new ColumnsBuilder(Math.max(16, text.length >> 1));
+    const columns = new ColumnsBuilder();
     machine.startState(profile);
     let [from, size, room] = [0, UNITS_WINDOW, UNITS_ROOM];
     for (;;) {
@@ -316,6 +323,7 @@ export class Table {
       this.#windowBreaks(loaded, room, from, from + loaded === text.length, columns);
       if (machine.hasEnded) return columns.finish();
       const taken = machine.dropTaken();
+      if (from === 0 && taken > 0) columns.expect(taken / text.length);
       from += taken;
       // Where no block was full, breaks are asked for one by one, and where none is found more has to be seen at once.
       if (taken === 0 && room === 1) size *= 2;

@@ -109,7 +109,8 @@ def driver():
 
 def try_pointers(count, page):
     page.point("mouse", (page.find("#position-3"), 0, 0))
-    count.equal("chromedriver: hovering shows a position", page.text("#detail").partition(".")[0], "÷ A line may break between a space (U+0020) and “c” (U+0063), at 3")
+    said = page.text("#detail").partition(".")[0]
+    count.equal("chromedriver: hovering shows a position", said, "÷ A line may break between a space (U+0020) and “c” (U+0063), at 3")
     page.point("touch", (page.find("#position-1"), 0, 0), "down", "up")
     count.equal("chromedriver: a finger shows a position", page.text("#detail .rule"), "Rule LB28")
     before = page.run("return document.getElementById('theirs').offsetWidth")
@@ -136,7 +137,8 @@ def try_keys(count, page):
             until(lambda: page.text("#done") != "")
     wanted = ["example", "profile", "text", "positions", "copy", "link"]
     count.equal("chromedriver: keys reach each control in order", [it for it in reached if it in wanted], wanted)
-    count.say("chromedriver: the page says whether it copied", "" if page.text("#done").startswith(("The line copied", "This browser")) else page.text("#done"))
+    said = page.text("#done")
+    count.say("chromedriver: the page says whether it copied", "" if said.startswith(("The line copied", "This browser")) else said)
 
 
 def try_names(count, page):
@@ -148,7 +150,8 @@ def try_names(count, page):
     count.equal("chromedriver: what a screen reader reads has names", unnamed, [])
     seen = {it: roles.count(it) for it in ("main", "textbox", "listbox", "slider", "button")}
     count.equal("chromedriver: a screen reader finds each control", seen, {"main": 1, "textbox": 1, "listbox": 1, "slider": 1, "button": 2})
-    count.equal("chromedriver: each position is an option with its rule", [name for role, name in rows if role == "option" and "rule" in name][:2], ["No break, rule 2", "No break, rule 28"])
+    options = [name for role, name in rows if role == "option" and "rule" in name]
+    count.equal("chromedriver: each position is an option with its rule", options[:2], ["No break, rule 2", "No break, rule 28"])
 
 
 def try_schemes(count, page):

@@ -110,8 +110,8 @@ async function trySpeed(table) {
     const share = [whole, pieces].map((it) => `${(ours / it).toFixed(2)} of`);
     const ofBytes = `columns ${ours} MB/s, ${share[0]} lbk_breaks and ${share[1]} lbk_feed in C (${whole}, ${pieces})`;
     const beside = icu ? `, ICU ${icu}` : "";
-    const isSlow = icu && 2 * ours < whole;
-    say(`speed over ${name}: ${ofBytes}; of a string ${ofString}${beside}`, ofString <= icu ? "slower than ICU" : isSlow ? "less than half" : "");
+    const isSlow = icu && 4 * ours < whole;
+    say(`speed over ${name}: ${ofBytes}; of a string ${ofString}${beside}`, ofString <= icu ? "slower than ICU" : isSlow ? "less than a quarter" : "");
   }
 }
 

@@ -16,7 +16,7 @@ SCRIPTS = {
     "cyrillic": ("абвгдежзиклмнопрстухцчшщыэюя", 11, [" ", " ", ", ", ". ", " — ", " „", "“ ", "\n", " №5 "]),
     "japanese": ("あいうえおかきくけこっゃアイウ日本語東京改行", 7, ["、", "。", "「", "」", "ー", "\n", " ", "100%"]),
     "korean": ("가각간대한민국은공화주의이다", 6, [" ", " ", ", ", ". ", "(", ") ", "\n", "2024년 "]),
-    "hindi": ("कखगघचछजझटठडढणतथदधनपफबभमयरलवशसहािीुूेैोौ्ं", 8, [" ", " ", "। ", ", ", "-", "\n", "\u200d"]),
+    "hindi": ("कखगघचजटडणतदधनपबभमयरलवशसहािीुूेैोौ्ं", 8, [" ", " ", "। ", ", ", "-", "\n", "\u200d"]),
 }
 
 
@@ -65,8 +65,8 @@ def write_texts(here, folder, given):
     """The texts that are tried, as files: those of the database, made-up ones, and the first million bytes of those given."""
     draw = random.Random(SEED)
     made = {name: made_text(draw, *how, SIZE) for name, how in SCRIPTS.items()}
-    made |= {"published-test": "\n".join(test_lines(folder)).encode("utf-8", "replace"), "ill-formed": random_bytes(draw, SIZE)}
-    made |= {"empty": b"", "one-byte": b"a"}
+    made["published-test"] = "\n".join(test_lines(folder)).encode("utf-8", "replace")
+    made |= {"ill-formed": random_bytes(draw, SIZE), "empty": b"", "one-byte": b"a"}
     made |= {f"first-of-{Path(it).name}": Path(it).read_bytes()[:SIZE] for it in given}
     for name, text in made.items():
         (here / name).write_bytes(text)

@@ -51,7 +51,8 @@ test("the lines of the published test, and strings with lone surrogates", () => 
     const breaks = found.filter((it) => it.kind !== "no");
     assert.deepEqual([...table.breaks(text, { profile })], breaks, JSON.stringify(text));
     // (the same string after a character that is not ASCII goes another way)
-    assert.deepEqual(table.breakColumns(`é\n${text}`, { profile }).at.map((at) => at - 2).subarray(1), Uint32Array.from(breaks, (it) => it.at));
+    const after = [...table.breakColumns(`é\n${text}`, { profile }).at].slice(1);
+    assert.deepEqual(after, breaks.map((it) => it.at + 2));
   }
 });
 
@@ -64,9 +65,9 @@ function seeFiftyCopies(text, copies) {
   for (let copy = 0; copy < 50; copy++) {
     for (let k = 0; k < count; k++) {
       const place = copy * count + k;
-      if (found.at[place] !== copy * text.length + once.at[k] || found.kind[place] !== once.kind[k] || (k < count - 1 && found.rule[place] !== once.rule[k])) {
-        assert.fail(`break ${place}`);
-      }
+      const isSame = found.at[place] === copy * text.length + once.at[k] && found.kind[place] === once.kind[k];
+      // (the end of a text is one by another rule)
+      if (!isSame || (k < count - 1 && found.rule[place] !== once.rule[k])) assert.fail(`break ${place}`);
     }
   }
 }
@@ -103,8 +104,9 @@ test("the table of four property files is the one of the library, byte for byte"
 test("other property files are refused", async () => {
   const files = FILES.map((name) => readFileSync(join(process.env.LBK_UNICODE, name)));
   const edited = (k, from, to) => files.with(k, Buffer.from(files[k].toString().replace(from, to)));
-  const wrong = [files.slice(1), [...files, files[0]], files.toReversed(), files.with(2, new Uint8Array(0)), edited(0, "0028;OP", "0028;CL")];
-  wrong.push(edited(0, "0028;OP", "0028;QQ"), edited(1, "FF08;F", "FF08;N"), edited(3, "1FC00..1FFFD", "1FC00"));
+  const wrong = [files.slice(1), [...files, files[0]], files.toReversed(), files.with(2, new Uint8Array(0))];
+  wrong.push(edited(0, "0028;OP", "0028;CL"), edited(0, "0028;OP", "0028;QQ"));
+  wrong.push(edited(1, "FF08;F", "FF08;N"), edited(3, "1FC00..1FFFD", "1FC00"));
   for (const given of wrong) await assert.rejects(Table.fromFiles(given), RangeError);
   await assert.rejects(Table.fromFiles("/absent"), { code: "ENOENT" });
 });
