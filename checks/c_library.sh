@@ -310,8 +310,11 @@ if [ ${#unibreak[@]} != 0 ]; then
     try_no_table 'a table that is not whole' "$table" "$table: it is no whole table: write it with examples/save_table.c of lbk $(pkg-config --modversion lbk)"
     try_no_table 'no table' "$here/none" "$here/none: No such file or directory: put the table there that this library was built for"
     mkdir "$here/files"
-    cp -rs "$ucd/." "$here/files"
-    rm "$here/files/extracted/DerivedGeneralCategory.txt"
+    cp -s "${names[@]/#/$ucd/}" "$here/files"
+    tried 'packages/unibreak: build for four files' "$top/packages/unibreak/build" "$here/files" "$here/unibreak-files"
+    count 'packages/unibreak: trying.c with four files' env LD_LIBRARY_PATH="$here/unibreak-files/lib" "$here/built/unibreak"
+    mkdir "$here/files/extracted"
+    rm "$here/files/DerivedGeneralCategory.txt"
     try_no_table 'a folder that lacks a file' "$here/files" "$here/files/extracted/DerivedGeneralCategory.txt: No such file or directory: $remedy"
     head -n 100 "$ucd/extracted/DerivedGeneralCategory.txt" > "$here/files/extracted/DerivedGeneralCategory.txt"
     try_no_table 'a folder with a part of a file' "$here/files" \

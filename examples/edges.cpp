@@ -115,6 +115,7 @@ static void try_ranges(const lbk_table &table)
     told("the breaks of UTF-32", unit_places(lbk::breaks_utf32(table, U"a \x1F600\nb \x110000 ")) == these{2, 4, 6, 8});
     told("profiles differ in UTF-16", unit_places(lbk::breaks_utf16(table, u"a \u00AB b", lbk::profile::first)) == these{2, 4, 5}
                                           && unit_places(lbk::breaks_utf16(table, u"a \u00AB b", lbk::profile::second)) == these{2, 5});
+    told("the breaks of wide characters", unit_places(lbk::breaks_wide(table, L"a \x1F600\nb \x110000 ")) == these{2, 4, 6, 8});
     told("no break of no units", unit_places(lbk::breaks_utf16(table, u"")).empty() && unit_places(lbk::breaks_utf32(table, U"")).empty());
     told("labels", lbk::label(LBK_RULE_8A) == "8a" && lbk::label(255).empty());
 }

@@ -569,6 +569,14 @@ inline std::size_t next_breaks(const lbk_table *table, lbk_state *state, const c
     return lbk_breaks_utf32(table, state, reinterpret_cast<const std::uint32_t *>(text), size, block, room);
 }
 
+/// A wide character is a number of 32 bits wherever the library is.
+inline std::size_t next_breaks(const lbk_table *table, lbk_state *state, const wchar_t *text, std::size_t size, lbk_break *block,
+                               std::size_t room) noexcept
+{
+    static_assert(std::is_same_v<std::make_unsigned_t<wchar_t>, std::uint32_t>);
+    return lbk_breaks_utf32(table, state, reinterpret_cast<const std::uint32_t *>(text), size, block, room);
+}
+
 /// The breaks of a text of units, as lbk::breaks are those of a text in UTF-8. Places are in units.
 template <typename Unit>
 class unit_breaks {
@@ -625,6 +633,9 @@ using breaks_utf16 = detail::unit_breaks<char16_t>;
 
 /// The breaks of a text in UTF-32 in their order. A unit that is no scalar value is read as U+FFFD.
 using breaks_utf32 = detail::unit_breaks<char32_t>;
+
+/// The same of wide characters.
+using breaks_wide = detail::unit_breaks<wchar_t>;
 
 } // namespace lbk
 

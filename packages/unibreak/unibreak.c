@@ -18,7 +18,7 @@
 #error "name the table: -DLBK_TABLE='\"/usr/share/unicode\"'"
 #endif
 
-enum { ROOM = 256, FILES = 4 };
+enum { ROOM = 256, FILES = 4, PATH_SIZE = sizeof LBK_TABLE + 48 };
 
 typedef struct bytes {
     char *at; /* NULL where there are none */
@@ -56,6 +56,20 @@ static bytes read_file(const char *path)
     return file;
 }
 
+/* A file of the folder, whose path is given back: where Unicode has it, or else beside the others. */
+static bytes find_file(const char *name, char path[PATH_SIZE])
+{
+    const char *last = strrchr(name, '/');
+    snprintf(path, PATH_SIZE, "%s/%s", LBK_TABLE, name);
+    bytes file = read_file(path);
+    if (file.at == NULL && errno == ENOENT && last != NULL) {
+        char beside[PATH_SIZE];
+        snprintf(beside, sizeof beside, "%s%s", LBK_TABLE, last);
+        file = read_file(beside);
+    }
+    return file;
+}
+
 /* The table of four files of a folder, or NULL after a complaint. */
 static const lbk_table *read_files(bytes *files)
 {
@@ -63,10 +77,9 @@ static const lbk_table *read_files(bytes *files)
         "emoji/emoji-data.txt"};
     static const char remedy[] = "install the files of Unicode 15.0 (Debian: unicode-data)";
     static lbk_table read;
-    char path[sizeof LBK_TABLE + 48];
+    char path[PATH_SIZE];
     for (int k = 0; k < FILES; k++) {
-        snprintf(path, sizeof path, "%s/%s", LBK_TABLE, names[k]);
-        files[k] = read_file(path);
+        files[k] = find_file(names[k], path);
         if (files[k].at == NULL) {
             complain(path, strerror(errno), remedy);
             return NULL;
@@ -76,9 +89,9 @@ static const lbk_table *read_files(bytes *files)
         files[2].size, files[3].at, files[3].size);
     if (fault.cause == LBK_CAUSE_NONE)
         return &read;
-    if (fault.file >= 1 && fault.file <= FILES)
-        snprintf(path, sizeof path, "%s/%s", LBK_TABLE, names[fault.file - 1]);
-    complain(fault.file == 0 ? LBK_TABLE : path, lbk_cause_text(fault.cause).text, remedy);
+    if (fault.file != LBK_NO_FILE)
+        snprintf(path, sizeof path, "%s/%s", LBK_TABLE, names[fault.file - LBK_LINE_BREAK]);
+    complain(fault.file == LBK_NO_FILE ? LBK_TABLE : path, lbk_cause_text(fault.cause).text, remedy);
     return NULL;
 }
 
@@ -169,10 +182,10 @@ void set_linebreaks_utf16(const utf16_t *s, size_t len, const char *lang, char *
     (void)lang;
     if (!is_known(brks, len))
         return;
-    for (size_t k = 0; k < len; k++) {
-        int is_pair = k + 1 < len && (s[k] & 0xFC00) == 0xD800 && (s[k + 1] & 0xFC00) == 0xDC00;
-        brks[k] = is_pair ? LINEBREAK_INSIDEACHAR : LINEBREAK_NOBREAK;
-    }
+    memset(brks, LINEBREAK_NOBREAK, len);
+    for (size_t k = 1; k < len; k++)
+        if ((s[k - 1] & 0xFC00) == 0xD800 && (s[k] & 0xFC00) == 0xDC00)
+            brks[k - 1] = LINEBREAK_INSIDEACHAR;
     do {
         count = lbk_breaks_utf16(table, &state, s, len, block, ROOM);
         set_marks(block, count, brks);
