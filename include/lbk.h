@@ -394,8 +394,9 @@ lbk_class_label lbk_class(const lbk_table *table, uint32_t scalar);
 lbk_text lbk_version(void);
 
 /* Whether a table is whole: its layout is LBK_LAYOUT, and its digest is that of its other bytes. True of each table that
- * lbk_read of this version filled, and of each copy of one. Bytes that changed by accident are found in all but rare cases; the
- * digest is no defence against bytes that someone chose. A table need not be whole to be safe to use. */
+ * lbk_read of this version filled, and of each copy of one. Other values in one of its numbers are always found, since no step
+ * of the digest (FNV-1a, 64 bits) leads two numbers to one digest; several by accident hide by a chance of some 1 in 2^64. It is
+ * no defence against bytes that someone chose. A table need not be whole to be safe to use. */
 bool lbk_check(const lbk_table *table);
 
 #if defined(__cplusplus)

@@ -6,6 +6,8 @@ mod broken_text;
 #[cfg(test)]
 mod guide;
 #[cfg(test)]
+mod owned_passages;
+#[cfg(test)]
 mod passages_of_a_reader;
 #[cfg(test)]
 mod test_lines;

@@ -9,7 +9,7 @@ use Rattle.lbk_values.specs.declared.profile.Profile.{Profile}
 use Rattle.lbk_rules.specs.Verdict.{verdict_between_in}
 use Rattle.lbk_passage.specs.Breaks.{breaks_from}
 use Rattle.lbk_passage.specs.Marks.{Marked, marks_behind, scalars_of}
-use Rattle.lbk_passage.specs.Passages.{passages}
+use Rattle.lbk_passage.specs.Passages.{cut_after, ends_passage, passages}
 use Rattle.lbk_passage.proofs.Together.{passages-breaks, passages-end, passages-marks, passages-only, passages-scalars}
 use Rattle.lbk_notation.proofs.Lengths.{says}
 use Rattle.lbk_files.specs.Cells.{AreCellsOf, cell_of_files}
@@ -46,6 +46,12 @@ marks-same profile a b before (c ∷ cs) same all more =
     (cells-same a b cs same more.1)
     ∙ ap (λ l. record { scalar = c; after = verdict_between_in profile (map b (before ++ c ∷ [])) (map b cs) } ∷ l)
     (marks-same profile a b (before ++ c ∷ []) cs same so_far more.1)
+
+pub passages-same : (files : Files) (profile : Profile) (cell : ℕ → Cell) (text : List ℕ) → AreCellsOf files cell → AllScalars text
+    → passages profile cell text ≡ passages profile (cell_of_files files) text
+unfolding passages
+passages-same files profile cell text cells all =
+    ap (cut_after ends_passage) (marks-same profile cell (cell_of_files files) [] text cells tt all)
 
 -- each passage's line is read back
 

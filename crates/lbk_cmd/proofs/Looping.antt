@@ -1,5 +1,5 @@
 -- The loop of an engine: what was read and what was written, from passage to passage.
-use Rattle.std.proofs.Common.{◌≡◌, ℕ, ◌+◌, ◌<◌, ◌≤◌, Bool, true, false, ◌||◌, ◌⊎◌, List, [], ◌++◌, length, take, Option, None, Some, Result, Ok, Err, refl, sym, ap, subst, ◌∙◌, arith, inl, ⊎_elim, length-append, append_assoc, append-nil}
+use Rattle.std.proofs.Common.{◌≡◌, ℕ, ◌+◌, ◌<◌, ◌≤◌, Bool, true, false, ◌||◌, ◌⊎◌, List, [], ◌∷◌, ◌++◌, length, take, Option, None, Some, Result, Ok, Err, refl, sym, ap, subst, ◌∙◌, arith, inl, ⊎_elim, length-append, append_assoc, append-nil}
 use Rattle.std.proofs.Math.Seq.{take-append-add, take-append_seam}
 use Rattle.std.proofs.lemmas.Bool.{cases_lt, false≢true}
 use Rattle.std.specs.Io.KnownBytes.{Appends, Consumes, IsAtEnd}
@@ -15,7 +15,7 @@ use Rattle.lbk_passage.specs.declared.passage.Passage.{Passage}
 use Rattle.lbk_cmd.specs.Run.{Engine, IsRun, KeepsUp, is_failed_read}
 use Rattle.lbk_cmd.specs.declared.faults.CmdFault.{CmdFault}
 use Rattle.lbk_cmd.specs.declared.faults.CmdFault.TheVariants as cmd
-use Rattle.lbk_cmd.proofs.Running.{Standing, Standing-new, Standing-next, given_now, passage_now, start_now}
+use Rattle.lbk_cmd.proofs.Running.{Standing, Standing-new, Standing-new-given, Standing-next, Standing-next-given, given_now, passage_now, start_now}
 use Rattle.lbk_cmd.proofs.KeepingUp.{keeps_none, keeps_written, keeps_next}
 use Rattle.lbk_cmd.proofs.Stopping.{stopped, run_whole, run_fault}
 
@@ -66,6 +66,10 @@ module _ (e : Engine) (u0 w0 : Option (List ℕ)) (reads0 : ℕ) where
     keeps_up = keeps_none e reads0;
   }
 
+  pub Going-new-given : (s : State) (has_ended : Bool) (is : s ≡ new_state e.cell e.profile e.limit) → (Going-new s has_ended is).standing.given ≡ []
+  unfolding Going-new
+  Going-new-given s has_ended is = Standing-new-given e s is
+
   module _ (s t : State) (u v w : Option (List ℕ)) (e1 e2 : Bool) (r1 r2 : ℕ) (g : Going s u w e1 r1) where
     -- the reads of a call, where `all` are the bytes held in the end and those given
     module _ (all : List ℕ) (stops : Bool) (each : (stops || t.is_ended) ≡ false → r2 + length s.held ≤ r1 + length all)
@@ -100,7 +104,32 @@ module _ (e : Engine) (u0 w0 : Option (List ℕ)) (reads0 : ℕ) where
       took_now : Consumes u0 v (g.bytes ++ a.got)
       took_now = Consumes-trans u0 u v g.bytes a.got g.took (kept_took _ _ _ a.grown u v a.ahead_kept)
 
-      -- a passage was given, and its lines were not written, or not all of them
+      -- a passage was given, and its lines were written
+      pub Going-given : (w' : Option (List ℕ)) → Appends w w' (e.lines s.start (given_now e s g.bytes g.out g.standing t u v e1 e2 r1 r2 p a))
+          → Going t v w' e2 r2
+      Going-given w' wrote =
+          let line = e.lines s.start (given_now e s g.bytes g.out g.standing t u v e1 e2 r1 r2 p a) in
+          record {
+            bytes = g.bytes ++ a.got;
+            out = g.out ++ line;
+            took = took_now;
+            put = Appends-trans w0 w w' g.out line g.put wrote;
+            standing = Standing-next e s g.bytes g.out g.standing t u v e1 e2 r1 r2 p a;
+            agrees = a.agrees g.agrees;
+            paid = λ open_end.
+                (let few = paid_reads (p.text.now ++ t.held) false a.costs.each_gave a.costs.within
+                (λ h. ((a.quiet h).0, (a.quiet h).1, (a.quiet h).2)) refl open_end in
+                omega (arith, few, a.start, length-append p.text.now t.held));
+            most = most_reads (Ok (Some p)) a;
+            keeps_up = keeps_written e reads0 r2 (g.bytes ++ a.got) g.out line (keeps_now (Ok (Some p)) a);
+          }
+
+      pub Going-given-is : (w' : Option (List ℕ)) (wrote : Appends w w' (e.lines s.start (given_now e s g.bytes g.out g.standing t u v e1 e2 r1 r2 p a)))
+          → (Going-given w' wrote).standing.given ≡ g.standing.given ++ given_now e s g.bytes g.out g.standing t u v e1 e2 r1 r2 p a ∷ []
+      unfolding Going-given
+      Going-given-is w' wrote = Standing-next-given e s g.bytes g.out g.standing t u v e1 e2 r1 r2 p a
+
+      -- its lines were not written, or not all of them
       module _ (line : List ℕ) (is : (ms : List Marked) → s.cell ≡ e.cell → s.profile ≡ e.profile → IsPassage s ms p → line ≡ e.lines p.start ms) where
         line_is : line ≡ e.lines s.start (given_now e s g.bytes g.out g.standing t u v e1 e2 r1 r2 p a)
         line_is =
@@ -113,20 +142,7 @@ module _ (e : Engine) (u0 w0 : Option (List ℕ)) (reads0 : ℕ) where
             subst (λ l. Standing e t (g.bytes ++ a.got) (g.out ++ l)) (sym line_is) (Standing-next e s g.bytes g.out g.standing t u v e1 e2 r1 r2 p a)
 
         pub Going-next : (w' : Option (List ℕ)) → Appends w w' line → Going t v w' e2 r2
-        Going-next w' wrote = record {
-          bytes = g.bytes ++ a.got;
-          out = g.out ++ line;
-          took = took_now;
-          put = Appends-trans w0 w w' g.out line g.put wrote;
-          standing = standing_now;
-          agrees = a.agrees g.agrees;
-          paid = λ open_end.
-              (let few = paid_reads (p.text.now ++ t.held) false a.costs.each_gave a.costs.within
-              (λ h. ((a.quiet h).0, (a.quiet h).1, (a.quiet h).2)) refl open_end in
-              omega (arith, few, a.start, length-append p.text.now t.held));
-          most = most_reads (Ok (Some p)) a;
-          keeps_up = keeps_written e reads0 r2 (g.bytes ++ a.got) g.out line (keeps_now (Ok (Some p)) a);
-        }
+        Going-next w' wrote = Going-given w' (subst (Appends w w') line_is wrote)
 
         pub ran_write : (X : Type 0) (w' : Option (List ℕ)) (n : ℕ) → Appends w w' (take n line)
             → Ran false u0 v w0 w' (IsRun {X = X} e reads0 r2 e2 (Err cmd.Write))

@@ -64,22 +64,26 @@ module _ (e : Engine) where
 
   -- before any call
   pub Standing-new : (s : State) → s ≡ new_state e.cell e.profile e.limit → Standing s [] []
-  Standing-new s is = subst (λ (t : State). Standing t [] []) (sym is) (record {
+  Standing-new s is = record {
     scalars = [];
     given = [];
-    cell = refl;
-    profile = refl;
-    limit = refl;
-    unspent = refl;
+    cell = ap (λ (t : State). t.cell) is;
+    profile = ap (λ (t : State). t.profile) is;
+    limit = ap (λ (t : State). t.limit) is;
+    unspent = ap (λ (t : State). t.is_spent) is;
     utf8 = IsUtf8-nil;
-    bytes_are = refl;
-    start = refl;
-    few = omega arith;
+    bytes_are = sym (ap (λ (t : State). t.held) is);
+    start = ap (λ (t : State). t.start) is;
+    few = let none = ap (λ (t : State). t.start) is in omega (arith, none);
     joined = refl;
     within = tt;
     is = refl;
     stands = fresh refl refl;
-  })
+  }
+
+  pub Standing-new-given : (s : State) (is : s ≡ new_state e.cell e.profile e.limit) → (Standing-new s is).given ≡ []
+  unfolding Standing-new
+  Standing-new-given s is = refl
 
   module _ (s : State) (bytes out : List ℕ) (st : Standing s bytes out) where
     -- a passage of more text begins behind those given
@@ -178,6 +182,10 @@ module _ (e : Engine) where
               ∙ sym (lines_from-snoc e.lines 0 st.given lent.marks);
           stands = stands_now;
         }
+
+        pub Standing-next-given : Standing-next.given ≡ st.given ++ given_now ∷ []
+        unfolding Standing-next given_now lent
+        Standing-next-given = refl
 
         -- the marks of the passage are those that an engine writes by
         pub passage_now : IsPassage s given_now p

@@ -143,21 +143,33 @@ module _ (e : Engine) where
 
     module _ (t : State) (u v : Option (List ℕ)) (e1 e2 : Bool) (r1 r2 : ℕ) where
       -- the text was read to its end
-      pub run_whole : (a : AfterNext s t u v e1 e2 r1 r2 (Ok None)) → IsWhole e (bytes ++ a.got) out
-      run_whole a =
-          let done : IsDone t = a.answer in
-          let none : s.held ++ a.got ≡ [] = sym a.grown ∙ done.none in
-          whole_at (bytes ++ a.got)
-          (ap (λ l. l ++ a.got) st.bytes_are ∙ append_assoc (encode_utf8_all st.scalars) s.held a.got
-          ∙ ap (λ l. encode_utf8_all st.scalars ++ l) none ∙ append-nil (encode_utf8_all st.scalars))
-          (by none st.stands)
-        where
-          by : s.held ++ a.got ≡ [] → Stands e s st.scalars st.given → passages_by e st.scalars ≡ st.given
-          by none (fresh no_scalars no_given) = ap (passages_by e) no_scalars ∙ no_passages ∙ sym no_given
-          by none (goes_on next rest held utf8 near first) =
-              let some = some_bytes next in
-              absurd (omega (arith, some, ap length none, length-append s.held a.got, ap length held, length-append (encode_utf8 next) rest))
-          by none (ended held is_at_end given) = given
+      module _ (a : AfterNext s t u v e1 e2 r1 r2 (Ok None)) where
+        none_left : s.held ++ a.got ≡ []
+        none_left = let done : IsDone t = a.answer in sym a.grown ∙ done.none
+
+        all_read : bytes ++ a.got ≡ encode_utf8_all st.scalars
+        all_read = ap (λ l. l ++ a.got) st.bytes_are ∙ append_assoc (encode_utf8_all st.scalars) s.held a.got
+            ∙ ap (λ l. encode_utf8_all st.scalars ++ l) none_left ∙ append-nil (encode_utf8_all st.scalars)
+
+        all_given : passages_by e st.scalars ≡ st.given
+        all_given = by st.stands
+          where
+            by : Stands e s st.scalars st.given → passages_by e st.scalars ≡ st.given
+            by (fresh no_scalars no_given) = ap (passages_by e) no_scalars ∙ no_passages ∙ sym no_given
+            by (goes_on next rest held utf8 near first) =
+                let some = some_bytes next in
+                absurd (omega (arith, some, ap length none_left, length-append s.held a.got, ap length held, length-append (encode_utf8 next) rest))
+            by (ended held is_at_end given) = given
+
+        pub run_whole : IsWhole e (bytes ++ a.got) out
+        run_whole = whole_at (bytes ++ a.got) all_read all_given
+
+        -- the passages given are all of the text
+        pub given_whole : st.given ≡ passages_by e (chars (bytes ++ a.got))
+        given_whole =
+            let scalars_are : chars (bytes ++ a.got) ≡ st.scalars =
+            sym (chars_from_encodes st.scalars (bytes ++ a.got) (subst IsUtf8 (sym all_read) st.utf8) (sym all_read)) in
+            sym (ap (passages_by e) scalars_are ∙ all_given)
 
       -- memory could not grow for a passage
       module _ (a : AfterNext s t u v e1 e2 r1 r2 (Err fault.Memory)) (notices : t.is_ended ≡ true → e2 ≡ true) where

@@ -10,6 +10,7 @@ pub mod Devices
 pub mod Acts
 pub mod Headline
 pub mod Broken
+pub mod Owned
 pub mod Parts
 -- What only carries proofs.
 pub mod Deciding

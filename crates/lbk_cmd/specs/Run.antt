@@ -109,9 +109,9 @@ ComesTo e ended (Err (Passage fault.Limit)) bytes out = (bytes ≡ []) × (out �
 ComesTo e ended (Err (Passage fault.Memory)) bytes out = ((bytes ≡ []) × (out ≡ [])) ⊎ IsHeldUp e ended bytes out
 ComesTo e ended (Err (Passage why)) bytes out = IsRefused e why ended bytes out
 
--- nothing is kept back: the lines of all passages that the bytes read before the last read settle were written. Behind
--- the scalars that settle them stood nothing, or the first bytes of a scalar. Each read before the last gave a byte;
--- `from` and `to` are the counts of reads before the run and after it
+-- little is kept back: of some first bytes of those read, at least one for each read but the last, the lines of all passages
+-- that they settle were written. Behind the scalars that settle them stood nothing, or the first bytes of a scalar. `from` and
+-- `to` are the counts of reads before the run and after it; which bytes a read gave is not known of every reader
 pub record KeepsUp (e : Engine) (from to : ℕ) (bytes out : List ℕ) : Type 0 where
   pub before : List ℕ
   pub last : List ℕ

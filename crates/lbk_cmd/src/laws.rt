@@ -13,9 +13,13 @@ ghost use Rattle.lbk_ucd.specs.declared.tables.Files.{Files};
 ghost use Rattle.lbk_rules.specs.declared.cells.Cell.{Cell};
 ghost use Rattle.lbk_values.specs.declared.profile.Profile.{Profile};
 ghost use Rattle.lbk_passage.specs.Joins.{AreParts, of_parts};
+ghost use Rattle.lbk_passage.specs.Next.{IsPassage};
 ghost use Rattle.lbk_passage.specs.Passages.{passages};
+ghost use Rattle.lbk_passage.specs.State.{State};
+ghost use Rattle.lbk_passage.specs.declared.passage.Passage.{Passage};
 ghost use Rattle.lbk_files.specs.Cells.{AreCellsOf};
 ghost use Rattle.lbk_cmd.specs.Headline.{ArePassagesOf};
+ghost use Rattle.lbk_cmd.specs.Owned.{AreRead, Owned, lent_as, owned_passage};
 ghost use Rattle.lbk_cmd.specs.Parts.{DiffersInLabel, lines_in, shown_in};
 ghost use Rattle.lbk_cmd.specs.Segment.{segmented_passage};
 ghost use Rattle.lbk_cmd.specs.Texts.{segment_text, show_text, signed_text};
@@ -33,6 +37,14 @@ pub fn headline()
     ensures only { (files : Files) (profile : Profile) (cell : ℕ → Cell) (text : List ℕ) (other : List (List Marked))
         → AreCellsOf files cell → AllByRecursion (λ scalar. IsScalar scalar) text → ArePassagesOf files profile text other
         → other ≡ passages profile cell text }
+{}
+
+/// What `read_passages` returns depends on the files and the bytes of the text alone, however the reader gives them; and it
+/// is what a segmenter lends of the text.
+pub fn passages_of_bytes()
+    ensures once { (files : Files) (profile : Profile) (bytes : List ℕ) (one other : List Owned)
+        → AreRead files profile (Some bytes) one → AreRead files profile (Some bytes) other → one ≡ other }
+    ensures lent { (s : State) (ms : List Marked) (p : Passage) → IsPassage s ms p → lent_as p ≡ owned_passage s.cell p.start ms }
 {}
 
 /// A passage's line has at most 12 bytes per byte of the passage's text and 9 more, its line end among them. Without

@@ -9,6 +9,8 @@ mod faults;
 pub mod laws;
 mod message;
 mod output_line;
+mod owned;
+mod passages;
 mod segmented;
 mod shown;
 mod signed;
@@ -23,3 +25,5 @@ pub use lbk_files::{
     read_front,
 };
 pub use message::{Caller, Message};
+pub use owned::{OwnedPassage, Word};
+pub use passages::read_passages;

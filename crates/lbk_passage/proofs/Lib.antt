@@ -18,3 +18,4 @@ pub mod Passing
 pub mod SegmentLemmas
 pub mod Together
 pub mod Joining
+pub mod SameCells

@@ -1,0 +1,125 @@
+use Rattle.std.proofs.Common.{rules, Ok, Err, [], ◌∷◌, ◌++◌, refl, ap, ◌∙◌, arith}
+use Rattle.std.proofs.lemmas.Result.{err_from_is_err_and}
+use Rattle.lbk_steps.specs.CellPages.{page_cell}
+use Rattle.lbk_passage.specs.Next.{failures_with, fault_in}
+use Rattle.lbk_passage.specs.Shown.{state_of}
+use Rattle.lbk_cmd.specs.Engines.{showing}
+use Rattle.lbk_cmd.proofs.Known.{known_whole}
+use Rattle.lbk_cmd.proofs.Looping.{most_reads, run_none, run_stopped, run_ended, run_out_of_memory}
+use Rattle.lbk_cmd.proofs.Owning.{Owning-new, Owning-next, all_owned, shows_err}
+use Rattle.lbk_cmd.proofs.passages.own_passages.Goals as goal
+
+pub returns-in_err-segmenter-clause-refused : goal.returns-in_err-segmenter-clause-refused
+returns-in_err-segmenter-clause-refused g c =
+    let exit = err_from_is_err_and c.from_residual.result c.from_residual.ensures.1 in
+    shows_err (page_cell c.args.cells.now) c.args.limit c.args.profile _ _ c.from_residual.result (record {
+      shown = search rules;
+      ended = search rules;
+      run = run_none (showing (page_cell c.args.cells.now) c.args.profile c.args.limit)
+          _ _ (g.R.Source.read_count c.args.reader.now) _ c.from_residual.result c.in_err-segmenter.field-0.0 _ (exit.1 ∙ ap Err exit.2)
+          c.in_err-segmenter.ensures.only;
+      reads = search rules;
+      limit = search rules;
+      read = search rules;
+      read_failed = search rules;
+      write = search rules;
+      write_failed = search rules;
+    })
+
+pub loop-segmenter-init : goal.loop-segmenter-init
+loop-segmenter-init g c = record {
+  owning = Owning-new (showing (page_cell c.args.cells.now) c.args.profile c.args.limit) _ _
+      (state_of page_cell c.in_ok-segmenter.segmenter) _ _ c.in_ok-segmenter.ensures.state c.requires;
+  read_failures = refl;
+}
+
+pub returns-in_err-passage-clause-refused : goal.returns-in_err-passage-clause-refused
+returns-in_err-passage-clause-refused g c =
+    let exit = err_from_is_err_and c.from_residual-in_err-passage.result c.from_residual-in_err-passage.ensures.1 in
+    shows_err (page_cell c.args.cells.now) c.args.limit c.args.profile _ _ c.from_residual-in_err-passage.result (record {
+      shown = search rules;
+      ended = search rules;
+      run = run_stopped (showing (page_cell c.args.cells.now) c.args.profile c.args.limit) _ _ _ _
+          c.from_residual-in_err-passage.result _ _ _ _ _ _ _ _ _ c.next.result c.loop-segmenter.invariant.owning.going c.next.follows.holds-at-none
+          c.in_err-passage.field-0.0 c.in_err-passage.was (exit.1 ∙ ap Err exit.2);
+      reads = most_reads (showing (page_cell c.args.cells.now) c.args.profile c.args.limit) _ _ _ _ _ _ _ _ _ _ _ _
+          c.loop-segmenter.invariant.owning.going c.next.result c.next.follows.holds-at-none;
+      limit = search rules;
+      read = search rules;
+      read_failed = search rules;
+      write = search rules;
+      write_failed = search rules;
+    })
+
+pub returns-in_err-owned-clause-refused : goal.returns-in_err-owned-clause-refused
+returns-in_err-owned-clause-refused g c =
+    let exit = err_from_is_err_and c.from_residual-in_err-owned.result c.from_residual-in_err-owned.ensures.1 in
+    shows_err (page_cell c.args.cells.now) c.args.limit c.args.profile _ _ c.from_residual-in_err-owned.result (record {
+      shown = search rules;
+      ended = search rules;
+      run = run_out_of_memory (showing (page_cell c.args.cells.now) c.args.profile c.args.limit) _ _ _ _
+          c.from_residual-in_err-owned.result _ _ _ _ _ _ _ _ _ c.next.result c.loop-segmenter.invariant.owning.going c.next.follows.holds-at-none
+          c.in-Some.passage (c.in_ok-passage.was ∙ ap Ok c.in-Some.is) (exit.1 ∙ ap Err exit.2);
+      reads = most_reads (showing (page_cell c.args.cells.now) c.args.profile c.args.limit) _ _ _ _ _ _ _ _ _ _ _ _
+          c.loop-segmenter.invariant.owning.going c.next.result c.next.follows.holds-at-none;
+      limit = search rules;
+      read = search rules;
+      read_failed = search rules;
+      write = search rules;
+      write_failed = search rules;
+    })
+
+pub returns-in_err-push-clause-refused : goal.returns-in_err-push-clause-refused
+returns-in_err-push-clause-refused g c =
+    let exit = err_from_is_err_and c.from_residual-in_err-push.result c.from_residual-in_err-push.ensures.1 in
+    shows_err (page_cell c.args.cells.now) c.args.limit c.args.profile _ _ c.from_residual-in_err-push.result (record {
+      shown = search rules;
+      ended = search rules;
+      run = run_out_of_memory (showing (page_cell c.args.cells.now) c.args.profile c.args.limit) _ _ _ _
+          c.from_residual-in_err-push.result _ _ _ _ _ _ _ _ _ c.next.result c.loop-segmenter.invariant.owning.going c.next.follows.holds-at-none
+          c.in-Some.passage (c.in_ok-passage.was ∙ ap Ok c.in-Some.is) (exit.1 ∙ ap Err exit.2);
+      reads = most_reads (showing (page_cell c.args.cells.now) c.args.profile c.args.limit) _ _ _ _ _ _ _ _ _ _ _ _
+          c.loop-segmenter.invariant.owning.going c.next.result c.next.follows.holds-at-none;
+      limit = search rules;
+      read = search rules;
+      read_failed = search rules;
+      write = search rules;
+      write_failed = search rules;
+    })
+
+pub loop-segmenter-preserved : goal.loop-segmenter-preserved
+loop-segmenter-preserved g c =
+    let was = c.in_ok-passage.was ∙ ap Ok c.in-Some.is in
+    record {
+      owning = Owning-next (showing (page_cell c.args.cells.now) c.args.profile c.args.limit) _ _ _ _ _ _ _ _ _ _ c.next.result
+          c.loop-segmenter.passages.items c.loop-segmenter.invariant.owning c.next.follows.holds-at-none c.in-Some.passage was _
+          (c.in_ok-push.ensures.items ∙ ap (λ x. c.loop-segmenter.passages.items ++ x ∷ []) c.in_ok-owned.ensures);
+      read_failures = c.next.ensures.failures ∙ ap (λ r. failures_with (g.R.Source.failure_count c.loop-segmenter.reader) (fault_in r)) was
+          ∙ c.loop-segmenter.invariant.read_failures;
+    }
+
+pub returns-clause-owned : goal.returns-clause-owned
+returns-clause-owned g c =
+    all_owned (showing (page_cell c.args.cells.now) c.args.profile c.args.limit) _ _ _ _ _ _ _ _ _ _ c.next.result
+    c.loop-segmenter.passages.items c.loop-segmenter.invariant.owning c.next.follows.holds-at-none (c.in_ok-passage.was ∙ ap Ok c.in_default.is)
+
+pub returns-clause-done : goal.returns-clause-done
+returns-clause-done g c =
+    let run =
+    run_ended (showing (page_cell c.args.cells.now) c.args.profile c.args.limit) _ _ _ (Unit {0})
+    (Ok (tt {0})) _ _ _ _ _ _ _ _ _ c.next.result c.loop-segmenter.invariant.owning.going c.next.follows.holds-at-none (tt {0})
+    (c.in_ok-passage.was ∙ ap Ok c.in_default.is) refl
+    in
+    record {
+      shown = known_whole _ (showing (page_cell c.args.cells.now) c.args.profile c.args.limit) _ _ _
+          (Ok (tt {0})) _ _ _ _ run (search rules);
+      ended = search rules;
+      run = run;
+      reads = most_reads (showing (page_cell c.args.cells.now) c.args.profile c.args.limit) _ _ _ _ _ _ _ _ _ _ _ _
+          c.loop-segmenter.invariant.owning.going c.next.result c.next.follows.holds-at-none;
+      limit = search rules;
+      read = search rules;
+      read_failed = search rules;
+      write = search rules;
+      write_failed = search rules;
+    }

@@ -1,0 +1,73 @@
+//! The passages of a text in one call: from the bytes of four property files and of a text to what the rules say of it.
+
+ghost use Rattle.std.specs.Prelude.{◌≡◌, [], Ok, Err, IfOk, IfErr, OnOk};
+ghost use Rattle.lbk_steps.specs.CellPages.{page_cell};
+ghost use Rattle.lbk_cmd.specs.Acts.{Shows};
+ghost use Rattle.lbk_cmd.specs.Broken.{IsBreakFault, ShowsBy};
+ghost use Rattle.lbk_cmd.specs.Devices.{reader_alone};
+ghost use Rattle.lbk_cmd.specs.Owned.{AreOwned, AreRead};
+
+use super::broken::BreakFault;
+use super::faults::CmdFault;
+use super::owned::OwnedPassage;
+use lbk_feed::Source;
+use lbk_files::read_cells;
+use lbk_passage::Segmenter;
+use lbk_rules::Profile;
+use lbk_steps::CellPages;
+use lbk_ucd::Files;
+use std::alloc::Global;
+
+/// The passages of a text by the rules (UAX #14, section 6) and four property files, each with its text, its breaks and
+/// its words (UAX #29, section 4). They depend on the bytes alone, however the reader gives them.
+///
+/// `limit` is the most bytes of a paragraph, 1 to 16,777,216. The whole text is held in memory.
+///
+/// ```rust
+/// let passages = read_passages(rt.alloc(), SAMPLE_FILES, &mut reader, 65_536, profile)?;
+/// ```
+pub fn read_passages<R: Source>(
+    alloc: Global,
+    files: Files<'_>,
+    reader: &mut R,
+    limit: u32,
+    profile: Profile,
+) -> Result<Vec<OwnedPassage>, BreakFault>
+    // The bytes read are a text, and these are its passages by the cells of the files.
+    ensures passages { IfOk result (λ list. AreRead files.entry profile (R.unread reader.old) list.items) }
+
+    // What was read, and why a text is refused: as `show` reads and refuses it.
+    ensures done { OnOk result (ShowsBy files.entry limit profile
+        (reader_alone R.Source reader.old) (reader_alone R.Source reader.new) (Ok (tt {0}))) }
+    ensures refused { IfErr result (IsBreakFault files.entry limit profile
+        (reader_alone R.Source reader.old) (reader_alone R.Source reader.new)) }
+{
+    let cells = read_cells(alloc, files)?;
+    let mut passages = Vec::new(alloc);
+    own_passages(alloc, reader, &cells, limit, profile, &mut passages)?;
+    Ok(passages)
+}
+
+/// Puts the passages of a text by these cells into an empty list. After an error some of them may stand there.
+fn own_passages<R: Source>(
+    alloc: Global,
+    reader: &mut R,
+    cells: &CellPages,
+    limit: u32,
+    profile: Profile,
+    passages: &mut Vec<OwnedPassage>,
+) -> Result<(), CmdFault>
+    requires { passages.old.items ≡ [] }
+    ensures owned { OnOk result (AreOwned profile (page_cell cells.now) (R.unread reader.old) passages.new.items) }
+    ensures done { OnOk result (Shows (page_cell cells.now) limit profile
+        (reader_alone R.Source reader.old) (reader_alone R.Source reader.new) (Ok (tt {0}))) }
+    ensures refused { IfErr result (λ fault. Shows (page_cell cells.now) limit profile
+        (reader_alone R.Source reader.old) (reader_alone R.Source reader.new) (Err fault)) }
+{
+    let mut segmenter = Segmenter::new(alloc, cells, limit, profile)?;
+    while let Some(passage) = segmenter.next(reader)? {
+        let owned = OwnedPassage::of(alloc, &passage)?;
+        passages.push(owned)?;
+    }
+    Ok(())
+}
