@@ -162,10 +162,10 @@ pub record DecidesAlike (old new : State) : Type 0 where
   pub profile : new.profile ≡ old.profile
   pub limit : new.limit ≡ old.limit
 
--- reads are made only while no passage and no fault is certain. Before the last of some reads the bytes held were the
--- front of those held in the end and those given, which are `all`: scalars within the limit that are at most one passage,
--- and begin the first passage of every text that goes on from them, and behind them nothing, or the first bytes of a
--- scalar. Each read before the last gave a byte
+-- reads are made while no passage and no fault is certain, as far as their count tells: some first bytes of those held in
+-- the end and those given, which are `all`, at least one for each read but the last, settle none. They are scalars within the
+-- limit that are at most one passage, and begin the first passage of every text that goes on from them, and behind them
+-- nothing, or the first bytes of a scalar
 pub record WereDue (s : State) (all : List ℕ) (from to : ℕ) : Type 0 where
   pub seen : List ℕ
   pub rest : List ℕ

@@ -18,7 +18,8 @@ const TURN: usize = 8;
 /// For each byte what it tells of its scalar. Most bytes of most texts tell enough, by one read.
 #[derive(Drop)]
 pub struct ByteFlags {
-    /// Whether it continues a scalar, or a line must end behind no scalar that begins with it.
+    /// Whether it continues a scalar, or a line must end behind no scalar that begins with it. False is right of each of
+    /// the latter, too, and only slower: no contract says how many are told.
     is_quiet: [bool; 256],
     /// Whether it is a scalar by itself, and a letter or a number.
     is_letter: [bool; 256],

@@ -1,4 +1,4 @@
-use Rattle.std.proofs.Common.{rules, Ok, Err, [], ◌∷◌, ◌++◌, refl, ap, ◌∙◌, arith}
+use Rattle.std.proofs.Common.{rules, Ok, Err, [], ◌∷◌, ◌++◌, refl, ap, ◌∙◌}
 use Rattle.std.proofs.lemmas.Result.{err_from_is_err_and}
 use Rattle.lbk_steps.specs.CellPages.{page_cell}
 use Rattle.lbk_passage.specs.Next.{failures_with, fault_in}
