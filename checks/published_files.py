@@ -8,7 +8,7 @@ from pathlib import Path
 
 from checks.harness import built_crate, built_program
 from checks.program import run as run_program
-from checks.unicode_files import MISSING, NAMES, options, published
+from checks.unicode_files import MISSING, NAMES, layers_input, options, published
 
 ALL_OF_THE_TEST = b"T 7654 7620 34 0"
 
@@ -51,9 +51,8 @@ def without_files(runs):
 
 def steps(runs, files):
     """The program that measures refuses cells without a table of steps."""
-    text = runs.room / "two"
-    text.write_bytes(b"ab cd")
-    runs.ends("the published files have a table of steps", run_program([built_crate("bench"), text, *files]), 0)
+    ended = run_program([built_crate("trials_bench"), "layers", "two"], layers_input(files, b"ab cd"))
+    runs.ends("the published files have a table of steps", ended, 0)
 
 
 def replay(runs, folder, words):

@@ -1,4 +1,4 @@
-"""Ratios of the speeds of subcommands, and of layers in one run of crates/bench: one that fell back to a slow way fails.
+"""Ratios of the speeds of subcommands, and of layers in one run of crates/trials_bench: one that fell back to a slow way fails.
 
 The texts are made of the pages in docs/, and of letters of two and of three bytes. Each bound is a third to half of what is
 measured, and each layer's best run counts, so that other load on the machine does not fail it. The property files are the
@@ -6,13 +6,11 @@ published ones where they are there, and else those of the stored runs.
 """
 
 import re
-import tempfile
-from pathlib import Path
 
 from checks.harness import TOP, built_crate, built_program
 from checks.program import Long
 from checks.program import run as run_program
-from checks.unicode_files import options, property_files
+from checks.unicode_files import layers_input, options, property_files
 
 SIZE = 1_200_000
 
@@ -48,9 +46,9 @@ def texts():
     return {"the pages": plain, "letters of two bytes": two, "letters of three bytes": three}
 
 
-def speeds(path):
+def speeds(name, text):
     """The speed of each layer over a text, in millions of bytes a second."""
-    ran = run_program([built_crate("bench"), path, *property_files()])
+    ran = run_program([built_crate("trials_bench"), "layers", name], layers_input(property_files(), text))
     return {name: float(rate) for name, rate in re.findall(r"^(\S.*?) +([0-9.]+) MB/s", ran.out.decode(), re.M)}
 
 
@@ -73,21 +71,18 @@ def subcommands(tally, of_all):
 
 
 def layers(tally, of_all):
-    """Ratios of the speeds of the layers that crates/bench measures."""
-    with tempfile.TemporaryDirectory() as room:
-        for number, (name, text) in enumerate(of_all.items()):
-            path = Path(room) / "text"
-            data = text.encode()
-            path.write_bytes(data * (SIZE // len(data) + 1))
-            found = speeds(path)
-            for layer, other, leasts in BOUNDS:
-                least = leasts[number]
-                if layer not in found or other not in found:
-                    tally.tell(f"{name}: {layer}", f"the speed of {layer} or of {other} was not measured")
-                    continue
-                ratio = found[layer] / found[other]
-                said = f"{name}: {layer}: {ratio:.2f} times {other}, at least {least}"
-                tally.tell(said, None if ratio >= least else "it is slower")
+    """Ratios of the speeds of the layers that crates/trials_bench measures."""
+    for number, (name, text) in enumerate(of_all.items()):
+        data = text.encode()
+        found = speeds(name, data * (SIZE // len(data) + 1))
+        for layer, other, leasts in BOUNDS:
+            least = leasts[number]
+            if layer not in found or other not in found:
+                tally.tell(f"{name}: {layer}", f"the speed of {layer} or of {other} was not measured")
+                continue
+            ratio = found[layer] / found[other]
+            said = f"{name}: {layer}: {ratio:.2f} times {other}, at least {least}"
+            tally.tell(said, None if ratio >= least else "it is slower")
 
 
 def run(tally, _arguments):

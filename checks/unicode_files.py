@@ -31,3 +31,8 @@ def property_files():
 def options(files):
     """The options that name four property files."""
     return [str(word) for pair in zip(OPTIONS, files) for word in pair]
+
+
+def layers_input(files, text):
+    """What `trials_bench layers` reads: four property files and a text, each but the last with a zero byte behind it."""
+    return b"\0".join([*(Path(it).read_bytes() for it in files), text])

@@ -1,4 +1,4 @@
-"""Each allocation refused in turn: of each row of crates/trials, and of the program itself.
+"""Each allocation refused in turn: of each row of crates/trials_bench, and of the program itself.
 
 A row is run with ample memory, and then with the n-th allocation refused, n from 1 until a run meets no refusal; and again with
 all later ones refused too. The row has to return that it is out of memory or what ample memory gives, and what went out is a
@@ -118,10 +118,10 @@ def try_program(trials, refusals, program, name, given, words):
 
 
 def try_rows(trials, refusals, chosen):
-    program = built_crate("trials", is_newest=True)
+    program = built_crate("trials_bench", is_newest=True)
     rows, _ = refusals.run([program])
     if rows.status != 0:
-        raise CannotRun(f"trials ended with {rows.status}: {rows.err.decode(errors='replace')}")
+        raise CannotRun(f"trials_bench ended with {rows.status}: {rows.err.decode(errors='replace')}")
     for line in rows.out.decode().splitlines():
         name = line.removeprefix("row ")
         if name != line and name.startswith(chosen):

@@ -1,5 +1,4 @@
-//! The four property files of the Unicode Character Database: their names, the digests of those that Unicode 15.0.0
-//! published, and in words what is wrong with one.
+//! The four property files that Unicode 15.0.0 published: their names and digests, and in words what is wrong with one.
 #![tactic(auto)]
 
 mod causes;

@@ -1,5 +1,4 @@
-//! The words of a text: its parts between word boundaries that have a letter or a number (Unicode Standard Annex #29,
-//! section 4).
+//! The words of a text: its parts between word boundaries (UAX #29, section 4) that have a letter or a number.
 //!
 //! The text may be any bytes. [`fill`] goes over it from any byte on, with no memory but the caller's block.
 #![tactic(auto)]

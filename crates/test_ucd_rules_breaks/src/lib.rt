@@ -1,5 +1,4 @@
-//! Tests of the tables of property files, of the rules, machines, steppers and pages over them, and of the breaks of texts
-//! in memory.
+//! Tests of property tables, of the rules, machines, steppers and pages over them, and of the breaks of texts in memory.
 #![tactic(auto)]
 
 #[cfg(test)]

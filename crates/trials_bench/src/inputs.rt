@@ -88,11 +88,11 @@ pub fn sink_of(alloc: Global) -> Result<MemorySink, AllocError> {
     MemorySink::new(alloc, ROOM)
 }
 
-/// The tables of files that are lawful.
+/// The tables of files of which none is refused.
 pub fn tables_of(alloc: Global, files: Files<'_>) -> Result<Tables> {
     match Tables::read(alloc, files) {
         Ok(tables) => Ok(tables),
-        Err(_) => Err(anyhow!("the files of this row are refused")),
+        Err(_) => Err(anyhow!("a property file is refused")),
     }
 }
 

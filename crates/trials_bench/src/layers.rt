@@ -103,7 +103,7 @@ impl Layer {
     }
 
     /// How many bytes a run goes over; none where it is part of the start-up.
-    pub fn bytes(self, material: &Material) -> Option<usize> {
+    pub fn bytes(self, material: &Material<'_>) -> Option<usize> {
         match self {
             Layer::Tables | Layer::Pages => None,
             Layer::Replay => Some(material.shown.len()),
@@ -112,9 +112,9 @@ impl Layer {
     }
 
     /// One run. What it counts depends on all that it does.
-    pub fn run(self, alloc: Global, material: &Material) -> Result<u64> {
-        let text = material.text.as_str();
-        let cells = &material.cells;
+    pub fn run(self, alloc: Global, material: &Material<'_>) -> Result<u64> {
+        let text = material.text;
+        let cells = material.cells;
         match self {
             Layer::Decoding => Ok(decoding(text)),
             Layer::LookUp => Ok(look_up(cells, text)),
@@ -127,9 +127,9 @@ impl Layer {
             Layer::Next => passages(alloc, cells, text),
             Layer::Show => shown(alloc, cells, text),
             Layer::Segment => segmented(alloc, cells, text),
-            Layer::Replay => replayed(alloc, cells, &material.shown),
+            Layer::Replay => replayed(alloc, cells, material.shown),
             Layer::Tables => tables(alloc, material),
-            Layer::Pages => pages(alloc, &material.tables),
+            Layer::Pages => pages(alloc, material.tables),
         }
     }
 }
@@ -211,16 +211,16 @@ fn by_breaks(cells: &CellPages, profile: Profile, text: &str) -> u64 {
 }
 
 /// The loop of the segmenter, over each passage.
-fn segments(alloc: Global, material: &Material) -> Result<u64> {
+fn segments(alloc: Global, material: &Material<'_>) -> Result<u64> {
     let mut segments = Vec::new(alloc);
     let mut block = [NO_BREAK; SEGMENTS];
     let mut count = 0u64;
-    for (start, end) in &material.passages {
+    for (start, end) in material.passages {
         let Some(text) = material.text.get(*start..*end) else {
             bail!("a passage that is not of the text");
         };
         segments.clear();
-        cut(&material.cells, text, &mut block, &mut segments)?;
+        cut(material.cells, text, &mut block, &mut segments)?;
         count = count.wrapping_add(segments.len() as u64);
     }
     Ok(count)
@@ -321,8 +321,8 @@ fn replayed(alloc: Global, cells: &CellPages, shown: &[u8]) -> Result<u64> {
     }
 }
 
-fn tables(alloc: Global, material: &Material) -> Result<u64> {
-    match Tables::read(alloc, material.files.files()) {
+fn tables(alloc: Global, material: &Material<'_>) -> Result<u64> {
+    match Tables::read(alloc, material.files) {
         Ok(_tables) => Ok(0),
         Err(_) => bail!("a property file is refused"),
     }

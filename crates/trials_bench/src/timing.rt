@@ -1,8 +1,11 @@
 //! The layers timed, and what is printed of them.
 
+use crate::inputs::tables_of;
 use crate::layers::{LAYERS, Layer};
-use crate::material::{Material, Names};
+use crate::material::{Material, cells_of, front_of, parts_of, passages_of, shown_of};
 use anyhow::Result;
+use lbk_ucd::Files;
+use std::io;
 use std::time::{Duration, Instant};
 
 /// How often each layer is run. The runs of all layers take turns, so that what else the machine does slows all
@@ -17,14 +20,50 @@ struct Best {
     count: u64,
 }
 
-/// Prints for each layer how many millions of bytes it takes in a second, how that compares with `ForwardMachine`, and what
-/// it counts, or the milliseconds of a part of the start-up.
-pub fn print(rt: &HostRuntime, names: &Names<'_>) -> Result<()> {
-    let material = Material::read(rt, names)?;
-    let best = best_of(rt, &material)?;
+/// Reads four property files and a text from standard input, and prints for each layer how many millions of bytes it takes in a
+/// second, how that compares with `ForwardMachine`, and what it counts, or the milliseconds of a part of the start-up.
+pub fn print(rt: &HostRuntime, name: &str) -> Result<()> {
+    let input = io::read_to_string(rt.alloc(), rt.stdin())?;
+    let (files, text) = parts_of(input.as_str())?;
+    print_front(rt, name, files, front_of(text))
+}
+
+fn print_front(rt: &HostRuntime, name: &str, files: Files<'_>, text: &str) -> Result<()> {
+    let tables = tables_of(rt.alloc(), files)?;
+    let cells = cells_of(rt.alloc(), &tables)?;
+    print_with_passages(
+        rt,
+        name,
+        Material {
+            files,
+            tables: &tables,
+            cells: &cells,
+            text,
+            passages: &[],
+            shown: &[],
+        },
+    )
+}
+
+/// Prints the layers over this, with the passages and the lines of its text.
+fn print_with_passages(rt: &HostRuntime, name: &str, material: Material<'_>) -> Result<()> {
+    let passages = passages_of(rt.alloc(), material.cells, material.text)?;
+    let shown = shown_of(rt.alloc(), material.cells, material.text)?;
+    print_layers(
+        rt,
+        name,
+        &Material {
+            passages: &passages,
+            shown: shown.bytes(),
+            ..material
+        },
+    )
+}
+
+fn print_layers(rt: &HostRuntime, name: &str, material: &Material<'_>) -> Result<()> {
+    let best = best_of(rt, material)?;
     println!(rt;
-        "{}: {} bytes, {} passages, the best of {ROUNDS} runs each",
-        names.text,
+        "{name}: {} bytes, {} passages, the best of {ROUNDS} runs each",
         material.text.len(),
         material.passages.len()
     )?;
@@ -35,7 +74,7 @@ pub fn print(rt: &HostRuntime, names: &Names<'_>) -> Result<()> {
         }
     }
     for (layer, best) in LAYERS.iter().zip(best.iter()) {
-        match layer.bytes(&material) {
+        match layer.bytes(material) {
             Some(bytes) => print_rate(
                 rt,
                 layer.name(),
@@ -68,7 +107,7 @@ fn print_time(rt: &HostRuntime, name: &str, time: Duration) -> Result<()> {
 }
 
 /// The best run of each layer.
-fn best_of(rt: &HostRuntime, material: &Material) -> Result<[Best; LAYERS.len()]> {
+fn best_of(rt: &HostRuntime, material: &Material<'_>) -> Result<[Best; LAYERS.len()]> {
     let mut best = [Best {
         time: Duration::MAX,
         count: 0,

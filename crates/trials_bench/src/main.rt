@@ -1,10 +1,9 @@
-//! `trials`: each call that can want memory, and each that takes none, run once on its own input.
+//! `trials_bench`: each call that can be out of memory or takes none, run on its own input; how fast each layer is.
 //!
-//! `trials ROW PROFILE` runs a row of the table and writes what the call answered. Without arguments it runs all
-//! rows, and heads each with its name. It is run by `scripts/check refused-allocations`, which refuses the growths of
-//! memory in turn and compares.
-//!
-//! The rows are calls that want memory or take none, each on an input of its own, and what is told of their answers.
+//! `trials_bench ROW PROFILE` runs a row of the table and writes what the call returned. Without arguments it runs all rows, and
+//! heads each with its name. It is run by `scripts/check refused-allocations`, which refuses the allocations in turn and compares.
+//! `trials_bench layers NAME` measures the layers for `scripts/bench`, over what standard input has: four property files and a text
+//! of this name, each but the last with a zero byte behind it.
 #![tactic(auto)]
 
 mod breaks;
@@ -13,9 +12,12 @@ mod commands;
 mod counting;
 mod devices;
 mod digest;
+mod dropped;
 mod engines;
 mod inputs;
+mod layers;
 mod lines;
+mod material;
 mod on_text;
 mod passages;
 mod property_files;
@@ -23,6 +25,7 @@ mod pushes;
 mod quiet;
 mod rows;
 mod tables;
+mod timing;
 mod told;
 mod trial;
 mod verdicts;
@@ -43,6 +46,7 @@ fn main(rt: HostRuntime) -> Result<ExitCode> {
     match words.as_slice() {
         [] => run_all(&rt),
         [name] => run_one(&rt, name.as_str(), Profile::First),
+        [mode, name] if mode.as_str() == "layers" => measure(&rt, name.as_str()),
         [name, profile] if profile.as_str() == "2" => {
             run_one(&rt, name.as_str(), Profile::Second)
         }
@@ -51,8 +55,14 @@ fn main(rt: HostRuntime) -> Result<ExitCode> {
 }
 
 fn usage(rt: &HostRuntime) -> Result<ExitCode> {
-    eprintln!(rt; "usage: trials [ROW [2]]")?;
+    eprintln!(rt; "usage: trials_bench [ROW [2] | layers NAME]")?;
     Ok(ExitCode::from(USAGE))
+}
+
+/// Times the layers over a text, which is called by this name.
+fn measure(rt: &HostRuntime, name: &str) -> Result<ExitCode> {
+    timing::print(rt, name)?;
+    Ok(ExitCode::SUCCESS)
 }
 
 /// Runs the row of this name, and writes the whole answer.

@@ -1,0 +1,105 @@
+//! What the layers run over.
+
+use anyhow::{Result, bail};
+use lbk_cmd::show;
+use lbk_feed::devices::{MemorySink, MemorySource};
+use lbk_passage::{LIMIT_MAX, Segmenter};
+use lbk_rules::Profile;
+use lbk_steps::{CellPages, CellSource};
+use lbk_ucd::{Files, Tables};
+use std::alloc::Global;
+
+/// The most bytes of a text that the layers run over.
+const TEXT_MOST: usize = 1_000_000;
+
+/// Room for what `show` writes of a text: for each byte at most a scalar of four digits, a mark, a label and
+/// their spaces.
+const SHOWN_MOST: usize = 16 * TEXT_MOST;
+
+/// Four property files and a text: the parts of an input, each but the last with a zero byte behind it.
+pub fn parts_of(input: &str) -> Result<(Files<'_>, &str)> {
+    let mut parts = input.splitn(5, '\0');
+    let (Some(line_break), Some(east_asian), Some(category), Some(emoji), Some(text)) = (
+        parts.next(),
+        parts.next(),
+        parts.next(),
+        parts.next(),
+        parts.next(),
+    ) else {
+        bail!("the input is not four property files and a text");
+    };
+    let files = Files {
+        line_break: line_break.as_bytes(),
+        east_asian: east_asian.as_bytes(),
+        category: category.as_bytes(),
+        emoji: emoji.as_bytes(),
+    };
+    Ok((files, text))
+}
+
+/// What the layers run over: the property files and what is made of them, a text, its passages, and its lines as `show`
+/// writes them. It owns nothing, since a check of what holds many owners takes long.
+#[derive(Clone, Copy)]
+pub struct Material<'a> {
+    pub files: Files<'a>,
+    pub tables: &'a Tables,
+    pub cells: &'a CellPages,
+    pub text: &'a str,
+    /// The first byte of each passage, and the byte behind its last.
+    pub passages: &'a [(usize, usize)],
+    pub shown: &'a [u8],
+}
+
+/// The front of a text that the layers run over.
+pub fn front_of(text: &str) -> &str {
+    text.get(..text.floor_char_boundary(TEXT_MOST))
+        .unwrap_or(text)
+}
+
+/// The cells of these tables, with a table of steps: without it each layer would count the same, and be slow.
+pub fn cells_of(alloc: Global, tables: &Tables) -> Result<CellPages> {
+    let cells = CellPages::build(alloc, tables)?;
+    if cells.step_table().is_none() {
+        bail!("the property files have no table of steps");
+    }
+    Ok(cells)
+}
+
+pub fn passages_of(alloc: Global, cells: &CellPages, text: &str) -> Result<Vec<(usize, usize)>> {
+    let mut source = MemorySource::new(text.as_bytes());
+    let Ok(mut segmenter) = Segmenter::new(alloc, cells, LIMIT_MAX, Profile::First) else {
+        bail!("no room for a paragraph");
+    };
+    let mut passages = Vec::new(alloc);
+    let mut start = 0usize;
+    for _ in 0..text.len() {
+        let Ok(passage) = segmenter.next(&mut source) else {
+            bail!("the text is refused");
+        };
+        let Some(passage) = passage else {
+            break;
+        };
+        let end = start.saturating_add(passage.text.len());
+        passages.push((start, end))?;
+        start = end;
+    }
+    Ok(passages)
+}
+
+pub fn shown_of(alloc: Global, cells: &CellPages, text: &str) -> Result<MemorySink> {
+    let mut source = MemorySource::new(text.as_bytes());
+    let mut sink = MemorySink::new(alloc, SHOWN_MOST)?;
+    if show(
+        alloc,
+        &mut source,
+        &mut sink,
+        cells,
+        LIMIT_MAX,
+        Profile::First,
+    )
+    .is_err()
+    {
+        bail!("the text cannot be shown");
+    }
+    Ok(sink)
+}
