@@ -4,10 +4,10 @@ use lbk_passage::PassageFault;
 use lbk_rules::Profile;
 use std::alloc::Global;
 use std::test::Fail;
-use test_support::calls::sample_cells;
-use test_support::checks::check_run;
-use test_support::runs::{Run, whole};
-use test_support::tasks::{End, ROOM, Setting, Task};
+use test_support_runs::calls::sample_cells;
+use test_support_runs::checks::check_run;
+use test_support_runs::runs::{Run, whole};
+use test_support_runs::tasks::{End, ROOM, Setting, Task};
 
 /// Checks what is written of a text, in reads of one, two and all bytes.
 fn check_text(setting: Setting<'_>, task: Task, text: &str, written: &str) -> Result<(), Fail> {

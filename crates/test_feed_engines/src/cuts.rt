@@ -7,11 +7,11 @@ use lbk_rules::Profile;
 use lbk_steps::CellPages;
 use std::alloc::Global;
 use std::test::Fail;
-use test_support::calls::sample_cells;
 use test_support::checks::same;
-use test_support::runs::{Ran, Run, whole};
-use test_support::tasks::{Setting, Task};
 use test_support::{replayed, segmented, shown, texts};
+use test_support_runs::calls::sample_cells;
+use test_support_runs::runs::{Ran, Run, whole};
+use test_support_runs::tasks::{Setting, Task};
 
 const OF_TEXTS: [Task; 4] = [Task::Passages, Task::Mark, Task::Show, Task::Segment];
 

@@ -3,11 +3,12 @@
 use lbk_notation::Form;
 use lbk_rules::Profile;
 use std::test::Fail;
-use test_support::calls::sample_cells;
-use test_support::checks::{check_run, same};
+use test_support::checks::same;
 use test_support::replayed::FOUR_LINES;
-use test_support::runs::{Run, whole};
-use test_support::tasks::{Setting, Task};
+use test_support_runs::calls::sample_cells;
+use test_support_runs::checks::check_run;
+use test_support_runs::runs::{Run, whole};
+use test_support_runs::tasks::{Setting, Task};
 
 /// What is run on an input in reads of one byte, and all that went out once so many bytes were read.
 static FAILED_READS: [(Task, &str, &[(u64, &str)]); 4] = [

@@ -2,13 +2,9 @@
 #![tactic(auto)]
 
 #[cfg(test)]
-mod broken;
-#[cfg(test)]
 mod checked_texts;
 #[cfg(test)]
 mod cuts;
-#[cfg(test)]
-mod device_calls;
 #[cfg(test)]
 mod devices;
 #[cfg(test)]
@@ -20,8 +16,6 @@ mod feed_laws;
 #[cfg(test)]
 mod feeds;
 #[cfg(test)]
-mod laws;
-#[cfg(test)]
 mod long_streams;
 #[cfg(test)]
 mod segment_lines;
@@ -29,8 +23,6 @@ mod segment_lines;
 mod shown;
 #[cfg(test)]
 mod signed;
-#[cfg(test)]
-mod sizes;
 #[cfg(test)]
 mod spent;
 #[cfg(test)]

@@ -5,7 +5,7 @@ use lbk_passage::PassageFault;
 use lbk_rules::Profile;
 use std::test::Fail;
 use test_support::segment_lines::{BOTH, FIRST, SECOND};
-use test_support::tasks::{LIMIT, Task};
+use test_support_runs::tasks::{LIMIT, Task};
 
 #[test]
 fn texts(rt: HostRuntime) -> Result<(), Fail> {

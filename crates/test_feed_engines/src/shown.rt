@@ -5,11 +5,11 @@ use lbk_cmd::CmdFault;
 use lbk_passage::PassageFault;
 use lbk_rules::Profile;
 use std::test::Fail;
-use test_support::calls::sample_cells;
 use test_support::checks::same;
-use test_support::runs::whole;
 use test_support::shown::{BOTH, FIRST, SECOND};
-use test_support::tasks::{End, LIMIT, Setting, Task};
+use test_support_runs::calls::sample_cells;
+use test_support_runs::runs::whole;
+use test_support_runs::tasks::{End, LIMIT, Setting, Task};
 
 #[test]
 fn texts(rt: HostRuntime) -> Result<(), Fail> {

@@ -4,7 +4,7 @@ use crate::checked_texts::{Refused, check_refused, check_texts};
 use lbk_passage::PassageFault;
 use lbk_rules::Profile;
 use std::test::Fail;
-use test_support::tasks::Task;
+use test_support_runs::tasks::Task;
 
 /// What both profiles write of a text.
 static BOTH: [(&str, &str); 17] = [

@@ -3,8 +3,8 @@
 use lbk_feed::devices::RepeatedSource;
 use lbk_feed::{Feed, FeedFault, Source};
 use std::test::Fail;
-use test_support::calls::{cut_source, source_of, take_piece};
 use test_support::checks::same;
+use test_support_runs::calls::{cut_source, source_of, take_piece};
 
 /// Takes all pieces up to a fault.
 fn take_pieces<R: Source>(feed: &mut Feed, reader: &mut R) -> Result<bool, FeedFault> {

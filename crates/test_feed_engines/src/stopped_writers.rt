@@ -5,10 +5,10 @@ use lbk_feed::{Device, Sink};
 use lbk_notation::Form;
 use lbk_rules::Profile;
 use std::test::Fail;
-use test_support::calls::{cut_source, memory_sink, sample_cells};
 use test_support::checks::same;
 use test_support::replayed::{FOUR_LINES, FOUR_LINES_TEXT};
-use test_support::tasks::{End, Setting, Task};
+use test_support_runs::calls::{cut_source, memory_sink, sample_cells};
+use test_support_runs::tasks::{End, Setting, Task};
 
 /// What is run, its input, and what it writes.
 type Row = (Task, &'static str, &'static str);

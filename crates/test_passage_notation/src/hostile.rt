@@ -8,12 +8,13 @@ use lbk_steps::CellPages;
 use std::alloc::{AllocError, Global};
 use std::io::{self, Read};
 use std::test::Fail;
-use test_support::calls::{
+use test_support::checks::same;
+use test_support::reads::SIZES;
+use test_support_runs::calls::{
     cut_source, has_next, next_passage, next_sizes, sample_cells, source_of,
 };
-use test_support::checks::{check_spent, same};
-use test_support::reads::SIZES;
-use test_support::tasks::{LIMIT, Setting};
+use test_support_runs::checks::check_spent;
+use test_support_runs::tasks::{LIMIT, Setting};
 
 /// Takes all passages up to a fault.
 fn take_passages<R: Source>(

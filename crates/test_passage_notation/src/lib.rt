@@ -17,3 +17,5 @@ mod passages;
 mod replayed;
 #[cfg(test)]
 mod segmented;
+#[cfg(test)]
+mod sizes;

@@ -9,9 +9,9 @@ use lbk_rules::{Cell, Kind, Profile, Rule, Verdict, decide_all_in};
 use lbk_steps::CellPages;
 use std::alloc::{AllocError, Global};
 use std::test::Fail;
-use test_support::calls::sample_cells;
 use test_support::cells::cells_of;
 use test_support::checks::same;
+use test_support_runs::calls::sample_cells;
 
 /// What `read_line` answers: a line, told by its writing in the same form, none, or the place where it
 /// goes wrong.

@@ -11,14 +11,14 @@ use lbk_ucd::Tables;
 use std::alloc::{AllocError, Global};
 use std::fmt::Write;
 use std::test::Fail;
-use test_support::calls::{
-    cut_source, has_step_table, next_passage, sample_cells, source_of, tables_of,
-};
-use test_support::checks::{check_spent, same};
+use test_support::calls::{has_step_table, tables_of};
+use test_support::checks::same;
 use test_support::property_files::SAMPLES;
-use test_support::tasks::Setting;
 use test_support::texts::{FIRST, SECOND};
-use test_support::told::push_told;
+use test_support_runs::calls::{cut_source, next_passage, sample_cells, source_of};
+use test_support_runs::checks::check_spent;
+use test_support_runs::tasks::Setting;
+use test_support_runs::told::push_told;
 
 /// A text, the limit of a paragraph, the starts and texts of the passages given, and the fault that follows them.
 type Row = (

@@ -8,11 +8,12 @@ use lbk_rules::{Kind, Profile, Rule, Verdict};
 use lbk_steps::CellPages;
 use std::alloc::{AllocError, Global};
 use std::test::Fail;
-use test_support::calls::sample_cells;
-use test_support::checks::{check_run, same};
+use test_support::checks::same;
 use test_support::replayed::{FOUR_LINES, KINDS, PLAIN, QUOTED, Row};
-use test_support::runs::{Run, whole};
-use test_support::tasks::{End, ROOM, Setting, Task};
+use test_support_runs::calls::sample_cells;
+use test_support_runs::checks::check_run;
+use test_support_runs::runs::{Run, whole};
+use test_support_runs::tasks::{End, ROOM, Setting, Task};
 
 fn report_of(counts: [u32; 4]) -> Report {
     let [lines, agreed, differed, refused] = counts;

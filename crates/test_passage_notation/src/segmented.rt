@@ -7,11 +7,11 @@ use lbk_rules::{Kind, Profile, Rule};
 use lbk_steps::CellPages;
 use std::alloc::{AllocError, Global};
 use std::test::Fail;
-use test_support::calls::{cut_source, has_next, next_passage, sample_cells};
 use test_support::checks::same;
 use test_support::segmented::{BOTH, Row};
-use test_support::tasks::Setting;
-use test_support::told::told_next;
+use test_support_runs::calls::{cut_source, has_next, next_passage, sample_cells};
+use test_support_runs::tasks::Setting;
+use test_support_runs::told::told_next;
 
 /// What the first says.
 static FIRST: [Row; 3] = [

@@ -1,4 +1,4 @@
-//! What the crates of tests share: rows with answers from outside, runs over memory, and checks.
+//! What the crates of tests share: texts, files and rows with answers from outside, cells, and a check.
 #![tactic(auto)]
 
 pub mod calls;
@@ -7,11 +7,8 @@ pub mod checks;
 pub mod property_files;
 pub mod reads;
 pub mod replayed;
-pub mod runs;
 pub mod segment_lines;
 pub mod segmented;
 pub mod shown;
-pub mod tasks;
 pub mod texts;
-pub mod told;
 pub mod triples;

@@ -3,7 +3,7 @@
 use lbk_cmd::{Ending, MemoryStore, run};
 use lbk_feed::devices::MemorySource;
 use lbk_feed::{Device, Source};
-use std::alloc::{AllocError, Global};
+use std::alloc::Global;
 use std::io::{self, Write};
 use std::process::Abort;
 use std::test::Fail;
@@ -36,14 +36,6 @@ fn counted(alloc: Global, words: &[&'static str], input: &[u8]) -> (Ending, Coun
     (ending, writer.into_inner(), reads)
 }
 
-fn repeated(alloc: Global, line: &str, times: u64) -> Result<String, AllocError> {
-    let mut text = String::new(alloc);
-    for _ in 0..times {
-        text.push_str(line)?;
-    }
-    Ok(text)
-}
-
 const TIMES: u64 = 20_000;
 
 /// An engine, the line that is repeated, how many writes it makes, and its status.
@@ -59,7 +51,7 @@ static ROWS: [Row; 4] = [
 
 fn check(rt: &impl Abort, alloc: Global, row: Row) -> Result<(), Fail> {
     let (engine, line, writes, status) = row;
-    let input = repeated(alloc, line, TIMES)?;
+    let input = line.repeat(alloc, TIMES as usize)?;
     let words = words_with(alloc, engine, &[])?;
     let (ending, writer, reads) = counted(alloc, &words, input.as_bytes());
     assert!(rt; ending.status() == status, "{engine} ends with {ending:?}");

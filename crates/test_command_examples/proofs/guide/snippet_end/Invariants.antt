@@ -1,7 +1,7 @@
 use Rattle.std.proofs.Common.{◌≡◌, ◌⊎◌, ℕ, ◌≤◌, ◌<◌}
 use Rattle.std.specs.Prelude.{Contains, slice_index_or}
 use Rattle.lbk_passage.specs.declared.passage.Segment.{Segment}
-use Rattle.examples.proofs.guide.snippet_end.Given as goal
+use Rattle.test_command_examples.proofs.guide.snippet_end.Given as goal
 
 -- the segments so far that fit end here or before
 abbrev pub invariant-loop-segment : goal.invariant-loop-segment

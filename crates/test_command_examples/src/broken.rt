@@ -9,11 +9,12 @@ use lbk_rules::Profile;
 use lbk_ucd::{Files, UcdCause, UcdFault, Which};
 use std::alloc::{AllocError, Global};
 use std::test::Fail;
-use test_support::calls::{cut_source, source_of};
 use test_support::checks::same;
 use test_support::property_files::line_break_alone;
 use test_support::shown::{BOTH, FIRST, SECOND};
-use test_support::tasks::LIMIT;
+
+/// The most bytes of a paragraph.
+const LIMIT: u32 = 65_536;
 
 /// `break_text` without its contract.
 fn broken(
@@ -70,7 +71,7 @@ fn check(
     size: usize,
 ) -> Result<(), Fail> {
     let sizes = [size];
-    let mut source = cut_source(text.as_bytes(), &sizes);
+    let mut source = MemorySource::cut(text.as_bytes(), &sizes);
     let found = broken(alloc, SAMPLE_FILES, &mut source, LIMIT, profile)?;
     check_lines(alloc, &found, lines, &(text, size))
 }
@@ -118,13 +119,13 @@ static REFUSED: [(&[u8], u32, PassageFault); 4] = [
 
 fn check_refused(alloc: Global) -> Result<(), Fail> {
     for (text, limit, want) in &REFUSED {
-        refuses(alloc, &mut cut_source(text, &[]), *limit, *want)?;
+        refuses(alloc, &mut MemorySource::cut(text, &[]), *limit, *want)?;
     }
     Ok(())
 }
 
 fn check_failed_read(alloc: Global, read: u64) -> Result<(), Fail> {
-    let mut source = source_of(b"a\r\nb", &[1], Some(read));
+    let mut source = MemorySource::cut(b"a\r\nb", &[1]).failing_at(read);
     refuses(alloc, &mut source, LIMIT, PassageFault::Read)
 }
 
@@ -148,7 +149,7 @@ const REFUSAL: UcdFault = UcdFault {
 fn refused_files(rt: HostRuntime) -> Result<(), Fail> {
     let alloc = rt.alloc();
     let files = line_break_alone(b"# LineBreak-15.0.0.txt\n0041;XY\n");
-    let mut source = cut_source(b"ab", &[]);
+    let mut source = MemorySource::cut(b"ab", &[]);
     let fault = broken(alloc, files, &mut source, LIMIT, Profile::First).err();
     let want = BreakFault::Files(CellsFault::Tables(REFUSAL));
     same(&fault, &Some(want), &"a bad row")?;

@@ -2,8 +2,8 @@ use Rattle.std.proofs.Common.{◌≡◌, ◌≤◌, ◌<◌, ℕ, List, get_or, 
 use Rattle.std.proofs.lemmas.List.{get_or_default}
 use Rattle.std.proofs.lemmas.List.Elements.{Contains-get_or}
 use Rattle.lbk_passage.specs.declared.passage.Segment.{Segment}
-use Rattle.examples.proofs.guide.snippet_end.Goals as goal
-use Rattle.examples.proofs.guide.snippet_end.Goals.{then-segment-end+then-segment-most, else-segment-end, else-segment-end-via-then-segment-end+else-segment-most, else-segment-end-via-else-segment-end}
+use Rattle.test_command_examples.proofs.guide.snippet_end.Goals as goal
+use Rattle.test_command_examples.proofs.guide.snippet_end.Goals.{then-segment-end+then-segment-most, else-segment-end, else-segment-end-via-then-segment-end+else-segment-most, else-segment-end-via-else-segment-end}
 
 -- an element within the list is the same at any default
 at_other : (P : ℕ → Type 0) (segments : List Segment) (k : ℕ) (d other : Segment) → k < length segments

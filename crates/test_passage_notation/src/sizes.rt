@@ -8,7 +8,7 @@ use lbk_steps::CellPages;
 use std::alloc::{AllocError, Global};
 use std::process::Abort;
 use std::test::Fail;
-use test_support::calls::sample_cells;
+use test_support_runs::calls::sample_cells;
 
 /// Two sizes between each power of two up to the 16th and the next, as a linear congruence draws them.
 fn sizes(alloc: Global) -> Result<Vec<u32>, AllocError> {
@@ -20,15 +20,6 @@ fn sizes(alloc: Global) -> Result<Vec<u32>, AllocError> {
         drawn.push(least + (chance >> 8) % least)?;
     }
     Ok(drawn)
-}
-
-/// So many letters with a space behind each.
-fn text_of(alloc: Global, size: u32) -> Result<String, AllocError> {
-    let mut text = String::new(alloc);
-    for _ in 0..size {
-        text.push_str("a ")?;
-    }
-    Ok(text)
 }
 
 fn marked(alloc: Global, cells: &CellPages, text: &str) -> Result<TestLine, AllocError> {
@@ -65,7 +56,8 @@ fn passage_counts(
 }
 
 fn check(rt: &impl Abort, alloc: Global, cells: &CellPages, size: u32) -> Result<(), Fail> {
-    let text = text_of(alloc, size)?;
+    // So many letters with a space behind each.
+    let text = "a ".repeat(alloc, size as usize)?;
     let counts = line_counts(alloc, cells, &text)?;
     let passage = passage_counts(alloc, cells, &text)?;
     let (pairs, scalars) = (text.len() / 2, text.len());
