@@ -8,7 +8,9 @@ mod engine;
 mod faults;
 pub mod laws;
 mod message;
+mod operands;
 mod output_line;
+mod performing;
 mod segmented;
 mod shown;
 mod signed;
@@ -23,3 +25,4 @@ pub use lbk_files::{
     read_front,
 };
 pub use message::{Caller, Message};
+pub use operands::{MemoryTexts, Texts};

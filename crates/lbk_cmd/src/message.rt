@@ -19,7 +19,7 @@ pub enum Caller<'a> {
     /// The program without words, which goes by the sample files.
     NoWords,
     /// The words of the program, which ask for this.
-    Words(Order<'a>),
+    Words(&'a Order<'a>),
 }
 
 /// A fault in one line that a person can act on and an editor can jump by.
@@ -29,6 +29,8 @@ pub enum Caller<'a> {
 pub struct Message<'a> {
     pub fault: RunFault,
     pub caller: Caller<'a>,
+    /// The operand that names the text; none is standard input.
+    pub text: Option<&'a str>,
     /// The system's reason, where a file or a device failed.
     pub reason: Option<ErrorKind>,
     /// Whether the text begins as UTF-16 does.
@@ -38,11 +40,11 @@ pub struct Message<'a> {
 impl<'a> fmt::Display for Message<'a> {
     fn fmt<W: fmt::Write>(&self, f: &mut fmt::Formatter<W>) -> fmt::Result {
         match self.fault {
+            RunFault::Open | RunFault::Replay(ReplayFault::Read) => self.unread(f),
             RunFault::Load(which) => self.unloaded(f, which),
             RunFault::Claim(which, cause) => self.unpublished(f, which, cause),
             RunFault::Tables(fault) => self.named(CellsFault::Tables(fault), fault.file).fmt(f),
             RunFault::Cmd(CmdFault::Passage(fault)) => self.passage_fault(f, fault),
-            RunFault::Replay(ReplayFault::Read) => self.unread(f),
             RunFault::Replay(ReplayFault::StreamTooLong) => self.too_long(f),
             RunFault::Cmd(CmdFault::Write) | RunFault::Replay(ReplayFault::Write) => self.unwritten(
                 f,
@@ -62,6 +64,7 @@ impl<'a> Message<'a> {
         Message {
             fault,
             caller: Caller::Call,
+            text: None,
             reason: None,
             is_utf16: false,
         }
@@ -80,10 +83,11 @@ impl<'a> Message<'a> {
         NamedFault { fault, name }
     }
 
-    fn input(&self) -> &'static str {
-        match self.caller {
-            Caller::Call => "the input",
-            Caller::NoWords | Caller::Words(_) => "standard input",
+    fn input(&self) -> Input<'a> {
+        match (self.text, self.caller) {
+            (None, Caller::Call) => Input::OfCall,
+            (None | Some("-"), _) => Input::Standard,
+            (Some(name), _) => Input::Named(name),
         }
     }
 
@@ -240,6 +244,24 @@ impl<'a> fmt::Display for Name<'a> {
             Name::InFolder(folder, which) => {
                 write!(f, "{}/{}", OneLine(folder), name_in_database(which))
             }
+        }
+    }
+}
+
+/// The input of a run.
+#[derive(Clone, Copy)]
+enum Input<'a> {
+    OfCall,
+    Standard,
+    Named(&'a str),
+}
+
+impl<'a> fmt::Display for Input<'a> {
+    fn fmt<W: fmt::Write>(&self, f: &mut fmt::Formatter<W>) -> fmt::Result {
+        match *self {
+            Input::OfCall => f.write_str("the input"),
+            Input::Standard => f.write_str("standard input"),
+            Input::Named(name) => write!(f, "{}", OneLine(name)),
         }
     }
 }

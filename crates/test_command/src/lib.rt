@@ -9,3 +9,5 @@ mod commands;
 mod faults_told;
 #[cfg(test)]
 mod folder;
+#[cfg(test)]
+mod operands;

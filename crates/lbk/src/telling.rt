@@ -1,0 +1,44 @@
+//! What a person is told of a refused run.
+
+use super::noting::Notes;
+use lbk_args::{WordsFault, parse};
+use lbk_cmd::{Caller, CmdFault, Message, RunFault};
+use lbk_notation::ReplayFault;
+use std::io::ErrorKind;
+
+/// One line for a refused run, or for the text of an operand that was refused; none where nobody reads the output any more.
+pub fn tell_refused(
+    rt: &HostRuntime,
+    words: &[&str],
+    text: Option<&str>,
+    fault: RunFault,
+    notes: &Notes,
+) {
+    let reason = notes.error.get();
+    if is_write(fault) && reason == Some(ErrorKind::BrokenPipe) {
+        return;
+    }
+    let order = parse(rt.alloc(), words);
+    let (fault, caller) = match &order {
+        Ok(order) => (fault, Caller::Words(order)),
+        // Without them the message would name another file or limit.
+        Err(WordsFault::Memory) => (RunFault::Memory, Caller::NoWords),
+        Err(_) => (fault, Caller::NoWords),
+    };
+    let message = Message {
+        fault,
+        caller,
+        text,
+        reason,
+        is_utf16: notes.is_utf16.get(),
+    };
+    let _ = eprintln!(rt; "lbk: {message}");
+}
+
+/// Whether the output failed.
+fn is_write(fault: RunFault) -> bool {
+    matches!(
+        fault,
+        RunFault::Cmd(CmdFault::Write) | RunFault::Replay(ReplayFault::Write)
+    )
+}
