@@ -4,13 +4,14 @@ use super::noting::Notes;
 use lbk_args::{WordsFault, parse};
 use lbk_cmd::{Caller, CmdFault, Message, RunFault};
 use lbk_notation::ReplayFault;
+use std::alloc::Global;
 use std::io::ErrorKind;
 
 /// One line for a refused run, or for the text of an operand that was refused; none where nobody reads the output any more.
-pub fn tell_refused(
+pub fn tell_refused<'x>(
     rt: &HostRuntime,
-    words: &[&str],
-    text: Option<&str>,
+    words: &'x [&'x str],
+    text: Option<&'x str>,
     fault: RunFault,
     notes: &Notes,
 ) {
@@ -18,9 +19,8 @@ pub fn tell_refused(
     if is_write(fault) && reason == Some(ErrorKind::BrokenPipe) {
         return;
     }
-    let order = parse(rt.alloc(), words);
-    let (fault, caller) = match &order {
-        Ok(order) => (fault, Caller::Words(order)),
+    let (fault, caller) = match caller_of(rt.alloc(), words) {
+        Ok(caller) => (fault, caller),
         // Without them the message would name another file or limit.
         Err(WordsFault::Memory) => (RunFault::Memory, Caller::NoWords),
         Err(_) => (fault, Caller::NoWords),
@@ -33,6 +33,14 @@ pub fn tell_refused(
         is_utf16: notes.is_utf16.get(),
     };
     let _ = eprintln!(rt; "lbk: {message}");
+}
+
+fn caller_of<'x>(alloc: Global, words: &'x [&'x str]) -> Result<Caller<'x>, WordsFault> {
+    let order = parse(alloc, words)?;
+    Ok(Caller::Words {
+        engine: order.engine,
+        files: order.files,
+    })
 }
 
 /// Whether the output failed.

@@ -2,7 +2,7 @@
 
 use super::ending::RunFault;
 use super::faults::CmdFault;
-use lbk_args::{DEFAULT_LIMIT, Engine, FileName, FileNames, Order};
+use lbk_args::{DEFAULT_LIMIT, Engine, FileName, FileNames};
 use lbk_feed::TEXT_MAX;
 use lbk_files::{CellsFault, ClaimCause, NamedFault, file_name, name_in_database};
 use lbk_notation::ReplayFault;
@@ -19,7 +19,10 @@ pub enum Caller<'a> {
     /// The program without words, which goes by the sample files.
     NoWords,
     /// The words of the program, which ask for this.
-    Words(&'a Order<'a>),
+    Words {
+        engine: Engine,
+        files: FileNames<'a>,
+    },
 }
 
 /// A fault in one line that a person can act on and an editor can jump by.
@@ -75,7 +78,7 @@ impl<'a> Message<'a> {
         let name = match self.caller {
             Caller::Call => Name::Plain(which),
             Caller::NoWords => Name::Sample(which),
-            Caller::Words(order) => match name_in(order.files, which) {
+            Caller::Words { files, .. } => match name_in(files, which) {
                 FileName::Given(name) => Name::Given(name),
                 FileName::InFolder(folder) => Name::InFolder(folder, which),
             },
@@ -94,7 +97,7 @@ impl<'a> Message<'a> {
     fn output(&self) -> &'static str {
         match self.caller {
             Caller::Call => "the output",
-            Caller::NoWords | Caller::Words(_) => "standard output",
+            Caller::NoWords | Caller::Words { .. } => "standard output",
         }
     }
 
@@ -112,7 +115,7 @@ impl<'a> Message<'a> {
         let fault = self.named(CellsFault::Claim(which, cause), which);
         write!(f, "{fault}")?;
         match self.caller {
-            Caller::Words(_) if cause == ClaimCause::Changed => {
+            Caller::Words { .. } if cause == ClaimCause::Changed => {
                 let option = option_of(which);
                 write!(f, "; get it anew, or name a file of your own by {option}")
             }
@@ -179,7 +182,7 @@ impl<'a> Message<'a> {
         match self.caller {
             Caller::Call => None,
             Caller::NoWords => Some(DEFAULT_LIMIT),
-            Caller::Words(order) => match order.engine {
+            Caller::Words { engine, .. } => match engine {
                 Engine::Mark { limit } | Engine::Show { limit } | Engine::Segment { limit } => Some(
                     limit,
                 ),

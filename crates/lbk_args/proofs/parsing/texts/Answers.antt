@@ -1,7 +1,7 @@
-use Rattle.std.proofs.Common.{◌≡◌, ◌∙◌, List, [], Option, Some, Result, Ok, Err, codes, map, ap, sym}
+use Rattle.std.proofs.Common.{◌∙◌, List, [], Option, Result, Ok, Err, codes, map, ap, sym}
 use Rattle.std.specs.Prelude.{IfOk, option_map, unwrap_or}
 use Rattle.std.specs.Borrow.{Bor}
-use Rattle.clap.specs.Words.{Text, all_of, found_of, rows_of}
+use Rattle.clap.specs.Words.{Text, found_of}
 use Rattle.clap.proofs.WalkLemmas.{raw_values-rows}
 use Rattle.lbk_args.proofs.parsing.texts.Goals as goal
 
