@@ -15,7 +15,7 @@ def run(place):
     place.write("one", b"a b")
     place.write("two", b"cd\n")
     place.write("bad", b"ab\n\xff")
-    place.write("-", b"no input\n")
+    place.write("-", b"file\n")
     place.write("hidden", b"ef\n")
     (place.folder / "hidden").chmod(0)
     (place.folder / "folder").mkdir()
@@ -24,12 +24,12 @@ def run(place):
         ("two in this order", ["two", "one"], b"cd\na b\n", ""),
         ("standard input between files", ["one", "-", "two"], b"a b\nin\ncd\n", ""),
         ("standard input twice", ["-", "one", "-"], b"in\na b\n", ""),
-        ("a file whose name is a hyphen", ["./-"], b"no input\n", ""),
+        ("a file whose name is a hyphen", ["./-"], b"file\n", ""),
         ("a name behind --", ["--", "one"], b"a b\n", ""),
         ("a missing one", ["one", "none", "two"], b"a b\ncd\n", MISSING.format("none")),
         ("none but missing ones", ["none", ""], b"", MISSING.format("none") + MISSING.format("")),
         ("a folder", ["folder", "one"], b"a b\n", "lbk: folder cannot be read: is a directory\n"),
-        ("ill-formed text", ["bad", "two"], b"ab\ncd\n", "lbk: bad: byte 3: invalid UTF-8\n"),
+        ("ill-formed text", ["bad", "two"], b"cd\n", "lbk: bad: byte 3: invalid UTF-8\n"),
         ("a thousand", ["two"] * 1000, b"cd\n" * 1000, ""),
     ):
         row = f"texts: {what}"

@@ -42,7 +42,7 @@ static ROWS: [Row; 12] = [
         &[RunFault::Open, RunFault::Open],
         1,
     ),
-    ("mark", &["bad", "two"], "x\ncd\n", &[NOT_UTF_8], 1),
+    ("mark", &["bad", "two"], "cd\n", &[NOT_UTF_8], 1),
     (
         "segment",
         &["one", "two"],
