@@ -13,7 +13,7 @@ const TEXTS: [(&str, &[u8]); 4] = [
     ("one", b"a b"),
     ("two", b"cd\n"),
     ("bad", b"x\n\xFF"),
-    ("tests", "× 0061 ÷ 0062 ÷\n".as_bytes()),
+    ("tests", b"\xC3\x97 0061 \xC3\xB7 0062 \xC3\xB7\n"),
 ];
 
 const NOT_UTF_8: RunFault = RunFault::Cmd(CmdFault::Passage(PassageFault::NotUtf8 { at: 2 }));
