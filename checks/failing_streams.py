@@ -20,7 +20,7 @@ IN_FAULT = "lbk: standard input cannot be read"
 OUT_FAULT = "lbk: standard output cannot be written"
 NO_SPACE = f"{OUT_FAULT}: no storage space"
 NOT_READY = "operation would block"
-SAMPLES = "lbk: these are sample data, for a first look; for real text: lbk mark --ucd FOLDER < TEXT\n"
+SAMPLES = "lbk: these are sample data, for a first look; for real text: lbk mark --ucd FOLDER FILE\n"
 TOO_LONG = (
     "lbk: standard input: byte 0: the paragraph from here on has more than 65536 bytes; --limit raises the limit, up to 16777216"
 )

@@ -2,12 +2,12 @@
 
 Each row compares the status and all that is written, and those of the part calls how often the system was asked to read and to
 write. It needs no files but its own. Arguments name the parts to be run: files, pipes, faults, arguments, paragraphs, calls,
-kept, terminal.
+kept, terminal, texts.
 """
 
 import tempfile
 
-from checks.files_and_pipes import arguments, calls, faults, files, kept, paragraphs, pipes, terminal
+from checks.files_and_pipes import arguments, calls, faults, files, kept, paragraphs, pipes, terminal, texts
 from checks.files_and_pipes.place import Place
 from checks.harness import CannotRun, built_program
 
@@ -20,6 +20,7 @@ PARTS = {
     "calls": calls.run,
     "kept": kept.run,
     "terminal": terminal.run,
+    "texts": texts.run,
 }
 
 

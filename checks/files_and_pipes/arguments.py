@@ -23,9 +23,13 @@ def accepted(task, number):
 def each_number(place):
     """Each number of arguments, those that are accepted and others."""
     for task, out in (("show", AB), ("mark", b"ab\n")):
-        usage = f"""error: unexpected argument 'x' found
+        usage = f"""error: the property files are not named: give --ucd <FOLDER>, or each of
+  --line-break <FILE>
+  --east-asian <FILE>
+  --category <FILE>
+  --emoji <FILE>
 
-Usage: lbk {task} --ucd <FOLDER> [OPTIONS] < TEXT
+Usage: lbk {task} --ucd <FOLDER> [OPTIONS] [FILE]...
 
 For more information, try '--help'.
 """.encode()
@@ -38,7 +42,8 @@ For more information, try '--help'.
             place.row(f"{task}: --help and {number - 2} arguments", helped, b"ab", 0, help_text)
             if number > 13:
                 given = [*accepted(task, 13), *["x"] * (number - 13)]
-                place.row(f"{task}: {number} arguments, too many", given, b"ab", 2, b"", usage)
+                missing = b"lbk: x cannot be read: no such file\n" * (number - 13)
+                place.row(f"{task}: {number} arguments, missing files", given, b"ab", 1, b"", missing)
 
 
 def all_at_once(place):

@@ -3,19 +3,19 @@
 
 mod hints;
 mod system_files;
+mod telling;
 mod waiting;
 
-use lbk_args::{WordsFault, parse};
-use lbk_cmd::{Caller, CmdFault, Ending, Message, RunFault, run};
+use lbk_cmd::{CmdFault, Ending, RunFault, run};
 use lbk_devices::{Input, InputKind, Notes, Noting, Prompted};
 use lbk_feed::Device;
 use lbk_files::FileStore;
-use lbk_notation::ReplayFault;
 use std::alloc::{AllocError, Global};
 use std::io::{ErrorKind, IsTerminal};
 use std::process::ExitCode;
 use std::{env, io};
-use system_files::SystemFiles;
+use system_files::{SystemFiles, SystemTexts};
+use telling::tell_refused;
 use waiting::Waiting;
 
 fn main(rt: HostRuntime) -> ExitCode {
@@ -40,7 +40,7 @@ fn run_and_tell(rt: &HostRuntime) -> Ending {
     told(rt, words.as_slice(), ending, &notes)
 }
 
-/// A run over the files of the system, from standard input to standard output.
+/// A run over the files of the system, from its texts or standard input to standard output.
 fn run_on_devices(rt: &HostRuntime, words: &[&str], notes: &Notes) -> Ending {
     let kind = if words.first() == Some(&"replay") {
         InputKind::TestLines
@@ -55,7 +55,15 @@ fn run_on_devices(rt: &HostRuntime, words: &[&str], notes: &Notes) -> Ending {
     let mut writer = Device::new(Noting::new(rt.stdout(), notes));
     let files = SystemFiles::new(rt, notes);
     let mut store = FileStore::new(&files);
-    run(rt.alloc(), words, &mut store, &mut reader, &mut writer)
+    let mut texts = SystemTexts::new(rt, words, kind, notes);
+    run(
+        rt.alloc(),
+        words,
+        &mut store,
+        &mut texts,
+        &mut reader,
+        &mut writer,
+    )
 }
 
 /// The words behind the program's name, or how a run ends that cannot have them.
@@ -88,7 +96,7 @@ fn out_of_memory() -> Ending {
 fn told(rt: &HostRuntime, words: &[&str], ending: Ending, notes: &Notes) -> Ending {
     let ending = with_help_written(rt, ending, notes);
     match &ending {
-        Ending::Done | Ending::Help { .. } => {}
+        Ending::Done | Ending::Help { .. } | Ending::Reported => {}
         Ending::Differs(report) => {
             if report.refused > 0 && notes.has_kinds.get() && !words.contains(&"--kinds") {
                 let _ = eprintln!(rt; "lbk: {}", hints::KINDS);
@@ -96,11 +104,8 @@ fn told(rt: &HostRuntime, words: &[&str], ending: Ending, notes: &Notes) -> Endi
         }
         Ending::Usage { text } => {
             let _ = eprint!(rt; "{text}");
-            if let Some(file) = hints::file_of_text(words) {
-                let _ = eprintln!(rt; "\n{}{file}", hints::TEXT_ON_INPUT);
-            }
         }
-        Ending::Refused(fault) => tell_refused(rt, words, *fault, notes),
+        Ending::Refused(fault) => tell_refused(rt, words, None, *fault, notes),
     }
     ending
 }
@@ -113,33 +118,4 @@ fn with_help_written(rt: &HostRuntime, ending: Ending, notes: &Notes) -> Ending 
         }
     }
     ending
-}
-
-/// One line for a refused run; none where nobody reads the output any more.
-fn tell_refused(rt: &HostRuntime, words: &[&str], fault: RunFault, notes: &Notes) {
-    let reason = notes.error.get();
-    if is_write(fault) && reason == Some(ErrorKind::BrokenPipe) {
-        return;
-    }
-    let (fault, caller) = match parse(rt.alloc(), words) {
-        Ok(order) => (fault, Caller::Words(order)),
-        // Without them the message would name another file or limit.
-        Err(WordsFault::Memory) => (RunFault::Memory, Caller::NoWords),
-        Err(_) => (fault, Caller::NoWords),
-    };
-    let message = Message {
-        fault,
-        caller,
-        reason,
-        is_utf16: notes.is_utf16.get(),
-    };
-    let _ = eprintln!(rt; "lbk: {message}");
-}
-
-/// Whether the output failed.
-fn is_write(fault: RunFault) -> bool {
-    matches!(
-        fault,
-        RunFault::Cmd(CmdFault::Write) | RunFault::Replay(ReplayFault::Write)
-    )
 }

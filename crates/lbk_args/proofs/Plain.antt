@@ -17,7 +17,7 @@ use Rattle.lbk_args.specs.Accepted.{faults_of, unnamed_fault}
 use Rattle.lbk_feed.specs.Text.{greatest_limit}
 use Rattle.lbk_args.specs.Command.{default_limit, default_limit_text, flag_rule, lbk_app, limited_app, number_rule, profile_rule, replay_app, value_rule}
 use Rattle.lbk_args.specs.PlainWords.{AreEngineWords, AreFolderWords, AreFourWords, AreKindsWords, AreLimitWords, AreProfileWords, IsPlainFor, IsPlainName, folder_files, given_files, name_of_engine, profile_word}
-use Rattle.lbk_args.specs.Task.{NamedFiles, Task, files_in, limit_in, number_or, profile_in, task_by, task_in}
+use Rattle.lbk_args.specs.Task.{NamedFiles, Task, files_in, limit_in, number_or, profile_in, task_by, task_in, texts_in}
 use Rattle.lbk_args.proofs.Numerals.{limit_plain, limit_read, limit_taken}
 use Rattle.lbk_args.proofs.Steps.{Enters, Takes, Walks, between, done, entered_clean, entered_rows, pair, step, taken}
 
@@ -344,7 +344,7 @@ replay_both (four l e c m) p plain pp good =
 -- ---- all plain words
 
 abbrev task_with : Engine → Files → Profile → Task
-task_with engine fs profile = record { engine = engine; files = files_of fs; profile = profile }
+task_with engine fs profile = record { engine = engine; files = files_of fs; profile = profile; texts = [] }
 
 -- what `mark`, `show` or `segment` finds behind its name
 record Finds (name : Text) (words : List Text) (fs : Files) (limit : ℕ) (profile : Profile) : Type 0 where
@@ -353,6 +353,7 @@ record Finds (name : Text) (words : List Text) (fs : Files) (limit : ℕ) (profi
   files_are : files_in rows ≡ Some (files_of fs)
   limit_is : limit_in rows ≡ limit
   profile_is : profile_in rows ≡ profile
+  texts_are : texts_in rows ≡ []
 
 limited_plain : (name : Text) (fs : Files) (limit : ℕ) (profile : Profile) (own last : List Text) → ArePlain fs
     → AreLimitWords limit own → AreProfileWords profile last → Finds name (words_before fs (own ++ last)) fs limit profile
@@ -364,6 +365,7 @@ limited_plain name (folder (u ∷ us)) limit profile own last plain (inl none) (
   files_are = refl;
   limit_is = refl;
   profile_is = refl;
+  texts_are = refl;
 })
 limited_plain name (folder (u ∷ us)) limit profile own last plain (inl none) (inr given) = rw (none.0, given, none.1) (record {
   rows = _;
@@ -371,6 +373,7 @@ limited_plain name (folder (u ∷ us)) limit profile own last plain (inl none) (
   files_are = refl;
   limit_is = refl;
   profile_is = profile_read profile;
+  texts_are = refl;
 })
 limited_plain name (folder (u ∷ us)) limit profile own last plain (inr number) (inl first) = rw (number.0, first.0, first.1) (record {
   rows = _;
@@ -378,6 +381,7 @@ limited_plain name (folder (u ∷ us)) limit profile own last plain (inr number)
   files_are = refl;
   limit_is = sym (limit_read default_limit limit number.2);
   profile_is = refl;
+  texts_are = refl;
 })
 limited_plain name (folder (u ∷ us)) limit profile own last plain (inr number) (inr given) = rw (number.0, given) (record {
   rows = _;
@@ -386,6 +390,7 @@ limited_plain name (folder (u ∷ us)) limit profile own last plain (inr number)
   files_are = refl;
   limit_is = sym (limit_read default_limit limit number.2);
   profile_is = profile_read profile;
+  texts_are = refl;
 })
 limited_plain name (four l e c m) limit profile own last plain (inl none) (inl first) = rw (none.0, first.0, none.1, first.1) (record {
   rows = _;
@@ -393,6 +398,7 @@ limited_plain name (four l e c m) limit profile own last plain (inl none) (inl f
   files_are = refl;
   limit_is = refl;
   profile_is = refl;
+  texts_are = refl;
 })
 limited_plain name (four l e c m) limit profile own last plain (inl none) (inr given) = rw (none.0, given, none.1) (record {
   rows = _;
@@ -400,6 +406,7 @@ limited_plain name (four l e c m) limit profile own last plain (inl none) (inr g
   files_are = refl;
   limit_is = refl;
   profile_is = profile_read profile;
+  texts_are = refl;
 })
 limited_plain name (four l e c m) limit profile own last plain (inr number) (inl first) = rw (number.0, first.0, first.1) (record {
   rows = _;
@@ -407,6 +414,7 @@ limited_plain name (four l e c m) limit profile own last plain (inr number) (inl
   files_are = refl;
   limit_is = sym (limit_read default_limit limit number.2);
   profile_is = refl;
+  texts_are = refl;
 })
 limited_plain name (four l e c m) limit profile own last plain (inr number) (inr given) = rw (number.0, given) (record {
   rows = _;
@@ -415,6 +423,7 @@ limited_plain name (four l e c m) limit profile own last plain (inr number) (inr
   files_are = refl;
   limit_is = sym (limit_read default_limit limit number.2);
   profile_is = profile_read profile;
+  texts_are = refl;
 })
 
 replay_plain : (fs : Files) (kinds : Bool) (profile : Profile) (own last : List Text) → ArePlain fs → AreKindsWords kinds own
@@ -447,15 +456,15 @@ engine_plain : (fs : Files) (engine : Engine) (profile : Profile) (own last : Li
 engine_plain fs (Mark limit) profile own last plain given more =
     let f = limited_plain (codes "mark") fs limit profile own last plain given more in
     mark_performs (words_before fs (own ++ last)) f.rows (task_with (Mark limit) fs profile) f.takes
-    (λ i. option_map (λ files. record { engine = Mark (f.limit_is i); files = files; profile = f.profile_is i }) (f.files_are i))
+    (λ i. option_map (λ files. record { engine = Mark (f.limit_is i); files = files; profile = f.profile_is i; texts = f.texts_are i }) (f.files_are i))
 engine_plain fs (Show limit) profile own last plain given more =
     let f = limited_plain (codes "show") fs limit profile own last plain given more in
     show_performs (words_before fs (own ++ last)) f.rows (task_with (Show limit) fs profile) f.takes
-    (λ i. option_map (λ files. record { engine = Show (f.limit_is i); files = files; profile = f.profile_is i }) (f.files_are i))
+    (λ i. option_map (λ files. record { engine = Show (f.limit_is i); files = files; profile = f.profile_is i; texts = f.texts_are i }) (f.files_are i))
 engine_plain fs (Segment limit) profile own last plain given more =
     let f = limited_plain (codes "segment") fs limit profile own last plain given more in
     segment_performs (words_before fs (own ++ last)) f.rows (task_with (Segment limit) fs profile) f.takes
-    (λ i. option_map (λ files. record { engine = Segment (f.limit_is i); files = files; profile = f.profile_is i }) (f.files_are i))
+    (λ i. option_map (λ files. record { engine = Segment (f.limit_is i); files = files; profile = f.profile_is i; texts = f.texts_are i }) (f.files_are i))
 engine_plain fs (Replay kinds) profile own last plain given more = replay_plain fs kinds profile own last plain given more
 
 -- the words of the files are those of a folder or of four names
@@ -484,6 +493,8 @@ plain_performs task words plain =
     let r = read task.files plain.file_words plain.files in
     subst (λ (ws : List Text). Performs ws task)
     (sym (plain.are ∙ ap (λ (ws : List Text). name_of_engine task.engine ∷ ws) (r.before (plain.engine_words ++ plain.profile_words))))
+    (subst (λ (texts : List Text). Performs (name_of_engine task.engine ∷ words_before r.fs (plain.engine_words ++ plain.profile_words))
+    (record { engine = task.engine; files = task.files; profile = task.profile; texts = texts })) (sym plain.texts)
     (subst (λ (files : NamedFiles). Performs (name_of_engine task.engine ∷ words_before r.fs (plain.engine_words ++ plain.profile_words))
-    (record { engine = task.engine; files = files; profile = task.profile })) (sym r.files_are)
-    (engine_plain r.fs task.engine task.profile plain.engine_words plain.profile_words r.plain plain.engine plain.profile))
+    (record { engine = task.engine; files = files; profile = task.profile; texts = [] })) (sym r.files_are)
+    (engine_plain r.fs task.engine task.profile plain.engine_words plain.profile_words r.plain plain.engine plain.profile)))

@@ -2,7 +2,7 @@
 use Rattle.std.specs.Prelude.{ℕ, true, [], ◌∷◌, Some, codes}
 use Rattle.lbk_feed.specs.Text.{greatest_limit}
 use Rattle.clap.specs.Words.{App, Rule, Text, new_app, new_rule, with_rule, with_subcommand}
-use Rattle.clap.specs.declared.builder.action.ArgAction.TheVariants.{Set, SetTrue}
+use Rattle.clap.specs.declared.builder.action.ArgAction.TheVariants.{Append, Set, SetTrue}
 use Rattle.clap.specs.declared.builder.value_parser.ValueParser.TheVariants.{Unsigned}
 
 -- the limit of a paragraph where none is given, in bytes, and as the command line has it
@@ -31,11 +31,15 @@ number_rule name most default = record (value_rule name) {
 abbrev pub flag_rule : Text → Rule
 flag_rule name = record (long_rule name) { action = Some SetTrue }
 
+-- the operands, which name the texts
+abbrev pub texts_rule : Rule
+texts_rule = record (new_rule (codes "text")) { action = Some Append; value_names = 1 }
+
 -- a subcommand with the folder of the property files
 abbrev pub folder_app : Text → App
 folder_app name = with_rule (new_app name) (value_rule (codes "ucd"))
 
--- the options that each subcommand has
+-- the options of the files, which each subcommand has
 abbrev pub widths_app : Text → App
 widths_app name = with_rule (with_rule (folder_app name)
     (value_rule (codes "line-break"))) (value_rule (codes "east-asian"))
@@ -49,12 +53,12 @@ profile_rule = number_rule (codes "profile") 2 (codes "1")
 
 -- `mark`, `show` and `segment`
 abbrev pub limited_app : Text → App
-limited_app name = with_rule (with_rule (files_app name)
-    (number_rule (codes "limit") greatest_limit default_limit_text)) profile_rule
+limited_app name = with_rule (with_rule (with_rule (files_app name)
+    (number_rule (codes "limit") greatest_limit default_limit_text)) profile_rule) texts_rule
 
 -- `replay`
 abbrev pub replay_app : App
-replay_app = with_rule (with_rule (files_app (codes "replay")) (flag_rule (codes "kinds"))) profile_rule
+replay_app = with_rule (with_rule (with_rule (files_app (codes "replay")) (flag_rule (codes "kinds"))) profile_rule) texts_rule
 
 -- a program that takes only words behind its name, wants a subcommand and tells its version
 abbrev pub bare_app : App

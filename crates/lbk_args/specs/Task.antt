@@ -1,8 +1,8 @@
 -- What accepted words ask for, by the values that `clap` finds in them.
-use Rattle.std.specs.Prelude.{ℕ, ◌^◌, ◌==◌, ◌&&◌, Bool, false, List, [], ◌∷◌, Option, Some, None, if◌then◌else◌, nat_lt, codes, option_and_then, option_map}
+use Rattle.std.specs.Prelude.{ℕ, ◌^◌, ◌==◌, ◌&&◌, Bool, false, List, [], ◌∷◌, Option, Some, None, if◌then◌else◌, nat_lt, codes, map, option_and_then, option_map, unwrap_or}
 use Rattle.std.specs.Str.{bytes_eq}
 use Rattle.std.specs.Str.Parse.{digits_value, without_leading_plus}
-use Rattle.clap.specs.Words.{Row, Text, first_of, one_of, subcommand_of}
+use Rattle.clap.specs.Words.{Row, Text, all_of, first_of, one_of, subcommand_of}
 use Rattle.clap.specs.ValueTests.{is_numeral}
 use Rattle.lbk_values.specs.declared.profile.Profile.{Profile}
 use Rattle.lbk_values.specs.declared.profile.Profile.TheVariants.{First, Second}
@@ -26,11 +26,12 @@ pub record NamedFiles : Type 0 where
   pub category : Named
   pub emoji : Named
 
--- an engine with its option, the names of the four files and the profile
+-- an engine with its option, the names of the four files, the profile, and the names of the texts
 pub record Task : Type 0 where
   pub engine : Engine
   pub files : NamedFiles
   pub profile : Profile
+  pub texts : List Text
 
 abbrev pub named_of : FileName → Named
 named_of (Given name) = given name.now
@@ -46,7 +47,12 @@ files_of_names names = record {
 
 -- the task that an order holds
 abbrev pub task_of : Order → Task
-task_of o = record { engine = o.engine; files = files_of_names o.files; profile = o.profile }
+task_of o = record {
+  engine = o.engine;
+  files = files_of_names o.files;
+  profile = o.profile;
+  texts = map (λ name. name.now) o.texts.items;
+}
 
 -- a folder, where its name is not empty
 abbrev pub named_folder : Option Text → Option Named
@@ -91,6 +97,10 @@ limit_in rows = number_or default_limit (one_of (codes "limit") rows)
 abbrev pub profile_in : List Row → Profile
 profile_in rows = if number_or 1 (one_of (codes "profile") rows) == 2 then Second else First
 
+-- the names of the texts, in the order of the words
+abbrev pub texts_in : List Row → List Text
+texts_in rows = unwrap_or (all_of (codes "text") rows) []
+
 -- the text is `true`
 abbrev pub is_true : Option Text → Bool
 is_true None = false
@@ -112,6 +122,7 @@ task_in found = option_map (λ files. record {
   engine = engine_in found.0 found.1;
   files = files;
   profile = profile_in found.1;
+  texts = texts_in found.1;
 }) (files_in found.1)
 
 -- the task that the words ask for

@@ -4,7 +4,7 @@ ghost use Rattle.std.specs.Prelude.{◌≡◌, false, IfOk, codes};
 ghost use Rattle.clap.specs.Words.{App, Rule, app_of, rule_of, with_rule, with_subcommand};
 ghost use Rattle.lbk_feed.specs.Text.{greatest_limit};
 ghost use Rattle.lbk_args.specs.Local.{IsLocal, IsMade};
-ghost use Rattle.lbk_args.specs.Command.{long_rule, value_rule, number_rule, default_limit_text, flag_rule, profile_rule, files_app, limited_app, replay_app, bare_app, lbk_app};
+ghost use Rattle.lbk_args.specs.Command.{long_rule, value_rule, number_rule, default_limit_text, flag_rule, profile_rule, texts_rule, files_app, limited_app, replay_app, bare_app, lbk_app};
 
 use clap::builder::ValueParser;
 use clap::{Arg, ArgAction, Command};
@@ -14,8 +14,8 @@ use std::alloc::{AllocError, Global};
 const VERSION: &str = "0.1.0 (breaks by UAX #14 of Unicode 15.0, words by UAX #29 of Unicode 18.0)";
 
 const ABOUT: &str = "\
-Finds where the text on standard input may break and where it must, and says which rule of UAX #14 decided.
-Without arguments it shows the text by four small sample files.";
+Finds where a text may break and where it must, and says which rule of UAX #14 decided. A text is a file, or
+standard input. Without arguments it shows standard input by four small sample files.";
 
 const EXAMPLES: &str = "\
 FOLDER is the Unicode Character Database of Unicode 15.0. Without --ucd name its files, all four:
@@ -23,20 +23,20 @@ FOLDER is the Unicode Character Database of Unicode 15.0. Without --ucd name its
   --category DerivedGeneralCategory.txt --emoji emoji-data.txt
 
 Examples:
-  lbk mark --ucd FOLDER < text.txt                       the text with its breaks
-  lbk show --ucd FOLDER < text.txt                       a line for each passage
-  lbk segment --ucd FOLDER --limit 1000000 < text.txt    the breaks as byte offsets
-  lbk replay --ucd FOLDER < LineBreakTest.txt            the lines that do not agree
+  lbk mark --ucd FOLDER text.txt                       the text with its breaks
+  lbk show --ucd FOLDER < text.txt                     a line for each passage
+  lbk segment --ucd FOLDER --limit 1000000 text.txt    the breaks as byte offsets
+  lbk replay --ucd FOLDER LineBreakTest.txt            the lines that do not agree
 
 Exit status: 0 done, 1 a refused file or text, 2 invalid arguments, 3 a replay with lines that differ or are refused.";
 
-const MARK_USAGE: &str = "lbk mark --ucd <FOLDER> [OPTIONS] < TEXT";
+const MARK_USAGE: &str = "lbk mark --ucd <FOLDER> [OPTIONS] [FILE]...";
 
-const SHOW_USAGE: &str = "lbk show --ucd <FOLDER> [OPTIONS] < TEXT";
+const SHOW_USAGE: &str = "lbk show --ucd <FOLDER> [OPTIONS] [FILE]...";
 
-const SEGMENT_USAGE: &str = "lbk segment --ucd <FOLDER> [OPTIONS] < TEXT";
+const SEGMENT_USAGE: &str = "lbk segment --ucd <FOLDER> [OPTIONS] [FILE]...";
 
-const REPLAY_USAGE: &str = "lbk replay --ucd <FOLDER> [OPTIONS] < TESTS";
+const REPLAY_USAGE: &str = "lbk replay --ucd <FOLDER> [OPTIONS] [FILE]...";
 
 const MARK_ABOUT: &str = "Writes the text with ÷ at each position where a line may end";
 
@@ -151,6 +151,17 @@ fn kinds_option<'a>(alloc: Global) -> Arg<'a>
         .help("Marks tell ! from ÷; without it ÷ stands for every break")
 }
 
+/// The operands, which name the texts.
+fn texts_operand<'a>(alloc: Global) -> Arg<'a>
+    ensures rule { rule_of result ≡ texts_rule }
+    ensures local { result.global ≡ false }
+{
+    Arg::new(alloc, "text")
+        .action(ArgAction::Append)
+        .value_name("FILE")
+        .help("A text, `-` for standard input, which is read where no file is named")
+}
+
 /// A command line, or that a growth of memory was refused for it.
 type Made<'a> = Result<Command<'a>, AllocError>;
 
@@ -206,7 +217,8 @@ fn limited<'a>(alloc: Global, name: &'a str) -> Made<'a>
     ensures { IsMade (limited_app name.entry.now) result }
 {
     let command = with_option(with_files(alloc, name), limit_option(alloc));
-    with_option(command, profile_option(alloc))
+    let command = with_option(command, profile_option(alloc));
+    with_option(command, texts_operand(alloc))
 }
 
 fn mark<'a>(alloc: Global) -> Made<'a>
@@ -237,6 +249,7 @@ fn replay<'a>(alloc: Global) -> Made<'a>
 {
     let command = with_option(with_files(alloc, "replay"), kinds_option(alloc));
     let command = with_option(command, profile_option(alloc));
+    let command = with_option(command, texts_operand(alloc));
     described(command, REPLAY_USAGE, REPLAY_ABOUT, REPLAY_AFTER)
 }
 

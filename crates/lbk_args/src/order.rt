@@ -34,11 +34,13 @@ pub enum Engine {
 }
 
 /// What the words ask for.
-#[derive(Clone, Copy, Debug)]
+#[derive(Debug, Drop)]
 pub struct Order<'a> {
     pub engine: Engine,
     pub files: FileNames<'a>,
     pub profile: Profile,
+    /// The names of the texts, in order; none stands for standard input, as `-` does.
+    pub texts: Vec<&'a str>,
 }
 
 /// Why the words ask for no work.

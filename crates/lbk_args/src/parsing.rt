@@ -4,7 +4,7 @@ ghost use Rattle.std.specs.Prelude.{◌≡◌, [], ◌∷◌, None, Some, IfOk, 
 ghost use Rattle.clap.specs.Words.{first_of, found_of, kind_of, one_of, rows_of};
 ghost use Rattle.clap.specs.declared.error.kind.ErrorKind.TheVariants.{MissingRequiredArgument};
 ghost use Rattle.lbk_args.specs.Accepted.{AreAccepted, faults_of};
-ghost use Rattle.lbk_args.specs.Task.{Task, engine_in, files_in, files_of_names, kinds_in, limit_in, named_folder, named_in, named_of, number_or, own_or_folder, profile_in, task_by, task_in, task_of};
+ghost use Rattle.lbk_args.specs.Task.{Task, engine_in, files_in, files_of_names, kinds_in, limit_in, named_folder, named_in, named_of, number_or, own_or_folder, profile_in, task_by, task_in, task_of, texts_in};
 ghost use Rattle.lbk_args.specs.PlainWords.{IsPlainFor};
 ghost use Rattle.lbk_args.specs.Refusal.{IsRefusalBy};
 
@@ -13,7 +13,7 @@ use super::order::{Engine, FileName, FileNames, Order, WordsFault};
 use clap::error::ErrorKind;
 use clap::{ArgMatches, Error};
 use lbk_values::Profile;
-use std::alloc::Global;
+use std::alloc::{AllocError, Global};
 
 /// The most bytes of a paragraph where the words give no limit.
 pub const DEFAULT_LIMIT: u32 = 65_536;
@@ -35,7 +35,10 @@ pub fn parse<'a>(alloc: Global, words: &'a [&'a str]) -> Result<Order<'a>, Words
     match command.try_get_matches_from(words) {
         Ok(matches) => {
             let (name, given) = matches.subcommand().unwrap();
-            match order(name, given) {
+            let Ok(texts) = texts(alloc, given) else {
+                return Err(WordsFault::Memory);
+            };
+            match order(name, given, texts) {
                 Some(order) => Ok(order),
                 None => Err(unnamed(alloc, name)),
             }
@@ -44,8 +47,9 @@ pub fn parse<'a>(alloc: Global, words: &'a [&'a str]) -> Result<Order<'a>, Words
     }
 }
 
-/// The order of a subcommand, by what was found for its options; none where a property file is not named.
-fn order<'a>(name: &str, given: &ArgMatches<'a>) -> Option<Order<'a>>
+/// The order of a subcommand for these texts, by what was found for its options; none where a property file is not named.
+fn order<'a>(name: &str, given: &ArgMatches<'a>, texts: Vec<&'a str>) -> Option<Order<'a>>
+    requires { map (λ name. name.now) texts.items ≡ texts_in (rows_of (found_of given.now)) }
     ensures { option_map task_of result ≡ task_in (name.now, rows_of (found_of given.now)) }
 {
     let files = files(given)?;
@@ -53,6 +57,7 @@ fn order<'a>(name: &str, given: &ArgMatches<'a>) -> Option<Order<'a>>
         engine: engine(name, given),
         files,
         profile: profile(given),
+        texts,
     })
 }
 
@@ -142,6 +147,16 @@ fn profile(given: &ArgMatches<'_>) -> Profile
     }
 }
 
+/// The names of the texts.
+fn texts<'a>(alloc: Global, given: &ArgMatches<'a>) -> Result<Vec<&'a str>, AllocError>
+    ensures { IfOk result (λ texts. map (λ name. name.now) texts.items ≡ texts_in (rows_of (found_of given.now))) }
+{
+    match given.get_strs("text") {
+        Some(names) => Vec::from_slice(alloc, names),
+        None => Ok(Vec::new(alloc)),
+    }
+}
+
 /// What the program answers where `clap` takes no order from the words.
 fn refusal(alloc: Global, error: &Error) -> WordsFault
     ensures { IsRefusalBy (kind_of error.now ∷ []) result }
@@ -163,7 +178,7 @@ fn unnamed(alloc: Global, name: &str) -> WordsFault
     let told = format!(in alloc;
         "error: the property files are not named: give --ucd <FOLDER>, or each of\n  \
          --line-break <FILE>\n  --east-asian <FILE>\n  --category <FILE>\n  --emoji <FILE>\n\n\
-         Usage: lbk {name} --ucd <FOLDER> [OPTIONS]\n\nFor more information, try '--help'.\n"
+         Usage: lbk {name} --ucd <FOLDER> [OPTIONS] [FILE]...\n\nFor more information, try '--help'.\n"
     );
     match told {
         Ok(text) => WordsFault::Usage { text },

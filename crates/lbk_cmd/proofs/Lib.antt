@@ -16,3 +16,4 @@ mod Rows
 pub mod Headlines
 pub mod Joined
 pub mod Relabeling
+pub mod Over

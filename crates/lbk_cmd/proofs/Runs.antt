@@ -10,20 +10,20 @@ use Rattle.lbk_files.specs.declared.faults.Stop.{Stop}
 use Rattle.lbk_files.specs.declared.readiness.Ready.{Ready}
 use Rattle.lbk_files.specs.FileFault.{LoadCounts}
 use Rattle.lbk_files.specs.Ready.{IsReadyFor}
-use Rattle.lbk_cmd.specs.declared.ending.Ending.{Ending}
-use Rattle.lbk_cmd.specs.Devices.{Devices}
+use Rattle.lbk_cmd.specs.Operands.{Reads, Standing}
 use Rattle.lbk_cmd.specs.Acts.{EngineRuns, Performs}
 
 -- an engine that runs on what is ready for a task performs it
-pub ready_performs : (file : List ℕ → Option (Option (List ℕ))) (task : Task) (counts counts' : LoadCounts) (ready : Ready)
-    (before after : Devices) (ending : Ending) → IsReadyFor file task ready
-    → EngineRuns ready.engine ready.profile (page_cell ready.cells) before after ending
-    → Performs file task counts counts' before after ending
-ready_performs file task counts counts' ready before after ending is runs = inr (
+pub ready_performs : (file text : List ℕ → Option (Option (List ℕ))) (task : Task) (counts counts' : LoadCounts) (ready : Ready)
+    (before after : Standing) → IsReadyFor file task ready
+    → Reads text (EngineRuns ready.engine ready.profile (page_cell ready.cells)) (map (λ name. name.now) ready.texts.items) before after
+    → Performs file text task counts counts' before after
+ready_performs file text task counts counts' ready before after is reads = inr (
   page_cell ready.cells,
   is.cells,
-  subst (λ (engine : Engine). EngineRuns engine task.profile (page_cell ready.cells) before after ending) is.engine
-      (subst (λ (profile : Profile). EngineRuns ready.engine profile (page_cell ready.cells) before after ending) is.profile runs),
+  subst (λ (engine : Engine). Reads text (EngineRuns engine task.profile (page_cell ready.cells)) task.texts before after) is.engine
+      (subst (λ (profile : Profile). Reads text (EngineRuns ready.engine profile (page_cell ready.cells)) task.texts before after) is.profile
+      (subst (λ (names : List (List ℕ)). Reads text (EngineRuns ready.engine ready.profile (page_cell ready.cells)) names before after) is.texts reads)),
 )
 
 -- one stop

@@ -32,6 +32,7 @@ use Rattle.lbk_cmd.specs.declared.faults.CmdFault.{CmdFault}
 use Rattle.lbk_cmd.specs.declared.ending.Ending.{Ending}
 use Rattle.lbk_cmd.specs.declared.engine.Lines.{Lines}
 use Rattle.lbk_cmd.specs.Devices.{Devices}
+use Rattle.lbk_cmd.specs.Operands.{Reads, Standing}
 use Rattle.lbk_cmd.specs.Ending.{ending_of_files, ending_of_replay, ending_of_stop, ending_of_text}
 
 -- what `mark`, `show` and `segment` do where they differ only in the text that they write: to the devices, with the answer
@@ -99,7 +100,10 @@ EngineRuns (Segment limit) profile cell before after ending =
 EngineRuns (Replay kinds) profile cell before after ending =
     (answer : Result Report ReplayFault) × Replays cell (form_of kinds) profile before after answer × (ending ≡ ending_of_replay answer)
 
--- a task: its files stop the run, or its engine runs with its option and profile on the cells of the files
-abbrev pub Performs : (List ℕ → Option (Option (List ℕ))) → Task → LoadCounts → LoadCounts → Devices → Devices → Ending → Type 0
-Performs file task counts counts' before after ending = StopsBefore (IsStoppedAt file task counts counts') before after ending
-    ⊎ ((cell : ℕ → Cell) × AreCellsFrom (files_of file task.files) cell × EngineRuns task.engine task.profile cell before after ending)
+-- a task: its files stop the run and no text is opened, or its engine runs with its option and profile on the cells of the
+-- files, over its texts
+abbrev pub Performs : (List ℕ → Option (Option (List ℕ))) → (List ℕ → Option (Option (List ℕ))) → Task → LoadCounts → LoadCounts → Standing → Standing → Type 0
+Performs file text task counts counts' before after =
+    (StopsBefore (IsStoppedAt file task counts counts') before.devices after.devices after.ending × (after.refused ≡ before.refused))
+    ⊎ ((cell : ℕ → Cell) × AreCellsFrom (files_of file task.files) cell
+    × Reads text (EngineRuns task.engine task.profile cell) task.texts before after)

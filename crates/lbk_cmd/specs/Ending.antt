@@ -1,23 +1,43 @@
 -- How a run ends, by the step that ended it, and the exit status of each ending.
-use Rattle.std.specs.Prelude.{ℕ, ◌||◌, Bool, Result, Ok, Err, if◌then◌else◌, nat_lt}
+use Rattle.std.specs.Prelude.{ℕ, ◌||◌, Bool, true, false, Result, Ok, Err, if◌then◌else◌, nat_lt}
 use Rattle.lbk_notation.specs.declared.findings.Report.{Report}
 use Rattle.lbk_notation.specs.declared.findings.ReplayFault.{ReplayFault}
+use Rattle.lbk_notation.specs.declared.findings.ReplayFault.TheVariants as replay
+use Rattle.lbk_passage.specs.declared.faults.PassageFault.TheVariants as passage
 use Rattle.lbk_files.specs.declared.faults.CellsFault.{CellsFault}
 use Rattle.lbk_files.specs.declared.faults.CellsFault.TheVariants as cells
 use Rattle.lbk_files.specs.declared.faults.Stop.{Stop}
 use Rattle.lbk_files.specs.declared.faults.Stop.TheVariants as stop
 use Rattle.lbk_cmd.specs.declared.faults.CmdFault.{CmdFault}
 use Rattle.lbk_cmd.specs.declared.ending.Ending.{Ending}
-use Rattle.lbk_cmd.specs.declared.ending.Ending.TheVariants.{Done, Help, Usage, Differs, Refused}
+use Rattle.lbk_cmd.specs.declared.ending.Ending.TheVariants.{Done, Help, Usage, Differs, Refused, Reported}
+use Rattle.lbk_cmd.specs.declared.faults.CmdFault.TheVariants as cmd
 use Rattle.lbk_cmd.specs.declared.ending.RunFault.TheVariants.{Load, Claim, Tables, Cmd, Replay, Memory}
 
--- 0 done or help, 1 refused, 2 invalid arguments, 3 a replay with lines that differ or are refused
+-- 0 done or help, 1 a refusal, 2 invalid arguments, 3 a replay with lines that differ or are refused
 abbrev pub status_of : Ending → ℕ
 status_of Done = 0
 status_of (Help text) = 0
 status_of (Usage text) = 2
 status_of (Differs report) = 3
 status_of (Refused fault) = 1
+status_of Reported = 1
+
+-- no other text is read after one that ended so: the output cannot be written, or a growth of memory was refused
+abbrev pub is_last : Ending → Bool
+is_last (Refused Memory) = true
+is_last (Refused (Cmd cmd.Write)) = true
+is_last (Refused (Cmd cmd.Memory)) = true
+is_last (Refused (Cmd (cmd.Passage passage.Memory))) = true
+is_last (Refused (Replay replay.Write)) = true
+is_last (Refused (Replay replay.Memory)) = true
+is_last _ = false
+
+-- how a run over texts ends that ended so with those before, and so with one more, whose refusal is reported
+abbrev pub ending_after : Ending → Ending → Ending
+ending_after before (Refused fault) = Reported
+ending_after Done next = next
+ending_after before _ = before
 
 -- files that gave no cells
 abbrev pub ending_of_files : CellsFault → Ending

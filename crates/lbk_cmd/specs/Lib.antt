@@ -7,6 +7,7 @@ pub mod Run
 pub mod Engines
 pub mod Ending
 pub mod Devices
+pub mod Operands
 pub mod Acts
 pub mod Headline
 pub mod Broken

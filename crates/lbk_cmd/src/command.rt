@@ -1,7 +1,6 @@
 //! A run of the program, from its words to its ending.
 
 ghost use Rattle.std.specs.Prelude.{◌≡◌, ◌≢◌, ◌+◌, ◌<◌, ◌≤◌, ◌⊎◌, Bool, [], Some, map};
-ghost use Rattle.lbk_steps.specs.CellPages.{page_cell};
 ghost use Rattle.lbk_args.specs.Accepted.{AreAccepted};
 ghost use Rattle.lbk_args.specs.Task.{Task, task_by};
 ghost use Rattle.lbk_args.specs.PlainWords.{IsPlainFor};
@@ -10,47 +9,59 @@ ghost use Rattle.lbk_files.specs.Ready.{IsStoppedByWords};
 ghost use Rattle.lbk_cmd.specs.Devices.{devices_of};
 ghost use Rattle.lbk_cmd.specs.Ending.{ending_of_text};
 ghost use Rattle.lbk_cmd.specs.declared.ending.RunFault.TheVariants.{Memory};
-ghost use Rattle.lbk_cmd.specs.Acts.{EngineRuns, Performs, ShowsSamples, StopsBefore, form_of};
+ghost use Rattle.lbk_cmd.specs.declared.ending.Ending.TheVariants.{Done};
+ghost use Rattle.lbk_cmd.specs.Acts.{Performs, ShowsSamples, StopsBefore};
+ghost use Rattle.lbk_cmd.specs.Operands.{standing};
 
 use super::ending::Ending;
-use super::engine::{mark, segment, show};
-use lbk_args::{DEFAULT_LIMIT, Engine};
+use super::engine::show;
+use super::operands::Texts;
+use super::performing::perform;
+use lbk_args::DEFAULT_LIMIT;
 use lbk_feed::{Sink, Source};
-use lbk_files::{Ready, Store, prepare, sample_cells};
-use lbk_notation::{Form, replay};
+use lbk_files::{Store, prepare, sample_cells};
 use lbk_rules::Profile;
 use std::alloc::Global;
 
-/// Runs the engine that the words behind the program's name ask for, by the files that they name, from the reader to
-/// the writer. Without arguments it shows the text by the sample files, in the first profile, with paragraphs of at most
-/// 65,536 bytes.
+/// Runs the engine that the words behind the program's name ask for, by the property files that they name, over the
+/// texts that they name, to the writer. `-` is the text of the reader, which is read where no text is named. Without
+/// arguments it shows that text by the sample files, in the first profile, with paragraphs of at most 65,536 bytes.
+///
+/// The texts are read in order, each once, and what is written of each follows what was written of those before it. One
+/// that is refused is reported and the others are read; the run then ends with `Reported`.
 ///
 /// The answer says how the run ended. `Help` and `Usage` come for words that ask for no engine, and `Refused` has the
-/// fault of the step that failed: nothing was read or written where that was a file. A file is loaded only for words
-/// that are accepted. `Memory` comes before any load, where a load was refused memory, or for lawful files once all
-/// four are loaded.
+/// fault of the step that failed: nothing was read or written where that was a property file. A file is loaded only for
+/// words that are accepted. `Memory` comes before any load, where a load was refused memory, for lawful files once all
+/// four are loaded, or at a text.
 #[tactic(none)]
-pub fn run<'a, S: Store, R: Source, W: Sink>(
+pub fn run<'a, S: Store, T: Texts, R: Source, W: Sink>(
     alloc: Global,
     words: &'a [&'a str],
     store: &mut S,
+    texts: &mut T,
     reader: &mut R,
     writer: &mut W,
 ) -> Ending
     ensures samples { words.entry.now ≡ [] → ShowsSamples
         (devices_of R.Source W.Sink reader.old writer.old) (devices_of R.Source W.Sink reader.new writer.new) result }
     ensures plain { (task : Task) → IsPlainFor task (map (λ w. w.now) words.entry.now)
-        → Performs (S.file store.old) task
+        → Performs (S.file store.old) (T.contents texts.old) task
         (counts_of (S.load_count store.old) (S.refusal_count store.old)) (counts_of (S.load_count store.new) (S.refusal_count store.new))
-        (devices_of R.Source W.Sink reader.old writer.old) (devices_of R.Source W.Sink reader.new writer.new) result }
+        (standing (devices_of R.Source W.Sink reader.old writer.old) (T.refused texts.old) Done)
+        (standing (devices_of R.Source W.Sink reader.new writer.new) (T.refused texts.new) result) }
     ensures accepted { (task : Task) → words.entry.now ≢ [] → AreAccepted (map (λ w. w.now) words.entry.now)
         → task_by (map (λ w. w.now) words.entry.now) ≡ Some task
-        → Performs (S.file store.old) task
+        → Performs (S.file store.old) (T.contents texts.old) task
         (counts_of (S.load_count store.old) (S.refusal_count store.old)) (counts_of (S.load_count store.new) (S.refusal_count store.new))
-        (devices_of R.Source W.Sink reader.old writer.old) (devices_of R.Source W.Sink reader.new writer.new) result }
+        (standing (devices_of R.Source W.Sink reader.old writer.old) (T.refused texts.old) Done)
+        (standing (devices_of R.Source W.Sink reader.new writer.new) (T.refused texts.new) result) }
     ensures others { words.entry.now ≢ [] → ¬ (AreAccepted (map (λ w. w.now) words.entry.now))
         → StopsBefore (IsStoppedByWords (map (λ w. w.now) words.entry.now))
         (devices_of R.Source W.Sink reader.old writer.old) (devices_of R.Source W.Sink reader.new writer.new) result }
+    ensures unopened { (words.entry.now ≡ []) ⊎ (¬ (AreAccepted (map (λ w. w.now) words.entry.now)))
+        → T.refused texts.new ≡ T.refused texts.old }
+    ensures texts { T.contents texts.new ≡ T.contents texts.old }
     ensures unloaded { (words.entry.now ≡ []) ⊎ (¬ (AreAccepted (map (λ w. w.now) words.entry.now)))
         → S.load_count store.new ≡ S.load_count store.old }
     ensures refused { S.refusal_count store.old < S.refusal_count store.new → result ≡ Ending.Refused Memory }
@@ -61,7 +72,7 @@ pub fn run<'a, S: Store, R: Source, W: Sink>(
         return show_samples(alloc, reader, writer);
     }
     match prepare(alloc, words, store) {
-        Ok(ready) => perform(alloc, &ready, reader, writer),
+        Ok(ready) => perform(alloc, &ready, texts, reader, writer),
         Err(stop) => Ending::from(stop),
     }
 }
@@ -83,59 +94,4 @@ fn show_samples<R: Source, W: Sink>(alloc: Global, reader: &mut R, writer: &mut 
         )),
         Err(fault) => Ending::of_files(fault),
     }
-}
-
-/// Runs the engine that is ready.
-#[tactic(none)]
-fn perform<R: Source, W: Sink>(
-    alloc: Global,
-    ready: &Ready,
-    reader: &mut R,
-    writer: &mut W,
-) -> Ending
-    ensures { EngineRuns ready.now.engine ready.now.profile (page_cell ready.now.cells)
-        (devices_of R.Source W.Sink reader.old writer.old) (devices_of R.Source W.Sink reader.new writer.new) result }
-{
-    let cells = &ready.cells;
-    match ready.engine {
-        Engine::Mark { limit } => Ending::of_text(mark(
-            alloc,
-            reader,
-            writer,
-            cells,
-            limit,
-            ready.profile,
-        )),
-        Engine::Show { limit } => Ending::of_text(show(
-            alloc,
-            reader,
-            writer,
-            cells,
-            limit,
-            ready.profile,
-        )),
-        Engine::Segment { limit } => Ending::of_text(segment(
-            alloc,
-            reader,
-            writer,
-            cells,
-            limit,
-            ready.profile,
-        )),
-        Engine::Replay { kinds } => Ending::of_replay(replay(
-            alloc,
-            reader,
-            writer,
-            cells,
-            form(kinds),
-            ready.profile,
-        )),
-    }
-}
-
-/// The form of the test notation: with `--kinds` a break that must be has a mark of its own.
-fn form(kinds: bool) -> Form
-    ensures { result ≡ form_of kinds }
-{
-    if kinds { Form::Kinds } else { Form::Plain }
 }

@@ -1,12 +1,13 @@
 //! How a run of the program ends.
 
 ghost use Rattle.std.specs.Prelude.{◌≡◌};
-ghost use Rattle.lbk_cmd.specs.Ending.{ending_of_files, ending_of_replay, ending_of_text, status_of};
+ghost use Rattle.lbk_cmd.specs.Ending.{ending_after, ending_of_files, ending_of_replay, ending_of_text, is_last, status_of};
 
 use super::faults::CmdFault;
 use super::message::Message;
 use lbk_files::{CellsFault, ClaimCause, Stop};
 use lbk_notation::{ReplayFault, Report};
+use lbk_passage::PassageFault;
 use lbk_ucd::{UcdFault, Which};
 use thiserror::Error;
 
@@ -14,6 +15,8 @@ use thiserror::Error;
 #[derive(Clone, Copy, Debug, PartialEq, Eq, Error)]
 #[error("{}", Message::of_call(*self))]
 pub enum RunFault {
+    /// A file of text cannot be opened.
+    Open,
     /// A property file cannot be opened or read.
     Load(Which),
     /// A property file of a folder is not that of Unicode 15.0.
@@ -41,6 +44,8 @@ pub enum Ending {
     Differs(Report),
     /// A step failed.
     Refused(RunFault),
+    /// Texts were refused, of which each was reported; the others are done, or differ.
+    Reported,
 }
 
 impl Ending {
@@ -50,7 +55,7 @@ impl Ending {
     {
         match self {
             Ending::Done | Ending::Help { .. } => 0,
-            Ending::Refused(_) => 1,
+            Ending::Refused(_) | Ending::Reported => 1,
             Ending::Usage { .. } => 2,
             Ending::Differs(_) => 3,
         }
@@ -66,6 +71,35 @@ impl Ending {
             CellsFault::Tables(fault) => Ending::Refused(RunFault::Tables(fault)),
             CellsFault::Memory => Ending::Refused(RunFault::Memory),
         }
+    }
+
+    /// How a run over texts ends, after those before it and the next one.
+    pub(crate) fn and(self, next: Ending) -> Ending
+        ensures { result ≡ ending_after self next }
+    {
+        match (self, next) {
+            (_, Ending::Refused(_)) => Ending::Reported,
+            (Ending::Done, next) => next,
+            (before, _) => before,
+        }
+    }
+
+    /// Whether no text is read after one that ended so: the output cannot be written, or a growth of memory was refused.
+    pub(crate) fn is_last(&self) -> bool
+        ensures { result ≡ is_last self.now }
+    {
+        matches!(
+            self,
+            Ending::Refused(
+                RunFault::Memory
+                    | RunFault::Cmd(
+                        CmdFault::Write
+                            | CmdFault::Memory
+                            | CmdFault::Passage(PassageFault::Memory),
+                    )
+                    | RunFault::Replay(ReplayFault::Write | ReplayFault::Memory)
+            )
+        )
     }
 
     /// How a run of `show` or `segment` ends.

@@ -8,9 +8,11 @@ mod engine;
 mod faults;
 pub mod laws;
 mod message;
+mod operands;
 mod output_line;
 mod owned;
 mod passages;
+mod performing;
 mod segmented;
 mod shown;
 mod signed;
@@ -25,5 +27,6 @@ pub use lbk_files::{
     read_front,
 };
 pub use message::{Caller, Message};
+pub use operands::{MemoryTexts, Texts};
 pub use owned::{OwnedPassage, Word};
 pub use passages::read_passages;

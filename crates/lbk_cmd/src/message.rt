@@ -2,7 +2,7 @@
 
 use super::ending::RunFault;
 use super::faults::CmdFault;
-use lbk_args::{DEFAULT_LIMIT, Engine, FileName, FileNames, Order};
+use lbk_args::{DEFAULT_LIMIT, Engine, FileName, FileNames};
 use lbk_feed::TEXT_MAX;
 use lbk_files::{CellsFault, ClaimCause, NamedFault, file_name, name_in_database};
 use lbk_notation::ReplayFault;
@@ -19,7 +19,10 @@ pub enum Caller<'a> {
     /// The program without words, which goes by the sample files.
     NoWords,
     /// The words of the program, which ask for this.
-    Words(Order<'a>),
+    Words {
+        engine: Engine,
+        files: FileNames<'a>,
+    },
 }
 
 /// A fault in one line that a person can act on and an editor can jump by.
@@ -29,6 +32,8 @@ pub enum Caller<'a> {
 pub struct Message<'a> {
     pub fault: RunFault,
     pub caller: Caller<'a>,
+    /// The operand that names the text; none is standard input.
+    pub text: Option<&'a str>,
     /// The system's reason, where a file or a device failed.
     pub reason: Option<ErrorKind>,
     /// Whether the text begins as UTF-16 does.
@@ -38,11 +43,11 @@ pub struct Message<'a> {
 impl<'a> fmt::Display for Message<'a> {
     fn fmt<W: fmt::Write>(&self, f: &mut fmt::Formatter<W>) -> fmt::Result {
         match self.fault {
+            RunFault::Open | RunFault::Replay(ReplayFault::Read) => self.unread(f),
             RunFault::Load(which) => self.unloaded(f, which),
             RunFault::Claim(which, cause) => self.unpublished(f, which, cause),
             RunFault::Tables(fault) => self.named(CellsFault::Tables(fault), fault.file).fmt(f),
             RunFault::Cmd(CmdFault::Passage(fault)) => self.passage_fault(f, fault),
-            RunFault::Replay(ReplayFault::Read) => self.unread(f),
             RunFault::Replay(ReplayFault::StreamTooLong) => self.too_long(f),
             RunFault::Cmd(CmdFault::Write) | RunFault::Replay(ReplayFault::Write) => self.unwritten(
                 f,
@@ -62,6 +67,7 @@ impl<'a> Message<'a> {
         Message {
             fault,
             caller: Caller::Call,
+            text: None,
             reason: None,
             is_utf16: false,
         }
@@ -72,7 +78,7 @@ impl<'a> Message<'a> {
         let name = match self.caller {
             Caller::Call => Name::Plain(which),
             Caller::NoWords => Name::Sample(which),
-            Caller::Words(order) => match name_in(order.files, which) {
+            Caller::Words { files, .. } => match name_in(files, which) {
                 FileName::Given(name) => Name::Given(name),
                 FileName::InFolder(folder) => Name::InFolder(folder, which),
             },
@@ -80,17 +86,18 @@ impl<'a> Message<'a> {
         NamedFault { fault, name }
     }
 
-    fn input(&self) -> &'static str {
-        match self.caller {
-            Caller::Call => "the input",
-            Caller::NoWords | Caller::Words(_) => "standard input",
+    fn input(&self) -> Input<'a> {
+        match (self.text, self.caller) {
+            (None, Caller::Call) => Input::OfCall,
+            (None | Some("-"), _) => Input::Standard,
+            (Some(name), _) => Input::Named(name),
         }
     }
 
     fn output(&self) -> &'static str {
         match self.caller {
             Caller::Call => "the output",
-            Caller::NoWords | Caller::Words(_) => "standard output",
+            Caller::NoWords | Caller::Words { .. } => "standard output",
         }
     }
 
@@ -108,7 +115,7 @@ impl<'a> Message<'a> {
         let fault = self.named(CellsFault::Claim(which, cause), which);
         write!(f, "{fault}")?;
         match self.caller {
-            Caller::Words(_) if cause == ClaimCause::Changed => {
+            Caller::Words { .. } if cause == ClaimCause::Changed => {
                 let option = option_of(which);
                 write!(f, "; get it anew, or name a file of your own by {option}")
             }
@@ -175,7 +182,7 @@ impl<'a> Message<'a> {
         match self.caller {
             Caller::Call => None,
             Caller::NoWords => Some(DEFAULT_LIMIT),
-            Caller::Words(order) => match order.engine {
+            Caller::Words { engine, .. } => match engine {
                 Engine::Mark { limit } | Engine::Show { limit } | Engine::Segment { limit } => Some(
                     limit,
                 ),
@@ -240,6 +247,24 @@ impl<'a> fmt::Display for Name<'a> {
             Name::InFolder(folder, which) => {
                 write!(f, "{}/{}", OneLine(folder), name_in_database(which))
             }
+        }
+    }
+}
+
+/// The input of a run.
+#[derive(Clone, Copy)]
+enum Input<'a> {
+    OfCall,
+    Standard,
+    Named(&'a str),
+}
+
+impl<'a> fmt::Display for Input<'a> {
+    fn fmt<W: fmt::Write>(&self, f: &mut fmt::Formatter<W>) -> fmt::Result {
+        match *self {
+            Input::OfCall => f.write_str("the input"),
+            Input::Standard => f.write_str("standard input"),
+            Input::Named(name) => write!(f, "{}", OneLine(name)),
         }
     }
 }

@@ -1,5 +1,5 @@
 -- What the words of the program come to before an engine runs.
-use Rattle.std.specs.Prelude.{◌≡◌, ℕ, List, Option}
+use Rattle.std.specs.Prelude.{◌≡◌, ℕ, List, Option, map}
 use Rattle.lbk_steps.specs.CellPages.{page_cell}
 use Rattle.lbk_args.specs.Accepted.{faults_of}
 use Rattle.lbk_args.specs.Refusal.{HasFault, IsCallForHelp, IsMistake}
@@ -11,11 +11,12 @@ use Rattle.lbk_files.specs.declared.faults.Stop.{Stop}
 use Rattle.lbk_files.specs.declared.faults.Stop.TheVariants.{Help, Usage, Refused}
 use Rattle.lbk_files.specs.declared.readiness.Ready.{Ready}
 
--- the task's engine and profile, and the cells of its files
+-- the task's engine and profile, the cells of its files, and the names of its texts
 pub record IsReadyFor (file : List ℕ → Option (Option (List ℕ))) (task : Task) (ready : Ready) : Type 0 where
   pub engine : ready.engine ≡ task.engine
   pub profile : ready.profile ≡ task.profile
   pub cells : AreCellsFrom (files_of file task.files) (page_cell ready.cells)
+  pub texts : map (λ name. name.now) ready.texts.items ≡ task.texts
 
 -- a task stops at its files alone
 abbrev pub IsStoppedAt : (List ℕ → Option (Option (List ℕ))) → Task → LoadCounts → LoadCounts → Stop → Type 0

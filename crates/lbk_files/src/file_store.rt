@@ -1,6 +1,6 @@
 //! Files that are opened by their names, as a store.
 
-ghost use Rattle.std.specs.Prelude.{◌≡◌, ℕ, ◌+◌, ◌-◌, ◌^◌, ◌<◌, ◌≤◌, List, Option, vec_len, IfOk, MatchResult};
+ghost use Rattle.std.specs.Prelude.{◌≡◌, ℕ, ◌+◌, ◌-◌, ◌^◌, ◌<◌, ◌≤◌, List, Option, vec_len, IfErr, IfOk, MatchResult};
 ghost use Rattle.lbk_feed.specs.Devices.{count_up};
 ghost use Rattle.lbk_files.specs.FileStore.{AreLeft, loads_of, opener_of, refusals_of, tells};
 ghost use Rattle.lbk_files.specs.Store.{IsFront, IsLoadFault, refusals_after};
@@ -21,7 +21,8 @@ pub trait Opens {
     ///
     /// `Unreadable` comes where it cannot be opened, `Memory` where memory could not grow for that.
     fn open(&self, name: &str) -> Result<Self::File, LoadFault>
-        ensures { IfOk result (λ file. AreLeft (contents self.now name.now) (Self.File.unread file)) };
+        ensures opened { IfOk result (λ file. AreLeft (contents self.now name.now) (Self.File.unread file)) }
+        ensures fault { IfErr result (IsLoadFault (contents self.now name.now)) };
 }
 
 /// A store that opens each file and reads the first bytes of it. As a store it tells nothing of what files hold, since a

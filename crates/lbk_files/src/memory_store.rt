@@ -40,7 +40,7 @@ impl<'a> MemoryStore<'a> {
     }
 
     /// What the file of a name holds.
-    fn contents(&self, name: &str) -> Option<&'a [u8]>
+    pub fn contents(&self, name: &str) -> Option<&'a [u8]>
         ensures { contents_of (named_files self.now) name.now ≡ option_map (λ bytes. bytes.now) result }
     {
         for (other, contents) in self.files {

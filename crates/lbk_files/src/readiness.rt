@@ -15,12 +15,13 @@ use lbk_rules::Profile;
 use lbk_steps::CellPages;
 use std::alloc::Global;
 
-/// An engine with its option, the profile and the cells of the files.
+/// An engine with its option, the profile, the cells of the files and the names of the texts.
 #[derive(Drop)]
-pub struct Ready {
+pub struct Ready<'a> {
     pub engine: Engine,
     pub profile: Profile,
     pub cells: CellPages,
+    pub texts: Vec<&'a str>,
 }
 
 /// Reads the words, loads the files that they name, and reads these.
@@ -31,7 +32,7 @@ pub fn prepare<'a, S: Store>(
     alloc: Global,
     words: &'a [&'a str],
     store: &mut S,
-) -> Result<Ready, Stop>
+) -> Result<Ready<'a>, Stop>
     ensures plain { (task : Task) → IsPlainFor task (map (λ w. w.now) words.entry.now)
         → MatchResult result (IsReadyFor (S.file store.old) task) (IsStoppedAt (S.file store.old) task
         (counts_of (S.load_count store.old) (S.refusal_count store.old)) (counts_of (S.load_count store.new) (S.refusal_count store.new))) }
@@ -47,15 +48,19 @@ pub fn prepare<'a, S: Store>(
     ensures files { S.file store.new ≡ S.file store.old }
 {
     match parse(alloc, words) {
-        Ok(order) => made_ready(alloc, &order, store),
+        Ok(order) => made_ready(alloc, order, store),
         Err(WordsFault::Help { text }) => Err(Stop::Help { text }),
         Err(WordsFault::Usage { text }) => Err(Stop::Usage { text }),
         Err(WordsFault::Memory) => Err(Stop::Refused(CellsFault::Memory)),
     }
 }
 
-fn made_ready<S: Store>(alloc: Global, order: &Order<'_>, store: &mut S) -> Result<Ready, Stop>
-    ensures made { MatchResult result (IsReadyFor (S.file store.old) (task_of order.now)) (IsStoppedAt (S.file store.old) (task_of order.now)
+fn made_ready<'a, S: Store>(
+    alloc: Global,
+    order: Order<'a>,
+    store: &mut S,
+) -> Result<Ready<'a>, Stop>
+    ensures made { MatchResult result (IsReadyFor (S.file store.old) (task_of order.entry)) (IsStoppedAt (S.file store.old) (task_of order.entry)
         (counts_of (S.load_count store.old) (S.refusal_count store.old)) (counts_of (S.load_count store.new) (S.refusal_count store.new))) }
     ensures refused { S.refusal_count store.old < S.refusal_count store.new → result ≡ Err (Stop.Refused CellsFault.Memory) }
     ensures loads { S.load_count store.new ≤ S.load_count store.old + 4 }
@@ -66,6 +71,7 @@ fn made_ready<S: Store>(alloc: Global, order: &Order<'_>, store: &mut S) -> Resu
             engine: order.engine,
             profile: order.profile,
             cells,
+            texts: order.texts,
         }),
         Err(fault) => Err(Stop::Refused(fault)),
     }

@@ -1,7 +1,7 @@
 //! The program's runs by their words, over files, readers and writers in memory.
 
 use lbk_args::DEFAULT_LIMIT;
-use lbk_cmd::{CmdFault, Ending, MemoryStore, RunFault, SAMPLE_FILES, Store, run};
+use lbk_cmd::{CmdFault, Ending, MemoryStore, MemoryTexts, RunFault, SAMPLE_FILES, Store, run};
 use lbk_feed::devices::{MemorySink, MemorySource};
 use lbk_notation::Report;
 use lbk_passage::{LIMIT_MAX, PassageFault};
@@ -33,7 +33,8 @@ fn ended_into(
         ("B", BAD_ROW),
     ];
     let mut store = MemoryStore::new(files.as_slice());
-    let ending = run(alloc, words, &mut store, reader, writer);
+    let mut texts = MemoryTexts::new(alloc, MemoryStore::new(&[]));
+    let ending = run(alloc, words, &mut store, &mut texts, reader, writer);
     (ending, store.loads())
 }
 
@@ -233,13 +234,12 @@ fn refused(rt: HostRuntime) -> Result<(), Fail> {
 }
 
 /// Words behind an engine and its files that no command line has.
-static WRONG: [(&str, &[&str]); 15] = [
+static WRONG: [(&str, &[&str]); 14] = [
     ("show", &["--limit", "0"]),
     ("show", &["--limit", "16777217"]),
     ("show", &["--limit", "many"]),
     ("show", &["--profile", "3"]),
     ("show", &["--kinds"]),
-    ("show", &["more"]),
     ("segment", &["--limit", "0"]),
     ("segment", &["--limit", "16777217"]),
     ("segment", &["--profile", "0"]),

@@ -20,6 +20,8 @@ mod folder;
 #[cfg(test)]
 mod guide;
 #[cfg(test)]
+mod operands;
+#[cfg(test)]
 mod owned_passages;
 #[cfg(test)]
 mod passages_of_a_reader;

@@ -7,7 +7,7 @@ use crate::counting::{begin, end};
 use crate::inputs::{Input, source_of};
 use anyhow::{Result, ensure};
 use lbk_args::{Order, WordsFault};
-use lbk_cmd::{BreakFault, CmdFault, Ending};
+use lbk_cmd::{BreakFault, CmdFault, Ending, MemoryTexts};
 use lbk_feed::Source;
 use lbk_feed::devices::{MemorySink, MemorySource};
 use lbk_files::{CellsFault, LoadFault, MemoryStore, Ready, SAMPLE_FILES, Stop, Store};
@@ -251,7 +251,11 @@ pub fn load(
     answer
 }
 
-pub fn prepare(alloc: Global, words: Words, store: &mut MemoryStore<'_>) -> Result<Ready, Stop> {
+pub fn prepare(
+    alloc: Global,
+    words: Words,
+    store: &mut MemoryStore<'_>,
+) -> Result<Ready<'static>, Stop> {
     begin(alloc);
     let answer = lbk_files::prepare(alloc, words, store);
     end(alloc);
@@ -262,12 +266,13 @@ pub fn run(
     alloc: Global,
     words: Words,
     store: &mut MemoryStore<'_>,
+    texts: &mut MemoryTexts<'_>,
     bytes: &[u8],
     sink: &mut MemorySink,
 ) -> Ending {
     let mut source = source_of(bytes);
     begin(alloc);
-    let ending = bare_run(alloc, words, store, &mut source, sink);
+    let ending = bare_run(alloc, words, store, texts, &mut source, sink);
     end(alloc);
     ending
 }
@@ -294,10 +299,11 @@ fn bare_run(
     alloc: Global,
     words: Words,
     store: &mut MemoryStore<'_>,
+    texts: &mut MemoryTexts<'_>,
     source: &mut MemorySource<'_>,
     sink: &mut MemorySink,
 ) -> Ending {
-    lbk_cmd::run(alloc, words, store, source, sink)
+    lbk_cmd::run(alloc, words, store, texts, source, sink)
 }
 
 fn bare_parse(alloc: Global, words: Words) -> Result<Order<'static>, WordsFault> {

@@ -4,6 +4,7 @@ use crate::inputs::{Text, sink_of};
 use crate::told::{answer_told, cells_told, fault_told, told};
 use crate::{calls, digest};
 use anyhow::Result;
+use lbk_cmd::MemoryTexts;
 use lbk_feed::Source;
 use lbk_feed::devices::MemorySource;
 use lbk_files::{MemoryStore, Ready};
@@ -61,7 +62,7 @@ pub fn prepared(alloc: Global, words: Words) -> Result<String> {
     }
 }
 
-fn ready_told(alloc: Global, ready: &Ready) -> Result<String> {
+fn ready_told(alloc: Global, ready: &Ready<'_>) -> Result<String> {
     let engine = ready.engine;
     let profile = ready.profile;
     let cells = cells_told(alloc, &ready.cells)?;
@@ -71,7 +72,8 @@ fn ready_told(alloc: Global, ready: &Ready) -> Result<String> {
 pub fn run(alloc: Global, words: Words, input: Text) -> Result<String> {
     let bytes = input.bytes(alloc)?;
     let mut sink = sink_of(alloc)?;
+    let mut texts = MemoryTexts::new(alloc, store());
     let mut store = store();
-    let ending = calls::run(alloc, words, &mut store, &bytes, &mut sink);
+    let ending = calls::run(alloc, words, &mut store, &mut texts, &bytes, &mut sink);
     answer_told(alloc, &ending, sink.bytes())
 }

@@ -2,4 +2,5 @@ use Rattle.lbk_args.proofs.options.limited.Goals as goal
 
 pub returns : goal.returns
 returns c =
-    c.with_option.ensures _ _ c.profile_option.ensures.rule (c.with_option-command.ensures _ _ c.limit_option.ensures.rule c.with_files.ensures)
+    c.with_option.ensures _ _ c.texts_operand.ensures.rule (c.with_option-command-2.ensures _ _ c.profile_option.ensures.rule
+    (c.with_option-command.ensures _ _ c.limit_option.ensures.rule c.with_files.ensures))

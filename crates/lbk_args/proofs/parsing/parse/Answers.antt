@@ -18,7 +18,7 @@ free : is_simple_and_free lbk_app ≡ true
 free = refl
 
 -- the words are taken, and ask for what was made of them
-performed : (c : goal.Joined-matches) → Performs (map (λ w. w.now) c.args.words.now) (task_of c.in-Some.order)
+performed : (c : goal.Joined-matches-2) → Performs (map (λ w. w.now) c.args.words.now) (task_of c.in-Some.order)
 performed c =
     let app = c.in-Ok.ensures.app in
     let words = map (λ (w : Bor (List ℕ)). w.now) c.args.words.now in
@@ -40,7 +40,7 @@ returns-in-Some-clause-plain c task plain =
     some_same _ _ (sym (performed c).asks ∙ (plain_performs task (map (λ w. w.now) c.args.words.now) plain).asks)
 
 -- the words name no files
-nothing_asked : (c : goal.Joined-matches-2) → task_by (map (λ w. w.now) c.args.words.now) ≡ None
+nothing_asked : (c : goal.Joined-matches-3) → task_by (map (λ w. w.now) c.args.words.now) ≡ None
 nothing_asked c =
     let app = c.in-Ok.ensures.app in
     let words = map (λ (w : Bor (List ℕ)). w.now) c.args.words.now in

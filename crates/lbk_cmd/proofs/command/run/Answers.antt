@@ -28,13 +28,13 @@ returns-in-Ok-clause-samples g c none =
 
 pub returns-in-Ok-clause-plain : goal.returns-in-Ok-clause-plain
 returns-in-Ok-clause-plain g c task plain =
-    ready_performs (g.S.Store.file c.args.store.now) task _ _ c.in-Ok.ready _ _ c.perform.result
-    (c.in-Ok.ensures.plain task plain) c.perform.ensures
+    ready_performs (g.S.Store.file c.args.store.now) _ task _ _ c.in-Ok.ready _ _
+    (c.in-Ok.ensures.plain task plain) c.perform.ensures.reads
 
 pub returns-in-Ok-clause-accepted : goal.returns-in-Ok-clause-accepted
 returns-in-Ok-clause-accepted g c task some accepted asks =
-    ready_performs (g.S.Store.file c.args.store.now) task _ _ c.in-Ok.ready _ _ c.perform.result
-    (c.in-Ok.ensures.accepted task accepted asks) c.perform.ensures
+    ready_performs (g.S.Store.file c.args.store.now) _ task _ _ c.in-Ok.ready _ _
+    (c.in-Ok.ensures.accepted task accepted asks) c.perform.ensures.reads
 
 pub returns-in-Ok-clause-others : goal.returns-in-Ok-clause-others
 returns-in-Ok-clause-others g c some other = absurd (c.in-Ok.ensures.others other)
@@ -44,11 +44,11 @@ returns-in-Err-clause-samples g c none =
     absurd (some_words c.args.words.now (sym c.is_empty.ensures ∙ c.if-is_empty.false) none)
 
 pub returns-in-Err-clause-plain : goal.returns-in-Err-clause-plain
-returns-in-Err-clause-plain g c task plain = inl (c.in-Err.stop, c.in-Err.ensures.plain task plain, c.from.ensures, refl)
+returns-in-Err-clause-plain g c task plain = inl ((c.in-Err.stop, c.in-Err.ensures.plain task plain, c.from.ensures, refl), refl)
 
 pub returns-in-Err-clause-accepted : goal.returns-in-Err-clause-accepted
 returns-in-Err-clause-accepted g c task some accepted asks =
-    inl (c.in-Err.stop, c.in-Err.ensures.accepted task accepted asks, c.from.ensures, refl)
+    inl ((c.in-Err.stop, c.in-Err.ensures.accepted task accepted asks, c.from.ensures, refl), refl)
 
 pub returns-in-Err-clause-others : goal.returns-in-Err-clause-others
 returns-in-Err-clause-others g c some other = (c.in-Err.stop, c.in-Err.ensures.others other, c.from.ensures, refl)
@@ -92,3 +92,23 @@ returns-in-Ok-clause-refused g c more = let other = c.in-Ok.ensures.refused more
 
 pub returns-in-Err-clause-refused : goal.returns-in-Err-clause-refused
 returns-in-Err-clause-refused g c more = c.from.ensures ∙ ap ending_of_stop (same_stop _ _ _ refl (c.in-Err.ensures.refused more))
+
+pub returns-then-is_empty-clause-unopened : goal.returns-then-is_empty-clause-unopened
+returns-then-is_empty-clause-unopened g c refused = refl
+
+pub returns-in-Ok-clause-unopened : goal.returns-in-Ok-clause-unopened
+returns-in-Ok-clause-unopened g c (inl none) =
+    absurd (some_words c.args.words.now (sym c.is_empty.ensures ∙ c.if-is_empty.false) none)
+returns-in-Ok-clause-unopened g c (inr other) = absurd (c.in-Ok.ensures.others other)
+
+pub returns-in-Err-clause-unopened : goal.returns-in-Err-clause-unopened
+returns-in-Err-clause-unopened g c refused = refl
+
+pub returns-then-is_empty-clause-texts : goal.returns-then-is_empty-clause-texts
+returns-then-is_empty-clause-texts g c = refl
+
+pub returns-in-Ok-clause-texts : goal.returns-in-Ok-clause-texts
+returns-in-Ok-clause-texts g c = c.perform.ensures.contents
+
+pub returns-in-Err-clause-texts : goal.returns-in-Err-clause-texts
+returns-in-Err-clause-texts g c = refl

@@ -1,4 +1,4 @@
-use Rattle.lbk_cmd.proofs.command.perform.Goals as goal
+use Rattle.lbk_cmd.proofs.performing.perform_one.Goals as goal
 
 pub returns-in-Mark : goal.returns-in-Mark
 returns-in-Mark g c = rw c.in-Mark.is (

@@ -1,0 +1,67 @@
+//! The texts that operands name.
+
+ghost use Rattle.std.specs.Prelude.{◌≡◌, ◌++◌, ◌∷◌, ℕ, List, [], None, Option, Some, option_map};
+ghost use Rattle.lbk_cmd.specs.declared.ending.RunFault.{RunFault};
+ghost use Rattle.lbk_files.specs.MemoryStore.{contents_of, named_files};
+
+use super::ending::RunFault;
+use lbk_feed::devices::MemorySource;
+use lbk_files::{LoadFault, MemoryStore, Opens};
+use std::alloc::Global;
+
+/// Files of text, and what is said of those that are refused.
+pub trait Texts: Opens {
+    // The names that were refused, in order, each with its fault, where this is told.
+    ghost refused: { Self → Option (List (List ℕ × RunFault)) };
+
+    /// Reports that the text of a name was refused, and why.
+    fn refuse(&mut self, name: &str, fault: RunFault)
+        ensures refused { refused self.new ≡ option_map (λ before. before ++ (name.now, fault) ∷ []) (refused self.old) }
+        ensures contents { Self.contents self.new ≡ Self.contents self.old };
+}
+
+/// Files of text in memory, and why some of them were refused.
+#[derive(Drop)]
+pub struct MemoryTexts<'a> {
+    files: MemoryStore<'a>,
+    refused: Vec<RunFault>,
+}
+
+impl<'a> MemoryTexts<'a> {
+    /// The texts of these files. Any other name cannot be opened.
+    pub fn new(alloc: Global, files: MemoryStore<'a>) -> MemoryTexts<'a>
+        ensures { result.files ≡ files.entry }
+    {
+        MemoryTexts {
+            files,
+            refused: Vec::new(alloc),
+        }
+    }
+
+    /// Why texts were refused, in order, as long as memory could grow for it.
+    pub fn refused(&self) -> &[RunFault] {
+        &self.refused
+    }
+}
+
+impl<'a> Opens for MemoryTexts<'a> {
+    type File = MemorySource<'a>;
+
+    ghost contents = { λ texts name. Some (contents_of (named_files texts.files) name) };
+
+    fn open(&self, name: &str) -> Result<MemorySource<'a>, LoadFault> {
+        match self.files.contents(name) {
+            Some(bytes) => Ok(MemorySource::new(bytes)),
+            None => Err(LoadFault::Unreadable),
+        }
+    }
+}
+
+impl<'a> Texts for MemoryTexts<'a> {
+    // A list may not grow.
+    ghost refused = { λ texts. None };
+
+    fn refuse(&mut self, _name: &str, fault: RunFault) {
+        let _ = self.refused.push(fault);
+    }
+}

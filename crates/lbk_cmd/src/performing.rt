@@ -1,0 +1,155 @@
+//! What is ready, performed over the texts.
+
+ghost use Rattle.std.specs.Prelude.{◌≡◌, map};
+ghost use Rattle.lbk_steps.specs.CellPages.{page_cell};
+ghost use Rattle.lbk_cmd.specs.Acts.{EngineRuns, form_of};
+ghost use Rattle.lbk_cmd.specs.Devices.{devices_of};
+ghost use Rattle.lbk_cmd.specs.Operands.{Reads, ReadsText, ReadsTexts, refused_after, standing};
+ghost use Rattle.lbk_cmd.specs.declared.ending.Ending.TheVariants.{Done};
+
+use super::ending::{Ending, RunFault};
+use super::engine::{mark, segment, show};
+use super::operands::Texts;
+use lbk_args::Engine;
+use lbk_feed::{Sink, Source};
+use lbk_files::{LoadFault, Ready};
+use lbk_notation::{Form, replay};
+use std::alloc::Global;
+
+/// Runs the engine that is ready over its texts, or over that of the reader where it has none.
+#[tactic(none)]
+pub(crate) fn perform<T: Texts, R: Source, W: Sink>(
+    alloc: Global,
+    ready: &Ready<'_>,
+    texts: &mut T,
+    reader: &mut R,
+    writer: &mut W,
+) -> Ending
+    ensures reads { Reads (T.contents texts.old) (EngineRuns ready.now.engine ready.now.profile (page_cell ready.now.cells))
+        (map (λ name. name.now) ready.now.texts.items)
+        (standing (devices_of R.Source W.Sink reader.old writer.old) (T.refused texts.old) Done)
+        (standing (devices_of R.Source W.Sink reader.new writer.new) (T.refused texts.new) result) }
+    ensures contents { T.contents texts.new ≡ T.contents texts.old }
+{
+    let names = ready.texts.as_slice();
+    if names.is_empty() {
+        perform_one(alloc, ready, reader, writer)
+    } else {
+        perform_all(alloc, ready, names, texts, reader, writer)
+    }
+}
+
+/// Runs the engine over each text in turn.
+fn perform_all<T: Texts, R: Source, W: Sink>(
+    alloc: Global,
+    ready: &Ready<'_>,
+    names: &[&str],
+    texts: &mut T,
+    reader: &mut R,
+    writer: &mut W,
+) -> Ending
+    ensures reads { ReadsTexts (T.contents texts.old) (EngineRuns ready.now.engine ready.now.profile (page_cell ready.now.cells))
+        (map (λ name. name.now) names.now)
+        (standing (devices_of R.Source W.Sink reader.old writer.old) (T.refused texts.old) Done)
+        (standing (devices_of R.Source W.Sink reader.new writer.new) (T.refused texts.new) result) }
+    ensures contents { T.contents texts.new ≡ T.contents texts.old }
+{
+    let mut so_far = Ending::Done;
+    for name in names {
+        let ending = perform_named(alloc, ready, name, texts, reader, writer);
+        if ending.is_last() {
+            return ending;
+        }
+        report(texts, name, &ending);
+        so_far = so_far.and(ending);
+    }
+    so_far
+}
+
+/// Reports the text of a name, where it was refused.
+fn report<T: Texts>(texts: &mut T, name: &str, ending: &Ending)
+    ensures refused { T.refused texts.new ≡ refused_after (T.refused texts.old) name.now ending.now }
+    ensures contents { T.contents texts.new ≡ T.contents texts.old }
+{
+    if let Ending::Refused(fault) = ending {
+        texts.refuse(name, *fault);
+    }
+}
+
+/// Runs the engine over the text of a name.
+#[tactic(none)]
+fn perform_named<T: Texts, R: Source, W: Sink>(
+    alloc: Global,
+    ready: &Ready<'_>,
+    name: &str,
+    texts: &T,
+    reader: &mut R,
+    writer: &mut W,
+) -> Ending
+    ensures { ReadsText (T.contents texts.now) (EngineRuns ready.now.engine ready.now.profile (page_cell ready.now.cells)) name.now
+        (devices_of R.Source W.Sink reader.old writer.old) (devices_of R.Source W.Sink reader.new writer.new) result }
+{
+    if name == "-" {
+        return perform_one(alloc, ready, reader, writer);
+    }
+    match texts.open(name) {
+        Ok(mut file) => perform_one(alloc, ready, &mut file, writer),
+        Err(LoadFault::Unreadable) => Ending::Refused(RunFault::Open),
+        Err(LoadFault::Memory) => Ending::Refused(RunFault::Memory),
+    }
+}
+
+/// Runs the engine that is ready, over one text.
+#[tactic(none)]
+fn perform_one<R: Source, W: Sink>(
+    alloc: Global,
+    ready: &Ready<'_>,
+    reader: &mut R,
+    writer: &mut W,
+) -> Ending
+    ensures { EngineRuns ready.now.engine ready.now.profile (page_cell ready.now.cells)
+        (devices_of R.Source W.Sink reader.old writer.old) (devices_of R.Source W.Sink reader.new writer.new) result }
+{
+    let cells = &ready.cells;
+    match ready.engine {
+        Engine::Mark { limit } => Ending::of_text(mark(
+            alloc,
+            reader,
+            writer,
+            cells,
+            limit,
+            ready.profile,
+        )),
+        Engine::Show { limit } => Ending::of_text(show(
+            alloc,
+            reader,
+            writer,
+            cells,
+            limit,
+            ready.profile,
+        )),
+        Engine::Segment { limit } => Ending::of_text(segment(
+            alloc,
+            reader,
+            writer,
+            cells,
+            limit,
+            ready.profile,
+        )),
+        Engine::Replay { kinds } => Ending::of_replay(replay(
+            alloc,
+            reader,
+            writer,
+            cells,
+            form(kinds),
+            ready.profile,
+        )),
+    }
+}
+
+/// The form of the test notation: with `--kinds` a break that must be has a mark of its own.
+fn form(kinds: bool) -> Form
+    ensures { result ≡ form_of kinds }
+{
+    if kinds { Form::Kinds } else { Form::Plain }
+}

@@ -1,0 +1,96 @@
+//! Texts that operands name, over files in memory.
+
+use crate::commands::{ROOM, same};
+use lbk_cmd::{CmdFault, MemoryStore, MemoryTexts, RunFault, run};
+use lbk_feed::devices::{MemorySink, MemorySource};
+use lbk_passage::PassageFault;
+use std::alloc::Global;
+use std::process::Abort;
+use std::test::Fail;
+use test_support::property_files::{NAMED_SAMPLES, words_with};
+
+const TEXTS: [(&str, &[u8]); 4] = [
+    ("one", b"a b"),
+    ("two", b"cd\n"),
+    ("bad", b"x\n\xFF"),
+    ("tests", b"\xC3\x97 0061 \xC3\xB7 0062 \xC3\xB7\n"),
+];
+
+const NOT_UTF_8: RunFault = RunFault::Cmd(CmdFault::Passage(PassageFault::NotUtf8 { at: 2 }));
+
+/// A subcommand, its operands, what it writes where `ef` is the text of the reader, why texts were refused, and the status.
+type Row = (
+    &'static str,
+    &'static [&'static str],
+    &'static str,
+    &'static [RunFault],
+    u8,
+);
+
+static ROWS: [Row; 12] = [
+    ("mark", &[], "ef\n", &[], 0),
+    ("mark", &["-"], "ef\n", &[], 0),
+    ("mark", &["one"], "a ÷b\n", &[], 0),
+    ("mark", &["two", "one"], "cd\na ÷b\n", &[], 0),
+    ("mark", &["one", "-", "one"], "a ÷b\nef\na ÷b\n", &[], 0),
+    ("mark", &["-", "-"], "ef\n", &[], 0),
+    ("mark", &["none"], "", &[RunFault::Open], 1),
+    (
+        "mark",
+        &["none", "two", ""],
+        "cd\n",
+        &[RunFault::Open, RunFault::Open],
+        1,
+    ),
+    ("mark", &["bad", "two"], "cd\n", &[NOT_UTF_8], 1),
+    (
+        "segment",
+        &["one", "two"],
+        "P 0 3\nS 0 2 May 18\nS 2 3 Must 3\nW 0 1\nW 2 3\nP 0 3\nS 0 3 Must 3\nW 0 2\n",
+        &[],
+        0,
+    ),
+    (
+        "replay",
+        &["tests", "tests"],
+        "D 1 1 ÷ × 28\nT 1 0 1 0\nD 1 1 ÷ × 28\nT 1 0 1 0\n",
+        &[],
+        3,
+    ),
+    (
+        "replay",
+        &["tests", "none"],
+        "D 1 1 ÷ × 28\nT 1 0 1 0\n",
+        &[RunFault::Open],
+        1,
+    ),
+];
+
+fn check(rt: &impl Abort, alloc: Global, row: &Row) -> Result<(), Fail> {
+    let (engine, operands, text, refused, status) = row;
+    let words = words_with(alloc, engine, operands)?;
+    let mut store = MemoryStore::new(NAMED_SAMPLES.as_slice());
+    let mut texts = MemoryTexts::new(alloc, MemoryStore::new(TEXTS.as_slice()));
+    let mut reader = MemorySource::new(b"ef");
+    let mut writer = MemorySink::new(alloc, ROOM)?;
+    let ending = run(
+        alloc,
+        &words,
+        &mut store,
+        &mut texts,
+        &mut reader,
+        &mut writer,
+    );
+    same(rt, &writer.bytes(), &text.as_bytes(), &words);
+    same(rt, &texts.refused(), refused, &words);
+    same(rt, &ending.status(), status, &words);
+    Ok(())
+}
+
+#[test]
+fn operands(rt: HostRuntime) -> Result<(), Fail> {
+    for row in &ROWS {
+        check(&rt, rt.alloc(), row)?;
+    }
+    Ok(())
+}
