@@ -12,6 +12,10 @@ MIB = 1 << 20
 ANY = resource.RLIM_INFINITY
 
 
+# What lbk adds to a usage on a machine that has the files of Unicode where Debian has them; checks compare the rest.
+HINT = b"\nlbk: they are in /usr/share/unicode: --ucd /usr/share/unicode\n"
+
+
 class Ended(NamedTuple):
     """A status and all that a run wrote."""
 
@@ -23,7 +27,7 @@ class Ended(NamedTuple):
 def run(words, given=b"", seconds=600, **more):
     """Runs a program over some bytes, and returns how it ended. One that takes longer than so many seconds ends the check."""
     ran = subprocess.run(words, input=given, capture_output=True, check=False, timeout=seconds, **more)
-    return Ended(ran.returncode, ran.stdout, ran.stderr)
+    return Ended(ran.returncode, ran.stdout, ran.stderr.replace(HINT, b""))
 
 
 class Long:

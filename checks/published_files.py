@@ -3,10 +3,12 @@
 import os
 import re
 import shutil
+import subprocess
 import tempfile
 from pathlib import Path
 
 from checks.harness import built_crate, built_program
+from checks.program import HINT
 from checks.program import run as run_program
 from checks.unicode_files import MISSING, NAMES, layers_input, options, published
 
@@ -47,6 +49,9 @@ def without_files(runs):
     runs.ends("--version", runs.run(b"ab cd", "--version"), 0)
     runs.ends("a wrong subcommand", runs.run(b"ab cd", "bogus"), 2, "unrecognized subcommand 'bogus'")
     runs.ends("no files", runs.run(b"ab cd", "show"), 2, "the property files are not named")
+    usage = subprocess.run([runs.program, "show"], stdin=subprocess.DEVNULL, capture_output=True, check=False).stderr
+    is_there = all(Path("/usr/share/unicode", it).is_file() for it in NAMES)
+    runs.tally.equal("no files: the folder of Debian's package is named where it has them", usage.endswith(HINT), is_there)
 
 
 def steps(runs, files):

@@ -14,7 +14,7 @@ use std::alloc::{AllocError, Global};
 use std::io::{ErrorKind, IsTerminal};
 use std::process::ExitCode;
 use std::{env, io};
-use system_files::{SystemFiles, SystemTexts};
+use system_files::{SystemFiles, SystemTexts, has_database};
 use telling::tell_refused;
 use waiting::Waiting;
 
@@ -104,6 +104,9 @@ fn told(rt: &HostRuntime, words: &[&str], ending: Ending, notes: &Notes) -> Endi
         }
         Ending::Usage { text } => {
             let _ = eprint!(rt; "{text}");
+            if hints::lacks_files(text.as_str()) && has_database(rt) {
+                let _ = eprintln!(rt; "\nlbk: {}", hints::DATABASE);
+            }
         }
         Ending::Refused(fault) => tell_refused(rt, words, None, *fault, notes),
     }

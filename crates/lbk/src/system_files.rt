@@ -10,6 +10,19 @@ use lbk_files::{LoadFault, Opens};
 use std::fs::File;
 use std::io::ErrorKind;
 
+/// The four property files as Debian's package unicode-data has them.
+const DATABASE: [&str; 4] = [
+    "/usr/share/unicode/LineBreak.txt",
+    "/usr/share/unicode/EastAsianWidth.txt",
+    "/usr/share/unicode/extracted/DerivedGeneralCategory.txt",
+    "/usr/share/unicode/emoji/emoji-data.txt",
+];
+
+/// Whether these four files can be opened.
+pub fn has_database(rt: &HostRuntime) -> bool {
+    DATABASE.iter().all(|name| File::open(rt, name).is_ok())
+}
+
 /// The files of the system, by their names; why one cannot be opened or read is noted.
 #[derive(Drop)]
 pub struct SystemFiles<'a> {
