@@ -23,7 +23,7 @@ fn main(rt: HostRuntime) -> ExitCode {
     ExitCode::from(ending.status())
 }
 
-/// A run by the words behind the program's name: how it ends, which a person was told.
+/// A run by the arguments after the program's name: how it ends, which a person was shown.
 fn run_and_tell(rt: &HostRuntime) -> Ending {
     let notes = Notes::new();
     let given = match words_given(rt) {
@@ -66,7 +66,7 @@ fn run_on_devices(rt: &HostRuntime, words: &[&str], notes: &Notes) -> Ending {
     )
 }
 
-/// The words behind the program's name, or how a run ends that cannot have them.
+/// The arguments after the program's name, or how a run ends that cannot have them.
 fn words_given(rt: &HostRuntime) -> Result<Vec<String>, Ending> {
     match collected(rt) {
         Ok(words) => Ok(words),
@@ -91,7 +91,7 @@ fn out_of_memory() -> Ending {
     Ending::Refused(RunFault::Memory)
 }
 
-/// Tells how a run ends: help on standard output; usage, errors and hints on standard error. The answer is that ending,
+/// Tells how a run ends: help on standard output; usage, errors and hints on standard error. The result is that ending,
 /// or a refused one where the help could not be written.
 fn told(rt: &HostRuntime, words: &[&str], ending: Ending, notes: &Notes) -> Ending {
     let ending = with_help_written(rt, ending, notes);

@@ -78,7 +78,7 @@ too long; `T lines agreed differed refused` stands at the end. Example:
   D 1 1 ÷ × 28
   T 1 0 1 0";
 
-/// An option of this name, which is what stands behind `--` too.
+/// An option of this name, which is also what follows `--`.
 fn long_option<'a>(alloc: Global, name: &'a str) -> Arg<'a>
     ensures rule { rule_of result ≡ long_rule name.entry.now }
     ensures local { result.global ≡ false }
@@ -162,7 +162,7 @@ fn texts_operand<'a>(alloc: Global) -> Arg<'a>
         .help("A text, `-` for standard input, which is read where no file is named")
 }
 
-/// A command line, or that a growth of memory was refused for it.
+/// A command line, or that an allocation was refused for it.
 type Made<'a> = Result<Command<'a>, AllocError>;
 
 /// The command with one option more.

@@ -20,7 +20,7 @@ pub struct FileNames<'a> {
     pub emoji: FileName<'a>,
 }
 
-/// Which engine runs, with the options that it alone has.
+/// Which engine runs, with the options that only it has.
 #[derive(Clone, Copy, Debug, PartialEq, Eq)]
 pub enum Engine {
     /// `mark`, for paragraphs of at most `limit` bytes.
@@ -50,6 +50,6 @@ pub enum WordsFault {
     Help { text: String },
     /// They are no command line of the program; the text says why.
     Usage { text: String },
-    /// A growth of memory was refused.
+    /// An allocation was refused.
     Memory,
 }

@@ -18,10 +18,10 @@ use std::alloc::{AllocError, Global};
 /// The most bytes of a paragraph where the words give no limit.
 pub const DEFAULT_LIMIT: u32 = 65_536;
 
-/// Reads the words behind the program's name.
+/// Reads the arguments after the program's name.
 ///
 /// `Help` comes for a call for help or for the version, `Usage` for words that are no command line of the program; both
-/// hold a text for a person. `Memory` comes where a growth was refused.
+/// hold a text for a person. `Memory` comes where an allocation was refused.
 pub fn parse<'a>(alloc: Global, words: &'a [&'a str]) -> Result<Order<'a>, WordsFault>
     ensures accepted { IfOk result (λ order. AreAccepted (map (λ w. w.now) words.entry.now)) }
     ensures task { IfOk result (λ order. task_by (map (λ w. w.now) words.entry.now) ≡ Some (task_of order)) }
@@ -157,7 +157,7 @@ fn texts<'a>(alloc: Global, given: &ArgMatches<'a>) -> Result<Vec<&'a str>, Allo
     }
 }
 
-/// What the program answers where `clap` takes no order from the words.
+/// What the program writes where `clap` takes no order from the arguments.
 fn refusal(alloc: Global, error: &Error) -> WordsFault
     ensures { IsRefusalBy (kind_of error.now ∷ []) result }
 {
@@ -171,7 +171,7 @@ fn refusal(alloc: Global, error: &Error) -> WordsFault
     }
 }
 
-/// The answer to words that `clap` takes where a property file is not named.
+/// What the program writes for arguments that `clap` takes where a property file is not named.
 fn unnamed(alloc: Global, name: &str) -> WordsFault
     ensures { IsRefusalBy (MissingRequiredArgument ∷ []) result }
 {

@@ -69,7 +69,7 @@ impl<'a, C: CellSource> Breaks<'a, C> {
     }
 
     /// Puts the next breaks into the front of the block, as many as it holds or all that are left, and returns how
-    /// many: 0 at the end, or where the block has no room. What stands in the block after them is of no account.
+    /// many: 0 at the end, or where the block has no room. What stands in the block after them is unspecified.
     pub fn fill(&mut self, block: &mut [Break]) -> usize
         ensures count { result ≡ min (length block.old) (length self.old) }
         ensures front { take result block.new ≡ take result self.old }

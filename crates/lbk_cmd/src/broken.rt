@@ -105,7 +105,7 @@ fn shown_text<R: Source>(
     }
 }
 
-/// What the lines of some passages say. An error comes for want of memory alone.
+/// What the lines of some passages say. An error comes only where memory runs out.
 fn read_lines(alloc: Global, text: &[u8]) -> Result<Vec<TestLine>, CmdFault>
     requires { AreReadable text.now }
     ensures lines { IfOk result (λ lines. Say text.now lines.items) }
@@ -120,7 +120,7 @@ fn read_lines(alloc: Global, text: &[u8]) -> Result<Vec<TestLine>, CmdFault>
     Ok(lines)
 }
 
-/// The first line of a text without its line end, and the text behind that.
+/// The first line of a text without its line end, and the text after that.
 fn first_line(text: &[u8]) -> Option<(&[u8], &[u8])>
     ensures some { IfSome result (λ parts. (text.now ≡ parts.0.now ++ 10 ∷ parts.1.now) × HasNoLineEnd parts.0.now) }
     ensures none { IfNone result (HasNoLineEnd text.now) }

@@ -23,16 +23,16 @@ use lbk_files::{Store, prepare, sample_cells};
 use lbk_rules::Profile;
 use std::alloc::Global;
 
-/// Runs the engine that the words behind the program's name ask for, by the property files that they name, over the
+/// Runs the engine that the arguments after the program's name ask for, by the property files that they name, over the
 /// texts that they name, to the writer. `-` is the text of the reader, which is read where no text is named. Without
 /// arguments it shows that text by the sample files, in the first profile, with paragraphs of at most 65,536 bytes.
 ///
 /// The texts are read in order, each once, and what is written of each follows what was written of those before it. One
 /// that is refused is reported and the others are read; the run then ends with `Reported`.
 ///
-/// The answer says how the run ended. `Help` and `Usage` come for words that ask for no engine, and `Refused` has the
+/// The result says how the run ended. `Help` and `Usage` come for arguments that ask for no engine, and `Refused` has the
 /// fault of the step that failed: nothing was read or written where that was a property file. A file is loaded only for
-/// words that are accepted. `Memory` comes before any load, where a load was refused memory, for lawful files once all
+/// words that are accepted. `Memory` comes before any load, where a load was refused memory, for well-formed files once all
 /// four are loaded, or at a text.
 #[tactic(none)]
 pub fn run<'a, S: Store, T: Texts, R: Source, W: Sink>(

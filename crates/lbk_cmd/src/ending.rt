@@ -27,7 +27,7 @@ pub enum RunFault {
     Cmd(CmdFault),
     /// `replay` stopped.
     Replay(ReplayFault),
-    /// Any other growth of memory was refused.
+    /// Any other allocation was refused.
     Memory,
 }
 
@@ -84,7 +84,7 @@ impl Ending {
         }
     }
 
-    /// Whether no text is read after one that ended so: the output cannot be written, or a growth of memory was refused.
+    /// Whether no text is read after one that ended so: the output cannot be written, or an allocation was refused.
     pub(crate) fn is_last(&self) -> bool
         ensures { result ≡ is_last self.now }
     {

@@ -40,7 +40,7 @@ pub fn mark<R: Source, W: Sink, C: CellSource>(
 /// Writes the marks, scalars and rules of a text (UAX #14, section 6), each passage in a line of its own: the marks
 /// of its positions with its scalars between them, a tab, `#`, and the number of the rule that decided each position.
 ///
-/// A passage's line is written as a whole, once the scalar behind the passage was seen, or the end of the text.
+/// A passage's line is written as a whole, once the scalar after the passage was seen, or the end of the text.
 /// `limit` is the most bytes of a paragraph, 1 to 16,777,216. `Passage` says why no more passages come, `Write` that
 /// the writer failed, `Memory` that memory could not grow for a line.
 pub fn show<R: Source, W: Sink, C: CellSource>(
@@ -57,7 +57,7 @@ pub fn show<R: Source, W: Sink, C: CellSource>(
     write_lines(Lines::Shown, alloc, reader, writer, cells, limit, profile)
 }
 
-/// Writes the segments and words of a text: for each passage a line `P` with its first byte and the byte behind its
+/// Writes the segments and words of a text: for each passage a line `P` with its first byte and the byte after its
 /// last, then a line `S` for each segment, with the kind and the rule of the line break at its end (UAX #14,
 /// section 6), then a line `W` for each word (UAX #29, section 4). Offsets count bytes of the whole text.
 ///

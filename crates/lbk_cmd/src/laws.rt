@@ -1,4 +1,4 @@
-//! What the calls amount to together, over the definitions alone. Each law is the contract of a function that does
+//! What the calls amount to together, over definitions only. Each law is the contract of a function that does
 //! nothing.
 
 ghost use Rattle.std.specs.Prelude.{ℕ, ◌+◌, ◌*◌, ◌≤◌, ◌∷◌, List, Some, length, ◌≡◌};
@@ -56,7 +56,7 @@ pub fn shown_lines()
 {}
 
 /// What is written of a text may be written of its parts apart, where a line must end between each and the next. `mark` writes
-/// of each part what it writes of the part alone. So does `show`, but for the last label of a part: it is 3 of a part alone,
+/// of each part what it writes of the part by itself. So does `show`, except the last label of a part: it is 3 of a part by itself,
 /// and 4 or 5 where another follows. `segment` writes that rule too, and the places of the whole text.
 pub fn joined_lines()
     ensures mark { (profile : Profile) (cell : ℕ → Cell) (parts : List (List ℕ)) → AreParts cell parts

@@ -73,7 +73,7 @@ impl<'a> Message<'a> {
         }
     }
 
-    /// A fault of the files behind the name that the caller has for its file.
+    /// A fault of the files after the name that the caller has for its file.
     fn named(&self, fault: CellsFault, which: Which) -> NamedFault<Name<'a>> {
         let name = match self.caller {
             Caller::Call => Name::Plain(which),
@@ -211,7 +211,7 @@ fn name_in<'a>(files: FileNames<'a>, which: Which) -> FileName<'a> {
     }
 }
 
-/// The system's reason, behind a colon where it tells one.
+/// The system's reason, after a colon where it gives one.
 #[derive(Clone, Copy)]
 struct Why(Option<ErrorKind>);
 

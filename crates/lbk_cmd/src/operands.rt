@@ -11,7 +11,7 @@ use std::alloc::Global;
 
 /// Files of text, and what is said of those that are refused.
 pub trait Texts: Opens {
-    // The names that were refused, in order, each with its fault, where this is told.
+    // The names that were refused, in order, each with its fault, where this is known.
     ghost refused: { Self → Option (List (List ℕ × RunFault)) };
 
     /// Reports that the text of a name was refused, and why.

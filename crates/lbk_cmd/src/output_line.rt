@@ -7,7 +7,7 @@ use itoa::write_digits;
 /// The most bytes of a line.
 const LENGTH: usize = 64;
 
-/// The end of a line, in front of which more is put. A number is told from its last digit on, so each part is written
+/// The end of a line, in front of which more is put. A number is written from its last digit on, so each part is written
 /// where it stays, and the line goes out in one piece.
 #[derive(Drop)]
 pub struct Line {

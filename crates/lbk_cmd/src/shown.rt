@@ -16,7 +16,7 @@ use lbk_rules::{Kind, Profile, Rule, Verdict};
 use lbk_steps::{CellSource, Stepper};
 use std::alloc::AllocError;
 
-/// Writes the verdicts of all positions of a passage in place of what the list held: those of its text alone, the
+/// Writes the verdicts of all positions of a passage in place of what the list held: those of its text by itself, the
 /// last being `end` (UAX #14, section 6). Where memory could not grow the list holds some of them.
 pub fn decide<C: CellSource>(
     cells: &C,
@@ -43,7 +43,7 @@ pub fn decide<C: CellSource>(
     Ok(())
 }
 
-/// Puts the answer of the position that was held in its place, where it comes.
+/// Puts the verdict of the position that was held in its place, where it comes.
 fn place(verdicts: &mut Vec<Verdict>, late: Option<(u64, Verdict)>)
     requires { ForSome late (λ answer. answer.0 < length verdicts.old.items) }
     ensures { verdicts.new.items ≡ written late verdicts.old.items }
@@ -53,7 +53,7 @@ fn place(verdicts: &mut Vec<Verdict>, late: Option<(u64, Verdict)>)
     }
 }
 
-/// The verdict of a position; one that is held has another in its place until its answer comes.
+/// The verdict of a position; one that is held has another in its place until its own comes.
 fn now_or_none(now: Option<Verdict>) -> Verdict
     ensures { result ≡ placed now }
 {

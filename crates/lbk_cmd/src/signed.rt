@@ -12,7 +12,7 @@ use lbk_rules::{Cell, Class, Kind};
 use lbk_steps::CellSource;
 use std::alloc::AllocError;
 
-/// Puts the text of a passage at the end of `out`, with `÷` behind each segment after which a line may end, and with a
+/// Puts the text of a passage at the end of `out`, with `÷` after each segment after which a line may end, and with a
 /// line end where the text has none. After an error some of it may stand there.
 pub fn push_signed<C: CellSource>(
     out: &mut Vec<u8>,

@@ -1,6 +1,6 @@
-//! Sets of bytes by which some bytes stand out behind others, found by a greedy cover.
+//! Sets of bytes by which some bytes stand out after others, found by a greedy cover.
 //!
-//! Which bytes stand out behind which is a relation. It is covered by rectangles: all of some bytes behind all of some
+//! Which bytes stand out after which is a relation. It is covered by rectangles: all of some bytes after all of some
 //! others. Each rectangle is one thing that the left sets of the first and the right sets of the others have in common.
 //! Nothing is claimed of what is found here. A caller compares it with what it knows of the bytes before it uses it, so that
 //! nothing rests on it but speed.
@@ -16,13 +16,13 @@ const ASCII: usize = 128;
 /// Some of the bytes below 128, a bit each.
 pub type Bytes = u128;
 
-/// For each byte below 128 those that are related to it, behind it.
+/// For each byte below 128 those that are related to it, after it.
 pub type Behind = [Bytes; 128];
 
-/// The thing by which a byte is special behind each other.
+/// The thing by which a byte is special after each other.
 const STOP: u8 = 1;
 
-/// The thing by which a byte is special behind some others.
+/// The thing by which a byte is special after some others.
 const SPECIAL_BEHIND_SOME: u8 = 2;
 
 /// The first thing by which a byte stands out without being special.
@@ -38,7 +38,7 @@ struct Found {
     right: [u8; ASCII],
 }
 
-/// Which bytes are special behind which others, and which of the others stand out.
+/// Which bytes are special after which others, and which of the others stand out.
 #[derive(Clone, Copy)]
 pub struct Related {
     /// The bytes that are special.
@@ -54,7 +54,7 @@ pub struct Related {
 pub struct Covering {
     /// The sets of all bytes.
     pub sets: ByteSets,
-    /// The bytes behind which they may tell all of it. Behind others they leave something out.
+    /// The bytes after which they may tell all of it. After others they leave something out.
     pub known: Bytes,
 }
 
@@ -66,7 +66,7 @@ struct Rectangle {
 }
 
 /// Sets that may tell what is related, as far as eight things and sixteen classes reach. Bytes that are rare in texts are
-/// special behind each other.
+/// special after each other.
 pub fn cover(related: &Related) -> Covering {
     let mut found = Found {
         left: [0; ASCII],
@@ -91,7 +91,7 @@ fn usual_bytes() -> Bytes {
     usual
 }
 
-/// Takes the bytes that are special behind some others for special behind all of these.
+/// Takes the bytes that are special after some others for special after all of these.
 fn cover_special(special: &Behind, usual: Bytes, found: &mut Found) {
     let mut right = 0;
     for before in 0..ASCII {
@@ -109,7 +109,7 @@ fn cover_special(special: &Behind, usual: Bytes, found: &mut Found) {
 }
 
 /// Covers the breaks by as many rectangles as there are things left, each time by the one that covers most, and returns the
-/// bytes behind which all breaks are covered. As many bytes as there may be of a kind count once: `different` has one of each.
+/// bytes after which all breaks are covered. As many bytes as there may be of a kind count once: `different` has one of each.
 fn cover_breaks(breaks: &Behind, usual: Bytes, different: Bytes, found: &mut Found) -> Bytes {
     let mut open = *breaks;
     let mut thing = FIRST_BREAK;
@@ -150,7 +150,7 @@ fn has_like(kinds: &[u8; ASCII], bytes: Bytes, byte: usize) -> bool
     false
 }
 
-/// The right side of a rectangle that covers most of the pairs that are open: what stands out behind two bytes.
+/// The right side of a rectangle that covers most of the pairs that are open: what stands out after two bytes.
 fn best_right(breaks: &Behind, open: &Behind, usual: Bytes, different: Bytes) -> Bytes {
     let mut best = Rectangle {
         right: 0,
@@ -165,7 +165,7 @@ fn best_right(breaks: &Behind, open: &Behind, usual: Bytes, different: Bytes) ->
     best.right
 }
 
-/// The best of a rectangle and those with what stands out behind one byte and another.
+/// The best of a rectangle and those with what stands out after one byte and another.
 fn best_behind(
     behind_one: Bytes,
     breaks: &Behind,
@@ -228,7 +228,7 @@ fn put_right(right: Bytes, thing: u8, found: &mut Found) {
 }
 
 /// A class for each pair of sets, as long as there are classes. The first is that of all other bytes, and of those from 128
-/// on; it is special behind each.
+/// on; it is special after each.
 fn classed(found: &Found, covered: Bytes) -> Covering {
     let mut sets = ByteSets {
         classes: [[0; 16]; 8],

@@ -1,5 +1,5 @@
 //! Devices around the program's: they hand on what the one within gives and takes, byte by byte, and note beside it what a
-//! person is told.
+//! message to a person needs.
 #![tactic(auto)]
 
 mod input;

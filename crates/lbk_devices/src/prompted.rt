@@ -1,4 +1,4 @@
-//! A source before whose first read a person is told something.
+//! A source before whose first read a prompt is shown.
 #![tactic(auto, unfolding(crate::specs::Within::within_prompted))]
 
 ghost use Rattle.std.specs.Prelude.{◌≡◌};
@@ -8,11 +8,11 @@ use lbk_feed::{Failed, Source};
 
 /// What tells a person that input is waited for.
 pub trait Prompt {
-    /// Tells it. Where that fails, nothing is told.
+    /// Shows it. Where that fails, nothing is shown.
     fn tell(&self);
 }
 
-/// A source before whose first read a prompt is told, where it is due. Each read is one read of the source within, with
+/// A source before whose first read a prompt is shown, where it is due. Each read is one read of the source within, with
 /// its bytes and its failure.
 #[derive(Drop)]
 pub struct Prompted<S, P> {
@@ -23,7 +23,7 @@ pub struct Prompted<S, P> {
 }
 
 impl<S, P> Prompted<S, P> {
-    /// The source `inner`, before whose first read `prompt` is told if `is_due`.
+    /// The source `inner`, before whose first read `prompt` is shown if `is_due`.
     pub fn new(inner: S, prompt: P, is_due: bool) -> Prompted<S, P>
         ensures { within_prompted result ≡ inner }
     {

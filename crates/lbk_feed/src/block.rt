@@ -52,7 +52,7 @@ impl Block {
         self.start += n;
     }
 
-    /// Moves what is held to the front, so that all the room there is lies behind it.
+    /// Moves what is held to the front, so that all the room there is comes after it.
     fn move_to_front(&mut self)
         ensures items { items self.new ≡ items self.old }
         ensures start { self.new.start ≡ 0 }
@@ -62,7 +62,7 @@ impl Block {
         self.start = 0;
     }
 
-    /// Makes one read, behind what is held, and answers how many bytes it gave.
+    /// Makes one read, after what is held, and returns how many bytes it gave.
     pub fn read_from<R: Source>(&mut self, reader: &mut R) -> Result<usize, Failed>
         requires { length (items self.old) < 4096 }
         ensures fills { Fills (items self.old) (items self.new) (R.unread reader.old) (R.unread reader.new) result }

@@ -1,4 +1,4 @@
-//! Devices over memory, whose reads and writes are cut and fail where they are told to.
+//! Devices over memory, whose reads and writes are cut and fail where a test wants it.
 
 mod memory_sink;
 mod memory_source;

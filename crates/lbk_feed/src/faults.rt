@@ -12,6 +12,6 @@ pub enum FeedFault {
     NotUtf8 { at: u64 },
     /// More than 1,073,741,824 bytes were read, and the first of them are well-formed, or end inside a scalar.
     TextTooLong,
-    /// An earlier call has answered one of the others.
+    /// An earlier call has returned one of the others.
     Spent,
 }

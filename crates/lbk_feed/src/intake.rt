@@ -16,7 +16,7 @@ use std::str;
 /// at least one, and four bytes are a scalar or at fault.
 const READS: usize = 4;
 
-/// The bytes held, how many at their front are ready to be lent, and what stands behind those.
+/// The bytes held, how many at their front are ready to be lent, and what stands after those.
 #[derive(Drop)]
 pub struct Intake {
     block: Block,
@@ -163,7 +163,7 @@ impl Intake {
         unreachable!()
     }
 
-    /// Answers what is wrong with the bytes held, once and for all.
+    /// Returns what is wrong with the bytes held, once and for all.
     fn finish(&mut self) -> Result<(), FeedFault>
         requires settled { IsSettled self.old }
         requires unspent { self.old.is_spent ≡ false }

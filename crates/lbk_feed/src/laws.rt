@@ -20,7 +20,7 @@ pub fn prefix_is_longest_text()
     ensures { (bs : List ℕ) → IsLongestText bs (well_formed_prefix bs) }
 {}
 
-/// The well-formed prefix of a text and the bytes behind it is the text and their well-formed prefix.
+/// The well-formed prefix of a text and the bytes after it is the text and their well-formed prefix.
 pub fn prefix_behind_a_text()
     ensures { (text bs : List ℕ) → IsUtf8 text → well_formed_prefix (text ++ bs) ≡ text ++ well_formed_prefix bs }
 {}

@@ -70,7 +70,7 @@ impl Feed {
         self.intake.use_up(n);
     }
 
-    /// Reads where a read is due, until a piece stands in `ready`, and answers whether one does; if not, the text
+    /// Reads where a read is due, until a piece stands in `ready`, and returns whether one does; if not, the text
     /// is at its end.
     ///
     /// It is `piece` with nothing lent: it makes the same reads, and meets the same faults.
@@ -88,11 +88,11 @@ impl Feed {
         ensures spent { self.old.is_spent ≡ true → result ≡ Err FeedFault.Spent }
         ensures spent_only { result ≡ Err FeedFault.Spent → self.old.is_spent ≡ true }
 
-        // Where a piece is ready, the end was met, or a fault was answered or is certain, no read is made.
+        // Where a piece is ready, the end was met, or a fault was returned or is certain, no read is made.
         ensures idle { IsIdle self.old → reader.new ≡ reader.old }
         ensures read { result ≡ Err FeedFault.Read → ¬ (IsIdle self.old) }
         ensures reads { R.read_count reader.new ≤ R.read_count reader.old + 4 }
-        // `Read` is the answer exactly where a read failed.
+        // `Read` is returned exactly where a read failed.
         ensures failures { R.failure_count reader.new ≡ failures_with (R.failure_count reader.old) (fault_of result) }
     {
         self.intake.settle(reader)?;
@@ -117,11 +117,11 @@ impl Feed {
         ensures spent { self.old.is_spent ≡ true → result ≡ Err FeedFault.Spent }
         ensures spent_only { result ≡ Err FeedFault.Spent → self.old.is_spent ≡ true }
 
-        // Where a piece is ready, the end was met, or a fault was answered or is certain, no read is made.
+        // Where a piece is ready, the end was met, or a fault was returned or is certain, no read is made.
         ensures idle { IsIdle self.old → reader.new ≡ reader.old }
         ensures read { result ≡ Err FeedFault.Read → ¬ (IsIdle self.old) }
         ensures reads { R.read_count reader.new ≤ R.read_count reader.old + 4 }
-        // `Read` is the answer exactly where a read failed.
+        // `Read` is returned exactly where a read failed.
         ensures failures { R.failure_count reader.new ≡ failures_with (R.failure_count reader.old) (fault_of result) }
     {
         if !self.settle(reader)? {

@@ -20,7 +20,7 @@ pub trait Source {
 
     ghost has_ended: { Self → Bool };
 
-    /// Reads into the front of `buf`, and answers how many bytes.
+    /// Reads into the front of `buf`, and returns how many bytes.
     ///
     /// No byte into a `buf` that is not empty is the end. An `Err` takes none; after it a source need not
     /// tell what is unread.
@@ -53,7 +53,7 @@ pub trait Sink {
 
     ghost failure_count: { Self → ℕ };
 
-    /// Writes bytes from the front of `bytes`, and answers how many: at least one where there is one.
+    /// Writes bytes from the front of `bytes`, and returns how many: at least one where there is one.
     ///
     /// An `Err` wrote nothing.
     fn write(&mut self, bytes: &[u8]) -> Result<usize, Failed>

@@ -38,7 +38,7 @@ pub fn read_cells(alloc: Global, files: Files<'_>) -> Result<CellPages, CellsFau
     CellPages::build(alloc, &tables).map_err(|_| CellsFault::Memory)
 }
 
-/// The cells of the sample files. An error comes for want of memory alone.
+/// The cells of the sample files. An error comes only where memory runs out.
 pub fn sample_cells(alloc: Global) -> Result<CellPages, CellsFault>
     ensures { MatchResult result (λ pages. AreSampleCells (page_cell pages)) IsSampleFault }
 {

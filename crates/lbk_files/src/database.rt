@@ -18,7 +18,7 @@ pub fn name_in_database(which: Which) -> &'static str
     }
 }
 
-/// The name of a file of a folder, behind the folder's name.
+/// The name of a file of a folder, after the folder's name.
 pub(crate) fn joined(alloc: Global, folder: &str, which: Which) -> Result<String, AllocError>
     ensures { IfOk result (λ name. string_bytes name ≡ joined folder.now which) }
 {

@@ -18,12 +18,12 @@ pub enum CellsFault {
     /// The property files were refused at their first fault, or at a line where their tables could not grow.
     #[error("{}", named(*self, .0.file))]
     Tables(UcdFault),
-    /// A growth of memory was refused.
+    /// An allocation was refused.
     #[error("out of memory")]
     Memory,
 }
 
-/// A fault behind the name that its file has in the Unicode Character Database.
+/// A fault after the name that its file has in the Unicode Character Database.
 fn named(fault: CellsFault, which: Which) -> NamedFault<&'static str> {
     NamedFault {
         fault,
@@ -38,6 +38,6 @@ pub enum Stop {
     Help { text: String },
     /// The words are no command line of the program; the text says why.
     Usage { text: String },
-    /// There are no cells, or a growth of memory was refused.
+    /// There are no cells, or an allocation was refused.
     Refused(CellsFault),
 }

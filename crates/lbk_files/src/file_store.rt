@@ -14,7 +14,7 @@ use std::alloc::Global;
 pub trait Opens {
     type File: Source + Drop;
 
-    // What the file of a name holds, where this is told; `None` in it is a file that cannot be opened.
+    // What the file of a name holds, where this is known; `None` in it is a file that cannot be opened.
     ghost contents: { Self → List ℕ → Option (Option (List ℕ)) };
 
     /// Opens the file of a name.

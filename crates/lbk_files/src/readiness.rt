@@ -27,7 +27,7 @@ pub struct Ready<'a> {
 /// Reads the words, loads the files that they name, and reads these.
 ///
 /// `Help` and `Usage` come for words that are no order. `Refused` is the first step that fails: its `Memory` comes
-/// before any load, in a load, or for lawful files once all four are loaded.
+/// before any load, in a load, or for well-formed files once all four are loaded.
 pub fn prepare<'a, S: Store>(
     alloc: Global,
     words: &'a [&'a str],

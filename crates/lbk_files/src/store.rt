@@ -11,7 +11,7 @@ use std::alloc::Global;
 pub enum LoadFault {
     /// It cannot be opened or read.
     Unreadable,
-    /// A growth of memory was refused.
+    /// An allocation was refused.
     Memory,
 }
 

@@ -165,7 +165,7 @@ fn meeting(left: u8x64, right: u8x64) -> u64
     (left & right).simd_ne(u8x64::splat(0)).to_bitmask()
 }
 
-/// The lanes, each a place further on, behind this one.
+/// The lanes, each a place further on, after this one.
 #[inline(always)]
 fn one_back(before: u8, block: u8x64) -> u8x64
     ensures { HasLanes result (λ i. get_or (before ∷ block) i 0) }

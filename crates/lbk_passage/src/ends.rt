@@ -19,7 +19,7 @@ pub fn ends_at(last: Option<Class>, next: Class) -> bool
     }
 }
 
-/// Whether a line must end after a scalar of this class, but for a line feed after a carriage return.
+/// Whether a line must end after a scalar of this class, except a line feed after a carriage return.
 #[tactic(auto, unfolding(lbk_rules::specs::Classes::is))]
 pub fn ends_line(class: Class) -> bool
     ensures { result ≡ ends_line class }

@@ -21,11 +21,11 @@ pub enum PassageFault {
     TextTooLong,
     /// The paragraph that begins at byte `start` of the text holds a scalar that ends past `start` and the limit.
     ParagraphTooLong { start: u64 },
-    /// An earlier call has answered `Read`, `NotUtf8`, `TextTooLong` or `ParagraphTooLong`.
+    /// An earlier call has returned `Read`, `NotUtf8`, `TextTooLong` or `ParagraphTooLong`.
     Spent,
 }
 
-/// The fault of the feed, as a segmenter answers it.
+/// The fault of the feed, as a segmenter returns it.
 pub fn from_feed(fault: FeedFault) -> PassageFault
     ensures { result ≡ passage_fault fault }
 {

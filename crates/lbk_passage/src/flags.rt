@@ -9,17 +9,17 @@ use lbk_steps::CellSource;
 /// How many bytes are a scalar by themselves.
 const ASCII: u8 = 0x80;
 
-/// The first byte behind those that continue a scalar.
+/// The first byte value above those that continue a scalar.
 const FIRST: u8 = 0xC0;
 
-/// How many bytes are told in one turn.
+/// How many bytes are looked at in one turn.
 const TURN: usize = 8;
 
 /// For each byte what it tells of its scalar. Most bytes of most texts tell enough, by one read.
 #[derive(Drop)]
 pub struct ByteFlags {
-    /// Whether it continues a scalar, or a line must end behind no scalar that begins with it. False is right of each of
-    /// the latter, too, and only slower: no contract says how many are told.
+    /// Whether it continues a scalar, or a line must end after no scalar that begins with it. False is right of each of
+    /// the latter, too, and only slower: no contract says how many there are.
     is_quiet: [bool; 256],
     /// Whether it is a scalar by itself, and a letter or a number.
     is_letter: [bool; 256],

@@ -1,4 +1,4 @@
-//! What the passages of a text have in common, over the definitions alone. Each law is the contract of a function
+//! What the passages of a text have in common, over definitions only. Each law is the contract of a function
 //! that does nothing.
 
 ghost use Rattle.std.specs.Prelude.{◌≡◌, ◌⊎◌, ℕ, ◌<◌, List, [], ◌∷◌, ◌++◌, false, true, length, map, encode_utf8_all, IsTrue, IsUtf8};
@@ -19,8 +19,8 @@ ghost use Rattle.lbk_passage.specs.State.{State};
 ghost use Rattle.lbk_passage.specs.Next.{ComesFirst, IsDone, Stops};
 ghost use Rattle.lbk_passage.specs.Runs.{HasGiven};
 
-/// The paragraph law, for passages: behind an earlier text that is empty, or after whose last scalar a line must end,
-/// the passages of a text are those that it has alone, with the same marks (UAX #14, section 6.1, rules LB4 and LB5).
+/// The paragraph law, for passages: after an earlier text that is empty, or after whose last scalar a line must end,
+/// the passages of a text are those that it has by itself, with the same marks (UAX #14, section 6.1, rules LB4 and LB5).
 pub fn behind_an_earlier_text()
     ensures { (profile : Profile) (cell : ℕ → Cell) (earlier text : List ℕ)
         → (earlier ≡ []) ⊎ ((verdict_between_in profile (map cell earlier) (map cell text)).kind ≡ Must)
@@ -57,7 +57,7 @@ pub fn run_begins()
 {}
 
 /// A passage more: where it comes first in the text still to come, those given before it and it are the first ones of
-/// the whole text. The bytes left before it are its own, those behind it, and those unread; at the end none are unread.
+/// the whole text. The bytes left before it are its own, those after it, and those unread; at the end none are unread.
 pub fn run_goes_on()
     ensures { (s : State) (given : List (List Marked)) (passage : List Marked) (behind unread : List ℕ)
         → 0 < length passage → IsUtf8 (text_of passage) → (s.is_ended ≡ true → unread ≡ [])
@@ -76,7 +76,7 @@ pub fn run_ends()
         ≡ given ++ passages s.profile s.cell (stops.seen ++ more) }
 {}
 
-/// Texts between which a line must end may be cut into passages apart. Joined, these are the passages of the whole, but for
+/// Texts between which a line must end may be cut into passages apart. Joined, these are the passages of the whole, except
 /// the end of the first text: a text ends by rule 3, and by rule 4 or 5 where another follows. So are their segments and
 /// their pieces, the words among them, if the places of the second are moved by the bytes of the first (UAX #14, section
 /// 6.1, rules LB3 to LB5).
@@ -91,7 +91,7 @@ pub fn joined_texts()
         ≡ pieces_at cell 0 (passages profile cell first) ++ pieces_in profile cell (length (encode_utf8_all first)) false second }
 {}
 
-/// So may any number of parts: each is cut alone, with the byte at which it begins and whether another follows it.
+/// So may any number of parts: each is cut by itself, with the byte at which it begins and whether another follows it.
 pub fn joined_parts()
     ensures passages { (profile : Profile) (cell : ℕ → Cell) (parts : List (List ℕ)) → AreParts cell parts
         → passages profile cell (flat_map (λ part. part) parts) ≡ of_parts (λ at. passages_in profile cell) 0 parts }

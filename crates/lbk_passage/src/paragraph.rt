@@ -12,7 +12,7 @@ use lbk_rules::{Class, Verdict};
 use lbk_steps::CellSource;
 use std::alloc::{AllocError, Global};
 
-/// The bytes of the paragraph in progress, what was read behind them, and how far the paragraph may reach.
+/// The bytes of the paragraph in progress, what was read after them, and how far the paragraph may reach.
 #[derive(Drop)]
 pub struct Paragraph {
     feed: Feed,
@@ -79,7 +79,7 @@ impl Paragraph {
         self.is_held = false;
     }
 
-    /// Gathers the paragraph, unless it is held already, and answers the verdict at its end, or `None` where no text
+    /// Gathers the paragraph, unless it is held already, and returns the verdict at its end, or `None` where no text
     /// is left.
     pub fn fill<R: Source, C: CellSource>(
         &mut self,
@@ -147,7 +147,7 @@ impl Paragraph {
         Ok(end_before(last, false))
     }
 
-    /// Makes sure that a piece is ready, by reads where they are due, and answers whether one is.
+    /// Makes sure that a piece is ready, by reads where they are due, and returns whether one is.
     fn settle<R: Source>(&mut self, reader: &mut R) -> Result<bool, PassageFault>
         requires unspent { self.old.is_spent ≡ false }
         ensures settles { Settles self.old self.new
@@ -165,7 +165,7 @@ impl Paragraph {
         }
     }
 
-    /// Takes of the piece that is ready what belongs to the paragraph, behind a scalar of class `last`.
+    /// Takes of the piece that is ready what belongs to the paragraph, after a scalar of class `last`.
     fn take<C: CellSource>(&mut self, cells: &C, flags: &ByteFlags, last: Option<Class>) -> Reach
         requires { AreQuiet (C.cell_of cells.now) flags.now.is_quiet }
         ensures { Takes (C.cell_of cells.now) last self.old self.new result }

@@ -22,7 +22,7 @@ pub struct Passage<'a> {
     pub text: &'a str,
     /// Its cutting at the positions where a line may or must end.
     pub segments: &'a [Segment],
-    /// Its cutting at word boundaries (UAX #29, section 4), its text taken alone.
+    /// Its cutting at word boundaries (UAX #29, section 4), as a text of its own.
     pub pieces: &'a [Piece],
     /// What the rules say of the position after its last scalar.
     pub end: Verdict,

@@ -63,7 +63,7 @@ pub fn reach_in<C: CellSource>(
     let most = piece.floor_char_boundary(room);
     let mut here = Place { len: 0, last };
     loop {
-        // Scalars behind which no line must end come in runs.
+        // Scalars after which no line must end come in runs.
         let quiet = pass_quiet(cells, flags, piece, most, here);
         let mut scalars = piece[quiet.len..].chars();
         let Some(c) = scalars.next() else {
@@ -84,7 +84,7 @@ pub fn reach_in<C: CellSource>(
     }
 }
 
-/// Passes over scalars up to the byte `most`, where their bytes tell that a line must end behind none of them, nor behind
+/// Passes over scalars up to the byte `most`, where their bytes tell that a line must end after none of them, nor after
 /// the one before them.
 #[inline(always)]
 fn pass_quiet<C: CellSource>(
@@ -117,7 +117,7 @@ fn pass_quiet<C: CellSource>(
     }
 }
 
-/// Whether a line must end behind a scalar of this class, if there is one, but for a line feed.
+/// Whether a line must end after a scalar of this class, if there is one, unless a line feed follows.
 fn is_end(last: Option<Class>) -> bool
     ensures { result ≡ is_end last }
 {

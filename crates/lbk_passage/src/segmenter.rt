@@ -101,11 +101,11 @@ impl<'a, C: CellSource> Segmenter<'a, C> {
         ensures spent_only { result ≡ Err PassageFault.Spent → (state_of C.cell_of self.old).is_spent ≡ true }
         // `None` stays: it leaves nothing held and the end met.
         ensures again { IsDone (state_of C.cell_of self.old) → (state_of C.cell_of self.old).is_spent ≡ false → result ≡ Ok None }
-        // Where the answer was seen before, or a fault was answered, no read is made.
+        // Where the end was seen before, or a fault was returned, no read is made.
         ensures settled { (state_of C.cell_of self.old).is_settled ≡ true → reader.new ≡ reader.old }
         ensures ended { (state_of C.cell_of self.old).is_ended ≡ true → reader.new ≡ reader.old }
         ensures reads { R.read_count reader.new ≤ R.read_count reader.old + ((state_of C.cell_of self.old).limit + 8) }
-        // `Read` is the answer exactly where a read failed.
+        // `Read` is returned exactly where a read failed.
         ensures failures { R.failure_count reader.new ≡ failures_with (R.failure_count reader.old) (fault_in result) }
     {
         let Some(end) = self.paragraph.fill(reader, self.cells, &self.flags)? else {

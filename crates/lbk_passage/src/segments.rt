@@ -24,8 +24,8 @@ pub(crate) const NO_BREAKS: [Break; BLOCK] = [Break {
     rule: Rule::Lb31,
 }; BLOCK];
 
-/// Writes the segments of a passage in place of what the list held: those of its text alone, the last with the
-/// verdict `end` (UAX #14, section 6). What the block held and holds is of no account. Where memory could not grow the
+/// Writes the segments of a passage in place of what the list held: those of its text by itself, the last with the
+/// verdict `end` (UAX #14, section 6). What the block held does not matter, and what it holds then is unspecified. Where memory could not grow the
 /// list holds some of them.
 pub fn cut_lines<C: CellSource>(
     cells: &C,
@@ -47,7 +47,7 @@ pub fn cut_lines<C: CellSource>(
     }
 }
 
-/// Puts a segment behind those in the list, with this verdict at its end, if a line may break there.
+/// Puts a segment after those in the list, with this verdict at its end, if a line may break there.
 fn push_ended(segments: &mut Vec<Segment>, segment: Segment, end: Verdict) -> Result<(), AllocError>
     ensures { OnOk result (segments.new.items ≡ segments.old.items ++ ending_by end segment) }
 {
@@ -61,7 +61,7 @@ fn push_ended(segments: &mut Vec<Segment>, segment: Segment, end: Verdict) -> Re
     Ok(())
 }
 
-/// Puts the segments of a text that stands alone, the last with the verdict at its end, behind those in the list.
+/// Puts the segments of a text by itself, the last with the verdict at its end, after those in the list.
 fn cut_alone<C: CellSource>(
     cells: &C,
     profile: Profile,
@@ -84,7 +84,7 @@ fn cut_alone<C: CellSource>(
     }
 }
 
-/// Puts the segments that end at these breaks behind those in the list, the first from `start` on, and answers where
+/// Puts the segments that end at these breaks after those in the list, the first from `start` on, and returns where
 /// the next begins.
 fn cut_block(block: &[Break], start: u32, segments: &mut Vec<Segment>) -> Result<u32, AllocError>
     requires { All (λ one. one.at < 2 ^ 32) block.now }

@@ -1,5 +1,5 @@
-//! The positions of a text that is at hand, decided one after another: where a verdict asks for more than the next
-//! scalar, the text behind it is looked at.
+//! The positions of a text in memory, decided one after another: where a verdict asks for more than the next
+//! scalar, the text after it is looked at.
 
 ghost use Rattle.std.specs.Prelude.{◌≡◌, ℕ, List, [], ◌∷◌, ◌++◌, map, ⊤};
 ghost use Rattle.std.specs.Str.{chars};
@@ -14,7 +14,7 @@ use crate::source::CellSource;
 use lbk_rules::{Cell, Class, Left, Profile, Verdict, is_second};
 use std::alloc::AllocError;
 
-/// Decides the positions of a text that is at hand one after another in either profile, by the cells of a source and
+/// Decides the positions of a text in memory one after another in either profile, by the cells of a source and
 /// the plain rules (UAX #14, section 6). No position is held.
 pub struct AheadMachine<'a, C: CellSource> {
     cells: &'a C,
@@ -50,7 +50,7 @@ impl<'a, C: CellSource> AheadMachine<'a, C> {
         }
     }
 
-    /// Takes the next scalar: the verdict of the position before it, where `rest` is the text behind it, up to its
+    /// Takes the next scalar: the verdict of the position before it, where `rest` is the text after it, up to its
     /// end.
     pub fn step(&mut self, c: char, rest: &str) -> Verdict
         ensures decides { (profile : Profile) (cell : ℕ → Cell) (taken : List ℕ)
@@ -76,7 +76,7 @@ impl<'a, C: CellSource> AheadMachine<'a, C> {
     }
 }
 
-/// The verdict before `cell`, where `left` is known of what stands before it and `rest` is the text behind it.
+/// The verdict before `cell`, where `left` is known of what stands before it and `rest` is the text after it.
 fn verdict_ahead<C: CellSource>(
     left: Left,
     cells: &C,
@@ -95,7 +95,7 @@ fn verdict_ahead<C: CellSource>(
     left.verdict(profile, cell, closes)
 }
 
-/// Whether the unit after a cell of this class leaves a closing quotation mark closed, where `rest` is the text behind
+/// Whether the unit after a cell of this class leaves a closing quotation mark closed, where `rest` is the text after
 /// the cell: also where none comes.
 fn closes_ahead<C: CellSource>(cells: &C, class: Class, rest: &str) -> bool
     ensures { result ≡ leaves_closed (units_after (hard class) (map (C.cell_of cells.now) (chars rest.now))) }

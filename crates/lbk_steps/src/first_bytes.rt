@@ -10,7 +10,7 @@ use lbk_ucd::Places;
 /// How many codes there are.
 const CODES: u32 = 0x11_0000;
 
-/// For each byte whether a line must end behind no scalar that begins with it (UAX #14, rules LB4 and LB5).
+/// For each byte whether a line must end after no scalar that begins with it (UAX #14, rules LB4 and LB5).
 pub(crate) fn quiet_first_bytes<C: CellRuns>(source: &C) -> [bool; 256]
     ensures { AreQuiet (C.cell_at source.now) result }
 {

@@ -17,7 +17,7 @@ use lbk_rules::{Cell, VERDICTS, code_of};
 use lbk_ucd::Tables;
 use std::alloc::{AllocError, Global};
 
-/// How many steps a table has for each profile: as many as a `u8` has kinds, behind each place that a `u16` has. So a
+/// How many steps a table has for each profile: as many as a `u8` has kinds, after each place that a `u16` has. So a
 /// step is there whatever the row and the kind are.
 pub const STEPS: usize = 65_792;
 

@@ -24,7 +24,7 @@ const OPENING_MARK: u8 = 40;
 /// The place of a quotation mark that closes.
 const CLOSING_MARK: u8 = 41;
 
-/// The class of each place: all classes, and behind them those that have more than one place.
+/// The class of each place: all classes, and after them those that have more than one place.
 const CLASSES: [Class; 42] = [
     Class::Alphabetic,
     Class::BreakBoth,

@@ -22,7 +22,7 @@ const NO_ROW: u16 = 1;
 #[repr(C)]
 #[derive(Clone, Copy)]
 pub struct Neighbours {
-    /// Sets by which a byte stands out where a line may or must break before it, and is special where the two bytes alone
+    /// Sets by which a byte stands out where a line may or must break before it, and is special where the two bytes by themselves
     /// do not tell that.
     pub sets: ByteSets,
     /// The place of the row after each byte that is not special; or a number that is no row's place.
@@ -51,14 +51,14 @@ impl Neighbours {
         NOTHING_KNOWN
     }
 
-    /// Whether a byte is special behind another.
+    /// Whether a byte is special after another.
     pub(crate) fn is_special(&self, before: u8, byte: u8) -> bool
         ensures { result ≡ is_special self.now before byte }
     {
         self.sets.left_of(before) & (self.sets.right_of(byte) & SPECIAL) != 0
     }
 
-    /// Whether a byte stands out behind another.
+    /// Whether a byte stands out after another.
     fn stands_out(&self, before: u8, byte: u8) -> bool
         ensures { result ≡ meets (left_in self.now.sets before) (right_in self.now.sets byte) }
     {
@@ -77,7 +77,7 @@ impl Neighbours {
         true
     }
 
-    /// Whether they tell it of each byte behind this one.
+    /// Whether they tell it of each byte after this one.
     fn are_told_behind(&self, before: u8, steps: &[FlatStep; STEPS], kinds: &[u8; CODES]) -> bool
         requires { before < 128 }
         ensures { result ≡ true → (byte : ℕ) → byte < 256 → IsTold steps.now kinds.now self.now before byte }
@@ -90,7 +90,7 @@ impl Neighbours {
         true
     }
 
-    /// Whether they tell it of a byte behind another.
+    /// Whether they tell it of a byte after another.
     fn is_told(&self, before: u8, byte: u8, steps: &[FlatStep; STEPS], kinds: &[u8; CODES]) -> bool
         requires { before < 128 }
         ensures { result ≡ true → IsTold steps.now kinds.now self.now before byte }
@@ -136,7 +136,7 @@ fn neighbours_found(steps: &[FlatStep; STEPS], kinds: &[u8; CODES]) -> Neighbour
     Neighbours { sets, rows }
 }
 
-/// The row after each byte below 128, where it stands behind a letter.
+/// The row after each byte below 128, where it stands after a letter.
 fn rows_behind_letters(steps: &[FlatStep; STEPS], kinds: &[u8; CODES]) -> [u16; 256] {
     let mut rows = [NO_ROW; 256];
     let letter = steps[kinds[b'a' as usize] as usize].next;

@@ -38,7 +38,7 @@ pub struct CellPages {
     pages: Vec<Page>,
     /// None comes only if there were more rows than a table can name.
     table: Option<StepTable>,
-    /// For each byte whether a line must end behind no scalar that begins with it.
+    /// For each byte whether a line must end after no scalar that begins with it.
     quiet_first_bytes: [bool; 256],
     ghost complete: { length numbers.items ≡ 4352 },
     ghost numbered: { (k : ℕ) → k < 4352 → slice_index numbers.items k < length pages.items },

@@ -15,7 +15,7 @@ use lbk_rules::{Cell, Left, Profile, Verdict};
 #[derive(Clone, Copy, Debug)]
 pub struct RowMachine<'a> {
     kinds: &'a KindTable,
-    /// The kinds of all codes, at hand so that a loop reads them without asking the table where they are.
+    /// The kinds of all codes, kept here so that a loop reads them without asking the table where they are.
     kind_of_code: &'a [u8],
     rows: &'a StepRows,
     profile: Profile,
@@ -101,7 +101,7 @@ impl<'a> RowMachine<'a> {
         Some(step.verdict)
     }
 
-    /// The step by `c`, of which the verdict is that where nothing follows. It is not copied, so that the row is read alone.
+    /// The step by `c`, of which the verdict is that where nothing follows. It is not copied, so that only the row is read.
     #[inline(always)]
     fn step_by(&self, c: char) -> &'a Step
         ensures row { IsRowOf self.now.rows.now result.now.next }
@@ -152,7 +152,7 @@ impl<'a> RowMachine<'a> {
         self.profile
     }
 
-    /// The verdict of the position before `c`, where `rest` is the text behind it, up to its end: also where the
+    /// The verdict of the position before `c`, where `rest` is the text after it, up to its end: also where the
     /// position is held.
     pub fn look_ahead(&self, c: char, rest: &str) -> Verdict
         ensures { (profile : Profile) (cell : ℕ → Cell) (taken : List ℕ)

@@ -7,7 +7,7 @@ ghost use Rattle.lbk_rules.specs.Verdict.{verdict_in};
 use crate::row_machine::RowMachine;
 use lbk_rules::{EndVerdicts, StepVerdicts, Verdict, unless_held};
 
-/// A position whose verdict waits for the unit after a closing quotation mark, with both its answers:
+/// A position whose verdict waits for the unit after a closing quotation mark, with both its verdicts:
 /// where that unit leaves the mark closed, or none comes, and where it does not.
 #[derive(Clone, Copy, PartialEq, Eq, Debug)]
 struct HeldRow {
@@ -67,7 +67,7 @@ impl<'a> RowStepper<'a> {
     }
 
     /// Takes the next scalar: the verdict of the position before it, unless that is held, and that of
-    /// the position that was held until now, where the scalar heads the unit after its quotation mark. It answers so for
+    /// the position that was held until now, where the scalar heads the unit after its quotation mark. It does so for
     /// the first 18,446,744,073,709,551,615 scalars of a text.
     #[inline(always)]
     pub fn step(&mut self, c: char) -> StepVerdicts
@@ -94,7 +94,7 @@ impl<'a> RowStepper<'a> {
         self.step_with_held(c)
     }
 
-    /// The same where a position is held before the step or behind it, which is rare. Its values are set up here, and not in
+    /// The same where a position is held before the step or after it, which is rare. Its values are set up here, and not in
     /// `step`; and `holding` and `late`, which it calls, take the stepper by value, so that a loop has its own in registers.
     #[inline(always)]
     fn step_with_held(&mut self, c: char) -> StepVerdicts
@@ -148,7 +148,7 @@ impl<'a> RowStepper<'a> {
         }
     }
 
-    /// The answer that `c` brings with it: none, if it heads no unit.
+    /// The verdict that `c` settles: none, if it heads no unit.
     #[cold]
     #[inline(never)]
     fn late(self, c: char) -> Option<(u64, Verdict)>
@@ -187,7 +187,7 @@ impl<'a> RowStepper<'a> {
         self.held
     }
 
-    /// The position before `c` with both its answers.
+    /// The position before `c` with both its verdicts.
     fn held_before(&self, c: char) -> HeldRow
         ensures { (profile : Profile) (cell : ℕ → Cell) (taken : List ℕ)
             → RowStepperFits self.now profile cell taken

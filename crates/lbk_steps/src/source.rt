@@ -25,7 +25,7 @@ pub trait CellSource {
         None
     }
 
-    /// For each byte whether it is known that a line must end behind no scalar that begins with it (UAX #14, rules LB4 and
+    /// For each byte whether it is known that a line must end after no scalar that begins with it (UAX #14, rules LB4 and
     /// LB5). A text is cut into paragraphs without it too, only slower.
     fn quiet_first_bytes(&self) -> [bool; 256]
         ensures { AreQuiet (cell_of self.now) result }

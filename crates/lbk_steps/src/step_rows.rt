@@ -45,7 +45,7 @@ pub(crate) struct StepRows {
     ghost decided: { AreSteps lefts.items first.items second.items },
 }
 
-/// What stands behind the steps of the last row.
+/// What stands after the steps of the last row.
 const NO_STEP: Step = Step {
     verdict: Verdict {
         kind: Kind::No,
@@ -161,7 +161,7 @@ fn flags_of(left: Left) -> usize {
     sum
 }
 
-/// The row that knows this, put behind the others where there is none. `hint` is the row to look at
+/// The row that knows this, put after the others where there is none. `hint` is the row to look at
 /// first.
 fn row_of(lefts: &mut Vec<Left>, left: Left, hint: usize) -> Result<usize, AllocError>
     ensures more { IfOk result (λ _. Extends lefts.old.items lefts.new.items) }

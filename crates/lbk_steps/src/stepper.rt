@@ -50,7 +50,7 @@ impl<'a, C: CellSource> Stepper<'a, C> {
     }
 
     /// Takes the next scalar: the verdict of the position before it, unless that is held, and that of the position
-    /// that was held until now, where the scalar heads the unit after its quotation mark. It answers so for the first
+    /// that was held until now, where the scalar heads the unit after its quotation mark. It does so for the first
     /// 18,446,744,073,709,551,615 scalars of a text.
     #[inline(always)]
     pub fn step(&mut self, c: char) -> StepVerdicts
@@ -107,7 +107,7 @@ impl<'a, C: CellSource> Stepper<'a, C> {
     }
 }
 
-/// A step by the plain rules: the machine behind it, and what it answers. The machine is passed by value, so that a loop that
+/// A step by the plain rules: the machine after it, and what it decides. The machine is passed by value, so that a loop that
 /// steps has its stepper in registers.
 #[cold]
 #[inline(never)]

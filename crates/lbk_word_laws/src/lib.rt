@@ -13,7 +13,7 @@ ghost use Rattle.lbk_words.specs.Words.{words_of};
 ghost use Rattle.lbk_word_laws.specs.Agreement.{AgreeOnLetters, AgreeOnLines};
 ghost use Rattle.lbk_word_laws.specs.PassageWords.{words_in_pieces, words_of_passages};
 
-/// The words of a passage's text, taken alone, are those of its pieces that are one, where the
+/// The words of a passage's text, as a text of its own, are those of its pieces that are one, where the
 /// cells of its scalars have the letters and numbers that `lbk_words` knows (UAX #29, section 4).
 pub fn words_of_a_passage()
     ensures { (cell : ℕ → Cell) (text : List ℕ) → AgreeOnLetters cell (chars text) → IsUtf8 text

@@ -1,4 +1,4 @@
-//! What `break_text` answers and refuses: the lines of `show`, without the rules' numbers, are what was read back.
+//! What `break_text` returns and refuses: the lines of `show`, without the rules' numbers, are what was read back.
 
 use lbk_cmd::{BreakFault, CellsFault, CmdFault, SAMPLE_FILES, break_text};
 use lbk_feed::Source;

@@ -7,7 +7,7 @@ use lbk_rules::Profile;
 use std::alloc::AllocError;
 use std::test::Fail;
 
-/// Puts the characters of a passage at the end of a text, each with the mark behind it.
+/// Puts the characters of a passage at the end of a text, each with the mark after it.
 fn push_marked(seen: &mut String, passage: &TestLine) -> Result<(), AllocError> {
     let behind = &passage.marks()[1..];
     for (c, mark) in passage.scalars().iter().zip(behind) {

@@ -220,7 +220,7 @@ type FailedRead = (
 
 const READ: RunFault = RunFault::Cmd(CmdFault::Passage(PassageFault::Read));
 
-// Behind a scalar that follows a passage, behind a passage alone, and behind a line.
+// After a scalar that follows a passage, after a passage by itself, and after a line.
 static FAILED_READS: [FailedRead; 4] = [
     (
         Some("show"),

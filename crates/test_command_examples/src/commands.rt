@@ -151,7 +151,7 @@ static BY_PROFILE: [Row; 2] = [
     ),
 ];
 
-// A text that `mark` writes by a limit, and one that it refuses behind the first passage.
+// A text that `mark` writes by a limit, and one that it refuses after the first passage.
 #[test]
 fn marked(rt: HostRuntime) -> Result<(), Fail> {
     let words = words_with(rt.alloc(), "mark", &["--limit", "6"])?;
@@ -233,7 +233,7 @@ fn refused(rt: HostRuntime) -> Result<(), Fail> {
     Ok(())
 }
 
-/// Words behind an engine and its files that no command line has.
+/// Words after an engine and its files that no command line has.
 static WRONG: [(&str, &[&str]); 14] = [
     ("show", &["--limit", "0"]),
     ("show", &["--limit", "16777217"]),
@@ -332,7 +332,7 @@ fn told_limits(rt: HostRuntime) -> Result<(), Fail> {
     Ok(())
 }
 
-/// The words without an option and the name behind it.
+/// The words without an option and the name after it.
 fn without(
     alloc: Global,
     words: &[&'static str],
@@ -384,7 +384,7 @@ fn check_loads(
     Ok(())
 }
 
-// No file is loaded without words or for refused ones, and none behind the first that cannot be read.
+// No file is loaded without words or for refused ones, and none after the first that cannot be read.
 #[test]
 fn counted_loads(rt: HostRuntime) -> Result<(), Fail> {
     let alloc = rt.alloc();

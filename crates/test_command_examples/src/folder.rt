@@ -18,7 +18,7 @@ const CATEGORY: &str = "# DerivedGeneralCategory-15.0.0.txt\n# EOF\n";
 
 const EMOJI: &str = "# emoji-data.txt\n# Used with Emoji Version 15.0 and so on\n#EOF\n";
 
-/// A lawful file that claims nothing, in which a space is a letter.
+/// A well-formed file that claims nothing, in which a space is a letter.
 const NO_SPACES: &str = "0020;AL\n0061..007A;AL\n";
 
 /// How `mark` with these words ends over a folder `U` with this `LineBreak.txt`, and what it writes.

@@ -25,7 +25,7 @@ fn check_cut(setting: Setting<'_>, run: Run<'_>, sizes: &[usize], want: &Ran) ->
     same(&cut.sink.bytes(), &want.sink.bytes(), &run)
 }
 
-/// Cuts at this place and at each behind it; the last size is that of all reads that follow.
+/// Cuts at this place and at each after it; the last size is that of all reads that follow.
 fn check_cut_at(setting: Setting<'_>, run: Run<'_>, first: usize, want: &Ran) -> Result<(), Fail> {
     for second in 1..=run.input.len() {
         let sizes = [first, second, usize::MAX];
@@ -69,7 +69,7 @@ fn check_texts<T: Copy>(alloc: Global, cells: &CellPages, rows: &[(&str, T)]) ->
     Ok(())
 }
 
-/// Texts that are ill-formed at an end or within, behind passages and not.
+/// Texts that are ill-formed at an end or within, after passages and not.
 static ILL_FORMED: [&[u8]; 6] = [
     b"a\xE2\x82",
     b"a\nb\xFF",
@@ -111,7 +111,7 @@ fn texts(rt: HostRuntime) -> Result<(), Fail> {
 }
 
 /// Test files beside those that are replayed elsewhere: the front of a byte order mark, which is a bad line; one
-/// behind the first line; lines that end at CR LF; a line that is no line of a form, and bytes that are no text.
+/// after the first line; lines that end at CR LF; a line that is no line of a form, and bytes that are no text.
 static FILES: [&[u8]; 5] = [
     b"\xEF\xBB",
     b"\xEF\xBB\xBF\xC3\x97 0061 \xC3\xB7\r\n\xEF\xBB\xBF\n",

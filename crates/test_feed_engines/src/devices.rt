@@ -50,7 +50,7 @@ enum Call {
     Fails(ErrorKind),
 }
 
-/// A reader and writer of std whose calls come to what they are told, each to the next; past the last they move
+/// A reader and writer of std whose calls come to what a test wants, each to the next; past the last they move
 /// nothing.
 #[derive(Drop)]
 struct Told<'a> {
@@ -134,7 +134,7 @@ const READER: [Call; 6] = [
     Call::Gives(b'c'),
 ];
 
-/// What a device over it answers.
+/// What a device over it returns.
 const READ: [Result<&str, Failed>; 6] = [
     Ok("a"),
     Err(Failed),
@@ -176,12 +176,12 @@ fn blocks_of_writers(rt: HostRuntime) {
     );
 }
 
-/// Writes, and compares the answer.
+/// Writes, and compares the result.
 fn check_write<W: Sink>(rt: &impl Abort, sink: &mut W, text: &str, want: Result<usize, Failed>) {
     same(rt, sink.write(text.as_bytes()), want, text);
 }
 
-// Writes the text again and again, and compares each answer, then the count of failures.
+// Writes the text again and again, and compares each result, then the count of failures.
 fn check_writes<W: Sink>(
     rt: &impl Abort,
     sink: &mut W,
@@ -236,7 +236,7 @@ const WRITER: [Call; 6] = [
     Call::Takes(3),
 ];
 
-/// What a device over it answers.
+/// What a device over it returns.
 const WRITTEN: [Result<usize, Failed>; 7] = [
     Ok(1),
     Err(Failed),
@@ -253,7 +253,7 @@ fn writers_of_std(rt: HostRuntime) {
     check_writes(&rt, &mut device, "abc", &WRITTEN, 4);
 }
 
-/// Writes all of a text, and compares the answer, then the count of failures.
+/// Writes all of a text, and compares the result, then the count of failures.
 fn check_write_all(
     rt: &impl Abort,
     sink: &mut MemorySink,

@@ -20,7 +20,7 @@ pub fn same<T: Copy + PartialEq + Debug>(rt: &impl Abort, found: T, want: T, wha
     assert_eq!(rt; found, want, "{what}");
 }
 
-/// Compares what a call of this number answered with what is wanted.
+/// Compares what a call of this number returned with what is wanted.
 pub fn same_answer<T: Copy + PartialEq + Debug>(rt: &impl Abort, found: T, want: T, call: u64) {
     assert_eq!(rt; found, want, "call {call}");
 }

@@ -8,11 +8,11 @@ use std::process::Abort;
 use std::test::Fail;
 use test_support::reads::SIZES;
 
-/// What a call of `piece` must answer, and how many reads it makes.
+/// What a call of `piece` must return, and how many reads it makes.
 #[derive(Clone, Copy)]
 struct Row<'a>(Result<Option<&'a [u8]>, FeedFault>, u64);
 
-/// No piece, since a fault was answered before, and no read.
+/// No piece, since a fault was returned before, and no read.
 const SPENT: Row<'static> = Row(Err(FeedFault::Spent), 0);
 
 /// Asks for a piece, and compares it.
@@ -131,7 +131,7 @@ const FAULT_IN_A_SCALAR: [Row<'static>; 3] = [
     SPENT,
 ];
 
-// Where bytes are ill-formed no read follows, so one that would fail changes no answer.
+// Where bytes are ill-formed no read follows, so one that would fail changes no result.
 #[test]
 fn no_read_after_a_fault(rt: HostRuntime) {
     check_failing(&rt, b"ab\xFFc", &[1], 3, &FAULT_AT_THE_THIRD);
@@ -139,7 +139,7 @@ fn no_read_after_a_fault(rt: HostRuntime) {
     check_failing(&rt, b"a\xE2\x41c", &[2, 1], 2, &FAULT_IN_A_SCALAR);
 }
 
-/// Settles the feed, and compares the answer and how many reads were made in all.
+/// Settles the feed, and compares the result and how many reads were made in all.
 fn check_settle(
     rt: &impl Abort,
     feed: &mut Feed,
@@ -165,7 +165,7 @@ fn check_settled(
     use_up(feed);
 }
 
-// `settle` answers whether a piece stands, and lends nothing.
+// `settle` returns whether a piece stands, and lends nothing.
 #[test]
 fn settled(rt: HostRuntime) {
     let mut reader = MemorySource::cut(EURO, &[2, 1, 2]);
@@ -220,7 +220,7 @@ fn parts_of_a_piece(rt: HostRuntime) {
 /// How far the pieces of some bytes were compared.
 #[derive(Clone, Copy)]
 enum Compared<'a> {
-    /// To a piece, with these bytes behind it.
+    /// To a piece, with these bytes after it.
     Piece(&'a [u8]),
     /// To the end of the text, or to a fault.
     End(Result<(), FeedFault>),
@@ -306,7 +306,7 @@ fn fault_behind_pieces(
     None
 }
 
-// The longest text, and one byte more: it comes in 262,144 full reads and a last one, behind which none is made.
+// The longest text, and one byte more: it comes in 262,144 full reads and a last one, after which none is made.
 #[test]
 fn longest_text(rt: HostRuntime) {
     let longest = 1_073_741_824u64;

@@ -71,7 +71,7 @@ fn refusals(rt: HostRuntime) -> Result<(), Fail> {
     check_refused(alloc, task, &FAILED_READS, Profile::Second)
 }
 
-/// A text, the limit of a paragraph, and the answer.
+/// A text, the limit of a paragraph, and the result.
 type Limited = (&'static str, u32, Result<(), PassageFault>);
 
 static LIMITS: [Limited; 8] = [

@@ -1,4 +1,4 @@
-//! A writer that stops: for each n below the length of the output exactly the first n bytes went out, and the answer is
+//! A writer that stops: for each n below the length of the output exactly the first n bytes went out, and the result is
 //! a failed write.
 
 use lbk_feed::{Device, Sink};

@@ -151,7 +151,7 @@ fn check_sizes(
     Ok(())
 }
 
-/// As many letters, and these bytes behind them.
+/// As many letters, and these bytes after them.
 fn text_behind(alloc: Global, n: usize, bytes: &[u8]) -> Result<Vec<u8>, AllocError> {
     let mut text = vec![in alloc; b'a'; n]?;
     text.extend_from_slice(bytes)?;
@@ -168,7 +168,7 @@ fn check_cut_off(setting: Setting<'_>, text: &[u8], n: usize) -> Result<(), Fail
     check_sizes(setting, text, Ok(Some(n.saturating_add(3))))
 }
 
-/// A scalar of three bytes behind `n` others, cut off and whole.
+/// A scalar of three bytes after `n` others, cut off and whole.
 fn check_scalar_behind(setting: Setting<'_>, n: usize) -> Result<(), Fail> {
     let text = text_behind(setting.alloc, n, b"\xE2\x82\xAC")?;
     check_cut_off(setting, &text, n)

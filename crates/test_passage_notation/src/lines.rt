@@ -13,7 +13,7 @@ use test_support::cells::cells_of;
 use test_support::checks::same;
 use test_support_runs::calls::sample_cells;
 
-/// What `read_line` answers: a line, told by its writing in the same form, none, or the place where it
+/// What `read_line` returns: a line, told by its writing in the same form, none, or the place where it
 /// goes wrong.
 enum Want {
     Line(&'static str),
@@ -160,7 +160,7 @@ fn by_pieces(alloc: Global, form: Form) -> Result<Vec<u8>, AllocError> {
     Ok(text)
 }
 
-/// Writes a line behind what was written before.
+/// Writes a line after what was written before.
 fn behind(alloc: Global, line: &TestLine, form: Form) -> Result<Vec<u8>, AllocError> {
     let mut text = Vec::new(alloc);
     text.push(b'>')?;

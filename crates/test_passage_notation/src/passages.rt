@@ -1,5 +1,5 @@
 //! The passages that a segmenter gives up to its limit and before a fault, in both profiles and however the reads are
-//! cut, and what it answers then.
+//! cut, and what it returns then.
 
 use lbk_cmd::CmdFault;
 use lbk_feed::Source;
@@ -85,7 +85,7 @@ fn check_text(
     same(&next_text(segmenter, source), &want, row)
 }
 
-/// Compares the passages that come first, and those given before the fault, which is answered once.
+/// Compares the passages that come first, and those given before the fault, which is returned once.
 fn check(
     alloc: Global,
     cells: &CellPages,
@@ -140,7 +140,7 @@ fn faults(rt: HostRuntime) -> Result<(), Fail> {
     Ok(())
 }
 
-/// The second read fails, once a passage and a scalar were read, or a passage alone.
+/// The second read fails, once a passage and a scalar were read, or a passage by itself.
 static FAILED_READS: [Row; 2] = [
     (b"a\nb", 65_536, &[(0, "a\n")], PassageFault::Read),
     (b"a\n", 65_536, &[], PassageFault::Read),
@@ -232,7 +232,7 @@ fn push_passage(seen: &mut String, passage: &Passage<'_>) -> Result<(), AllocErr
     Ok(())
 }
 
-/// All passages of a text, and what is answered behind the last.
+/// All passages of a text, and what is returned after the last.
 fn passages_of<C: CellSource>(
     alloc: Global,
     cells: &C,

@@ -1,4 +1,4 @@
-//! What a replay of test files writes and answers, over devices in memory.
+//! What a replay of test files writes and returns, over devices in memory.
 
 use crate::line_calls::{line_of, outcome_of};
 use lbk_feed::Source;
@@ -142,7 +142,7 @@ fn failing_reads(rt: HostRuntime) -> Result<(), Fail> {
     Ok(())
 }
 
-/// What `replay` answers to a source, and the sink that it wrote to.
+/// What `replay` returns to a source, and the sink that it wrote to.
 fn replayed<R: Source>(
     alloc: Global,
     cells: &CellPages,

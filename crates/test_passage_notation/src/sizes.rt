@@ -1,4 +1,4 @@
-//! Texts of many sizes, with ample memory: each comes to its value, and none to want of memory.
+//! Texts of many sizes, with ample memory: each comes to its value, and none runs out of memory.
 
 use lbk_feed::devices::MemorySource;
 use lbk_notation::{Form, LineFault, TestLine, mark_text, read_back};
@@ -56,7 +56,7 @@ fn passage_counts(
 }
 
 fn check(rt: &impl Abort, alloc: Global, cells: &CellPages, size: u32) -> Result<(), Fail> {
-    // So many letters with a space behind each.
+    // So many letters with a space after each.
     let text = "a ".repeat(alloc, size as usize)?;
     let counts = line_counts(alloc, cells, &text)?;
     let passage = passage_counts(alloc, cells, &text)?;

@@ -18,7 +18,7 @@ pub const NAMED_SAMPLES: [(&str, &[u8]); 4] = [
     ("M", SAMPLE_EMOJI),
 ];
 
-/// The words of an engine over the sample files, with `more` behind them.
+/// The words of an engine over the sample files, with `more` after them.
 pub fn words_with(
     alloc: Global,
     engine: &'static str,

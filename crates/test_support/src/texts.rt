@@ -95,8 +95,8 @@ pub static SECOND: [(&str, &str); 8] = [
     ("a\u{2019}\u{2019}a", "2 15b 19 19 3"),
 ];
 
-/// What each step of the machine of the second profile answers: the label of the position before the cell, or `-`
-/// where it is held, and `position:label` where an earlier answer comes; last what `finish` answers.
+/// What each step of the machine of the second profile returns: the label of the position before the cell, or `-`
+/// where it is held, and `position:label` where an earlier verdict comes; last what `finish` returns.
 pub static STEPS: [(&str, &str); 5] = [
     ("a \u{2019}\u{301},", "2 7 - 9 13,2:15b 3"),
     ("a \u{2019}\u{301}b", "2 7 - 9 19,2:18 3"),

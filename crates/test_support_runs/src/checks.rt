@@ -17,7 +17,7 @@ pub fn check_run(run: Run<'_>, setting: Setting<'_>, end: End, written: &str) ->
     Ok(ran)
 }
 
-/// Calls three times more behind a fault.
+/// Calls three times more after a fault.
 pub fn check_spent<R: Source>(
     segmenter: &mut Segmenter<'_, CellPages>,
     reader: &mut R,

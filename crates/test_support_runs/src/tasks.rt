@@ -19,7 +19,7 @@ pub const ROOM: usize = 4096;
 /// What is run.
 #[derive(Clone, Copy, Debug, PartialEq, Eq)]
 pub enum Task {
-    /// The segmenter alone: each passage is written as the tests tell it.
+    /// The segmenter by itself: each passage is written as the tests tell it.
     Passages,
     Mark,
     Show,
@@ -98,7 +98,7 @@ impl Task {
     }
 }
 
-/// Writes what is told of each passage, a line each.
+/// Writes what is reported of each passage, a line each.
 fn tell_all<R: Source, W: Sink>(
     setting: Setting<'_>,
     reader: &mut R,

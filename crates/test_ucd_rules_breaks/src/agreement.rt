@@ -59,7 +59,7 @@ impl Answers {
     }
 }
 
-/// What the late machine answers, of each position once.
+/// What the late machine returns, of each position once.
 fn late_answers(rt: &impl Abort, profile: Profile, cells: &[Cell; 3]) -> Answers {
     let mut machine = start_late(profile);
     let mut answers = Answers([None; 4]);
@@ -96,7 +96,7 @@ fn late_machine(rt: HostRuntime) -> Result<(), Fail> {
     Ok(())
 }
 
-/// Compares answers of a stepper and of the late machine.
+/// Compares results of a stepper and of the late machine.
 fn same_out(rt: &impl Abort, found: StepVerdicts, want: StepVerdicts, k: u64, text: &[Scalar; 3]) {
     assert!(rt; found == want, "{found:?} at {k} of {text:?}");
 }
@@ -150,7 +150,7 @@ fn sample_scalars() -> [Scalar; 15] {
     ]
 }
 
-// What no rule asks of a cell, as whether a letter is one or an ideograph is wide, changes no answer.
+// What no rule asks of a cell, as whether a letter is one or an ideograph is wide, changes no result.
 #[test]
 fn stepper_asks_what_rules_ask(rt: HostRuntime) -> Result<(), Fail> {
     let pages = pages_with(rt.alloc(), SAMPLES, &[])?;

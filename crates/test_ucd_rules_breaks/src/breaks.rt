@@ -88,7 +88,7 @@ fn one_by_one<C: CellSource>(
     Breaks::new(source, text, profile).collect(alloc)
 }
 
-/// The bytes behind each scalar of a text.
+/// The bytes after each scalar of a text.
 fn lengths_left(alloc: Global, text: &str) -> Result<Vec<usize>, AllocError> {
     let mut lengths = Vec::new(alloc);
     let mut rest = text.chars();

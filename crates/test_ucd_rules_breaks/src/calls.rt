@@ -26,7 +26,7 @@ pub fn start_late(profile: Profile) -> LateMachine {
     LateMachine::start(profile)
 }
 
-/// Steps on, behind `taken` cells.
+/// Steps on, after `taken` cells.
 pub fn late_step(
     rt: &impl Abort,
     machine: &mut LateMachine,

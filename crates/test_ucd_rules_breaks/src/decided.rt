@@ -17,7 +17,7 @@ use test_support::texts::{FIRST, SECOND, STEPS};
 /// A text, and what is said of it.
 type Row = (&'static str, &'static str);
 
-/// Adds a label, behind a space unless it is the first.
+/// Adds a label, after a space unless it is the first.
 fn push_label(labels: &mut String, rule: Rule) -> Result<(), AllocError> {
     if !labels.is_empty() {
         labels.push(' ')?;
@@ -103,7 +103,7 @@ fn check_cells(
     check_labels(rt, alloc, &verdicts, "the late machine", row)
 }
 
-/// The same for the plain evaluator and its machine, which know the first profile alone.
+/// The same for the plain evaluator and its machine, which know only the first profile.
 fn check_cells_first(
     rt: &impl Abort,
     alloc: Global,
@@ -116,7 +116,7 @@ fn check_cells_first(
     check_labels(rt, alloc, &verdicts, "the machine", row)
 }
 
-/// What each step of the late machine answers, in the notation of `STEPS`.
+/// What each step of the late machine returns, in the notation of `STEPS`.
 fn steps_of(
     rt: &impl Abort,
     alloc: Global,
@@ -171,7 +171,7 @@ fn push_late(steps: &mut String, late: Option<(u64, Verdict)>) -> Result<(), All
     Ok(())
 }
 
-/// Compares the labels of the positions of each text, and what is answered at each, with those of its row.
+/// Compares the labels of the positions of each text, and what is returned at each, with those of its row.
 fn check<C: CellSource>(
     rt: &impl Abort,
     alloc: Global,
@@ -186,7 +186,7 @@ fn check<C: CellSource>(
     Ok(())
 }
 
-/// The same for what knows the first profile alone.
+/// The same for what knows only the first profile.
 fn check_first<C: CellSource>(
     rt: &impl Abort,
     alloc: Global,

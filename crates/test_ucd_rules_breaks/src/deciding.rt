@@ -1,4 +1,4 @@
-//! What the evaluator and the machines answer, kinds and all, over a list of cells, and the cell that properties come to.
+//! What the evaluator and the machines return, kinds and all, over a list of cells, and the cell that properties come to.
 
 use crate::calls::{decided, decided_in, late_step, same_at, same_value, start_late, step};
 use lbk_rules::{
@@ -92,7 +92,7 @@ fn second_profile_at_once(rt: HostRuntime) {
     same_value(&rt, verdicts, want, "verdicts");
 }
 
-/// The answer of a step by which no held position comes.
+/// The result of a step by which no held position comes.
 fn at_once(rule: Rule) -> StepVerdicts {
     StepVerdicts {
         now: Some(no(rule)),
@@ -100,7 +100,7 @@ fn at_once(rule: Rule) -> StepVerdicts {
     }
 }
 
-/// What the steps over these cells answer.
+/// What the steps over these cells return.
 fn outs_of_quoted() -> [StepVerdicts; 5] {
     let held = StepVerdicts {
         now: None,

@@ -75,7 +75,7 @@ fn page_edges(rt: HostRuntime) -> Result<(), Fail> {
     Ok(())
 }
 
-// Pages 1, 3 and the last are equal, page 2 is not, and all others have letters alone.
+// Pages 1, 3 and the last are equal, page 2 is not, and all others have only letters.
 #[test]
 fn equal_pages(rt: HostRuntime) -> Result<(), Fail> {
     let file = b"0141;ID\n0241;OP\n0341;ID\n10FF41;ID\n";

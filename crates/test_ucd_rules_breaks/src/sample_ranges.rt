@@ -11,7 +11,7 @@ use std::test::Fail;
 use test_support::calls::tables_of;
 use test_support::property_files::SAMPLES;
 
-/// First code, last code and line break of each range, and the defaults behind them.
+/// First code, last code and line break of each range, and the defaults after them.
 const LINE_BREAKS: &[(u32, u32, LineBreak)] = &[
     (0xA, 0xA, LineBreak::LineFeed),
     (0xB, 0xC, LineBreak::MandatoryBreak),
@@ -64,7 +64,7 @@ const LINE_BREAKS: &[(u32, u32, LineBreak)] = &[
     (0x0, 0x10FFFF, LineBreak::Unknown),
 ];
 
-/// First code, last code and width of each range, and the default behind them.
+/// First code, last code and width of each range, and the default after them.
 const WIDTHS: &[(u32, u32, EastAsian)] = &[
     (0x20, 0x7E, EastAsian::Narrow),
     (0x2014, 0x2014, EastAsian::Ambiguous),
@@ -79,7 +79,7 @@ const WIDTHS: &[(u32, u32, EastAsian)] = &[
     (0x0, 0x10FFFF, EastAsian::Neutral),
 ];
 
-/// First code, last code and category of each range, and the default behind them.
+/// First code, last code and category of each range, and the default after them.
 const CATEGORIES: &[(u32, u32, Category)] = &[
     (0x41, 0x5A, Category::Lu),
     (0x61, 0x7A, Category::Ll),

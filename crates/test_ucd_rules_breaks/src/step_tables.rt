@@ -1,4 +1,4 @@
-//! Cells have a table of steps, whatever the files say: without it the answers are the same, and slow.
+//! Cells have a table of steps, whatever the files say: without it the results are the same, and slow.
 
 use crate::pages::striped;
 use lbk_rules::{Cell, Left};

@@ -1,4 +1,4 @@
-//! The calls that are tried, each on what was made for it, with its growths counted and without its contract. A trial
+//! The calls that are tried, each on what was made for it, with its allocations counted and without its contract. A trial
 //! proves only that it is safe and ends, so it needs no fact of them; a check that does not carry their facts on takes
 //! a fraction of the time.
 
@@ -125,7 +125,7 @@ pub fn push_line(
     answer
 }
 
-/// The answer, where there is a verdict at each position.
+/// The result, where there is a verdict at each position.
 pub fn push_passage_line(
     alloc: Global,
     out: &mut Vec<u8>,

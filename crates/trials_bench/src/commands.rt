@@ -11,7 +11,7 @@ use lbk_files::{MemoryStore, Ready};
 use lbk_ucd::{SAMPLE_CATEGORY, SAMPLE_EAST_ASIAN, SAMPLE_EMOJI, SAMPLE_LINE_BREAK};
 use std::alloc::Global;
 
-/// The words behind the program's name.
+/// The words after the program's name.
 pub type Words = &'static [&'static str];
 
 const BAD_ROW: &[u8] = b"0061;AK\n";

@@ -1,6 +1,6 @@
-//! Where growths of memory are counted.
+//! Where allocations are counted.
 //!
-//! A library that is loaded before the program, `checks/c/refuse.c`, refuses growths. It is told by requests for room
+//! A library that is loaded before the program, `checks/c/refuse.c`, refuses allocations. It sees these by requests for room
 //! of two sizes, which nothing else here asks for, where to begin to count and where to stop. Without the library
 //! they are plain requests.
 
@@ -10,12 +10,12 @@ const BEGIN: usize = 1_000_003;
 
 const END: usize = 1_000_033;
 
-/// From here on growths are counted.
+/// From here on allocations are counted.
 pub fn begin(alloc: Global) {
     let _ = Vec::<u8>::with_capacity(alloc, BEGIN);
 }
 
-/// From here on growths are not counted.
+/// From here on allocations are not counted.
 pub fn end(alloc: Global) {
     let _ = Vec::<u8>::with_capacity(alloc, END);
 }

@@ -84,7 +84,7 @@ pub fn device(alloc: Global) -> Result<String> {
     Ok(told)
 }
 
-/// What a device over a reader answers, and what it counts.
+/// What a device over a reader returns, and what it counts.
 #[derive(Clone, Copy)]
 struct Reads {
     answers: [Result<usize, Failed>; 3],
@@ -135,7 +135,7 @@ fn write_whole(writer: &mut Device<Vec<u8>>, bytes: &[u8]) -> Result<(), Failed>
     write_all(writer, bytes)
 }
 
-/// What a device over a writer answers, and what it counts.
+/// What a device over a writer returns, and what it counts.
 #[derive(Clone, Copy)]
 struct Writes {
     first: Result<usize, Failed>,

@@ -1,4 +1,4 @@
-//! Texts, test files, and what is made before growths are counted.
+//! Texts, test files, and what is made before allocations are counted.
 
 use anyhow::{Result, anyhow};
 use lbk_feed::devices::{MemorySink, MemorySource};
@@ -13,7 +13,7 @@ use std::alloc::{AllocError, Global};
 #[derive(Clone, Copy)]
 pub enum Text {
     Of(&'static str),
-    /// This often, one behind the other.
+    /// This often, one after the other.
     Repeated(&'static str, usize),
     /// Bytes that need not be well-formed.
     Bytes(&'static [u8]),

@@ -163,7 +163,7 @@ fn by_machine(cells: &CellPages, text: &str) -> u64 {
     breaks.wrapping_add(breaks_at(machine.finish()))
 }
 
-/// How many breaks the answers of a step or of the end are.
+/// How many breaks the results of a step or of the end are.
 fn breaks_in(late: Option<(u64, Verdict)>, now: Option<Verdict>) -> u64 {
     let late = late.map_or(0, |(_, verdict)| breaks_at(verdict));
     late.wrapping_add(now.map_or(0, breaks_at))

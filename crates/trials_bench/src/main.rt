@@ -3,7 +3,7 @@
 //! `trials_bench ROW PROFILE` runs a row of the table and writes what the call returned. Without arguments it runs all rows, and
 //! heads each with its name. It is run by `scripts/check refused-allocations`, which refuses the allocations in turn and compares.
 //! `trials_bench layers NAME` measures the layers for `scripts/bench`, over what standard input has: four property files and a text
-//! of this name, each but the last with a zero byte behind it.
+//! of this name, each but the last with a zero byte after it.
 #![tactic(auto)]
 
 mod breaks;
@@ -38,7 +38,7 @@ use std::process::ExitCode;
 
 const USAGE: u8 = 2;
 
-/// What is shown of an answer where all rows are run.
+/// What is shown of a result where all rows are run.
 const SHOWN: usize = 400;
 
 fn main(rt: HostRuntime) -> Result<ExitCode> {
@@ -65,7 +65,7 @@ fn measure(rt: &HostRuntime, name: &str) -> Result<ExitCode> {
     Ok(ExitCode::SUCCESS)
 }
 
-/// Runs the row of this name, and writes the whole answer.
+/// Runs the row of this name, and writes the whole result.
 fn run_one(rt: &HostRuntime, name: &str, profile: Profile) -> Result<ExitCode> {
     let Some(trial) = trial_of(name) else {
         return usage(rt);
@@ -75,7 +75,7 @@ fn run_one(rt: &HostRuntime, name: &str, profile: Profile) -> Result<ExitCode> {
     Ok(ExitCode::SUCCESS)
 }
 
-/// Runs all rows, those that have a profile in both, and writes the answers that are short, the sum of the others.
+/// Runs all rows, those that have a profile in both, and writes the results that are short, the sum of the others.
 fn run_all(rt: &HostRuntime) -> Result<ExitCode> {
     for group in &GROUPS {
         run_rows(rt, group.rows())?;
@@ -103,7 +103,7 @@ fn run_shortly(rt: &HostRuntime, row: &Row, profile: Profile) -> Result<()> {
     show(rt, told.as_str())
 }
 
-/// Shows an answer, or its length and a digest of it.
+/// Shows a result, or its length and a digest of it.
 fn show(rt: &HostRuntime, told: &str) -> Result<()> {
     if told.len() <= SHOWN {
         println!(rt; "{}", told.strip_suffix('\n').unwrap_or(told))?;

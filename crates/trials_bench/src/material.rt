@@ -16,7 +16,7 @@ const TEXT_MOST: usize = 1_000_000;
 /// their spaces.
 const SHOWN_MOST: usize = 16 * TEXT_MOST;
 
-/// Four property files and a text: the parts of an input, each but the last with a zero byte behind it.
+/// Four property files and a text: the parts of an input, each but the last with a zero byte after it.
 pub fn parts_of(input: &str) -> Result<(Files<'_>, &str)> {
     let mut parts = input.splitn(5, '\0');
     let (Some(line_break), Some(east_asian), Some(category), Some(emoji), Some(text)) = (
@@ -45,7 +45,7 @@ pub struct Material<'a> {
     pub tables: &'a Tables,
     pub cells: &'a CellPages,
     pub text: &'a str,
-    /// The first byte of each passage, and the byte behind its last.
+    /// The first byte of each passage, and the byte after its last.
     pub passages: &'a [(usize, usize)],
     pub shown: &'a [u8],
 }

@@ -41,7 +41,7 @@ pub enum OnText {
 }
 
 impl OnText {
-    /// Makes what the call needs, makes the call, and tells what it answered.
+    /// Makes what the call needs, makes the call, and tells what it returned.
     pub fn run(self, alloc: Global, text: Text, profile: Profile) -> Result<String> {
         let input = Input::new(alloc, text)?;
         self.run_on(alloc, &input, profile)

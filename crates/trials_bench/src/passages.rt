@@ -61,7 +61,7 @@ fn all_told(
     Ok(told)
 }
 
-/// Makes one call, and tells what it answered. Whether there is another to make: also after `Memory`, where the same
+/// Makes one call, and tells what it returned. Whether there is another to make: also after `Memory`, where the same
 /// call is made again.
 fn tell_call(
     alloc: Global,

@@ -11,7 +11,7 @@ pub enum PropertyFiles {
     Samples,
     /// A row that shares a code with the row before it.
     Overlap,
-    /// An unknown value behind rows and defaults.
+    /// An unknown value after rows and defaults.
     UnknownValue,
     /// Forty defaults in each file that has them, laid over one another.
     ManyDefaults,
@@ -47,7 +47,7 @@ impl Made {
         Ok(made)
     }
 
-    /// Puts these files behind its own.
+    /// Puts these files after its own.
     fn add(&mut self, files: Files<'_>) -> Result<(), AllocError> {
         self.line_break.extend_from_slice(files.line_break)?;
         self.east_asian.extend_from_slice(files.east_asian)?;
@@ -102,7 +102,7 @@ fn many_defaults(alloc: Global) -> Result<Made, AllocError> {
     })
 }
 
-/// Defaults, each within the one before it but for every fourth, and the values in turn.
+/// Defaults, each within the one before it except every fourth, and the values in turn.
 fn defaults(alloc: Global, values: [&str; 4]) -> Result<Vec<u8>, AllocError> {
     let mut file = Vec::new(alloc);
     for k in 0..DEFAULTS {

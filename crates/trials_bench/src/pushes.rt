@@ -1,4 +1,4 @@
-//! The calls of the notation that put something behind a text: `push_line`, `push_scalar`, `push_mark` and
+//! The calls of the notation that put something after a text: `push_line`, `push_scalar`, `push_mark` and
 //! `push_passage_line`. What stood there before stays, and after a refusal a front of what was to come follows.
 
 use crate::calls;

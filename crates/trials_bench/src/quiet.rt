@@ -1,4 +1,4 @@
-//! Calls that take no memory, on inputs of their own. What they are run on is made before growths are counted, and none
+//! Calls that take no memory, on inputs of their own. What they are run on is made before allocations are counted, and none
 //! may be counted.
 
 use crate::counting::{begin, end};

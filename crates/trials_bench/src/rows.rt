@@ -1,5 +1,5 @@
 //! The rows: their names, and what each tries. The part of a name before `/` says which call it is of, and so what
-//! its want of memory is.
+//! is asked of it when memory is refused.
 
 use crate::commands::Words;
 use crate::inputs::Text;
@@ -189,7 +189,7 @@ pub enum Group {
     Passages,
     /// Test lines, read, written and marked.
     Lines,
-    /// What is put behind a text.
+    /// What is put after a text.
     Pushes,
     /// Engines over a text.
     Engines,

@@ -1,4 +1,4 @@
-//! What is told of answers.
+//! What is written of results.
 
 use crate::digest::Digest;
 use crate::inputs::text_of;
@@ -9,7 +9,7 @@ use lbk_steps::CellSource;
 use std::alloc::Global;
 use std::fmt::Debug;
 
-/// An answer in full.
+/// A result in full.
 pub fn told<A: Debug>(alloc: Global, answer: &A) -> Result<String> {
     Ok(format!(in alloc; "{answer:?}\n")?)
 }
@@ -19,7 +19,7 @@ pub fn fault_told<F: Debug>(alloc: Global, fault: &F) -> Result<String> {
     Ok(format!(in alloc; "Err({fault:?})\n")?)
 }
 
-/// The answer, and behind a line `wrote` what went out.
+/// The result, and after a line `wrote` what went out.
 pub fn answer_told<A: Debug>(alloc: Global, answer: &A, written: &[u8]) -> Result<String> {
     let written = text_of(written)?;
     Ok(format!(in alloc; "{answer:?}\nwrote\n{written}")?)

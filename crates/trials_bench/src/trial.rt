@@ -54,7 +54,7 @@ impl Trial {
         matches!(self, Trial::NewSegmenter(_) | Trial::OnText(_, _))
     }
 
-    /// Makes what the call needs, makes the call, and tells what it answered.
+    /// Makes what the call needs, makes the call, and tells what it returned.
     pub fn run(self, alloc: Global, profile: Profile) -> Result<String> {
         match self {
             Trial::Sink(room) => engines::sink(alloc, room),

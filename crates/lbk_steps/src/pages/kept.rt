@@ -98,7 +98,7 @@ fn digest(page: &Page) -> u128
         .fold(0, |digest, cell| digest_with(digest, *cell))
 }
 
-/// The digest after one more cell. The upper half goes into the lower, since a sum of multiples alone can be made to come
+/// The digest after one more cell. The upper half goes into the lower, since a plain sum of multiples can be made to come
 /// out the same for thousands of pages.
 fn digest_with(digest: u128, cell: Cell) -> u128
     ensures { result ≡ digest_with digest cell }
