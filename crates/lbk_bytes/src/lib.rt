@@ -6,6 +6,7 @@ mod ahead;
 mod blocks;
 mod deciding;
 mod decoding;
+mod ends;
 mod fill_state;
 mod filling;
 mod raw_break;
@@ -13,6 +14,7 @@ mod shown;
 mod steps;
 
 pub use deciding::{Decided, decide_one};
+pub use ends::{END, put_end};
 pub use fill_state::FillState;
 pub use filling::{fill, put, quick};
 pub use raw_break::RawBreak;

@@ -5,8 +5,6 @@ pub mod SkimLemmas
 pub mod StreamLemmas
 pub mod TableLemmas
 pub mod ComingLemmas
+pub mod PartLemmas
 pub mod UnitsComingLemmas
 pub mod PositionLemmas
-pub mod PieceStartLemmas
-pub mod JoinLemmas
-pub mod SafeLemmas

@@ -4,10 +4,8 @@ pub mod Labels
 pub mod State
 pub mod Streams
 pub mod Faults
-pub mod Cuts
 pub mod Texts
 -- What only carries proofs.
 pub mod Coming
 pub mod UnitsComing
 pub mod Stands
-pub mod Looking

@@ -16,9 +16,9 @@ ghost use Rattle.lbk_c.specs.Coming.{GoesBy, IsGoing, PositionsCome, from_state}
 ghost use Rattle.lbk_bytes.specs.Shown.{given_in};
 ghost use Rattle.lbk_c.specs.State.{start_in};
 
-use crate::breaking::{END, going_profile};
+use crate::breaking::going_profile;
 use crate::interface::State;
-use lbk_bytes::{FillState, RawBreak, decide_one, shown_of};
+use lbk_bytes::{END, FillState, RawBreak, decide_one, shown_of};
 use lbk_rules::Profile;
 use lbk_steps::FlatTable;
 
@@ -103,9 +103,9 @@ fn go_on(
         return here.count;
     }
     state.ended = 1;
-    let len = text.len();
-    let code = if len == 0 { START } else { END };
-    put(out, here.count, len, code)
+    let row = here.row;
+    let code = if row == 0 { START } else { END };
+    put(out, here.count, text.len(), code)
 }
 
 /// Goes on until the block is full or the text ends, and writes the positions before the scalars taken after those in the

@@ -17,9 +17,9 @@ ghost use Rattle.lbk_c.specs.Coming.{IsGoing, from_state};
 ghost use Rattle.lbk_c.specs.State.{start_in};
 ghost use Rattle.lbk_c.specs.UnitsComing.{UnitsCome, UnitsGo};
 
-use crate::breaking::{going_profile, put_end};
+use crate::breaking::going_profile;
 use crate::interface::State;
-use lbk_bytes::{FillState, RawBreak};
+use lbk_bytes::{FillState, RawBreak, put_end};
 use lbk_rules::Profile;
 use lbk_steps::FlatTable;
 use lbk_units::{Unit, fill_units};
@@ -173,5 +173,5 @@ fn go_on<U: Unit>(
         return here.count;
     }
     state.ended = 1;
-    put_end(out, here.count, text.len())
+    put_end(table, false, here.row, out, here.count, text.len())
 }
