@@ -18,17 +18,24 @@ static const char *const others[] = {
 enum { TABLES = 1 + sizeof others / sizeof *others };
 static lbk_table tables[TABLES];
 
-/* The breaks of some bytes as a text of their own. */
+/* The breaks of a text, or of a part of one. */
 typedef struct broken {
     size_t count;
     lbk_break at[MOST_TEXT];
 } broken;
 
-static void break_all(const lbk_table *table, uint8_t profile, const char *text, size_t size, broken *all)
+/* Those from a byte on, in a profile that may say that the text goes on, with blocks of any room. */
+static void break_all(const lbk_table *table, unsigned profile, const char *text, size_t from, size_t size, broken *all)
 {
-    lbk_state state = {0};
-    state.profile = profile;
-    all->count = lbk_breaks(table, &state, text, size, all->at, MOST_TEXT);
+    lbk_state state = {from, 0, (uint8_t)profile, 0};
+    size_t room, count;
+    all->count = 0;
+    do {
+        size_t most = MOST_TEXT - all->count;
+        room = below(2) == 0 ? most : below(most) % 4 + 1;
+        count = lbk_breaks(table, &state, text, size, all->at + all->count, room);
+        all->count += count;
+    } while (count == room && all->count < MOST_TEXT);
 }
 
 /* Whether a line must end before this byte, and the text goes on there. */
@@ -40,30 +47,42 @@ static int ends_at(const broken *whole, size_t size, size_t at)
     return 0;
 }
 
-/* Whether the breaks of both parts are those of the whole: by rule 4 or 5 at the cut, and the others as they are. */
-static int joins(const lbk_table *table, uint8_t profile, const char *text, size_t size, const broken *whole, size_t cut)
+/* Whether the breaks of both parts, one after the other, are those of the whole. */
+static int joins(const lbk_table *table, unsigned profile, const char *text, size_t size, const broken *whole, size_t cut)
 {
     broken first, second;
-    break_all(table, profile, text, cut, &first);
-    break_all(table, profile, text + cut, size - cut, &second);
+    break_all(table, profile + LBK_GOES_ON, text, 0, cut, &first);
+    break_all(table, profile, text, cut, size, &second);
     if (first.count + second.count != whole->count)
         return 0;
     for (size_t k = 0; k < whole->count; k++) {
-        int of_first = k < first.count;
-        lbk_break part = of_first ? first.at[k] : second.at[k - first.count], all = whole->at[k];
-        size_t at = part.at + (of_first ? 0 : cut);
-        int ends = k + 1 == first.count && part.rule == LBK_RULE_3 && (all.rule == LBK_RULE_4 || all.rule == LBK_RULE_5);
-        if (at != all.at || part.kind != all.kind || (part.rule != all.rule && !ends))
+        lbk_break part = k < first.count ? first.at[k] : second.at[k - first.count], all = whole->at[k];
+        if (part.at != all.at || part.kind != all.kind || part.rule != all.rule)
             return 0;
     }
     return 1;
 }
 
-static void try_text(const lbk_table *table, uint8_t profile, const char *text, size_t size)
+/* Whether both cuts stand where they do if other bytes stand before the four that precede them, and after the scalar at their end. */
+static int look_near(const lbk_table *table, const char *text, size_t size, size_t at)
+{
+    char other[MOST_TEXT];
+    size_t next = lbk_cut(table, text, size, at), last = lbk_cut_before(table, text, size, at);
+    fill_random(other, size);
+    for (size_t k = at < 4 ? 0 : at - 4; k < size && k < next + 4; k++)
+        other[k] = text[k];
+    int same = lbk_cut(table, other, size, at) == next;
+    fill_random(other, size);
+    for (size_t k = last < 4 ? 0 : last - 4; k < size && k < at + 4; k++)
+        other[k] = text[k];
+    return same && lbk_cut_before(table, other, size, at) == last;
+}
+
+static void try_text(const lbk_table *table, unsigned profile, const char *text, size_t size)
 {
     broken whole;
     size_t before[MOST_TEXT + 1], behind[MOST_TEXT + 1];
-    break_all(table, profile, text, size, &whole);
+    break_all(table, profile, text, 0, size, &whole);
     for (size_t at = 0; at <= size; at++) {
         int safe = at == 0 || at == size || ends_at(&whole, size, at);
         before[at] = safe ? at : before[at - 1];
@@ -75,6 +94,7 @@ static void try_text(const lbk_table *table, uint8_t profile, const char *text, 
     for (size_t at = 0; at <= size; at++) {
         told("the first cut at or after a byte", lbk_cut(table, text, size, at) == behind[at]);
         told("the last cut at or before a byte", lbk_cut_before(table, text, size, at) == before[at]);
+        told("only bytes near a place are looked at", look_near(table, text, size, at));
     }
     for (unsigned times = 0; times < 2; times++) {
         size_t past = times == 0 ? size + 1 + below(9) : SIZE_MAX - below(2);
@@ -125,7 +145,7 @@ int main(int words, char **word)
         size_t size = random_text(made);
         char *text = place(texts, size);
         memcpy(text, made, size);
-        try_text(table, (uint8_t)below(2), text, size);
+        try_text(table, (unsigned)below(2), text, size);
         try_parts(table, text, size);
         try_any_table((lbk_table *)(void *)any.from, text, size);
     }

@@ -22,7 +22,8 @@ static void told(const char *what, int holds)
 }
 
 /* Small files: a and b are letters, U+FFFD is an ideograph, with a break on either side. */
-static const char LINE_BREAKS[] = "000A;LF\n0020;SP\n0022;QU\n0028;OP\n0061..0062;AL\n00AB;QU\n00BB;QU\n0301;CM\n4E00;ID\n1F600;ID\nFFFD;ID\n";
+static const char LINE_BREAKS[] = "000A;LF\n000D;CR\n0020;SP\n0022;QU\n0028;OP\n0061..0062;AL\n0085;NL\n00AB;QU\n00BB;QU\n0301;CM\n2029;BK\n"
+                                  "4E00;ID\n1F600;ID\nFFFD;ID\n";
 static const char CATEGORIES[] = "00AB;Pi\n00BB;Pf\n0301;Mn\n";
 
 static lbk_table table, before;
@@ -110,6 +111,10 @@ static void try_states(void)
     for (unsigned profile = 2; profile <= UINT8_MAX; profile++) {
         state = (lbk_state){0, 0, (uint8_t)profile, 0};
         kept = state;
+        told("no such profile: no position", lbk_positions(&table, &state, "a b", 3, &one, 1) == 0);
+        told("no such profile: the state stays", same(state, kept));
+        if (profile < 4)
+            continue;
         told("no such profile: 0", lbk_breaks(&table, &state, "a b", 3, &one, 1) == 0);
         told("no such profile: the state stays", same(state, kept));
     }
@@ -128,6 +133,39 @@ static void try_profiles(void)
     told("quotation marks, second profile", has_breaks(LBK_SECOND, text, 11, PLACES(2, 10, 11)));
     told("a closing mark that stays open", has_breaks(LBK_SECOND, "b \xC2\xBB" "a", 5, PLACES(2, 5)));
     told("a closing mark at the end", has_breaks(LBK_SECOND, "b \xC2\xBB\xCC\x81", 6, PLACES(6)));
+}
+
+/* Whether the end of a part after which the text goes on comes as this break, or not at all by rule 0. */
+static int ends_part(const char *part, size_t size, uint8_t rule)
+{
+    lbk_state state = {0, 0, LBK_SECOND + LBK_GOES_ON, 0};
+    lbk_break block[ROOM];
+    size_t count = lbk_breaks(&table, &state, part, size, block, ROOM);
+    if (rule == 0)
+        return count == 0 || block[count - 1].at < size;
+    return count > 0 && block[count - 1].at == size && block[count - 1].kind == LBK_MUST && block[count - 1].rule == rule;
+}
+
+static void try_parts(void)
+{
+    lbk_break one;
+    told("an empty part has no end", ends_part("", 0, 0));
+    told("a part ends at no letter", ends_part("a b", 3, 0));
+    told("a part ends at no space", ends_part("a ", 2, 0));
+    told("a part ends at LF", ends_part("a\n", 2, LBK_RULE_5));
+    told("a part ends at CR", ends_part("a\r", 2, LBK_RULE_5));
+    told("a part ends at NEL", ends_part("a\xC2\x85", 3, LBK_RULE_5));
+    told("a part ends at PS", ends_part("a\xE2\x80\xA9", 4, LBK_RULE_4));
+    lbk_state state = {2, 0, LBK_FIRST, 0};
+    told("a part from a byte on: places from the text's start", lbk_breaks(&table, &state, "\nab", 3, &one, 1) == 1 && one.at == 3);
+    state = (lbk_state){3, 0, LBK_FIRST, 0};
+    told("an empty part at the text's end has no break", lbk_breaks(&table, &state, "\nab", 3, &one, 1) == 0);
+    state = (lbk_state){0, 0, LBK_FIRST + LBK_GOES_ON, 0};
+    told("a block that is full at a part's last scalar", lbk_breaks(&table, &state, "a \n", 3, &one, 1) == 1 && one.at == 3);
+    told("nothing is left then", lbk_breaks(&table, &state, "a \n", 3, &one, 1) == 0);
+    state = (lbk_state){0, 0, LBK_FIRST + LBK_GOES_ON, 0};
+    told("a block that is full before a part's last scalar", lbk_breaks(&table, &state, "a\n\n", 3, &one, 1) == 1 && one.at == 2);
+    told("the end is left", lbk_breaks(&table, &state, "a\n\n", 3, &one, 1) == 1 && one.at == 3 && one.rule == LBK_RULE_5);
 }
 
 /* The examples of the Unicode Standard, section 3.9, tables 3-8 to 3-11, and what they leave out. */
@@ -338,6 +376,7 @@ int main(void)
     try_rooms();
     try_states();
     try_profiles();
+    try_parts();
     try_ill_formed();
     try_faults();
     try_sizes();

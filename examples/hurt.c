@@ -131,10 +131,10 @@ static lbk_state random_state(void)
     case 1:
         state.at = below(MOST_TEXT + 2);
         state.row = (uint16_t)below(65536);
-        state.profile = (uint8_t)below(3);
+        state.profile = (uint8_t)below(5);
         break;
     default:
-        state.profile = (uint8_t)below(2);
+        state.profile = (uint8_t)below(4);
     }
     return state;
 }

@@ -1,5 +1,5 @@
 // Writes the segments of a text between its breaks, as breaks.cpp does, but finds them in parts of some 4 KB: each could be found by
-// another thread or machine. It goes through all positions of a part, and skips those where no line ends.
+// another thread or machine.
 //
 //     parts LINE_BREAK EAST_ASIAN CATEGORY EMOJI [PROFILE] < TEXT
 #include <lbk.hpp>
@@ -21,19 +21,14 @@ static std::string load(const char *name)
     return all;
 }
 
-/// Writes the segments of the part from one byte to another. The character after it says that the text goes on, so that the part's last
-/// break is by the rule that it has in the text.
+/// Writes the segments of the part from one byte to another.
 static void write_part(const lbk::table &table, std::string_view text, std::size_t from, std::size_t to, lbk::profile rules)
 {
-    constexpr std::size_t longest = 4;
     static const char *const kinds[] = {"No", "May", "Must"};
+    const lbk::follows after = to < text.size() ? lbk::follows::more : lbk::follows::nothing;
     std::size_t start = from;
-    for (lbk_break found : lbk::positions(table, text.substr(from, to - from + longest), rules)) {
+    for (lbk_break found : lbk::breaks(table, text.substr(from, to - from), rules, after)) {
         std::size_t at = from + found.at;
-        if (at > to)
-            break;
-        if (found.kind == LBK_NO)
-            continue;
         std::cout << "S " << start << ' ' << at << ' ' << kinds[found.kind] << ' ' << lbk::label(found.rule) << '\n';
         start = at;
     }

@@ -28,16 +28,10 @@ def plan(table, size, path):
 
 
 def columns(table, path, start, end):
-    """The breaks of a part, in columns, with places from the part's start. The character after the part says that the file goes on, so
-    that the part's last break is by the rule that it has in the file."""
+    """The breaks of a part, in columns, with places from the part's start."""
     with open(path, "rb") as file:
         file.seek(start)
-        text = file.read(end - start + 4)
-    places, kinds, rules = table.break_columns(text)
-    count = len(places)
-    while count and places[count - 1] > end - start:
-        count -= 1
-    return places[:count], kinds[:count], rules[:count]
+        return table.break_columns(file.read(end - start), goes_on=end < os.path.getsize(path))
 
 
 def main():

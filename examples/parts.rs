@@ -1,5 +1,5 @@
 //! Writes the segments of a text between its breaks, as `breaks` does, but finds them in parts of some 4 KB: each could be found by
-//! another thread or machine. It goes through all positions of a part, and skips those where no line ends.
+//! another thread or machine.
 //!
 //!     parts LINE_BREAK EAST_ASIAN CATEGORY EMOJI [PROFILE] < TEXT
 
@@ -14,11 +14,7 @@ use lbk::{Profile, Table};
 /// A part has so many bytes, and what is left of its paragraph.
 const LEAST: usize = 4096;
 
-/// A character has so many bytes at most.
-const LONGEST: usize = 4;
-
-/// Writes the segments of a part. The character after it says that the text goes on, so that the part's last break is by the rule that
-/// it has in the text.
+/// Writes the segments of a part.
 fn write_part(
     out: &mut impl Write,
     table: &Table,
@@ -26,17 +22,16 @@ fn write_part(
     text: &[u8],
     part: Range<usize>,
 ) -> io::Result<()> {
-    let shown = &text[part.start..text.len().min(part.end + LONGEST)];
+    let found = if part.end < text.len() {
+        table.breaks_of_part(profile, &text[part.clone()])
+    } else {
+        table.breaks_in(profile, &text[part.clone()])
+    };
     let mut start = part.start;
-    for found in table.positions_in(profile, shown) {
-        let at = part.start + found.at;
-        if at > part.end {
-            break;
-        }
-        if let Some(kind) = found.kind {
-            writeln!(out, "S {} {} {:?} {}", start, at, kind, found.rule)?;
-            start = at;
-        }
+    for one in found {
+        let at = part.start + one.at;
+        writeln!(out, "S {} {} {:?} {}", start, at, one.kind, one.rule)?;
+        start = at;
     }
     Ok(())
 }

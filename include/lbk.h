@@ -116,8 +116,9 @@ enum {
 
 /* lbk_state.profile: which rules stand for quotation marks. With any other number lbk_breaks returns 0. */
 enum {
-    LBK_FIRST = 0, /* rule 15 of Unicode 15.0 */
-    LBK_SECOND = 1 /* rules 15a and 15b in its place, which look at both sides of a quotation mark */
+    LBK_FIRST = 0,  /* rule 15 of Unicode 15.0 */
+    LBK_SECOND = 1, /* rules 15a and 15b in its place, which look at both sides of a quotation mark */
+    LBK_GOES_ON = 2 /* added to one of the two, for lbk_breaks only: the text goes on after the `size` bytes of the call */
 };
 
 /* lbk_fault.file: the files of the Unicode Character Database, in the order in which lbk_read takes them. */
@@ -169,12 +170,13 @@ typedef struct lbk_table {
 } lbk_table;
 
 /* How far the breaks of a text were asked for. All zeros are the start of a text in the first profile; set profile for the
- * second. A state is a value: it may be copied, be kept, and be gone back to. It holds of the text that it was used with, and
- * of each that has the same bytes from `at` on and as many before them, whatever these are. */
+ * second, and `at` for a part that begins at that byte. A state is a value: it may be copied, be kept, and be gone back to. It
+ * holds of the text that it was used with, and of each that has the same bytes from `at` on and as many before them, whatever
+ * these are. */
 typedef struct lbk_state {
     size_t at;       /* up to this byte of the text, not counting it, scalars were taken */
     uint16_t row;    /* what is known of them: a number of the table's */
-    uint8_t profile; /* LBK_FIRST or LBK_SECOND; no call changes it */
+    uint8_t profile; /* LBK_FIRST or LBK_SECOND, and LBK_GOES_ON; no call changes it */
     uint8_t ended;   /* 0, or else nothing more is to come, and lbk_breaks returns 0 */
 } lbk_state;
 
@@ -264,6 +266,9 @@ lbk_text lbk_file_name(uint32_t file);
 /* Puts the next breaks of a text, in the order of the text, into the front of a block with room for `room` breaks, and returns
  * how many. Fewer than `room` says that these were all; later calls with the state then return 0. Each break of the text
  * comes once. The last one of a text that is not empty is its end: LBK_MUST by rule 3. An empty text has none.
+ *
+ * With LBK_GOES_ON the end comes only where a line must end there whatever follows but LF after CR: LBK_MUST by rule 4 or 5. So
+ * the breaks of the parts of a text, cut by lbk_cut, are those of the text, one after another (see there).
  *
  * `text` is UTF-8, and is the whole text at each call, not the rest of it; `state` says how far earlier calls came. Where
  * bytes are ill-formed, each longest piece that could have begun a scalar, or else each byte, is read as one U+FFFD at its
@@ -366,13 +371,13 @@ size_t lbk_words(lbk_word_state *state, const char *text, size_t size, lbk_word 
  *
  *     for (size_t from = 0, to; from < size; from = to) {
  *         size_t least = size - from < 33554432 ? size : from + 33554432;
- *         to = lbk_cut(&table, text, size, least);
- *         .. text + from, to - from ..          32 MiB, and what is left of the paragraph
+ *         to = lbk_cut(&table, text, size, least);             32 MiB, and what is left of the paragraph
+ *         lbk_state state = {.at = from, .profile = LBK_FIRST + (to < size ? LBK_GOES_ON : 0)};
+ *         .. lbk_breaks(&table, &state, text, to, block, 64) ..
  *     }
  *
- * Each part is a text of its own for lbk_breaks, in another thread or process, or later. The breaks of
- * all parts are the breaks of the text: add to each `at` the bytes before the part. Only the rule of a
- * part's last break differs: where another part follows it is 4 or 5 in the text, and 3 in the part.
+ * The parts can be broken in any order, by other threads or processes: their breaks, one after another, are those of the text,
+ * and places count from its start. A part whose bytes stand elsewhere begins at 0; then add the bytes before it to each `at`.
  * The table decides where lines end, so no part begins between CR and LF, within a scalar, or within
  * ill-formed bytes that are read as one U+FFFD. The call reads the text from four bytes before `at` to
  * the scalar after the cut. Takes no memory from the heap. */

@@ -46,6 +46,9 @@ namespace lbk {
 /// Which rules stand for quotation marks.
 enum class profile : std::uint8_t { first = LBK_FIRST, second = LBK_SECOND };
 
+/// What follows the text that breaks are asked of: nothing, or more of a text of which it is a part.
+enum class follows : std::uint8_t { nothing = 0, more = LBK_GOES_ON };
+
 /// Why there is no table. It converts to false where nothing is wrong.
 struct error {
     enum class reason : std::uint8_t {
@@ -431,11 +434,18 @@ public:
     {
     }
 
+    /// The breaks of a part of a text (lbk_positions has no parts).
+    template <break_call Of = Next, typename = std::enable_if_t<Of == &lbk_breaks>>
+    break_view(const lbk_table &by, std::string_view part, profile rules, follows after) noexcept
+        : start_{&by, part.data(), part.size(), {0, 0, static_cast<std::uint8_t>(static_cast<int>(rules) + static_cast<int>(after)), 0}}
+    {
+    }
+
     /// A temporary would be gone before the range is gone through.
-    break_view(const lbk_table &&, std::string_view, profile = profile::first) = delete;
-    break_view(const table &&, std::string_view, profile = profile::first) = delete;
+    break_view(const lbk_table &&, std::string_view, profile = profile::first, follows = follows::nothing) = delete;
+    break_view(const table &&, std::string_view, profile = profile::first, follows = follows::nothing) = delete;
     template <typename Text, typename = std::enable_if_t<std::is_same_v<Text, std::string>>>
-    break_view(const lbk_table &, Text &&, profile = profile::first) = delete;
+    break_view(const lbk_table &, Text &&, profile = profile::first, follows = follows::nothing) = delete;
 
     iterator begin() const noexcept { return iterator(start_); }
     iterator end() const noexcept { return iterator(); }
@@ -454,7 +464,8 @@ using breaks = detail::break_view<&lbk_breaks>;
 using positions = detail::break_view<&lbk_positions>;
 
 /// The first byte at or after `at` where a part of the text may begin: one before which a line must end, or the text's size where
-/// there is none. The breaks of the parts are those of the text, as lbk.h says of lbk_cut.
+/// there is none. The breaks of the parts, each but the last with `follows::more`, are those of the text, if the places of each are moved
+/// by the bytes before it.
 inline std::size_t cut(const lbk_table &by, std::string_view text, std::size_t at) noexcept
 {
     return lbk_cut(&by, text.data(), text.size(), at);

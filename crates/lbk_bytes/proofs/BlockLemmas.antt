@@ -4,7 +4,6 @@ use Rattle.std.proofs.lemmas.List.{append-nil, get_or-drop, length-append, lengt
 use Rattle.bstr.specs.Utf8.{decoded, good}
 use Rattle.bstr.proofs.lemmas.PieceLemmas.{value-1}
 use Rattle.lbk_masks.specs.Sets.{is_set, left_before, left_in, meets, right_in}
-use Rattle.lbk_rules.specs.declared.breaks.Break.{Break}
 use Rattle.lbk_rules.specs.declared.cells.Cell.{Cell}
 use Rattle.lbk_rules.specs.declared.facts.Left.{Left}
 use Rattle.lbk_steps.specs.declared.flat_table.FlatStep.{FlatStep}
@@ -21,7 +20,7 @@ use Rattle.lbk_bytes.specs.declared.fill_state.FillState.{FillState}
 use Rattle.lbk_bytes.specs.declared.raw_break.RawBreak.{RawBreak}
 use Rattle.lbk_bytes.specs.Blocks.{AreCleared, AreKeptBelow, AreLeft, IsBlock, IsLowest, Rests, byte_at, place_in, row_before, stands_at}
 use Rattle.lbk_bytes.specs.Bytes.{with_break}
-use Rattle.lbk_bytes.specs.Reached.{AreSwift, IsSwiftStep, Reached}
+use Rattle.lbk_bytes.specs.Reached.{Ahead, AreSwift, IsSwiftStep, Reached}
 use Rattle.lbk_bytes.specs.Shown.{given_in}
 use Rattle.lbk_bytes.proofs.BitLemmas.{none-set}
 use Rattle.lbk_bytes.proofs.CutLemmas.{reads-more}
@@ -43,7 +42,7 @@ place_of : Neighbours → List ℕ → ℕ → ℕ → FillState
 place_of pairs text count at = record { count = count; row = row_before pairs text at; at = at }
 
 -- one byte more, whatever stands before it
-one-byte : (profile : Profile) (cell : ℕ → Cell) (lefts : List Left) (text more : List ℕ) (all : List Break) (steps : List FlatStep) (kinds : List ℕ) (pairs : Neighbours)
+one-byte : (profile : Profile) (cell : ℕ → Cell) (lefts : List Left) (text more : List ℕ) (all : Ahead) (steps : List FlatStep) (kinds : List ℕ) (pairs : Neighbours)
     (out after : List RawBreak) (count next at : ℕ)
     → AreSwift profile lefts steps → AreFlatKinds kinds cell → at < length text
     → AreSettled steps kinds pairs (byte_at text (at - 1)) (byte_at text at)
@@ -70,7 +69,7 @@ not-set b true is none = refl
 not-set b false is none = absurd (let never : ⊥ = cc in never)
 
 -- bytes before which no line breaks
-quiet-bytes : (profile : Profile) (cell : ℕ → Cell) (lefts : List Left) (text more : List ℕ) (all : List Break) (steps : List FlatStep) (kinds : List ℕ) (pairs : Neighbours)
+quiet-bytes : (profile : Profile) (cell : ℕ → Cell) (lefts : List Left) (text more : List ℕ) (all : Ahead) (steps : List FlatStep) (kinds : List ℕ) (pairs : Neighbours)
     (out : List RawBreak) (count at n : ℕ)
     → AreSwift profile lefts steps → AreFlatKinds kinds cell → at + n ≤ length text
     → ((i : ℕ) → i < n → AreSettled steps kinds pairs (byte_at text (at + i - 1)) (byte_at text (at + i)) × (stands_at pairs text (at + i) ≡ false))
@@ -88,7 +87,7 @@ quiet-bytes profile cell lefts text more all steps kinds pairs out count at (suc
     subst (λ p. Reached profile cell lefts (text ++ more) all (place_of pairs text count p) (given_in out count)) (let e : at + n + 1 ≡ at + suc n = omega arith in e) one
 
 -- the bytes from here on up to a break that is left
-up-to : (profile : Profile) (cell : ℕ → Cell) (lefts : List Left) (text more : List ℕ) (all : List Break) (steps : List FlatStep) (kinds : List ℕ) (pairs : Neighbours)
+up-to : (profile : Profile) (cell : ℕ → Cell) (lefts : List Left) (text more : List ℕ) (all : Ahead) (steps : List FlatStep) (kinds : List ℕ) (pairs : Neighbours)
     (out : List RawBreak) (at taken index : ℕ) (here : BlockState)
     → at + 64 ≤ length text → IsBlock profile cell lefts steps kinds pairs text at taken → AreLeft pairs text at taken here
     → index ≤ taken → here.past ≤ at + index → ((i : ℕ) → i < index → is_set here.left i ≡ false)
@@ -113,7 +112,7 @@ up-to profile cell lefts text more all steps kinds pairs out at taken index here
     (quiet-bytes profile cell lefts text more all steps kinds pairs out here.count here.past n block.swift block.kinds_are (omega arith) quiet r)
 
 -- all bytes of the block that are taken, where no break is left
-pub taken-all : (profile : Profile) (cell : ℕ → Cell) (lefts : List Left) (text more : List ℕ) (all : List Break) (steps : List FlatStep) (kinds : List ℕ) (pairs : Neighbours)
+pub taken-all : (profile : Profile) (cell : ℕ → Cell) (lefts : List Left) (text more : List ℕ) (all : Ahead) (steps : List FlatStep) (kinds : List ℕ) (pairs : Neighbours)
     (out : List RawBreak) (at taken : ℕ) (here : BlockState)
     → at + 64 ≤ length text → IsBlock profile cell lefts steps kinds pairs text at taken → AreLeft pairs text at taken here → here.left ≡ 0
     → Reached profile cell lefts (text ++ more) all (place_in pairs text here) (given_in out here.count)
@@ -144,7 +143,7 @@ stands-first pairs text at taken index here left few set =
     record { inside = inside; after = after; stands = sym (left.told index inside after) ∙ set }
 
 -- the break that stands first is written, and the others are left
-pub break-taken : (profile : Profile) (cell : ℕ → Cell) (lefts : List Left) (text more : List ℕ) (all : List Break) (steps : List FlatStep) (kinds : List ℕ) (pairs : Neighbours)
+pub break-taken : (profile : Profile) (cell : ℕ → Cell) (lefts : List Left) (text more : List ℕ) (all : Ahead) (steps : List FlatStep) (kinds : List ℕ) (pairs : Neighbours)
     (out after : List RawBreak) (at taken index : ℕ) (here there : BlockState) (step : FlatStep)
     → at + 64 ≤ length text → IsBlock profile cell lefts steps kinds pairs text at taken → AreLeft pairs text at taken here → index < 64 → 0 < here.left
     → IsLowest here.left index → AreCleared here.left index there.left → there.past ≡ at + index + 1
@@ -289,7 +288,7 @@ pub zero-or : (n : ℕ) → (n ≡ 0) ⊎ (0 < n)
 zero-or zero = inl refl
 zero-or (suc n) = inr (omega arith)
 
-pub reached-there : (profile : Profile) (cell : ℕ → Cell) (lefts : List Left) (text more : List ℕ) (all : List Break) (pairs : Neighbours) (out : List RawBreak) (count at : ℕ) (there : FillState)
+pub reached-there : (profile : Profile) (cell : ℕ → Cell) (lefts : List Left) (text more : List ℕ) (all : Ahead) (pairs : Neighbours) (out : List RawBreak) (count at : ℕ) (there : FillState)
     → there.count ≡ count → there.row ≡ row_before pairs text there.at → there.at ≡ at
     → Reached profile cell lefts (text ++ more) all (record { count = count; row = row_before pairs text at; at = at }) (given_in out count)
     → Reached profile cell lefts (text ++ more) all there (given_in out there.count)
@@ -299,7 +298,7 @@ reached-there profile cell lefts text more all pairs out count at there is_count
     (subst (λ p. Reached profile cell lefts (text ++ more) all (record { count = count; row = row_before pairs text p; at = p }) (given_in out count)) (sym is_at) r))
 
 -- behind the bytes that are taken if no break is left, else behind the last break that was written
-pub stopped-there : (profile : Profile) (cell : ℕ → Cell) (lefts : List Left) (text more : List ℕ) (all : List Break) (steps : List FlatStep) (kinds : List ℕ) (pairs : Neighbours)
+pub stopped-there : (profile : Profile) (cell : ℕ → Cell) (lefts : List Left) (text more : List ℕ) (all : Ahead) (steps : List FlatStep) (kinds : List ℕ) (pairs : Neighbours)
     (out : List RawBreak) (at taken : ℕ) (here : BlockState) (there : FillState)
     → at + 64 ≤ length text → IsBlock profile cell lefts steps kinds pairs text at taken
     → there.count ≡ here.count → there.row ≡ row_before pairs text there.at → (here.left ≡ 0 → there.at ≡ at + taken) → (here.left ≢ 0 → there.at ≡ here.past)
@@ -316,7 +315,7 @@ stopped-there profile cell lefts text more all steps kinds pairs out at taken he
     (zero-or here.left)
 
 -- a break is written, if one is left
-pub taken-or-kept : (profile : Profile) (cell : ℕ → Cell) (lefts : List Left) (text more : List ℕ) (all : List Break) (steps : List FlatStep) (kinds : List ℕ) (pairs : Neighbours)
+pub taken-or-kept : (profile : Profile) (cell : ℕ → Cell) (lefts : List Left) (text more : List ℕ) (all : Ahead) (steps : List FlatStep) (kinds : List ℕ) (pairs : Neighbours)
     (out after : List RawBreak) (at taken index written : ℕ) (here there : BlockState) (step : FlatStep)
     → at + 64 ≤ length text → IsBlock profile cell lefts steps kinds pairs text at taken → AreLeft pairs text at taken here → index < 64
     → IsLowest here.left index → (0 < here.left → AreCleared here.left index there.left) → (0 < here.left → there.past ≡ at + index + 1)

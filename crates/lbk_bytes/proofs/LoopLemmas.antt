@@ -2,7 +2,6 @@
 use Rattle.std.proofs.Common.{◌≡◌, ℕ, ◌+◌, ◌<◌, List, [], ◌∷◌, ◌++◌, length, get_or, map, drop, reverse, refl, sym, ap, subst, ◌∙◌}
 use Rattle.std.specs.Char.{IsScalar}
 use Rattle.bstr.specs.Utf8.{decoded, good, lossy_chars, or_replacement}
-use Rattle.lbk_rules.specs.declared.breaks.Break.{Break}
 use Rattle.lbk_rules.specs.declared.cells.Cell.{Cell}
 use Rattle.lbk_rules.specs.declared.facts.Left.{Left}
 use Rattle.lbk_steps.specs.declared.flat_table.FlatStep.{FlatStep}
@@ -23,13 +22,13 @@ use Rattle.lbk_bytes.specs.declared.fill_state.FillState.{FillState}
 use Rattle.lbk_bytes.specs.declared.raw_break.RawBreak.{RawBreak}
 use Rattle.lbk_bytes.specs.Bytes.{with_break}
 use Rattle.lbk_bytes.specs.Decided.{IsDecided}
-use Rattle.lbk_bytes.specs.Reached.{AreSwift, IsSwiftStep, Reached}
+use Rattle.lbk_bytes.specs.Reached.{Ahead, AreSwift, IsSwiftStep, Reached}
 use Rattle.lbk_bytes.specs.Shown.{given_in}
 use Rattle.lbk_bytes.proofs.PieceLemmas.{Reads}
 use Rattle.lbk_bytes.proofs.ReachedLemmas.{Reached-step}
 use Rattle.lbk_bytes.proofs.StepLemmas.{decides-text, flat_step_at, knows-more}
 
-pub Reached-swift : (profile : Profile) (cell : ℕ → Cell) (lefts : List Left) (text : List ℕ) (all : List Break) (steps : List FlatStep) (kinds : List ℕ)
+pub Reached-swift : (profile : Profile) (cell : ℕ → Cell) (lefts : List Left) (text : List ℕ) (all : Ahead) (steps : List FlatStep) (kinds : List ℕ)
     (out after : List RawBreak) (count next row at code size : ℕ) (step : FlatStep)
     → AreSwift profile lefts steps → AreFlatKinds kinds cell → Reads text at code size → at < length text
     → step ≡ get_or steps (row + get_or kinds code 0) no_flat_step → ¬ (step.code ≡ HELD)
@@ -74,7 +73,7 @@ Decided-one profile cell lefts text taken table row at c size code rest step fla
           ∙ ap (λ x. verdict_between_in profile (map cell taken) (cell x ∷ map cell (lossy_chars (drop (at + size) text)))) is_char;
     }
 
-pub Reached-decided : (profile : Profile) (cell : ℕ → Cell) (lefts : List Left) (text : List ℕ) (all : List Break)
+pub Reached-decided : (profile : Profile) (cell : ℕ → Cell) (lefts : List Left) (text : List ℕ) (all : Ahead)
     (out after : List RawBreak) (here : FillState) (next : ℕ) (found : Decided)
     → here.at < length text
     → ((taken : List ℕ) → KnowsTaken cell lefts here.row taken → IsDecided profile cell lefts text here.at taken found)

@@ -19,7 +19,7 @@ use Rattle.lbk_bytes.specs.declared.raw_break.RawBreak.{RawBreak}
 use Rattle.lbk_bytes.specs.declared.fill_state.FillState.{FillState}
 use Rattle.lbk_bytes.specs.Bytes.{breaks_after, with_break}
 use Rattle.lbk_bytes.specs.Profiles.{profile_number, profile_numbered}
-use Rattle.lbk_bytes.specs.Reached.{Reached, onward, scalars_of}
+use Rattle.lbk_bytes.specs.Reached.{Ahead, Reached, onward, onward_to, scalars_of}
 use Rattle.lbk_bytes.specs.Shown.{given_in, shown}
 use Rattle.lbk_bytes.proofs.PieceLemmas.{piece-within, pieces-on}
 
@@ -30,7 +30,7 @@ with_break-more at verdict more =
     [ true ↦ refl | false ↦ refl ]
 
 -- one more scalar
-pub Reached-step : (profile : Profile) (cell : ℕ → Cell) (lefts : List Left) (text : List ℕ) (all : List Break) (here there : FillState) (given after : List Break)
+pub Reached-step : (profile : Profile) (cell : ℕ → Cell) (lefts : List Left) (text : List ℕ) (all : Ahead) (here there : FillState) (given after : List Break)
     (p : Decoded) (verdict : Verdict)
     → decoded (drop here.at text) ≡ p → here.at < length text → there.at ≡ here.at + p.size
     → ((taken : List ℕ) → KnowsTaken cell lefts here.row taken → KnowsTaken cell lefts there.row (taken ++ or_replacement p.char ∷ []))
@@ -47,31 +47,30 @@ Reached-step profile cell lefts text all here there given after p verdict is wit
     let place : here.at + (decoded (drop here.at text)).size ≡ there.at = ap (λ n. here.at + n) size ∙ sym moved in
     let begins : pieces (drop here.at text) ≡ p ∷ rest =
     pieces-on text here.at within ∙ ap (λ n. decoded (drop here.at text) ∷ pieces (drop n text)) place ∙ ap (λ q. q ∷ rest) is in
-    let further = onward profile cell on there.at rest in
-    let stepped : onward profile cell r.taken here.at (p ∷ rest) ≡ with_break here.at verdict further =
-    ap (λ v. with_break here.at v (onward profile cell on (here.at + p.size) rest)) (sym (decides r.taken r.knows))
-    ∙ ap (λ n. with_break here.at verdict (onward profile cell on n rest)) (sym moved) in
+    let further = onward_to all.end profile cell on there.at rest in
+    let stepped : onward_to all.end profile cell r.taken here.at (p ∷ rest) ≡ with_break here.at verdict further =
+    ap (λ v. with_break here.at v (onward_to all.end profile cell on (here.at + p.size) rest)) (sym (decides r.taken r.knows))
+    ∙ ap (λ n. with_break here.at verdict (onward_to all.end profile cell on n rest)) (sym moved) in
     let some : 0 < there.at = omega (arith, bounds.0) in
     let longer = length-append r.taken (c ∷ []) in
     record {
       taken = on;
       knows = knows r.taken r.knows;
-      none = λ zero. absurd (omega arith);
       some = λ _. omega arith;
       joined =
           r.joined
-          ∙ ap (λ ps. given ++ onward profile cell r.taken here.at ps) begins
+          ∙ ap (λ ps. given ++ onward_to all.end profile cell r.taken here.at ps) begins
           ∙ ap (λ l. given ++ l) (stepped ∙ with_break-more here.at verdict further)
           ∙ sym (append_assoc given (with_break here.at verdict []) further)
           ∙ ap (λ g. g ++ further) (sym grown);
     }
 
 -- where nothing follows a text
-pub Reached-alone : (profile : Profile) (cell : ℕ → Cell) (lefts : List Left) (text : List ℕ) (all : List Break) (here : FillState) (given : List Break)
+pub Reached-alone : (profile : Profile) (cell : ℕ → Cell) (lefts : List Left) (text : List ℕ) (all : Ahead) (here : FillState) (given : List Break)
     → Reached profile cell lefts (text ++ []) all here given → Reached profile cell lefts text all here given
 Reached-alone profile cell lefts text all here given r = subst (λ t. Reached profile cell lefts t all here given) (append-nil text) r
 
-pub Reached-nothing : (profile : Profile) (cell : ℕ → Cell) (lefts : List Left) (text : List ℕ) (all : List Break) (here : FillState) (given : List Break)
+pub Reached-nothing : (profile : Profile) (cell : ℕ → Cell) (lefts : List Left) (text : List ℕ) (all : Ahead) (here : FillState) (given : List Break)
     → Reached profile cell lefts text all here given → Reached profile cell lefts (text ++ []) all here given
 Reached-nothing profile cell lefts text all here given r = subst (λ t. Reached profile cell lefts t all here given) (sym (append-nil text)) r
 

@@ -1,13 +1,15 @@
 -- The breaks of any bytes, read as UTF-8. Each longest piece that begins no scalar is read as U+FFFD (Unicode Standard,
 -- section 3.9, table 3-7) and keeps its own bytes.
-use Rattle.std.specs.Prelude.{ℕ, ◌+◌, List, [], ◌∷◌, if◌then◌else◌}
+use Rattle.std.specs.Prelude.{ℕ, ◌+◌, ◌-◌, Bool, true, false, List, [], ◌∷◌, ◌++◌, length, map, take, if◌then◌else◌}
 use Rattle.bstr.specs.Utf8.{Decoded, lossy_chars, pieces}
 use Rattle.lbk_rules.specs.declared.breaks.Break.{Break}
 use Rattle.lbk_rules.specs.declared.cells.Cell.{Cell}
 use Rattle.lbk_values.specs.declared.profile.Profile.{Profile}
 use Rattle.lbk_rules.specs.declared.verdicts.Verdict.{Verdict}
 use Rattle.lbk_rules.specs.Breaks.{break_by, is_no}
+use Rattle.lbk_rules.specs.Ends.{end_after, ends_line}
 use Rattle.lbk_rules.specs.Marks.{Marked, marks}
+use Rattle.lbk_rules.specs.Verdict.{verdict_between_in}
 
 -- the break at a position, if there is one, and those that follow
 abbrev pub with_break : ℕ → Verdict → List Break → List Break
@@ -21,3 +23,28 @@ breaks_after at (p ∷ ps) (m ∷ ms) = with_break (at + p.size) m.after (breaks
 
 abbrev pub breaks_of_bytes : Profile → (ℕ → Cell) → List ℕ → List Break
 breaks_of_bytes profile cell text = breaks_after 0 (pieces text) (marks profile cell (lossy_chars text))
+
+-- what comes at this byte, at the end of a text or of a part of one, behind its scalars
+abbrev pub AtEnd : Type 0
+AtEnd = Profile → (ℕ → Cell) → List ℕ → ℕ → List Break
+
+-- where nothing follows: what the rules say at the end of a text (rule LB3)
+abbrev pub closed_end : AtEnd
+closed_end profile cell scalars at = with_break at (verdict_between_in profile (map cell scalars) []) []
+
+-- where the text goes on: that a line must end there, where it must whatever follows but LF after CR (rules LB4 and LB5)
+abbrev pub open_end : AtEnd
+open_end profile cell [] at = []
+open_end profile cell (c ∷ []) at = if ends_line (cell c).class then break_by at (end_after (cell c).class) ∷ [] else []
+open_end profile cell (c ∷ d ∷ ds) at = open_end profile cell (d ∷ ds) at
+
+abbrev pub end_in : Bool → AtEnd
+end_in true = open_end
+end_in false = closed_end
+
+-- the breaks of a part of a text by itself. Where the text goes on after it, the last of them is as it is there
+abbrev pub breaks_of_part : Bool → Profile → (ℕ → Cell) → List ℕ → List Break
+breaks_of_part false profile cell part = breaks_of_bytes profile cell part
+breaks_of_part true profile cell part =
+    take (length (breaks_of_bytes profile cell part) - 1) (breaks_of_bytes profile cell part)
+    ++ open_end profile cell (lossy_chars part) (length part)

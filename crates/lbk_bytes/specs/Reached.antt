@@ -22,19 +22,32 @@ use Rattle.lbk_rules.specs.Verdict.{verdict_between_in}
 use Rattle.lbk_steps.specs.declared.flat_table.TheConstants.{HELD}
 use Rattle.lbk_bytes.specs.declared.fill_state.FillState.{FillState}
 use Rattle.lbk_bytes.specs.declared.raw_break.RawBreak.{RawBreak}
-use Rattle.lbk_bytes.specs.Bytes.{with_break}
+use Rattle.lbk_bytes.specs.Bytes.{AtEnd, closed_end, with_break}
 use Rattle.lbk_bytes.specs.Order.{AreInOrderBy, IsBreak}
 
 -- the scalars that some pieces are read as
 abbrev pub scalars_of : List Decoded → List ℕ
 scalars_of ps = map (λ p. or_replacement p.char) ps
 
--- the breaks from the byte `at` on, which stands between the scalars before it and these pieces
-abbrev pub onward : Profile → (ℕ → Cell) → List ℕ → ℕ → List Decoded → List Break
-onward profile cell before at [] = with_break at (verdict_between_in profile (map cell before) []) []
-onward profile cell before at (p ∷ ps) =
+-- what comes from a byte of a text on, after some scalars and before some pieces
+abbrev pub Onward : Type 0
+Onward = Profile → (ℕ → Cell) → List ℕ → ℕ → List Decoded → List Break
+
+-- the breaks from the byte `at` on, which stands between the scalars before it and these pieces, and what comes at the end
+abbrev pub onward_to : AtEnd → Onward
+onward_to end profile cell before at [] = end profile cell before at
+onward_to end profile cell before at (p ∷ ps) =
     with_break at (verdict_between_in profile (map cell before) (map cell (scalars_of (p ∷ ps))))
-    (onward profile cell (before ++ or_replacement p.char ∷ []) (at + p.size) ps)
+    (onward_to end profile cell (before ++ or_replacement p.char ∷ []) (at + p.size) ps)
+
+-- the same of a text that ends behind the pieces
+abbrev pub onward : Onward
+onward = onward_to closed_end
+
+-- the breaks of a text, and what comes at its end
+pub record Ahead : Type 0 where
+  pub breaks : List Break
+  pub end : AtEnd
 
 -- the numbers of a verdict's rule and kind, as one
 abbrev pub numbers_of : Verdict → ℕ
@@ -70,16 +83,11 @@ AreSwift profile lefts steps =
     (row kind : ℕ) → IsStart lefts row → kind < 84
     → IsSwiftStep profile lefts (left_at lefts row) (kind_cell kind) (slice_index_or steps (row + kind) no_flat_step)
 
--- what comes from a byte of a text on, after some scalars and before some pieces
-abbrev pub Onward : Type 0
-Onward = Profile → (ℕ → Cell) → List ℕ → ℕ → List Decoded → List Break
-
 -- of all these were given, and the others come from here on
 pub record ReachedBy (from : Onward) (profile : Profile) (cell : ℕ → Cell) (lefts : List Left) (text : List ℕ) (all : List Break) (here : FillState) (given : List Break) : Type 0 where
   pub taken : List ℕ
   pub knows : KnowsTaken cell lefts here.row taken
-  pub none : here.at ≡ 0 → taken ≡ []
-  pub some : 0 < here.at → 0 < length taken
+  pub some : 0 < here.row → 0 < length taken
   pub joined : all ≡ given ++ from profile cell taken here.at (pieces (drop here.at text))
 
 -- what was given so far is in order, from a byte of the text on and up to where the call has come
@@ -90,5 +98,5 @@ abbrev pub IsInOrder : List RawBreak → ℕ → ℕ → ℕ → Type 0
 IsInOrder = IsInOrderBy IsBreak
 
 -- the same of breaks
-abbrev pub Reached : Profile → (ℕ → Cell) → List Left → List ℕ → List Break → FillState → List Break → Type 0
-Reached = ReachedBy onward
+abbrev pub Reached : Profile → (ℕ → Cell) → List Left → List ℕ → Ahead → FillState → List Break → Type 0
+Reached profile cell lefts text all here given = ReachedBy (onward_to all.end) profile cell lefts text all.breaks here given

@@ -1,14 +1,13 @@
 //! Blocks of 64 bytes whose breaks the sets of their bytes tell, so that no step waits for the one before it.
 
 ghost use Rattle.std.specs.Prelude.{◌≡◌, ◌≢◌, ℕ, ◌+◌, ◌-◌, ◌^◌, ◌<◌, ◌≤◌, ◌++◌, List, length, slice_index_or, IfSome};
-ghost use Rattle.lbk_rules.specs.declared.breaks.Break.{Break};
 ghost use Rattle.lbk_rules.specs.declared.cells.Cell.{Cell};
 ghost use Rattle.lbk_rules.specs.declared.facts.Left.{Left};
 ghost use Rattle.lbk_values.specs.declared.profile.Profile.{Profile};
 ghost use Rattle.lbk_steps.specs.FlatTable.{AreFlatKinds};
 ghost use Rattle.lbk_steps.specs.Neighbours.{AreTold};
 ghost use Rattle.lbk_bytes.specs.Blocks.{AreCleared, AreKeptBelow, AreLeft, IsAhead, IsBlock, IsLowest, Rests, place_in};
-ghost use Rattle.lbk_bytes.specs.Reached.{AreSwift, IsInOrder, Reached};
+ghost use Rattle.lbk_bytes.specs.Reached.{Ahead, AreSwift, IsInOrder, Reached};
 ghost use Rattle.lbk_bytes.specs.Shown.{given_in};
 
 use crate::fill_state::FillState;
@@ -51,7 +50,7 @@ pub(crate) fn blocks(
     ensures within { (result.count ≤ length out.old) × (result.row < 65536) × (result.at ≤ length text.now) }
     ensures onward { (start.at ≤ result.at) × (start.count ≤ result.count) }
     ensures in_order { (from : ℕ) → IsInOrder out.old start.count from start.at → IsInOrder out.new result.count from result.at }
-    ensures reached { (profile : Profile) (cell : ℕ → Cell) (lefts : List Left) (more : List ℕ) (all : List Break) → AreSwift profile lefts steps.now → AreFlatKinds kinds.now cell
+    ensures reached { (profile : Profile) (cell : ℕ → Cell) (lefts : List Left) (more : List ℕ) (all : Ahead) → AreSwift profile lefts steps.now → AreFlatKinds kinds.now cell
         → AreTold steps.now kinds.now pairs.now
         → Reached profile cell lefts (text.now ++ more) all start (given_in out.old start.count)
         → Reached profile cell lefts (text.now ++ more) all result (given_in out.new result.count) }
@@ -79,7 +78,7 @@ fn block(
     ensures within { (result.count ≤ length out.old) × (result.row < 65536) × (result.at ≤ length text.now) }
     ensures onward { (start.at ≤ result.at) × (start.count ≤ result.count) }
     ensures in_order { (from : ℕ) → IsInOrder out.old start.count from start.at → IsInOrder out.new result.count from result.at }
-    ensures reached { (profile : Profile) (cell : ℕ → Cell) (lefts : List Left) (more : List ℕ) (all : List Break) → AreSwift profile lefts steps.now → AreFlatKinds kinds.now cell
+    ensures reached { (profile : Profile) (cell : ℕ → Cell) (lefts : List Left) (more : List ℕ) (all : Ahead) → AreSwift profile lefts steps.now → AreFlatKinds kinds.now cell
         → AreTold steps.now kinds.now pairs.now
         → Reached profile cell lefts (text.now ++ more) all start (given_in out.old start.count)
         → Reached profile cell lefts (text.now ++ more) all result (given_in out.new result.count) }
@@ -160,7 +159,7 @@ fn finish(
     ensures within { (result.count ≤ length out.old) × (result.row < 65536) × (result.at ≤ length text.now) }
     ensures onward { (at ≤ result.at) × (start.count ≤ result.count) }
     ensures in_order { (from : ℕ) → IsAhead at taken start → IsInOrder out.old start.count from start.past → IsInOrder out.new result.count from result.at }
-    ensures reached { (profile : Profile) (cell : ℕ → Cell) (lefts : List Left) (more : List ℕ) (all : List Break)
+    ensures reached { (profile : Profile) (cell : ℕ → Cell) (lefts : List Left) (more : List ℕ) (all : Ahead)
         → IsBlock profile cell lefts steps.now kinds.now pairs.now text.now at taken
         → AreLeft pairs.now text.now at taken start
         → Reached profile cell lefts (text.now ++ more) all (place_in pairs.now text.now start) (given_in out.old start.count)
@@ -211,7 +210,7 @@ fn some_breaks(
     ensures in_order { (taken from : ℕ) → IsAhead at taken here → IsInOrder out.old here.count from here.past → IsInOrder out.new result.count from result.past }
     ensures within { (result.count ≤ length out.old) × (at ≤ result.past) × (result.past ≤ at + 64) }
     ensures onward { (here.count ≤ result.count) × (result.left ≤ here.left) × (0 < here.left → result.left < here.left) }
-    ensures reached { (profile : Profile) (cell : ℕ → Cell) (lefts : List Left) (more : List ℕ) (all : List Break) (taken : ℕ)
+    ensures reached { (profile : Profile) (cell : ℕ → Cell) (lefts : List Left) (more : List ℕ) (all : Ahead) (taken : ℕ)
         → IsBlock profile cell lefts steps.now kinds.now pairs.now text.now at taken
         → AreLeft pairs.now text.now at taken here
         → Reached profile cell lefts (text.now ++ more) all (place_in pairs.now text.now here) (given_in out.old here.count)
@@ -241,7 +240,7 @@ fn eight_breaks(
     ensures within { (result.count ≤ length out.old) × (at ≤ result.past) × (result.past ≤ at + 64) }
     ensures onward { (here.count ≤ result.count) × (result.left ≤ here.left) × (0 < here.left → result.left < here.left) }
     ensures few { result.count ≤ here.count + 8 }
-    ensures reached { (profile : Profile) (cell : ℕ → Cell) (lefts : List Left) (more : List ℕ) (all : List Break) (taken : ℕ)
+    ensures reached { (profile : Profile) (cell : ℕ → Cell) (lefts : List Left) (more : List ℕ) (all : Ahead) (taken : ℕ)
         → IsBlock profile cell lefts steps.now kinds.now pairs.now text.now at taken
         → AreLeft pairs.now text.now at taken here
         → Reached profile cell lefts (text.now ++ more) all (place_in pairs.now text.now here) (given_in out.old here.count)
@@ -269,7 +268,7 @@ fn four_breaks(
     ensures within { (result.count ≤ length out.old) × (at ≤ result.past) × (result.past ≤ at + 64) }
     ensures onward { (here.count ≤ result.count) × (result.left ≤ here.left) × (0 < here.left → result.left < here.left) }
     ensures few { result.count ≤ here.count + 4 }
-    ensures reached { (profile : Profile) (cell : ℕ → Cell) (lefts : List Left) (more : List ℕ) (all : List Break) (taken : ℕ)
+    ensures reached { (profile : Profile) (cell : ℕ → Cell) (lefts : List Left) (more : List ℕ) (all : Ahead) (taken : ℕ)
         → IsBlock profile cell lefts steps.now kinds.now pairs.now text.now at taken
         → AreLeft pairs.now text.now at taken here
         → Reached profile cell lefts (text.now ++ more) all (place_in pairs.now text.now here) (given_in out.old here.count)
@@ -297,7 +296,7 @@ fn two_breaks(
     ensures within { (result.count ≤ length out.old) × (at ≤ result.past) × (result.past ≤ at + 64) }
     ensures onward { (here.count ≤ result.count) × (result.left ≤ here.left) × (0 < here.left → result.left < here.left) }
     ensures few { result.count ≤ here.count + 2 }
-    ensures reached { (profile : Profile) (cell : ℕ → Cell) (lefts : List Left) (more : List ℕ) (all : List Break) (taken : ℕ)
+    ensures reached { (profile : Profile) (cell : ℕ → Cell) (lefts : List Left) (more : List ℕ) (all : Ahead) (taken : ℕ)
         → IsBlock profile cell lefts steps.now kinds.now pairs.now text.now at taken
         → AreLeft pairs.now text.now at taken here
         → Reached profile cell lefts (text.now ++ more) all (place_in pairs.now text.now here) (given_in out.old here.count)
@@ -326,7 +325,7 @@ fn take_break(
     ensures within { (result.count ≤ length out.old) × (at ≤ result.past) × (result.past ≤ at + 64) }
     ensures onward { (here.count ≤ result.count) × (result.left ≤ here.left) × (0 < here.left → result.left < here.left) }
     ensures few { result.count ≤ here.count + 1 }
-    ensures reached { (profile : Profile) (cell : ℕ → Cell) (lefts : List Left) (more : List ℕ) (all : List Break) (taken : ℕ)
+    ensures reached { (profile : Profile) (cell : ℕ → Cell) (lefts : List Left) (more : List ℕ) (all : Ahead) (taken : ℕ)
         → IsBlock profile cell lefts steps.now kinds.now pairs.now text.now at taken
         → AreLeft pairs.now text.now at taken here
         → Reached profile cell lefts (text.now ++ more) all (place_in pairs.now text.now here) (given_in out.old here.count)

@@ -1,7 +1,6 @@
 //! A block that is filled with breaks.
 
 ghost use Rattle.std.specs.Prelude.{◌≡◌, ℕ, ◌+◌, ◌<◌, ◌≤◌, ◌++◌, [], List, length, take};
-ghost use Rattle.lbk_rules.specs.declared.breaks.Break.{Break};
 ghost use Rattle.lbk_rules.specs.declared.cells.Cell.{Cell};
 ghost use Rattle.lbk_rules.specs.declared.facts.Left.{Left};
 ghost use Rattle.lbk_values.specs.declared.profile.Profile.{Profile};
@@ -9,7 +8,7 @@ ghost use Rattle.lbk_rules.specs.Codes.{IsCode, verdict_coded};
 ghost use Rattle.lbk_steps.specs.FlatTable.{AreFlatKinds, IsFlatBy};
 ghost use Rattle.lbk_bytes.specs.Bytes.{with_break};
 ghost use Rattle.lbk_bytes.specs.Order.{AreInOrder};
-ghost use Rattle.lbk_bytes.specs.Reached.{AreSwift, IsInOrder, Reached};
+ghost use Rattle.lbk_bytes.specs.Reached.{Ahead, AreSwift, IsInOrder, Reached};
 ghost use Rattle.lbk_bytes.specs.Shown.{given_in};
 
 use crate::blocks::{BLOCK, blocks, wide_ahead};
@@ -43,7 +42,7 @@ pub fn fill(
     ensures stops { result.count < length out.old → result.at ≡ length text.now }
     ensures no_room { length out.old ≡ 0 → result ≡ start }
     ensures in_order { (from : ℕ) → IsInOrder out.old start.count from start.at → IsInOrder out.new result.count from result.at }
-    ensures reached { (cell : ℕ → Cell) (lefts : List Left) (all : List Break) → IsFlatBy lefts table.now cell
+    ensures reached { (cell : ℕ → Cell) (lefts : List Left) (all : Ahead) → IsFlatBy lefts table.now cell
         → Reached profile cell lefts text.now all start (given_in out.old start.count)
         → Reached profile cell lefts text.now all result (given_in out.new result.count) }
 {
@@ -74,7 +73,7 @@ fn fill_on(
     ensures stops { result.count < length out.old → result.at ≡ length text.now }
     ensures no_room { length out.old ≡ 0 → result ≡ start }
     ensures in_order { (from : ℕ) → IsInOrder out.old start.count from start.at → IsInOrder out.new result.count from result.at }
-    ensures reached { (cell : ℕ → Cell) (lefts : List Left) (all : List Break) → IsFlatBy lefts table.now cell
+    ensures reached { (cell : ℕ → Cell) (lefts : List Left) (all : Ahead) → IsFlatBy lefts table.now cell
         → Reached profile cell lefts text.now all start (given_in out.old start.count)
         → Reached profile cell lefts text.now all result (given_in out.new result.count) }
 {
@@ -98,7 +97,7 @@ pub fn fill_common(
     requires { (start.count ≤ length out.old) × (start.row < 65536) × (start.at ≤ length text.now) }
     ensures within { (result.count ≤ length out.old) × (result.row < 65536) × (result.at ≤ length text.now) }
     ensures onward { (start.at ≤ result.at) × (start.count ≤ result.count) }
-    ensures reached { (cell : ℕ → Cell) (lefts : List Left) (more : List ℕ) (all : List Break) → IsFlatBy lefts table.now cell
+    ensures reached { (cell : ℕ → Cell) (lefts : List Left) (more : List ℕ) (all : Ahead) → IsFlatBy lefts table.now cell
         → Reached profile cell lefts (text.now ++ more) all start (given_in out.old start.count)
         → Reached profile cell lefts (text.now ++ more) all result (given_in out.new result.count) }
 {
@@ -126,7 +125,7 @@ fn further(
     ensures onward { here.count + here.at < result.count + result.at }
     ensures in_order { (from : ℕ) → IsInOrder out.old here.count from here.at → IsInOrder out.new result.count from result.at }
     ensures both { (here.count ≤ result.count) × (here.at ≤ result.at) }
-    ensures reached { (cell : ℕ → Cell) (lefts : List Left) (all : List Break) → IsFlatBy lefts table.now cell
+    ensures reached { (cell : ℕ → Cell) (lefts : List Left) (all : Ahead) → IsFlatBy lefts table.now cell
         → Reached profile cell lefts text.now all here (given_in out.old here.count)
         → Reached profile cell lefts text.now all result (given_in out.new result.count) }
 {
@@ -158,7 +157,7 @@ fn common_part(
     ensures within { (result.here.count ≤ length out.old) × (result.here.row < 65536) × (result.here.at ≤ result.until) × (result.until ≤ length text.now) }
     ensures onward { (here.count ≤ result.here.count) × (here.at ≤ result.here.at) × (here.at < result.until) }
     ensures in_order { (from : ℕ) → IsInOrder out.old here.count from here.at → IsInOrder out.new result.here.count from result.here.at }
-    ensures reached { (cell : ℕ → Cell) (lefts : List Left) (more : List ℕ) (all : List Break) → IsFlatBy lefts table.now cell
+    ensures reached { (cell : ℕ → Cell) (lefts : List Left) (more : List ℕ) (all : Ahead) → IsFlatBy lefts table.now cell
         → Reached profile cell lefts (text.now ++ more) all here (given_in out.old here.count)
         → Reached profile cell lefts (text.now ++ more) all result.here (given_in out.new result.here.count) }
 {
@@ -230,7 +229,7 @@ fn quick(
     ensures within { (result.count ≤ length out.old) × (result.row < 65536) × (result.at ≤ length text.now) }
     ensures onward { (start.at ≤ result.at) × (start.count ≤ result.count) }
     ensures in_order { (from : ℕ) → IsInOrder out.old start.count from start.at → IsInOrder out.new result.count from result.at }
-    ensures reached { (profile : Profile) (cell : ℕ → Cell) (lefts : List Left) (more : List ℕ) (all : List Break) → AreSwift profile lefts steps.now → AreFlatKinds kinds.now cell
+    ensures reached { (profile : Profile) (cell : ℕ → Cell) (lefts : List Left) (more : List ℕ) (all : Ahead) → AreSwift profile lefts steps.now → AreFlatKinds kinds.now cell
         → Reached profile cell lefts (text.now ++ more) all start (given_in out.old start.count)
         → Reached profile cell lefts (text.now ++ more) all result (given_in out.new result.count) }
 {
@@ -250,7 +249,7 @@ fn scalars(
     ensures within { (result.count ≤ length out.old) × (result.row < 65536) × (result.at ≤ length text.now) }
     ensures onward { (start.at ≤ result.at) × (start.count ≤ result.count) }
     ensures in_order { (from : ℕ) → IsInOrder out.old start.count from start.at → IsInOrder out.new result.count from result.at }
-    ensures reached { (profile : Profile) (cell : ℕ → Cell) (lefts : List Left) (more : List ℕ) (all : List Break) → AreSwift profile lefts steps.now → AreFlatKinds kinds.now cell
+    ensures reached { (profile : Profile) (cell : ℕ → Cell) (lefts : List Left) (more : List ℕ) (all : Ahead) → AreSwift profile lefts steps.now → AreFlatKinds kinds.now cell
         → Reached profile cell lefts (text.now ++ more) all start (given_in out.old start.count)
         → Reached profile cell lefts (text.now ++ more) all result (given_in out.new result.count) }
 {
@@ -276,7 +275,7 @@ fn runs(
     ensures within { (result.count ≤ length out.old) × (result.row < 65536) × (result.at ≤ length text.now) }
     ensures onward { (start.at ≤ result.at) × (start.count ≤ result.count) }
     ensures in_order { (from : ℕ) → IsInOrder out.old start.count from start.at → IsInOrder out.new result.count from result.at }
-    ensures reached { (profile : Profile) (cell : ℕ → Cell) (lefts : List Left) (more : List ℕ) (all : List Break) → AreSwift profile lefts steps.now → AreFlatKinds kinds.now cell
+    ensures reached { (profile : Profile) (cell : ℕ → Cell) (lefts : List Left) (more : List ℕ) (all : Ahead) → AreSwift profile lefts steps.now → AreFlatKinds kinds.now cell
         → Reached profile cell lefts (text.now ++ more) all start (given_in out.old start.count)
         → Reached profile cell lefts (text.now ++ more) all result (given_in out.new result.count) }
 {
@@ -303,7 +302,7 @@ fn run(
     ensures within { (result.count ≤ length out.old) × (result.row < 65536) × (result.at ≤ length text.now) }
     ensures onward { (start.at ≤ result.at) × (start.count ≤ result.count) }
     ensures in_order { (from : ℕ) → IsInOrder out.old start.count from start.at → IsInOrder out.new result.count from result.at }
-    ensures reached { (profile : Profile) (cell : ℕ → Cell) (lefts : List Left) (more : List ℕ) (all : List Break) → AreSwift profile lefts steps.now → AreFlatKinds kinds.now cell
+    ensures reached { (profile : Profile) (cell : ℕ → Cell) (lefts : List Left) (more : List ℕ) (all : Ahead) → AreSwift profile lefts steps.now → AreFlatKinds kinds.now cell
         → Reached profile cell lefts (text.now ++ more) all start (given_in out.old start.count)
         → Reached profile cell lefts (text.now ++ more) all result (given_in out.new result.count) }
 {
@@ -338,7 +337,7 @@ fn take_one(
     ensures within { (result.count ≤ length out.old) × (result.row < 65536) × (result.at ≤ length text.now) }
     ensures onward { (here.at < result.at) × (here.count ≤ result.count) }
     ensures in_order { (from : ℕ) → IsInOrder out.old here.count from here.at → IsInOrder out.new result.count from result.at }
-    ensures reached { (cell : ℕ → Cell) (lefts : List Left) (all : List Break) → IsFlatBy lefts table.now cell
+    ensures reached { (cell : ℕ → Cell) (lefts : List Left) (all : Ahead) → IsFlatBy lefts table.now cell
         → Reached profile cell lefts text.now all here (given_in out.old here.count)
         → Reached profile cell lefts text.now all result (given_in out.new result.count) }
 {

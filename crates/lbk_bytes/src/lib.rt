@@ -6,7 +6,7 @@ mod ahead;
 mod blocks;
 mod deciding;
 mod decoding;
-mod ending;
+mod ends;
 mod fill_state;
 mod filling;
 mod profiles;
@@ -15,7 +15,7 @@ mod shown;
 mod steps;
 
 pub use deciding::{Decided, decide_one};
-pub use ending::{END, put_end};
+pub use ends::{END, put_end};
 pub use fill_state::FillState;
 pub use filling::{fill, fill_common, put};
 pub use profiles::profile_numbered;

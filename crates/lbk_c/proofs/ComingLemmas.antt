@@ -1,10 +1,10 @@
 -- The breaks of a text from its start on, and some of them given.
-use Rattle.std.proofs.Common.{◌≡◌, ℕ, zero, suc, ◌+◌, ◌<◌, ◌≤◌, min, true, ◌⊎◌, inl, inr, ⊎_elim, Some, List, [], ◌∷◌, ◌++◌, length, map, drop, take, refl, sym, ap, subst, ◌∙◌, arith}
+use Rattle.std.proofs.Common.{Bool, false, ◌≡◌, ℕ, ◌+◌, ◌<◌, ◌≤◌, min, true, ◌⊎◌, inl, inr, ⊎_elim, Some, List, [], ◌∷◌, ◌++◌, length, map, drop, take, refl, sym, ap, subst, ◌∙◌, arith}
 use Rattle.std.specs.Char.{encode_utf8}
 use Rattle.std.specs.Str.{IsUtf8, chars, encode_utf8_all}
 use Rattle.std.proofs.lemmas.List.{append-nil, length-append, length-map, length-take-le, take_at}
 use Rattle.std.proofs.lemmas.Str.{chars-encodes}
-use Rattle.std.proofs.Math.Seq.{drop-append_seam, drop-length, take-length}
+use Rattle.std.proofs.Math.Seq.{drop-append_seam, drop-length}
 use lib.Utf8.{scalars}
 use Rattle.bstr.specs.Utf8.{Decoded, or_replacement, pieces}
 use Rattle.bstr.proofs.lemmas.PieceLemmas.{pieces-nil}
@@ -15,41 +15,39 @@ use Rattle.lbk_steps.specs.declared.flat_table.FlatTable.{FlatTable}
 use Rattle.lbk_values.specs.declared.profile.Profile.{Profile}
 use Rattle.lbk_values.specs.declared.profile.Profile.TheVariants.{First, Second}
 use Rattle.lbk_rules.specs.declared.verdicts.Verdict.{Verdict}
-use Rattle.lbk_rules.specs.Breaks.{break_by, breaks, breaks_from}
-use Rattle.lbk_rules.specs.Ends.{end_of_text}
+use Rattle.lbk_rules.specs.Breaks.{breaks, breaks_from}
 use Rattle.lbk_steps.specs.FlatTable.{IsFlatBy, IsFlatOf, KnowsTaken}
 use Rattle.lbk_rules.specs.Marks.{marks, marks_behind}
 use Rattle.lbk_rules.specs.Verdict.{verdict_between_in}
-use Rattle.lbk_rules.proofs.EndLemmas.{must_at_length, start_of_text}
+use Rattle.lbk_rules.proofs.EndLemmas.{start_of_text}
 use Rattle.lbk_words.proofs.WellFormedLemmas.{good_of, pieces-encode, scalars-good}
 use Rattle.lbk_bytes.specs.declared.raw_break.RawBreak.{RawBreak}
 use Rattle.lbk_c.specs.declared.interface.State.{State}
 use Rattle.lbk_bytes.specs.declared.fill_state.FillState.{FillState}
-use Rattle.lbk_bytes.specs.Bytes.{breaks_after, breaks_of_bytes, with_break}
-use Rattle.lbk_bytes.specs.Reached.{Onward, Reached, ReachedBy, onward, scalars_of}
-use Rattle.lbk_c.specs.Coming.{Comes, ComesBy, Goes, GoesBy, IsGoing, IsSpent, from_state}
+use Rattle.lbk_bytes.specs.Bytes.{AtEnd, breaks_after, breaks_of_bytes, end_in, open_end, with_break}
+use Rattle.lbk_bytes.specs.Reached.{Onward, ReachedBy, onward, onward_to, scalars_of}
+use Rattle.lbk_c.specs.Coming.{Comes, ComesBy, GoesBy, IsGoing, IsSpent, from_state}
 use Rattle.lbk_bytes.specs.Shown.{given_in, shown}
-use Rattle.lbk_c.specs.State.{profile_numbered, start_in}
-use Rattle.lbk_bytes.proofs.BlockLemmas.{zero-or}
+use Rattle.lbk_c.specs.State.{part_start, profile_numbered, profile_number, start_in}
 use Rattle.lbk_bytes.proofs.ReachedLemmas.{given-many, onward-start, profile-same}
 
 -- From the start on
 
-pub Comes-by-start : (from : Onward) (cell : ℕ → Cell) (table : FlatTable) (text : List ℕ) (profile : Profile) (state : State) (to_come : List Break)
-    → IsFlatOf table cell → state ≡ start_in profile → to_come ≡ from profile cell [] 0 (pieces text)
+pub Comes-by-start : (from : Onward) (cell : ℕ → Cell) (table : FlatTable) (text : List ℕ) (profile : Profile) (at : ℕ) (state : State) (to_come : List Break)
+    → IsFlatOf table cell → at ≤ length text → state ≡ record { at = at; row = 0; profile = profile_number profile; ended = 0 }
+    → to_come ≡ from profile cell [] at (pieces (drop at text))
     → ComesBy from cell table text state to_come
-Comes-by-start from cell table text profile state to_come flat starts whole =
+Comes-by-start from cell table text profile at state to_come flat within starts whole =
     subst (λ s. ComesBy from cell table text s to_come) (sym starts) (record {
       profile = profile;
       named = profile-same profile;
       lefts = flat.0;
       flat = flat.1;
       onto = record {
-        within = omega arith;
+        within = within;
         goes_on = λ _. record {
           taken = [];
           knows = (flat.1.begins, flat.1.start);
-          none = λ _. refl;
           some = λ more. absurd (omega arith);
           joined = whole;
         };
@@ -57,10 +55,24 @@ Comes-by-start from cell table text profile state to_come flat starts whole =
       };
     })
 
+pub Comes-part : (cell : ℕ → Cell) (table : FlatTable) (text : List ℕ) (goes_on : Bool) (profile : Profile) (at : ℕ) (state : State) (to_come : List Break)
+    → IsFlatOf table cell → at ≤ length text → state ≡ part_start goes_on profile at
+    → to_come ≡ onward_to (end_in goes_on) profile cell [] at (pieces (drop at text))
+    → Comes cell table text state to_come
+Comes-part cell table text goes_on profile at state to_come flat within starts whole =
+    subst (λ s. Comes cell table text s to_come) (sym starts) (flagged goes_on profile whole)
+  where
+    flagged : (goes_on : Bool) (profile : Profile) → to_come ≡ onward_to (end_in goes_on) profile cell [] at (pieces (drop at text))
+        → Comes cell table text (part_start goes_on profile at) to_come
+    flagged true First whole = Comes-by-start (onward_to open_end) cell table text First at _ to_come flat within refl whole
+    flagged true Second whole = Comes-by-start (onward_to open_end) cell table text Second at _ to_come flat within refl whole
+    flagged false First whole = Comes-by-start onward cell table text First at _ to_come flat within refl whole
+    flagged false Second whole = Comes-by-start onward cell table text Second at _ to_come flat within refl whole
+
 pub Comes-start : (cell : ℕ → Cell) (table : FlatTable) (text : List ℕ) (profile : Profile) (state : State) → IsFlatOf table cell → state ≡ start_in profile
     → Comes cell table text state (breaks_of_bytes profile cell text)
 Comes-start cell table text profile state flat starts =
-    Comes-by-start onward cell table text profile state (breaks_of_bytes profile cell text) flat starts (onward-start profile cell (pieces text))
+    Comes-part cell table text false profile 0 state (breaks_of_bytes profile cell text) flat (omega arith) starts (onward-start profile cell (pieces text))
 
 -- Well-formed text
 
@@ -84,31 +96,6 @@ pub breaks-utf8 : (profile : Profile) (cell : ℕ → Cell) (text : List ℕ) �
     → breaks_of_bytes profile cell text ≡ breaks profile cell (chars text)
 breaks-utf8 profile cell text utf8 =
     subst (λ t. breaks_of_bytes profile cell t ≡ breaks profile cell (chars t)) utf8.1.1 (encoded-breaks profile cell utf8.0 utf8.1.0)
-
--- The end
-
--- where all is taken, the break at the end comes, if the text has any bytes
-pub Reached-end : (profile : Profile) (cell : ℕ → Cell) (lefts : List Left) (text : List ℕ) (all : List Break) (here : FillState) (given : List Break)
-    → here.at ≡ length text → Reached profile cell lefts text all here given
-    → (length text ≡ 0 → all ≡ given) × (0 < length text → all ≡ given ++ break_by (length text) end_of_text ∷ [])
-Reached-end profile cell lefts text all here given ends r =
-    let at = here.at in
-    let none_left : pieces (drop at text) ≡ [] = ap (λ n. pieces (drop n text)) ends ∙ ap pieces (drop-length text) ∙ pieces-nil in
-    let last : all ≡ given ++ with_break at (verdict_between_in profile (map cell r.taken) []) [] =
-    r.joined ∙ ap (λ ps. given ++ onward profile cell r.taken at ps) none_left in (
-      (λ empty.
-          let at_start : at ≡ 0 = ends ∙ empty in
-          last ∙ ap (λ taken. given ++ with_break at (verdict_between_in profile (map cell taken) []) []) (r.none at_start)
-          ∙ ap (λ (v : Verdict). given ++ with_break at v []) (start_of_text profile []) ∙ append-nil given),
-      (λ more.
-          let cells = map cell r.taken in
-          let some : 0 < length cells = (let taken = r.some (omega arith) in omega (arith, length-map r.taken cell)) in
-          let must : verdict_between_in profile cells [] ≡ end_of_text =
-          ap (λ l. verdict_between_in profile l []) (sym (take-length cells))
-          ∙ ap (λ l. verdict_between_in profile (take (length cells) cells) l) (sym (drop-length cells))
-          ∙ must_at_length profile cells some in
-          last ∙ ap (λ (v : Verdict). given ++ with_break at v []) must ∙ ap (λ n. given ++ break_by n end_of_text ∷ []) ends),
-    )
 
 -- Some more given
 
@@ -145,7 +132,6 @@ Goes-full from profile cell lefts text to_come here state block room r within at
         goes_on = λ _. record {
           taken = r.taken;
           knows = subst (λ n. KnowsTaken cell lefts n r.taken) (sym row_same) r.knows;
-          none = λ zero. r.none (sym at_same ∙ zero);
           some = λ more. r.some (omega arith);
           joined = g.left ∙ ap (λ n. from profile cell r.taken n (pieces (drop n text))) (sym at_same);
         };
@@ -169,19 +155,21 @@ Goes-all from profile cell lefts text to_come state block count room all ends en
       };
     }
 
--- the same of breaks, of which the text's end is one
-pub Goes-ended : (profile : Profile) (cell : ℕ → Cell) (lefts : List Left) (text : List ℕ) (to_come : List Break) (here : FillState) (state : State) (before block : List RawBreak)
-    (count room : ℕ)
-    → Reached profile cell lefts text to_come here (given_in before here.count) → here.at ≡ length text → state.at ≡ here.at → state.ended ≡ 1
-    → (0 < length text → given_in block count ≡ given_in before here.count ++ break_by (length text) end_of_text ∷ [])
-    → (length text ≡ 0 → given_in block count ≡ given_in before here.count)
+-- the same of breaks, of which what comes at the end is the last
+pub Goes-ended : (end : AtEnd) (profile : Profile) (cell : ℕ → Cell) (lefts : List Left) (text : List ℕ) (to_come : List Break) (here : FillState) (state : State)
+    (before block : List RawBreak) (count room : ℕ)
+    → ReachedBy (onward_to end) profile cell lefts text to_come here (given_in before here.count) → here.at ≡ length text → state.at ≡ here.at → state.ended ≡ 1
+    → ((taken : List ℕ) → KnowsTaken cell lefts here.row taken → (0 < here.row → 0 < length taken)
+    → given_in block count ≡ given_in before here.count ++ end profile cell taken (length text))
     → count ≤ length block → length block ≡ room
-    → Goes profile cell lefts text to_come state (given_in block count) count room
-Goes-ended profile cell lefts text to_come here state before block count room r ends at_same ended some none few same_room =
-    let last = Reached-end profile cell lefts text to_come here (given_in before here.count) ends r in
+    → GoesBy (onward_to end) profile cell lefts text to_come state (given_in block count) count room
+Goes-ended end profile cell lefts text to_come here state before block count room r ends at_same ended put few same_room =
+    let at = here.at in
+    let none_left : pieces (drop at text) ≡ [] = ap (λ n. pieces (drop n text)) ends ∙ ap pieces (drop-length text) ∙ pieces-nil in
     let all : to_come ≡ given_in block count =
-    ⊎_elim (λ (empty : length text ≡ 0). last.0 empty ∙ sym (none empty)) (λ (more : 0 < length text). last.1 more ∙ sym (some more)) (zero-or (length text)) in
-    Goes-all onward profile cell lefts text to_come state block count room all (at_same ∙ ends) ended few same_room
+    r.joined ∙ ap (λ ps. given_in before here.count ++ onward_to end profile cell r.taken at ps) none_left
+    ∙ ap (λ n. given_in before here.count ++ end profile cell r.taken n) ends ∙ sym (put r.taken r.knows r.some) in
+    Goes-all (onward_to end) profile cell lefts text to_come state block count room all (at_same ∙ ends) ended few same_room
 
 -- Between the calls
 

@@ -1,7 +1,5 @@
 pub mod TableLemmas
 pub mod ComingLemmas
+pub mod PartLemmas
 pub mod UnitsComingLemmas
 pub mod PositionLemmas
-pub mod PieceStartLemmas
-pub mod JoinLemmas
-pub mod SafeLemmas

@@ -18,11 +18,11 @@ use Rattle.lbk_rules.specs.Ends.{end_of_text}
 use Rattle.lbk_rules.specs.Marks.{Marked, marks, marks_behind}
 use Rattle.lbk_rules.specs.Verdict.{verdict_between_in}
 use Rattle.lbk_rules.proofs.EndLemmas.{must_at_length, start_of_text}
-use Rattle.lbk_steps.specs.FlatTable.{IsFlatOf, KnowsTaken}
+use Rattle.lbk_steps.specs.FlatTable.{IsFlatBy, IsFlatOf, KnowsTaken}
 use Rattle.lbk_bytes.specs.declared.deciding.Decided.{Decided}
 use Rattle.lbk_bytes.specs.declared.fill_state.FillState.{FillState}
-use Rattle.lbk_bytes.specs.declared.ending.TheConstants.{END}
 use Rattle.lbk_c.specs.declared.interface.State.{State}
+use Rattle.lbk_bytes.specs.declared.ends.TheConstants.{END}
 use Rattle.lbk_c.specs.declared.positions.TheConstants.{START}
 use Rattle.lbk_bytes.specs.Bytes.{breaks_after, breaks_of_bytes, with_break}
 use Rattle.lbk_bytes.specs.Decided.{IsDecided}
@@ -31,6 +31,7 @@ use Rattle.lbk_bytes.specs.Reached.{ReachedBy, onward_all, scalars_of}
 use Rattle.lbk_c.specs.Coming.{PositionsCome}
 use Rattle.lbk_c.specs.State.{start_in}
 use Rattle.lbk_c.proofs.ComingLemmas.{Comes-by-start}
+use Rattle.lbk_bytes.proofs.EndLemmas.{none-known}
 use Rattle.lbk_bytes.proofs.PieceLemmas.{piece-within, pieces-on}
 
 -- From the start on
@@ -52,7 +53,7 @@ all-start profile cell (p ∷ ps) =
 pub Positions-start : (cell : ℕ → Cell) (table : FlatTable) (text : List ℕ) (profile : Profile) (state : State) → IsFlatOf table cell → state ≡ start_in profile
     → PositionsCome cell table text state (positions_of_bytes profile cell text)
 Positions-start cell table text profile state flat starts =
-    Comes-by-start onward_all cell table text profile state (positions_of_bytes profile cell text) flat starts (all-start profile cell (pieces text))
+    Comes-by-start onward_all cell table text profile 0 state (positions_of_bytes profile cell text) flat (omega arith) starts (all-start profile cell (pieces text))
 
 -- Scalar by scalar
 
@@ -80,7 +81,6 @@ All-decided profile cell lefts text all here next given after found inside decid
     record {
       taken = on;
       knows = d.knows;
-      none = λ zero. absurd (omega (arith, bounds.0));
       some = λ _. omega arith;
       joined =
           r.joined
@@ -95,21 +95,22 @@ abbrev pub start_verdict : Verdict
 start_verdict = record { kind = No; rule = Lb2 }
 
 -- where all is taken, the position at the end comes
-pub All-end : (profile : Profile) (cell : ℕ → Cell) (lefts : List Left) (text : List ℕ) (all : List Break) (here : FillState) (given : List Break)
-    → here.at ≡ length text → ReachedBy onward_all profile cell lefts text all here given
-    → (length text ≡ 0 → all ≡ given ++ break_by (length text) start_verdict ∷ []) × (0 < length text → all ≡ given ++ break_by (length text) end_of_text ∷ [])
-All-end profile cell lefts text all here given ends r =
+pub All-end : (profile : Profile) (cell : ℕ → Cell) (lefts : List Left) (table : FlatTable) (text : List ℕ) (all : List Break) (here : FillState) (given : List Break)
+    → IsFlatBy lefts table cell → here.at ≡ length text → ReachedBy onward_all profile cell lefts text all here given
+    → (here.row ≡ 0 → all ≡ given ++ break_by (length text) start_verdict ∷ []) × (0 < here.row → all ≡ given ++ break_by (length text) end_of_text ∷ [])
+All-end profile cell lefts table text all here given flat ends r =
     let at = here.at in
     let none_left : pieces (drop at text) ≡ [] = ap (λ n. pieces (drop n text)) ends ∙ ap pieces (drop-length text) ∙ pieces-nil in
     let last : all ≡ given ++ break_by (length text) (verdict_between_in profile (map cell r.taken) []) ∷ [] =
     r.joined ∙ ap (λ ps. given ++ onward_all profile cell r.taken at ps) none_left
     ∙ ap (λ n. given ++ break_by n (verdict_between_in profile (map cell r.taken) []) ∷ []) ends in (
-      (λ empty.
-          last ∙ ap (λ taken. given ++ break_by (length text) (verdict_between_in profile (map cell taken) []) ∷ []) (r.none (ends ∙ empty))
+      (λ first.
+          last ∙ ap (λ taken. given ++ break_by (length text) (verdict_between_in profile (map cell taken) []) ∷ [])
+          (none-known cell lefts table r.taken flat (subst (λ n. KnowsTaken cell lefts n r.taken) first r.knows))
           ∙ ap (λ (v : Verdict). given ++ break_by (length text) v ∷ []) (start_of_text profile [])),
       (λ more.
           let cells = map cell r.taken in
-          let some : 0 < length cells = (let taken = r.some (omega arith) in omega (arith, length-map r.taken cell)) in
+          let some : 0 < length cells = (let taken = r.some more in omega (arith, length-map r.taken cell)) in
           let must : verdict_between_in profile cells [] ≡ end_of_text =
           ap (λ l. verdict_between_in profile l []) (sym (take-length cells))
           ∙ ap (λ l. verdict_between_in profile (take (length cells) cells) l) (sym (drop-length cells))

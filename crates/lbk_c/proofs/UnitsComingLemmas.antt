@@ -1,9 +1,9 @@
 -- The breaks of a text of units from its start on, and some of them given.
-use Rattle.std.proofs.Common.{◌≡◌, ℕ, ◌<◌, ◌≤◌, true, inl, inr, ⊎_elim, List, [], ◌∷◌, ◌++◌, length, map, drop, take, refl, sym, ap, subst, ◌∙◌, arith}
+use Rattle.std.proofs.Common.{◌≡◌, ℕ, ◌<◌, ◌≤◌, true, inl, inr, List, [], ◌++◌, length, map, drop, refl, sym, ap, subst, ◌∙◌, arith}
 use Rattle.std.specs.Str.{encode_utf8_all}
-use Rattle.std.proofs.lemmas.List.{append-nil, length-map}
+use Rattle.std.proofs.lemmas.List.{append-nil}
 use Rattle.std.proofs.lemmas.Str.{chars-encodes}
-use Rattle.std.proofs.Math.Seq.{drop-length, take-length}
+use Rattle.std.proofs.Math.Seq.{drop-length}
 use lib.Utf8.{scalars}
 use Rattle.bstr.specs.Utf8.{Decoded}
 use Rattle.lbk_rules.specs.declared.breaks.Break.{Break}
@@ -11,15 +11,11 @@ use Rattle.lbk_rules.specs.declared.cells.Cell.{Cell}
 use Rattle.lbk_rules.specs.declared.facts.Left.{Left}
 use Rattle.lbk_steps.specs.declared.flat_table.FlatTable.{FlatTable}
 use Rattle.lbk_values.specs.declared.profile.Profile.{Profile}
-use Rattle.lbk_rules.specs.declared.verdicts.Verdict.{Verdict}
-use Rattle.lbk_rules.specs.Breaks.{break_by, breaks}
-use Rattle.lbk_rules.specs.Ends.{end_of_text}
+use Rattle.lbk_rules.specs.Breaks.{breaks}
 use Rattle.lbk_steps.specs.FlatTable.{IsFlatBy, IsFlatOf, KnowsTaken}
-use Rattle.lbk_rules.specs.Verdict.{verdict_between_in}
-use Rattle.lbk_rules.proofs.EndLemmas.{must_at_length, start_of_text}
 use Rattle.lbk_bytes.specs.declared.fill_state.FillState.{FillState}
 use Rattle.lbk_bytes.specs.declared.raw_break.RawBreak.{RawBreak}
-use Rattle.lbk_bytes.specs.Bytes.{with_break}
+use Rattle.lbk_bytes.specs.Bytes.{closed_end}
 use Rattle.lbk_bytes.specs.Reached.{onward}
 use Rattle.lbk_bytes.specs.Shown.{given_in}
 use Rattle.lbk_units.specs.Encodings.{placed_in}
@@ -31,7 +27,6 @@ use Rattle.lbk_c.specs.Coming.{IsGoing, IsSpent, from_state}
 use Rattle.lbk_c.specs.State.{profile_numbered, start_in}
 use Rattle.lbk_c.specs.UnitsComing.{UnitsCome, UnitsGo}
 use Rattle.lbk_c.proofs.ComingLemmas.{breaks-utf8, gives, same-profile}
-use Rattle.lbk_bytes.proofs.BlockLemmas.{zero-or}
 use Rattle.lbk_bytes.proofs.ReachedLemmas.{given-many, onward-start, profile-same}
 
 module _ {A : Type 0} (pieces_of : List A → List Decoded) where
@@ -48,36 +43,12 @@ module _ {A : Type 0} (pieces_of : List A → List Decoded) where
           goes_on = λ _. record {
             taken = [];
             knows = (flat.1.begins, flat.1.start);
-            none = λ _. refl;
             some = λ more. absurd (omega arith);
             joined = onward-start profile cell (pieces_of text);
           };
           none_come = λ more. absurd (omega arith);
         };
       })
-
-  -- where all is taken, the break at the end comes, if the text has any units
-  units-end : (profile : Profile) (cell : ℕ → Cell) (lefts : List Left) (text : List A) (all : List Break) (here : FillState) (given : List Break)
-      → pieces_of [] ≡ [] → here.at ≡ length text → UnitsReached profile cell lefts (on_from pieces_of text) all here given
-      → (length text ≡ 0 → all ≡ given) × (0 < length text → all ≡ given ++ break_by (length text) end_of_text ∷ [])
-  units-end profile cell lefts text all here given empty ends r =
-      let at = here.at in
-      let none_left : on_from pieces_of text at ≡ [] = ap (on_from pieces_of text) ends ∙ ap pieces_of (drop-length text) ∙ empty in
-      let last : all ≡ given ++ with_break at (verdict_between_in profile (map cell r.taken) []) [] =
-      r.joined ∙ ap (λ ps. given ++ onward profile cell r.taken at ps) none_left in (
-        (λ none.
-            let at_start : at ≡ 0 = ends ∙ none in
-            last ∙ ap (λ taken. given ++ with_break at (verdict_between_in profile (map cell taken) []) []) (r.none at_start)
-            ∙ ap (λ (v : Verdict). given ++ with_break at v []) (start_of_text profile []) ∙ append-nil given),
-        (λ more.
-            let cells = map cell r.taken in
-            let some : 0 < length cells = (let taken = r.some (omega arith) in omega (arith, length-map r.taken cell)) in
-            let must : verdict_between_in profile cells [] ≡ end_of_text =
-            ap (λ l. verdict_between_in profile l []) (sym (take-length cells))
-            ∙ ap (λ l. verdict_between_in profile (take (length cells) cells) l) (sym (drop-length cells))
-            ∙ must_at_length profile cells some in
-            last ∙ ap (λ (v : Verdict). given ++ with_break at v []) must ∙ ap (λ n. given ++ break_by n end_of_text ∷ []) ends),
-      )
 
   -- the block is full
   pub units-full : (profile : Profile) (cell : ℕ → Cell) (lefts : List Left) (text : List A) (to_come : List Break) (here : FillState) (state : State) (block : List RawBreak) (room : ℕ)
@@ -96,7 +67,6 @@ module _ {A : Type 0} (pieces_of : List A → List Decoded) where
           goes_on = λ _. record {
             taken = r.taken;
             knows = subst (λ n. KnowsTaken cell lefts n r.taken) (sym row_same) r.knows;
-            none = λ zero. r.none (sym at_same ∙ zero);
             some = λ more. r.some (omega arith);
             joined = g.left ∙ ap (λ n. onward profile cell r.taken n (on n)) (sym at_same);
           };
@@ -104,18 +74,20 @@ module _ {A : Type 0} (pieces_of : List A → List Decoded) where
         };
       }
 
-  -- all were given, and the text is at its end, which is one of them
+  -- all were given, and the text is at its end
   pub units-ended : (profile : Profile) (cell : ℕ → Cell) (lefts : List Left) (text : List A) (to_come : List Break) (here : FillState) (state : State) (before block : List RawBreak)
       (count room : ℕ)
       → pieces_of [] ≡ [] → UnitsReached profile cell lefts (on_from pieces_of text) to_come here (given_in before here.count) → here.at ≡ length text → state.at ≡ here.at → state.ended ≡ 1
-      → (0 < length text → given_in block count ≡ given_in before here.count ++ break_by (length text) end_of_text ∷ [])
-      → (length text ≡ 0 → given_in block count ≡ given_in before here.count)
+      → ((taken : List ℕ) → KnowsTaken cell lefts here.row taken → (0 < here.row → 0 < length taken)
+      → given_in block count ≡ given_in before here.count ++ closed_end profile cell taken (length text))
       → count ≤ length block → length block ≡ room
       → UnitsGo pieces_of profile cell lefts text to_come state (given_in block count) count room
-  units-ended profile cell lefts text to_come here state before block count room empty r ends at_same ended some none few same_room =
-      let last = units-end profile cell lefts text to_come here (given_in before here.count) empty ends r in
+  units-ended profile cell lefts text to_come here state before block count room empty r ends at_same ended put few same_room =
+      let at = here.at in
+      let none_left : pieces_of (drop at text) ≡ [] = ap (λ n. pieces_of (drop n text)) ends ∙ ap pieces_of (drop-length text) ∙ empty in
       let all : to_come ≡ given_in block count =
-      ⊎_elim (λ (is : length text ≡ 0). last.0 is ∙ sym (none is)) (λ (more : 0 < length text). last.1 more ∙ sym (some more)) (zero-or (length text)) in
+      r.joined ∙ ap (λ ps. given_in before here.count ++ onward profile cell r.taken at ps) none_left
+      ∙ ap (λ n. given_in before here.count ++ closed_end profile cell r.taken n) ends ∙ sym (put r.taken r.knows r.some) in
       let g = gives to_come (given_in block count) [] count room (all ∙ sym (append-nil (given_in block count))) (given-many block count few) (omega arith) (inr refl) in
       record {
         counted = g.counted;

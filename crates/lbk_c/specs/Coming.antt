@@ -8,8 +8,9 @@ use Rattle.lbk_values.specs.declared.profile.Profile.{Profile}
 use Rattle.lbk_steps.specs.FlatTable.{IsFlatBy}
 use Rattle.lbk_bytes.specs.declared.fill_state.FillState.{FillState}
 use Rattle.lbk_c.specs.declared.interface.State.{State}
-use Rattle.lbk_c.specs.State.{profile_numbered}
-use Rattle.lbk_bytes.specs.Reached.{Onward, ReachedBy, onward, onward_all}
+use Rattle.lbk_c.specs.State.{goes_on, plain, profile_numbered}
+use Rattle.lbk_bytes.specs.Bytes.{end_in}
+use Rattle.lbk_bytes.specs.Reached.{Onward, ReachedBy, onward_all, onward_to}
 
 -- where a state stands in a text
 abbrev pub from_state : State → FillState
@@ -45,15 +46,13 @@ pub record GoesBy (from : Onward) (profile : Profile) (cell : ℕ → Cell) (lef
   pub front : given ≡ take count to_come
   pub onto : OntoBy from profile cell lefts text state (drop count to_come)
 
+-- the breaks from a byte on, by what the number of a profile says of the text's end
+abbrev pub onward_in : ℕ → Onward
+onward_in number = onward_to (end_in (goes_on number))
+
 -- the same of breaks
-abbrev pub Onto : Profile → (ℕ → Cell) → List Left → List ℕ → State → List Break → Type 0
-Onto = OntoBy onward
-
 abbrev pub Comes : (ℕ → Cell) → FlatTable → List ℕ → State → List Break → Type 0
-Comes = ComesBy onward
-
-abbrev pub Goes : Profile → (ℕ → Cell) → List Left → List ℕ → List Break → State → List Break → ℕ → ℕ → Type 0
-Goes = GoesBy onward
+Comes cell table text state to_come = ComesBy (onward_in state.profile) cell table text (plain state) to_come
 
 -- the same of all positions
 abbrev pub PositionsCome : (ℕ → Cell) → FlatTable → List ℕ → State → List Break → Type 0

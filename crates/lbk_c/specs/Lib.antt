@@ -3,9 +3,7 @@ pub mod Positions
 pub mod Labels
 pub mod State
 pub mod Faults
-pub mod Cuts
 pub mod Texts
 -- What only carries proofs.
 pub mod Coming
 pub mod UnitsComing
-pub mod Looking

@@ -1,20 +1,20 @@
 //! The breaks of a text, a block at a time.
 
-ghost use Rattle.std.specs.Prelude.{◌≡◌, ℕ, suc, ◌<◌, ◌≤◌, ◌++◌, ◌⊎◌, [], ◌∷◌, List, MatchOption, drop, length, min, take};
+ghost use Rattle.std.specs.Prelude.{◌≡◌, ℕ, Bool, suc, ◌<◌, ◌≤◌, ◌⊎◌, [], List, MatchOption, drop, length, map, min, take};
 ghost use Rattle.std.specs.Str.{IsUtf8, chars};
 ghost use Rattle.lbk_rules.specs.declared.breaks.Break.{Break};
 ghost use Rattle.lbk_rules.specs.declared.cells.Cell.{Cell};
 ghost use Rattle.lbk_rules.specs.declared.facts.Left.{Left};
 ghost use Rattle.lbk_values.specs.declared.profile.Profile.{Profile};
-ghost use Rattle.lbk_rules.specs.Breaks.{break_by, breaks};
-ghost use Rattle.lbk_rules.specs.Ends.{end_of_text};
+ghost use Rattle.lbk_rules.specs.Breaks.{breaks};
+ghost use Rattle.lbk_rules.specs.Joins.{moved};
 ghost use Rattle.lbk_steps.specs.FlatTable.{IsFlatBy, IsFlatOf};
-ghost use Rattle.lbk_bytes.specs.Bytes.{breaks_of_bytes};
+ghost use Rattle.lbk_bytes.specs.Bytes.{breaks_of_bytes, breaks_of_part};
 ghost use Rattle.lbk_bytes.specs.Order.{AreInOrder};
-ghost use Rattle.lbk_bytes.specs.Reached.{IsInOrder, Reached};
-ghost use Rattle.lbk_c.specs.Coming.{Comes, Goes, IsGoing, IsSpent, from_state};
+ghost use Rattle.lbk_bytes.specs.Reached.{ReachedBy};
+ghost use Rattle.lbk_c.specs.Coming.{Comes, GoesBy, IsGoing, IsSpent, from_state, onward_in};
 ghost use Rattle.lbk_bytes.specs.Shown.{given_in};
-ghost use Rattle.lbk_c.specs.State.{profile_numbered, start_in};
+ghost use Rattle.lbk_c.specs.State.{goes_on, part_start, plain, profile_numbered, start_in};
 
 use crate::interface::State;
 use lbk_bytes::{FillState, RawBreak, fill, profile_numbered, put_end};
@@ -45,6 +45,11 @@ pub extern "C" fn lbk_breaks(
     ensures at_end { state.old.ended ≡ 0 → 0 < state.new.ended → state.new.at ≡ length text.now }
     ensures start { (cell : ℕ → Cell) (profile : Profile) → IsFlatOf table.now cell → state.old ≡ start_in profile
         → Comes cell table.now text.now state.old (breaks_of_bytes profile cell text.now) }
+    // A part of the text that begins at any of its bytes, and after which the text may go on. Cut where lbk_cut says, the breaks of
+    // the parts are those of the text, one after another.
+    ensures part { (cell : ℕ → Cell) (profile : Profile) (goes_on : Bool) (at : ℕ) → IsFlatOf table.now cell → at ≤ length text.now
+        → state.old ≡ part_start goes_on profile at
+        → Comes cell table.now text.now state.old (map (moved at) (breaks_of_part goes_on profile cell (drop at text.now))) }
     ensures count { (cell : ℕ → Cell) (to_come : List Break) → Comes cell table.now text.now state.old to_come
         → result ≡ min (length out.old) (length to_come) }
     ensures front { (cell : ℕ → Cell) (to_come : List Break) → Comes cell table.now text.now state.old to_come
@@ -55,13 +60,32 @@ pub extern "C" fn lbk_breaks(
         → breaks_of_bytes profile cell text.now ≡ breaks profile cell (chars text.now) }
     ensures ended { 0 < state.old.ended → (result ≡ 0) × (state.new ≡ state.old) }
     ensures past { length text.now < state.old.at → (result ≡ 0) × (state.new ≡ state.old) }
-    ensures unknown { 1 < state.old.profile → (result ≡ 0) × (state.new ≡ state.old) }
+    ensures unknown { 3 < state.old.profile → (result ≡ 0) × (state.new ≡ state.old) }
     ensures no_room { length out.old ≡ 0 → (result ≡ 0) × (state.new ≡ state.old) }
 {
-    let Some(profile) = going_profile(state, text.len()) else {
+    let Some(profile) = going_profile(&plain(state), text.len()) else {
         return 0;
     };
     go_on(table, profile, state, text, out)
+}
+
+/// Whether the number of a profile says, too, that the text goes on after its end.
+fn goes_on(number: u8) -> bool
+    ensures { result ≡ goes_on number }
+{
+    number == 2 || number == 3
+}
+
+/// The state with only the profile in its number.
+fn plain(state: &State) -> State
+    ensures { result ≡ plain state.now }
+{
+    let profile = if goes_on(state.profile) {
+        state.profile - 2
+    } else {
+        state.profile
+    };
+    State { profile, ..*state }
 }
 
 /// The profile of a state from which breaks may come of a text of this length: none where the state names no profile, has
@@ -87,7 +111,7 @@ fn go_on(
     text: &[u8],
     out: &mut [RawBreak],
 ) -> usize
-    requires { IsGoing profile state.old (length text.now) }
+    requires { IsGoing profile (plain state.old) (length text.now) }
     ensures within { result ≤ length out.old }
     ensures profile_same { state.new.profile ≡ state.old.profile }
     ensures in_order { AreInOrder out.new result state.old.at (suc (length text.now)) }
@@ -96,8 +120,8 @@ fn go_on(
     ensures onward { (state.old.at ≤ state.new.at) × (state.new.at ≤ length text.now) }
     ensures at_end { 0 < state.new.ended → state.new.at ≡ length text.now }
     ensures goes { (cell : ℕ → Cell) (lefts : List Left) (to_come : List Break) → IsFlatBy lefts table.now cell
-        → Reached profile cell lefts text.now to_come (from_state state.old) []
-        → Goes profile cell lefts text.now to_come state.new (given_in out.new result) result (length out.old) }
+        → ReachedBy (onward_in state.old.profile) profile cell lefts text.now to_come (from_state (plain state.old)) []
+        → GoesBy (onward_in state.old.profile) profile cell lefts text.now to_come (plain state.new) (given_in out.new result) result (length out.old) }
     ensures no_room { length out.old ≡ 0 → (result ≡ 0) × (state.new ≡ state.old) }
 {
     let start = FillState {
@@ -112,5 +136,6 @@ fn go_on(
         return here.count;
     }
     state.ended = 1;
-    put_end(out, here.count, text.len())
+    let goes_on = goes_on(state.profile);
+    put_end(table, goes_on, here.row, out, here.count, text.len())
 }

@@ -1,15 +1,10 @@
-//! What holds of states and of texts that are cut, over the definitions alone. Each law is the contract of a function that does
-//! nothing.
+//! What holds of states, over the definitions alone: the contract of a function that does nothing.
 
-ghost use Rattle.std.specs.Prelude.{◌≡◌, ℕ, ◌-◌, ◌<◌, ◌≤◌, List, drop, length};
-ghost use Rattle.std.specs.List.{flat_map};
+ghost use Rattle.std.specs.Prelude.{◌≡◌, ℕ, ◌≤◌, List, drop, length};
 ghost use Rattle.lbk_rules.specs.declared.breaks.Break.{Break};
 ghost use Rattle.lbk_rules.specs.declared.cells.Cell.{Cell};
-ghost use Rattle.lbk_values.specs.declared.profile.Profile.{Profile};
 ghost use Rattle.lbk_steps.specs.declared.flat_table.FlatTable.{FlatTable};
 ghost use Rattle.lbk_c.specs.declared.interface.State.{State};
-ghost use Rattle.lbk_bytes.specs.Bytes.{breaks_of_bytes};
-ghost use Rattle.lbk_c.specs.Cuts.{AreByteParts, EndsBefore, JoinsAt, breaks_of_parts};
 ghost use Rattle.lbk_c.specs.Coming.{Comes};
 
 /// What comes from a state on hangs on the state and on the bytes of the text from its place on. Whatever stands before the
@@ -18,17 +13,4 @@ pub fn only_bytes_from_a_state_on()
     ensures { (cell : ℕ → Cell) (table : FlatTable) (text other : List ℕ) (state : State) (to_come : List Break)
         → Comes cell table text state to_come → state.at ≤ length other → drop state.at other ≡ drop state.at text
         → Comes cell table other state to_come }
-{}
-
-/// A text of any bytes may be decided in parts, cut where `lbk_cut` cuts it (UAX #14, section 6.1, rules LB3 to LB5).
-pub fn joined_parts()
-    // In two.
-    ensures two { (profile : Profile) (cell : ℕ → Cell) (text : List ℕ) (place : ℕ) → place ≤ length text → EndsBefore cell text place
-        → JoinsAt profile cell text place }
-    // A cut of the whole text cuts the part that it lies in.
-    ensures later { (cell : ℕ → Cell) (text : List ℕ) (first second : ℕ) → first < second → second ≤ length text
-        → EndsBefore cell text first → EndsBefore cell text second → EndsBefore cell (drop first text) (second - first) }
-    // So in any number.
-    ensures many { (profile : Profile) (cell : ℕ → Cell) (parts : List (List ℕ)) → AreByteParts cell parts
-        → breaks_of_bytes profile cell (flat_map (λ part. part) parts) ≡ breaks_of_parts profile cell 0 parts }
 {}

@@ -103,9 +103,9 @@ fn go_on(
         return here.count;
     }
     state.ended = 1;
-    let len = text.len();
-    let code = if len == 0 { START } else { END };
-    put(out, here.count, len, code)
+    let row = here.row;
+    let code = if row == 0 { START } else { END };
+    put(out, here.count, text.len(), code)
 }
 
 /// Goes on until the block is full or the text ends, and writes the positions before the scalars taken after those in the

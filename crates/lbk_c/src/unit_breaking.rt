@@ -173,5 +173,5 @@ fn go_on<U: Unit>(
         return here.count;
     }
     state.ended = 1;
-    put_end(out, here.count, text.len())
+    put_end(table, false, here.row, out, here.count, text.len())
 }

@@ -15,7 +15,7 @@ use Rattle.lbk_bytes.specs.declared.fill_state.FillState.{FillState}
 use Rattle.lbk_streams.specs.declared.stream.Feeding.{Feeding}
 use Rattle.lbk_streams.specs.declared.stream.Place.{Place}
 use Rattle.lbk_bytes.specs.Bytes.{with_break}
-use Rattle.lbk_bytes.specs.Reached.{Reached, onward, scalars_of}
+use Rattle.lbk_bytes.specs.Reached.{ReachedBy, onward, scalars_of}
 use Rattle.lbk_streams.specs.Stands.{Feeds, Stands, front_of, moved}
 use Rattle.lbk_streams.specs.Streams.{late_break}
 use Rattle.lbk_streams.proofs.FeedLemmas.{none-cut}
@@ -53,8 +53,8 @@ onward-bytes profile cell taken at by bytes fits =
 pub Stands-skim : (profile : Profile) (cell : ℕ → Cell) (lefts : List Left) (piece more : List ℕ) (all given front : List Break) (place next : Place) (from : ℕ) (end : FillState)
     → from ≤ end.at → end.at ≤ length piece → place.held_code ≡ 0 → 0 < from → from ≤ place.at
     → next.at ≡ place.at + (end.at - from) → next.row ≡ end.row → next.held_code ≡ 0
-    → ((all : List Break) → Reached profile cell lefts (piece ++ more) all (record { count = 0; row = place.row; at = from }) []
-    → Reached profile cell lefts (piece ++ more) all end given)
+    → ((all : List Break) → ReachedBy onward profile cell lefts (piece ++ more) all (record { count = 0; row = place.row; at = from }) []
+    → ReachedBy onward profile cell lefts (piece ++ more) all end given)
     → front ≡ map (moved (place.at - from)) given
     → Stands profile cell lefts place (drop from piece ++ more) all []
     → Stands profile cell lefts next (drop end.at piece ++ more) all front
@@ -72,15 +72,13 @@ Stands-skim profile cell lefts piece more all given front place next from end on
     let r = reached (onward profile cell s.taken from (pieces (drop from (piece ++ more)))) (record {
       taken = s.taken;
       knows = s.knows;
-      none = λ zero. absurd (omega arith);
-      some = λ _. s.some (omega arith);
+      some = s.some;
       joined = refl;
     }) in
     record {
       taken = r.taken;
       knows = subst (λ n. KnowsTaken cell lefts n r.taken) (sym row_same) r.knows;
-      none = λ zero. absurd (omega arith);
-      some = λ _. r.some (omega arith);
+      some = λ more. r.some (omega arith);
       fits = omega arith;
       waits = λ waits. absurd (omega arith);
       joined =
@@ -105,12 +103,11 @@ pub Stands-behind : (profile : Profile) (cell : ℕ → Cell) (lefts : List Left
     → Stands profile cell lefts place bytes all given → Stands profile cell lefts next rest all after
 Stands-behind profile cell lefts place next bytes rest all given front after step grown s =
     let coming = late_break cell place bytes ++ onward profile cell s.taken place.at (pieces bytes) in
-    let on = step coming (record { taken = s.taken; knows = s.knows; none = s.none; some = s.some; fits = s.fits; waits = s.waits; joined = refl }) in
+    let on = step coming (record { taken = s.taken; knows = s.knows; some = s.some; fits = s.fits; waits = s.waits; joined = refl }) in
     let more = late_break cell next rest ++ onward profile cell on.taken next.at (pieces rest) in
     record {
       taken = on.taken;
       knows = on.knows;
-      none = on.none;
       some = on.some;
       fits = on.fits;
       waits = on.waits;

@@ -139,7 +139,6 @@ Stands-settle profile cell lefts place bytes all given after c closes some is_ch
     record {
       taken = s.taken;
       knows = s.knows;
-      none = s.none;
       some = s.some;
       fits = s.fits;
       waits = λ more. absurd (omega arith);
@@ -184,7 +183,6 @@ Stands-join profile cell lefts place next bytes all given c size some is_char is
     record {
       taken = s.taken ++ c ∷ [];
       knows = knows s.taken s.knows;
-      none = λ zero. absurd (omega arith);
       some = λ _. omega (arith, length-append s.taken (c ∷ []));
       fits = (let fits = s.fits in omega arith);
       waits = λ _. record {
@@ -232,7 +230,6 @@ Stands-on profile cell lefts place next bytes all given front after c size some 
     record {
       taken = s.taken ++ c ∷ [];
       knows = knows s.taken s.knows;
-      none = λ zero. absurd (omega arith);
       some = λ _. omega (arith, length-append s.taken (c ∷ []));
       fits = (let fits = s.fits in omega arith);
       waits = waits s.taken s.knows (omega arith);

@@ -2,7 +2,7 @@
 use Rattle.std.proofs.Common.{◌≡◌, ℕ, zero, suc, ◌==◌, ◌||◌, ◌+◌, ◌^◌, ◌<◌, ◌≤◌, true, false, cond, ◌⊎◌, inl, inr, ⊎_elim, Some, None, List, [], ◌∷◌, ◌++◌, length, map, drop, take, refl, sym, ap, subst, ◌∙◌, arith}
 use Rattle.std.specs.List.{AllByRecursion}
 use Rattle.std.proofs.lemmas.Bool.{cases_lt}
-use Rattle.std.proofs.lemmas.List.{append-nil, length-map, take_at}
+use Rattle.std.proofs.lemmas.List.{take_at}
 use Rattle.std.proofs.Math.Seq.{drop-append_seam, drop-length, take-length}
 use Rattle.bstr.specs.Utf8.{Decoded, or_replacement, pieces}
 use Rattle.bstr.proofs.lemmas.PieceLemmas.{lossy_chars-nil, pieces-nil}
@@ -19,19 +19,17 @@ use Rattle.lbk_rules.specs.Sides.{leaves_closed}
 use Rattle.lbk_rules.specs.Units.{units_after}
 use Rattle.lbk_rules.specs.Verdict.{verdict_between_in}
 use Rattle.lbk_rules.proofs.ParagraphLemmas.{or-true}
-use Rattle.lbk_rules.proofs.EndLemmas.{must_at_length, start_of_text}
 use Rattle.lbk_steps.specs.declared.flat_table.FlatTable.{FlatTable}
-use Rattle.lbk_steps.specs.FlatTable.{IsFlatBy, IsFlatOf}
+use Rattle.lbk_steps.specs.FlatTable.{IsFlatBy, IsFlatOf, KnowsTaken}
 use Rattle.lbk_streams.specs.declared.stream.Feeding.{Feeding}
 use Rattle.lbk_streams.specs.declared.stream.Place.{Place}
 use Rattle.lbk_streams.specs.declared.stream.Stream.{Stream}
-use Rattle.lbk_bytes.specs.Bytes.{breaks_of_bytes, with_break}
+use Rattle.lbk_bytes.specs.Bytes.{breaks_of_bytes, closed_end, with_break}
 use Rattle.lbk_bytes.specs.Reached.{onward, scalars_of}
 use Rattle.lbk_bytes.specs.Profiles.{profile_numbered}
 use Rattle.lbk_streams.specs.Stands.{Feeds, Stands, Streams, front_of}
 use Rattle.lbk_bytes.specs.Open.{could_go_on}
 use Rattle.lbk_streams.specs.Streams.{AreUnsettled, cut_bytes, late_break, place_of, stream_start}
-use Rattle.lbk_bytes.proofs.BlockLemmas.{zero-or}
 use Rattle.lbk_bytes.proofs.ReachedLemmas.{onward-start, profile-same}
 
 -- the start of a stream
@@ -46,7 +44,6 @@ Streams-start cell table profile text stream flat short starts =
       goes_on = λ _. record {
         taken = [];
         knows = (flat.1.begins, flat.1.start);
-        none = λ _. refl;
         some = λ more. absurd (omega arith);
         fits = omega arith;
         waits = λ more. absurd (omega arith);
@@ -65,7 +62,6 @@ Stands-rest profile cell lefts place bytes all given count many s =
       record {
         taken = s.taken;
         knows = s.knows;
-        none = s.none;
         some = s.some;
         fits = s.fits;
         waits = s.waits;
@@ -110,28 +106,15 @@ late-end cell place =
     ap (λ cs. cond (place.held_code == 0 || leaves_closed (units_after false (map normal (map cell cs)))) [] late) lossy_chars-nil
     ∙ ap (λ b. cond b [] late) (or-true (place.held_code == 0))
 
--- where nothing is left, the end comes, if there was anything
+-- where nothing is left, the end comes
 pub Stands-end : (profile : Profile) (cell : ℕ → Cell) (lefts : List Left) (place : Place) (bytes : List ℕ) (all given : List Break)
-    → bytes ≡ [] → Stands profile cell lefts place bytes all given
-    → (place.at ≡ 0 → all ≡ given) × (0 < place.at → all ≡ given ++ break_by place.at end_of_text ∷ [])
+    → bytes ≡ [] → (s : Stands profile cell lefts place bytes all given) → all ≡ given ++ closed_end profile cell s.taken place.at
 Stands-end profile cell lefts place bytes all given empty s =
     let at = place.at in
-    let cells = map cell s.taken in
     let none_left : pieces bytes ≡ [] = ap pieces empty ∙ pieces-nil in
     let none_late : late_break cell place bytes ≡ [] = ap (late_break cell place) empty ∙ late-end cell place in
-    let last : all ≡ given ++ with_break at (verdict_between_in profile cells []) [] =
     s.joined ∙ ap (λ l. given ++ (l ++ onward profile cell s.taken at (pieces bytes))) none_late
-    ∙ ap (λ ps. given ++ onward profile cell s.taken at ps) none_left in (
-      (λ zero. last ∙ ap (λ taken. given ++ with_break at (verdict_between_in profile (map cell taken) []) []) (s.none zero)
-          ∙ ap (λ (v : Verdict). given ++ with_break at v []) (start_of_text profile []) ∙ append-nil given),
-      (λ more.
-          let some : 0 < length cells = (let taken = s.some more in omega (arith, length-map s.taken cell)) in
-          let must : verdict_between_in profile cells [] ≡ end_of_text =
-          ap (λ l. verdict_between_in profile l []) (sym (take-length cells))
-          ∙ ap (λ l. verdict_between_in profile (take (length cells) cells) l) (sym (drop-length cells))
-          ∙ must_at_length profile cells some in
-          last ∙ ap (λ (v : Verdict). given ++ with_break at v []) must),
-    )
+    ∙ ap (λ ps. given ++ onward profile cell s.taken at ps) none_left
 
 -- Between the calls
 
@@ -202,14 +185,14 @@ Feeds-unsettled profile cell lefts base new piece more to_come given here count 
 -- after the last piece, all were given
 pub Feeds-ended : (profile : Profile) (cell : ℕ → Cell) (lefts : List Left) (base : ℕ) (piece : List ℕ) (to_come given after : List Break) (here : Feeding)
     → here.cut.size ≡ 0 → here.taken ≡ length piece
-    → (0 < here.place.at → after ≡ given ++ break_by here.place.at end_of_text ∷ []) → (here.place.at ≡ 0 → after ≡ given)
+    → ((taken : List ℕ) → KnowsTaken cell lefts here.place.row taken → (0 < here.place.row → 0 < length taken)
+    → after ≡ given ++ closed_end profile cell taken here.place.at)
     → Feeds profile cell lefts base piece [] here to_come given → to_come ≡ after
-Feeds-ended profile cell lefts base piece to_come given after here none all some empty f =
+Feeds-ended profile cell lefts base piece to_come given after here none all end f =
     let bytes = front_of here.cut ++ (drop here.taken piece ++ []) in
     let nothing : bytes ≡ [] =
     ap (λ n. take n here.cut.bytes ++ (drop here.taken piece ++ [])) none ∙ ap (λ n. drop n piece ++ []) all ∙ ap (λ l. l ++ []) (drop-length piece) in
-    let ends = Stands-end profile cell lefts here.place bytes to_come given nothing f.stands in
-    ⊎_elim (λ (zero : here.place.at ≡ 0). ends.0 zero ∙ sym (empty zero)) (λ (more : 0 < here.place.at). ends.1 more ∙ sym (some more)) (zero-or here.place.at)
+    Stands-end profile cell lefts here.place bytes to_come given nothing f.stands ∙ sym (end f.stands.taken f.stands.knows f.stands.some)
 
 pub Streams-end : (profile : Profile) (cell : ℕ → Cell) (table : FlatTable) (lefts : List Left) (old new : Stream) (bytes : List ℕ) (to_come after : List Break) (count : ℕ)
     → profile_numbered old.profile ≡ Some profile → IsFlatBy lefts table cell → new.profile ≡ old.profile → new.ended ≡ 1
@@ -256,7 +239,7 @@ pub record IsClosed (cell : ℕ → Cell) (table : FlatTable) (new : Stream) (by
   pub end : count < room → count ≡ length to_come
 
 -- how the call ends: with a full block, or with the end of the stream
-pub record Closes (old new : Stream) (done : Feeding) (piece : List ℕ) (given after : List Break) (count room : ℕ) : Type 0 where
+pub record Closes (profile : Profile) (cell : ℕ → Cell) (lefts : List Left) (old new : Stream) (done : Feeding) (piece : List ℕ) (given after : List Break) (count room : ℕ) : Type 0 where
   pub within : done.count ≤ room
   pub many : length given ≡ done.count
   pub counted : length after ≡ count
@@ -266,19 +249,19 @@ pub record Closes (old new : Stream) (done : Feeding) (piece : List ℕ) (given 
   pub taken : done.count < room → done.taken ≡ length piece
   pub cut : done.count < room → done.cut.size ≡ 0
   pub ended : done.count < room → new.ended ≡ 1
-  pub some : done.count < room → 0 < done.place.at → after ≡ given ++ break_by done.place.at end_of_text ∷ []
-  pub none : done.count < room → done.place.at ≡ 0 → after ≡ given
+  pub end : done.count < room → (taken : List ℕ) → KnowsTaken cell lefts done.place.row taken → (0 < done.place.row → 0 < length taken)
+      → after ≡ given ++ closed_end profile cell taken done.place.at
 
 pub Feeds-closed : (profile : Profile) (cell : ℕ → Cell) (table : FlatTable) (lefts : List Left) (base : ℕ) (old new : Stream) (piece : List ℕ) (to_come given after : List Break)
     (done : Feeding) (count room : ℕ)
-    → profile_numbered old.profile ≡ Some profile → old.ended ≡ 0 → IsFlatBy lefts table cell → Closes old new done piece given after count room
+    → profile_numbered old.profile ≡ Some profile → old.ended ≡ 0 → IsFlatBy lefts table cell → Closes profile cell lefts old new done piece given after count room
     → Feeds profile cell lefts base piece [] done to_come given
     → IsClosed cell table new (drop done.taken piece ++ []) to_come after count room
 Feeds-closed profile cell table lefts base old new piece to_come given after done count room named unended flat x f =
     ⊎_elim
     (λ (free : done.count < room).
     let all : to_come ≡ after =
-    Feeds-ended profile cell lefts base piece to_come given after done (x.cut free) (x.taken free) (x.some free) (x.none free) f in
+    Feeds-ended profile cell lefts base piece to_come given after done (x.cut free) (x.taken free) (x.end free) f in
     record {
       front = sym (ap (take count) all ∙ ap (λ n. take n after) (sym x.counted) ∙ take-length after);
       rest = Streams-end profile cell table lefts old new (drop done.taken piece ++ []) to_come after count named flat x.kept (x.ended free) all x.counted;

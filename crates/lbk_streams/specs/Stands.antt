@@ -37,8 +37,7 @@ pub record Waits (profile : Profile) (cell : ℕ → Cell) (taken : List ℕ) (p
 pub record Stands (profile : Profile) (cell : ℕ → Cell) (lefts : List Left) (place : Place) (bytes : List ℕ) (all given : List Break) : Type 0 where
   pub taken : List ℕ
   pub knows : KnowsTaken cell lefts place.row taken
-  pub none : place.at ≡ 0 → taken ≡ []
-  pub some : 0 < place.at → 0 < length taken
+  pub some : 0 < place.row → 0 < length taken
   pub fits : place.at + length bytes < 2 ^ 64
   pub waits : 0 < place.held_code → Waits profile cell taken place
   pub joined : all ≡ given ++ (late_break cell place bytes ++ onward profile cell taken place.at (pieces bytes))

@@ -1,14 +1,12 @@
 //! A text that comes in pieces.
 
-ghost use Rattle.std.specs.Prelude.{◌≡◌, ◌⊎◌, ℕ, ◌+◌, ◌^◌, ◌<◌, ◌≤◌, ◌++◌, true, false, [], ◌∷◌, List, MatchOption, None, Some, drop, length, take};
+ghost use Rattle.std.specs.Prelude.{◌≡◌, ◌⊎◌, ℕ, ◌+◌, ◌^◌, ◌<◌, ◌≤◌, ◌++◌, true, false, [], List, MatchOption, None, Some, drop, length, take};
 ghost use Rattle.lbk_rules.specs.declared.breaks.Break.{Break};
 ghost use Rattle.lbk_rules.specs.declared.cells.Cell.{Cell};
 ghost use Rattle.lbk_rules.specs.declared.facts.Left.{Left};
 ghost use Rattle.lbk_values.specs.declared.profile.Profile.{Profile};
-ghost use Rattle.lbk_rules.specs.Breaks.{break_by};
-ghost use Rattle.lbk_rules.specs.Ends.{end_of_text};
-ghost use Rattle.lbk_steps.specs.FlatTable.{IsFlatBy, IsFlatOf};
-ghost use Rattle.lbk_bytes.specs.Bytes.{breaks_of_bytes};
+ghost use Rattle.lbk_steps.specs.FlatTable.{IsFlatBy, IsFlatOf, KnowsTaken};
+ghost use Rattle.lbk_bytes.specs.Bytes.{breaks_of_bytes, closed_end};
 ghost use Rattle.lbk_bytes.specs.Shown.{given_in};
 ghost use Rattle.lbk_bytes.specs.Profiles.{profile_numbered};
 ghost use Rattle.lbk_streams.specs.Stands.{Feeds, Gives, Streams, front_of};
@@ -92,7 +90,7 @@ fn go_with(
     let here = take_piece(table, profile, start, piece, out);
     if last {
         let done = finish(table, profile, here, out);
-        return close(stream, done, out);
+        return close(table, stream, done, out);
     }
     keep(stream, here);
     Fed {
@@ -166,15 +164,16 @@ fn finish(table: &FlatTable, profile: Profile, start: Feeding, out: &mut [RawBre
 }
 
 /// Writes how far a call has come into the stream, and the break at its end, where the block has room for it.
-fn close(stream: &mut Stream, here: Feeding, out: &mut [RawBreak]) -> Fed
+fn close(table: &FlatTable, stream: &mut Stream, here: Feeding, out: &mut [RawBreak]) -> Fed
     requires { (here.cut.size ≤ 4) × (here.count ≤ length out.old) }
     ensures within { (result.count ≤ length out.old) × (result.taken ≡ here.taken) }
     ensures profile_same { stream.new.profile ≡ stream.old.profile }
     ensures full { here.count ≡ length out.old → (result.count ≡ here.count) × (out.new ≡ out.old) × (place_of stream.new ≡ here.place)
         × (cut_bytes stream.new ≡ front_of here.cut) × (stream.new.ended ≡ stream.old.ended) }
     ensures ended { here.count < length out.old → stream.new.ended ≡ 1 }
-    ensures some { here.count < length out.old → 0 < here.place.at → given_in out.new result.count ≡ given_in out.old here.count ++ break_by here.place.at end_of_text ∷ [] }
-    ensures none { here.count < length out.old → here.place.at ≡ 0 → given_in out.new result.count ≡ given_in out.old here.count }
+    ensures end { here.count < length out.old → (profile : Profile) (cell : ℕ → Cell) (lefts : List Left) (taken : List ℕ) → IsFlatBy lefts table.now cell
+        → KnowsTaken cell lefts here.place.row taken → (0 < here.place.row → 0 < length taken)
+        → given_in out.new result.count ≡ given_in out.old here.count ++ closed_end profile cell taken here.place.at }
 {
     keep(stream, here);
     if here.count == out.len() {
@@ -185,7 +184,8 @@ fn close(stream: &mut Stream, here: Feeding, out: &mut [RawBreak]) -> Fed
     }
     stream.ended = 1;
     stream.held_code = 0;
-    let count = put_end(out, here.count, here.place.at as usize);
+    let row = here.place.row as usize;
+    let count = put_end(table, false, row, out, here.count, here.place.at as usize);
     Fed {
         taken: here.taken,
         count,

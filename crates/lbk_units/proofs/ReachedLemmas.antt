@@ -52,7 +52,6 @@ reached-step profile cell lefts on all here there given after p verdict r begins
     record {
       taken = taken;
       knows = knows;
-      none = λ zero. absurd (omega arith);
       some = λ _. omega arith;
       joined =
           r.joined

@@ -31,6 +31,5 @@ pub record IsUnitDecided (profile : Profile) (cell : ℕ → Cell) (lefts : List
 pub record UnitsReached (profile : Profile) (cell : ℕ → Cell) (lefts : List Left) (on : ℕ → List Decoded) (all : List Break) (here : FillState) (given : List Break) : Type 0 where
   pub taken : List ℕ
   pub knows : KnowsTaken cell lefts here.row taken
-  pub none : here.at ≡ 0 → taken ≡ []
-  pub some : 0 < here.at → 0 < length taken
+  pub some : 0 < here.row → 0 < length taken
   pub joined : all ≡ given ++ onward profile cell taken here.at (on here.at)

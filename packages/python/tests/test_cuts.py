@@ -14,9 +14,11 @@ OTHER = (b"000A;AL\n000D;CR\n0061;BK\n0062;AL\n", b"", b"", b"")
 
 
 def joined(table, text, cut, profile):
-    """The breaks of two parts, with the place of each in the text, and the rule left out at the cut."""
-    first, second = (samples.found(table, part, profile) for part in (text[:cut], text[cut:]))
-    return [(at, kind, None if at == cut else rule) for at, kind, rule in first] + [(at + cut, kind, rule) for at, kind, rule in second]
+    """The breaks of two parts, with the place of each in the text."""
+    first, second = (
+        table.break_columns(part, profile, goes_on=goes_on) for part, goes_on in ((text[:cut], True), (text[cut:], False))
+    )
+    return [*zip(*first)] + [(at + cut, kind, rule) for at, kind, rule in zip(*second)]
 
 
 class Cuts(unittest.TestCase):
@@ -50,8 +52,13 @@ class Cuts(unittest.TestCase):
             self.assertEqual(table.cut(text, at), min(one for one in safe if one >= within))
             self.assertEqual(table.cut_before(text, at), max(one for one in safe if one <= within))
         for cut in ends:
-            wanted = [(at, kind, None if at == cut else rule) for at, kind, rule in whole]
-            self.assertEqual(joined(table, text, cut, profile), wanted)
+            self.assertEqual(joined(table, text, cut, profile), whole)
+
+    def test_a_part_ends_where_a_line_must(self):
+        table = samples.table()
+        for part, ends in (("a", []), ("a ", []), ("a\r", [(2, 2, 40)]), ("a\n", [(2, 2, 40)]), ("", [])):
+            self.assertEqual([*zip(*table.break_columns(part, goes_on=True))], ends)
+        self.assertRaises(TypeError, table.break_columns, "a", 1, True)
 
     def test_what_is_no_place_or_no_text_is_refused(self):
         for call in (samples.table().cut, samples.table().cut_before):

@@ -95,7 +95,11 @@ pub struct Breaks<'a>(Found<'a, ByBreaks>);
 impl<'a> Breaks<'a> {
     #[inline]
     pub(crate) fn new(table: &'a Table, profile: Profile, text: &'a [u8]) -> Breaks<'a> {
-        Breaks(Found::new(table, profile, text))
+        Breaks(Found::new(table, profile as u8, text))
+    }
+
+    pub(crate) fn of_part(table: &'a Table, profile: Profile, part: &'a [u8]) -> Breaks<'a> {
+        Breaks(Found::new(table, profile as u8 + calls::GOES_ON, part))
     }
 }
 
@@ -152,7 +156,7 @@ pub struct Positions<'a>(Found<'a, ByPositions>);
 impl<'a> Positions<'a> {
     #[inline]
     pub(crate) fn new(table: &'a Table, profile: Profile, text: &'a [u8]) -> Positions<'a> {
-        Positions(Found::new(table, profile, text))
+        Positions(Found::new(table, profile as u8, text))
     }
 }
 

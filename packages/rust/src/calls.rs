@@ -11,6 +11,9 @@ pub const NO: u8 = 0;
 /// `LBK_MUST`
 pub const MUST: u8 = 2;
 
+/// `LBK_GOES_ON`
+pub const GOES_ON: u8 = 2;
+
 /// Plain numbers, whose layout is none of this crate's business.
 #[repr(C)]
 pub struct Table([u64; TABLE_WORDS]);

@@ -4,7 +4,6 @@ use core::iter::FusedIterator;
 use core::marker::PhantomData;
 use core::mem::MaybeUninit;
 
-use crate::breaks::Profile;
 use crate::calls;
 use crate::table::Table;
 
@@ -36,11 +35,11 @@ pub struct Found<'a, C> {
 
 impl<'a, C: Call> Found<'a, C> {
     #[inline]
-    pub fn new(table: &'a Table, profile: Profile, text: &'a [u8]) -> Found<'a, C> {
+    pub fn new(table: &'a Table, profile: u8, text: &'a [u8]) -> Found<'a, C> {
         let state = calls::State {
             at: 0,
             row: 0,
-            profile: profile as u8,
+            profile,
             ended: 0,
         };
         Found {

@@ -107,6 +107,12 @@ impl Table {
         Breaks::new(self, profile, text)
     }
 
+    /// The breaks of a part of a text that goes on after it, in a profile and in their order. The part's end is one only if a line
+    /// must end there whatever follows but LF after CR, and by rule 4 or 5.
+    pub fn breaks_of_part<'a>(&'a self, profile: Profile, part: &'a [u8]) -> Breaks<'a> {
+        Breaks::of_part(self, profile, part)
+    }
+
     /// The segments of a text between its breaks, in the first profile and in their order. Joined they are the text.
     pub fn segments<'a>(&'a self, text: &'a str) -> Segments<'a> {
         self.segments_in(Profile::First, text)
@@ -131,8 +137,8 @@ impl Table {
     /// The first byte at or after `at` where a part of the text may begin: one before which a line must end, or the text's length
     /// where there is none. In a `str` it is a boundary of characters.
     ///
-    /// The breaks of the parts of a text are those of the text, if the places of each part are moved by the bytes before it. Only the
-    /// rule of a part's last break differs: where another part follows it is 4 or 5 in the text, and 3 in the part.
+    /// The breaks of the parts, by [`Table::breaks_of_part`] for all but the last, are those of the text, if the places of each part
+    /// are moved by the bytes before it.
     pub fn cut(&self, text: &[u8], at: usize) -> usize {
         // SAFETY: the text is as long as is said.
         unsafe { calls::lbk_cut(&self.0, text.as_ptr(), text.len(), at) }

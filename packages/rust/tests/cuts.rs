@@ -1,6 +1,6 @@
 //! Where a text may be cut, and positions that are no breaks.
 
-use lbk::{Files, Kind, Profile, Table};
+use lbk::{Break, Files, Kind, Profile, Table};
 
 /// By `line_break`, and CR and LF are line ends in it or not.
 fn table(line_break: &[u8]) -> Box<Table> {
@@ -38,21 +38,40 @@ fn the_breaks_of_the_parts_are_those_of_the_text() {
     let table = table(USUAL);
     let text = "ab c\r\n一d\n\r\n a\r".repeat(20).into_bytes();
     for profile in [Profile::First, Profile::Second] {
-        let whole: Vec<(usize, Kind)> = table
-            .breaks_in(profile, &text)
-            .map(|found| (found.at, found.kind))
-            .collect();
+        let whole: Vec<Break> = table.breaks_in(profile, &text).collect();
         for size in 1..20 {
             let (mut joined, mut from) = (Vec::new(), 0);
             while from < text.len() {
                 let to = table.cut(&text, from + size);
-                let part = table.breaks_in(profile, &text[from..to]);
-                joined.extend(part.map(|found| (from + found.at, found.kind)));
+                let part = if to < text.len() {
+                    table.breaks_of_part(profile, &text[from..to])
+                } else {
+                    table.breaks_in(profile, &text[from..])
+                };
+                joined.extend(part.map(|it| Break {
+                    at: from + it.at,
+                    ..it
+                }));
                 from = to;
             }
             assert_eq!(joined, whole);
         }
     }
+}
+
+#[test]
+fn a_part_ends_where_a_line_must() {
+    let table = table(USUAL);
+    let end = |part: &[u8]| {
+        let last = table.breaks_of_part(Profile::Second, part).last()?;
+        Some((last.at, last.kind, last.rule.to_string()))
+    };
+    assert_eq!(end(b"ab"), None);
+    assert_eq!(end(b""), None);
+    assert_eq!(end(b"ab "), None);
+    assert_eq!(end(b"a b"), Some((2, Kind::May, "18".into())));
+    assert_eq!(end(b"ab\r"), Some((3, Kind::Must, "5".into())));
+    assert_eq!(end(b"ab\n"), Some((3, Kind::Must, "5".into())));
 }
 
 #[test]

@@ -183,8 +183,12 @@ PyObject *text_columns(PyObject *Py_UNUSED(module), PyObject *const *given, Py_s
     utf8_text text;
     int64_t offsets[2];
     request request = {.texts = &text, .count = 1, .offsets = offsets};
-    if (!has_arguments(count, 3) || !start_of_text(given[2], &request.start))
+    if (!has_arguments(count, 4) || !start_of_text(given[2], &request.start))
         return NULL;
+    int goes_on = PyObject_IsTrue(given[3]);
+    if (goes_on < 0)
+        return NULL;
+    request.start.state.profile += goes_on ? LBK_GOES_ON : 0;
     PyObject *owner = text_owner(given[1], &text.in_code_points);
     if (owner == NULL)
         return NULL;

@@ -17,8 +17,7 @@ Errors = Literal["replace", "strict"]
 # So much of a file that is not on this machine is read for a cut at first.
 WINDOW = 1 << 16
 
-# A character has so many bytes at most. So many before a place are read for a cut there, and so
-# many after a part, which say that the text goes on.
+# A character has so many bytes at most. So many before a place are read for a cut there.
 LONGEST = 4
 
 
@@ -118,8 +117,8 @@ def _cut_from_afar(file: OpenFile, size: int, table: Table, at: int) -> int:
         window *= 2
 
 
-def read_part(part: Part, errors: Errors = "replace") -> tuple[bytes, int]:
-    """A part's bytes, with those of the character that follows it, and how many are the part's."""
+def read_part(part: Part, errors: Errors = "replace") -> bytes:
+    """A part's bytes. One more is read, to see whether the file goes on as it did."""
     try:
         with part.file as file:
             if part.end is None:
@@ -128,42 +127,38 @@ def read_part(part: Part, errors: Errors = "replace") -> tuple[bytes, int]:
             else:
                 size = part.end - part.start
                 file.seek(part.start)
-                data = file.read(size + LONGEST)
+                data = file.read(size + 1)
     except Exception as error:
         raise TextFault(part.path, part.start, f"{type(error).__name__}: {error}") from error
     if len(data) < size:
         raise TextFault(part.path, part.start + len(data), "the file has become shorter since it was cut into parts")
     if part.is_last != (len(data) == size):
         raise TextFault(part.path, part.start + size, "the file has another size than when it was cut into parts")
+    data = data[:size]
     if errors == "strict":
         try:
-            data[:size].decode()
+            data.decode()
         except UnicodeDecodeError as error:
             raise TextFault(part.path, part.start + error.start, f"ill-formed UTF-8: {error.reason}") from error
-    return data, size
+    return data
 
 
-def _columns(data: bytes, size: int, table: Table, profile: int) -> tuple[Any, Any, Any]:
-    """The breaks of the first `size` bytes, of which the others say whether the text goes on."""
-    places, kinds, rules = (
-        np.frombuffer(column, kind) for column, kind in zip(table.break_columns(data, profile), (np.int64, np.uint8, np.uint8))
-    )
-    count = len(places)
-    while count and places[count - 1] > size:
-        count -= 1
-    return places[:count], kinds[:count], rules[:count]
+def _columns(data: bytes, part: Part, table: Table, profile: int) -> tuple[Any, Any, Any]:
+    """The breaks of a part's bytes."""
+    places, kinds, rules = table.break_columns(data, profile, goes_on=not part.is_last)
+    return np.frombuffer(places, np.int64), np.frombuffer(kinds, np.uint8), np.frombuffer(rules, np.uint8)
 
 
 def part_columns(part: Part, table: Table, profile: int, errors: Errors) -> PartColumns:
-    data, size = read_part(part, errors)
-    places, kinds, rules = _columns(data, size, table, profile)
+    data = read_part(part, errors)
+    places, kinds, rules = _columns(data, part, table, profile)
     places += part.start
-    return PartColumns(part.path, part.start, part.start + size, places, kinds, rules)
+    return PartColumns(part.path, part.start, part.start + len(data), places, kinds, rules)
 
 
 def part_paragraphs(part: Part, table: Table, errors: Errors) -> list[str]:
     """The text of a part up to each place where a line must end."""
-    data, size = read_part(part, errors)
-    places, kinds, _ = _columns(data, size, table, 1)
+    data = read_part(part, errors)
+    places, kinds, _ = _columns(data, part, table, 1)
     ends = places[kinds == Kind.MUST].tolist()
     return [data[start:end].decode("utf-8", "replace") for start, end in zip([0, *ends], ends)]

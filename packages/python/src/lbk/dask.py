@@ -10,11 +10,9 @@ texts or breaks costs more than to find them. Tables go by the names of their fi
 process maps them once. Tasks are pure: one that runs again, since its worker died, gives and saves
 the same once more, under the same name.
 
-The breaks of all parts of a file, joined, are those of the file. That is the law of joined texts
-(`joined_parts`, proved for any number of parts of any bytes), by which the last break of a part has
-another rule in the file, LB4 or LB5, than in the part alone. To have that rule, a task reads also
-the first character after its part, breaks both together, and leaves out what comes after the part:
-by the same law the breaks up to the part's end are then those of the file.
+The breaks of all parts of a file, joined, are those of the file: each task says whether the file
+goes on after its part (`goes_on` of `Table.break_columns`). That is the law of joined texts
+(`joined_parts`), proved for any number of parts of any bytes.
 """
 
 import os

@@ -1,10 +1,9 @@
 use Rattle.std.proofs.Common.{◌++◌, ◌+◌, ◌≤◌, ℕ, List, length}
-use Rattle.lbk_rules.specs.declared.breaks.Break.{Break}
 use Rattle.lbk_rules.specs.declared.cells.Cell.{Cell}
 use Rattle.lbk_rules.specs.declared.facts.Left.{Left}
 use Rattle.lbk_values.specs.declared.profile.Profile.{Profile}
 use Rattle.lbk_bytes.specs.Blocks.{AreLeft, IsAhead, IsBlock, place_in}
-use Rattle.lbk_bytes.specs.Reached.{IsInOrder, Reached}
+use Rattle.lbk_bytes.specs.Reached.{Ahead, IsInOrder, Reached}
 use Rattle.lbk_bytes.specs.Shown.{given_in}
 use Rattle.lbk_bytes.proofs.blocks.finish.Given as goal
 
@@ -16,7 +15,7 @@ invariant-loop-here l = record {
   within : l.here.past ≤ l.at + 64;
   ahead : IsAhead l.at l.taken l.fn.start → IsAhead l.at l.taken l.here;
   in_order : (from : ℕ) → IsAhead l.at l.taken l.fn.start → IsInOrder l.fn.out l.fn.start.count from l.fn.start.past → IsInOrder l.out l.here.count from l.here.past;
-  reached : (profile : Profile) (cell : ℕ → Cell) (lefts : List Left) (more : List ℕ) (all : List Break)
+  reached : (profile : Profile) (cell : ℕ → Cell) (lefts : List Left) (more : List ℕ) (all : Ahead)
       → IsBlock profile cell lefts l.steps l.kinds l.pairs l.text l.at l.taken
       → AreLeft l.pairs l.text l.at l.taken l.fn.start
       → Reached profile cell lefts (l.text ++ more) all (place_in l.pairs l.text l.fn.start) (given_in l.fn.out l.fn.start.count)

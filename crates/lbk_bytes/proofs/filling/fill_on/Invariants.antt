@@ -1,9 +1,8 @@
 use Rattle.std.proofs.Common.{◌≡◌, ◌+◌, ◌-◌, ◌<◌, ◌≤◌, ℕ, List, length}
-use Rattle.lbk_rules.specs.declared.breaks.Break.{Break}
 use Rattle.lbk_rules.specs.declared.cells.Cell.{Cell}
 use Rattle.lbk_rules.specs.declared.facts.Left.{Left}
 use Rattle.lbk_steps.specs.FlatTable.{IsFlatBy}
-use Rattle.lbk_bytes.specs.Reached.{IsInOrder, Reached}
+use Rattle.lbk_bytes.specs.Reached.{Ahead, IsInOrder, Reached}
 use Rattle.lbk_bytes.specs.Shown.{given_in}
 use Rattle.lbk_bytes.proofs.filling.fill_on.Given as goal
 
@@ -14,7 +13,7 @@ invariant-loop-here l = record {
   within : l.here.at ≤ length l.text;
   no_room : length l.out ≡ 0 → l.here ≡ l.fn.start;
   in_order : (from : ℕ) → IsInOrder l.fn.out l.fn.start.count from l.fn.start.at → IsInOrder l.out l.here.count from l.here.at;
-  reached : (cell : ℕ → Cell) (lefts : List Left) (all : List Break) → IsFlatBy lefts l.fn.table cell
+  reached : (cell : ℕ → Cell) (lefts : List Left) (all : Ahead) → IsFlatBy lefts l.fn.table cell
       → Reached l.fn.profile cell lefts l.text all l.fn.start (given_in l.fn.out l.fn.start.count)
       → Reached l.fn.profile cell lefts l.text all l.here (given_in l.out l.here.count);
 }

@@ -1,6 +1,8 @@
-use Rattle.std.proofs.Common.{length, refl, ap, subst, ◌∙◌, inl, arith}
+use Rattle.std.proofs.Common.{◌++◌, length, refl, ap, subst, ◌∙◌, inl, arith}
 use Rattle.lbk_c.specs.declared.interface.State.{State}
-use Rattle.lbk_bytes.specs.Reached.{IsInOrder, onward}
+use Rattle.lbk_c.specs.State.{goes_on, plain}
+use Rattle.lbk_bytes.specs.Bytes.{end_in}
+use Rattle.lbk_bytes.specs.Reached.{IsInOrder, onward_to}
 use Rattle.lbk_bytes.specs.Shown.{given_in}
 use Rattle.lbk_c.proofs.ComingLemmas.{Goes-ended, Goes-full}
 use Rattle.lbk_bytes.proofs.OrderLemmas.{AreInOrder-none, AreInOrder-wider}
@@ -11,21 +13,24 @@ returns-then-here-out-clause-goes c = λ cell lefts to_come flat start.
     let fill = c.fill-here in
     let within = fill.ensures.within in
     let old = c.args.state.now in
+    let end = end_in (goes_on old.profile) in
     let state : State = record { at = fill.result.at; row = fill.result.row; profile = old.profile; ended = old.ended } in
-    Goes-full onward c.args.profile cell lefts c.args.text.now to_come fill.result state fill.new.out (length c.args.out.now)
-    (fill.ensures.reached cell lefts to_come flat start) within.2 refl refl c.requires.unended (omega (arith, within.0)) (omega arith)
+    Goes-full (onward_to end) c.args.profile cell lefts c.args.text.now to_come fill.result (plain state) fill.new.out (length c.args.out.now)
+    (fill.ensures.reached cell lefts (record { breaks = to_come; end = end }) flat start) within.2 refl refl c.requires.unended (omega (arith, within.0)) (omega arith)
 
 pub returns-clause-goes : goal.returns-clause-goes
 returns-clause-goes c = λ cell lefts to_come flat start.
     let fill = c.fill-here in
-    let within = fill.ensures.within in
     let put = c.put_end in
     let old = c.args.state.now in
+    let end = end_in (goes_on old.profile) in
     let state : State = record { at = fill.result.at; row = fill.result.row; profile = old.profile; ended = 1 } in
     let ends = fill.ensures.stops (omega arith) in
-    Goes-ended c.args.profile cell lefts c.args.text.now to_come fill.result state fill.new.out put.new.out put.result (length c.args.out.now)
-    (fill.ensures.reached cell lefts to_come flat start) ends refl refl put.ensures.some
-    (λ empty. (let none = put.ensures.none empty in ap (λ b. given_in b put.result) none.1 ∙ ap (given_in fill.new.out) none.0))
+    Goes-ended end c.args.profile cell lefts c.args.text.now to_come fill.result (plain state) fill.new.out put.new.out put.result (length c.args.out.now)
+    (fill.ensures.reached cell lefts (record { breaks = to_come; end = end }) flat start) ends refl refl
+    (λ taken knows some.
+    put.ensures.front c.args.profile cell lefts taken flat knows some
+    ∙ ap (λ g. given_in fill.new.out fill.result.count ++ end_in g c.args.profile cell taken (length c.args.text.now)) c.goes_on-goes_on.ensures)
     (omega (arith, put.ensures.within)) (omega arith)
 
 pub returns-then-here-out-clause-in_order : goal.returns-then-here-out-clause-in_order
@@ -54,7 +59,7 @@ returns-clause-in_order c =
     let fill = c.fill-here in
     let order = fill.ensures.in_order c.args.state.now.at (omega arith, AreInOrder-none c.args.out.now c.args.state.now.at c.args.state.now.at) in
     let ends = fill.ensures.stops (omega arith) in
-    c.put_end.ensures.in_order c.args.state.now.at (subst (λ n. IsInOrder fill.new.out fill.result.count c.args.state.now.at n) ends order)
+    c.put_end.ensures.in_order c.args.state.now.at _ (omega arith) (subst (λ n. IsInOrder fill.new.out fill.result.count c.args.state.now.at n) ends order)
 
 pub returns-clause-onward : goal.returns-clause-onward
 returns-clause-onward c =

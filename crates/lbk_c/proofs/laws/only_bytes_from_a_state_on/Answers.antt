@@ -1,6 +1,6 @@
 use Rattle.std.proofs.Common.{sym, ap, ◌∙◌}
 use Rattle.bstr.specs.Utf8.{pieces}
-use Rattle.lbk_bytes.specs.Reached.{onward}
+use Rattle.lbk_c.specs.Coming.{onward_in}
 use Rattle.lbk_c.proofs.laws.only_bytes_from_a_state_on.Goals as goal
 
 pub returns : goal.returns
@@ -16,9 +16,8 @@ returns c = λ cell table text other state to_come comes within same. record {
         record {
           taken = r.taken;
           knows = r.knows;
-          none = r.none;
           some = r.some;
-          joined = r.joined ∙ ap (λ bytes. onward comes.profile cell r.taken state.at (pieces bytes)) (sym same);
+          joined = r.joined ∙ ap (λ bytes. onward_in state.profile comes.profile cell r.taken state.at (pieces bytes)) (sym same);
         };
     none_come = comes.onto.none_come;
   };

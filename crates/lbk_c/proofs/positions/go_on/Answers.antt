@@ -7,7 +7,7 @@ use Rattle.lbk_c.proofs.ComingLemmas.{Goes-all, Goes-full}
 use Rattle.lbk_bytes.proofs.OrderLemmas.{AreInOrder-none, AreInOrder-wider}
 use Rattle.lbk_c.proofs.PositionLemmas.{All-end, end-coded, start-coded}
 use Rattle.lbk_c.proofs.positions.go_on.Goals as goal
-use Rattle.lbk_c.proofs.positions.go_on.Goals.{then-len-eq0, else-len-eq0}
+use Rattle.lbk_c.proofs.positions.go_on.Goals.{then-row-eq0, else-row-eq0}
 
 pub returns-then-here-out-clause-goes : goal.returns-then-here-out-clause-goes
 returns-then-here-out-clause-goes c = λ cell lefts to_come flat start.
@@ -27,11 +27,11 @@ returns-clause-goes c = λ cell lefts to_come flat start.
     let given = given_in fill.new.out fill.result.count in
     let state : State = record { at = fill.result.at; row = fill.result.row; profile = old.profile; ended = 1 } in
     let ends : fill.result.at ≡ length text = fill.ensures.stops (omega arith) in
-    let last = All-end c.args.profile cell lefts text to_come fill.result given ends (fill.ensures.reached cell lefts to_come flat start) in
+    let last = All-end c.args.profile cell lefts c.args.table.now text to_come fill.result given flat ends (fill.ensures.reached cell lefts to_come flat start) in
     let all : to_come ≡ given_in put.new.out put.result =
-    elim c.if-len-eq0.branch [
-      | then-len-eq0 w ↦ last.0 (omega arith) ∙ sym (start-coded given (given_in put.new.out put.result) (length text) c.if-len-eq0.code w.code-is put.ensures.front)
-      | else-len-eq0 w ↦ last.1 (omega arith) ∙ sym (end-coded given (given_in put.new.out put.result) (length text) c.if-len-eq0.code w.code-is put.ensures.front)
+    elim c.if-row-eq0.branch [
+      | then-row-eq0 w ↦ last.0 (omega arith) ∙ sym (start-coded given (given_in put.new.out put.result) (length text) c.if-row-eq0.code w.code-is put.ensures.front)
+      | else-row-eq0 w ↦ last.1 (omega arith) ∙ sym (end-coded given (given_in put.new.out put.result) (length text) c.if-row-eq0.code w.code-is put.ensures.front)
     ] in
     Goes-all onward_all c.args.profile cell lefts text to_come state put.new.out put.result (length c.args.out.now) all ends refl (omega arith) (omega arith)
 

@@ -1,7 +1,6 @@
-use Rattle.std.proofs.Common.{length, refl, ap, subst, ◌∙◌, inl, arith}
+use Rattle.std.proofs.Common.{length, refl, subst, inl, arith}
 use Rattle.lbk_c.specs.declared.interface.State.{State}
 use Rattle.lbk_bytes.specs.Reached.{IsInOrder}
-use Rattle.lbk_bytes.specs.Shown.{given_in}
 use Rattle.lbk_c.proofs.UnitsComingLemmas.{units-ended, units-full}
 use Rattle.lbk_bytes.proofs.OrderLemmas.{AreInOrder-none, AreInOrder-wider}
 use Rattle.lbk_c.proofs.unit_breaking.go_on.Goals as goal
@@ -24,8 +23,8 @@ returns-clause-goes g c = λ cell lefts to_come flat start.
     let state : State = record { at = fill.result.at; row = fill.result.row; profile = old.profile; ended = 1 } in
     let ends = fill.ensures.stops (omega arith) in
     units-ended g.U.Unit.pieces_of c.args.profile cell lefts c.args.text.now to_come fill.result state fill.new.out put.new.out put.result (length c.args.out.now)
-    g.met.U.Unit.ends (fill.ensures.reached cell lefts to_come flat start) ends refl refl put.ensures.some
-    (λ empty. (let none = put.ensures.none empty in ap (λ b. given_in b put.result) none.1 ∙ ap (given_in fill.new.out) none.0))
+    g.met.U.Unit.ends (fill.ensures.reached cell lefts to_come flat start) ends refl refl
+    (λ taken knows some. put.ensures.front c.args.profile cell lefts taken flat knows some)
     (omega (arith, put.ensures.within)) (omega arith)
 
 pub returns-then-here-out-clause-in_order : goal.returns-then-here-out-clause-in_order
@@ -54,7 +53,7 @@ returns-clause-in_order g c =
     let fill = c.fill_units-here in
     let order = fill.ensures.in_order c.args.state.now.at (omega arith, AreInOrder-none c.args.out.now c.args.state.now.at c.args.state.now.at) in
     let ends = fill.ensures.stops (omega arith) in
-    c.put_end.ensures.in_order c.args.state.now.at (subst (λ n. IsInOrder fill.new.out fill.result.count c.args.state.now.at n) ends order)
+    c.put_end.ensures.in_order c.args.state.now.at _ (omega arith) (subst (λ n. IsInOrder fill.new.out fill.result.count c.args.state.now.at n) ends order)
 
 pub returns-clause-onward : goal.returns-clause-onward
 returns-clause-onward g c =

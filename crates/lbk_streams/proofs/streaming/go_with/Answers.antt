@@ -81,8 +81,7 @@ returns-then-last-clause-gives c = λ cell more to_come s lasts.
           (cases_lt here.count room);
       cut = λ free. finish.ensures.done (omega arith);
       ended = λ free. close.ensures.ended (omega arith);
-      some = λ free. close.ensures.some (omega arith);
-      none = λ free. close.ensures.none (omega arith);
+      end = λ free taken. close.ensures.end (omega arith) profile cell whole.lefts taken whole.flat;
     }) ends in
     record {
       front = closed.front;

@@ -1,0 +1,184 @@
+-- What comes at the end of a text, or of a part of one.
+use Rattle.std.proofs.Common.{◌≡◌, ℕ, ◌+◌, ◌/◌, ◌<◌, ◌≤◌, Bool, true, false, cond, ◌&&◌, not, List, [], ◌∷◌, ◌++◌, get_or, length, map, take, reverse, lit<, refl, sym, ap, subst, ◌∙◌, ⊎_elim, arith}
+use Rattle.std.proofs.lemmas.Bool.{cases_lt, false≢true}
+use Rattle.std.proofs.lemmas.List.{get_or_past, length-map, length-reverse, map-append}
+use Rattle.std.proofs.Math.Seq.{drop-length, take-length}
+use Rattle.lbk_rules.specs.declared.cells.Cell.{Cell}
+use Rattle.lbk_rules.specs.declared.classes.Class.{Class}
+use Rattle.lbk_rules.specs.declared.facts.Left.{Left}
+use Rattle.lbk_rules.specs.declared.verdicts.Kind.TheVariants.{No, May, Must}
+use Rattle.lbk_rules.specs.declared.verdicts.Verdict.{Verdict}
+use Rattle.lbk_values.specs.declared.profile.Profile.{Profile}
+use Rattle.lbk_values.specs.declared.profile.Profile.TheVariants.{First}
+use Rattle.lbk_steps.specs.declared.flat_table.FlatStep.{FlatStep}
+use Rattle.lbk_steps.specs.declared.flat_table.FlatTable.{FlatTable}
+use Rattle.lbk_rules.specs.Breaks.{break_by}
+use Rattle.lbk_rules.specs.Classes.{CR, is}
+use Rattle.lbk_rules.specs.Codes.{IsCode, kind_numbered, verdict_coded}
+use Rattle.lbk_rules.specs.Ends.{end_after, end_of_text, ends_between, ends_line}
+use Rattle.lbk_rules.specs.Facts.{facts}
+use Rattle.lbk_rules.specs.Normal.{normal, normals}
+use Rattle.lbk_rules.specs.Sides.{Side, is_nothing}
+use Rattle.lbk_rules.specs.Verdict.{verdict_between_in}
+use Rattle.lbk_rules.proofs.EndLemmas.{must_at_length, must_between, no_must_between, start_of_text}
+use Rattle.lbk_rules.proofs.ParagraphLemmas.{is_must}
+use Rattle.lbk_steps.specs.FlatTable.{IsFlatBy, IsFlatStep, KnowsTaken, no_flat_step}
+use Rattle.lbk_steps.specs.Kinds.{kind_cell}
+use Rattle.lbk_steps.specs.Steps.{left_at}
+use Rattle.lbk_steps.proofs.AheadLemmas.{ahead-normal}
+use Rattle.lbk_bytes.specs.Bytes.{closed_end, open_end, with_break}
+use Rattle.lbk_bytes.proofs.StepLemmas.{flat_step_at}
+
+-- The end of a text
+
+nothing-none : (side : Side) → is_nothing side ≡ true → length side ≡ 0
+nothing-none [] none = refl
+nothing-none (cell ∷ side) none = absurd (false≢true none)
+
+empty : (l : List ℕ) → length l ≡ 0 → l ≡ []
+empty [] none = refl
+empty (c ∷ cs) none = absurd (omega arith)
+
+-- the first row knows of no scalar
+pub none-known : (cell : ℕ → Cell) (lefts : List Left) (table : FlatTable) (taken : List ℕ) → IsFlatBy lefts table cell → KnowsTaken cell lefts 0 taken → taken ≡ []
+unfolding facts
+none-known cell lefts table taken flat known =
+    let side = reverse (normals cell taken) in
+    let none = nothing-none side (ap (λ (l : Left). l.empty) (sym known.1 ∙ flat.start)) in
+    let same : length side ≡ length taken =
+    length-reverse (normals cell taken) ∙ length-map (map cell taken) normal ∙ length-map taken cell in
+    empty taken (omega arith)
+
+pub end-none : (profile : Profile) (cell : ℕ → Cell) (taken : List ℕ) (at : ℕ) → taken ≡ [] → with_break at (verdict_coded 0) [] ≡ closed_end profile cell taken at
+unfolding verdict_coded
+end-none profile cell taken at none =
+    sym (ap (λ l. closed_end profile cell l at) none ∙ ap (λ (v : Verdict). with_break at v []) (start_of_text profile []))
+
+pub end-some : (profile : Profile) (cell : ℕ → Cell) (taken : List ℕ) (at : ℕ) → 0 < length taken → with_break at (verdict_coded 77) [] ≡ closed_end profile cell taken at
+unfolding verdict_coded
+end-some profile cell taken at some =
+    let cells = map cell taken in
+    let must : verdict_between_in profile cells [] ≡ end_of_text =
+    ap (λ l. verdict_between_in profile l []) (sym (take-length cells))
+    ∙ ap (λ l. verdict_between_in profile (take (length cells) cells) l) (sym (drop-length cells))
+    ∙ must_at_length profile cells (omega (arith, length-map taken cell)) in
+    sym (ap (λ (v : Verdict). with_break at v []) must)
+
+-- The end of a part
+
+-- before a letter a line must end just where it must whatever follows
+before-letter : (class : Class) → ends_between class (kind_cell 0).class ≡ ends_line class
+unfolding kind_cell is
+before-letter class =
+    let both : (ends carriage : Bool) → (ends && not (carriage && false)) ≡ ends = elim [
+      | true ↦ elim [ true ↦ refl | false ↦ refl ]
+      | false ↦ λ _. refl
+    ] in
+    both (ends_line class) (CR class)
+
+open-last : (profile : Profile) (cell : ℕ → Cell) (front : List ℕ) (c at : ℕ)
+    → open_end profile cell (front ++ c ∷ []) at ≡ cond (ends_line (cell c).class) (break_by at (end_after (cell c).class) ∷ []) []
+open-last profile cell [] c at = refl
+open-last profile cell (a ∷ []) c at = refl
+open-last profile cell (a ∷ b ∷ front) c at = open-last profile cell (b ∷ front) c at
+
+-- a list is empty, or ends in an element
+record EndsIn (l : List ℕ) : Type 0 where
+  front : List ℕ
+  last : ℕ
+  is : l ≡ front ++ last ∷ []
+
+ends-in : (c : ℕ) (cs : List ℕ) → EndsIn (c ∷ cs)
+ends-in c [] = record { front = []; last = c; is = refl }
+ends-in c (d ∷ ds) = let rest = ends-in d ds in record { front = c ∷ rest.front; last = rest.last; is = ap (λ l. c ∷ l) rest.is }
+
+-- the verdict before a letter, as the step of a row has it
+letter-verdict : (cell : ℕ → Cell) (lefts : List Left) (table : FlatTable) (row : ℕ) (taken : List ℕ) (step : FlatStep) → IsFlatBy lefts table cell → KnowsTaken cell lefts row taken
+    → step ≡ get_or table.first (row + 0) no_flat_step
+    → IsCode step.code × (verdict_coded step.code ≡ verdict_between_in First (map cell taken) (kind_cell 0 ∷ []))
+unfolding kind_cell normal is
+letter-verdict cell lefts table row taken step flat known is_step =
+    let there = flat_step_at lefts table.first table.second row 0 flat.steps known.0 (lit< tt) in
+    let here = subst (λ (s : FlatStep). IsFlatStep lefts (left_at lefts row) (kind_cell 0) s (get_or table.second (row + 0) no_flat_step)) (sym is_step) there in (
+      here.coded.0,
+      here.decides (reverse (normals cell taken)) [] (sym known.1) ∙ ahead-normal First cell taken (kind_cell 0 ∷ []),
+    )
+
+-- numbers of verdicts by which a line must end, and others
+must-within : (code : ℕ) → 76 ≤ code → code < 114 → is_must (verdict_coded code).kind ≡ true
+unfolding verdict_coded
+must-within code low high = ap (λ n. is_must (kind_numbered n)) (let e : code / 38 ≡ 2 = omega (arith, low, high) in e)
+
+no-must-below : (code : ℕ) → code < 76 → is_must (verdict_coded code).kind ≡ false
+unfolding verdict_coded
+no-must-below code low =
+    ⊎_elim
+    (λ (less : code < 38). ap (λ n. is_must (kind_numbered n)) (let e : code / 38 ≡ 0 = omega (arith, less) in e))
+    (λ (more : 38 ≤ code). ap (λ n. is_must (kind_numbered n)) (let e : code / 38 ≡ 1 = omega (arith, low, more) in e))
+    (cases_lt code 38)
+
+no-must-past : (code : ℕ) → 114 ≤ code → is_must (verdict_coded code).kind ≡ false
+unfolding verdict_coded
+no-must-past code high = ap is_must (get_or_past (No ∷ May ∷ Must ∷ []) (code / 38) No (omega (arith, high)))
+
+no-must-outside : (code : ℕ) → ¬ ((76 ≤ code) × (code < 114)) → is_must (verdict_coded code).kind ≡ false
+no-must-outside code outside =
+    ⊎_elim (λ (low : code < 76). no-must-below code low)
+    (λ (more : 76 ≤ code). ⊎_elim (λ (few : code < 114). absurd (outside (more, few))) (λ (high : 114 ≤ code). no-must-past code high) (cases_lt code 114))
+    (cases_lt code 76)
+
+-- the end of a part by its last scalar, where this is the verdict before a letter
+open-by : (profile : Profile) (cell : ℕ → Cell) (front : List ℕ) (c at : ℕ) (verdict : Verdict)
+    → verdict ≡ verdict_between_in First (map cell (front ++ c ∷ [])) (kind_cell 0 ∷ [])
+    → (is_must verdict.kind ≡ true → with_break at verdict [] ≡ open_end profile cell (front ++ c ∷ []) at)
+    × (is_must verdict.kind ≡ false → open_end profile cell (front ++ c ∷ []) at ≡ [])
+open-by profile cell front c at verdict is_verdict =
+    let class = (cell c).class in
+    let letter = kind_cell 0 in
+    let shown : verdict ≡ verdict_between_in First (map cell front ++ cell c ∷ []) (letter ∷ []) =
+    is_verdict ∙ ap (λ l. verdict_between_in First l (letter ∷ [])) (map-append cell front (c ∷ [])) in
+    let last = open-last profile cell front c at in
+    (elim (ends_line class)
+    as (λ v. ends_line class ≡ v
+    → (is_must verdict.kind ≡ true → with_break at verdict [] ≡ open_end profile cell (front ++ c ∷ []) at)
+    × (is_must verdict.kind ≡ false → open_end profile cell (front ++ c ∷ []) at ≡ [])) [
+      | true ↦ λ ends.
+          let is : verdict ≡ end_after class = shown ∙ must_between First (map cell front) (cell c) letter [] (before-letter class ∙ ends) in (
+            λ _. ap (λ (v : Verdict). with_break at v []) is ∙ sym (last ∙ ap (λ b. cond b (break_by at (end_after class) ∷ []) []) ends),
+            λ none. absurd (false≢true (sym none ∙ ap (λ (v : Verdict). is_must v.kind) is)),
+          )
+      | false ↦ λ ends.
+          let none : is_must verdict.kind ≡ false =
+          ap (λ (v : Verdict). is_must v.kind) shown ∙ no_must_between First (map cell front) (cell c) letter [] (before-letter class ∙ ends) in (
+            λ must. absurd (false≢true (sym none ∙ must)),
+            λ _. last ∙ ap (λ b. cond b (break_by at (end_after class) ∷ []) []) ends,
+          )
+    ]) refl
+
+open-at : (profile : Profile) (cell : ℕ → Cell) (taken : List ℕ) (at : ℕ) (verdict : Verdict)
+    → verdict ≡ verdict_between_in First (map cell taken) (kind_cell 0 ∷ [])
+    → (is_must verdict.kind ≡ true → with_break at verdict [] ≡ open_end profile cell taken at)
+    × (is_must verdict.kind ≡ false → open_end profile cell taken at ≡ [])
+open-at profile cell [] at verdict is_verdict =
+    let none : is_must verdict.kind ≡ false = ap (λ (v : Verdict). is_must v.kind) (is_verdict ∙ start_of_text First (kind_cell 0 ∷ [])) in
+    (λ must. absurd (false≢true (sym none ∙ must)), λ _. refl)
+open-at profile cell (c ∷ cs) at verdict is_verdict =
+    let l = ends-in c cs in
+    subst (λ (taken : List ℕ). (is_must verdict.kind ≡ true → with_break at verdict [] ≡ open_end profile cell taken at)
+    × (is_must verdict.kind ≡ false → open_end profile cell taken at ≡ [])) (sym l.is)
+    (open-by profile cell l.front l.last at verdict (is_verdict ∙ ap (λ (t : List ℕ). verdict_between_in First (map cell t) (kind_cell 0 ∷ [])) l.is))
+
+pub open-must : (profile : Profile) (cell : ℕ → Cell) (lefts : List Left) (table : FlatTable) (row : ℕ) (taken : List ℕ) (step : FlatStep) (at : ℕ)
+    → IsFlatBy lefts table cell → KnowsTaken cell lefts row taken → step ≡ get_or table.first (row + 0) no_flat_step → 76 ≤ step.code → step.code < 114
+    → IsCode step.code × (with_break at (verdict_coded step.code) [] ≡ open_end profile cell taken at)
+open-must profile cell lefts table row taken step at flat known is_step low high =
+    let v = letter-verdict cell lefts table row taken step flat known is_step in
+    (v.0, (open-at profile cell taken at (verdict_coded step.code) v.1).0 (must-within step.code low high))
+
+pub open-none : (profile : Profile) (cell : ℕ → Cell) (lefts : List Left) (table : FlatTable) (row : ℕ) (taken : List ℕ) (step : FlatStep) (at : ℕ)
+    → IsFlatBy lefts table cell → KnowsTaken cell lefts row taken → step ≡ get_or table.first (row + 0) no_flat_step → ¬ ((76 ≤ step.code) × (step.code < 114))
+    → with_break at (verdict_coded 0) [] ≡ open_end profile cell taken at
+unfolding verdict_coded
+open-none profile cell lefts table row taken step at flat known is_step outside =
+    let v = letter-verdict cell lefts table row taken step flat known is_step in
+    sym ((open-at profile cell taken at (verdict_coded step.code) v.1).1 (no-must-outside step.code outside))

@@ -1,0 +1,44 @@
+//! Where a text may be cut into parts.
+
+ghost use Rattle.std.specs.Prelude.{◌≡◌, ℕ, ◌<◌, ◌≤◌, length};
+ghost use Rattle.lbk_rules.specs.declared.cells.Cell.{Cell};
+ghost use Rattle.lbk_values.specs.declared.profile.Profile.{Profile};
+ghost use Rattle.lbk_steps.specs.FlatTable.{IsFlatOf};
+ghost use Rattle.lbk_cuts.specs.Cuts.{IsSafeCut, JoinsAt};
+
+use lbk_cuts::{cut, cut_before};
+use lbk_steps::FlatTable;
+
+/// The first byte at or after `at` at which a part of a text may begin: one before which a line must end (UAX #14, section
+/// 6.1, rules LB4 and LB5), or the end of the text. A place past the text counts as its end, and 0 is its start, at which the
+/// first part begins.
+///
+/// The breaks of the parts are those of the whole: the places of a later part count from its start, and where another part
+/// follows a part, its end is by rule 4 or 5, in the place of 3.
+#[unsafe(no_mangle)]
+pub extern "C" fn lbk_cut(table: &FlatTable, text: &[u8], at: usize) -> usize
+    ensures within { result ≤ length text.now }
+    ensures past { length text.now ≤ at → result ≡ length text.now }
+    ensures behind { at ≤ length text.now → at ≤ result }
+    ensures safe { (cell : ℕ → Cell) → IsFlatOf table.now cell → IsSafeCut cell text.now result }
+    ensures least { (cell : ℕ → Cell) (place : ℕ) → IsFlatOf table.now cell → at ≤ place → place < result → ¬ IsSafeCut cell text.now place }
+    ensures joined { (cell : ℕ → Cell) (profile : Profile) → IsFlatOf table.now cell → 0 < result → result < length text.now
+        → JoinsAt profile cell text.now result }
+{
+    cut(table, text, at)
+}
+
+/// The last byte at or before `at` at which a part of a text may begin. A place past the text counts as its end.
+#[unsafe(no_mangle)]
+pub extern "C" fn lbk_cut_before(table: &FlatTable, text: &[u8], at: usize) -> usize
+    ensures within { result ≤ length text.now }
+    ensures past { length text.now ≤ at → result ≡ length text.now }
+    ensures before { result ≤ at }
+    ensures safe { (cell : ℕ → Cell) → IsFlatOf table.now cell → IsSafeCut cell text.now result }
+    ensures greatest { (cell : ℕ → Cell) (place : ℕ) → IsFlatOf table.now cell → result < place → place ≤ at → place ≤ length text.now
+        → ¬ IsSafeCut cell text.now place }
+    ensures joined { (cell : ℕ → Cell) (profile : Profile) → IsFlatOf table.now cell → 0 < result → result < length text.now
+        → JoinsAt profile cell text.now result }
+{
+    cut_before(table, text, at)
+}

@@ -1,0 +1,3 @@
+pub mod PieceStartLemmas
+pub mod JoinLemmas
+pub mod SafeLemmas

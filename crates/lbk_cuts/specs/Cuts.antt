@@ -1,0 +1,43 @@
+-- Where a text of any bytes may be cut, so that its parts are decided apart.
+use Rattle.std.specs.Prelude.{◌≡◌, ◌⊎◌, ℕ, ◌+◌, false, true, List, [], ◌∷◌, ◌++◌, length, map, take, drop}
+use Rattle.std.specs.List.{flat_map}
+use Rattle.bstr.specs.Utf8.{lossy_chars, pieces}
+use Rattle.lbk_rules.specs.declared.breaks.Break.{Break}
+use Rattle.lbk_rules.specs.declared.cells.Cell.{Cell}
+use Rattle.lbk_values.specs.declared.profile.Profile.{Profile}
+use Rattle.lbk_rules.specs.Joins.{moved, must_end_between}
+use Rattle.lbk_bytes.specs.Bytes.{breaks_of_bytes, breaks_of_part}
+
+-- at this byte a piece begins, or the text ends: where it is cut there, the pieces of its parts are its own
+abbrev pub IsPieceStart : List ℕ → ℕ → Type 0
+IsPieceStart text place = pieces text ≡ pieces (take place text) ++ pieces (drop place text)
+
+-- a line must end before this byte, whatever the rules are asked: no part of it stands on both sides
+abbrev pub EndsBefore : (ℕ → Cell) → List ℕ → ℕ → Type 0
+EndsBefore cell text place =
+    IsPieceStart text place
+    × (must_end_between cell (lossy_chars (take place text)) (lossy_chars (drop place text)) ≡ true)
+
+-- a part of the text may begin at this byte: at the start, at the end, and where a line must end before it
+abbrev pub IsSafeCut : (ℕ → Cell) → List ℕ → ℕ → Type 0
+IsSafeCut cell text place = (place ≡ 0) ⊎ (place ≡ length text) ⊎ EndsBefore cell text place
+
+-- cut there, the breaks of the text are those of its parts, if the places of the second are moved by the bytes of the first
+abbrev pub JoinsAt : Profile → (ℕ → Cell) → List ℕ → ℕ → Type 0
+JoinsAt profile cell text place =
+    breaks_of_bytes profile cell text
+    ≡ breaks_of_part true profile cell (take place text) ++ map (moved place) (breaks_of_bytes profile cell (drop place text))
+
+-- parts of a text one after another: each ends before a byte of the text from it on before which a line must end
+abbrev pub AreByteParts : (ℕ → Cell) → List (List ℕ) → Type 0
+AreByteParts cell [] = Unit {0}
+AreByteParts cell (part ∷ []) = Unit {0}
+AreByteParts cell (part ∷ next ∷ parts) =
+    EndsBefore cell (part ++ flat_map (λ p. p) (next ∷ parts)) (length part) × AreByteParts cell (next ∷ parts)
+
+-- the breaks of parts, joined, the first of which begins at byte `at`
+abbrev pub breaks_of_parts : Profile → (ℕ → Cell) → ℕ → List (List ℕ) → List Break
+breaks_of_parts profile cell at [] = []
+breaks_of_parts profile cell at (part ∷ []) = map (moved at) (breaks_of_part false profile cell part)
+breaks_of_parts profile cell at (part ∷ next ∷ parts) =
+    map (moved at) (breaks_of_part true profile cell part) ++ breaks_of_parts profile cell (at + length part) (next ∷ parts)
