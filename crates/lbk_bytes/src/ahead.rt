@@ -18,7 +18,7 @@ use bstr::decode_lossy;
 use lbk_rules::Profile;
 use lbk_steps::{FlatTable, HELD};
 
-/// The number of the verdict before `c`, by the table's row at this place, where `rest` is the text behind `c` up to its
+/// The number of the verdict before `c`, by the table's row at this place, where `rest` is the text after `c` up to its
 /// end.
 pub(crate) fn code_ahead(
     table: &FlatTable,
@@ -54,7 +54,7 @@ fn second_code(table: &FlatTable, row: usize, c: char, rest: &[u8]) -> u16
     step_at(&table.first, row, kind).code
 }
 
-/// Whether the unit after `c` leaves a closing quotation mark closed, where `rest` is the text behind `c`: also where none
+/// Whether the unit after `c` leaves a closing quotation mark closed, where `rest` is the text after `c`: also where none
 /// comes.
 fn closes_ahead(table: &FlatTable, c: char, rest: &[u8]) -> bool
     ensures { (cell : ℕ → Cell) → AreFlatKinds table.now.kinds cell

@@ -172,7 +172,7 @@ fn finish(
     stopped(pairs, at, taken, here, text)
 }
 
-/// Where a block was left: behind its first bytes if no break is left in them.
+/// Where a block was left: after its first bytes if no break is left in them.
 #[inline(always)]
 fn stopped(pairs: &Neighbours, at: usize, taken: usize, here: BlockState, text: &[u8]) -> FillState
     requires { (0 < at) × (at + 64 ≤ length text.now) × (taken ≤ 64) × (at ≤ here.past) × (here.past ≤ at + 64) }
@@ -307,7 +307,7 @@ fn two_breaks(
     take_break(pairs, kinds, steps, at, there, text, out)
 }
 
-/// Writes the next break, if one is left. Where none is, the place behind the breaks is written, which is of no account: so
+/// Writes the next break, if one is left. Where none is, the place after the breaks is written, which does not matter: so
 /// it takes no test.
 #[inline(always)]
 fn take_break(
@@ -340,7 +340,7 @@ fn take_break(
     next_state(here, written, at, index)
 }
 
-/// The state behind a break that was written, if one was left.
+/// The state after a break that was written, if one was left.
 #[inline(always)]
 fn next_state(here: BlockState, written: usize, at: usize, index: usize) -> BlockState
     requires { (at < 2 ^ 63) × (index < 64) }

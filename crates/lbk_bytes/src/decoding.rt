@@ -112,7 +112,7 @@ fn scalar_of_three(bytes: &[u8]) -> Option<Scalar>
     })
 }
 
-/// Whether a byte may stand behind the first of a scalar.
+/// Whether a byte may stand after the first of a scalar.
 #[inline(always)]
 fn is_continuation(byte: u8) -> bool
     ensures { result ≡ continues byte }

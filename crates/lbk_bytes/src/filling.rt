@@ -194,7 +194,7 @@ fn next_try(from: usize, at: usize, text: &[u8]) -> usize
     at + pause
 }
 
-/// How many bytes are taken one by one at the front of these, after blocks that took so many: many where two scalars at hand
+/// How many bytes are taken one by one at the front of these, after blocks that took so many: many where two scalars in sight
 /// or more have more than one byte, as many as a block has where the blocks took few, and else a few, or up to after the scalar
 /// of more bytes.
 #[inline(always)]

@@ -21,12 +21,12 @@ use lbk_bytes::{FillState, RawBreak, fill, profile_numbered, put_end};
 use lbk_rules::Profile;
 use lbk_steps::FlatTable;
 
-/// Puts the next breaks of a text (UAX #14, section 3) into the front of the block, from the state on, and answers how many:
+/// Puts the next breaks of a text (UAX #14, section 3) into the front of the block, from the state on, and returns how many:
 /// as many as the block holds, or all that are left. The text may be any bytes: each longest piece that begins no scalar is
 /// read as U+FFFD (Unicode Standard, section 3.9).
 ///
 /// Where the block has no room, or the state is past the text or at its end, or names no profile, the state stays and no break
-/// comes. What stands in the block behind the breaks is of no account. Whatever the table and the state hold, the breaks are
+/// comes. What stands in the block after the breaks is unspecified. Whatever the table and the state hold, the breaks are
 /// breaks of rules, in order, from the state's place on, and the state goes forward with them.
 #[unsafe(no_mangle)]
 pub extern "C" fn lbk_breaks(
@@ -103,7 +103,7 @@ pub(crate) fn going_profile(state: &State, len: usize) -> Option<Profile>
     Some(profile)
 }
 
-/// Puts the next breaks into the front of the block, and answers how many.
+/// Puts the next breaks into the front of the block, and returns how many.
 fn go_on(
     table: &FlatTable,
     profile: Profile,

@@ -25,7 +25,7 @@ pub(crate) fn given_fault(fault: UcdFault) -> Fault
     }
 }
 
-/// Why no table was made of lawful files.
+/// Why no table was made of well-formed files.
 pub(crate) fn unmade_fault(error: TableError) -> Fault
     ensures { result ≡ unmade_fault error }
 {

@@ -20,7 +20,7 @@ pub extern "C" fn lbk_label(rule: u8) -> RuleLabel
     }
 }
 
-/// The bytes of a label, and zeros behind them.
+/// The bytes of a label, and zeros after them.
 pub(crate) fn filled(label: &[u8]) -> [u8; 4]
     requires { length label.now ≤ 4 }
     ensures { result ≡ filled label.now }

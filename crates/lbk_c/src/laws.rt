@@ -1,4 +1,4 @@
-//! What holds of states, over the definitions alone: the contract of a function that does nothing.
+//! What holds of states, over definitions only: the contract of a function that does nothing.
 
 ghost use Rattle.std.specs.Prelude.{◌≡◌, ℕ, ◌≤◌, List, drop, length};
 ghost use Rattle.lbk_rules.specs.declared.breaks.Break.{Break};

@@ -16,9 +16,9 @@ use lbk_ucd::{Files, Tables};
 use std::alloc::Global;
 
 /// Fills the table by the four property files LineBreak.txt, EastAsianWidth.txt, DerivedGeneralCategory.txt and
-/// emoji-data.txt (UAX #44, section 4.2), and answers zeros; or the first fault of the first file that has one.
+/// emoji-data.txt (UAX #44, section 4.2), and returns zeros; or the first fault of the first file that has one.
 ///
-/// Cause 8 comes where a growth of memory was refused: at a line of a file, or at none while the table was made. Cause 9
+/// Cause 8 comes where an allocation was refused: at a line of a file, or at none while the table was made. Cause 9
 /// comes only where the rules need more rows than a table has room for. After a fault the table is as it was.
 #[unsafe(no_mangle)]
 pub extern "C" fn lbk_read(

@@ -73,7 +73,7 @@ fn file_numbered(number: u32) -> &'static str
     }
 }
 
-/// The bytes of a text, and zeros behind them.
+/// The bytes of a text, and zeros after them.
 fn padded(text: &str) -> [u8; 96]
     requires { length text.now ≤ 95 }
     ensures { result ≡ padded text.now }

@@ -25,7 +25,7 @@ use lbk_steps::FlatTable;
 use lbk_units::{Unit, fill_units};
 
 /// Puts the next breaks of a text in UTF-16 into the front of the block, as `lbk_breaks` does of one in UTF-8, and returns how
-/// many. Places are in units of 16 bits. The text may be any units: a surrogate that stands alone is read as U+FFFD at its
+/// many. Places are in units of 16 bits. The text may be any units: a surrogate without its other half is read as U+FFFD at its
 /// place (Unicode Standard, section 3.9, D91).
 ///
 /// Where the block has no room, or the state is past the text or at its end, or names no profile, the state stays and no break

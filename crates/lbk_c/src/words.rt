@@ -9,7 +9,7 @@ use lbk_words::{Word, fill};
 #[repr(C)]
 #[derive(Clone, Copy)]
 pub struct WordState {
-    /// The byte from which the next words come. The text behind it is taken alone.
+    /// The byte from which the next words come. The text after it is taken as a text of its own.
     pub at: usize,
 }
 
@@ -19,7 +19,7 @@ pub struct WordState {
 /// 3.9).
 ///
 /// Where the block has no room, or the state is at the text's end or past it, the state stays and
-/// no word comes. What stands in the block behind the words is of no account.
+/// no word comes. What stands in the block after the words is unspecified.
 #[unsafe(no_mangle)]
 pub extern "C" fn lbk_words(state: &mut WordState, text: &[u8], out: &mut [Word]) -> usize
     ensures count { result ≡ min (length out.old) (length (words_on text.now state.old.at)) }

@@ -39,7 +39,7 @@ pub fn headline()
         → other ≡ passages profile cell text }
 {}
 
-/// What `read_passages` returns depends on the files and the bytes of the text alone, however the reader gives them; and it
+/// What `read_passages` returns depends only on the files and the bytes of the text, however the reader gives them; and it
 /// is what a segmenter lends of the text.
 pub fn passages_of_bytes()
     ensures once { (files : Files) (profile : Profile) (bytes : List ℕ) (one other : List Owned)

@@ -19,7 +19,7 @@ use lbk_ucd::Files;
 use std::alloc::Global;
 
 /// The passages of a text by the rules (UAX #14, section 6) and four property files, each with its text, its breaks and
-/// its words (UAX #29, section 4). They depend on the bytes alone, however the reader gives them.
+/// its words (UAX #29, section 4). They depend only on the bytes, however the reader gives them.
 ///
 /// `limit` is the most bytes of a paragraph, 1 to 16,777,216. The whole text is held in memory.
 ///

@@ -1,4 +1,4 @@
-//! What holds of the parts of a text, over the definitions alone: the contract of a function that does nothing.
+//! What holds of the parts of a text, over definitions only: the contract of a function that does nothing.
 
 ghost use Rattle.std.specs.Prelude.{◌≡◌, ℕ, ◌-◌, ◌<◌, ◌≤◌, List, drop, length};
 ghost use Rattle.std.specs.List.{flat_map};

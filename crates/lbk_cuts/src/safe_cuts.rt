@@ -54,7 +54,7 @@ pub fn cut_before(table: &FlatTable, text: &[u8], at: usize) -> usize
     last_cut(table, text, piece_start(text, at + 1))
 }
 
-/// The first place behind the piece at `start` at which a part may begin.
+/// The first place after the piece at `start` at which a part may begin.
 fn first_cut(table: &FlatTable, text: &[u8], start: usize) -> usize
     requires within { start < length text.now }
     requires begins { IsPieceStart text.now start }

@@ -60,7 +60,7 @@ pub(crate) fn with_byte(cut: Cut, byte: u8) -> Cut
     }
 }
 
-/// What is behind the first bytes.
+/// What comes after the first bytes.
 pub(crate) fn behind(cut: Cut, size: usize) -> Cut
     requires { (size ≤ cut.size) × (cut.size ≤ 4) }
     ensures size { result.size + size ≡ cut.size }
@@ -104,7 +104,7 @@ fn lead_len(first: u8) -> usize
     }
 }
 
-/// Whether a byte may stand second behind this first one.
+/// Whether a byte may stand second, after this first one.
 fn is_second(first: u8, next: u8) -> bool
     ensures { result ≡ second first next }
 {

@@ -13,7 +13,7 @@ pub struct Stream {
     /// The number of the verdict at the position that waits, where what follows leaves the quotation open. 0 where none
     /// waits.
     pub held_code: u16,
-    /// The bytes that came behind those taken as scalars.
+    /// The bytes that came after those taken as scalars.
     pub cut: [u8; 4],
     /// How many these are.
     pub cut_size: u8,
@@ -42,7 +42,7 @@ pub(crate) struct Place {
     pub(crate) held_code: u16,
 }
 
-/// At most four bytes behind the place.
+/// At most four bytes after the place.
 #[derive(Clone, Copy)]
 pub(crate) struct Cut {
     pub(crate) bytes: [u8; 4],

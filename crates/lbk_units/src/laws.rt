@@ -1,4 +1,4 @@
-//! What holds of one text in several encodings, over the definitions alone. Each law is the contract of a function that does
+//! What holds of one text in several encodings, over definitions only. Each law is the contract of a function that does
 //! nothing.
 
 ghost use Rattle.std.specs.Prelude.{◌≡◌, ℕ, true, List, map};

@@ -8,7 +8,7 @@ ghost use Rattle.lbk_units.specs.Units.{pieces_of_utf16, utf16_piece};
 
 use crate::unit::{Piece, Unit};
 
-/// A surrogate that stands alone.
+/// A surrogate without its other half.
 const LONE: Piece = Piece {
     scalar: '\u{FFFD}',
     size: 1,

@@ -1,6 +1,6 @@
 //! Laws: the words of a text that `lbk_words` finds are those of its passages.
 //!
-//! They are over the definitions alone. Each is the contract of a function that does nothing.
+//! They are over definitions only. Each is the contract of a function that does nothing.
 #![tactic(auto)]
 
 ghost use Rattle.std.specs.Prelude.{◌≡◌, ℕ, List, IsUtf8};
