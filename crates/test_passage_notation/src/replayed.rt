@@ -151,8 +151,8 @@ fn replayed<R: Source>(
     profile: Profile,
 ) -> Result<(Result<Report, ReplayFault>, MemorySink), AllocError> {
     let mut sink = MemorySink::new(alloc, ROOM)?;
-    let answer = replay(alloc, source, &mut sink, cells, form, profile);
-    Ok((answer, sink))
+    let report = replay(alloc, source, &mut sink, cells, form, profile);
+    Ok((report, sink))
 }
 
 /// Replays one byte again and again, and compares whether it is refused, and what is written.
