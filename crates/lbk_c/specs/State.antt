@@ -21,12 +21,16 @@ start_in profile = record { at = 0; row = 0; profile = profile_number profile; e
 abbrev pub goes_on : ℕ → Bool
 goes_on number = number == 2 || number == 3
 
+-- the number without that
+abbrev pub plain_number : ℕ → ℕ
+plain_number number = if goes_on number then number - 2 else number
+
 -- the state with only the profile in its number
 abbrev pub plain : State → State
 plain state = record {
   at = state.at;
   row = state.row;
-  profile = if goes_on state.profile then state.profile - 2 else state.profile;
+  profile = plain_number state.profile;
   ended = state.ended;
 }
 

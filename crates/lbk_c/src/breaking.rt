@@ -14,7 +14,7 @@ ghost use Rattle.lbk_bytes.specs.Order.{AreInOrder};
 ghost use Rattle.lbk_bytes.specs.Reached.{ReachedBy};
 ghost use Rattle.lbk_c.specs.Coming.{Comes, GoesBy, IsGoing, IsSpent, from_state, onward_in};
 ghost use Rattle.lbk_bytes.specs.Shown.{given_in};
-ghost use Rattle.lbk_c.specs.State.{goes_on, part_start, plain, profile_numbered, start_in};
+ghost use Rattle.lbk_c.specs.State.{goes_on, part_start, plain, plain_number, profile_numbered, start_in};
 
 use crate::interface::State;
 use lbk_bytes::{FillState, RawBreak, fill, put_end};
@@ -70,7 +70,7 @@ pub extern "C" fn lbk_breaks(
 }
 
 /// Whether the number of a profile says, too, that the text goes on after its end.
-fn goes_on(number: u8) -> bool
+pub(crate) fn goes_on(number: u8) -> bool
     ensures { result ≡ goes_on number }
 {
     number == 2 || number == 3
@@ -80,12 +80,15 @@ fn goes_on(number: u8) -> bool
 fn plain(state: &State) -> State
     ensures { result ≡ plain state.now }
 {
-    let profile = if goes_on(state.profile) {
-        state.profile - 2
-    } else {
-        state.profile
-    };
+    let profile = plain_number(state.profile);
     State { profile, ..*state }
+}
+
+/// The number of a profile without that.
+pub(crate) fn plain_number(number: u8) -> u8
+    ensures { result ≡ plain_number number }
+{
+    if goes_on(number) { number - 2 } else { number }
 }
 
 /// The profile of a state from which breaks may come of a text of this length: none where the state names no profile, has
