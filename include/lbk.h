@@ -118,7 +118,7 @@ enum {
 enum {
     LBK_FIRST = 0,  /* rule 15 of Unicode 15.0 */
     LBK_SECOND = 1, /* rules 15a and 15b in its place, which look at both sides of a quotation mark */
-    LBK_GOES_ON = 2 /* added to one of the two, for lbk_breaks only: the text goes on after the `size` bytes of the call */
+    LBK_GOES_ON = 2 /* added to one of the two, for lbk_breaks and lbk_feed: the text goes on after the end of what is given */
 };
 
 /* lbk_fault.file: the files of the Unicode Character Database, in the order in which lbk_read takes them. */
@@ -191,7 +191,7 @@ typedef struct lbk_stream {
     uint16_t held_code; /* the break that is due at held_at if what follows leaves the quotation open; 0: no place waits */
     uint8_t cut[4];     /* the bytes after `at` that came already, as those of a scalar that a piece's end cut */
     uint8_t cut_size;   /* how many these are */
-    uint8_t profile;    /* LBK_FIRST or LBK_SECOND; no call changes it */
+    uint8_t profile;    /* LBK_FIRST or LBK_SECOND, and LBK_GOES_ON; no call changes it */
     uint8_t ended;      /* 0, or else nothing more is to come */
 } lbk_stream;
 
@@ -317,7 +317,8 @@ size_t lbk_breaks_utf32(const lbk_table *table, lbk_state *state, const uint32_t
  *
  * However the text is cut into pieces, and whatever room each call has, the breaks of all calls are those that lbk_breaks
  * gives of the joined pieces, each once and in the same order; `at` counts from the start of the stream. A piece may be empty,
- * and may end within a scalar. `last` says that nothing follows the piece: the rest is decided then, the end too.
+ * and may end within a scalar. `last` says that nothing follows the piece: the rest is decided then, the end too. Of a part of a
+ * text (see lbk_cut) the stream's `at` is the part's place at the start, and LBK_GOES_ON says that more follows `last`.
  *
  * Fewer breaks than `room` say that the whole piece was taken, and after `last` that these were all; later calls then give 0
  * and take all that they are given. Where the block is full, call again with the rest of the piece (it may be empty) and the

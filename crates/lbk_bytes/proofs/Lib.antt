@@ -4,6 +4,7 @@ pub mod OrderLemmas
 pub mod PieceLemmas
 pub mod CutLemmas
 pub mod ReachedLemmas
+pub mod PartLemmas
 pub mod EndLemmas
 pub mod ShownLemmas
 pub mod StepLemmas

@@ -18,7 +18,7 @@ pub use deciding::{Decided, decide_one};
 pub use ends::{END, put_end};
 pub use fill_state::FillState;
 pub use filling::{fill, fill_common, put};
-pub use profiles::profile_numbered;
+pub use profiles::{goes_on, plain_number, profile_numbered};
 pub use raw_break::RawBreak;
 pub use shown::shown_of;
 pub use steps::{step_at, steps_of};

@@ -1,7 +1,7 @@
 //! The numbers of profiles.
 
 ghost use Rattle.std.specs.Prelude.{◌≡◌};
-ghost use Rattle.lbk_bytes.specs.Profiles.{profile_numbered};
+ghost use Rattle.lbk_bytes.specs.Profiles.{goes_on, plain_number, profile_numbered};
 
 use lbk_rules::Profile;
 
@@ -14,4 +14,18 @@ pub fn profile_numbered(number: u8) -> Option<Profile>
         1 => Some(Profile::Second),
         _ => None,
     }
+}
+
+/// Whether the number of a profile says, too, that the text goes on after its end.
+pub fn goes_on(number: u8) -> bool
+    ensures { result ≡ goes_on number }
+{
+    number == 2 || number == 3
+}
+
+/// The number of a profile without that.
+pub fn plain_number(number: u8) -> u8
+    ensures { result ≡ plain_number number }
+{
+    if goes_on(number) { number - 2 } else { number }
 }

@@ -1,23 +1,19 @@
 -- States.
-use Rattle.std.specs.Prelude.{ℕ, ◌+◌, ◌-◌, ◌==◌, ◌||◌, Bool, if◌then◌else◌}
+use Rattle.std.specs.Prelude.{ℕ, ◌+◌, Bool, if◌then◌else◌}
 use Rattle.lbk_values.specs.declared.profile.Profile.{Profile}
-pub use Rattle.lbk_bytes.specs.Profiles.{profile_number, profile_numbered}
+pub use Rattle.lbk_bytes.specs.Profiles.{goes_on, plain_number, profile_number, profile_numbered}
 use Rattle.lbk_c.specs.declared.interface.State.{State}
 
 -- the state at the start of a text
 abbrev pub start_in : Profile → State
 start_in profile = record { at = 0; row = 0; profile = profile_number profile; ended = 0 }
 
--- whether a number of a profile says, too, that the text goes on after its end
-abbrev pub goes_on : ℕ → Bool
-goes_on number = number == 2 || number == 3
-
 -- the state with only the profile in its number
 abbrev pub plain : State → State
 plain state = record {
   at = state.at;
   row = state.row;
-  profile = if goes_on state.profile then state.profile - 2 else state.profile;
+  profile = plain_number state.profile;
   ended = state.ended;
 }
 

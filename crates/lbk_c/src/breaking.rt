@@ -14,10 +14,10 @@ ghost use Rattle.lbk_bytes.specs.Order.{AreInOrder};
 ghost use Rattle.lbk_bytes.specs.Reached.{ReachedBy};
 ghost use Rattle.lbk_c.specs.Coming.{Comes, GoesBy, IsGoing, IsSpent, from_state, onward_in};
 ghost use Rattle.lbk_bytes.specs.Shown.{given_in};
-ghost use Rattle.lbk_c.specs.State.{goes_on, part_start, plain, profile_numbered, start_in};
+ghost use Rattle.lbk_c.specs.State.{part_start, plain, profile_numbered, start_in};
 
 use crate::interface::State;
-use lbk_bytes::{FillState, RawBreak, fill, profile_numbered, put_end};
+use lbk_bytes::{FillState, RawBreak, fill, goes_on, plain_number, profile_numbered, put_end};
 use lbk_rules::Profile;
 use lbk_steps::FlatTable;
 
@@ -69,22 +69,11 @@ pub extern "C" fn lbk_breaks(
     go_on(table, profile, state, text, out)
 }
 
-/// Whether the number of a profile says, too, that the text goes on after its end.
-fn goes_on(number: u8) -> bool
-    ensures { result ≡ goes_on number }
-{
-    number == 2 || number == 3
-}
-
 /// The state with only the profile in its number.
 fn plain(state: &State) -> State
     ensures { result ≡ plain state.now }
 {
-    let profile = if goes_on(state.profile) {
-        state.profile - 2
-    } else {
-        state.profile
-    };
+    let profile = plain_number(state.profile);
     State { profile, ..*state }
 }
 

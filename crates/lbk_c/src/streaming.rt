@@ -1,14 +1,15 @@
 //! A text that comes in pieces.
 
-ghost use Rattle.std.specs.Prelude.{◌≡◌, ◌⊎◌, ℕ, ◌+◌, ◌^◌, ◌<◌, ◌≤◌, ◌++◌, true, false, [], List, drop, length, take};
+ghost use Rattle.std.specs.Prelude.{◌≡◌, ◌⊎◌, ℕ, Bool, ◌+◌, ◌^◌, ◌<◌, ◌≤◌, ◌++◌, true, false, [], List, drop, length, map, take};
 ghost use Rattle.lbk_rules.specs.declared.breaks.Break.{Break};
 ghost use Rattle.lbk_rules.specs.declared.cells.Cell.{Cell};
 ghost use Rattle.lbk_values.specs.declared.profile.Profile.{Profile};
+ghost use Rattle.lbk_rules.specs.Joins.{moved};
 ghost use Rattle.lbk_steps.specs.FlatTable.{IsFlatOf};
-ghost use Rattle.lbk_bytes.specs.Bytes.{breaks_of_bytes};
+ghost use Rattle.lbk_bytes.specs.Bytes.{breaks_of_bytes, breaks_of_part};
 ghost use Rattle.lbk_bytes.specs.Shown.{given_in};
 ghost use Rattle.lbk_streams.specs.Stands.{Streams};
-ghost use Rattle.lbk_streams.specs.Streams.{AreUnsettled, cut_bytes, stream_start};
+ghost use Rattle.lbk_streams.specs.Streams.{AreUnsettled, cut_bytes, part_stream, stream_start};
 
 use lbk_bytes::RawBreak;
 use lbk_steps::FlatTable;
@@ -19,8 +20,8 @@ use lbk_streams::{Fed, Stream, feed};
 /// breaks left are settled then, and the end is the last of them.
 ///
 /// The bytes may be any: over all calls the breaks are those of the joined pieces, as `lbk_breaks` has them, at places from the
-/// start of the stream. Where the block has no room, nothing is taken and the stream stays. Where the stream has ended or names
-/// no profile, all is taken and no break comes.
+/// start of the stream, or of the text of which it is a part. Where the block has no room, nothing is taken and the stream
+/// stays. Where the stream has ended or names no profile, all is taken and no break comes.
 #[unsafe(no_mangle)]
 pub extern "C" fn lbk_feed(
     table: &FlatTable,
@@ -34,6 +35,10 @@ pub extern "C" fn lbk_feed(
     ensures profile_same { stream.new.profile ≡ stream.old.profile }
     ensures start { (cell : ℕ → Cell) (profile : Profile) (text : List ℕ) → IsFlatOf table.now cell → length text < 2 ^ 64
         → stream.old ≡ stream_start profile → Streams cell table.now stream.old text (breaks_of_bytes profile cell text) }
+    // A part of a text: places count from the text's start, if the part's place is given, and the text may go on after it.
+    ensures part { (cell : ℕ → Cell) (profile : Profile) (goes_on : Bool) (at : ℕ) (text : List ℕ) → IsFlatOf table.now cell → at + length text < 2 ^ 64
+        → stream.old ≡ part_stream goes_on profile at
+        → Streams cell table.now stream.old text (map (moved at) (breaks_of_part goes_on profile cell text)) }
     // Whatever bytes follow the piece (none, where it is the last): what comes of all of them comes first of this call.
     ensures front { (cell : ℕ → Cell) (more : List ℕ) (to_come : List Break) → Streams cell table.now stream.old (piece.now ++ more) to_come
         → (last ≡ true → more ≡ []) → given_in out.new result.count ≡ take result.count to_come }
@@ -48,8 +53,8 @@ pub extern "C" fn lbk_feed(
         → stream.new.at + length (cut_bytes stream.new) ≡ stream.old.at + length (cut_bytes stream.old) + result.taken }
     ensures end { (cell : ℕ → Cell) (to_come : List Break) → Streams cell table.now stream.old piece.now to_come
         → last ≡ true → result.count < length out.old → result.count ≡ length to_come }
-    ensures ended { last ≡ true → result.count < length out.old → 0 < stream.new.ended ⊎ (1 < stream.old.profile) }
-    ensures stays { 0 < stream.old.ended ⊎ ((1 < stream.old.profile) ⊎ (length out.old ≡ 0)) → (result.count ≡ 0) × (stream.new ≡ stream.old) }
+    ensures ended { last ≡ true → result.count < length out.old → 0 < stream.new.ended ⊎ (3 < stream.old.profile) }
+    ensures stays { 0 < stream.old.ended ⊎ ((3 < stream.old.profile) ⊎ (length out.old ≡ 0)) → (result.count ≡ 0) × (stream.new ≡ stream.old) }
     ensures no_room { length out.old ≡ 0 → result.taken ≡ 0 }
 {
     feed(table, stream, piece, last, out)

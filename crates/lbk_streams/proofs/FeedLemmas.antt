@@ -14,7 +14,7 @@ use Rattle.lbk_streams.specs.declared.stream.Cut.{Cut}
 use Rattle.lbk_streams.specs.declared.stream.Feeding.{Feeding}
 use Rattle.lbk_streams.specs.declared.stream.Place.{Place}
 use Rattle.lbk_bytes.specs.Shown.{given_in, shown}
-use Rattle.lbk_streams.specs.Stands.{Feeds, Stands, front_of}
+use Rattle.lbk_streams.specs.Stands.{Ahead, Feeds, Stands, front_of}
 use Rattle.lbk_bytes.proofs.CutLemmas.{four-more}
 use Rattle.lbk_bytes.proofs.PieceLemmas.{rest-of}
 
@@ -33,7 +33,7 @@ none-cut cut rest zero = ap (λ n. take n cut.bytes ++ rest) zero
 
 module _ (profile : Profile) (cell : ℕ → Cell) (lefts : List Left) (base : ℕ) (piece more : List ℕ) where
   -- the scalar in front of the bytes that were cut is taken
-  pub Feeds-cut : (here : Feeding) (place : Place) (cut : Cut) (count size : ℕ) (passed : Bool) (all given after : List Break)
+  pub Feeds-cut : (here : Feeding) (place : Place) (cut : Cut) (count size : ℕ) (passed : Bool) (all : Ahead) (given after : List Break)
       → size ≤ length (front_of here.cut) → passed ≡ true → front_of cut ≡ drop size (front_of here.cut) → cut.size + size ≡ here.cut.size
       → place.at ≡ cond passed ((here.place.at + size) % 2 ^ 64) here.place.at
       → Stands profile cell lefts place
@@ -55,7 +55,7 @@ module _ (profile : Profile) (cell : ℕ → Cell) (lefts : List Left) (base : �
       }
 
   -- it is not, as the block is full
-  pub Feeds-stay : (here : Feeding) (place : Place) (count : ℕ) (size : ℕ) (passed : Bool) (all given after : List Break)
+  pub Feeds-stay : (here : Feeding) (place : Place) (count : ℕ) (size : ℕ) (passed : Bool) (all : Ahead) (given after : List Break)
       → passed ≡ false → place.at ≡ cond passed ((here.place.at + size) % 2 ^ 64) here.place.at
       → Stands profile cell lefts place
       (cond passed (drop size (front_of here.cut ++ (drop here.taken piece ++ more))) (front_of here.cut ++ (drop here.taken piece ++ more))) all after
@@ -71,7 +71,7 @@ module _ (profile : Profile) (cell : ℕ → Cell) (lefts : List Left) (base : �
       }
 
   -- a byte of the piece is put behind those that were cut
-  pub Feeds-byte : (here : Feeding) (cut : Cut) (byte : ℕ) (all given : List Break)
+  pub Feeds-byte : (here : Feeding) (cut : Cut) (byte : ℕ) (all : Ahead) (given : List Break)
       → here.taken < length piece → byte ≡ get_or piece here.taken 0 → front_of cut ≡ front_of here.cut ++ byte ∷ [] → cut.size ≡ here.cut.size + 1
       → Feeds profile cell lefts base piece more here all given
       → Feeds profile cell lefts base piece more (record { place = here.place; cut = cut; taken = here.taken + 1; count = here.count }) all given
@@ -88,7 +88,7 @@ module _ (profile : Profile) (cell : ℕ → Cell) (lefts : List Left) (base : �
       }
 
   -- a scalar of the piece is taken
-  pub Feeds-run : (here : Feeding) (place : Place) (count size : ℕ) (passed : Bool) (all given after : List Break)
+  pub Feeds-run : (here : Feeding) (place : Place) (count size : ℕ) (passed : Bool) (all : Ahead) (given after : List Break)
       → here.cut.size ≡ 0 → here.taken + size ≤ length piece → passed ≡ true
       → place.at ≡ cond passed ((here.place.at + size) % 2 ^ 64) here.place.at
       → Stands profile cell lefts place (cond passed (drop size (drop here.taken piece ++ more)) (drop here.taken piece ++ more)) all after
@@ -112,7 +112,7 @@ module _ (profile : Profile) (cell : ℕ → Cell) (lefts : List Left) (base : �
       }
 
   -- it is not, as the block is full, and is kept
-  pub Feeds-kept : (here : Feeding) (place : Place) (cut : Cut) (count size : ℕ) (passed : Bool) (all given after : List Break)
+  pub Feeds-kept : (here : Feeding) (place : Place) (cut : Cut) (count size : ℕ) (passed : Bool) (all : Ahead) (given after : List Break)
       → here.cut.size ≡ 0 → here.taken + size ≤ length piece → passed ≡ false → front_of cut ≡ take size (drop here.taken piece) → cut.size ≡ size
       → place.at ≡ cond passed ((here.place.at + size) % 2 ^ 64) here.place.at
       → Stands profile cell lefts place (cond passed (drop size (drop here.taken piece ++ more)) (drop here.taken piece ++ more)) all after

@@ -1,5 +1,5 @@
 -- Places that count from the start of a stream.
-use Rattle.std.proofs.Common.{◌≡◌, ℕ, ◌+◌, ◌-◌, ◌%◌, ◌^◌, ◌<◌, ◌≤◌, true, false, cond, List, [], ◌∷◌, ◌++◌, length, map, drop, refl, sym, ap, subst, ◌∙◌, append_assoc, length-append, length-drop, arith}
+use Rattle.std.proofs.Common.{◌≡◌, ℕ, ◌+◌, ◌-◌, ◌%◌, ◌^◌, ◌<◌, ◌≤◌, Bool, true, false, cond, List, [], ◌∷◌, ◌++◌, length, map, drop, refl, sym, ap, subst, ◌∙◌, append_assoc, length-append, length-drop, arith}
 use Rattle.std.proofs.lemmas.List.{drop-append-le, map-append}
 use Rattle.bstr.specs.Utf8.{Decoded, or_replacement, pieces}
 use Rattle.bstr.proofs.lemmas.PieceLemmas.{pieces-sizes, sizes}
@@ -9,14 +9,15 @@ use Rattle.lbk_rules.specs.declared.facts.Left.{Left}
 use Rattle.lbk_values.specs.declared.profile.Profile.{Profile}
 use Rattle.lbk_rules.specs.declared.verdicts.Verdict.{Verdict}
 use Rattle.lbk_rules.specs.Breaks.{break_by, is_no}
+use Rattle.lbk_rules.specs.Ends.{end_after, ends_line}
 use Rattle.lbk_rules.specs.Verdict.{verdict_between_in}
 use Rattle.lbk_steps.specs.FlatTable.{KnowsTaken}
 use Rattle.lbk_bytes.specs.declared.fill_state.FillState.{FillState}
 use Rattle.lbk_streams.specs.declared.stream.Feeding.{Feeding}
 use Rattle.lbk_streams.specs.declared.stream.Place.{Place}
-use Rattle.lbk_bytes.specs.Bytes.{with_break}
-use Rattle.lbk_bytes.specs.Reached.{ReachedBy, onward, scalars_of}
-use Rattle.lbk_streams.specs.Stands.{Feeds, Stands, front_of, moved}
+use Rattle.lbk_bytes.specs.Bytes.{end_in, with_break}
+use Rattle.lbk_bytes.specs.Reached.{ReachedBy, scalars_of}
+use Rattle.lbk_streams.specs.Stands.{Ahead, Feeds, Stands, front_of, moved, onward_of}
 use Rattle.lbk_streams.specs.Streams.{late_break}
 use Rattle.lbk_streams.proofs.FeedLemmas.{none-cut}
 use Rattle.lbk_streams.proofs.StandsLemmas.{late-none}
@@ -29,32 +30,43 @@ moved-with by at verdict more fits =
     as (λ b. map (moved by) (cond b more (break_by at verdict ∷ more)) ≡ cond b (map (moved by) more) (break_by (at + by) verdict ∷ map (moved by) more))
     [ true ↦ refl | false ↦ ap (λ n. break_by n verdict ∷ map (moved by) more) same ]
 
+end-moved : (goes_on : Bool) (profile : Profile) (cell : ℕ → Cell) (taken : List ℕ) (at by : ℕ) → at + by < 2 ^ 64
+    → map (moved by) (end_in goes_on profile cell taken at) ≡ end_in goes_on profile cell taken (at + by)
+end-moved false profile cell taken at by fits = moved-with by at (verdict_between_in profile (map cell taken) []) [] fits
+end-moved true profile cell [] at by fits = refl
+end-moved true profile cell (c ∷ []) at by fits =
+    let verdict = end_after (cell c).class in
+    let same : (at + by) % 2 ^ 64 ≡ at + by = omega arith in
+    elim (ends_line (cell c).class)
+    as (λ b. map (moved by) (cond b (break_by at verdict ∷ []) []) ≡ cond b (break_by (at + by) verdict ∷ []) [])
+    [ true ↦ ap (λ n. break_by n verdict ∷ []) same | false ↦ refl ]
+end-moved true profile cell (c ∷ d ∷ ds) at by fits = end-moved true profile cell (d ∷ ds) at by fits
+
 -- the breaks from a byte on are those from another, moved
-onward-moved : (profile : Profile) (cell : ℕ → Cell) (taken : List ℕ) (at by : ℕ) (ps : List Decoded) → at + by + sizes ps < 2 ^ 64
-    → map (moved by) (onward profile cell taken at ps) ≡ onward profile cell taken (at + by) ps
+onward-moved : (all : Ahead) (profile : Profile) (cell : ℕ → Cell) (taken : List ℕ) (at by : ℕ) (ps : List Decoded) → at + by + sizes ps < 2 ^ 64
+    → map (moved by) (onward_of all profile cell taken at ps) ≡ onward_of all profile cell taken (at + by) ps
 unfolding sizes
-onward-moved profile cell taken at by [] fits =
-    moved-with by at (verdict_between_in profile (map cell taken) []) [] (omega arith)
-onward-moved profile cell taken at by (p ∷ ps) fits =
+onward-moved all profile cell taken at by [] fits = end-moved all.goes_on profile cell taken at by (omega arith)
+onward-moved all profile cell taken at by (p ∷ ps) fits =
     let on = taken ++ or_replacement p.char ∷ [] in
     let verdict = verdict_between_in profile (map cell taken) (map cell (scalars_of (p ∷ ps))) in
     let place : at + p.size + by ≡ at + by + p.size = omega arith in
-    moved-with by at verdict (onward profile cell on (at + p.size) ps) (omega arith)
-    ∙ ap (with_break (at + by) verdict) (onward-moved profile cell on (at + p.size) by ps (omega arith))
-    ∙ ap (λ n. with_break (at + by) verdict (onward profile cell on n ps)) place
+    moved-with by at verdict (onward_of all profile cell on (at + p.size) ps) (omega arith)
+    ∙ ap (with_break (at + by) verdict) (onward-moved all profile cell on (at + p.size) by ps (omega arith))
+    ∙ ap (λ n. with_break (at + by) verdict (onward_of all profile cell on n ps)) place
 
-onward-bytes : (profile : Profile) (cell : ℕ → Cell) (taken : List ℕ) (at by : ℕ) (bytes : List ℕ) → at + by + length bytes < 2 ^ 64
-    → map (moved by) (onward profile cell taken at (pieces bytes)) ≡ onward profile cell taken (at + by) (pieces bytes)
-onward-bytes profile cell taken at by bytes fits =
+onward-bytes : (all : Ahead) (profile : Profile) (cell : ℕ → Cell) (taken : List ℕ) (at by : ℕ) (bytes : List ℕ) → at + by + length bytes < 2 ^ 64
+    → map (moved by) (onward_of all profile cell taken at (pieces bytes)) ≡ onward_of all profile cell taken (at + by) (pieces bytes)
+onward-bytes all profile cell taken at by bytes fits =
     let whole = pieces-sizes (length bytes) bytes (omega arith) in
-    onward-moved profile cell taken at by (pieces bytes) (omega arith)
+    onward-moved all profile cell taken at by (pieces bytes) (omega arith)
 
 -- a run over a piece is one over the stream
-pub Stands-skim : (profile : Profile) (cell : ℕ → Cell) (lefts : List Left) (piece more : List ℕ) (all given front : List Break) (place next : Place) (from : ℕ) (end : FillState)
+pub Stands-skim : (profile : Profile) (cell : ℕ → Cell) (lefts : List Left) (piece more : List ℕ) (all : Ahead) (given front : List Break) (place next : Place) (from : ℕ) (end : FillState)
     → from ≤ end.at → end.at ≤ length piece → place.held_code ≡ 0 → 0 < from → from ≤ place.at
     → next.at ≡ place.at + (end.at - from) → next.row ≡ end.row → next.held_code ≡ 0
-    → ((all : List Break) → ReachedBy onward profile cell lefts (piece ++ more) all (record { count = 0; row = place.row; at = from }) []
-    → ReachedBy onward profile cell lefts (piece ++ more) all end given)
+    → ((breaks : List Break) → ReachedBy (onward_of all) profile cell lefts (piece ++ more) breaks (record { count = 0; row = place.row; at = from }) []
+    → ReachedBy (onward_of all) profile cell lefts (piece ++ more) breaks end given)
     → front ≡ map (moved (place.at - from)) given
     → Stands profile cell lefts place (drop from piece ++ more) all []
     → Stands profile cell lefts next (drop end.at piece ++ more) all front
@@ -69,7 +81,7 @@ Stands-skim profile cell lefts piece more all given front place next from end on
     let end_same : end.at + by ≡ next.at = omega arith in
     let split_from : drop from (piece ++ more) ≡ bytes = drop-append-le from piece more (omega arith) in
     let split_end : drop end.at (piece ++ more) ≡ rest = drop-append-le end.at piece more within in
-    let r = reached (onward profile cell s.taken from (pieces (drop from (piece ++ more)))) (record {
+    let r = reached (onward_of all profile cell s.taken from (pieces (drop from (piece ++ more)))) (record {
       taken = s.taken;
       knows = s.knows;
       some = s.some;
@@ -83,28 +95,28 @@ Stands-skim profile cell lefts piece more all given front place next from end on
       waits = λ waits. absurd (omega arith);
       joined =
           s.joined
-          ∙ ap (λ l. l ++ onward profile cell s.taken place.at (pieces bytes)) (late-none cell place bytes free)
-          ∙ ap (λ n. onward profile cell s.taken n (pieces bytes)) (sym from_same)
-          ∙ sym (onward-bytes profile cell s.taken from by bytes (omega arith))
-          ∙ ap (λ l. map (moved by) (onward profile cell s.taken from (pieces l))) (sym split_from)
+          ∙ ap (λ l. l ++ onward_of all profile cell s.taken place.at (pieces bytes)) (late-none cell place bytes free)
+          ∙ ap (λ n. onward_of all profile cell s.taken n (pieces bytes)) (sym from_same)
+          ∙ sym (onward-bytes all profile cell s.taken from by bytes (omega arith))
+          ∙ ap (λ l. map (moved by) (onward_of all profile cell s.taken from (pieces l))) (sym split_from)
           ∙ ap (map (moved by)) r.joined
-          ∙ map-append (moved by) given (onward profile cell r.taken end.at (pieces (drop end.at (piece ++ more))))
-          ∙ ap (λ l. map (moved by) given ++ map (moved by) (onward profile cell r.taken end.at (pieces l))) split_end
-          ∙ ap (λ l. map (moved by) given ++ l) (onward-bytes profile cell r.taken end.at by rest (omega arith))
-          ∙ ap (λ l. l ++ onward profile cell r.taken (end.at + by) (pieces rest)) (sym shown)
-          ∙ ap (λ n. front ++ onward profile cell r.taken n (pieces rest)) end_same
-          ∙ ap (λ l. front ++ (l ++ onward profile cell r.taken next.at (pieces rest))) (sym (late-none cell next rest none_waits));
+          ∙ map-append (moved by) given (onward_of all profile cell r.taken end.at (pieces (drop end.at (piece ++ more))))
+          ∙ ap (λ l. map (moved by) given ++ map (moved by) (onward_of all profile cell r.taken end.at (pieces l))) split_end
+          ∙ ap (λ l. map (moved by) given ++ l) (onward-bytes all profile cell r.taken end.at by rest (omega arith))
+          ∙ ap (λ l. l ++ onward_of all profile cell r.taken (end.at + by) (pieces rest)) (sym shown)
+          ∙ ap (λ n. front ++ onward_of all profile cell r.taken n (pieces rest)) end_same
+          ∙ ap (λ l. front ++ (l ++ onward_of all profile cell r.taken next.at (pieces rest))) (sym (late-none cell next rest none_waits));
     }
 
 -- the breaks of a call, and those before it
-pub Stands-behind : (profile : Profile) (cell : ℕ → Cell) (lefts : List Left) (place next : Place) (bytes rest : List ℕ) (all given front after : List Break)
-    → ((all : List Break) → Stands profile cell lefts place bytes all [] → Stands profile cell lefts next rest all front)
+pub Stands-behind : (profile : Profile) (cell : ℕ → Cell) (lefts : List Left) (place next : Place) (bytes rest : List ℕ) (all : Ahead) (given front after : List Break)
+    → ((all : Ahead) → Stands profile cell lefts place bytes all [] → Stands profile cell lefts next rest all front)
     → after ≡ given ++ front
     → Stands profile cell lefts place bytes all given → Stands profile cell lefts next rest all after
 Stands-behind profile cell lefts place next bytes rest all given front after step grown s =
-    let coming = late_break cell place bytes ++ onward profile cell s.taken place.at (pieces bytes) in
-    let on = step coming (record { taken = s.taken; knows = s.knows; some = s.some; fits = s.fits; waits = s.waits; joined = refl }) in
-    let more = late_break cell next rest ++ onward profile cell on.taken next.at (pieces rest) in
+    let coming = late_break cell place bytes ++ onward_of all profile cell s.taken place.at (pieces bytes) in
+    let on = step (record { breaks = coming; goes_on = all.goes_on }) (record { taken = s.taken; knows = s.knows; some = s.some; fits = s.fits; waits = s.waits; joined = refl }) in
+    let more = late_break cell next rest ++ onward_of all profile cell on.taken next.at (pieces rest) in
     record {
       taken = on.taken;
       knows = on.knows;
@@ -117,9 +129,9 @@ Stands-behind profile cell lefts place next bytes rest all given front after ste
 
 -- a run over a piece, in the place behind the breaks that were given
 pub Feeds-skim : (profile : Profile) (cell : ℕ → Cell) (lefts : List Left) (base : ℕ) (piece more : List ℕ) (here : Feeding) (next : Place) (end : FillState) (count : ℕ)
-    (all given front after : List Break)
+    (all : Ahead) (given front after : List Break)
     → here.cut.size ≡ 0 → here.taken ≤ end.at → end.at ≤ length piece → next.at ≡ (here.place.at + (end.at - here.taken)) % 2 ^ 64
-    → ((all : List Break) → next.at ≡ here.place.at + (end.at - here.taken) → here.taken ≤ here.place.at
+    → ((all : Ahead) → next.at ≡ here.place.at + (end.at - here.taken) → here.taken ≤ here.place.at
     → Stands profile cell lefts here.place (drop here.taken piece ++ more) all [] → Stands profile cell lefts next (drop end.at piece ++ more) all front)
     → after ≡ given ++ front
     → Feeds profile cell lefts base piece more here all given
@@ -137,6 +149,6 @@ Feeds-skim profile cell lefts base piece more here next end count all given fron
     record {
       stands =
           subst (λ l. Stands profile cell lefts next l all after) (sym (none-cut here.cut rest none))
-          (Stands-behind profile cell lefts here.place next bytes rest all given front after (λ (coming : List Break). step coming at (omega arith)) grown stands);
+          (Stands-behind profile cell lefts here.place next bytes rest all given front after (λ (coming : Ahead). step coming at (omega arith)) grown stands);
       seen = omega arith;
     }

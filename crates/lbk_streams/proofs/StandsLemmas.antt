@@ -32,8 +32,8 @@ use Rattle.lbk_steps.specs.Kinds.{kind_cell}
 use Rattle.lbk_steps.specs.RowMachineFits.{normals}
 use Rattle.lbk_streams.specs.declared.stream.Place.{Place}
 use Rattle.lbk_bytes.specs.Bytes.{with_break}
-use Rattle.lbk_bytes.specs.Reached.{onward, steps_in}
-use Rattle.lbk_streams.specs.Stands.{Stands, Waits}
+use Rattle.lbk_bytes.specs.Reached.{steps_in}
+use Rattle.lbk_streams.specs.Stands.{Ahead, Stands, Waits, onward_of}
 use Rattle.lbk_streams.specs.Streams.{cells_of, late_break}
 use Rattle.lbk_bytes.proofs.AheadLemmas.{heads-tells, joins-leaves, told_by}
 use Rattle.lbk_bytes.proofs.ReachedLemmas.{with_break-more}
@@ -95,18 +95,18 @@ cells-first cell bytes c size some is_char is_size =
     ∙ ap (λ x. normal (cell x) ∷ cells_of cell (drop (decoded bytes).size bytes)) (sym is_char)
     ∙ ap (λ n. normal (cell c) ∷ cells_of cell (drop n bytes)) (sym is_size)
 
-onward-first : (profile : Profile) (cell : ℕ → Cell) (taken : List ℕ) (at : ℕ) (bytes : List ℕ) (c size : ℕ) → 0 < length bytes
+onward-first : (all : Ahead) (profile : Profile) (cell : ℕ → Cell) (taken : List ℕ) (at : ℕ) (bytes : List ℕ) (c size : ℕ) → 0 < length bytes
     → c ≡ or_replacement (decoded bytes).char → size ≡ (decoded bytes).size
-    → onward profile cell taken at (pieces bytes)
+    → onward_of all profile cell taken at (pieces bytes)
     ≡ with_break at (verdict_between_in profile (map cell taken) (cell c ∷ map cell (lossy_chars (drop size bytes))))
-    (onward profile cell (taken ++ c ∷ []) (at + size) (pieces (drop size bytes)))
-onward-first profile cell taken at bytes c size some is_char is_size =
+    (onward_of all profile cell (taken ++ c ∷ []) (at + size) (pieces (drop size bytes)))
+onward-first all profile cell taken at bytes c size some is_char is_size =
     let p = decoded bytes in
-    ap (onward profile cell taken at) (pieces-step bytes some)
+    ap (onward_of all profile cell taken at) (pieces-step bytes some)
     ∙ ap (λ x. with_break at (verdict_between_in profile (map cell taken) (cell x ∷ map cell (lossy_chars (drop p.size bytes))))
-    (onward profile cell (taken ++ x ∷ []) (at + p.size) (pieces (drop p.size bytes)))) (sym is_char)
+    (onward_of all profile cell (taken ++ x ∷ []) (at + p.size) (pieces (drop p.size bytes)))) (sym is_char)
     ∙ ap (λ n. with_break at (verdict_between_in profile (map cell taken) (cell c ∷ map cell (lossy_chars (drop n bytes))))
-    (onward profile cell (taken ++ c ∷ []) (at + n) (pieces (drop n bytes)))) (sym is_size)
+    (onward_of all profile cell (taken ++ c ∷ []) (at + n) (pieces (drop n bytes)))) (sym is_size)
 
 -- The position that waits
 
@@ -122,7 +122,7 @@ late-some cell place bytes closes held is =
     ap (λ b. cond (b || leaves_closed (units_after false (cells_of cell bytes))) [] late) held ∙ ap (λ b. cond b [] late) is
 
 -- the next scalar decides it
-pub Stands-settle : (profile : Profile) (cell : ℕ → Cell) (lefts : List Left) (place : Place) (bytes : List ℕ) (all given after : List Break)
+pub Stands-settle : (profile : Profile) (cell : ℕ → Cell) (lefts : List Left) (place : Place) (bytes : List ℕ) (all : Ahead) (given after : List Break)
     (c : ℕ) (closes : Bool)
     → 0 < length bytes → c ≡ or_replacement (decoded bytes).char → (place.held_code == 0) ≡ false
     → told_by false (normal (cell c)) ≡ Some closes
@@ -131,7 +131,7 @@ pub Stands-settle : (profile : Profile) (cell : ℕ → Cell) (lefts : List Left
     → Stands profile cell lefts (record { at = place.at; held_at = place.held_at; row = place.row; held_code = 0 }) bytes all after
 Stands-settle profile cell lefts place bytes all given after c closes some is_char held told grown s =
     let size = (decoded bytes).size in
-    let on = onward profile cell s.taken place.at (pieces bytes) in
+    let on = onward_of all profile cell s.taken place.at (pieces bytes) in
     let front = cond closes [] (with_break place.held_at (verdict_coded place.held_code) []) in
     let is : leaves_closed (units_after false (cells_of cell bytes)) ≡ closes =
     ap (λ cs. leaves_closed (units_after false cs)) (cells-first cell bytes c size some is_char refl)
@@ -150,7 +150,7 @@ Stands-settle profile cell lefts place bytes all given after c closes some is_ch
     }
 
 -- a mark that joins leaves it waiting
-pub Stands-join : (profile : Profile) (cell : ℕ → Cell) (lefts : List Left) (place next : Place) (bytes : List ℕ) (all given : List Break)
+pub Stands-join : (profile : Profile) (cell : ℕ → Cell) (lefts : List Left) (place next : Place) (bytes : List ℕ) (all : Ahead) (given : List Break)
     (c size : ℕ)
     → 0 < length bytes → c ≡ or_replacement (decoded bytes).char → size ≡ (decoded bytes).size
     → 0 < place.held_code → mark (normal (cell c)).class ≡ true
@@ -177,7 +177,7 @@ Stands-join profile cell lefts place next bytes all given c size some is_char is
     ∙ ap (λ n. cond (next.held_code == 0 || leaves_closed (units_after false (cells_of cell rest))) [] (with_break n (verdict_coded next.held_code) [])) (sym held_same) in
     let right = map cell (lossy_chars rest) in
     let verdict = verdict_between_in profile (map cell s.taken) (cell c ∷ right) in
-    let on = onward profile cell (s.taken ++ c ∷ []) (place.at + size) (pieces rest) in
+    let on = onward_of all profile cell (s.taken ++ c ∷ []) (place.at + size) (pieces rest) in
     let silent : with_break place.at verdict on ≡ on =
     ap (λ b. cond b on (break_by place.at verdict ∷ on)) (mark-no profile cell s.taken w.front w.last c right w.joined w.soft is_mark) in
     record {
@@ -196,9 +196,9 @@ Stands-join profile cell lefts place next bytes all given c size some is_char is
       };
       joined =
           s.joined
-          ∙ ap (λ l. given ++ (late_break cell place bytes ++ l)) (onward-first profile cell s.taken place.at bytes c size some is_char is_size ∙ silent)
+          ∙ ap (λ l. given ++ (late_break cell place bytes ++ l)) (onward-first all profile cell s.taken place.at bytes c size some is_char is_size ∙ silent)
           ∙ ap (λ l. given ++ (l ++ on)) late
-          ∙ ap (λ n. given ++ (late_break cell next rest ++ onward profile cell (s.taken ++ c ∷ []) n (pieces rest))) (sym at_same);
+          ∙ ap (λ n. given ++ (late_break cell next rest ++ onward_of all profile cell (s.taken ++ c ∷ []) n (pieces rest))) (sym at_same);
     }
 
 -- The position before a scalar
@@ -207,7 +207,7 @@ same-test : (a b : ℕ) → a ≡ b → (a == b) ≡ true
 same-test a b same = grind (arith, nat_tests)
 
 -- a scalar is taken where none waits: of its position this comes now, and this waits
-pub Stands-on : (profile : Profile) (cell : ℕ → Cell) (lefts : List Left) (place next : Place) (bytes : List ℕ) (all given front after : List Break)
+pub Stands-on : (profile : Profile) (cell : ℕ → Cell) (lefts : List Left) (place next : Place) (bytes : List ℕ) (all : Ahead) (given front after : List Break)
     (c size : ℕ)
     → 0 < length bytes → c ≡ or_replacement (decoded bytes).char → size ≡ (decoded bytes).size
     → place.held_code ≡ 0 → next.at ≡ (place.at + size) % 2 ^ 64
@@ -226,7 +226,7 @@ Stands-on profile cell lefts place next bytes all given front after c size some 
     let at_same : next.at ≡ place.at + size = (let fits = s.fits in omega arith) in
     let verdict = verdict_between_in profile (map cell s.taken) (cell c ∷ map cell (lossy_chars rest)) in
     let late = late_break cell next rest in
-    let on = onward profile cell (s.taken ++ c ∷ []) (place.at + size) (pieces rest) in
+    let on = onward_of all profile cell (s.taken ++ c ∷ []) (place.at + size) (pieces rest) in
     record {
       taken = s.taken ++ c ∷ [];
       knows = knows s.taken s.knows;
@@ -235,12 +235,12 @@ Stands-on profile cell lefts place next bytes all given front after c size some 
       waits = waits s.taken s.knows (omega arith);
       joined =
           s.joined
-          ∙ ap (λ l. given ++ (l ++ onward profile cell s.taken place.at (pieces bytes))) (late-none cell place bytes none_waits)
-          ∙ ap (λ l. given ++ l) (onward-first profile cell s.taken place.at bytes c size some is_char is_size ∙ with_break-more place.at verdict on
+          ∙ ap (λ l. given ++ (l ++ onward_of all profile cell s.taken place.at (pieces bytes))) (late-none cell place bytes none_waits)
+          ∙ ap (λ l. given ++ l) (onward-first all profile cell s.taken place.at bytes c size some is_char is_size ∙ with_break-more place.at verdict on
           ∙ ap (λ l. l ++ on) (sym (decides s.taken s.knows)) ∙ append_assoc front late on)
           ∙ sym (append_assoc given front (late ++ on))
           ∙ ap (λ g. g ++ (late ++ on)) (sym grown)
-          ∙ ap (λ n. after ++ (late ++ onward profile cell (s.taken ++ c ∷ []) n (pieces rest))) (sym at_same);
+          ∙ ap (λ n. after ++ (late ++ onward_of all profile cell (s.taken ++ c ∷ []) n (pieces rest))) (sym at_same);
     }
 
 -- the row that a step leads to

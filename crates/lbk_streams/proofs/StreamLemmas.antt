@@ -1,5 +1,5 @@
 -- The breaks of a stream from its start on, and some of them given.
-use Rattle.std.proofs.Common.{◌≡◌, ℕ, zero, suc, ◌==◌, ◌||◌, ◌+◌, ◌^◌, ◌<◌, ◌≤◌, true, false, cond, ◌⊎◌, inl, inr, ⊎_elim, Some, None, List, [], ◌∷◌, ◌++◌, length, map, drop, take, refl, sym, ap, subst, ◌∙◌, arith}
+use Rattle.std.proofs.Common.{◌≡◌, ℕ, zero, suc, ◌==◌, ◌||◌, ◌+◌, ◌^◌, ◌<◌, ◌≤◌, Bool, true, false, cond, ◌⊎◌, inl, inr, ⊎_elim, Some, None, List, [], ◌∷◌, ◌++◌, length, map, drop, take, refl, sym, ap, subst, ◌∙◌, arith}
 use Rattle.std.specs.List.{AllByRecursion}
 use Rattle.std.proofs.lemmas.Bool.{cases_lt}
 use Rattle.std.proofs.lemmas.List.{take_at}
@@ -10,10 +10,11 @@ use Rattle.lbk_rules.specs.declared.breaks.Break.{Break}
 use Rattle.lbk_rules.specs.declared.cells.Cell.{Cell}
 use Rattle.lbk_rules.specs.declared.facts.Left.{Left}
 use Rattle.lbk_values.specs.declared.profile.Profile.{Profile}
+use Rattle.lbk_values.specs.declared.profile.Profile.TheVariants.{First, Second}
 use Rattle.lbk_rules.specs.declared.verdicts.Verdict.{Verdict}
 use Rattle.lbk_rules.specs.Breaks.{break_by, is_no}
 use Rattle.lbk_rules.specs.Codes.{verdict_coded}
-use Rattle.lbk_rules.specs.Ends.{end_of_text}
+use Rattle.lbk_rules.specs.Ends.{end_after, ends_line}
 use Rattle.lbk_rules.specs.Normal.{normal}
 use Rattle.lbk_rules.specs.Sides.{leaves_closed}
 use Rattle.lbk_rules.specs.Units.{units_after}
@@ -24,40 +25,79 @@ use Rattle.lbk_steps.specs.FlatTable.{IsFlatBy, IsFlatOf, KnowsTaken}
 use Rattle.lbk_streams.specs.declared.stream.Feeding.{Feeding}
 use Rattle.lbk_streams.specs.declared.stream.Place.{Place}
 use Rattle.lbk_streams.specs.declared.stream.Stream.{Stream}
-use Rattle.lbk_bytes.specs.Bytes.{breaks_of_bytes, closed_end, with_break}
-use Rattle.lbk_bytes.specs.Reached.{onward, scalars_of}
-use Rattle.lbk_bytes.specs.Profiles.{profile_numbered}
-use Rattle.lbk_streams.specs.Stands.{Feeds, Stands, Streams, front_of}
+use Rattle.lbk_bytes.specs.Bytes.{breaks_of_bytes, end_in, with_break}
+use Rattle.lbk_bytes.specs.Reached.{onward_to, scalars_of}
+use Rattle.lbk_bytes.specs.Profiles.{goes_on, plain_number, profile_numbered}
+use Rattle.lbk_streams.specs.Stands.{Ahead, Feeds, Stands, Streams, ahead, front_of, onward_of}
 use Rattle.lbk_bytes.specs.Open.{could_go_on}
-use Rattle.lbk_streams.specs.Streams.{AreUnsettled, cut_bytes, late_break, place_of, stream_start}
-use Rattle.lbk_bytes.proofs.ReachedLemmas.{onward-start, profile-same}
+use Rattle.lbk_streams.specs.Streams.{AreUnsettled, cut_bytes, late_break, part_stream, place_of, stream_start}
+use Rattle.lbk_bytes.proofs.ReachedLemmas.{onward-start}
 
--- the start of a stream
+-- the start of a stream, or of a part of one
+pub Streams-part : (cell : ℕ → Cell) (table : FlatTable) (goes_on : Bool) (profile : Profile) (at : ℕ) (text : List ℕ) (stream : Stream) (to_come : List Break)
+    → IsFlatOf table cell → at + length text < 2 ^ 64 → stream ≡ part_stream goes_on profile at
+    → to_come ≡ onward_to (end_in goes_on) profile cell [] at (pieces text)
+    → Streams cell table stream text to_come
+Streams-part cell table goes_on profile at text stream to_come flat short starts whole =
+    subst (λ s. Streams cell table s text to_come) (sym starts) (flagged goes_on profile whole)
+  where
+    begun : (goes_on : Bool) (profile : Profile) → to_come ≡ onward_to (end_in goes_on) profile cell [] at (pieces text)
+        → Stands profile cell flat.0 (place_of (part_stream goes_on profile at)) text (record { breaks = to_come; goes_on = goes_on }) []
+    begun goes_on profile whole = record {
+      taken = [];
+      knows = (flat.1.begins, flat.1.start);
+      some = λ more. absurd (omega arith);
+      fits = short;
+      waits = λ more. absurd (omega arith);
+      joined = whole;
+    }
+
+    flagged : (goes_on : Bool) (profile : Profile) → to_come ≡ onward_to (end_in goes_on) profile cell [] at (pieces text)
+        → Streams cell table (part_stream goes_on profile at) text to_come
+    flagged true First whole = record {
+      profile = First;
+      named = refl;
+      lefts = flat.0;
+      flat = flat.1;
+      goes_on = λ _. begun true First whole;
+      none_come = λ more. absurd (omega arith);
+    }
+    flagged true Second whole = record {
+      profile = Second;
+      named = refl;
+      lefts = flat.0;
+      flat = flat.1;
+      goes_on = λ _. begun true Second whole;
+      none_come = λ more. absurd (omega arith);
+    }
+    flagged false First whole = record {
+      profile = First;
+      named = refl;
+      lefts = flat.0;
+      flat = flat.1;
+      goes_on = λ _. begun false First whole;
+      none_come = λ more. absurd (omega arith);
+    }
+    flagged false Second whole = record {
+      profile = Second;
+      named = refl;
+      lefts = flat.0;
+      flat = flat.1;
+      goes_on = λ _. begun false Second whole;
+      none_come = λ more. absurd (omega arith);
+    }
+
 pub Streams-start : (cell : ℕ → Cell) (table : FlatTable) (profile : Profile) (text : List ℕ) (stream : Stream) → IsFlatOf table cell → length text < 2 ^ 64
     → stream ≡ stream_start profile → Streams cell table stream text (breaks_of_bytes profile cell text)
 Streams-start cell table profile text stream flat short starts =
-    subst (λ s. Streams cell table s text (breaks_of_bytes profile cell text)) (sym starts) (record {
-      profile = profile;
-      named = profile-same profile;
-      lefts = flat.0;
-      flat = flat.1;
-      goes_on = λ _. record {
-        taken = [];
-        knows = (flat.1.begins, flat.1.start);
-        some = λ more. absurd (omega arith);
-        fits = omega arith;
-        waits = λ more. absurd (omega arith);
-        joined = onward-start profile cell (pieces text);
-      };
-      none_come = λ more. absurd (omega arith);
-    })
+    Streams-part cell table false profile 0 text stream (breaks_of_bytes profile cell text) flat (omega arith) starts (onward-start profile cell (pieces text))
 
 -- of the breaks to come these were given, and the others come
-pub Stands-rest : (profile : Profile) (cell : ℕ → Cell) (lefts : List Left) (place : Place) (bytes : List ℕ) (all given : List Break) (count : ℕ)
+pub Stands-rest : (profile : Profile) (cell : ℕ → Cell) (lefts : List Left) (place : Place) (bytes : List ℕ) (all : Ahead) (given : List Break) (count : ℕ)
     → length given ≡ count → Stands profile cell lefts place bytes all given
-    → (given ≡ take count all) × Stands profile cell lefts place bytes (drop count all) []
+    → (given ≡ take count all.breaks) × Stands profile cell lefts place bytes (record { breaks = drop count all.breaks; goes_on = all.goes_on }) []
 Stands-rest profile cell lefts place bytes all given count many s =
-    let more = late_break cell place bytes ++ onward profile cell s.taken place.at (pieces bytes) in (
+    let more = late_break cell place bytes ++ onward_of all profile cell s.taken place.at (pieces bytes) in (
       sym (ap (take count) s.joined ∙ take_at given more count many),
       record {
         taken = s.taken;
@@ -70,7 +110,7 @@ Stands-rest profile cell lefts place bytes all given count many s =
     )
 
 -- where a call begins
-pub Feeds-start : (profile : Profile) (cell : ℕ → Cell) (lefts : List Left) (stream : Stream) (piece more : List ℕ) (start : Feeding) (all : List Break)
+pub Feeds-start : (profile : Profile) (cell : ℕ → Cell) (lefts : List Left) (stream : Stream) (piece more : List ℕ) (start : Feeding) (all : Ahead)
     → start.place ≡ place_of stream → front_of start.cut ≡ cut_bytes stream → start.taken ≡ 0 → start.cut.size ≡ length (cut_bytes stream)
     → Stands profile cell lefts (place_of stream) (cut_bytes stream ++ (piece ++ more)) all []
     → Feeds profile cell lefts (stream.at + length (cut_bytes stream)) piece more start all []
@@ -91,13 +131,22 @@ with_break-onward least at verdict more high all =
     elim (is_no verdict.kind) as (λ b. AllByRecursion (λ found. least ≤ found.at) (cond b more (break_by at verdict ∷ more)))
     [ true ↦ all | false ↦ (high, all) ]
 
-pub onward-onward : (profile : Profile) (cell : ℕ → Cell) (taken : List ℕ) (least at : ℕ) (ps : List Decoded) → least ≤ at
-    → AllByRecursion (λ found. least ≤ found.at) (onward profile cell taken at ps)
-onward-onward profile cell taken least at [] high = with_break-onward least at (verdict_between_in profile (map cell taken) []) [] high tt
-onward-onward profile cell taken least at (p ∷ ps) high =
+end-onward : (goes_on : Bool) (profile : Profile) (cell : ℕ → Cell) (taken : List ℕ) (least at : ℕ) → least ≤ at
+    → AllByRecursion (λ found. least ≤ found.at) (end_in goes_on profile cell taken at)
+end-onward false profile cell taken least at high = with_break-onward least at (verdict_between_in profile (map cell taken) []) [] high tt
+end-onward true profile cell [] least at high = tt
+end-onward true profile cell (c ∷ []) least at high =
+    elim (ends_line (cell c).class) as (λ b. AllByRecursion (λ found. least ≤ found.at) (cond b (break_by at (end_after (cell c).class) ∷ []) []))
+    [ true ↦ (high, tt) | false ↦ tt ]
+end-onward true profile cell (c ∷ d ∷ ds) least at high = end-onward true profile cell (d ∷ ds) least at high
+
+pub onward-onward : (all : Ahead) (profile : Profile) (cell : ℕ → Cell) (taken : List ℕ) (least at : ℕ) (ps : List Decoded) → least ≤ at
+    → AllByRecursion (λ found. least ≤ found.at) (onward_of all profile cell taken at ps)
+onward-onward all profile cell taken least at [] high = end-onward all.goes_on profile cell taken least at high
+onward-onward all profile cell taken least at (p ∷ ps) high =
     with_break-onward least at (verdict_between_in profile (map cell taken) (map cell (scalars_of (p ∷ ps))))
-    (onward profile cell (taken ++ or_replacement p.char ∷ []) (at + p.size) ps) high
-    (onward-onward profile cell (taken ++ or_replacement p.char ∷ []) least (at + p.size) ps (omega arith))
+    (onward_of all profile cell (taken ++ or_replacement p.char ∷ []) (at + p.size) ps) high
+    (onward-onward all profile cell (taken ++ or_replacement p.char ∷ []) least (at + p.size) ps (omega arith))
 
 -- at the end a quotation is closed
 late-end : (cell : ℕ → Cell) (place : Place) → late_break cell place [] ≡ []
@@ -107,99 +156,100 @@ late-end cell place =
     ∙ ap (λ b. cond b [] late) (or-true (place.held_code == 0))
 
 -- where nothing is left, the end comes
-pub Stands-end : (profile : Profile) (cell : ℕ → Cell) (lefts : List Left) (place : Place) (bytes : List ℕ) (all given : List Break)
-    → bytes ≡ [] → (s : Stands profile cell lefts place bytes all given) → all ≡ given ++ closed_end profile cell s.taken place.at
+pub Stands-end : (profile : Profile) (cell : ℕ → Cell) (lefts : List Left) (place : Place) (bytes : List ℕ) (all : Ahead) (given : List Break)
+    → bytes ≡ [] → (s : Stands profile cell lefts place bytes all given) → all.breaks ≡ given ++ end_in all.goes_on profile cell s.taken place.at
 Stands-end profile cell lefts place bytes all given empty s =
     let at = place.at in
     let none_left : pieces bytes ≡ [] = ap pieces empty ∙ pieces-nil in
     let none_late : late_break cell place bytes ≡ [] = ap (late_break cell place) empty ∙ late-end cell place in
-    s.joined ∙ ap (λ l. given ++ (l ++ onward profile cell s.taken at (pieces bytes))) none_late
-    ∙ ap (λ ps. given ++ onward profile cell s.taken at ps) none_left
+    s.joined ∙ ap (λ l. given ++ (l ++ onward_of all profile cell s.taken at (pieces bytes))) none_late
+    ∙ ap (λ ps. given ++ onward_of all profile cell s.taken at ps) none_left
 
 -- Between the calls
 
-named-one : (p q : Profile) (stream : Stream) → profile_numbered stream.profile ≡ Some p → profile_numbered stream.profile ≡ Some q → p ≡ q
+named-one : (p q : Profile) (stream : Stream) → profile_numbered (plain_number stream.profile) ≡ Some p → profile_numbered (plain_number stream.profile) ≡ Some q → p ≡ q
 named-one p q stream is also = cc
 
 -- where a call begins on a stream from which breaks may come
 pub Feeds-streams : (profile : Profile) (cell : ℕ → Cell) (table : FlatTable) (old : Stream) (piece more : List ℕ) (to_come given : List Break) (start : Feeding)
-    → profile_numbered old.profile ≡ Some profile → old.ended ≡ 0
+    → profile_numbered (plain_number old.profile) ≡ Some profile → old.ended ≡ 0
     → start.place ≡ place_of old → front_of start.cut ≡ cut_bytes old → start.taken ≡ 0 → start.cut.size ≡ length (cut_bytes old) → given ≡ []
     → (s : Streams cell table old (piece ++ more) to_come)
-    → Feeds profile cell s.lefts (old.at + length (cut_bytes old)) piece more start to_come given
+    → Feeds profile cell s.lefts (old.at + length (cut_bytes old)) piece more start (ahead old.profile to_come) given
 Feeds-streams profile cell table old piece more to_come given start named unended place_same cut_same none size nothing s =
     let same : s.profile ≡ profile = named-one s.profile profile old s.named named in
-    subst (λ g. Feeds profile cell s.lefts (old.at + length (cut_bytes old)) piece more start to_come g) (sym nothing)
-    (Feeds-start profile cell s.lefts old piece more start to_come place_same cut_same none size
-    (subst (λ p. Stands p cell s.lefts (place_of old) (cut_bytes old ++ (piece ++ more)) to_come []) same (s.goes_on unended)))
+    subst (λ g. Feeds profile cell s.lefts (old.at + length (cut_bytes old)) piece more start (ahead old.profile to_come) g) (sym nothing)
+    (Feeds-start profile cell s.lefts old piece more start (ahead old.profile to_come) place_same cut_same none size
+    (subst (λ p. Stands p cell s.lefts (place_of old) (cut_bytes old ++ (piece ++ more)) (ahead old.profile to_come) []) same (s.goes_on unended)))
 
 -- the others come from where it ends
 pub Streams-next : (profile : Profile) (cell : ℕ → Cell) (table : FlatTable) (lefts : List Left) (base : ℕ) (old new : Stream) (piece more : List ℕ) (to_come given : List Break)
     (here : Feeding) (count : ℕ)
-    → profile_numbered old.profile ≡ Some profile → old.ended ≡ 0 → IsFlatBy lefts table cell
+    → profile_numbered (plain_number old.profile) ≡ Some profile → old.ended ≡ 0 → IsFlatBy lefts table cell
     → place_of new ≡ here.place → cut_bytes new ≡ front_of here.cut → new.profile ≡ old.profile → new.ended ≡ old.ended
-    → length given ≡ count → Feeds profile cell lefts base piece more here to_come given
+    → length given ≡ count → Feeds profile cell lefts base piece more here (ahead old.profile to_come) given
     → Streams cell table new (drop here.taken piece ++ more) (drop count to_come)
 Streams-next profile cell table lefts base old new piece more to_come given here count named unended flat place_same cut_same kept ended_same many f =
     let bytes = drop here.taken piece ++ more in
     record {
       profile = profile;
-      named = ap profile_numbered kept ∙ named;
+      named = ap (λ n. profile_numbered (plain_number n)) kept ∙ named;
       lefts = lefts;
       flat = flat;
       goes_on = λ _.
-          subst (λ p. Stands profile cell lefts p (cut_bytes new ++ bytes) (drop count to_come) []) (sym place_same)
-          (subst (λ l. Stands profile cell lefts here.place (l ++ bytes) (drop count to_come) []) (sym cut_same)
-          (Stands-rest profile cell lefts here.place (front_of here.cut ++ bytes) to_come given count many f.stands).1);
+          subst (λ n. Stands profile cell lefts (place_of new) (cut_bytes new ++ bytes) (ahead n (drop count to_come)) []) (sym kept)
+          (subst (λ p. Stands profile cell lefts p (cut_bytes new ++ bytes) (ahead old.profile (drop count to_come)) []) (sym place_same)
+          (subst (λ l. Stands profile cell lefts here.place (l ++ bytes) (ahead old.profile (drop count to_come)) []) (sym cut_same)
+          (Stands-rest profile cell lefts here.place (front_of here.cut ++ bytes) (ahead old.profile to_come) given count many f.stands).1));
       none_come = λ ended. absurd (omega arith);
     }
 
 -- the breaks that a call gave are the first of those to come
-pub Feeds-front : (profile : Profile) (cell : ℕ → Cell) (lefts : List Left) (base : ℕ) (piece more : List ℕ) (to_come given : List Break) (here : Feeding) (count : ℕ)
-    → length given ≡ count → Feeds profile cell lefts base piece more here to_come given → given ≡ take count to_come
-Feeds-front profile cell lefts base piece more to_come given here count many f =
-    (Stands-rest profile cell lefts here.place (front_of here.cut ++ (drop here.taken piece ++ more)) to_come given count many f.stands).0
+pub Feeds-front : (number : ℕ) (profile : Profile) (cell : ℕ → Cell) (lefts : List Left) (base : ℕ) (piece more : List ℕ) (to_come given : List Break) (here : Feeding) (count : ℕ)
+    → length given ≡ count → Feeds profile cell lefts base piece more here (ahead number to_come) given → given ≡ take count to_come
+Feeds-front number profile cell lefts base piece more to_come given here count many f =
+    (Stands-rest profile cell lefts here.place (front_of here.cut ++ (drop here.taken piece ++ more)) (ahead number to_come) given count many f.stands).0
 
 -- what a call leaves that was not full
-pub Feeds-unsettled : (profile : Profile) (cell : ℕ → Cell) (lefts : List Left) (base : ℕ) (new : Stream) (piece more : List ℕ) (to_come given : List Break) (here : Feeding) (count : ℕ)
+pub Feeds-unsettled : (number : ℕ) (profile : Profile) (cell : ℕ → Cell) (lefts : List Left) (base : ℕ) (new : Stream) (piece more : List ℕ) (to_come given : List Break) (here : Feeding) (count : ℕ)
     → place_of new ≡ here.place → cut_bytes new ≡ front_of here.cut
     → (here.cut.size ≡ 0) ⊎ (could_go_on (front_of here.cut) ≡ true) → here.taken ≡ length piece
-    → length given ≡ count → Feeds profile cell lefts base piece more here to_come given
+    → length given ≡ count → Feeds profile cell lefts base piece more here (ahead number to_come) given
     → AreUnsettled cell new more (drop count to_come)
-Feeds-unsettled profile cell lefts base new piece more to_come given here count place_same cut_same unfinished all many f =
+Feeds-unsettled number profile cell lefts base new piece more to_come given here count place_same cut_same unfinished all many f =
     let bytes = front_of here.cut ++ (drop here.taken piece ++ more) in
-    let s = (Stands-rest profile cell lefts here.place bytes to_come given count many f.stands).1 in
+    let s = (Stands-rest profile cell lefts here.place bytes (ahead number to_come) given count many f.stands).1 in
     let at : new.at ≡ here.place.at = ap (λ (p : Place). p.at) place_same in
     let rest : drop here.taken piece ++ more ≡ more = ap (λ n. drop n piece ++ more) all ∙ ap (λ l. l ++ more) (drop-length piece) in
     let same : bytes ≡ cut_bytes new ++ more = ap (λ l. front_of here.cut ++ l) rest ∙ ap (λ l. l ++ more) (sym cut_same) in
-    let later = onward profile cell s.taken here.place.at (pieces bytes) in
+    let later = onward_of (ahead number to_come) profile cell s.taken here.place.at (pieces bytes) in
     record {
       cut =
           ⊎_elim (λ (none : here.cut.size ≡ 0). inl (cut_same ∙ ap (λ n. take n here.cut.bytes) none))
           (λ (goes : could_go_on (front_of here.cut) ≡ true). inr (ap could_go_on cut_same ∙ goes)) unfinished;
       later = later;
-      onward = onward-onward profile cell s.taken new.at here.place.at (pieces bytes) (omega arith);
+      onward = onward-onward (ahead number to_come) profile cell s.taken new.at here.place.at (pieces bytes) (omega arith);
       joined = s.joined ∙ ap (λ p. late_break cell p bytes ++ later) (sym place_same) ∙ ap (λ l. late_break cell (place_of new) l ++ later) same;
     }
 
 -- after the last piece, all were given
-pub Feeds-ended : (profile : Profile) (cell : ℕ → Cell) (lefts : List Left) (base : ℕ) (piece : List ℕ) (to_come given after : List Break) (here : Feeding)
+pub Feeds-ended : (number : ℕ) (profile : Profile) (cell : ℕ → Cell) (lefts : List Left) (base : ℕ) (piece : List ℕ) (to_come given after : List Break) (here : Feeding)
     → here.cut.size ≡ 0 → here.taken ≡ length piece
     → ((taken : List ℕ) → KnowsTaken cell lefts here.place.row taken → (0 < here.place.row → 0 < length taken)
-    → after ≡ given ++ closed_end profile cell taken here.place.at)
-    → Feeds profile cell lefts base piece [] here to_come given → to_come ≡ after
-Feeds-ended profile cell lefts base piece to_come given after here none all end f =
+    → after ≡ given ++ end_in (goes_on number) profile cell taken here.place.at)
+    → Feeds profile cell lefts base piece [] here (ahead number to_come) given → to_come ≡ after
+Feeds-ended number profile cell lefts base piece to_come given after here none all end f =
     let bytes = front_of here.cut ++ (drop here.taken piece ++ []) in
     let nothing : bytes ≡ [] =
     ap (λ n. take n here.cut.bytes ++ (drop here.taken piece ++ [])) none ∙ ap (λ n. drop n piece ++ []) all ∙ ap (λ l. l ++ []) (drop-length piece) in
-    Stands-end profile cell lefts here.place bytes to_come given nothing f.stands ∙ sym (end f.stands.taken f.stands.knows f.stands.some)
+    Stands-end profile cell lefts here.place bytes (ahead number to_come) given nothing f.stands ∙ sym (end f.stands.taken f.stands.knows f.stands.some)
 
 pub Streams-end : (profile : Profile) (cell : ℕ → Cell) (table : FlatTable) (lefts : List Left) (old new : Stream) (bytes : List ℕ) (to_come after : List Break) (count : ℕ)
-    → profile_numbered old.profile ≡ Some profile → IsFlatBy lefts table cell → new.profile ≡ old.profile → new.ended ≡ 1
+    → profile_numbered (plain_number old.profile) ≡ Some profile → IsFlatBy lefts table cell → new.profile ≡ old.profile → new.ended ≡ 1
     → to_come ≡ after → length after ≡ count → Streams cell table new bytes (drop count to_come)
 Streams-end profile cell table lefts old new bytes to_come after count named flat kept ended all many = record {
   profile = profile;
-  named = ap profile_numbered kept ∙ named;
+  named = ap (λ n. profile_numbered (plain_number n)) kept ∙ named;
   lefts = lefts;
   flat = flat;
   goes_on = λ unended. absurd (omega arith);
@@ -208,13 +258,13 @@ Streams-end profile cell table lefts old new bytes to_come after count named fla
 
 -- from a stream that has ended nothing comes
 pub ended-none : (cell : ℕ → Cell) (table : FlatTable) (old : Stream) (more : List ℕ) (to_come : List Break)
-    → (0 < old.ended) ⊎ (profile_numbered old.profile ≡ None) → Streams cell table old more to_come → (to_come ≡ []) × (0 < old.ended)
+    → (0 < old.ended) ⊎ (profile_numbered (plain_number old.profile) ≡ None) → Streams cell table old more to_come → (to_come ≡ []) × (0 < old.ended)
 ended-none cell table old more to_come (inl ended) s = (s.none_come ended, ended)
 ended-none cell table old more to_come (inr unnamed) s = absurd (let unknown : ⊥ = (let named = s.named in cc) in unknown)
 
 -- what has ended goes on as it is, whatever follows
 pub ended-stays : (cell : ℕ → Cell) (table : FlatTable) (old : Stream) (more other : List ℕ) (to_come : List Break)
-    → (0 < old.ended) ⊎ (profile_numbered old.profile ≡ None) → Streams cell table old more to_come → Streams cell table old other to_come
+    → (0 < old.ended) ⊎ (profile_numbered (plain_number old.profile) ≡ None) → Streams cell table old more to_come → Streams cell table old other to_come
 ended-stays cell table old more other to_come spent s =
     let none = ended-none cell table old more to_come spent s in
     record {
@@ -227,10 +277,12 @@ ended-stays cell table old more other to_come spent s =
     }
 
 -- the numbers that name no profile
-pub unnamed-high : (number : ℕ) → profile_numbered number ≡ None → 1 < number
+pub unnamed-high : (number : ℕ) → profile_numbered (plain_number number) ≡ None → 3 < number
 unnamed-high zero none = absurd (let unknown : ⊥ = cc in unknown)
 unnamed-high (suc zero) none = absurd (let unknown : ⊥ = cc in unknown)
-unnamed-high (suc (suc n)) none = omega arith
+unnamed-high (suc (suc zero)) none = absurd (let unknown : ⊥ = cc in unknown)
+unnamed-high (suc (suc (suc zero))) none = absurd (let unknown : ⊥ = cc in unknown)
+unnamed-high (suc (suc (suc (suc n)))) none = omega arith
 
 -- what the last call gives
 pub record IsClosed (cell : ℕ → Cell) (table : FlatTable) (new : Stream) (bytes : List ℕ) (to_come after : List Break) (count room : ℕ) : Type 0 where
@@ -250,18 +302,18 @@ pub record Closes (profile : Profile) (cell : ℕ → Cell) (lefts : List Left) 
   pub cut : done.count < room → done.cut.size ≡ 0
   pub ended : done.count < room → new.ended ≡ 1
   pub end : done.count < room → (taken : List ℕ) → KnowsTaken cell lefts done.place.row taken → (0 < done.place.row → 0 < length taken)
-      → after ≡ given ++ closed_end profile cell taken done.place.at
+      → after ≡ given ++ end_in (goes_on old.profile) profile cell taken done.place.at
 
 pub Feeds-closed : (profile : Profile) (cell : ℕ → Cell) (table : FlatTable) (lefts : List Left) (base : ℕ) (old new : Stream) (piece : List ℕ) (to_come given after : List Break)
     (done : Feeding) (count room : ℕ)
-    → profile_numbered old.profile ≡ Some profile → old.ended ≡ 0 → IsFlatBy lefts table cell → Closes profile cell lefts old new done piece given after count room
-    → Feeds profile cell lefts base piece [] done to_come given
+    → profile_numbered (plain_number old.profile) ≡ Some profile → old.ended ≡ 0 → IsFlatBy lefts table cell → Closes profile cell lefts old new done piece given after count room
+    → Feeds profile cell lefts base piece [] done (ahead old.profile to_come) given
     → IsClosed cell table new (drop done.taken piece ++ []) to_come after count room
 Feeds-closed profile cell table lefts base old new piece to_come given after done count room named unended flat x f =
     ⊎_elim
     (λ (free : done.count < room).
     let all : to_come ≡ after =
-    Feeds-ended profile cell lefts base piece to_come given after done (x.cut free) (x.taken free) (x.end free) f in
+    Feeds-ended old.profile profile cell lefts base piece to_come given after done (x.cut free) (x.taken free) (x.end free) f in
     record {
       front = sym (ap (take count) all ∙ ap (λ n. take n after) (sym x.counted) ∙ take-length after);
       rest = Streams-end profile cell table lefts old new (drop done.taken piece ++ []) to_come after count named flat x.kept (x.ended free) all x.counted;
@@ -273,7 +325,7 @@ Feeds-closed profile cell table lefts base old new piece to_come given after don
     let same : count ≡ done.count = sym x.counted ∙ ap length full.0 ∙ x.many in
     let many : length given ≡ count = x.many ∙ sym same in
     record {
-      front = full.0 ∙ Feeds-front profile cell lefts base piece [] to_come given done count many f;
+      front = full.0 ∙ Feeds-front old.profile profile cell lefts base piece [] to_come given done count many f;
       rest =
           Streams-next profile cell table lefts base old new piece [] to_come given done count named unended flat full.1 full.2 x.kept full.3 many f;
       end = λ free. absurd (omega arith);

@@ -16,8 +16,9 @@ use Rattle.lbk_streams.specs.declared.stream.Fed.{Fed}
 use Rattle.lbk_streams.specs.declared.stream.Feeding.{Feeding}
 use Rattle.lbk_streams.specs.declared.stream.Place.{Place}
 use Rattle.lbk_streams.specs.declared.stream.Stream.{Stream}
-use Rattle.lbk_bytes.specs.Reached.{onward}
-use Rattle.lbk_bytes.specs.Profiles.{profile_numbered}
+use Rattle.lbk_bytes.specs.Bytes.{end_in}
+use Rattle.lbk_bytes.specs.Reached.{Onward, onward_to}
+use Rattle.lbk_bytes.specs.Profiles.{goes_on, plain_number, profile_numbered}
 use Rattle.lbk_streams.specs.Streams.{AreUnsettled, cut_bytes, late_break, place_of}
 
 abbrev pub front_of : Cut → List ℕ
@@ -33,17 +34,26 @@ pub record Waits (profile : Profile) (cell : ℕ → Cell) (taken : List ℕ) (p
   pub joined : taken ≡ front ++ last ∷ []
   pub soft : hard (normal (cell last)).class ≡ false
 
+-- the breaks of a stream or of a part of one, and whether the text goes on after it
+pub record Ahead : Type 0 where
+  pub breaks : List Break
+  pub goes_on : Bool
+
+-- the breaks from a byte on, by what the stream says of its end
+abbrev pub onward_of : Ahead → Onward
+onward_of all = onward_to (end_in all.goes_on)
+
 -- of all breaks these were given, and the others come from here on, where these bytes follow
-pub record Stands (profile : Profile) (cell : ℕ → Cell) (lefts : List Left) (place : Place) (bytes : List ℕ) (all given : List Break) : Type 0 where
+pub record Stands (profile : Profile) (cell : ℕ → Cell) (lefts : List Left) (place : Place) (bytes : List ℕ) (all : Ahead) (given : List Break) : Type 0 where
   pub taken : List ℕ
   pub knows : KnowsTaken cell lefts place.row taken
   pub some : 0 < place.row → 0 < length taken
   pub fits : place.at + length bytes < 2 ^ 64
   pub waits : 0 < place.held_code → Waits profile cell taken place
-  pub joined : all ≡ given ++ (late_break cell place bytes ++ onward profile cell taken place.at (pieces bytes))
+  pub joined : all.breaks ≡ given ++ (late_break cell place bytes ++ onward_of all profile cell taken place.at (pieces bytes))
 
 -- how far a call has come with a piece, behind which these bytes follow; base: the place of the piece in the stream
-pub record Feeds (profile : Profile) (cell : ℕ → Cell) (lefts : List Left) (base : ℕ) (piece more : List ℕ) (here : Feeding) (all given : List Break) : Type 0 where
+pub record Feeds (profile : Profile) (cell : ℕ → Cell) (lefts : List Left) (base : ℕ) (piece more : List ℕ) (here : Feeding) (all : Ahead) (given : List Break) : Type 0 where
   pub stands : Stands profile cell lefts here.place (front_of here.cut ++ (drop here.taken piece ++ more)) all given
   pub seen : here.place.at + here.cut.size ≡ base + here.taken
 
@@ -51,13 +61,17 @@ pub record Feeds (profile : Profile) (cell : ℕ → Cell) (lefts : List Left) (
 abbrev pub moved : ℕ → Break → Break
 moved by found = record { at = (found.at + by) % 2 ^ 64; kind = found.kind; rule = found.rule }
 
+-- these breaks, by what the number of a profile says of the end
+abbrev pub ahead : ℕ → List Break → Ahead
+ahead number to_come = record { breaks = to_come; goes_on = goes_on number }
+
 -- where these bytes are still to come, these breaks are
 pub record Streams (cell : ℕ → Cell) (table : FlatTable) (stream : Stream) (more : List ℕ) (to_come : List Break) : Type 0 where
   pub profile : Profile
-  pub named : profile_numbered stream.profile ≡ Some profile
+  pub named : profile_numbered (plain_number stream.profile) ≡ Some profile
   pub lefts : List Left
   pub flat : IsFlatBy lefts table cell
-  pub goes_on : stream.ended ≡ 0 → Stands profile cell lefts (place_of stream) (cut_bytes stream ++ more) to_come []
+  pub goes_on : stream.ended ≡ 0 → Stands profile cell lefts (place_of stream) (cut_bytes stream ++ more) (ahead stream.profile to_come) []
   pub none_come : 0 < stream.ended → to_come ≡ []
 
 -- what a call does with a piece, behind which these bytes follow

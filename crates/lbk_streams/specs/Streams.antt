@@ -1,5 +1,5 @@
 -- A text that comes in pieces: what a stream holds of its bytes, and which breaks these do not settle.
-use Rattle.std.specs.Prelude.{◌≡◌, ℕ, ◌≤◌, ◌==◌, ◌||◌, true, false, ◌⊎◌, List, [], ◌∷◌, ◌++◌, map, take, if◌then◌else◌}
+use Rattle.std.specs.Prelude.{◌≡◌, ℕ, ◌+◌, ◌≤◌, ◌==◌, ◌||◌, Bool, true, false, ◌⊎◌, List, [], ◌∷◌, ◌++◌, map, take, if◌then◌else◌}
 use Rattle.std.specs.List.{AllByRecursion}
 use Rattle.bstr.specs.Utf8.{lossy_chars}
 use Rattle.lbk_rules.specs.declared.breaks.Break.{Break}
@@ -19,18 +19,22 @@ use Rattle.lbk_bytes.specs.Profiles.{profile_number}
 abbrev pub cut_bytes : Stream → List ℕ
 cut_bytes stream = take stream.cut_size stream.cut
 
--- the stream at the start of a text
-abbrev pub stream_start : Profile → Stream
-stream_start profile = record {
-  at = 0;
+-- the stream at the start of a text, or of a part of one that begins at a byte, and after which the text goes on or ends
+abbrev pub part_stream : Bool → Profile → ℕ → Stream
+part_stream goes_on profile at = record {
+  at = at;
   held_at = 0;
   row = 0;
   held_code = 0;
   cut = 0 ∷ 0 ∷ 0 ∷ 0 ∷ [];
   cut_size = 0;
-  profile = profile_number profile;
+  profile = if goes_on then 2 + profile_number profile else profile_number profile;
   ended = 0;
 }
+
+-- the stream at the start of a text
+abbrev pub stream_start : Profile → Stream
+stream_start profile = part_stream false profile 0
 
 -- where it stands between two scalars
 abbrev pub place_of : Stream → Place

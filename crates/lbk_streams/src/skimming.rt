@@ -1,13 +1,12 @@
 //! The part of a piece that needs no care: scalars of at most three bytes, before which no position waits.
 
 ghost use Rattle.std.specs.Prelude.{◌≡◌, ℕ, ◌+◌, ◌-◌, ◌<◌, ◌≤◌, ◌++◌, [], List, drop, length, map};
-ghost use Rattle.lbk_rules.specs.declared.breaks.Break.{Break};
 ghost use Rattle.lbk_rules.specs.declared.cells.Cell.{Cell};
 ghost use Rattle.lbk_rules.specs.declared.facts.Left.{Left};
 ghost use Rattle.lbk_steps.specs.FlatTable.{IsFlatBy};
 ghost use Rattle.lbk_streams.specs.declared.stream.Place.{Place};
 ghost use Rattle.lbk_bytes.specs.Shown.{given_in};
-ghost use Rattle.lbk_streams.specs.Stands.{Feeds, Stands, moved};
+ghost use Rattle.lbk_streams.specs.Stands.{Ahead, Feeds, Stands, moved};
 
 use crate::stream::{Feeding, Place};
 use lbk_bytes::{FillState, RawBreak, fill_common};
@@ -24,7 +23,7 @@ pub(crate) fn skim(
 ) -> Feeding
     requires { (here.cut.size ≡ 0) × (here.place.held_code ≡ 0) × (here.count ≤ length out.old) × (0 < here.taken) × (here.taken ≤ length piece.now) }
     ensures within { (result.cut.size ≡ 0) × (result.count ≤ length out.old) × (here.taken ≤ result.taken) × (result.taken ≤ length piece.now) }
-    ensures feeds { (cell : ℕ → Cell) (lefts : List Left) (base : ℕ) (more : List ℕ) (all : List Break) → IsFlatBy lefts table.now cell
+    ensures feeds { (cell : ℕ → Cell) (lefts : List Left) (base : ℕ) (more : List ℕ) (all : Ahead) → IsFlatBy lefts table.now cell
         → Feeds profile cell lefts base piece.now more here all (given_in out.old here.count)
         → Feeds profile cell lefts base piece.now more result all (given_in out.new result.count) }
 {
@@ -60,7 +59,7 @@ fn skim_into(
 ) -> FillState
     requires { from ≤ length piece.now }
     ensures within { (result.count ≤ length room.old) × (result.row < 65536) × (from ≤ result.at) × (result.at ≤ length piece.now) }
-    ensures stands { (cell : ℕ → Cell) (lefts : List Left) (more : List ℕ) (all : List Break) (next : Place) → IsFlatBy lefts table.now cell
+    ensures stands { (cell : ℕ → Cell) (lefts : List Left) (more : List ℕ) (all : Ahead) (next : Place) → IsFlatBy lefts table.now cell
         → place.held_code ≡ 0 → 0 < from → from ≤ place.at
         → next.at ≡ place.at + (result.at - from) → next.row ≡ result.row → next.held_code ≡ 0
         → Stands profile cell lefts place (drop from piece.now ++ more) all []

@@ -1,21 +1,22 @@
 //! A text that comes in pieces.
 
-ghost use Rattle.std.specs.Prelude.{◌≡◌, ◌⊎◌, ℕ, ◌+◌, ◌^◌, ◌<◌, ◌≤◌, ◌++◌, true, false, [], List, MatchOption, None, Some, drop, length, take};
+ghost use Rattle.std.specs.Prelude.{◌≡◌, ◌⊎◌, ℕ, Bool, ◌+◌, ◌^◌, ◌<◌, ◌≤◌, ◌++◌, true, false, [], List, MatchOption, None, Some, drop, length, map, take};
 ghost use Rattle.lbk_rules.specs.declared.breaks.Break.{Break};
 ghost use Rattle.lbk_rules.specs.declared.cells.Cell.{Cell};
 ghost use Rattle.lbk_rules.specs.declared.facts.Left.{Left};
 ghost use Rattle.lbk_values.specs.declared.profile.Profile.{Profile};
+ghost use Rattle.lbk_rules.specs.Joins.{moved};
 ghost use Rattle.lbk_steps.specs.FlatTable.{IsFlatBy, IsFlatOf, KnowsTaken};
-ghost use Rattle.lbk_bytes.specs.Bytes.{breaks_of_bytes, closed_end};
+ghost use Rattle.lbk_bytes.specs.Bytes.{breaks_of_bytes, breaks_of_part, end_in};
 ghost use Rattle.lbk_bytes.specs.Shown.{given_in};
-ghost use Rattle.lbk_bytes.specs.Profiles.{profile_numbered};
-ghost use Rattle.lbk_streams.specs.Stands.{Feeds, Gives, Streams, front_of};
-ghost use Rattle.lbk_streams.specs.Streams.{AreUnsettled, cut_bytes, place_of, stream_start};
+ghost use Rattle.lbk_bytes.specs.Profiles.{goes_on, plain_number, profile_numbered};
+ghost use Rattle.lbk_streams.specs.Stands.{Ahead, Feeds, Gives, Streams, front_of};
+ghost use Rattle.lbk_streams.specs.Streams.{AreUnsettled, cut_bytes, part_stream, place_of, stream_start};
 
 use crate::cutting::cut_of;
 use crate::feeding::{take_cut, take_piece};
 use crate::stream::{Fed, Feeding, Place, Stream};
-use lbk_bytes::{RawBreak, profile_numbered, put_end};
+use lbk_bytes::{RawBreak, goes_on, plain_number, profile_numbered, put_end};
 use lbk_rules::Profile;
 use lbk_steps::FlatTable;
 
@@ -24,8 +25,8 @@ use lbk_steps::FlatTable;
 /// breaks left are settled then, and the end is the last of them.
 ///
 /// The bytes may be any: over all calls the breaks are those of the joined pieces, as `lbk_breaks` has them, at places from the
-/// start of the stream. Where the block has no room, nothing is taken and the stream stays. Where the stream has ended or names
-/// no profile, all is taken and no break comes.
+/// start of the stream, or of the text of which it is a part. Where the block has no room, nothing is taken and the stream
+/// stays. Where the stream has ended or names no profile, all is taken and no break comes.
 pub fn feed(
     table: &FlatTable,
     stream: &mut Stream,
@@ -38,6 +39,10 @@ pub fn feed(
     ensures profile_same { stream.new.profile ≡ stream.old.profile }
     ensures start { (cell : ℕ → Cell) (profile : Profile) (text : List ℕ) → IsFlatOf table.now cell → length text < 2 ^ 64
         → stream.old ≡ stream_start profile → Streams cell table.now stream.old text (breaks_of_bytes profile cell text) }
+    // A part of a text: places count from the text's start, if the part's place is given, and the text may go on after it.
+    ensures part { (cell : ℕ → Cell) (profile : Profile) (goes_on : Bool) (at : ℕ) (text : List ℕ) → IsFlatOf table.now cell → at + length text < 2 ^ 64
+        → stream.old ≡ part_stream goes_on profile at
+        → Streams cell table.now stream.old text (map (moved at) (breaks_of_part goes_on profile cell text)) }
     // Whatever bytes follow the piece (none, where it is the last): what comes of all of them comes first of this call.
     ensures front { (cell : ℕ → Cell) (more : List ℕ) (to_come : List Break) → Streams cell table.now stream.old (piece.now ++ more) to_come
         → (last ≡ true → more ≡ []) → given_in out.new result.count ≡ take result.count to_come }
@@ -52,8 +57,8 @@ pub fn feed(
         → stream.new.at + length (cut_bytes stream.new) ≡ stream.old.at + length (cut_bytes stream.old) + result.taken }
     ensures end { (cell : ℕ → Cell) (to_come : List Break) → Streams cell table.now stream.old piece.now to_come
         → last ≡ true → result.count < length out.old → result.count ≡ length to_come }
-    ensures ended { last ≡ true → result.count < length out.old → 0 < stream.new.ended ⊎ (1 < stream.old.profile) }
-    ensures stays { 0 < stream.old.ended ⊎ ((1 < stream.old.profile) ⊎ (length out.old ≡ 0)) → (result.count ≡ 0) × (stream.new ≡ stream.old) }
+    ensures ended { last ≡ true → result.count < length out.old → 0 < stream.new.ended ⊎ (3 < stream.old.profile) }
+    ensures stays { 0 < stream.old.ended ⊎ ((3 < stream.old.profile) ⊎ (length out.old ≡ 0)) → (result.count ≡ 0) × (stream.new ≡ stream.old) }
     ensures no_room { length out.old ≡ 0 → result.taken ≡ 0 }
 {
     if out.is_empty() {
@@ -77,7 +82,7 @@ fn go_with(
     last: bool,
     out: &mut [RawBreak],
 ) -> Fed
-    requires { (stream.old.ended ≡ 0) × (profile_numbered stream.old.profile ≡ Some profile) }
+    requires { (stream.old.ended ≡ 0) × (profile_numbered (plain_number stream.old.profile) ≡ Some profile) }
     ensures within { (result.count ≤ length out.old) × (result.taken ≤ length piece.now) }
     ensures all_taken { result.count < length out.old → result.taken ≡ length piece.now }
     ensures profile_same { stream.new.profile ≡ stream.old.profile }
@@ -101,13 +106,13 @@ fn go_with(
 
 /// The profile of a stream from which breaks may come: none where it has ended, or names none.
 fn live_profile(stream: &Stream) -> Option<Profile>
-    ensures { MatchOption result ((0 < stream.now.ended) ⊎ (profile_numbered stream.now.profile ≡ None))
-        (λ profile. (stream.now.ended ≡ 0) × (profile_numbered stream.now.profile ≡ Some profile)) }
+    ensures { MatchOption result ((0 < stream.now.ended) ⊎ (profile_numbered (plain_number stream.now.profile) ≡ None))
+        (λ profile. (stream.now.ended ≡ 0) × (profile_numbered (plain_number stream.now.profile) ≡ Some profile)) }
 {
     if stream.ended != 0 {
         return None;
     }
-    profile_numbered(stream.profile)
+    profile_numbered(plain_number(stream.profile))
 }
 
 /// Where a call begins.
@@ -151,7 +156,7 @@ fn finish(table: &FlatTable, profile: Profile, start: Feeding, out: &mut [RawBre
     ensures within { (result.cut.size ≤ 4) × (result.count ≤ length out.old) × (result.taken ≡ start.taken) }
     ensures done { result.count < length out.old → result.cut.size ≡ 0 }
     ensures same { start.count ≡ length out.old → (result ≡ start) × (out.new ≡ out.old) }
-    ensures feeds { (cell : ℕ → Cell) (lefts : List Left) (base : ℕ) (piece : List ℕ) (all : List Break) → IsFlatBy lefts table.now cell
+    ensures feeds { (cell : ℕ → Cell) (lefts : List Left) (base : ℕ) (piece : List ℕ) (all : Ahead) → IsFlatBy lefts table.now cell
         → (start.count < length out.old → start.taken ≡ length piece)
         → Feeds profile cell lefts base piece [] start all (given_in out.old start.count)
         → Feeds profile cell lefts base piece [] result all (given_in out.new result.count) }
@@ -173,8 +178,9 @@ fn close(table: &FlatTable, stream: &mut Stream, here: Feeding, out: &mut [RawBr
     ensures ended { here.count < length out.old → stream.new.ended ≡ 1 }
     ensures end { here.count < length out.old → (profile : Profile) (cell : ℕ → Cell) (lefts : List Left) (taken : List ℕ) → IsFlatBy lefts table.now cell
         → KnowsTaken cell lefts here.place.row taken → (0 < here.place.row → 0 < length taken)
-        → given_in out.new result.count ≡ given_in out.old here.count ++ closed_end profile cell taken here.place.at }
+        → given_in out.new result.count ≡ given_in out.old here.count ++ end_in (goes_on stream.old.profile) profile cell taken here.place.at }
 {
+    let goes_on = goes_on(stream.profile);
     keep(stream, here);
     if here.count == out.len() {
         return Fed {
@@ -185,7 +191,7 @@ fn close(table: &FlatTable, stream: &mut Stream, here: Feeding, out: &mut [RawBr
     stream.ended = 1;
     stream.held_code = 0;
     let row = here.place.row as usize;
-    let count = put_end(table, false, row, out, here.count, here.place.at as usize);
+    let count = put_end(table, goes_on, row, out, here.count, here.place.at as usize);
     Fed {
         taken: here.taken,
         count,

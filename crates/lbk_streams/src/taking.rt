@@ -2,7 +2,6 @@
 
 ghost use Rattle.std.specs.Prelude.{◌≡◌, ℕ, ◌+◌, ◌<◌, ◌≤◌, ◌%◌, ◌^◌, true, false, List, drop, length, if◌then◌else◌};
 ghost use Rattle.bstr.specs.Utf8.{decoded, or_replacement};
-ghost use Rattle.lbk_rules.specs.declared.breaks.Break.{Break};
 ghost use Rattle.lbk_rules.specs.declared.cells.Cell.{Cell};
 ghost use Rattle.lbk_rules.specs.declared.facts.Left.{Left};
 ghost use Rattle.lbk_values.specs.declared.profile.Profile.{Profile};
@@ -13,7 +12,7 @@ ghost use Rattle.lbk_rules.specs.Codes.{verdict_coded};
 ghost use Rattle.lbk_rules.specs.Normal.{normal};
 ghost use Rattle.lbk_steps.specs.FlatTable.{AreFlatKinds, IsFlatBy};
 ghost use Rattle.lbk_bytes.specs.Shown.{given_in};
-ghost use Rattle.lbk_streams.specs.Stands.{Stands};
+ghost use Rattle.lbk_streams.specs.Stands.{Ahead, Stands};
 
 use crate::stream::Place;
 use lbk_bytes::{RawBreak, put, step_at, steps_of};
@@ -43,7 +42,7 @@ pub(crate) fn take_scalar(
     ensures within { (count ≤ result.count) × (result.count ≤ length out.old) }
     ensures full { result.passed ≡ false → result.count ≡ length out.old }
     ensures at { result.place.at ≡ (if result.passed then (place.at + size) % 2 ^ 64 else place.at) }
-    ensures stands { (cell : ℕ → Cell) (lefts : List Left) (bytes : List ℕ) (all : List Break) → IsFlatBy lefts table.now cell
+    ensures stands { (cell : ℕ → Cell) (lefts : List Left) (bytes : List ℕ) (all : Ahead) → IsFlatBy lefts table.now cell
         → 0 < length bytes → c ≡ or_replacement (decoded bytes).char → size ≡ (decoded bytes).size
         → Stands profile cell lefts place bytes all (given_in out.old count)
         → Stands profile cell lefts result.place (if result.passed then drop size bytes else bytes) all (given_in out.new result.count) }
@@ -62,7 +61,7 @@ fn meet(table: &FlatTable, place: Place, c: char, out: &mut [RawBreak], count: u
     ensures passed { result.passed ≡ false }
     ensures at { result.place.at ≡ place.at }
     ensures joins { (cell : ℕ → Cell) → AreFlatKinds table.now.kinds cell → 0 < result.place.held_code → mark (normal (cell c)).class ≡ true }
-    ensures stands { (profile : Profile) (cell : ℕ → Cell) (lefts : List Left) (bytes : List ℕ) (all : List Break) → IsFlatBy lefts table.now cell
+    ensures stands { (profile : Profile) (cell : ℕ → Cell) (lefts : List Left) (bytes : List ℕ) (all : Ahead) → IsFlatBy lefts table.now cell
         → 0 < length bytes → c ≡ or_replacement (decoded bytes).char
         → Stands profile cell lefts place bytes all (given_in out.old count)
         → Stands profile cell lefts result.place bytes all (given_in out.new result.count) }
@@ -117,7 +116,7 @@ fn pass(
     ensures within { (count ≤ result.count) × (result.count ≤ length out.old) }
     ensures passed { result.passed ≡ true }
     ensures at { result.place.at ≡ (place.at + size) % 2 ^ 64 }
-    ensures stands { (cell : ℕ → Cell) (lefts : List Left) (bytes : List ℕ) (all : List Break) → IsFlatBy lefts table.now cell
+    ensures stands { (cell : ℕ → Cell) (lefts : List Left) (bytes : List ℕ) (all : Ahead) → IsFlatBy lefts table.now cell
         → 0 < length bytes → c ≡ or_replacement (decoded bytes).char → size ≡ (decoded bytes).size
         → (0 < place.held_code → mark (normal (cell c)).class ≡ true)
         → Stands profile cell lefts place bytes all (given_in out.old count)

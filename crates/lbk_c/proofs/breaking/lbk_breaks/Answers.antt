@@ -1,9 +1,9 @@
-use Rattle.std.proofs.Common.{◌-◌, cond, length, drop, ap, subst, sym, arith, refl}
+use Rattle.std.proofs.Common.{length, drop, ap, subst, sym, arith, refl}
 use Rattle.lbk_c.specs.Coming.{ComesBy, IsGoing, IsSpent, onward_in}
-use Rattle.lbk_c.specs.State.{goes_on, plain}
+use Rattle.lbk_c.specs.State.{plain, plain_number}
 use Rattle.lbk_bytes.specs.Shown.{given_in}
 use Rattle.lbk_c.proofs.ComingLemmas.{Comes-goes, Comes-next, Comes-part, Comes-start, breaks-utf8, spent-none}
-use Rattle.lbk_c.proofs.PartLemmas.{part-onward}
+use Rattle.lbk_bytes.proofs.PartLemmas.{part-onward}
 use Rattle.lbk_bytes.proofs.OrderLemmas.{AreInOrder-none}
 use Rattle.lbk_c.proofs.breaking.lbk_breaks.Goals as goal
 
@@ -61,7 +61,7 @@ returns-clause-rest c = λ cell to_come comes.
     let kept = c.go_on.ensures.profile_same in
     let next = Comes-next (onward_in c.args.state.now.profile) c.in-Some.profile cell c.args.table.now c.args.text.now (plain c.args.state.now) (plain c.go_on.new.state) to_come
     (given_in c.go_on.new.out c.go_on.result) c.go_on.result (length c.args.out.now)
-    (subst (λ s. IsGoing c.in-Some.profile s (length c.args.text.now)) c.plain.ensures c.in-Some.ensures) (ap (λ n. cond (goes_on n) (n - 2) n) kept) comes gone in
+    (subst (λ s. IsGoing c.in-Some.profile s (length c.args.text.now)) c.plain.ensures c.in-Some.ensures) (ap plain_number kept) comes gone in
     subst (λ n. ComesBy (onward_in n) cell c.args.table.now c.args.text.now (plain c.go_on.new.state) (drop c.go_on.result to_come)) (sym kept) next
 
 pub returns-in_default-clause-in_order : goal.returns-in_default-clause-in_order

@@ -1,10 +1,10 @@
 use Rattle.std.proofs.Common.{◌≡◌, ◌+◌, ◌-◌, ◌%◌, ◌^◌, ◌++◌, [], List, map, ap, ◌∙◌, arith}
 use Rattle.lbk_rules.specs.declared.breaks.Break.{Break}
-use Rattle.lbk_bytes.specs.Bytes.{closed_end}
+use Rattle.lbk_bytes.specs.Bytes.{end_in}
 use Rattle.lbk_bytes.specs.declared.fill_state.FillState.{FillState}
-use Rattle.lbk_bytes.specs.Reached.{ReachedBy, onward}
+use Rattle.lbk_bytes.specs.Reached.{ReachedBy}
 use Rattle.lbk_bytes.specs.Shown.{given_in}
-use Rattle.lbk_streams.specs.Stands.{moved}
+use Rattle.lbk_streams.specs.Stands.{moved, onward_of}
 use Rattle.lbk_streams.proofs.SkimLemmas.{Stands-skim}
 use Rattle.lbk_streams.proofs.skimming.skim_into.Goals as goal
 
@@ -20,8 +20,8 @@ returns-clause-stands c = λ cell lefts more all next flat free some behind at_s
     let fits = stands.fits in
     let by_same : by ≡ place.at - from = omega arith in
     let start : FillState = record { count = 0; row = place.row; at = from } in
-    let reached = λ (coming : List Break) (r : ReachedBy onward profile cell lefts (piece ++ more) coming start []).
-    end.ensures.reached cell lefts more (record { breaks = coming; end = closed_end }) flat r in
+    let reached = λ (coming : List Break) (r : ReachedBy (onward_of all) profile cell lefts (piece ++ more) coming start []).
+    end.ensures.reached cell lefts more (record { breaks = coming; end = end_in all.goes_on }) flat r in
     Stands-skim profile cell lefts piece more all given (given_in c.move_by.new.out end.result.count) place next from end.result
     end.ensures.onward.0 end.ensures.within.2 free some behind at_same row_same none_waits reached
     (c.move_by.ensures ∙ ap (λ n. map (moved n) given) by_same) stands

@@ -2,7 +2,8 @@ use Rattle.std.proofs.Common.{◌++◌, [], refl, sym, subst, ◌∙◌, arith}
 use Rattle.std.proofs.lemmas.Bool.{false≢true}
 use Rattle.std.proofs.lemmas.List.{append-nil}
 use Rattle.lbk_streams.specs.Stands.{Streams}
-use Rattle.lbk_streams.proofs.StreamLemmas.{Streams-start, ended-none}
+use Rattle.lbk_streams.proofs.StreamLemmas.{Streams-part, Streams-start, ended-none}
+use Rattle.lbk_bytes.proofs.PartLemmas.{part-onward}
 use Rattle.lbk_streams.proofs.streaming.feed.Goals as goal
 
 pub returns-then-is_empty-clause-start : goal.returns-then-is_empty-clause-start
@@ -20,6 +21,18 @@ returns-in_default-clause-settled c = λ cell more to_come s unfinished unended 
 pub returns-clause-start : goal.returns-clause-start
 returns-clause-start c = λ cell profile text flat short starts.
     Streams-start cell c.args.table.now profile text c.args.stream.now flat short starts
+
+pub returns-then-is_empty-clause-part : goal.returns-then-is_empty-clause-part
+returns-then-is_empty-clause-part c = λ cell profile goes_on at text flat short starts.
+    Streams-part cell c.args.table.now goes_on profile at text c.args.stream.now _ flat short starts (part-onward goes_on profile cell at text)
+
+pub returns-in_default-clause-part : goal.returns-in_default-clause-part
+returns-in_default-clause-part c = λ cell profile goes_on at text flat short starts.
+    Streams-part cell c.args.table.now goes_on profile at text c.args.stream.now _ flat short starts (part-onward goes_on profile cell at text)
+
+pub returns-clause-part : goal.returns-clause-part
+returns-clause-part c = λ cell profile goes_on at text flat short starts.
+    Streams-part cell c.args.table.now goes_on profile at text c.args.stream.now _ flat short starts (part-onward goes_on profile cell at text)
 
 pub returns-clause-front : goal.returns-clause-front
 returns-clause-front c = λ cell more to_come s lasts. (c.go_with.ensures.gives cell more to_come s lasts).front
