@@ -15,6 +15,9 @@ use test_support::property_files::words_with;
 /// Room for all that a run here writes.
 pub const ROOM: usize = 65_536;
 
+/// No files of text.
+pub static NO_TEXTS: [(&str, &[u8]); 0] = [];
+
 const BAD_ROW: &[u8] = b"0061;AK\n";
 
 /// How a run ends over the sample files and one bad file `B`, and how often it loaded a file. It promises nothing, so that the tests see nothing of what
@@ -33,7 +36,8 @@ fn ended_into(
         ("B", BAD_ROW),
     ];
     let mut store = MemoryStore::new(files.as_slice());
-    let mut texts = MemoryTexts::new(alloc, MemoryStore::new(&[]));
+    let no_texts = MemoryStore::new(NO_TEXTS.as_slice());
+    let mut texts = MemoryTexts::new(alloc, no_texts);
     let ending = run(alloc, words, &mut store, &mut texts, reader, writer);
     (ending, store.loads())
 }
