@@ -22,6 +22,9 @@ BOUNDS = [
     ("Stepper, profile 2", "LateMachine, profile 2", (5.0, 4.0, 3.0)),
     ("segments of passages", "Breaks, profile 1", (0.3, 0.3, 0.3)),
     ("next", "words", (0.2, 0.2, 0.2)),
+    ("mark", "show", (1.1, 0.9, 0.7)),
+    # Time that grew as the square of the text would leave less than 0.2.
+    ("Breaks by the rules", "Breaks by the rules, an eighth of the text", (0.4, 0.4, 0.4)),
 ]
 
 # A text, two subcommands, and the least ratio of their speeds.
@@ -46,9 +49,12 @@ def texts():
     return {"the pages": plain, "letters of two bytes": two, "letters of three bytes": three}
 
 
-def speeds(name, text):
-    """The speed of each layer over a text, in millions of bytes a second."""
-    ran = run_program([built_crate("trials_bench"), "layers", name], layers_input(property_files(), text))
+def speeds(name, text, size):
+    """The speed of each layer over a text that is repeated up to a size, in millions of bytes a second."""
+    data = (text.encode() * (size // len(text) + 1))[:size]
+    # A scalar that the size would cut is left out.
+    given = layers_input(property_files(), data.decode(errors="ignore").encode())
+    ran = run_program([built_crate("trials_bench"), "layers", name], given)
     return {name: float(rate) for name, rate in re.findall(r"^(\S.*?) +([0-9.]+) MB/s", ran.out.decode(), re.M)}
 
 
@@ -73,8 +79,9 @@ def subcommands(tally, of_all):
 def layers(tally, of_all):
     """Ratios of the speeds of the layers that crates/trials_bench measures."""
     for number, (name, text) in enumerate(of_all.items()):
-        data = text.encode()
-        found = speeds(name, data * (SIZE // len(data) + 1))
+        found = speeds(name, text, SIZE)
+        part = speeds(name, text, SIZE // 8)
+        found |= {f"{layer}, an eighth of the text": rate for layer, rate in part.items()}
         for layer, other, leasts in BOUNDS:
             least = leasts[number]
             if layer not in found or other not in found:

@@ -2,9 +2,10 @@
 
 use crate::dropped::Dropped;
 use crate::material::Material;
+use crate::stepless::Stepless;
 use anyhow::{Result, bail};
 use lbk_breaks::Breaks;
-use lbk_cmd::{segment, show};
+use lbk_cmd::{mark, segment, show};
 use lbk_feed::devices::MemorySource;
 use lbk_notation::{Form, replay};
 use lbk_passage::{LIMIT_MAX, Segment, Segmenter};
@@ -29,6 +30,8 @@ pub enum Layer {
     Stepper(Profile),
     /// The breaks in blocks.
     Breaks(Profile),
+    /// The same over cells without a table of steps.
+    ByRules,
     /// The word boundaries of the text.
     Words,
     /// The segments of each passage, the passages being known.
@@ -37,6 +40,7 @@ pub enum Layer {
     Next,
     /// What the command's engines write of the text.
     Show,
+    Mark,
     Segment,
     /// The lines that `show` writes, compared with the rules.
     Replay,
@@ -47,7 +51,7 @@ pub enum Layer {
 }
 
 /// The layers in the order in which they are run.
-pub const LAYERS: [Layer; 17] = [
+pub const LAYERS: [Layer; 19] = [
     Layer::Decoding,
     Layer::LookUp,
     Layer::ForwardMachine,
@@ -57,10 +61,12 @@ pub const LAYERS: [Layer; 17] = [
     Layer::Stepper(Profile::Second),
     Layer::Breaks(Profile::First),
     Layer::Breaks(Profile::Second),
+    Layer::ByRules,
     Layer::Words,
     Layer::Segments,
     Layer::Next,
     Layer::Show,
+    Layer::Mark,
     Layer::Segment,
     Layer::Replay,
     Layer::Tables,
@@ -91,10 +97,12 @@ impl Layer {
             Layer::Stepper(Profile::Second) => "Stepper, profile 2",
             Layer::Breaks(Profile::First) => "Breaks, profile 1",
             Layer::Breaks(Profile::Second) => "Breaks, profile 2",
+            Layer::ByRules => "Breaks by the rules",
             Layer::Words => "words",
             Layer::Segments => "segments of passages",
             Layer::Next => "next",
             Layer::Show => "show",
+            Layer::Mark => "mark",
             Layer::Segment => "segment",
             Layer::Replay => "replay",
             Layer::Tables => "Tables::read",
@@ -122,10 +130,12 @@ impl Layer {
             Layer::LateMachine(profile) => Ok(by_late_machine(cells, profile, text)),
             Layer::Stepper(profile) => Ok(by_stepper(cells, profile, text)),
             Layer::Breaks(profile) => Ok(by_breaks(cells, profile, text)),
+            Layer::ByRules => Ok(by_breaks(&Stepless::new(cells), Profile::First, text)),
             Layer::Words => Ok(text.split_word_bounds().count() as u64),
             Layer::Segments => segments(alloc, material),
             Layer::Next => passages(alloc, cells, text),
             Layer::Show => shown(alloc, cells, text),
+            Layer::Mark => marked(alloc, cells, text),
             Layer::Segment => segmented(alloc, cells, text),
             Layer::Replay => replayed(alloc, cells, material.shown),
             Layer::Tables => tables(alloc, material),
@@ -194,7 +204,7 @@ fn by_stepper(cells: &CellPages, profile: Profile, text: &str) -> u64 {
     breaks.wrapping_add(breaks_in(end.late, Some(end.end)))
 }
 
-fn by_breaks(cells: &CellPages, profile: Profile, text: &str) -> u64 {
+fn by_breaks<C: CellSource>(cells: &C, profile: Profile, text: &str) -> u64 {
     let mut breaks = Breaks::new(cells, text, profile);
     let mut block = [NO_BREAK; BLOCK];
     let mut count = 0u64;
@@ -284,6 +294,22 @@ fn shown(alloc: Global, cells: &CellPages, text: &str) -> Result<u64> {
     ) {
         Ok(()) => Ok(0),
         Err(_) => bail!("the text cannot be shown"),
+    }
+}
+
+fn marked(alloc: Global, cells: &CellPages, text: &str) -> Result<u64> {
+    let mut source = MemorySource::new(text.as_bytes());
+    let mut sink = Dropped;
+    match mark(
+        alloc,
+        &mut source,
+        &mut sink,
+        cells,
+        LIMIT_MAX,
+        Profile::First,
+    ) {
+        Ok(()) => Ok(0),
+        Err(_) => bail!("the text cannot be marked"),
     }
 }
 

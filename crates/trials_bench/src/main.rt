@@ -24,6 +24,7 @@ mod property_files;
 mod pushes;
 mod quiet;
 mod rows;
+mod stepless;
 mod tables;
 mod timing;
 mod told;
