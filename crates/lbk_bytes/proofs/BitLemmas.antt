@@ -1,6 +1,7 @@
 -- Bits of numbers of 64 bits.
-use Rattle.std.proofs.Common.{◌≡◌, ℕ, zero, suc, ◌-◌, ◌*◌, ◌%◌, ◌^◌, ◌==◌, ◌<◌, ◌≤◌, min, false, refl, ap, ◌∙◌, arith, w64}
+use Rattle.std.proofs.Common.{◌≡◌, ℕ, zero, suc, ◌-◌, ◌*◌, ◌%◌, ◌^◌, ◌==◌, ◌<◌, ◌≤◌, min, true, false, refl, ap, ◌∙◌, arith, w64}
 use Rattle.std.specs.Int.{bit_at, bit_not, trailing_zeros}
+use Rattle.std.specs.Int.Count.{trailing_of_zero}
 use Rattle.std.proofs.lemmas.Nat.{and_mask, and_le_l, and_le_r, pow_below, trailing_le}
 use Rattle.std.proofs.lemmas.Nat.Bits.{bit_at-lt, bit_at-trailing_zeros, bit_at-zero, bit_at_and, bit_at_clear_other, bit_at_clear_same, bit_at_ones, bit_at_ones_above}
 use lib.Bits.{bit_and}
@@ -57,6 +58,11 @@ are-cleared bits index few = record {
 pub zeros-below : (bits : ℕ) → bits < 2 ^ 64 → (i : ℕ) → i < trailing_zeros w64 bits → is_set bits i ≡ false
 zeros-below zero fits i h = none-set i
 zeros-below (suc n) fits i h = ap (λ n. n == 1) ((bit_at-trailing_zeros w64 (suc n) (omega arith) fits).2 i h)
+
+-- the lowest is set
+pub zeros-end : (bits : ℕ) → bits < 2 ^ 64 → trailing_zeros w64 bits < 64 → is_set bits (trailing_zeros w64 bits) ≡ true
+zeros-end zero fits few = absurd (omega (arith, trailing_of_zero 64))
+zeros-end (suc n) fits few = ap (λ n. n == 1) (bit_at-trailing_zeros w64 (suc n) (omega arith) fits).1
 
 pub zeros-few : (bits : ℕ) → trailing_zeros w64 bits ≤ 64
 zeros-few bits = trailing_le 64 bits

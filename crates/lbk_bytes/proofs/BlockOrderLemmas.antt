@@ -1,5 +1,5 @@
 -- Breaks in order, by the bits of a block.
-use Rattle.std.proofs.Common.{◌≡◌, ◌≢◌, ◌⊎◌, ℕ, ◌+◌, ◌<◌, ◌≤◌, true, false, List, take, get_or, get_or-take, sym, ap, subst, ◌∙◌, ⊎_elim, inl, inr, arith}
+use Rattle.std.proofs.Common.{◌≡◌, ◌≢◌, ◌⊎◌, ℕ, ◌+◌, ◌-◌, ◌<◌, ◌≤◌, true, false, List, take, get_or, get_or-take, sym, ap, subst, ◌∙◌, ⊎_elim, inl, inr, arith}
 use Rattle.lbk_masks.specs.Sets.{is_set}
 use Rattle.lbk_bytes.specs.declared.blocks.BlockState.{BlockState}
 use Rattle.lbk_bytes.specs.declared.fill_state.FillState.{FillState}
@@ -84,11 +84,15 @@ ahead-begins at taken bits here begins kept = record {
 
 -- where a block is left the breaks are in order
 pub order-stopped : (out : List RawBreak) (at taken from : ℕ) (here : BlockState) (there : FillState)
-    → there.count ≡ here.count → (here.left ≡ 0 → there.at ≡ at + taken) → (here.left ≢ 0 → there.at ≡ here.past)
+    → there.count ≡ here.count → at ≤ there.at → (here.left ≡ 0 → there.at ≡ at + taken) → (0 < here.left → IsLowest here.left (there.at - at) × (there.at < at + 64))
     → IsAhead at taken here → IsInOrder out here.count from here.past → IsInOrder out there.count from there.at
-order-stopped out at taken from here there counted done stopped ahead o =
+order-stopped out at taken from here there counted onward done stopped ahead o =
     let within = ahead.within in
     subst (λ n. IsInOrder out n from there.at) (sym counted)
     (⊎_elim (λ (none : here.left ≡ 0). (let e = done none in IsInOrder-wider out here.count from here.past there.at (omega arith) o))
-    (λ (some : 0 < here.left). (let apart : here.left ≢ 0 = omega arith in let e = stopped apart in IsInOrder-wider out here.count from here.past there.at (omega arith) o))
+    (λ (some : 0 < here.left).
+    let found = stopped some in
+    let few = found.1 in
+    let first = (lowest-ahead at taken (there.at - at) here ahead (omega arith) (found.0.set some)).1 in
+    IsInOrder-wider out here.count from here.past there.at (omega arith) o)
     (zero-or here.left))

@@ -9,5 +9,7 @@ pub mod EndLemmas
 pub mod ShownLemmas
 pub mod StepLemmas
 pub mod BitLemmas
+pub mod BlockScalarLemmas
+pub mod BlockBeginLemmas
 pub mod BlockLemmas
 pub mod BlockOrderLemmas

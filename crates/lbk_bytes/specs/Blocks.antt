@@ -1,5 +1,5 @@
 -- A block of 64 bytes whose breaks the sets of its bytes tell.
-use Rattle.std.specs.Prelude.{◌≡◌, ◌≢◌, ◌⊎◌, ℕ, ◌+◌, ◌-◌, ◌<◌, ◌≤◌, Bool, true, false, List, length, slice_index_or}
+use Rattle.std.specs.Prelude.{◌≡◌, ◌≢◌, ◌⊎◌, ℕ, ◌+◌, ◌-◌, ◌<◌, ◌≤◌, Bool, true, false, List, length, slice_index_or, nat_le, if◌then◌else◌}
 use Rattle.lbk_masks.specs.Sets.{is_set, left_in, meets, right_in}
 use Rattle.lbk_rules.specs.declared.cells.Cell.{Cell}
 use Rattle.lbk_rules.specs.declared.facts.Left.{Left}
@@ -24,13 +24,19 @@ row_before pairs text place = slice_index_or pairs.rows (byte_at text (place - 1
 pub record Rests (pairs : Neighbours) (here : FillState) (text : List ℕ) (before : ℕ) : Type 0 where
   pub begins : 0 < here.at
   pub within : here.at + 64 ≤ length text
-  pub below : byte_at text (here.at - 1) < 128
+  pub below : byte_at text (here.at - 1) < 192
   pub row : here.row ≡ row_before pairs text here.at
   pub set : before ≡ left_in pairs.sets (byte_at text (here.at - 1))
 
 -- whether the byte at a place stands out behind the one before it
 abbrev pub stands_at : Neighbours → List ℕ → ℕ → Bool
 stands_at pairs text place = meets (left_in pairs.sets (byte_at text (place - 1))) (right_in pairs.sets (byte_at text place))
+
+-- a byte that goes on with a scalar stands here
+pub record GoesOn (text : List ℕ) (place : ℕ) : Type 0 where
+  pub least : 128 ≤ byte_at text place
+  pub below : byte_at text place < 192
+  pub within : place < length text
 
 -- these are the bits of a number below this one
 pub record AreKeptBelow (count bits kept : ℕ) : Type 0 where
@@ -48,12 +54,21 @@ pub record AreCleared (bits index kept : ℕ) : Type 0 where
   pub gone : is_set kept index ≡ false
   pub fewer : kept ≤ bits
 
--- the first bytes of the block are scalars, and two of them tell the step by the second
+-- a byte of a scalar of one byte or two: with the byte before it the first of a scalar tells the step by it, and the second
+-- stands behind the first and does not stand out
+pub record IsByteTold (steps : List FlatStep) (kinds : List ℕ) (pairs : Neighbours) (text : List ℕ) (place : ℕ) : Type 0 where
+  pub settled : (byte_at text place < 128) ⊎ (192 ≤ byte_at text place)
+      → (byte_at text (place - 1) < 192) × AreSettled steps kinds pairs (byte_at text (place - 1)) (byte_at text place)
+  pub goes_on : 192 ≤ byte_at text place → GoesOn text (place + 1)
+  pub quiet : 128 ≤ byte_at text place → byte_at text place < 192 → (192 ≤ byte_at text (place - 1)) × (stands_at pairs text place ≡ false)
+
+-- the first bytes of the block are scalars of one byte or two, whose last is there too
 pub record IsBlock (profile : Profile) (cell : ℕ → Cell) (lefts : List Left) (steps : List FlatStep) (kinds : List ℕ) (pairs : Neighbours) (text : List ℕ) (at taken : ℕ) : Type 0 where
   pub swift : AreSwift profile lefts steps
   pub kinds_are : AreFlatKinds kinds cell
   pub few : taken ≤ 64
-  pub settled : (i : ℕ) → i < taken → AreSettled steps kinds pairs (byte_at text (at + i - 1)) (byte_at text (at + i))
+  pub told : (i : ℕ) → i < taken → IsByteTold steps kinds pairs text (at + i)
+  pub ends : byte_at text (at + taken - 1) < 192
 
 -- no break is left but from here on, in the first bytes of the block
 pub record IsAhead (at taken : ℕ) (here : BlockState) : Type 0 where
@@ -67,6 +82,13 @@ pub record AreLeft (pairs : Neighbours) (text : List ℕ) (at taken : ℕ) (here
   pub told : (i : ℕ) → i < taken → here.past ≤ at + i → is_set here.left i ≡ stands_at pairs text (at + i)
   pub none : (i : ℕ) → i < 64 → (taken ≤ i) ⊎ (at + i < here.past) → is_set here.left i ≡ false
 
--- where a call stands in a text whose bytes up to here were taken
+-- the end of the scalar that the byte before a place is of, if it has at most two bytes
+unfoldable pub end_at : List ℕ → ℕ → ℕ
+end_at text place = if nat_le 192 (byte_at text (place - 1)) then place + 1 else place
+
+-- where a call stands in a text whose scalars up to here were taken
+abbrev pub place_at : Neighbours → List ℕ → ℕ → ℕ → FillState
+place_at pairs text count place = record { count = count; row = row_before pairs text (end_at text place); at = end_at text place }
+
 abbrev pub place_in : Neighbours → List ℕ → BlockState → FillState
-place_in pairs text here = record { count = here.count; row = row_before pairs text here.past; at = here.past }
+place_in pairs text here = place_at pairs text here.count here.past

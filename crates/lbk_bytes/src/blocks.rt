@@ -1,12 +1,12 @@
 //! Blocks of 64 bytes whose breaks the sets of their bytes tell, so that no step waits for the one before it.
 
-ghost use Rattle.std.specs.Prelude.{◌≡◌, ◌≢◌, ℕ, ◌+◌, ◌-◌, ◌^◌, ◌<◌, ◌≤◌, ◌++◌, List, length, slice_index_or, IfSome};
+ghost use Rattle.std.specs.Prelude.{◌≡◌, ℕ, ◌+◌, ◌-◌, ◌^◌, ◌<◌, ◌≤◌, ◌++◌, List, length, IfSome};
 ghost use Rattle.lbk_rules.specs.declared.cells.Cell.{Cell};
 ghost use Rattle.lbk_rules.specs.declared.facts.Left.{Left};
 ghost use Rattle.lbk_values.specs.declared.profile.Profile.{Profile};
 ghost use Rattle.lbk_steps.specs.FlatTable.{AreFlatKinds};
 ghost use Rattle.lbk_steps.specs.Neighbours.{AreTold};
-ghost use Rattle.lbk_bytes.specs.Blocks.{AreCleared, AreKeptBelow, AreLeft, IsAhead, IsBlock, IsLowest, Rests, place_in};
+ghost use Rattle.lbk_bytes.specs.Blocks.{AreCleared, AreKeptBelow, AreLeft, IsAhead, IsBlock, IsLowest, Rests, place_in, row_before};
 ghost use Rattle.lbk_bytes.specs.Reached.{Ahead, AreSwift, IsInOrder, Reached};
 ghost use Rattle.lbk_bytes.specs.Shown.{given_in};
 
@@ -14,6 +14,7 @@ use crate::fill_state::FillState;
 use crate::filling::put;
 use crate::raw_break::RawBreak;
 use crate::steps::{CODES, step_at};
+use lbk_masks::strays;
 use lbk_steps::{FlatStep, Neighbours, STEPS};
 use std::simd::prelude::*;
 
@@ -34,7 +35,8 @@ pub(crate) struct BlockState {
     pub(crate) left: u64,
 }
 
-/// Takes blocks of 64 bytes, as many as come one after the other, and the front of one in which a byte is special.
+/// Takes blocks of 64 bytes, as many as come one after the other, and the front of one in which a byte is special or of no scalar
+/// of one or two bytes in the block.
 /// Nothing is taken where the row is not that of the byte before, or fewer bytes are left. It stands apart, so that what
 /// single scalars need stays in registers.
 #[inline(never)]
@@ -64,7 +66,7 @@ pub(crate) fn blocks(
     here
 }
 
-/// Takes the front of one block, up to its first special byte.
+/// Takes the front of one block, up to the first such byte.
 #[inline(always)]
 fn block(
     pairs: &Neighbours,
@@ -86,8 +88,9 @@ fn block(
     let Some(before) = set_before(pairs, start, text) else {
         return start;
     };
-    let masks = pairs.sets.masks(before, &text[start.at..]);
-    let taken = masks.special.trailing_zeros() as usize;
+    let ahead = &text[start.at..];
+    let masks = pairs.sets.masks(before, ahead);
+    let taken = (masks.special | strays(ahead)).trailing_zeros() as usize;
     let marked = BlockState {
         count: start.count,
         past: start.at,
@@ -96,7 +99,8 @@ fn block(
     finish(pairs, kinds, steps, start.at, taken, marked, text, out)
 }
 
-/// The left set of the byte before a block, if the row is that byte's and a block can begin here: 64 bytes are left.
+/// The left set of the byte before a block, if the row is that byte's and a block can begin here: 64 bytes are left, and of the
+/// next 16 none begins a scalar of more than two.
 #[inline(always)]
 fn set_before(pairs: &Neighbours, here: FillState, text: &[u8]) -> Option<u8>
     requires { here.at ≤ length text.now }
@@ -109,7 +113,7 @@ fn set_before(pairs: &Neighbours, here: FillState, text: &[u8]) -> Option<u8>
         return None;
     }
     let byte = text[here.at - 1];
-    if byte >= 128 {
+    if byte >= 192 {
         return None;
     }
     if here.row != pairs.rows[byte as usize] as usize {
@@ -121,13 +125,13 @@ fn set_before(pairs: &Neighbours, here: FillState, text: &[u8]) -> Option<u8>
     Some(pairs.sets.left_of(byte))
 }
 
-/// Which of the next 16 bytes are of scalars of more than one byte, a bit each.
+/// Which of the next 16 bytes begin scalars of more than two bytes, a bit each.
 #[inline(always)]
 pub(crate) fn wide_ahead(text: &[u8]) -> u64
     requires { 16 ≤ length text.now }
 {
     u8x16::from_slice(text)
-        .simd_ge(u8x16::splat(128))
+        .simd_ge(u8x16::splat(0xE0))
         .to_bitmask()
 }
 
@@ -172,25 +176,34 @@ fn finish(
     stopped(pairs, at, taken, here, text)
 }
 
-/// Where a block was left: after its first bytes if no break is left in them.
+/// Where a block was left: after its first bytes, or before the next break that is left in them.
 #[inline(always)]
 fn stopped(pairs: &Neighbours, at: usize, taken: usize, here: BlockState, text: &[u8]) -> FillState
-    requires { (0 < at) × (at + 64 ≤ length text.now) × (taken ≤ 64) × (at ≤ here.past) × (here.past ≤ at + 64) }
-    ensures within { (result.row < 65536) × (result.at ≤ at + 64) }
+    requires { (0 < at) × (at + 64 ≤ length text.now) × (taken ≤ 64) }
+    ensures within { (result.row < 65536) × (at ≤ result.at) × (result.at ≤ at + 64) }
     ensures count { result.count ≡ here.count }
-    ensures row { result.row ≡ slice_index_or pairs.now.rows (slice_index_or text.now (result.at - 1) 0) 0 }
+    ensures row { result.row ≡ row_before pairs.now text.now result.at }
     ensures all { here.left ≡ 0 → result.at ≡ at + taken }
-    ensures some { here.left ≢ 0 → result.at ≡ here.past }
+    ensures some { 0 < here.left → IsLowest here.left (result.at - at) × (result.at < at + 64) }
 {
-    let past = if here.left == 0 {
-        at + taken
-    } else {
-        here.past
-    };
+    if here.left == 0 {
+        return behind_byte(pairs, here.count, at + taken, text);
+    }
+    behind_byte(pairs, here.count, at + first_set(here.left), text)
+}
+
+/// A place with the row of the byte before it.
+#[inline(always)]
+fn behind_byte(pairs: &Neighbours, count: usize, at: usize, text: &[u8]) -> FillState
+    requires { (0 < at) × (at ≤ length text.now) }
+    ensures within { result.row < 65536 }
+    ensures place { (result.count ≡ count) × (result.at ≡ at) }
+    ensures row { result.row ≡ row_before pairs.now text.now at }
+{
     FillState {
-        count: here.count,
-        row: pairs.rows[text[past - 1] as usize] as usize,
-        at: past,
+        count,
+        row: pairs.rows[text[at - 1] as usize] as usize,
+        at,
     }
 }
 

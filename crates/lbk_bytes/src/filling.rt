@@ -21,7 +21,7 @@ use crate::steps::{CODES, pairs_of, step_at, steps_of};
 use lbk_rules::{Profile, VERDICTS, is_break};
 use lbk_steps::{FlatStep, FlatTable, STEPS};
 
-/// How many bytes are taken one by one where scalars of more than one are usual.
+/// How many bytes are taken one by one where scalars of more than two are usual.
 const MANY: usize = 2048;
 
 /// Blocks that take fewer bytes than this cost more than they save.
@@ -194,9 +194,9 @@ fn next_try(from: usize, at: usize, text: &[u8]) -> usize
     at + pause
 }
 
-/// How many bytes are taken one by one at the front of these, after blocks that took so many: many where two scalars in sight
-/// or more have more than one byte, as many as a block has where the blocks took few, and else a few, or up to after the scalar
-/// of more bytes.
+/// How many bytes are taken one by one at the front of these, after blocks that took so many: many where more than two scalars
+/// in sight have more than two bytes, as many as a block has where the blocks took few, and else a few, or up to the last of
+/// these scalars.
 #[inline(always)]
 fn pause(taken: usize, text: &[u8]) -> usize
     requires { 16 ≤ length text.now }

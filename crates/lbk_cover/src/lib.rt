@@ -8,12 +8,18 @@
 
 ghost use Rattle.std.specs.Prelude.{◌<◌, ◌≤◌};
 
+mod letters;
+
 use lbk_masks::ByteSets;
+pub use letters::{firsts_of_letters, stands_for_all};
 
 /// How many bytes have sets of their own: those below 128.
 const ASCII: usize = 128;
 
-/// Some of the bytes below 128, a bit each.
+/// A byte that is a letter.
+pub const LETTER: usize = b'a' as usize;
+
+/// Some of the bytes below 128, a bit each; or of those from 128 on.
 pub type Bytes = u128;
 
 /// For each byte below 128 those that are related to it, after it.
@@ -31,6 +37,12 @@ const FIRST_BREAK: u8 = 4;
 /// How many classes there are.
 const CLASSES: usize = 16;
 
+/// The class of the bytes that go on with a scalar.
+const CONTINUING: usize = 1;
+
+/// The first of the bytes that begin scalars of more bytes, less 128.
+const FIRSTS: usize = 64;
+
 /// The sets of each byte below 128.
 #[derive(Clone, Copy)]
 struct Found {
@@ -47,6 +59,8 @@ pub struct Related {
     pub breaks: Behind,
     /// A number for each byte, the same for bytes that are related alike.
     pub kinds: [u8; 128],
+    /// The bytes from 128 on that are related as [`LETTER`] is, as the first of a letter's two.
+    pub firsts: Bytes,
 }
 
 /// Sets that may tell what stands out and what is special.
@@ -66,7 +80,7 @@ struct Rectangle {
 }
 
 /// Sets that may tell what is related, as far as eight things and sixteen classes reach. Bytes that are rare in texts are
-/// special after each other.
+/// special after each other. Those that go on with a scalar are as the left what a letter is, and stand out after none.
 pub fn cover(related: &Related) -> Covering {
     let mut found = Found {
         left: [0; ASCII],
@@ -76,7 +90,9 @@ pub fn cover(related: &Related) -> Covering {
     cover_special(&related.special, usual, &mut found);
     let different = one_of_each_kind(&related.kinds, usual);
     let covered = cover_breaks(&related.breaks, usual, different, &mut found);
-    classed(&found, covered)
+    let mut covering = classed(&found, covered);
+    put_wide(related.firsts, &mut covering.sets);
+    covering
 }
 
 /// The bytes that are usual in texts: all but most controls.
@@ -227,16 +243,18 @@ fn put_right(right: Bytes, thing: u8, found: &mut Found) {
     }
 }
 
-/// A class for each pair of sets, as long as there are classes. The first is that of all other bytes, and of those from 128
-/// on; it is special after each.
+/// A class for each pair of sets, as long as there are classes. The first is that of all other bytes, which are special after
+/// each, and the next that of the bytes that go on with a letter.
 fn classed(found: &Found, covered: Bytes) -> Covering {
     let mut sets = ByteSets {
         classes: [[0; 16]; 8],
         left: [0; CLASSES],
         right: [STOP; CLASSES],
     };
+    sets.left[CONTINUING] = found.left[LETTER];
+    sets.right[CONTINUING] = 0;
     let mut known = 0;
-    let mut count = 1;
+    let mut count = CONTINUING + 1;
     for byte in 0..ASCII {
         let class = class_of(&sets, count, found.left[byte], found.right[byte]);
         if covered >> byte & 1 == 0 || class >= CLASSES {
@@ -251,6 +269,18 @@ fn classed(found: &Found, covered: Bytes) -> Covering {
         }
     }
     Covering { sets, known }
+}
+
+/// Puts the classes of the bytes from 128 on into the high halves: of those that go on with a scalar, and of these first bytes.
+fn put_wide(firsts: Bytes, sets: &mut ByteSets) {
+    let letter = sets.classes[LETTER / 16][LETTER % 16];
+    for byte in 0..ASCII {
+        if byte < FIRSTS {
+            sets.classes[byte / 16][byte % 16] |= (CONTINUING as u8) << 4;
+        } else if firsts >> byte & 1 == 1 {
+            sets.classes[byte / 16][byte % 16] |= letter << 4;
+        }
+    }
 }
 
 /// The class with these sets among the first `count`, and else the next.

@@ -1,2 +1,3 @@
-pub mod EveryLemmas
+pub mod BitLemmas
 pub mod ClassLemmas
+pub mod EveryLemmas

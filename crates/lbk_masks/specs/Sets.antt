@@ -1,5 +1,5 @@
 -- Sets of bytes, and where those of neighbours meet.
-use Rattle.std.specs.Prelude.{◌≡◌, ℕ, zero, suc, ◌<◌, ◌/◌, ◌==◌, List, [], Bool, not, get_or, bit_and, if◌then◌else◌}
+use Rattle.std.specs.Prelude.{◌≡◌, ℕ, zero, suc, ◌<◌, ◌/◌, ◌%◌, ◌==◌, List, [], Bool, not, get_or, bit_and, if◌then◌else◌}
 use Rattle.std.specs.Int.{bit_at}
 use Rattle.lbk_masks.specs.declared.ByteSets.{ByteSets}
 
@@ -23,9 +23,12 @@ chosen bit low high byte = if bit_and byte bit == 0 then low else high
 abbrev pub meets : ℕ → ℕ → Bool
 meets left right = not (bit_and left right == 0)
 
--- the class of a byte: what the row of its high half has, and 0 from 128 on
+-- the class of a byte, in the low half of a number: of what the row of its high half has the low half, or from 128 on the
+-- high half
 abbrev pub class_in : List (List ℕ) → ℕ → ℕ
-class_in rows byte = picked (get_or rows (byte / 16) []) byte
+class_in rows byte =
+    let halves = picked (get_or rows (byte / 16 % 8) []) byte in
+    chosen 128 halves (halves / 16) byte
 
 -- the set of a byte on the left of two neighbours, and on the right
 abbrev pub left_in : ByteSets → ℕ → ℕ

@@ -5,19 +5,21 @@
 //! things. All of it holds whatever the sets are.
 #![tactic(auto)]
 
-ghost use Rattle.std.specs.Prelude.{◌≡◌, ◌%◌, ℕ, ◌<◌, ◌≤◌, ◌∷◌, length, get_or, bit_and};
+ghost use Rattle.std.specs.Prelude.{◌≡◌, ◌/◌, ◌%◌, ℕ, ◌<◌, ◌≤◌, ◌∷◌, length, get_or, bit_and, nat_le};
 ghost use Rattle.lbk_masks.specs.Sets.{HasLanes, chosen, class_in, is_set, left_before, left_in, meets, picked, right_in};
+ghost use Rattle.lbk_masks.specs.Strays.{is_stray};
 
 use std::simd::prelude::*;
 
 /// The things in which every byte that meets another is special.
 pub const SPECIAL: u8 = 3;
 
-/// The sets of all bytes. Those below 128 have a class each, and those from 128 on the class 0; a class has two sets.
+/// The sets of all bytes. Each byte has one of sixteen classes, and a class has two sets.
 #[repr(C)]
 #[derive(Clone, Copy)]
 pub struct ByteSets {
-    /// The class of each byte below 128, in rows of 16. It is below 16.
+    /// The classes of the bytes below 128 in rows of 16, in the low half of each number. Its high half is the class of the byte
+    /// that is greater by 128, so that one look-up serves all bytes.
     pub classes: [[u8; 16]; 8],
     /// The set of a class on the left of two neighbours.
     pub left: [u8; 16],
@@ -68,14 +70,25 @@ impl ByteSets {
     }
 }
 
-/// The class of one byte.
+/// Which of the first 64 bytes of a text are from 128 on and of no scalar of two bytes among them, a bit each.
+#[inline(always)]
+pub fn strays(text: &[u8]) -> u64
+    requires { 64 ≤ length text.now }
+    ensures { (i : ℕ) → i < 64 → is_set result i ≡ is_stray text.now i }
+{
+    let block = block_of(text);
+    let wide = least(128, block);
+    let first = least(192, block);
+    let pairs = first & ((wide & !first) >> 1);
+    wide & !(pairs | (pairs << 1))
+}
+
+/// The class of one byte, in the low half of a number.
 fn class_of(rows: &[[u8; 16]; 8], byte: u8) -> u8
     ensures { result ≡ class_in rows.now byte }
 {
-    if byte >= 128 {
-        return 0;
-    }
-    of_class(&rows[(byte / 16) as usize], byte)
+    let class = of_class(&rows[(byte / 16 % 8) as usize], byte);
+    if byte & 128 == 0 { class } else { class / 16 }
 }
 
 /// What the row has at the low half of a byte.
@@ -142,7 +155,7 @@ fn in_rows(low: [u8; 16], high: [u8; 16], bytes: u8x64) -> u8x64
     chosen(16, picked(low, bytes), picked(high, bytes), bytes)
 }
 
-/// The class of each byte. Bits of the high half choose the row.
+/// The class of each byte, in the low half of a number. Bits of the high half choose the row.
 #[inline(always)]
 fn classes(rows: &[[u8; 16]; 8], bytes: u8x64) -> u8x64
     ensures { HasLanes result (λ i. class_in rows.now (get_or bytes i 0)) }
@@ -153,8 +166,24 @@ fn classes(rows: &[[u8; 16]; 8], bytes: u8x64) -> u8x64
     let d = in_rows(rows[6], rows[7], bytes);
     let low = chosen(32, a, b, bytes);
     let high = chosen(32, c, d, bytes);
-    let ascii = chosen(64, low, high, bytes);
-    chosen(128, ascii, u8x64::splat(0), bytes)
+    let class = chosen(64, low, high, bytes);
+    chosen(128, class, high_halves(class), bytes)
+}
+
+/// The high half of each byte.
+#[inline(always)]
+fn high_halves(bytes: u8x64) -> u8x64
+    ensures { HasLanes result (λ i. get_or bytes i 0 / 16) }
+{
+    bytes >> u8x64::splat(4)
+}
+
+/// Which bytes are no less than this one.
+#[inline(always)]
+fn least(byte: u8, block: u8x64) -> u64
+    ensures { (i : ℕ) → i < 64 → is_set result i ≡ nat_le byte (get_or block i 0) }
+{
+    block.simd_ge(u8x64::splat(byte)).to_bitmask()
 }
 
 /// Where the sets of two vectors meet.

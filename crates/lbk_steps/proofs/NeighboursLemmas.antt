@@ -11,7 +11,7 @@ ones : (class : ℕ) → picked (replicate 16 1) class ≡ 1
 ones class = get_or-replicate 16 (bit_and class 15) 1 0 (omega (arith, and_le_r class 15))
 
 pub nothing-told : (steps : List FlatStep) (kinds : List ℕ) → AreTold steps kinds NOTHING_KNOWN
-nothing-told steps kinds before byte low high row plain =
+nothing-told steps kinds before byte low high begins row plain =
     let rows = NOTHING_KNOWN.sets.classes in
     let special : meets (picked (replicate 16 1) (class_in rows before)) (bit_and (picked (replicate 16 1) (class_in rows byte)) 3) ≡ true =
     ap₂ (λ l r. meets l (bit_and r 3)) (ones (class_in rows before)) (ones (class_in rows byte)) in

@@ -8,11 +8,11 @@ ghost use Rattle.lbk_steps.specs.FlatTable.{digest_with};
 
 use crate::flat_table::{CODES, FlatStep, HELD, STEPS, digest_kinds, digest_with};
 use crate::kinds::KINDS;
-use lbk_cover::{Related, cover};
+use lbk_cover::{LETTER, Related, cover, firsts_of_letters, stands_for_all};
 use lbk_masks::{ByteSets, SPECIAL};
 use lbk_rules::is_break;
 
-/// How many bytes have sets of their own: those that are scalars.
+/// How many bytes are scalars.
 const ASCII: usize = 128;
 
 /// The place of no row, since rows begin at multiples of the number of kinds.
@@ -25,7 +25,7 @@ pub struct Neighbours {
     /// Sets by which a byte stands out where a line may or must break before it, and is special where the two bytes by themselves
     /// do not tell that.
     pub sets: ByteSets,
-    /// The place of the row after each byte that is not special; or a number that is no row's place.
+    /// The place of the row after each byte that is not special, or after the scalar that it begins; or a number that is no row's.
     pub rows: [u16; 256],
 }
 
@@ -65,11 +65,11 @@ impl Neighbours {
         self.sets.left_of(before) & self.sets.right_of(byte) != 0
     }
 
-    /// Whether the sets tell what the steps tell, of each pair of bytes.
+    /// Whether the sets tell what the steps tell, of each byte after one that may stand last in a scalar.
     fn are_told(&self, steps: &[FlatStep; STEPS], kinds: &[u8; CODES]) -> bool
         ensures { result ≡ true → AreTold steps.now kinds.now self.now }
     {
-        for before in 0..ASCII {
+        for before in 0..192_usize {
             if !self.are_told_behind(before as u8, steps, kinds) {
                 return false;
             }
@@ -79,7 +79,7 @@ impl Neighbours {
 
     /// Whether they tell it of each byte after this one.
     fn are_told_behind(&self, before: u8, steps: &[FlatStep; STEPS], kinds: &[u8; CODES]) -> bool
-        requires { before < 128 }
+        requires { before < 192 }
         ensures { result ≡ true → (byte : ℕ) → byte < 256 → IsTold steps.now kinds.now self.now before byte }
     {
         for byte in 0..256_usize {
@@ -92,20 +92,20 @@ impl Neighbours {
 
     /// Whether they tell it of a byte after another.
     fn is_told(&self, before: u8, byte: u8, steps: &[FlatStep; STEPS], kinds: &[u8; CODES]) -> bool
-        requires { before < 128 }
+        requires { before < 192 }
         ensures { result ≡ true → IsTold steps.now kinds.now self.now before byte }
     {
         if self.rows[before as usize] as usize % KINDS != 0 || self.is_special(before, byte) {
             return true;
         }
-        if byte >= 128 {
+        if byte >= 128 && byte < 192 {
+            return true;
+        }
+        if byte >= 192 && !stands_for_all(byte, kinds, &self.rows, &self.sets) {
             return false;
         }
         let step = steps[self.rows[before as usize] as usize + kinds[byte as usize] as usize];
-        if step.code == HELD {
-            return false;
-        }
-        if step.next != self.rows[byte as usize] {
+        if step.code == HELD || step.next != self.rows[byte as usize] {
             return false;
         }
         self.stands_out(before, byte) == is_break(step.code)
@@ -127,8 +127,9 @@ impl Neighbours {
 fn neighbours_found(steps: &[FlatStep; STEPS], kinds: &[u8; CODES]) -> Neighbours {
     let mut rows = rows_behind_letters(steps, kinds);
     let covering = cover(&relations(steps, kinds, &rows));
-    for byte in 0..ASCII {
-        if covering.known >> byte & 1 == 0 {
+    for byte in 0..256_usize {
+        let like = if byte < ASCII { byte } else { LETTER };
+        if covering.known >> like & 1 == 0 {
             rows[byte] = NO_ROW;
         }
     }
@@ -136,12 +137,12 @@ fn neighbours_found(steps: &[FlatStep; STEPS], kinds: &[u8; CODES]) -> Neighbour
     Neighbours { sets, rows }
 }
 
-/// The row after each byte below 128, where it stands after a letter.
+/// The row after each byte below 128, where it stands after a letter, and for all others the row after letters.
 fn rows_behind_letters(steps: &[FlatStep; STEPS], kinds: &[u8; CODES]) -> [u16; 256] {
-    let mut rows = [NO_ROW; 256];
-    let letter = steps[kinds[b'a' as usize] as usize].next;
+    let letter = steps[kinds[LETTER] as usize].next as usize;
+    let mut rows = [steps[letter + kinds[LETTER] as usize].next; 256];
     for byte in 0..ASCII {
-        rows[byte] = steps[letter as usize + kinds[byte] as usize].next;
+        rows[byte] = steps[letter + kinds[byte] as usize].next;
     }
     rows
 }
@@ -152,6 +153,7 @@ fn relations(steps: &[FlatStep; STEPS], kinds: &[u8; CODES], rows: &[u16; 256]) 
         special: [0; ASCII],
         breaks: [0; ASCII],
         kinds: [0; ASCII],
+        firsts: firsts_of_letters(kinds),
     };
     for before in 0..ASCII {
         related.kinds[before] = kinds[before];
@@ -176,11 +178,9 @@ fn digest_rows(digest: u64, rows: &[[u8; 16]]) -> u64
 }
 
 /// A digest after some places more.
-fn digest_places(digest: u64, places: &[u16]) -> u64
-    ensures { result ≡ fold digest_with digest places.now }
+fn digest_places(digest: u64, rows: &[u16]) -> u64
+    ensures { result ≡ fold digest_with digest rows.now }
 {
-    places.iter().fold(
-        digest,
-        |digest, place| digest_with(digest, u64::from(*place)),
-    )
+    rows.iter()
+        .fold(digest, |digest, row| digest_with(digest, u64::from(*row)))
 }

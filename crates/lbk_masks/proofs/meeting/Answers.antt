@@ -1,16 +1,10 @@
-use Rattle.std.proofs.Common.{◌≡◌, ℕ, Bool, true, false, List, eqb, refl, cond, ◌==◌, not, map, length, get_or, bit_and, ap, ◌∙◌, sym, arith, w8}
+use Rattle.std.proofs.Common.{◌≡◌, ℕ, false, eqb, not, map, length, bit_and, ap, ◌∙◌, sym, arith, w8}
 use Rattle.std.proofs.lemmas.List.{get_or-map}
-use Rattle.std.proofs.lemmas.Simd.{bit_mask_l, bitmask_splat, get_or-zip2, length-zip2}
-use lib.Lanes.{mask_l, zip2}
+use Rattle.std.proofs.lemmas.Simd.{bitmask_splat, get_or-zip2, length-zip2}
+use lib.Lanes.{zip2}
 use Rattle.lbk_masks.specs.Sets.{is_set}
+use Rattle.lbk_masks.proofs.BitLemmas.{set-mask}
 use Rattle.lbk_masks.proofs.meeting.Goals as goal
-
-back : (b : Bool) → (cond b 1 0 == 1) ≡ b
-back true = refl
-back false = refl
-
-set-mask : (ms : List Bool) (i : ℕ) → is_set (mask_l ms) i ≡ get_or ms i false
-set-mask ms i = ap (λ x. x == 1) (bit_mask_l ms i) ∙ back (get_or ms i false)
 
 pub returns : goal.returns
 returns c i h =

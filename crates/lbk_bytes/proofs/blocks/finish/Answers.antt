@@ -22,17 +22,17 @@ loop-here-preserved c =
 pub returns-clause-within : goal.returns-clause-within
 returns-clause-within c =
     let stopped = c.stopped.ensures in
-    (omega (arith, stopped.count), stopped.within.0, omega (arith, stopped.within.1))
+    (omega (arith, stopped.count), stopped.within.0, omega (arith, stopped.within.2))
 
 pub returns-clause-reached : goal.returns-clause-reached
 returns-clause-reached c = λ profile cell lefts more all block left start.
     let l = c.loop-here in
     let stopped = c.stopped.ensures in
     stopped-there profile cell lefts c.args.text.now more all c.args.steps.now c.args.kinds.now c.args.pairs.now l.out c.args.at c.args.taken l.here c.stopped.result
-    c.requires.2 block stopped.count stopped.row stopped.all stopped.some (l.invariant.reached profile cell lefts more all block left start)
+    c.requires.2 block stopped.count stopped.row stopped.within.1 stopped.all stopped.some (l.invariant.reached profile cell lefts more all block left start)
 
 pub returns-clause-in_order : goal.returns-clause-in_order
 returns-clause-in_order c = λ from ahead order.
     let l = c.loop-here in
     let stopped = c.stopped.ensures in
-    order-stopped l.out c.args.at c.args.taken from l.here c.stopped.result stopped.count stopped.all stopped.some (l.invariant.ahead ahead) (l.invariant.in_order from ahead order)
+    order-stopped l.out c.args.at c.args.taken from l.here c.stopped.result stopped.count stopped.within.1 stopped.all stopped.some (l.invariant.ahead ahead) (l.invariant.in_order from ahead order)

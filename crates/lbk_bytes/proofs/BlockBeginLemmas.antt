@@ -1,0 +1,284 @@
+-- Where a block begins, and what its bytes are as far as none is special or stray.
+use Rattle.std.proofs.Common.{◌≡◌, ◌⊎◌, ℕ, zero, suc, ◌+◌, ◌-◌, ◌<◌, ◌≤◌, ◌&&◌, ◌||◌, ◌==◌, Bool, true, false, not, leb, ltb, List, length, get_or, take, drop, bit_and, refl, sym, ap, subst, ◌∙◌, ⊎_elim, inl, inr, arith}
+use Rattle.std.proofs.lemmas.Bool.{and_from, and_parts, cases_lt, eq-eqb, le-leb, leb-true, lt-ltb, ltb-true, not_from_true}
+use Rattle.std.proofs.lemmas.List.{get_or-drop}
+use Rattle.std.proofs.lemmas.Nat.{and_le_r}
+use Rattle.lbk_cover.specs.Letters.{StandsForAll}
+use Rattle.lbk_masks.specs.Sets.{left_before, left_in, meets, right_in}
+use Rattle.lbk_masks.specs.Strays.{is_pair, is_second, is_stray}
+use Rattle.lbk_rules.specs.declared.cells.Cell.{Cell}
+use Rattle.lbk_rules.specs.declared.facts.Left.{Left}
+use Rattle.lbk_steps.specs.declared.flat_table.FlatStep.{FlatStep}
+use Rattle.lbk_steps.specs.declared.neighbours.Neighbours.{Neighbours}
+use Rattle.lbk_values.specs.declared.profile.Profile.{Profile}
+use Rattle.lbk_steps.specs.FlatTable.{AreFlatKinds, no_flat_step}
+use Rattle.lbk_steps.specs.Kinds.{kind_cell}
+use Rattle.lbk_steps.specs.Neighbours.{AreSettled, AreTold, is_special}
+use Rattle.lbk_steps.specs.Steps.{IsStart, left_at}
+use Rattle.lbk_bytes.specs.declared.fill_state.FillState.{FillState}
+use Rattle.lbk_bytes.specs.Blocks.{IsBlock, IsByteTold, Rests, byte_at, row_before, stands_at}
+use Rattle.lbk_bytes.specs.Reached.{AreSwift, IsSwiftStep}
+use Rattle.lbk_bytes.proofs.BlockScalarLemmas.{begins-or, byte-scalar}
+use Rattle.lbk_bytes.proofs.PieceLemmas.{rest-of}
+
+-- what is left of a text
+abbrev pub rest_at : List ℕ → ℕ → List ℕ
+rest_at text at = take (length text - at) (drop at text)
+
+-- byte i of what is left of a text
+rest-byte : (text : List ℕ) (at i : ℕ) → get_or (take (length text - at) (drop at text)) i 0 ≡ byte_at text (at + i)
+rest-byte text at i = ap (λ l. get_or l i 0) (rest-of text at) ∙ get_or-drop at text i 0
+
+-- the set of the byte before byte i of it
+left-is : (pairs : Neighbours) (text : List ℕ) (here : FillState) (before i : ℕ) → Rests pairs here text before
+    → left_before pairs.sets before (take (length text - here.at) (drop here.at text)) i ≡ left_in pairs.sets (byte_at text (here.at + i - 1))
+left-is pairs text here before zero rests =
+    rests.set ∙ ap (λ n. left_in pairs.sets (byte_at text n)) (let e : here.at - 1 ≡ here.at + 0 - 1 = omega arith in e)
+left-is pairs text here before (suc i) rests =
+    ap (left_in pairs.sets) (rest-byte text here.at i)
+    ∙ ap (λ n. left_in pairs.sets (byte_at text n)) (let e : here.at + i ≡ here.at + suc i - 1 = omega arith in e)
+
+pub stands-is : (pairs : Neighbours) (text : List ℕ) (here : FillState) (before i : ℕ) → Rests pairs here text before
+    → meets (left_before pairs.sets before (take (length text - here.at) (drop here.at text)) i) (right_in pairs.sets (get_or (take (length text - here.at) (drop here.at text)) i 0))
+    ≡ stands_at pairs text (here.at + i)
+stands-is pairs text here before i rests =
+    ap (λ l. meets l (right_in pairs.sets (get_or (take (length text - here.at) (drop here.at text)) i 0))) (left-is pairs text here before i rests)
+    ∙ ap (λ b. meets (left_in pairs.sets (byte_at text (here.at + i - 1))) (right_in pairs.sets b)) (rest-byte text here.at i)
+
+pub special-is : (pairs : Neighbours) (text : List ℕ) (here : FillState) (before i : ℕ) → Rests pairs here text before
+    → meets (left_before pairs.sets before (take (length text - here.at) (drop here.at text)) i)
+    (bit_and (right_in pairs.sets (get_or (take (length text - here.at) (drop here.at text)) i 0)) 3)
+    ≡ is_special pairs (byte_at text (here.at + i - 1)) (byte_at text (here.at + i))
+special-is pairs text here before i rests =
+    ap (λ l. meets l (bit_and (right_in pairs.sets (get_or (take (length text - here.at) (drop here.at text)) i 0)) 3)) (left-is pairs text here before i rests)
+    ∙ ap (λ b. meets (left_in pairs.sets (byte_at text (here.at + i - 1))) (bit_and (right_in pairs.sets b) 3)) (rest-byte text here.at i)
+
+-- Bytes that are no strays
+
+-- a first byte of two is not the last of the block, and the next goes on with it; one that goes on stands behind a first
+record IsPlaced (text : List ℕ) (at i : ℕ) : Type 0 where
+  first : 192 ≤ byte_at text (at + i) → (i < 63) × (128 ≤ byte_at text (at + suc i)) × (byte_at text (at + suc i) < 192)
+  last : 128 ≤ byte_at text (at + i) → byte_at text (at + i) < 192 → (0 < i) × (192 ≤ byte_at text (at + i - 1))
+
+pair-parts : (text : List ℕ) (at i : ℕ) → is_pair (rest_at text at) i ≡ true
+    → (192 ≤ byte_at text (at + i)) × (i < 63) × (128 ≤ byte_at text (at + suc i)) × (byte_at text (at + suc i) < 192)
+pair-parts text at i pair =
+    let rest = rest_at text at in
+    let all = and_parts (leb 192 (get_or rest i 0)) _ pair in
+    let more = and_parts (ltb i 63) _ all.1 in
+    let next = and_parts (leb 128 (get_or rest (i + 1) 0)) _ more.1 in
+    let here = rest-byte text at i in
+    let there : get_or rest (i + 1) 0 ≡ byte_at text (at + suc i) = rest-byte text at (i + 1) ∙ ap (byte_at text) (let e : at + (i + 1) ≡ at + suc i = omega arith in e) in
+    let first = leb-true 192 (get_or rest i 0) all.0 in
+    let few = ltb-true i 63 more.0 in
+    let least = leb-true 128 (get_or rest (i + 1) 0) next.0 in
+    let below = ltb-true (get_or rest (i + 1) 0) 192 next.1 in
+    (omega arith, few, omega arith, omega arith)
+
+-- where a byte from 128 on is no stray
+not-stray : (wide pair second : Bool) → (wide && not (pair || second)) ≡ false → wide ≡ true → (pair ≡ true) ⊎ (second ≡ true)
+not-stray wide true second none is = inl refl
+not-stray wide false true none is = inr refl
+not-stray true false false none is = absurd (let never : ⊥ = cc in never)
+not-stray false false false none is = absurd (let never : ⊥ = cc in never)
+
+pair-or-second : (text : List ℕ) (at i : ℕ) → is_stray (rest_at text at) i ≡ false → 128 ≤ byte_at text (at + i)
+    → (is_pair (rest_at text at) i ≡ true) ⊎ (is_second (rest_at text at) i ≡ true)
+pair-or-second text at i none wide =
+    let rest = rest_at text at in
+    let same = rest-byte text at i in
+    not-stray (leb 128 (get_or rest i 0)) (is_pair rest i) (is_second rest i) none (le-leb 128 (get_or rest i 0) (omega arith))
+
+-- the second of two stands behind the first
+second-parts : (text : List ℕ) (at i : ℕ) → is_second (rest_at text at) i ≡ true → (0 < i) × (192 ≤ byte_at text (at + i - 1)) × (byte_at text (at + i) < 192)
+second-parts text at zero is = absurd (let never : ⊥ = cc in never)
+second-parts text at (suc i) is =
+    let parts = pair-parts text at i is in
+    let back : at + i ≡ at + suc i - 1 = omega arith in
+    (omega arith, subst (λ n. 192 ≤ byte_at text n) back parts.0, parts.3)
+
+placed : (text : List ℕ) (at i : ℕ) → is_stray (rest_at text at) i ≡ false → IsPlaced text at i
+placed text at i none = record {
+  first = λ high.
+      ⊎_elim (λ pair. (let parts = pair-parts text at i pair in (parts.1, parts.2, parts.3)))
+      (λ second. absurd (let parts = second-parts text at i second in let below = parts.2 in omega arith))
+      (pair-or-second text at i none (omega arith));
+  last = λ least below.
+      ⊎_elim (λ pair. absurd (let parts = pair-parts text at i pair in let high = parts.0 in omega arith))
+      (λ second. (let parts = second-parts text at i second in (parts.0, parts.1)))
+      (pair-or-second text at i none least);
+}
+
+no-stray : (wide pair second : Bool) → second ≡ true → (wide && not (pair || second)) ≡ false
+no-stray true true second is = refl
+no-stray true false true is = refl
+no-stray true false false is = absurd (let never : ⊥ = cc in never)
+no-stray false pair second is = refl
+
+-- a byte that goes on with the first before it is none
+second-is : (text : List ℕ) (at i : ℕ) → i < 63 → 192 ≤ byte_at text (at + i) → 128 ≤ byte_at text (at + suc i) → byte_at text (at + suc i) < 192
+    → is_stray (rest_at text at) (suc i) ≡ false
+second-is text at i few high least below =
+    let rest = rest_at text at in
+    let here = rest-byte text at i in
+    let there : get_or rest (i + 1) 0 ≡ byte_at text (at + suc i) = rest-byte text at (i + 1) ∙ ap (byte_at text) (let e : at + (i + 1) ≡ at + suc i = omega arith in e) in
+    let pair : is_pair rest i ≡ true =
+    and_from (leb 192 (get_or rest i 0)) _ (le-leb 192 (get_or rest i 0) (omega arith))
+    (and_from (ltb i 63) _ (lt-ltb i 63 few)
+    (and_from (leb 128 (get_or rest (i + 1) 0)) (ltb (get_or rest (i + 1) 0) 192) (le-leb 128 (get_or rest (i + 1) 0) (omega arith))
+    (lt-ltb (get_or rest (i + 1) 0) 192 (omega arith)))) in
+    no-stray (leb 128 (get_or rest (suc i) 0)) (is_pair rest (suc i)) (is_pair rest i) pair
+
+-- the byte before a place has a row, and stands for its scalar if it is the first of two, whose second is then here
+record IsBehind (lefts : List Left) (kinds : List ℕ) (pairs : Neighbours) (text : List ℕ) (place : ℕ) : Type 0 where
+  starts : IsStart lefts (row_before pairs text place)
+  stands : 192 ≤ byte_at text (place - 1) → StandsForAll kinds pairs.rows pairs.sets (byte_at text (place - 1))
+  follows : 192 ≤ byte_at text (place - 1) → (128 ≤ byte_at text place) × (byte_at text place < 192)
+
+meets-none : (left right : ℕ) → right ≡ 0 → meets left right ≡ false
+meets-none left right none =
+    not_from_true (bit_and left right == 0) (eq-eqb (bit_and left right) 0 (let most = and_le_r left right in omega arith))
+
+-- the second of two never stands out
+quiet-last : (lefts : List Left) (kinds : List ℕ) (pairs : Neighbours) (text : List ℕ) (place : ℕ) → IsBehind lefts kinds pairs text place
+    → 192 ≤ byte_at text (place - 1) → right_in pairs.sets (byte_at text place) ≡ 0
+quiet-last lefts kinds pairs text place behind high =
+    let last = behind.follows high in
+    let least = last.0 in
+    let below = last.1 in
+    let byte = byte_at text place in
+    let same : 128 + (byte - 128) ≡ byte = omega arith in
+    ap (right_in pairs.sets) (sym same) ∙ ((behind.stands high).each (byte - 128) (omega arith)).quiet
+
+byte-told : (lefts : List Left) (steps : List FlatStep) (kinds : List ℕ) (pairs : Neighbours) (text : List ℕ) (at i : ℕ)
+    → AreTold steps kinds pairs → byte_at text (at + i) < 256 → IsBehind lefts kinds pairs text (at + i) → IsPlaced text at i → at + 64 ≤ length text
+    → is_special pairs (byte_at text (at + i - 1)) (byte_at text (at + i)) ≡ false
+    → IsByteTold steps kinds pairs text (at + i)
+byte-told lefts steps kinds pairs text at i told fits behind place room plain =
+    let before = byte_at text (at + i - 1) in
+    let byte = byte_at text (at + i) in
+    record {
+      settled = λ begins.
+          let low : before < 192 = ⊎_elim (λ (l : before < 192). l)
+          (λ (high : 192 ≤ before). absurd (let last = behind.follows high in let least = last.0 in let below = last.1 in
+          ⊎_elim (λ (a : byte < 128). omega arith) (λ (b : 192 ≤ byte). omega arith) begins)) (cases_lt before 192) in
+          (low, told before byte low fits begins behind.starts.0 plain);
+      goes_on = λ high.
+          let next = place.first high in
+          let few = next.0 in
+          let same : at + suc i ≡ at + i + 1 = omega arith in
+          record { least = subst (λ n. 128 ≤ byte_at text n) same next.1; below = subst (λ n. byte_at text n < 192) same next.2; within = omega arith };
+      quiet = λ least below.
+          let high = (place.last least below).1 in
+          (high, meets-none (left_in pairs.sets before) (right_in pairs.sets byte) (quiet-last lefts kinds pairs text (at + i) behind high));
+    }
+
+-- a first byte of two that is settled stands for its scalars
+stands-for : (steps : List FlatStep) (kinds : List ℕ) (pairs : Neighbours) (before byte : ℕ) → 192 ≤ byte → AreSettled steps kinds pairs before byte
+    → StandsForAll kinds pairs.rows pairs.sets byte
+stands-for steps kinds pairs before byte high settled =
+    ⊎_elim (λ (low : byte < 128). absurd (omega arith)) (λ (stands : StandsForAll kinds pairs.rows pairs.sets byte). stands) settled.begins
+
+behind-next : (profile : Profile) (cell : ℕ → Cell) (lefts : List Left) (steps : List FlatStep) (kinds : List ℕ) (pairs : Neighbours) (text : List ℕ) (at i : ℕ)
+    → AreSwift profile lefts steps → AreFlatKinds kinds cell → byte_at text (at + i) < 256 → IsBehind lefts kinds pairs text (at + i) → IsPlaced text at i
+    → IsByteTold steps kinds pairs text (at + i)
+    → IsBehind lefts kinds pairs text (at + suc i)
+behind-next profile cell lefts steps kinds pairs text at i swift are_kinds fits behind place told =
+    let byte = byte_at text (at + i) in
+    let kind = get_or kinds byte 0 in
+    let row = row_before pairs text (at + i) in
+    let is_kind = are_kinds byte (byte-scalar byte fits) in
+    let step : IsSwiftStep profile lefts (left_at lefts row) (kind_cell kind) (get_or steps (row + kind) no_flat_step) = swift row kind behind.starts is_kind.0 in
+    let back : at + i ≡ at + suc i - 1 = omega arith in
+    let starts : IsStart lefts (get_or pairs.rows byte 0) =
+    ⊎_elim (λ (begins : (byte < 128) ⊎ (192 ≤ byte)). subst (IsStart lefts) (told.settled begins).1.leads step.starts)
+    (λ (last : (128 ≤ byte) × (byte < 192)).
+    let high = (place.last last.0 last.1).1 in
+    let least = last.0 in
+    let below = last.1 in
+    let same : 128 + (byte - 128) ≡ byte = omega arith in
+    let leads = ((behind.stands high).each (byte - 128) (omega arith)).leads in
+    subst (IsStart lefts) (sym leads ∙ ap (λ n. get_or pairs.rows n 0) same) behind.starts)
+    (begins-or byte) in
+    record {
+      starts = subst (λ n. IsStart lefts (get_or pairs.rows (byte_at text n) 0)) back starts;
+      stands = λ high.
+          let first : 192 ≤ byte = subst (λ n. 192 ≤ byte_at text n) (sym back) high in
+          subst (λ n. StandsForAll kinds pairs.rows pairs.sets (byte_at text n)) back (stands-for steps kinds pairs (byte_at text (at + i - 1)) byte first (told.settled (inr first)).1);
+      follows = λ high.
+          let next = place.first (subst (λ n. 192 ≤ byte_at text n) (sym back) high) in
+          (next.1, next.2);
+    }
+
+-- what is known of the bytes of a block that are taken
+record Begun (lefts : List Left) (steps : List FlatStep) (kinds : List ℕ) (pairs : Neighbours) (text : List ℕ) (at taken : ℕ) : Type 0 where
+  told : AreTold steps kinds pairs
+  bytes : (i : ℕ) → byte_at text i < 256
+  room : at + 64 ≤ length text
+  few : taken ≤ 64
+  plain : (i : ℕ) → i < taken → is_special pairs (byte_at text (at + i - 1)) (byte_at text (at + i)) ≡ false
+  stays : (i : ℕ) → i < taken → is_stray (rest_at text at) i ≡ false
+
+behind-each : (profile : Profile) (cell : ℕ → Cell) (lefts : List Left) (steps : List FlatStep) (kinds : List ℕ) (pairs : Neighbours) (text : List ℕ) (at taken : ℕ)
+    → AreSwift profile lefts steps → AreFlatKinds kinds cell → Begun lefts steps kinds pairs text at taken
+    → IsBehind lefts kinds pairs text at → (i : ℕ) → i ≤ taken → IsBehind lefts kinds pairs text (at + i)
+behind-each profile cell lefts steps kinds pairs text at taken swift are_kinds begun begins zero h =
+    subst (IsBehind lefts kinds pairs text) (let e : at ≡ at + 0 = omega arith in e) begins
+behind-each profile cell lefts steps kinds pairs text at taken swift are_kinds begun begins (suc i) h =
+    let inside : i < taken = omega (arith, h) in
+    let behind = behind-each profile cell lefts steps kinds pairs text at taken swift are_kinds begun begins i (omega (arith, h)) in
+    let place = placed text at i (begun.stays i inside) in
+    behind-next profile cell lefts steps kinds pairs text at i swift are_kinds (begun.bytes (at + i)) behind place
+    (byte-told lefts steps kinds pairs text at i begun.told (begun.bytes (at + i)) behind place begun.room (begun.plain i inside))
+
+neither : (one other : Bool) → one ≡ false → other ≡ false → (one || other) ≡ true → ⊥
+neither false false a b is = cc
+neither true other a b is = cc
+neither false true a b is = cc
+
+-- the last byte that is taken is the last of a scalar: the first of two is followed by what is neither special nor stray
+last-ends : (lefts : List Left) (kinds : List ℕ) (pairs : Neighbours) (text : List ℕ) (at taken : ℕ)
+    → byte_at text (at - 1) < 192 → ((i : ℕ) → i < taken → is_stray (rest_at text at) i ≡ false) → taken ≤ 64
+    → (taken < 64 → (is_special pairs (byte_at text (at + taken - 1)) (byte_at text (at + taken)) || is_stray (rest_at text at) taken) ≡ true)
+    → IsBehind lefts kinds pairs text (at + taken) → byte_at text (at + taken - 1) < 192
+last-ends lefts kinds pairs text at zero low stays few stops behind =
+    subst (λ n. byte_at text n < 192) (let e : at - 1 ≡ at + 0 - 1 = omega arith in e) low
+last-ends lefts kinds pairs text at (suc i) low stays few stops behind =
+    let back : at + i ≡ at + suc i - 1 = omega arith in
+    ⊎_elim (λ (below : byte_at text (at + suc i - 1) < 192). below)
+    (λ (high : 192 ≤ byte_at text (at + suc i - 1)).
+    let first : 192 ≤ byte_at text (at + i) = subst (λ n. 192 ≤ byte_at text n) (sym back) high in
+    let next = (placed text at i (stays i (omega arith))).first first in
+    let inside = next.0 in
+    let stray = second-is text at i next.0 first next.1 next.2 in
+    let special : is_special pairs (byte_at text (at + suc i - 1)) (byte_at text (at + suc i)) ≡ false =
+    meets-none (left_in pairs.sets (byte_at text (at + suc i - 1))) (bit_and (right_in pairs.sets (byte_at text (at + suc i))) 3)
+    (ap (λ n. bit_and n 3) (quiet-last lefts kinds pairs text (at + suc i) behind high)) in
+    let stopped = stops (omega arith) in
+    absurd (neither (is_special pairs (byte_at text (at + suc i - 1)) (byte_at text (at + suc i))) (is_stray (rest_at text at) (suc i)) special stray stopped))
+    (cases_lt (byte_at text (at + suc i - 1)) 192)
+
+pub is-block : (profile : Profile) (cell : ℕ → Cell) (lefts : List Left) (steps : List FlatStep) (kinds : List ℕ) (pairs : Neighbours) (text : List ℕ) (here : FillState) (before taken : ℕ)
+    → AreSwift profile lefts steps → AreFlatKinds kinds cell → AreTold steps kinds pairs → ((i : ℕ) → byte_at text i < 256) → Rests pairs here text before → taken ≤ 64
+    → IsStart lefts here.row
+    → ((i : ℕ) → i < taken → is_special pairs (byte_at text (here.at + i - 1)) (byte_at text (here.at + i)) ≡ false)
+    → ((i : ℕ) → i < taken → is_stray (rest_at text here.at) i ≡ false)
+    → (taken < 64 → (is_special pairs (byte_at text (here.at + taken - 1)) (byte_at text (here.at + taken)) || is_stray (rest_at text here.at) taken) ≡ true)
+    → IsBlock profile cell lefts steps kinds pairs text here.at taken
+is-block profile cell lefts steps kinds pairs text here before taken swift are_kinds told bytes rests few starts plain stays stops =
+    let low = rests.below in
+    let begins : IsBehind lefts kinds pairs text here.at = record {
+      starts = subst (IsStart lefts) rests.row starts;
+      stands = λ high. absurd (omega arith);
+      follows = λ high. absurd (omega arith);
+    } in
+    let begun : Begun lefts steps kinds pairs text here.at taken =
+    record { told = told; bytes = bytes; room = rests.within; few = few; plain = plain; stays = stays } in
+    let each = behind-each profile cell lefts steps kinds pairs text here.at taken swift are_kinds begun begins in
+    record {
+      swift = swift;
+      kinds_are = are_kinds;
+      few = few;
+      told = λ i h. byte-told lefts steps kinds pairs text here.at i told (bytes (here.at + i)) (each i (omega (arith, h))) (placed text here.at i (stays i h)) rests.within (plain i h);
+      ends = last-ends lefts kinds pairs text here.at taken rests.below stays few stops (each taken (omega arith));
+    }

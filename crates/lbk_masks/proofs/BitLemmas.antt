@@ -1,0 +1,68 @@
+-- Bits of numbers of 64 bits, by name of what they are made by.
+use Rattle.std.proofs.Common.{◌≡◌, ℕ, zero, suc, ◌+◌, ◌-◌, ◌*◌, ◌/◌, ◌%◌, ◌^◌, ◌==◌, ◌<◌, ◌&&◌, ◌||◌, min, max, Bool, true, false, not, cond, List, get_or, bit_and, refl, sym, ap, ◌∙◌, arith, w64}
+use Rattle.std.specs.Int.{bit_at, bit_not}
+use Rattle.std.specs.Int.Bits.{bit_or}
+use Rattle.std.proofs.lemmas.Nat.Bits.{bit_at-lt, bit_at-suc, bit_at_above, bit_at_and, bit_at_cat_low, bit_at_not, bit_at_or}
+use Rattle.std.proofs.lemmas.Simd.{bit_mask_l}
+use lib.Lanes.{mask_l}
+use Rattle.lbk_masks.specs.Sets.{is_set}
+
+back : (b : Bool) → (cond b 1 0 == 1) ≡ b
+back true = refl
+back false = refl
+
+pub set-mask : (ms : List Bool) (i : ℕ) → is_set (mask_l ms) i ≡ get_or ms i false
+set-mask ms i = ap (λ x. x == 1) (bit_mask_l ms i) ∙ back (get_or ms i false)
+
+least-one : (m n : ℕ) → m < 2 → n < 2 → (min m n == 1) ≡ ((m == 1) && (n == 1))
+least-one zero zero l r = refl
+least-one zero (suc zero) l r = refl
+least-one (suc zero) zero l r = refl
+least-one (suc zero) (suc zero) l r = refl
+least-one (suc (suc m)) n l r = absurd (omega (arith, l))
+least-one zero (suc (suc n)) l r = absurd (omega (arith, r))
+least-one (suc zero) (suc (suc n)) l r = absurd (omega (arith, r))
+
+most-one : (m n : ℕ) → m < 2 → n < 2 → (max m n == 1) ≡ ((m == 1) || (n == 1))
+most-one zero zero l r = refl
+most-one zero (suc zero) l r = refl
+most-one (suc zero) zero l r = refl
+most-one (suc zero) (suc zero) l r = refl
+most-one (suc (suc m)) n l r = absurd (omega (arith, l))
+most-one zero (suc (suc n)) l r = absurd (omega (arith, r))
+most-one (suc zero) (suc (suc n)) l r = absurd (omega (arith, r))
+
+other-one : (n : ℕ) → n < 2 → (1 - n == 1) ≡ not (n == 1)
+other-one zero l = refl
+other-one (suc zero) l = refl
+other-one (suc (suc n)) l = absurd (omega (arith, l))
+
+pub set-and : (a b i : ℕ) → is_set (bit_and a b) i ≡ (is_set a i && is_set b i)
+set-and a b i = ap (λ n. n == 1) (bit_at_and a b i) ∙ least-one (bit_at a i) (bit_at b i) (bit_at-lt a i) (bit_at-lt b i)
+
+pub set-or : (a b i : ℕ) → is_set (bit_or a b) i ≡ (is_set a i || is_set b i)
+set-or a b i = ap (λ n. n == 1) (bit_at_or a b i) ∙ most-one (bit_at a i) (bit_at b i) (bit_at-lt a i) (bit_at-lt b i)
+
+pub set-not : (n i : ℕ) → n < 2 ^ 64 → i < 64 → is_set (bit_not w64 n) i ≡ not (is_set n i)
+set-not n i fits few = ap (λ b. b == 1) (bit_at_not w64 n i fits few) ∙ other-one (bit_at n i) (bit_at-lt n i)
+
+-- a place down
+pub set-down : (n i : ℕ) → is_set (n / 2 ^ 1) i ≡ is_set n (suc i)
+set-down n i = ap (λ b. b == 1) (sym (bit_at-suc n i))
+
+-- no bit is set past the last
+pub set-past : (n : ℕ) → n < 2 ^ 64 → is_set n 64 ≡ false
+set-past n fits = ap (λ b. b == 1) (bit_at_above n 64 64 fits (omega arith))
+
+-- a place up
+cut : (n i : ℕ) → i < 64 → bit_at (n % 2 ^ 64) i ≡ bit_at n i
+cut n i few =
+    sym (bit_at_cat_low (n / 2 ^ 64) 64 (n % 2 ^ 64) i few) ∙ ap (λ m. bit_at m i) (let e : n / 2 ^ 64 * 2 ^ 64 + n % 2 ^ 64 ≡ n = omega arith in e)
+
+pub set-up-first : (n : ℕ) → is_set (n * 2 ^ 1 % 2 ^ 64) 0 ≡ false
+set-up-first n = ap (λ b. b == 1) (let e : bit_at (n * 2 ^ 1 % 2 ^ 64) 0 ≡ 0 = omega arith in e)
+
+pub set-up : (n i : ℕ) → suc i < 64 → is_set (n * 2 ^ 1 % 2 ^ 64) (suc i) ≡ is_set n i
+set-up n i few =
+    ap (λ b. b == 1)
+    (cut (n * 2 ^ 1) (suc i) few ∙ bit_at-suc (n * 2 ^ 1) i ∙ ap (λ m. bit_at m i) (let e : n * 2 ^ 1 / 2 ≡ n = omega arith in e))
