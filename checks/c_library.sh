@@ -180,7 +180,7 @@ try_c() {
     for name in breaks save_table utf16 words; do
         tried "$1: $name.c" "$1" -std=c99 "${warnings[@]}" "${flags[@]}" "$top/examples/$name.c" "${links[@]}" -o "$here/built/$name-$1"
     done
-    for name in edges hurt published streams cuts units; do
+    for name in blocks edges hurt published streams cuts units; do
         tried "$1: $name.c" "$1" -std=c99 "${warnings[@]}" "${checks[@]}" "${flags[@]}" "$top/examples/$name.c" "${links[@]}" \
             -o "$here/built/$name-$1"
     done
@@ -194,6 +194,7 @@ try_c() {
     count "$1: edges.c" "$here/built/edges-$1"
     count "$1: hurt.c" "$here/built/hurt-$1" 5000 1 "${files[@]}"
     count "$1: streams.c" "$here/built/streams-$1" 20000 1 "${files[@]}"
+    count "$1: blocks.c" "$here/built/blocks-$1" 20000 1
     count "$1: cuts.c" "$here/built/cuts-$1" 5000 1 "${files[@]}"
     count "$1: units.c" "$here/built/units-$1" 20000 1 "${files[@]}" ${published:+"$here/test-lines"}
     if [ -n "$published" ]; then count "$1: published.c" "$here/built/published-$1" "${files[@]}"; fi
@@ -266,11 +267,12 @@ done
 tried 'cc: breaks.c with liblbk.a' cc -std=c99 "${warnings[@]}" "${flags[@]}" "$top/examples/breaks.c" "$prefix/lib/liblbk.a" \
     -o "$here/built/breaks-static"
 compare 'cc: breaks.c with liblbk.a' env -u LD_LIBRARY_PATH "$here/built/breaks-static"
-tried 'cc: streams.c with no checkers' cc -std=c99 "${warnings[@]}" "${flags[@]}" "$top/examples/streams.c" "${links[@]}" \
-    -o "$here/built/streams-quick"
+for name in blocks streams units; do
+    tried "cc: $name.c with no checkers" cc -std=c99 "${warnings[@]}" "${flags[@]}" "$top/examples/$name.c" "${links[@]}" \
+        -o "$here/built/$name-quick"
+done
 count 'cc: streams.c, a million random cuttings' "$here/built/streams-quick" 1000000 2 "${files[@]}"
-tried 'cc: units.c with no checkers' cc -std=c99 "${warnings[@]}" "${flags[@]}" "$top/examples/units.c" "${links[@]}" \
-    -o "$here/built/units-quick"
+count 'cc: blocks.c, a million random texts in blocks of words' "$here/built/blocks-quick" 1000000 2
 count 'cc: units.c, a million random texts in UTF-16 and UTF-32' "$here/built/units-quick" 1000000 2 "${files[@]}" \
     ${published:+"$here/test-lines"}
 
