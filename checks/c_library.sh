@@ -184,7 +184,10 @@ try_c() {
         tried "$1: $name.c" "$1" -std=c99 "${warnings[@]}" "${checks[@]}" "${flags[@]}" "$top/examples/$name.c" "${links[@]}" \
             -o "$here/built/$name-$1"
     done
-    tried "$1: refused.c" "$1" -std=c99 "${warnings[@]}" "${flags[@]}" "$top/checks/c/refused.c" "${links[@]}" -o "$here/built/refused-$1"
+    for name in refused threads; do
+        tried "$1: $name.c" "$1" -std=c99 "${warnings[@]}" "${flags[@]}" "$top/checks/c/$name.c" "${links[@]}" -pthread \
+            -o "$here/built/$name-$1"
+    done
     compare "$1: breaks.c" "$here/built/breaks-$1"
     python3 -c 'import array, sys; sys.stdout.buffer.write(array.array("H", [97, 98, 32, 0xD83D, 0xDE00, 32, 99, 10, 100]))' \
         | "$here/built/utf16-$1" "${files[@]}" > "$here/out" 2> "$here/log"
@@ -199,6 +202,7 @@ try_c() {
     count "$1: units.c" "$here/built/units-$1" 20000 1 "${files[@]}" ${published:+"$here/test-lines"}
     if [ -n "$published" ]; then count "$1: published.c" "$here/built/published-$1" "${files[@]}"; fi
     count "$1: refused.c, each allocation refused" "$here/built/refused-$1" "${files[@]}"
+    count "$1: threads.c" "$here/built/threads-$1" "${files[@]}"
 }
 
 # refuses COMPILER RANGE: the header has to refuse a range over a temporary, in a program that compiles with another.
@@ -267,12 +271,10 @@ done
 tried 'cc: breaks.c with liblbk.a' cc -std=c99 "${warnings[@]}" "${flags[@]}" "$top/examples/breaks.c" "$prefix/lib/liblbk.a" \
     -o "$here/built/breaks-static"
 compare 'cc: breaks.c with liblbk.a' env -u LD_LIBRARY_PATH "$here/built/breaks-static"
-for name in blocks streams units; do
-    tried "cc: $name.c with no checkers" cc -std=c99 "${warnings[@]}" "${flags[@]}" "$top/examples/$name.c" "${links[@]}" \
-        -o "$here/built/$name-quick"
-done
-count 'cc: streams.c, a million random cuttings' "$here/built/streams-quick" 1000000 2 "${files[@]}"
-count 'cc: blocks.c, a million random texts in blocks of words' "$here/built/blocks-quick" 1000000 2
+count 'cc: streams.c, a million random cuttings' "$here/built/streams-cc" 1000000 2 "${files[@]}"
+count 'cc: blocks.c, a million random texts in blocks of words' "$here/built/blocks-cc" 1000000 2
+tried 'cc: units.c with no checkers' cc -std=c99 "${warnings[@]}" "${flags[@]}" "$top/examples/units.c" "${links[@]}" \
+    -o "$here/built/units-quick"
 count 'cc: units.c, a million random texts in UTF-16 and UTF-32' "$here/built/units-quick" 1000000 2 "${files[@]}" \
     ${published:+"$here/test-lines"}
 
