@@ -28,6 +28,7 @@ use lbk_steps::FlatTable;
 /// The bytes may be any: over all calls the breaks are those of the joined pieces, as `lbk_breaks` has them, at places from the
 /// start of the stream, or of the text of which it is a part. Where the block has no room, nothing is taken and the stream
 /// stays. Where the stream has ended or names no profile, all is taken and no break comes.
+/// Whatever the table and the stream hold, the breaks are breaks of rules, and calls while the block comes back full come to an end.
 pub fn feed(
     table: &FlatTable,
     stream: &mut Stream,
@@ -38,8 +39,7 @@ pub fn feed(
     ensures within { (result.count ≤ length out.old) × (result.taken ≤ length piece.now) }
     ensures all_taken { result.count < length out.old → result.taken ≡ length piece.now }
     ensures profile_same { stream.new.profile ≡ stream.old.profile }
-    // Whatever the table and the stream hold: breaks of rules, and at most one for each byte, one that waited and the end. So calls
-    // while the block comes back full come to an end.
+    // Of any table and stream: at most one break for each byte, one that waited and the end.
     ensures breaks { AreBreaks out.new result.count }
     ensures few { result.count + most_left stream.new + (length piece.now - result.taken) ≤ most_left stream.old + length piece.now }
     ensures start { (cell : ℕ → Cell) (profile : Profile) (text : List ℕ) → IsFlatOf table.now cell → length text < 2 ^ 64
