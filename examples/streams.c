@@ -247,9 +247,11 @@ static void try_any_bytes(const lbk_table *any)
     memcpy(piece, text, size);
     fill_random(stream, sizeof *stream);
     if (below(4) != 0) {
-        stream->profile %= 2;
+        stream->profile %= PROFILES;
         stream->ended = 0;
     }
+    size_t cut = stream->cut_size < sizeof stream->cut ? stream->cut_size : sizeof stream->cut, sum = 0;
+    size_t most = size + cut + (stream->held_code != 0) + (stream->ended == 0);
     for (unsigned calls = 0; calls < 4 * MOST_TEXT; calls++) {
         lbk_break *block = place(blocks, room * sizeof *block);
         lbk_stream old = *stream;
@@ -258,11 +260,16 @@ static void try_any_bytes(const lbk_table *any)
         told("the profile stays", stream->profile == old.profile);
         told("no room: nothing is taken", room > 0 || (fed.taken == 0 && memcmp(stream, &old, sizeof old) == 0));
         told("room is left: all is taken", fed.count == room || fed.taken == size - from);
+        for (size_t k = 0; k < fed.count; k++)
+            told("a break is a kind by a rule",
+                 (block[k].kind == LBK_MAY || block[k].kind == LBK_MUST) && lbk_label(block[k].rule).text[0] != 0);
+        sum += fed.count;
         told("an ended stream stays", old.ended == 0 || room == 0 || (fed.count == 0 && memcmp(stream, &old, sizeof old) == 0));
         from += fed.taken;
         if (fed.count < room || room == 0)
             break;
     }
+    told("at most a break for each byte, one that waited and the end", sum <= most);
     told("the piece is as it was", memcmp(piece, text, size) == 0);
 }
 
