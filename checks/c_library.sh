@@ -180,11 +180,14 @@ try_c() {
     for name in breaks save_table utf16 words; do
         tried "$1: $name.c" "$1" -std=c99 "${warnings[@]}" "${flags[@]}" "$top/examples/$name.c" "${links[@]}" -o "$here/built/$name-$1"
     done
-    for name in edges hurt published streams cuts units; do
+    for name in blocks edges hurt published streams cuts units; do
         tried "$1: $name.c" "$1" -std=c99 "${warnings[@]}" "${checks[@]}" "${flags[@]}" "$top/examples/$name.c" "${links[@]}" \
             -o "$here/built/$name-$1"
     done
-    tried "$1: refused.c" "$1" -std=c99 "${warnings[@]}" "${flags[@]}" "$top/checks/c/refused.c" "${links[@]}" -o "$here/built/refused-$1"
+    for name in refused threads; do
+        tried "$1: $name.c" "$1" -std=c99 "${warnings[@]}" "${flags[@]}" "$top/checks/c/$name.c" "${links[@]}" -pthread \
+            -o "$here/built/$name-$1"
+    done
     compare "$1: breaks.c" "$here/built/breaks-$1"
     python3 -c 'import array, sys; sys.stdout.buffer.write(array.array("H", [97, 98, 32, 0xD83D, 0xDE00, 32, 99, 10, 100]))' \
         | "$here/built/utf16-$1" "${files[@]}" > "$here/out" 2> "$here/log"
@@ -194,10 +197,12 @@ try_c() {
     count "$1: edges.c" "$here/built/edges-$1"
     count "$1: hurt.c" "$here/built/hurt-$1" 5000 1 "${files[@]}"
     count "$1: streams.c" "$here/built/streams-$1" 20000 1 "${files[@]}"
+    count "$1: blocks.c" "$here/built/blocks-$1" 20000 1
     count "$1: cuts.c" "$here/built/cuts-$1" 5000 1 "${files[@]}"
     count "$1: units.c" "$here/built/units-$1" 20000 1 "${files[@]}" ${published:+"$here/test-lines"}
     if [ -n "$published" ]; then count "$1: published.c" "$here/built/published-$1" "${files[@]}"; fi
     count "$1: refused.c, each allocation refused" "$here/built/refused-$1" "${files[@]}"
+    count "$1: threads.c" "$here/built/threads-$1" "${files[@]}"
 }
 
 # refuses COMPILER RANGE: the header has to refuse a range over a temporary, in a program that compiles with another.
@@ -266,9 +271,8 @@ done
 tried 'cc: breaks.c with liblbk.a' cc -std=c99 "${warnings[@]}" "${flags[@]}" "$top/examples/breaks.c" "$prefix/lib/liblbk.a" \
     -o "$here/built/breaks-static"
 compare 'cc: breaks.c with liblbk.a' env -u LD_LIBRARY_PATH "$here/built/breaks-static"
-tried 'cc: streams.c with no checkers' cc -std=c99 "${warnings[@]}" "${flags[@]}" "$top/examples/streams.c" "${links[@]}" \
-    -o "$here/built/streams-quick"
-count 'cc: streams.c, a million random cuttings' "$here/built/streams-quick" 1000000 2 "${files[@]}"
+count 'cc: streams.c, a million random cuttings' "$here/built/streams-cc" 1000000 2 "${files[@]}"
+count 'cc: blocks.c, a million random texts in blocks of words' "$here/built/blocks-cc" 1000000 2
 tried 'cc: units.c with no checkers' cc -std=c99 "${warnings[@]}" "${flags[@]}" "$top/examples/units.c" "${links[@]}" \
     -o "$here/built/units-quick"
 count 'cc: units.c, a million random texts in UTF-16 and UTF-32' "$here/built/units-quick" 1000000 2 "${files[@]}" \

@@ -108,6 +108,14 @@ static void try_ranges(const lbk_table &table)
         wanted.push_back(2 * k);
     }
     told("more breaks than an iterator holds", places(table, many) == wanted);
+    std::string apart = "a b ";
+    these far{2, 4};
+    for (std::size_t letters : {65535, 1, 65534, 65536, 200000, 3, 30000, 40000}) {
+        apart += std::string(letters, 'a') + " b ";
+        far.push_back(apart.size() - 2);
+        far.push_back(apart.size());
+    }
+    told("breaks that stand far apart", places(table, apart) == far);
     lbk::breaks twice(table, many);
     told("a range is gone through again", std::distance(twice.begin(), twice.end()) == 1000
                                               && std::distance(twice.begin(), twice.end()) == 1000);

@@ -1,4 +1,5 @@
-/* Tries lbk_feed: cuts texts into pieces in all ways and at random, and compares the breaks with those of the whole.
+/* Tries lbk_feed: cuts texts and parts of texts into pieces in all ways and at random, and compares the breaks with those of the
+ * whole.
  *
  *     streams ROUNDS SEED LINE_BREAK EAST_ASIAN CATEGORY EMOJI
  *
@@ -8,7 +9,8 @@
 #define _DEFAULT_SOURCE
 #include "trying.h"
 
-enum { MOST_BREAKS = 2 * MOST_TEXT + 2, MOST_FEED_ROOM = 9 };
+/* (the two profiles, each with LBK_GOES_ON and without) */
+enum { MOST_BREAKS = 2 * MOST_TEXT + 2, MOST_FEED_ROOM = 9, PROFILES = 4 };
 
 static lbk_table table;
 static fenced pieces, blocks, streams;
@@ -19,10 +21,12 @@ typedef struct found {
     lbk_break at[MOST_BREAKS];
 } found;
 
-static found breaks_of_whole(uint8_t profile, const char *text, size_t size)
+/* The breaks of the part of a text that begins at a byte of it, by a profile with LBK_GOES_ON or without. */
+static found breaks_of_whole(uint8_t profile, const char *text, size_t start, size_t size)
 {
     found all;
     lbk_state state = {0};
+    state.at = start;
     state.profile = profile;
     all.count = lbk_breaks(&table, &state, text, size, all.at, MOST_BREAKS);
     return all;
@@ -75,7 +79,7 @@ static int is_settled(const lbk_stream *stream, uint64_t seen, const found *got,
 {
     if (stream->at + stream->cut_size != seen || stream->cut_size > 3 || !is_open(stream->cut, stream->cut_size))
         return 0;
-    if (stream->held_code != 0 && (stream->profile != LBK_SECOND || stream->held_at >= stream->at))
+    if (stream->held_code != 0 && ((stream->profile & LBK_SECOND) == 0 || stream->held_at >= stream->at))
         return 0;
     for (size_t k = got->count; k < all->count; k++)
         if (all->at[k].at < stream->at && (stream->held_code == 0 || all->at[k].at != stream->held_at))
@@ -117,14 +121,15 @@ static int is_over(lbk_stream *stream)
     return fed.count == 0 && fed.taken == 3 && stream->ended != 0 && stream->at == old.at;
 }
 
-/* The text in pieces that end at these places, of which the last is its size. */
-static int agrees(uint8_t profile, const char *text, const size_t *ends, size_t count, size_t room, const found *all)
+/* The part of a text that begins at a byte of it, in pieces that end at these places, of which the last is the text's size. */
+static int agrees(uint8_t profile, const char *text, size_t start, const size_t *ends, size_t count, size_t room, const found *all)
 {
     lbk_stream stream = {0};
     found got;
+    stream.at = start;
     stream.profile = profile;
     got.count = 0;
-    size_t from = 0;
+    size_t from = start;
     int holds = 1;
     for (size_t k = 0; k < count; k++) {
         bool last = k + 1 == count;
@@ -135,17 +140,18 @@ static int agrees(uint8_t profile, const char *text, const size_t *ends, size_t 
     return holds && same_breaks(&got, all) && is_over(&stream);
 }
 
-/* All ways to cut a text into up to four pieces, empty ones among them, and the end told with the last or after it. */
+/* All ways to cut a text into up to four pieces, empty ones among them, and the end told with the last or after it; where the text
+ * ends there, and where it goes on. */
 static void try_all_cuttings(const char *text, size_t size)
 {
-    for (unsigned profile = 0; profile < 2; profile++) {
-        found all = breaks_of_whole((uint8_t)profile, text, size);
+    for (unsigned profile = 0; profile < PROFILES; profile++) {
+        found all = breaks_of_whole((uint8_t)profile, text, 0, size);
         for (size_t i = 0; i <= size; i++)
             for (size_t j = i; j <= size; j++)
                 for (size_t k = j; k <= size; k++)
                     for (size_t room = 1; room <= 3; room++) {
                         size_t ends[] = {i, j, k, size, size};
-                        told("a text in four pieces", agrees((uint8_t)profile, text, ends, 4 + (i + j + k) % 2, room, &all));
+                        told("a text in four pieces", agrees((uint8_t)profile, text, 0, ends, 4 + (i + j + k) % 2, room, &all));
                     }
     }
 }
@@ -162,21 +168,28 @@ static void try_short_texts(void)
     try_all_cuttings("a\0b \0", 5);
 }
 
-/* A random text in random pieces; and the stream that a piece left, gone on with over another text. */
-static void try_random_cutting(void)
+/* The ends of random pieces of a text from a byte of it on. Returns how many. */
+static size_t random_ends(size_t start, size_t size, size_t *ends)
 {
-    char text[2 * MOST_TEXT];
-    size_t size = random_text(text), ends[MOST_TEXT + 2], count = 0, room = 1 + below(MOST_FEED_ROOM);
-    size_t most = below(3) == 0 ? size + 1 : 1 + below(9);
-    uint8_t profile = (uint8_t)below(2);
-    for (size_t from = 0; from < size && count < MOST_TEXT; ends[count++] = from) {
+    size_t count = 0, most = below(3) == 0 ? size + 1 : 1 + below(9);
+    for (size_t from = start; from < size && count < MOST_TEXT; ends[count++] = from) {
         from += below(most + 1);
         if (from > size)
             from = size;
     }
     ends[count++] = size;
-    found all = breaks_of_whole(profile, text, size);
-    told("a text in random pieces", agrees(profile, text, ends, count, room, &all));
+    return count;
+}
+
+/* A random part of a random text in random pieces; and the stream that a piece left, gone on with over another text. */
+static void try_random_cutting(void)
+{
+    char text[2 * MOST_TEXT];
+    size_t size = random_text(text), ends[MOST_TEXT + 2], room = 1 + below(MOST_FEED_ROOM);
+    size_t start = below(2) == 0 ? 0 : below(size + 1), count = random_ends(start, size, ends);
+    uint8_t profile = (uint8_t)below(PROFILES);
+    found all = breaks_of_whole(profile, text, start, size);
+    told("a text in random pieces", agrees(profile, text, start, ends, count, room, &all));
 
     lbk_stream stream = {0};
     found got;
@@ -185,10 +198,31 @@ static void try_random_cutting(void)
     got.count = 0;
     int holds = feed(&stream, text, front, false, room, &got);
     size = front + random_text(text + front);
-    all = breaks_of_whole(profile, text, size);
+    all = breaks_of_whole(profile, text, 0, size);
     holds &= is_settled(&stream, front, &got, &all);
     holds &= feed(&stream, text + front, size - front, true, room, &got);
     told("a stream gone on with over another text", holds && same_breaks(&got, &all));
+}
+
+/* A text in parts that begin where lbk_cut says, each a stream in random pieces: their breaks, one after another, are the text's. */
+static void try_parts(void)
+{
+    char text[MOST_TEXT];
+    size_t size = random_text(text), ends[MOST_TEXT + 2], room = 1 + below(MOST_FEED_ROOM);
+    uint8_t profile = (uint8_t)below(2);
+    found all = breaks_of_whole(profile, text, 0, size), got;
+    int holds = 1;
+    got.count = 0;
+    for (size_t from = 0, to; from < size; from = to) {
+        to = lbk_cut(&table, text, size, from + 1 + below(size - from));
+        lbk_stream stream = {0};
+        stream.at = from;
+        stream.profile = (uint8_t)(profile + (to < size ? LBK_GOES_ON : 0));
+        size_t count = random_ends(from, to, ends);
+        for (size_t k = 0, start = from; k < count; start = ends[k++])
+            holds &= feed(&stream, text + start, ends[k] - start, k + 1 == count, room, &got);
+    }
+    told("a text in parts, each a stream", holds && same_breaks(&got, &all));
 }
 
 /* A text a byte at a time, with room for one break. */
@@ -196,11 +230,11 @@ static void try_bytes(void)
 {
     char text[MOST_TEXT];
     size_t size = random_text(text), ends[MOST_TEXT + 1];
-    uint8_t profile = (uint8_t)below(2);
+    uint8_t profile = (uint8_t)below(PROFILES);
     for (size_t k = 0; k <= size; k++)
         ends[k] = k;
-    found all = breaks_of_whole(profile, text, size);
-    told("a text a byte at a time", agrees(profile, text, ends, size + 1, 1, &all));
+    found all = breaks_of_whole(profile, text, 0, size);
+    told("a text a byte at a time", agrees(profile, text, 0, ends, size + 1, 1, &all));
 }
 
 /* Any bytes as a stream and as a table: calls return, and say no more than they did. */
@@ -213,9 +247,11 @@ static void try_any_bytes(const lbk_table *any)
     memcpy(piece, text, size);
     fill_random(stream, sizeof *stream);
     if (below(4) != 0) {
-        stream->profile %= 2;
+        stream->profile %= PROFILES;
         stream->ended = 0;
     }
+    size_t cut = stream->cut_size < sizeof stream->cut ? stream->cut_size : sizeof stream->cut, sum = 0;
+    size_t most = size + cut + (stream->held_code != 0) + (stream->ended == 0);
     for (unsigned calls = 0; calls < 4 * MOST_TEXT; calls++) {
         lbk_break *block = place(blocks, room * sizeof *block);
         lbk_stream old = *stream;
@@ -224,11 +260,16 @@ static void try_any_bytes(const lbk_table *any)
         told("the profile stays", stream->profile == old.profile);
         told("no room: nothing is taken", room > 0 || (fed.taken == 0 && memcmp(stream, &old, sizeof old) == 0));
         told("room is left: all is taken", fed.count == room || fed.taken == size - from);
+        for (size_t k = 0; k < fed.count; k++)
+            told("a break is a kind by a rule",
+                 (block[k].kind == LBK_MAY || block[k].kind == LBK_MUST) && lbk_label(block[k].rule).text[0] != 0);
+        sum += fed.count;
         told("an ended stream stays", old.ended == 0 || room == 0 || (fed.count == 0 && memcmp(stream, &old, sizeof old) == 0));
         from += fed.taken;
         if (fed.count < room || room == 0)
             break;
     }
+    told("at most a break for each byte, one that waited and the end", sum <= most);
     told("the piece is as it was", memcmp(piece, text, size) == 0);
 }
 
@@ -254,6 +295,8 @@ int main(int words, char **word)
             try_bytes();
         if (round % 10 == 1)
             try_any_bytes(round % 3 == 0 ? &table : &any);
+        if (round % 10 == 2)
+            try_parts();
     }
     printf("%lu passed, %lu failed\n", passed, failed);
     return failed != 0;

@@ -327,6 +327,9 @@ size_t lbk_breaks_utf32(const lbk_table *table, lbk_state *state, const uint32_t
  * A break is given by the call that brings what settles it: the whole of the scalar after it. Where that is a closing
  * quotation mark, the second profile may also need the next scalar that is no combining mark; at most one place waits so.
  *
+ * Whatever the table and the stream have, each break is LBK_MAY or LBK_MUST by one of the rules, and calls while a block comes
+ * back full come to an end.
+ *
  * Takes nothing and leaves the stream unchanged where `room` is 0. Gives no break and takes all where the stream's profile is
  * none of the two. A stream has fewer than 2^64 bytes. Entries of the block past `count` are unspecified. Takes no memory from
  * the heap. */

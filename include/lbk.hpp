@@ -309,7 +309,8 @@ private:
 namespace detail {
 
 /// A place among what a call of the library gives, a block at a time. Copies go on by themselves. It holds what was asked for at
-/// once, packed as the call says, and gives it by value. Where `Call::fits` says that a block is too wide for that, it holds one.
+/// once, packed as the call says, and gives it by value. Of a block that is too wide for that it holds as many as `Call::fitting`
+/// says, and at least one.
 template <typename Call>
 class iterator {
 public:
@@ -377,12 +378,11 @@ private:
     void fill() noexcept
     {
         value_type found[room];
-        Call before = call_;
-        std::size_t count = call_(found, room);
-        if (count > 1 && !Call::fits(found[0], found[count - 1])) {
-            call_ = before;
-            count = call_(found, 1);
-        }
+        typename Call::state_type after;
+        std::size_t count = call_(found, room, after), fitting = Call::fitting(found, count);
+        if (fitting < count)
+            count = call_(found, fitting, after);
+        call_.go_on(after);
         next_ = 0;
         count_ = static_cast<std::uint32_t>(count);
         base_ = count == 0 ? 0 : Call::place(found[0]);
@@ -391,35 +391,71 @@ private:
     }
 };
 
+/// The state of a call of breaks. It is copied number by number, as it was written: as a whole it would wait for that. The library is
+/// given a copy only, so that a loop has the rest of an iterator in registers.
+class break_state {
+public:
+    using state_type = lbk_state;
+
+    explicit break_state(int profile = LBK_FIRST) noexcept : now_{0, 0, static_cast<std::uint8_t>(profile), 0} {}
+
+    lbk_state now() const noexcept { return {now_.at, now_.row, now_.profile, now_.ended}; }
+
+    void go_on(const lbk_state &after) noexcept
+    {
+        now_.at = after.at;
+        now_.row = after.row;
+        now_.ended = after.ended;
+    }
+
+private:
+    lbk_state now_;
+};
+
 /// What lbk_breaks and lbk_positions have.
 using break_call = decltype(&lbk_breaks);
 
 /// What one of these gives of a text, in the order of the text: a view that can be gone through any number of times.
 template <break_call Next>
 class break_view {
-    struct call {
+    struct call : break_state {
         using value_type = lbk_break;
 
         /// `after` counts from the first break of the block.
         struct packed {
-            std::uint32_t after;
+            std::uint16_t after;
             std::uint8_t kind, rule;
         };
 
-        static constexpr std::size_t most = 24;
+        static constexpr std::size_t most = 48;
 
         const lbk_table *table = nullptr;
         const char *text = nullptr;
         std::size_t size = 0;
-        lbk_state state = {0, 0, LBK_FIRST, 0};
 
-        std::size_t operator()(lbk_break *block, std::size_t room) noexcept { return Next(table, &state, text, size, block, room); }
+        call() noexcept = default;
+
+        call(const lbk_table &by, std::string_view of, int profile) noexcept
+            : break_state(profile), table(&by), text(of.data()), size(of.size())
+        {
+        }
+
+        std::size_t operator()(lbk_break *block, std::size_t room, lbk_state &after) const noexcept
+        {
+            after = now();
+            return Next(table, &after, text, size, block, room);
+        }
 
         static std::size_t place(lbk_break one) noexcept { return one.at; }
-        static bool fits(lbk_break first, lbk_break last) noexcept { return last.at - first.at <= UINT32_MAX; }
+        static std::size_t fitting(const lbk_break *found, std::size_t count) noexcept
+        {
+            while (count > 1 && found[count - 1].at - found[0].at > UINT16_MAX)
+                count--;
+            return count;
+        }
         static packed pack(lbk_break one, std::size_t base) noexcept
         {
-            return {static_cast<std::uint32_t>(one.at - base), one.kind, one.rule};
+            return {static_cast<std::uint16_t>(one.at - base), one.kind, one.rule};
         }
         static lbk_break unpacked(packed one, std::size_t base) noexcept { return {base + one.after, one.kind, one.rule}; }
     };
@@ -430,14 +466,14 @@ public:
     using value_type = lbk_break;
 
     break_view(const lbk_table &by, std::string_view text, profile rules = profile::first) noexcept
-        : start_{&by, text.data(), text.size(), {0, 0, static_cast<std::uint8_t>(rules), 0}}
+        : start_(by, text, static_cast<int>(rules))
     {
     }
 
     /// The breaks of a part of a text (lbk_positions has no parts).
     template <break_call Of = Next, typename = std::enable_if_t<Of == &lbk_breaks>>
     break_view(const lbk_table &by, std::string_view part, profile rules, follows after) noexcept
-        : start_{&by, part.data(), part.size(), {0, 0, static_cast<std::uint8_t>(static_cast<int>(rules) + static_cast<int>(after)), 0}}
+        : start_(by, part, static_cast<int>(rules) + static_cast<int>(after))
     {
     }
 
@@ -491,10 +527,18 @@ class words {
         std::size_t size = 0;
         lbk_word_state state = {0};
 
-        std::size_t operator()(lbk_word *block, std::size_t room) noexcept { return lbk_words(&state, text, size, block, room); }
+        using state_type = lbk_word_state;
+
+        std::size_t operator()(lbk_word *block, std::size_t room, lbk_word_state &after) const noexcept
+        {
+            after = state;
+            return lbk_words(&after, text, size, block, room);
+        }
+
+        void go_on(lbk_word_state after) noexcept { state = after; }
 
         static std::size_t place(lbk_word one) noexcept { return one.start; }
-        static bool fits(lbk_word, lbk_word) noexcept { return true; }
+        static std::size_t fitting(const lbk_word *, std::size_t count) noexcept { return count; }
         static lbk_word pack(lbk_word one, std::size_t) noexcept { return one; }
         static lbk_word unpacked(lbk_word one, std::size_t) noexcept { return one; }
     };
@@ -591,7 +635,7 @@ inline std::size_t next_breaks(const lbk_table *table, lbk_state *state, const w
 /// The breaks of a text of units, as lbk::breaks are those of a text in UTF-8. Places are in units.
 template <typename Unit>
 class unit_breaks {
-    struct call {
+    struct call : break_state {
         using value_type = lbk_break;
 
         using packed = lbk_break;
@@ -601,15 +645,22 @@ class unit_breaks {
         const lbk_table *table = nullptr;
         const Unit *text = nullptr;
         std::size_t size = 0;
-        lbk_state state = {0, 0, LBK_FIRST, 0};
 
-        std::size_t operator()(lbk_break *block, std::size_t room) noexcept
+        call() noexcept = default;
+
+        call(const lbk_table &by, std::basic_string_view<Unit> of, int profile) noexcept
+            : break_state(profile), table(&by), text(of.data()), size(of.size())
         {
-            return next_breaks(table, &state, text, size, block, room);
+        }
+
+        std::size_t operator()(lbk_break *block, std::size_t room, lbk_state &after) const noexcept
+        {
+            after = now();
+            return next_breaks(table, &after, text, size, block, room);
         }
 
         static std::size_t place(lbk_break one) noexcept { return one.at; }
-        static bool fits(lbk_break, lbk_break) noexcept { return true; }
+        static std::size_t fitting(const lbk_break *, std::size_t count) noexcept { return count; }
         static lbk_break pack(lbk_break one, std::size_t) noexcept { return one; }
         static lbk_break unpacked(lbk_break one, std::size_t) noexcept { return one; }
     };
@@ -620,7 +671,7 @@ public:
     using value_type = lbk_break;
 
     unit_breaks(const lbk_table &by, std::basic_string_view<Unit> text, profile rules = profile::first) noexcept
-        : start_{&by, text.data(), text.size(), {0, 0, static_cast<std::uint8_t>(rules), 0}}
+        : start_(by, text, static_cast<int>(rules))
     {
     }
 

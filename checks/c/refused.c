@@ -109,18 +109,35 @@ static int try_allocation(const bytes *files, unsigned long number)
     return 1;
 }
 
-/* The calls that take no memory. */
+/* The calls that take no memory: each is made with all allocations refused. */
 static void try_others(void)
 {
     static const char text[] = "ab cd\n(e) \xE4\xB8\x80\xFF";
-    lbk_state state = {0};
-    lbk_break block[4];
+    static const uint16_t units[] = {'a', ' ', 0xD83D, 0xDE00};
+    static const uint32_t scalars[] = {'a', ' ', 0x1F600};
+    size_t size = sizeof text - 1;
+    lbk_state state = {0}, of_positions = {0}, of_units = {0}, of_scalars = {0};
+    lbk_stream stream = {0};
+    lbk_word_state of_words = {0};
+    lbk_break block[4], others[4];
+    lbk_word words[4];
     allocations = 0, refused_number = 1, refuses_later = 1, is_counting = 1;
-    size_t count = lbk_breaks(&table, &state, text, sizeof text - 1, block, 4);
+    size_t count = lbk_breaks(&table, &state, text, size, block, 4);
+    lbk_fed fed = lbk_feed(&table, &stream, text, size, true, others, 4);
+    size_t positions = lbk_positions(&table, &of_positions, text, size, others, 4);
+    size_t in_units = lbk_breaks_utf16(&table, &of_units, units, 4, others, 4);
+    size_t in_scalars = lbk_breaks_utf32(&table, &of_scalars, scalars, 3, others, 4);
+    size_t of_text = lbk_words(&of_words, text, size, words, 4);
+    size_t cut = lbk_cut(&table, text, size, 1), cut_before = lbk_cut_before(&table, text, size, size - 1);
     lbk_rule_label label = lbk_label(block[0].rule);
+    lbk_class_label class = lbk_class(&table, 'a');
+    lbk_text cause = lbk_cause_text(LBK_CAUSE_RANGE), file = lbk_file_name(LBK_EMOJI), version = lbk_version();
     int whole = lbk_check(&table);
     is_counting = 0;
-    told("the other calls take no memory", 0, allocations == 0 && count == 4 && label.text[0] != 0 && whole);
+    told("the other calls take no memory", 0, allocations == 0);
+    told("they give what they give", 0,
+         count == 4 && fed.count == 4 && positions == 4 && in_units == 2 && in_scalars == 2 && of_text == 4 && cut == 6 && cut_before == 6
+             && label.text[0] != 0 && class.text[0] != 0 && cause.text[0] != 0 && file.text[0] != 0 && version.text[0] != 0 && whole);
 }
 
 int main(int count, char **words)

@@ -4,7 +4,7 @@ use Rattle.std.specs.Int.{from_bool}
 use Rattle.lbk_rules.specs.declared.breaks.Break.{Break}
 use Rattle.lbk_rules.specs.Breaks.{is_no}
 use Rattle.lbk_bytes.specs.declared.raw_break.RawBreak.{RawBreak}
-use Rattle.lbk_bytes.specs.Order.{AreInOrder, AreInOrderBy, IsBreak, no_break}
+use Rattle.lbk_bytes.specs.Order.{AreBreaks, AreInOrder, AreInOrderBy, IsBreak, no_break}
 use Rattle.lbk_bytes.specs.Shown.{raw_of}
 
 pub AreInOrder-none : {Is : RawBreak → Type 0} (block : List RawBreak) (from to : ℕ) → AreInOrderBy Is block 0 from to
@@ -60,4 +60,17 @@ AreInOrder-put block count found from to inside low high o =
           subst (λ n. AreInOrder (set block count (raw_of found)) n from to) (let e : count ≡ count + 0 = omega arith in e)
           (AreInOrder-kept block count (raw_of found) from to (AreInOrder-wider block count from found.at to (omega arith) o))
       | false ↦ λ some. AreInOrder-added IsBreak block count found from to inside (found, refl, some) low high o
+    ] refl
+
+-- the same, whatever the places are
+pub AreBreaks-put : (block : List RawBreak) (count : ℕ) (found : Break) → count < length block → AreBreaks block count
+    → AreBreaks (set block count (raw_of found)) (count + from_bool (not (is_no found.kind)))
+AreBreaks-put block count found inside all =
+    let more = set block count (raw_of found) in
+    let front : AreBreaks more count = λ k few. subst IsBreak (sym (kept block count (raw_of found) k few)) (all k few) in
+    let last : get_or more count no_break ≡ raw_of found = get_or-set_same block count (raw_of found) no_break inside in
+    elim (is_no found.kind)
+    as (λ no. is_no found.kind ≡ no → AreBreaks more (count + from_bool (not no))) [
+      | true ↦ λ none. subst (AreBreaks more) (let e : count ≡ count + 0 = omega arith in e) front
+      | false ↦ λ some. below_more (λ n. IsBreak (get_or more n no_break)) count front (subst IsBreak (sym last) (found, refl, some))
     ] refl

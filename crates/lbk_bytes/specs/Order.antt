@@ -17,6 +17,10 @@ IsPosition raw = (found : Break) × (raw ≡ raw_of found)
 abbrev pub IsBreak : RawBreak → Type 0
 IsBreak raw = (found : Break) × (raw ≡ raw_of found) × (is_no found.kind ≡ false)
 
+-- what stands in the front of a block are breaks
+abbrev pub AreBreaks : List RawBreak → ℕ → Type 0
+AreBreaks block count = (k : ℕ) → k < count → IsBreak (slice_index_or block k no_break)
+
 -- what stands in the front of a block is such as `Is` says, none of it before byte `from`, all before byte `to`, each
 -- behind those before it
 pub record AreInOrderBy (Is : RawBreak → Type 0) (block : List RawBreak) (count from to : ℕ) : Type 0 where

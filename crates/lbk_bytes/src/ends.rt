@@ -1,13 +1,13 @@
 //! The end of a text, or of a part of one.
 
-ghost use Rattle.std.specs.Prelude.{◌≡◌, ℕ, ◌<◌, ◌≤◌, ◌++◌, [], List, length, true};
+ghost use Rattle.std.specs.Prelude.{◌≡◌, ℕ, ◌+◌, ◌<◌, ◌≤◌, ◌++◌, [], List, length, true};
 ghost use Rattle.lbk_rules.specs.declared.cells.Cell.{Cell};
 ghost use Rattle.lbk_rules.specs.declared.facts.Left.{Left};
 ghost use Rattle.lbk_values.specs.declared.profile.Profile.{Profile};
 ghost use Rattle.lbk_rules.specs.Codes.{IsCode, verdict_coded};
 ghost use Rattle.lbk_steps.specs.FlatTable.{IsFlatBy, KnowsTaken};
 ghost use Rattle.lbk_bytes.specs.Bytes.{end_in, with_break};
-ghost use Rattle.lbk_bytes.specs.Order.{AreInOrder};
+ghost use Rattle.lbk_bytes.specs.Order.{AreBreaks, AreInOrder};
 ghost use Rattle.lbk_bytes.specs.Reached.{IsInOrder};
 ghost use Rattle.lbk_bytes.specs.Shown.{given_in};
 
@@ -38,7 +38,8 @@ pub fn put_end(
     at: usize,
 ) -> usize
     requires { (count < length out.old) × (row < 65536) }
-    ensures within { (result ≤ length out.old) × (count ≤ result) }
+    ensures within { (result ≤ length out.old) × (count ≤ result) × (result ≤ count + 1) }
+    ensures breaks { AreBreaks out.old count → AreBreaks out.new result }
     ensures in_order { (from to : ℕ) → at < to → IsInOrder out.old count from at → AreInOrder out.new result from to }
     ensures front { (profile : Profile) (cell : ℕ → Cell) (lefts : List Left) (taken : List ℕ) → IsFlatBy lefts table.now cell → KnowsTaken cell lefts row taken
         → (0 < row → 0 < length taken) → given_in out.new result ≡ given_in out.old count ++ end_in goes_on profile cell taken at }

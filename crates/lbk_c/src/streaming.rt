@@ -1,15 +1,16 @@
 //! A text that comes in pieces.
 
-ghost use Rattle.std.specs.Prelude.{◌≡◌, ◌⊎◌, ℕ, Bool, ◌+◌, ◌^◌, ◌<◌, ◌≤◌, ◌++◌, true, false, [], List, drop, length, map, take};
+ghost use Rattle.std.specs.Prelude.{◌≡◌, ◌⊎◌, ℕ, Bool, ◌+◌, ◌-◌, ◌^◌, ◌<◌, ◌≤◌, ◌++◌, true, false, [], List, drop, length, map, take};
 ghost use Rattle.lbk_rules.specs.declared.breaks.Break.{Break};
 ghost use Rattle.lbk_rules.specs.declared.cells.Cell.{Cell};
 ghost use Rattle.lbk_values.specs.declared.profile.Profile.{Profile};
 ghost use Rattle.lbk_rules.specs.Joins.{moved};
 ghost use Rattle.lbk_steps.specs.FlatTable.{IsFlatOf};
 ghost use Rattle.lbk_bytes.specs.Bytes.{breaks_of_bytes, breaks_of_part};
+ghost use Rattle.lbk_bytes.specs.Order.{AreBreaks};
 ghost use Rattle.lbk_bytes.specs.Shown.{given_in};
 ghost use Rattle.lbk_streams.specs.Stands.{Streams};
-ghost use Rattle.lbk_streams.specs.Streams.{AreUnsettled, cut_bytes, part_stream, stream_start};
+ghost use Rattle.lbk_streams.specs.Streams.{AreUnsettled, cut_bytes, most_left, part_stream, stream_start};
 
 use lbk_bytes::RawBreak;
 use lbk_steps::FlatTable;
@@ -22,6 +23,7 @@ use lbk_streams::{Fed, Stream, feed};
 /// The bytes may be any: over all calls the breaks are those of the joined pieces, as `lbk_breaks` has them, at places from the
 /// start of the stream, or of the text of which it is a part. Where the block has no room, nothing is taken and the stream
 /// stays. Where the stream has ended or names no profile, all is taken and no break comes.
+/// Whatever the table and the stream hold, the breaks are breaks of rules, and calls while the block comes back full come to an end.
 #[unsafe(no_mangle)]
 pub extern "C" fn lbk_feed(
     table: &FlatTable,
@@ -33,6 +35,9 @@ pub extern "C" fn lbk_feed(
     ensures within { (result.count ≤ length out.old) × (result.taken ≤ length piece.now) }
     ensures all_taken { result.count < length out.old → result.taken ≡ length piece.now }
     ensures profile_same { stream.new.profile ≡ stream.old.profile }
+    // Of any table and stream: at most one break for each byte, one that waited and the end.
+    ensures breaks { AreBreaks out.new result.count }
+    ensures few { result.count + most_left stream.new + (length piece.now - result.taken) ≤ most_left stream.old + length piece.now }
     ensures start { (cell : ℕ → Cell) (profile : Profile) (text : List ℕ) → IsFlatOf table.now cell → length text < 2 ^ 64
         → stream.old ≡ stream_start profile → Streams cell table.now stream.old text (breaks_of_bytes profile cell text) }
     // A part of a text: places count from the text's start, if the part's place is given, and the text may go on after it.

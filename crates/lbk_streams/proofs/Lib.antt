@@ -1,3 +1,4 @@
+pub mod BreakLemmas
 pub mod FeedLemmas
 pub mod OpenLemmas
 pub mod StandsLemmas

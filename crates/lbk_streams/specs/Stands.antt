@@ -1,5 +1,5 @@
 -- How far a call has come with a piece of a text, and what is to come from a stream on.
-use Rattle.std.specs.Prelude.{◌≡◌, ℕ, ◌+◌, ◌<◌, ◌%◌, ◌^◌, Bool, true, false, Some, List, [], ◌∷◌, ◌++◌, length, drop, take}
+use Rattle.std.specs.Prelude.{◌≡◌, ℕ, ◌+◌, min, ◌≤◌, ◌<◌, ◌%◌, ◌^◌, Bool, true, false, Some, List, [], ◌∷◌, ◌++◌, length, drop, take}
 use Rattle.bstr.specs.Utf8.{pieces}
 use Rattle.lbk_rules.specs.declared.breaks.Break.{Break}
 use Rattle.lbk_rules.specs.declared.cells.Cell.{Cell}
@@ -56,6 +56,12 @@ pub record Stands (profile : Profile) (cell : ℕ → Cell) (lefts : List Left) 
 pub record Feeds (profile : Profile) (cell : ℕ → Cell) (lefts : List Left) (base : ℕ) (piece more : List ℕ) (here : Feeding) (all : Ahead) (given : List Break) : Type 0 where
   pub stands : Stands profile cell lefts here.place (front_of here.cut ++ (drop here.taken piece ++ more)) all given
   pub seen : here.place.at + here.cut.size ≡ base + here.taken
+
+-- a call gave no more breaks from one place to another than bytes were taken between them, and a position waited
+abbrev pub AreFew : Feeding → Feeding → Type 0
+AreFew start here =
+    here.count + min here.place.held_code 1 + here.cut.size + start.taken
+    ≤ start.count + min start.place.held_code 1 + start.cut.size + here.taken
 
 -- the break so many bytes further on, as a number of 64 bits
 abbrev pub moved : ℕ → Break → Break

@@ -1,5 +1,5 @@
 -- A text that comes in pieces: what a stream holds of its bytes, and which breaks these do not settle.
-use Rattle.std.specs.Prelude.{◌≡◌, ℕ, ◌+◌, ◌≤◌, ◌==◌, ◌||◌, Bool, true, false, ◌⊎◌, List, [], ◌∷◌, ◌++◌, map, take, if◌then◌else◌}
+use Rattle.std.specs.Prelude.{◌≡◌, ℕ, ◌+◌, ◌-◌, ◌≤◌, min, length, ◌==◌, ◌||◌, Bool, true, false, ◌⊎◌, List, [], ◌∷◌, ◌++◌, map, take, if◌then◌else◌}
 use Rattle.std.specs.List.{AllByRecursion}
 use Rattle.bstr.specs.Utf8.{lossy_chars}
 use Rattle.lbk_rules.specs.declared.breaks.Break.{Break}
@@ -18,6 +18,11 @@ use Rattle.lbk_bytes.specs.Profiles.{profile_number}
 -- the bytes of a stream that came and are not taken as scalars
 abbrev pub cut_bytes : Stream → List ℕ
 cut_bytes stream = take stream.cut_size stream.cut
+
+-- how many breaks may come yet of what a stream holds by itself: one for each byte that was cut, one for the position that waits,
+-- and the end
+abbrev pub most_left : Stream → ℕ
+most_left stream = length (cut_bytes stream) + min stream.held_code 1 + (1 - stream.ended)
 
 -- the stream at the start of a text, or of a part of one that begins at a byte, and after which the text goes on or ends
 abbrev pub part_stream : Bool → Profile → ℕ → Stream

@@ -5,8 +5,9 @@ ghost use Rattle.bstr.specs.Utf8.{decoded};
 ghost use Rattle.lbk_rules.specs.declared.cells.Cell.{Cell};
 ghost use Rattle.lbk_rules.specs.declared.facts.Left.{Left};
 ghost use Rattle.lbk_steps.specs.FlatTable.{IsFlatBy};
+ghost use Rattle.lbk_bytes.specs.Order.{AreBreaks};
 ghost use Rattle.lbk_bytes.specs.Shown.{given_in};
-ghost use Rattle.lbk_streams.specs.Stands.{Ahead, Feeds, front_of};
+ghost use Rattle.lbk_streams.specs.Stands.{Ahead, AreFew, Feeds, front_of};
 ghost use Rattle.lbk_bytes.specs.Open.{could_go_on};
 
 use crate::cutting::{behind, could_go_on, front_of, kept, with_byte};
@@ -31,6 +32,8 @@ pub(crate) fn take_piece(
     ensures all { result.count < length out.old → result.taken ≡ length piece.now }
     ensures unfinished { result.count < length out.old → (result.cut.size ≡ 0) ⊎ (could_go_on (front_of result.cut) ≡ true) }
     ensures few { result.count < length out.old → result.cut.size < 4 }
+    ensures breaks { AreBreaks out.old start.count → AreBreaks out.new result.count }
+    ensures counted { AreFew start result }
     ensures feeds { (cell : ℕ → Cell) (lefts : List Left) (base : ℕ) (more : List ℕ) (all : Ahead) → IsFlatBy lefts table.now cell
         → Feeds profile cell lefts base piece.now more start all (given_in out.old start.count)
         → Feeds profile cell lefts base piece.now more result all (given_in out.new result.count) }
@@ -48,6 +51,8 @@ fn drain(table: &FlatTable, profile: Profile, start: Feeding, out: &mut [RawBrea
     ensures within { (result.cut.size ≤ 4) × (result.count ≤ length out.old) × (result.taken ≡ start.taken) }
     ensures unfinished { result.count < length out.old → (result.cut.size ≡ 0) ⊎ (could_go_on (front_of result.cut) ≡ true) }
     ensures few { result.count < length out.old → result.cut.size < 4 }
+    ensures breaks { AreBreaks out.old start.count → AreBreaks out.new result.count }
+    ensures counted { AreFew start result }
     ensures feeds { (cell : ℕ → Cell) (lefts : List Left) (base : ℕ) (piece more : List ℕ) (all : Ahead) → IsFlatBy lefts table.now cell
         → Feeds profile cell lefts base piece more start all (given_in out.old start.count)
         → Feeds profile cell lefts base piece more result all (given_in out.new result.count) }
@@ -82,6 +87,8 @@ pub(crate) fn take_cut(
     requires { (0 < here.cut.size) × (here.cut.size ≤ 4) × (here.count < length out.old) }
     ensures within { (result.cut.size ≤ 4) × (result.count ≤ length out.old) × (result.taken ≡ here.taken) }
     ensures onward { result.cut.size + (length out.old - result.count) < here.cut.size + (length out.old - here.count) }
+    ensures breaks { AreBreaks out.old here.count → AreBreaks out.new result.count }
+    ensures counted { AreFew here result }
     ensures feeds { (cell : ℕ → Cell) (lefts : List Left) (base : ℕ) (piece more : List ℕ) (all : Ahead) → IsFlatBy lefts table.now cell
         → decoded (front_of here.cut ++ (drop here.taken piece ++ more)) ≡ decoded (front_of here.cut)
         → Feeds profile cell lefts base piece more here all (given_in out.old here.count)
@@ -119,6 +126,8 @@ fn take_more(
     ensures within { (result.cut.size ≤ 4) × (result.count ≤ length out.old) × (here.taken < result.taken) × (result.taken ≤ length piece.now) }
     ensures unfinished { result.count < length out.old → (result.cut.size ≡ 0) ⊎ (could_go_on (front_of result.cut) ≡ true) }
     ensures few { result.count < length out.old → result.cut.size < 4 }
+    ensures breaks { AreBreaks out.old here.count → AreBreaks out.new result.count }
+    ensures counted { AreFew here result }
     ensures feeds { (cell : ℕ → Cell) (lefts : List Left) (base : ℕ) (more : List ℕ) (all : Ahead) → IsFlatBy lefts table.now cell
         → Feeds profile cell lefts base piece.now more here all (given_in out.old here.count)
         → Feeds profile cell lefts base piece.now more result all (given_in out.new result.count) }
@@ -149,6 +158,8 @@ fn take_run(
     requires { (here.cut.size ≡ 0) × (here.count < length out.old) × (here.taken + 4 ≤ length piece.now) }
     ensures within { (result.cut.size ≤ 4) × (result.count ≤ length out.old) × (here.taken < result.taken) × (result.taken ≤ length piece.now) }
     ensures unfinished { result.count < length out.old → result.cut.size ≡ 0 }
+    ensures breaks { AreBreaks out.old here.count → AreBreaks out.new result.count }
+    ensures counted { AreFew here result }
     ensures feeds { (cell : ℕ → Cell) (lefts : List Left) (base : ℕ) (more : List ℕ) (all : Ahead) → IsFlatBy lefts table.now cell
         → Feeds profile cell lefts base piece.now more here all (given_in out.old here.count)
         → Feeds profile cell lefts base piece.now more result all (given_in out.new result.count) }

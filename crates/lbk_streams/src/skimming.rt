@@ -5,8 +5,9 @@ ghost use Rattle.lbk_rules.specs.declared.cells.Cell.{Cell};
 ghost use Rattle.lbk_rules.specs.declared.facts.Left.{Left};
 ghost use Rattle.lbk_steps.specs.FlatTable.{IsFlatBy};
 ghost use Rattle.lbk_streams.specs.declared.stream.Place.{Place};
+ghost use Rattle.lbk_bytes.specs.Order.{AreBreaks};
 ghost use Rattle.lbk_bytes.specs.Shown.{given_in};
-ghost use Rattle.lbk_streams.specs.Stands.{Ahead, Feeds, Stands, moved};
+ghost use Rattle.lbk_streams.specs.Stands.{Ahead, AreFew, Feeds, Stands, moved};
 
 use crate::stream::{Feeding, Place};
 use lbk_bytes::{FillState, RawBreak, fill_common};
@@ -23,6 +24,8 @@ pub(crate) fn skim(
 ) -> Feeding
     requires { (here.cut.size ≡ 0) × (here.place.held_code ≡ 0) × (here.count ≤ length out.old) × (0 < here.taken) × (here.taken ≤ length piece.now) }
     ensures within { (result.cut.size ≡ 0) × (result.count ≤ length out.old) × (here.taken ≤ result.taken) × (result.taken ≤ length piece.now) }
+    ensures breaks { AreBreaks out.old here.count → AreBreaks out.new result.count }
+    ensures counted { AreFew here result }
     ensures feeds { (cell : ℕ → Cell) (lefts : List Left) (base : ℕ) (more : List ℕ) (all : Ahead) → IsFlatBy lefts table.now cell
         → Feeds profile cell lefts base piece.now more here all (given_in out.old here.count)
         → Feeds profile cell lefts base piece.now more result all (given_in out.new result.count) }
@@ -59,6 +62,8 @@ fn skim_into(
 ) -> FillState
     requires { from ≤ length piece.now }
     ensures within { (result.count ≤ length room.old) × (result.row < 65536) × (from ≤ result.at) × (result.at ≤ length piece.now) }
+    ensures breaks { AreBreaks room.new result.count }
+    ensures few { result.count + from ≤ result.at }
     ensures stands { (cell : ℕ → Cell) (lefts : List Left) (more : List ℕ) (all : Ahead) (next : Place) → IsFlatBy lefts table.now cell
         → place.held_code ≡ 0 → 0 < from → from ≤ place.at
         → next.at ≡ place.at + (result.at - from) → next.row ≡ result.row → next.held_code ≡ 0
@@ -78,7 +83,8 @@ fn skim_into(
 /// Moves the places of the breaks in the front of a block.
 fn move_by(out: &mut [RawBreak], count: usize, by: u64)
     requires { count ≤ length out.old }
-    ensures { given_in out.new count ≡ map (moved by) (given_in out.old count) }
+    ensures moved { given_in out.new count ≡ map (moved by) (given_in out.old count) }
+    ensures breaks { AreBreaks out.old count → AreBreaks out.new count }
 {
     let mut k = 0;
     while k < count {

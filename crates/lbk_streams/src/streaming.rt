@@ -1,6 +1,6 @@
 //! A text that comes in pieces.
 
-ghost use Rattle.std.specs.Prelude.{◌≡◌, ◌⊎◌, ℕ, Bool, ◌+◌, ◌^◌, ◌<◌, ◌≤◌, ◌++◌, true, false, [], List, MatchOption, None, Some, drop, length, map, take};
+ghost use Rattle.std.specs.Prelude.{◌≡◌, ◌⊎◌, ℕ, Bool, min, ◌+◌, ◌-◌, ◌^◌, ◌<◌, ◌≤◌, ◌++◌, true, false, [], List, MatchOption, None, Some, drop, length, map, take};
 ghost use Rattle.lbk_rules.specs.declared.breaks.Break.{Break};
 ghost use Rattle.lbk_rules.specs.declared.cells.Cell.{Cell};
 ghost use Rattle.lbk_rules.specs.declared.facts.Left.{Left};
@@ -8,10 +8,11 @@ ghost use Rattle.lbk_values.specs.declared.profile.Profile.{Profile};
 ghost use Rattle.lbk_rules.specs.Joins.{moved};
 ghost use Rattle.lbk_steps.specs.FlatTable.{IsFlatBy, IsFlatOf, KnowsTaken};
 ghost use Rattle.lbk_bytes.specs.Bytes.{breaks_of_bytes, breaks_of_part, end_in};
+ghost use Rattle.lbk_bytes.specs.Order.{AreBreaks};
 ghost use Rattle.lbk_bytes.specs.Shown.{given_in};
 ghost use Rattle.lbk_bytes.specs.Profiles.{goes_on, plain_number, profile_numbered};
-ghost use Rattle.lbk_streams.specs.Stands.{Ahead, Feeds, Gives, Streams, front_of};
-ghost use Rattle.lbk_streams.specs.Streams.{AreUnsettled, cut_bytes, part_stream, place_of, stream_start};
+ghost use Rattle.lbk_streams.specs.Stands.{Ahead, AreFew, Feeds, Gives, Streams, front_of};
+ghost use Rattle.lbk_streams.specs.Streams.{AreUnsettled, cut_bytes, most_left, part_stream, place_of, stream_start};
 
 use crate::cutting::cut_of;
 use crate::feeding::{take_cut, take_piece};
@@ -27,6 +28,7 @@ use lbk_steps::FlatTable;
 /// The bytes may be any: over all calls the breaks are those of the joined pieces, as `lbk_breaks` has them, at places from the
 /// start of the stream, or of the text of which it is a part. Where the block has no room, nothing is taken and the stream
 /// stays. Where the stream has ended or names no profile, all is taken and no break comes.
+/// Whatever the table and the stream hold, the breaks are breaks of rules, and calls while the block comes back full come to an end.
 pub fn feed(
     table: &FlatTable,
     stream: &mut Stream,
@@ -37,6 +39,9 @@ pub fn feed(
     ensures within { (result.count ≤ length out.old) × (result.taken ≤ length piece.now) }
     ensures all_taken { result.count < length out.old → result.taken ≡ length piece.now }
     ensures profile_same { stream.new.profile ≡ stream.old.profile }
+    // Of any table and stream: at most one break for each byte, one that waited and the end.
+    ensures breaks { AreBreaks out.new result.count }
+    ensures few { result.count + most_left stream.new + (length piece.now - result.taken) ≤ most_left stream.old + length piece.now }
     ensures start { (cell : ℕ → Cell) (profile : Profile) (text : List ℕ) → IsFlatOf table.now cell → length text < 2 ^ 64
         → stream.old ≡ stream_start profile → Streams cell table.now stream.old text (breaks_of_bytes profile cell text) }
     // A part of a text: places count from the text's start, if the part's place is given, and the text may go on after it.
@@ -86,6 +91,8 @@ fn go_with(
     ensures within { (result.count ≤ length out.old) × (result.taken ≤ length piece.now) }
     ensures all_taken { result.count < length out.old → result.taken ≡ length piece.now }
     ensures profile_same { stream.new.profile ≡ stream.old.profile }
+    ensures breaks { AreBreaks out.new result.count }
+    ensures few { result.count + most_left stream.new + (length piece.now - result.taken) ≤ most_left stream.old + length piece.now }
     ensures ended { last ≡ true → result.count < length out.old → 0 < stream.new.ended }
     ensures gives { (cell : ℕ → Cell) (more : List ℕ) (to_come : List Break) → Streams cell table.now stream.old (piece.now ++ more) to_come
         → (last ≡ true → more ≡ [])
@@ -156,6 +163,8 @@ fn finish(table: &FlatTable, profile: Profile, start: Feeding, out: &mut [RawBre
     ensures within { (result.cut.size ≤ 4) × (result.count ≤ length out.old) × (result.taken ≡ start.taken) }
     ensures done { result.count < length out.old → result.cut.size ≡ 0 }
     ensures same { start.count ≡ length out.old → (result ≡ start) × (out.new ≡ out.old) }
+    ensures breaks { AreBreaks out.old start.count → AreBreaks out.new result.count }
+    ensures counted { AreFew start result }
     ensures feeds { (cell : ℕ → Cell) (lefts : List Left) (base : ℕ) (piece : List ℕ) (all : Ahead) → IsFlatBy lefts table.now cell
         → (start.count < length out.old → start.taken ≡ length piece)
         → Feeds profile cell lefts base piece [] start all (given_in out.old start.count)
@@ -172,6 +181,8 @@ fn finish(table: &FlatTable, profile: Profile, start: Feeding, out: &mut [RawBre
 fn close(table: &FlatTable, stream: &mut Stream, here: Feeding, out: &mut [RawBreak]) -> Fed
     requires { (here.cut.size ≤ 4) × (here.count ≤ length out.old) }
     ensures within { (result.count ≤ length out.old) × (result.taken ≡ here.taken) }
+    ensures breaks { AreBreaks out.old here.count → AreBreaks out.new result.count }
+    ensures few { result.count + most_left stream.new ≤ here.count + min here.place.held_code 1 + here.cut.size + 1 }
     ensures profile_same { stream.new.profile ≡ stream.old.profile }
     ensures full { here.count ≡ length out.old → (result.count ≡ here.count) × (out.new ≡ out.old) × (place_of stream.new ≡ here.place)
         × (cut_bytes stream.new ≡ front_of here.cut) × (stream.new.ended ≡ stream.old.ended) }

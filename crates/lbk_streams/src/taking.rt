@@ -1,6 +1,6 @@
 //! One scalar of a stream.
 
-ghost use Rattle.std.specs.Prelude.{◌≡◌, ℕ, ◌+◌, ◌<◌, ◌≤◌, ◌%◌, ◌^◌, true, false, List, drop, length, if◌then◌else◌};
+ghost use Rattle.std.specs.Prelude.{◌≡◌, ℕ, min, ◌+◌, ◌<◌, ◌≤◌, ◌%◌, ◌^◌, true, false, List, drop, length, if◌then◌else◌};
 ghost use Rattle.bstr.specs.Utf8.{decoded, or_replacement};
 ghost use Rattle.lbk_rules.specs.declared.cells.Cell.{Cell};
 ghost use Rattle.lbk_rules.specs.declared.facts.Left.{Left};
@@ -11,6 +11,7 @@ ghost use Rattle.lbk_rules.specs.Classes.{mark};
 ghost use Rattle.lbk_rules.specs.Codes.{verdict_coded};
 ghost use Rattle.lbk_rules.specs.Normal.{normal};
 ghost use Rattle.lbk_steps.specs.FlatTable.{AreFlatKinds, IsFlatBy};
+ghost use Rattle.lbk_bytes.specs.Order.{AreBreaks};
 ghost use Rattle.lbk_bytes.specs.Shown.{given_in};
 ghost use Rattle.lbk_streams.specs.Stands.{Ahead, Stands};
 
@@ -41,6 +42,9 @@ pub(crate) fn take_scalar(
     requires { count < length out.old }
     ensures within { (count ≤ result.count) × (result.count ≤ length out.old) }
     ensures full { result.passed ≡ false → result.count ≡ length out.old }
+    ensures breaks { AreBreaks out.old count → AreBreaks out.new result.count }
+    ensures few { result.count + min result.place.held_code 1 ≤ count + min place.held_code 1 + 1 }
+    ensures met { result.passed ≡ false → result.count + min result.place.held_code 1 ≤ count + min place.held_code 1 }
     ensures at { result.place.at ≡ (if result.passed then (place.at + size) % 2 ^ 64 else place.at) }
     ensures stands { (cell : ℕ → Cell) (lefts : List Left) (bytes : List ℕ) (all : Ahead) → IsFlatBy lefts table.now cell
         → 0 < length bytes → c ≡ or_replacement (decoded bytes).char → size ≡ (decoded bytes).size
@@ -59,6 +63,8 @@ fn meet(table: &FlatTable, place: Place, c: char, out: &mut [RawBreak], count: u
     requires { count < length out.old }
     ensures within { (count ≤ result.count) × (result.count ≤ length out.old) }
     ensures passed { result.passed ≡ false }
+    ensures breaks { AreBreaks out.old count → AreBreaks out.new result.count }
+    ensures few { result.count + min result.place.held_code 1 ≤ count + min place.held_code 1 }
     ensures at { result.place.at ≡ place.at }
     ensures joins { (cell : ℕ → Cell) → AreFlatKinds table.now.kinds cell → 0 < result.place.held_code → mark (normal (cell c)).class ≡ true }
     ensures stands { (profile : Profile) (cell : ℕ → Cell) (lefts : List Left) (bytes : List ℕ) (all : Ahead) → IsFlatBy lefts table.now cell
@@ -115,6 +121,8 @@ fn pass(
     requires { count < length out.old }
     ensures within { (count ≤ result.count) × (result.count ≤ length out.old) }
     ensures passed { result.passed ≡ true }
+    ensures breaks { AreBreaks out.old count → AreBreaks out.new result.count }
+    ensures few { result.count + min result.place.held_code 1 ≤ count + min place.held_code 1 + 1 }
     ensures at { result.place.at ≡ (place.at + size) % 2 ^ 64 }
     ensures stands { (cell : ℕ → Cell) (lefts : List Left) (bytes : List ℕ) (all : Ahead) → IsFlatBy lefts table.now cell
         → 0 < length bytes → c ≡ or_replacement (decoded bytes).char → size ≡ (decoded bytes).size

@@ -98,6 +98,7 @@ impl<'a> Breaks<'a> {
         Breaks(Found::new(table, profile as u8, text))
     }
 
+    #[inline]
     pub(crate) fn of_part(table: &'a Table, profile: Profile, part: &'a [u8]) -> Breaks<'a> {
         Breaks(Found::new(table, profile as u8 + calls::GOES_ON, part))
     }

@@ -10,6 +10,9 @@ use crate::table::Table;
 /// How many are asked for at once.
 const ROOM: usize = 128;
 
+/// So many are moved number by number, as they were written.
+const FEW: usize = 4;
+
 type Block = [calls::Break; ROOM];
 
 /// One of the calls that find breaks or positions.
@@ -19,37 +22,39 @@ pub trait Call {
 
 /// What a call finds in a text, in its order. A copy goes on by itself.
 #[derive(Clone)]
-// In this order, and no call is given a part of it: so a loop has `next` and `count` in registers.
+// In this order, and no call is given a part of it: so a loop has `next` and `count` in registers. The state is in two parts, which
+// are not beside each other: as a whole it would be read right after its parts were written, which costs a wait.
 #[repr(C)]
 pub struct Found<'a, C> {
     /// The next one is that of the block.
     next: u32,
     /// So many the block has. They are the last ones where it has room for more.
     count: u32,
+    /// Up to this byte of the text the library came.
+    at: usize,
     table: &'a Table,
     text: &'a [u8],
     call: PhantomData<C>,
-    state: calls::State,
+    row: u16,
+    profile: u8,
+    ended: u8,
     block: MaybeUninit<Block>,
 }
 
 impl<'a, C: Call> Found<'a, C> {
     #[inline]
     pub fn new(table: &'a Table, profile: u8, text: &'a [u8]) -> Found<'a, C> {
-        let state = calls::State {
-            at: 0,
-            row: 0,
-            profile,
-            ended: 0,
-        };
         Found {
             // As if a full block had been used up.
             next: ROOM as u32,
             count: ROOM as u32,
+            at: 0,
             table,
             text,
             call: PhantomData,
-            state,
+            row: 0,
+            profile,
+            ended: 0,
             block: MaybeUninit::uninit(),
         }
     }
@@ -57,16 +62,30 @@ impl<'a, C: Call> Found<'a, C> {
     /// The next block, by way of one that is no part of the iterator.
     #[inline]
     fn refill(&mut self) {
-        let mut state = self.state;
+        let mut state = calls::State {
+            at: self.at,
+            row: self.row,
+            profile: self.profile,
+            ended: self.ended,
+        };
         let mut block = MaybeUninit::uninit();
         let count = fill::<C>(self.table, self.text, &mut state, &mut block);
+        let from = block.as_ptr().cast::<calls::Break>();
+        let to = self.block.as_mut_ptr().cast::<calls::Break>();
         // SAFETY: the call wrote so many, which both blocks have room for.
         unsafe {
-            let from = block.as_ptr().cast::<calls::Break>();
-            let to = self.block.as_mut_ptr().cast::<calls::Break>();
-            core::ptr::copy_nonoverlapping(from, to, count);
+            if count <= FEW {
+                for k in 0..count {
+                    let calls::Break { at, kind, rule } = *from.add(k);
+                    to.add(k).write(calls::Break { at, kind, rule });
+                }
+            } else {
+                core::ptr::copy_nonoverlapping(from, to, count);
+            }
         }
-        self.state = state;
+        self.at = state.at;
+        self.row = state.row;
+        self.ended = state.ended;
         self.next = 0;
         self.count = count as u32;
     }
@@ -78,7 +97,7 @@ impl<'a, C: Call> Found<'a, C> {
     /// How many are held, and up to which byte of the text they came.
     #[inline]
     pub fn held(&self) -> (usize, usize) {
-        ((self.count - self.next) as usize, self.state.at)
+        ((self.count - self.next) as usize, self.at)
     }
 }
 

@@ -97,39 +97,46 @@ impl Table {
     }
 
     /// The breaks of a text in the first profile, in their order. Each stands between two scalars, or at the end.
+    #[inline]
     pub fn breaks<'a>(&'a self, text: &'a str) -> Breaks<'a> {
         self.breaks_in(Profile::First, text.as_bytes())
     }
 
     /// The breaks of a text of bytes in a profile, in their order. Ill-formed bytes are read as `String::from_utf8_lossy` does, and
     /// places count the bytes as they are.
+    #[inline]
     pub fn breaks_in<'a>(&'a self, profile: Profile, text: &'a [u8]) -> Breaks<'a> {
         Breaks::new(self, profile, text)
     }
 
     /// The breaks of a part of a text that goes on after it, in a profile and in their order. The part's end is one only if a line
     /// must end there whatever follows but LF after CR, and by rule 4 or 5.
+    #[inline]
     pub fn breaks_of_part<'a>(&'a self, profile: Profile, part: &'a [u8]) -> Breaks<'a> {
         Breaks::of_part(self, profile, part)
     }
 
     /// The segments of a text between its breaks, in the first profile and in their order. Joined they are the text.
+    #[inline]
     pub fn segments<'a>(&'a self, text: &'a str) -> Segments<'a> {
         self.segments_in(Profile::First, text)
     }
 
     /// The segments of a text between its breaks, in a profile and in their order. Joined they are the text.
+    #[inline]
     pub fn segments_in<'a>(&'a self, profile: Profile, text: &'a str) -> Segments<'a> {
         Segments::new(self, profile, text)
     }
 
     /// All positions of a text in the first profile, in their order: one before each scalar and one at the end, each with the rule that
     /// decided.
+    #[inline]
     pub fn positions<'a>(&'a self, text: &'a str) -> Positions<'a> {
         self.positions_in(Profile::First, text.as_bytes())
     }
 
     /// All positions of a text of bytes in a profile, in their order. Ill-formed bytes are as [`Table::breaks_in`] has them.
+    #[inline]
     pub fn positions_in<'a>(&'a self, profile: Profile, text: &'a [u8]) -> Positions<'a> {
         Positions::new(self, profile, text)
     }

@@ -2,7 +2,7 @@ use Rattle.std.proofs.Common.{◌-◌, ◌<◌, ◌≤◌, ◌++◌, ℕ, List, 
 use Rattle.lbk_rules.specs.declared.cells.Cell.{Cell}
 use Rattle.lbk_rules.specs.declared.facts.Left.{Left}
 use Rattle.lbk_steps.specs.FlatTable.{IsFlatBy}
-use Rattle.lbk_bytes.specs.Reached.{Ahead, Reached}
+use Rattle.lbk_bytes.specs.Reached.{Ahead, IsInOrder, Reached}
 use Rattle.lbk_bytes.specs.Shown.{given_in}
 use Rattle.lbk_bytes.proofs.filling.fill_common.Given as goal
 
@@ -14,6 +14,7 @@ invariant-loop-part l = record {
   until : l.part.until ≤ length l.text;
   onward : l.fn.start.at ≤ l.part.here.at;
   more : l.fn.start.count ≤ l.part.here.count;
+  in_order : (from : ℕ) → IsInOrder l.fn.out l.fn.start.count from l.fn.start.at → IsInOrder l.out l.part.here.count from l.part.here.at;
   reached : (cell : ℕ → Cell) (lefts : List Left) (more : List ℕ) (all : Ahead) → IsFlatBy lefts l.fn.table cell
       → Reached l.fn.profile cell lefts (l.text ++ more) all l.fn.start (given_in l.fn.out l.fn.start.count)
       → Reached l.fn.profile cell lefts (l.text ++ more) all l.part.here (given_in l.out l.part.here.count);

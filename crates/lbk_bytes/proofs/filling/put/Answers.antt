@@ -5,9 +5,9 @@ use Rattle.std.proofs.lemmas.List.{take-set}
 use Rattle.lbk_rules.specs.Breaks.{break_by, is_no}
 use Rattle.lbk_rules.specs.Codes.{verdict_coded}
 use Rattle.lbk_bytes.specs.declared.raw_break.RawBreak.{RawBreak}
-use Rattle.lbk_bytes.specs.Order.{AreInOrder}
+use Rattle.lbk_bytes.specs.Order.{AreBreaks, AreInOrder}
 use Rattle.lbk_bytes.specs.Shown.{given_in, shown}
-use Rattle.lbk_bytes.proofs.OrderLemmas.{AreInOrder-put}
+use Rattle.lbk_bytes.proofs.OrderLemmas.{AreBreaks-put, AreInOrder-put}
 use Rattle.lbk_bytes.proofs.ReachedLemmas.{written-more}
 use Rattle.lbk_bytes.proofs.ShownLemmas.{raw-split, shown-raw}
 use Rattle.lbk_bytes.proofs.filling.put.Goals as goal
@@ -22,6 +22,17 @@ returns-clause-in_order c = λ from to below order.
     let put = AreInOrder-put out c.args.count found from to c.requires order.0 below order.1 in
     let written = subst (λ raw. AreInOrder (set out c.args.count raw) (c.args.count + from_bool (not (is_no verdict.kind))) from to) split put in
     subst (λ n. AreInOrder (set out c.args.count (record { at = c.args.at; kind = c.shown_of-shown.result % 256; rule = c.shown_of-shown.result / 256 })) (c.args.count + n) from to) (sym more) written
+
+pub returns-clause-breaks : goal.returns-clause-breaks
+returns-clause-breaks c = λ all.
+    let out = c.args.out.now in
+    let verdict = verdict_coded c.args.code in
+    let found = break_by c.args.at verdict in
+    let more : c.from.result ≡ from_bool (not (is_no verdict.kind)) = c.from.ensures ∙ ap from_bool c.is_break.ensures in
+    let split = raw-split c.args.at c.shown_of-shown.result verdict c.shown_of-shown.ensures in
+    let put = AreBreaks-put out c.args.count found c.requires all in
+    let written = subst (λ raw. AreBreaks (set out c.args.count raw) (c.args.count + from_bool (not (is_no verdict.kind)))) split put in
+    subst (λ n. AreBreaks (set out c.args.count (record { at = c.args.at; kind = c.shown_of-shown.result % 256; rule = c.shown_of-shown.result / 256 })) (c.args.count + n)) (sym more) written
 
 pub returns-clause-front : goal.returns-clause-front
 returns-clause-front c = λ coded.

@@ -2,8 +2,9 @@ use Rattle.std.proofs.Common.{◌≡◌, ◌+◌, ◌-◌, ◌≤◌, ℕ, List,
 use Rattle.lbk_rules.specs.declared.cells.Cell.{Cell}
 use Rattle.lbk_rules.specs.declared.facts.Left.{Left}
 use Rattle.lbk_steps.specs.FlatTable.{IsFlatBy}
+use Rattle.lbk_bytes.specs.Order.{AreBreaks}
 use Rattle.lbk_bytes.specs.Shown.{given_in}
-use Rattle.lbk_streams.specs.Stands.{Ahead, Feeds}
+use Rattle.lbk_streams.specs.Stands.{Ahead, AreFew, Feeds}
 use Rattle.lbk_streams.proofs.feeding.drain.Given as goal
 
 abbrev pub invariant-loop-here : goal.invariant-loop-here
@@ -11,6 +12,8 @@ invariant-loop-here l = record {
   cut : l.here.cut.size ≤ 4;
   room : l.here.count ≤ length l.out;
   taken : l.here.taken ≡ l.fn.start.taken;
+  breaks : AreBreaks l.fn.out l.fn.start.count → AreBreaks l.out l.here.count;
+  counted : AreFew l.fn.start l.here;
   feeds : (cell : ℕ → Cell) (lefts : List Left) (base : ℕ) (piece more : List ℕ) (all : Ahead) → IsFlatBy lefts l.fn.table cell
       → Feeds l.fn.profile cell lefts base piece more l.fn.start all (given_in l.fn.out l.fn.start.count)
       → Feeds l.fn.profile cell lefts base piece more l.here all (given_in l.out l.here.count);

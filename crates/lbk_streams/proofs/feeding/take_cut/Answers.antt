@@ -62,3 +62,14 @@ returns-clause-feeds c = λ cell lefts base piece more all flat same feeds.
     c.if-step.false step.ensures.at
     (step.ensures.stands cell lefts whole all flat (omega (arith, length-append (front_of here.cut) rest)) is_char is_size feeds.stands)
     feeds
+
+pub returns-then-step-clause-counted : goal.returns-then-step-clause-counted
+returns-then-step-clause-counted c =
+    let front = c.front_of-front.result.now in
+    let long = c.front_of-front.ensures.length in
+    let bounds = piece-bounds front (omega arith) in
+    let size = c.decode_lossy-c.ensures.size in
+    omega (arith, bounds.0, c.behind-cut.ensures.size, c.take_scalar-step.ensures.few)
+
+pub returns-clause-counted : goal.returns-clause-counted
+returns-clause-counted c = omega (arith, c.take_scalar-step.ensures.met c.if-step.false)

@@ -11,6 +11,8 @@ loop-here-init c =
       within = omega (arith, within.2, c.requires.2);
       unfinished = λ free. drain.ensures.unfinished (omega arith);
       few = λ free. drain.ensures.few (omega arith);
+      breaks = drain.ensures.breaks;
+      counted = drain.ensures.counted;
       feeds = λ cell lefts base more all flat start. drain.ensures.feeds cell lefts base c.args.piece.now more all flat start;
     }
 
@@ -28,5 +30,7 @@ loop-here-preserved c =
       within = within.3;
       unfinished = λ free. take.ensures.unfinished (omega arith);
       few = λ free. take.ensures.few (omega arith);
+      breaks = λ all. take.ensures.breaks (l.invariant.breaks all);
+      counted = omega (arith, take.ensures.counted, l.invariant.counted);
       feeds = λ cell lefts base more all flat start. take.ensures.feeds cell lefts base more all flat (l.invariant.feeds cell lefts base more all flat start);
     }

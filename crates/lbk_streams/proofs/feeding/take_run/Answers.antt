@@ -103,3 +103,23 @@ returns-clause-feeds c = λ cell lefts base more all flat feeds.
     (Feeds-run c.args.profile cell lefts base piece more here step.result.place step.result.count size step.result.passed all given
     (given_in step.new.out step.result.count) c.requires.0 (omega (arith, read.few, c.requires.2)) (not-false step.result.passed c.if-not-step.false) step.ensures.at
     (step.ensures.stands cell lefts bytes all flat read.bytes read.char read.is_size stands) feeds)
+
+pub returns-then-not-step-clause-counted : goal.returns-then-not-step-clause-counted
+returns-then-not-step-clause-counted c =
+    let piece = c.args.piece.now in
+    let at = c.args.here.taken in
+    let read = is-read c.args.piece.now [] c.args.here.taken c.decode_lossy-c.result.0 c.decode_lossy-c.result.1 c.requires.2 c.decode_lossy-c.ensures.char c.decode_lossy-c.ensures.size in
+    let left : length (take (length piece - at) (drop at piece)) ≡ length piece - at = ap length (rest-of piece at) ∙ length-drop at piece in
+    let long = length-take-le c.decode_lossy-c.result.1 (take (length piece - at) (drop at piece)) (omega (arith, read.few, c.requires.2)) in
+    let met = c.take_scalar-step.ensures.met (not-true c.take_scalar-step.result.passed c.if-not-step.true) in
+    omega (arith, met, c.kept-cut.ensures.within, read.some, c.requires.0)
+
+pub returns-then-past-ne0-clause-counted : goal.returns-then-past-ne0-clause-counted
+returns-then-past-ne0-clause-counted c =
+    let read = is-read c.args.piece.now [] c.args.here.taken c.decode_lossy-c.result.0 c.decode_lossy-c.result.1 c.requires.2 c.decode_lossy-c.ensures.char c.decode_lossy-c.ensures.size in
+    omega (arith, read.some, c.take_scalar-step.ensures.few)
+
+pub returns-clause-counted : goal.returns-clause-counted
+returns-clause-counted c =
+    let read = is-read c.args.piece.now [] c.args.here.taken c.decode_lossy-c.result.0 c.decode_lossy-c.result.1 c.requires.2 c.decode_lossy-c.ensures.char c.decode_lossy-c.ensures.size in
+    omega (arith, read.some, c.take_scalar-step.ensures.few, c.skim.ensures.counted)

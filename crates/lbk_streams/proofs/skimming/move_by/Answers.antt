@@ -3,6 +3,7 @@ use Rattle.std.proofs.lemmas.List.{drop-drop, drop-set-lt, get_or-drop, length-s
 use Rattle.lbk_bytes.specs.declared.raw_break.RawBreak.{RawBreak}
 use Rattle.lbk_bytes.specs.Shown.{given_in, shown}
 use Rattle.lbk_streams.specs.Stands.{moved}
+use Rattle.lbk_streams.proofs.BreakLemmas.{AreBreaks-moved}
 use Rattle.lbk_streams.proofs.skimming.move_by.Goals as goal
 
 pub loop-k-preserved : goal.loop-k-preserved
@@ -30,6 +31,7 @@ loop-k-preserved c =
           ∙ sym (map-append (moved by) (given_in start k) (shown (get_or start k none) ∷ []))
           ∙ ap (map (moved by)) (sym (map-append shown (take k start) (get_or start k none ∷ [])))
           ∙ ap (λ xs. map (moved by) (map shown xs)) (sym (take_more start k none inside_start));
+      breaks = λ all. AreBreaks-moved out k new.at c.args.count inside (omega arith) (l.invariant.breaks all);
       rest =
           drop-set-lt (k + 1) out k new (omega arith) ∙ sym (drop-drop 1 k out) ∙ ap (drop 1) l.invariant.rest ∙ drop-drop 1 k start;
     }

@@ -1,4 +1,5 @@
 use Rattle.std.proofs.Common.{◌-◌, ◌≡◌, ◌≤◌, drop, length, map}
+use Rattle.lbk_bytes.specs.Order.{AreBreaks}
 use Rattle.lbk_bytes.specs.Shown.{given_in}
 use Rattle.lbk_streams.specs.Stands.{moved}
 use Rattle.lbk_streams.proofs.skimming.move_by.Given as goal
@@ -8,6 +9,7 @@ invariant-loop-k l = record {
   within : l.k ≤ l.count;
   room : l.count ≤ length l.out;
   front : given_in l.out l.k ≡ map (moved l.by) (given_in l.fn.out l.k);
+  breaks : AreBreaks l.fn.out l.count → AreBreaks l.out l.count;
   rest : drop l.k l.out ≡ drop l.k l.fn.out;
 }
 

@@ -1,6 +1,7 @@
 use Rattle.std.proofs.Common.{◌+◌, ◌-◌, ◌%◌, ◌^◌, refl, arith}
 use Rattle.lbk_streams.specs.declared.stream.Place.{Place}
 use Rattle.lbk_bytes.specs.Shown.{given_in}
+use Rattle.lbk_streams.proofs.BreakLemmas.{AreBreaks-behind}
 use Rattle.lbk_streams.proofs.FeedLemmas.{given-behind}
 use Rattle.lbk_streams.proofs.SkimLemmas.{Feeds-skim}
 use Rattle.lbk_streams.proofs.skimming.skim.Goals as goal
@@ -21,3 +22,8 @@ returns-clause-feeds c = λ cell lefts base more all flat feeds.
     (λ coming at behind stands. end.ensures.stands cell lefts more coming next flat c.requires.1 c.requires.3 behind at refl c.requires.1 stands)
     (given-behind c.args.out.now end.new.room _ here.count end.result.count c.requires.2 (omega (arith, within.0)))
     feeds
+
+pub returns-clause-breaks : goal.returns-clause-breaks
+returns-clause-breaks c = λ all.
+    let end = c.skim_into-end in
+    AreBreaks-behind c.args.out.now end.new.room _ c.args.here.count end.result.count c.requires.2 (omega (arith, end.ensures.within.0)) all end.ensures.breaks

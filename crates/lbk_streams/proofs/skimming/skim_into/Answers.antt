@@ -5,6 +5,8 @@ use Rattle.lbk_bytes.specs.declared.fill_state.FillState.{FillState}
 use Rattle.lbk_bytes.specs.Reached.{ReachedBy}
 use Rattle.lbk_bytes.specs.Shown.{given_in}
 use Rattle.lbk_streams.specs.Stands.{moved, onward_of}
+use Rattle.lbk_bytes.proofs.OrderLemmas.{AreInOrder-none}
+use Rattle.lbk_streams.proofs.BreakLemmas.{few-between}
 use Rattle.lbk_streams.proofs.SkimLemmas.{Stands-skim}
 use Rattle.lbk_streams.proofs.skimming.skim_into.Goals as goal
 
@@ -24,4 +26,16 @@ returns-clause-stands c = λ cell lefts more all next flat free some behind at_s
     end.ensures.reached cell lefts more (record { breaks = coming; end = end_in all.goes_on }) flat r in
     Stands-skim profile cell lefts piece more all given (given_in c.move_by.new.out end.result.count) place next from end.result
     end.ensures.onward.0 end.ensures.within.2 free some behind at_same row_same none_waits reached
-    (c.move_by.ensures ∙ ap (λ n. map (moved n) given) by_same) stands
+    (c.move_by.ensures.moved ∙ ap (λ n. map (moved n) given) by_same) stands
+
+pub returns-clause-breaks : goal.returns-clause-breaks
+returns-clause-breaks c =
+    let end = c.fill_common-end in
+    let order = end.ensures.in_order c.args.from (omega arith, AreInOrder-none c.args.room.now c.args.from c.args.from) in
+    c.move_by.ensures.breaks order.1.each
+
+pub returns-clause-few : goal.returns-clause-few
+returns-clause-few c =
+    let end = c.fill_common-end in
+    let order = end.ensures.in_order c.args.from (omega arith, AreInOrder-none c.args.room.now c.args.from c.args.from) in
+    few-between end.new.out end.result.count c.args.from end.result.at order.0 order.1

@@ -23,6 +23,8 @@ loop-here-preserved c =
       room = omega (arith, within.1);
       taken = omega (arith, within.2);
       same = λ full. absurd (omega arith);
+      breaks = λ all. take.ensures.breaks (c.loop-here.invariant.breaks all);
+      counted = omega (arith, take.ensures.counted, c.loop-here.invariant.counted);
       feeds = λ cell lefts base piece all flat whole start.
           let nothing : front_of here.cut ++ (drop here.taken piece ++ []) ≡ front_of here.cut =
           ap (λ n. front_of here.cut ++ (drop n piece ++ [])) (taken ∙ whole below) ∙ ap (λ l. front_of here.cut ++ (l ++ [])) (drop-length piece) ∙ append-nil (front_of here.cut) in

@@ -92,3 +92,7 @@ returns-then-last-clause-gives c = λ cell more to_come s lasts.
       seen = λ unfinished. absurd (false≢true (sym unfinished ∙ c.if-last.true));
       end = λ _ free. closed.end (omega arith);
     }
+
+pub returns-then-last-clause-breaks : goal.returns-then-last-clause-breaks
+returns-then-last-clause-breaks c =
+    c.close.ensures.breaks (c.finish-done.ensures.breaks (c.take_piece-here.ensures.breaks (λ k few. absurd (omega (arith, c.start_of-start.ensures.fresh.1)))))
