@@ -45,11 +45,10 @@ pub fn linebreaks(s: &str) -> impl Iterator<Item = (usize, BreakOpportunity)> + 
     })
 }
 
-/// Divides a text at a break, so that the breaks of the second part are those of the text after the first, whatever text follows.
+/// Divides a text so that the breaks of the second part are those of the text after the first, also where more text follows.
 ///
-/// It is the last such break before the end of the text (or 0, where there is none), by what is known of the text at each: where
-/// as much is known of it as of a text that begins there, no break after it depends on what was before. The crate
-/// unicode-linebreak divides a scalar or more before that, and not only at breaks. Both go back at most to a line end.
+/// It divides at a break: the last one before the end of the text where as much is known of the text as of one that begins there,
+/// or else before all of it. The crate unicode-linebreak goes by pairs of classes, and divides elsewhere, too.
 ///
 /// ```
 /// use unicode_linebreak::split_at_safe;
