@@ -42,11 +42,14 @@ static_assert(!std::is_constructible_v<lbk::breaks_utf32, lbk::table &, std::u32
 static_assert(!std::is_convertible_v<lbk::table, const lbk_table &>);
 
 static_assert(!std::is_constructible_v<lbk::positions, lbk::table, std::string_view>);
+static_assert(std::is_constructible_v<lbk::positions_utf16, lbk::table &, std::u16string &, lbk::profile>);
+static_assert(!std::is_constructible_v<lbk::positions_utf32, lbk::table &, std::u32string>);
 static_assert(std::is_constructible_v<lbk::words, std::string &> && !std::is_constructible_v<lbk::words, std::string>);
 static_assert(std::is_constructible_v<lbk::stream, lbk::table &> && !std::is_constructible_v<lbk::stream, lbk::table>);
 
 #if defined(__cpp_lib_ranges)
 static_assert(std::ranges::view<lbk::positions> && std::ranges::borrowed_range<lbk::positions>);
+static_assert(std::ranges::view<lbk::positions_utf16> && std::ranges::borrowed_range<lbk::breaks_wide>);
 static_assert(std::ranges::view<lbk::words> && std::ranges::borrowed_range<lbk::words>);
 static_assert(std::forward_iterator<iterator>);
 static_assert(std::ranges::forward_range<lbk::breaks> && std::ranges::common_range<lbk::breaks>);
@@ -153,6 +156,9 @@ static void try_positions(const lbk_table &table)
     for (lbk_break one : lbk::positions(table, text))
         shown += std::to_string(one.at) + (one.kind == LBK_NO ? '-' : '+') + lbk::label(one.rule) + ' ';
     told("the positions of a text", shown == "0-2 1-28 2-7 3+18 5+3 ");
+    told("the positions of UTF-16", unit_places(lbk::positions_utf16(table, u"ab \xD83D\xDE00\xD83D")) == these{0, 1, 2, 3, 5, 6});
+    told("the positions of UTF-32", unit_places(lbk::positions_utf32(table, U"ab \x1F600\x110000")) == these{0, 1, 2, 3, 4, 5});
+    told("the positions of wide characters", unit_places(lbk::positions_wide(table, L"ab \x1F600\x110000")) == these{0, 1, 2, 3, 4, 5});
     for (int k = 0; k < 200; k++)
         text += "a b\n \xE4\xB8\x80";
     for (lbk::profile rules : {lbk::profile::first, lbk::profile::second}) {

@@ -1,5 +1,6 @@
-/* Tries lbk_breaks_utf16 and lbk_breaks_utf32 against lbk_breaks: the breaks of random units have to be those of the UTF-8 text
- * of the same scalars, at the units that spell the scalars before them, in blocks of any room.
+/* Tries lbk_breaks_utf16 and lbk_breaks_utf32 against lbk_breaks, and lbk_positions_utf16 and lbk_positions_utf32 against
+ * lbk_positions: what they give of random units has to be what is given of the UTF-8 text of the same scalars, at the units that
+ * spell the scalars before it, in blocks of any room.
  *
  *     units ROUNDS SEED LINE_BREAK EAST_ASIAN CATEGORY EMOJI [TEXT]
  *
@@ -70,21 +71,24 @@ static void read_utf32(scalars *to, const uint32_t *units, size_t size)
         add(to, units[k], 1);
 }
 
-/* The next breaks of a text of units of either size. */
-static size_t next(int wide, lbk_state *state, const void *units, size_t size, lbk_break *block, size_t room)
+/* The next breaks, or where `all` is set positions, of a text of units of either size. */
+static size_t next(int all, int wide, lbk_state *state, const void *units, size_t size, lbk_break *block, size_t room)
 {
+    if (all)
+        return wide ? lbk_positions_utf32(&table, state, units, size, block, room)
+                    : lbk_positions_utf16(&table, state, units, size, block, room);
     return wide ? lbk_breaks_utf32(&table, state, units, size, block, room)
                 : lbk_breaks_utf16(&table, state, units, size, block, room);
 }
 
-/* The breaks of units, in blocks of this room, have to be those of the scalars that are read in them. */
-static int agrees(int wide, uint8_t profile, const void *units, size_t size, size_t room, const scalars *read)
+/* What is given of units, in blocks of this room, has to be what is given of the scalars that are read in them. */
+static int agrees(int all, int wide, uint8_t profile, const void *units, size_t size, size_t room, const scalars *read)
 {
     static lbk_break wanted[4 * MOST_UNITS];
     size_t whole = size * (wide ? sizeof(uint32_t) : sizeof(uint16_t));
     lbk_state state = {0}, over = {0};
     state.profile = over.profile = profile;
-    size_t count = lbk_breaks(&table, &over, (const char *)read->utf8, read->size, wanted, 4 * MOST_UNITS);
+    size_t count = (all ? lbk_positions : lbk_breaks)(&table, &over, (const char *)read->utf8, read->size, wanted, 4 * MOST_UNITS);
     size_t given = 0, scalar = 0, got;
     void *text = place(texts, whole);
     memcpy(text, units, whole);
@@ -92,7 +96,7 @@ static int agrees(int wide, uint8_t profile, const void *units, size_t size, siz
     do {
         lbk_break *block = place(blocks, room * sizeof *block);
         size_t at = state.at;
-        got = next(wide, &state, text, size, block, room);
+        got = next(all, wide, &state, text, size, block, room);
         holds &= got <= room && given + got <= count && state.at >= at && state.at <= size && state.profile == profile;
         for (size_t k = 0; holds && k < got; k++, given++) {
             while (scalar < read->count && read->in_utf8[scalar] < wanted[given].at)
@@ -102,9 +106,10 @@ static int agrees(int wide, uint8_t profile, const void *units, size_t size, siz
         }
     } while (holds && got == room);
     holds &= given == count && state.ended != 0 && state.at == size && memcmp(text, units, whole) == 0;
+    holds &= !all || count == read->count + 1;
     lbk_state old = state;
     lbk_break one;
-    holds &= next(wide, &state, text, size, &one, 1) == 0 && memcmp(&state, &old, sizeof old) == 0;
+    holds &= next(all, wide, &state, text, size, &one, 1) == 0 && memcmp(&state, &old, sizeof old) == 0;
     return holds;
 }
 
@@ -157,16 +162,20 @@ static void try_utf16(const uint16_t *units, size_t size, size_t room)
 {
     static scalars read;
     read_utf16(&read, units, size);
-    for (uint8_t profile = 0; profile < 2; profile++)
-        told("units of 16 bits", agrees(0, profile, units, size, room, &read));
+    for (uint8_t profile = 0; profile < 2; profile++) {
+        told("breaks of units of 16 bits", agrees(0, 0, profile, units, size, room, &read));
+        told("positions of units of 16 bits", agrees(1, 0, profile, units, size, room, &read));
+    }
 }
 
 static void try_utf32(const uint32_t *units, size_t size, size_t room)
 {
     static scalars read;
     read_utf32(&read, units, size);
-    for (uint8_t profile = 0; profile < 2; profile++)
-        told("units of 32 bits", agrees(1, profile, units, size, room, &read));
+    for (uint8_t profile = 0; profile < 2; profile++) {
+        told("breaks of units of 32 bits", agrees(0, 1, profile, units, size, room, &read));
+        told("positions of units of 32 bits", agrees(1, 1, profile, units, size, room, &read));
+    }
 }
 
 /* Short lists of units that a wrong reader takes for something else, in blocks of each room. */
@@ -203,8 +212,8 @@ static void try_bytes(void)
     try_utf32(wide, size / 4, 1 + below(MOST_UNIT_ROOM));
 }
 
-/* Any table and any state: calls return, and the breaks are breaks, in order. */
-static void try_any_table(const lbk_table *any)
+/* Any table and any state: calls return, and the breaks, or where `all` is set the positions, are in order. */
+static void try_any_table(const lbk_table *any, int all)
 {
     uint16_t units[MOST_TEXT + 2];
     size_t size = random_utf16(units), room = below(MOST_UNIT_ROOM + 1);
@@ -219,13 +228,13 @@ static void try_any_table(const lbk_table *any)
     memcpy(text, units, size * sizeof *text);
     lbk_break *block = place(blocks, room * sizeof *block);
     lbk_state old = state;
-    size_t count = lbk_breaks_utf16(any, &state, text, size, block, room);
+    size_t count = (all ? lbk_positions_utf16 : lbk_breaks_utf16)(any, &state, text, size, block, room);
     int holds = count <= room && state.at >= old.at && state.profile == old.profile;
     for (size_t k = 0; k < count; k++)
         holds &= block[k].at >= old.at && block[k].at <= size && (k == 0 || block[k].at > block[k - 1].at)
-            && (block[k].kind == LBK_MAY || block[k].kind == LBK_MUST) && lbk_label(block[k].rule).text[0] != 0;
+            && block[k].kind >= (all ? LBK_NO : LBK_MAY) && block[k].kind <= LBK_MUST && lbk_label(block[k].rule).text[0] != 0;
     holds &= count > 0 || room > 0 || memcmp(&state, &old, sizeof old) == 0;
-    told("any table and any state", holds);
+    told(all ? "positions of any table and any state" : "breaks of any table and any state", holds);
 }
 
 /* Each line of a text in UTF-8, which is well-formed. */
@@ -278,7 +287,7 @@ int main(int count, char **word)
         if (round % 10 == 1)
             try_bytes();
         if (round % 10 == 0)
-            try_any_table(round % 20 == 0 ? &table : &any);
+            try_any_table(round % 20 == 0 ? &table : &any, round % 40 < 20);
     }
     if (count == 8) {
         bytes text = load(word[7]);

@@ -345,6 +345,14 @@ lbk_fed lbk_feed(const lbk_table *table, lbk_stream *stream, const char *piece, 
  * of n bytes takes one place of a block, so there are n + 1 at most. Takes no memory from the heap. */
 size_t lbk_positions(const lbk_table *table, lbk_state *state, const char *text, size_t size, lbk_break *block, size_t room);
 
+/* The same for a text in UTF-16 or UTF-32, which is read as lbk_breaks_utf16 and lbk_breaks_utf32 read it. No position comes between
+ * the two halves of a pair. Texts of the same scalars have the same positions in all three encodings, by the same rules, each
+ * at the units that spell the scalars before it. */
+size_t lbk_positions_utf16(const lbk_table *table, lbk_state *state, const uint16_t *text, size_t size, lbk_break *block,
+                           size_t room);
+size_t lbk_positions_utf32(const lbk_table *table, lbk_state *state, const uint32_t *text, size_t size, lbk_break *block,
+                           size_t room);
+
 /* Puts the next words of a text, in the order of the text, into the front of a block with room for
  * `room` words, and returns how many. Fewer than `room` says that these were all; later calls with
  * the state then return 0. No table is needed:

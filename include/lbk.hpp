@@ -610,31 +610,11 @@ inline std::string label(std::uint8_t rule) { return lbk_label(rule).text; }
 
 namespace detail {
 
-inline std::size_t next_breaks(const lbk_table *table, lbk_state *state, const char16_t *text, std::size_t size, lbk_break *block,
-                               std::size_t room) noexcept
-{
-    static_assert(sizeof(char16_t) == sizeof(std::uint16_t) && alignof(char16_t) == alignof(std::uint16_t));
-    return lbk_breaks_utf16(table, state, reinterpret_cast<const std::uint16_t *>(text), size, block, room);
-}
+/// What a call gives of a text of units, as break_view does of one in UTF-8. Places are in units, each of which is a Number to C.
+template <typename Unit, typename Number, auto Next>
+class unit_view {
+    static_assert(sizeof(Unit) == sizeof(Number) && alignof(Unit) == alignof(Number));
 
-inline std::size_t next_breaks(const lbk_table *table, lbk_state *state, const char32_t *text, std::size_t size, lbk_break *block,
-                               std::size_t room) noexcept
-{
-    static_assert(sizeof(char32_t) == sizeof(std::uint32_t) && alignof(char32_t) == alignof(std::uint32_t));
-    return lbk_breaks_utf32(table, state, reinterpret_cast<const std::uint32_t *>(text), size, block, room);
-}
-
-/// A wide character is a number of 32 bits wherever the library is.
-inline std::size_t next_breaks(const lbk_table *table, lbk_state *state, const wchar_t *text, std::size_t size, lbk_break *block,
-                               std::size_t room) noexcept
-{
-    static_assert(std::is_same_v<std::make_unsigned_t<wchar_t>, std::uint32_t>);
-    return lbk_breaks_utf32(table, state, reinterpret_cast<const std::uint32_t *>(text), size, block, room);
-}
-
-/// The breaks of a text of units, as lbk::breaks are those of a text in UTF-8. Places are in units.
-template <typename Unit>
-class unit_breaks {
     struct call : break_state {
         using value_type = lbk_break;
 
@@ -656,7 +636,7 @@ class unit_breaks {
         std::size_t operator()(lbk_break *block, std::size_t room, lbk_state &after) const noexcept
         {
             after = now();
-            return next_breaks(table, &after, text, size, block, room);
+            return Next(table, &after, reinterpret_cast<const Number *>(text), size, block, room);
         }
 
         static std::size_t place(lbk_break one) noexcept { return one.at; }
@@ -670,16 +650,16 @@ public:
     using const_iterator = iterator;
     using value_type = lbk_break;
 
-    unit_breaks(const lbk_table &by, std::basic_string_view<Unit> text, profile rules = profile::first) noexcept
+    unit_view(const lbk_table &by, std::basic_string_view<Unit> text, profile rules = profile::first) noexcept
         : start_(by, text, static_cast<int>(rules))
     {
     }
 
     /// A temporary would be gone before the range is gone through.
-    unit_breaks(const lbk_table &&, std::basic_string_view<Unit>, profile = profile::first) = delete;
-    unit_breaks(const table &&, std::basic_string_view<Unit>, profile = profile::first) = delete;
+    unit_view(const lbk_table &&, std::basic_string_view<Unit>, profile = profile::first) = delete;
+    unit_view(const table &&, std::basic_string_view<Unit>, profile = profile::first) = delete;
     template <typename Text, typename = std::enable_if_t<std::is_same_v<Text, std::basic_string<Unit>>>>
-    unit_breaks(const lbk_table &, Text &&, profile = profile::first) = delete;
+    unit_view(const lbk_table &, Text &&, profile = profile::first) = delete;
 
     iterator begin() const noexcept { return iterator(start_); }
     iterator end() const noexcept { return iterator(); }
@@ -691,13 +671,18 @@ private:
 } // namespace detail
 
 /// The breaks of a text in UTF-16 in their order. A surrogate that stands alone is read as U+FFFD.
-using breaks_utf16 = detail::unit_breaks<char16_t>;
+using breaks_utf16 = detail::unit_view<char16_t, std::uint16_t, &lbk_breaks_utf16>;
 
 /// The breaks of a text in UTF-32 in their order. A unit that is no scalar value is read as U+FFFD.
-using breaks_utf32 = detail::unit_breaks<char32_t>;
+using breaks_utf32 = detail::unit_view<char32_t, std::uint32_t, &lbk_breaks_utf32>;
 
-/// The same of wide characters.
-using breaks_wide = detail::unit_breaks<wchar_t>;
+/// The same of wide characters, which have 32 bits wherever the library is.
+using breaks_wide = detail::unit_view<wchar_t, std::uint32_t, &lbk_breaks_utf32>;
+
+/// All positions of a text in UTF-16, in UTF-32 or of wide characters, as lbk::positions are those of a text in UTF-8.
+using positions_utf16 = detail::unit_view<char16_t, std::uint16_t, &lbk_positions_utf16>;
+using positions_utf32 = detail::unit_view<char32_t, std::uint32_t, &lbk_positions_utf32>;
+using positions_wide = detail::unit_view<wchar_t, std::uint32_t, &lbk_positions_utf32>;
 
 } // namespace lbk
 
@@ -710,10 +695,10 @@ template <>
 inline constexpr bool std::ranges::enable_view<lbk::words> = true;
 template <>
 inline constexpr bool std::ranges::enable_borrowed_range<lbk::words> = true;
-template <typename Unit>
-inline constexpr bool std::ranges::enable_view<lbk::detail::unit_breaks<Unit>> = true;
-template <typename Unit>
-inline constexpr bool std::ranges::enable_borrowed_range<lbk::detail::unit_breaks<Unit>> = true;
+template <typename Unit, typename Number, auto Next>
+inline constexpr bool std::ranges::enable_view<lbk::detail::unit_view<Unit, Number, Next>> = true;
+template <typename Unit, typename Number, auto Next>
+inline constexpr bool std::ranges::enable_borrowed_range<lbk::detail::unit_view<Unit, Number, Next>> = true;
 #endif
 
 #endif

@@ -78,6 +78,29 @@ static void *do_positions(void *none)
     return none;
 }
 
+/* The bytes of the text as if they were units of 16 and of 32 bits, which may be any. */
+static void *do_units(void *none)
+{
+    const uint16_t *units = (const void *)text.at;
+    const uint32_t *wide = (const void *)text.at;
+    lbk_state state[4] = {{.profile = profile}, {.profile = profile}, {.profile = profile}, {.profile = profile}};
+    bool more;
+    do {
+        size_t counts[4] = {
+            lbk_breaks_utf16(&table, &state[0], units, text.size / 2, block, ROOM),
+            lbk_breaks_utf32(&table, &state[1], wide, text.size / 4, block, ROOM),
+            lbk_positions_utf16(&table, &state[2], units, text.size / 2, block, ROOM),
+            lbk_positions_utf32(&table, &state[3], wide, text.size / 4, block, ROOM),
+        };
+        more = false;
+        for (int k = 0; k < 4; k++) {
+            total += counts[k];
+            more |= counts[k] == ROOM;
+        }
+    } while (more);
+    return none;
+}
+
 static void *do_feed(void *none)
 {
     lbk_stream stream = {0};
@@ -161,6 +184,8 @@ static void try_text(void)
         told("lbk_feed gives as many breaks as lbk_breaks", total == breaks);
         run_in_thread("lbk_positions", do_positions);
         told("lbk_positions gives positions", total > breaks);
+        run_in_thread("UTF-16, UTF-32", do_units);
+        told("each unit of 32 bits has a position, and the end", total > text.size / 4);
     }
     run_in_thread("lbk_words", do_words);
     told("lbk_words gives words", total > 0 || text.size == 0);

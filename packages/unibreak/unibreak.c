@@ -158,54 +158,27 @@ static void set_marks(const lbk_break *block, size_t count, char *brks)
             brks[block[k].at - 1] = marks[block[k].kind];
 }
 
-void set_linebreaks_utf8(const utf8_t *s, size_t len, const char *lang, char *brks)
-{
-    lbk_state state = {0};
-    lbk_break block[ROOM];
-    size_t count;
-    (void)lang;
-    if (!is_known(brks, len))
-        return;
-    /* Each position is given, so what is left is inside of a scalar. */
-    memset(brks, LINEBREAK_INSIDEACHAR, len);
-    do {
-        count = lbk_positions(table, &state, (const char *)s, len, block, ROOM);
-        set_marks(block, count, brks);
-    } while (count == ROOM);
-}
+/* The marks of a text, of which a call gives some places: all else is `others`. */
+#define SET_LINEBREAKS(name, unit, others, call, number)                          \
+    void name(const unit *s, size_t len, const char *lang, char *brks)            \
+    {                                                                             \
+        lbk_state state = {0};                                                    \
+        lbk_break block[ROOM];                                                    \
+        size_t count;                                                             \
+        (void)lang;                                                               \
+        if (!is_known(brks, len))                                                 \
+            return;                                                               \
+        memset(brks, others, len);                                                \
+        do {                                                                      \
+            count = call(table, &state, (const number *)s, len, block, ROOM);     \
+            set_marks(block, count, brks);                                        \
+        } while (count == ROOM);                                                  \
+    }
 
-void set_linebreaks_utf16(const utf16_t *s, size_t len, const char *lang, char *brks)
-{
-    lbk_state state = {0};
-    lbk_break block[ROOM];
-    size_t count;
-    (void)lang;
-    if (!is_known(brks, len))
-        return;
-    memset(brks, LINEBREAK_NOBREAK, len);
-    for (size_t k = 1; k < len; k++)
-        if ((s[k - 1] & 0xFC00) == 0xD800 && (s[k] & 0xFC00) == 0xDC00)
-            brks[k - 1] = LINEBREAK_INSIDEACHAR;
-    do {
-        count = lbk_breaks_utf16(table, &state, s, len, block, ROOM);
-        set_marks(block, count, brks);
-    } while (count == ROOM);
-}
-
-void set_linebreaks_utf32(const utf32_t *s, size_t len, const char *lang, char *brks)
-{
-    lbk_state state = {0};
-    lbk_break block[ROOM];
-    size_t count;
-    (void)lang;
-    if (!is_known(brks, len))
-        return;
-    memset(brks, LINEBREAK_NOBREAK, len);
-    do {
-        count = lbk_breaks_utf32(table, &state, s, len, block, ROOM);
-        set_marks(block, count, brks);
-    } while (count == ROOM);
-}
+/* Beside the positions there are places inside of scalars; in UTF-32 each place is a position. */
+SET_LINEBREAKS(set_linebreaks_utf8, utf8_t, LINEBREAK_INSIDEACHAR, lbk_positions, char)
+SET_LINEBREAKS(set_linebreaks_utf16, utf16_t, LINEBREAK_INSIDEACHAR, lbk_positions_utf16, uint16_t)
+SET_LINEBREAKS(set_linebreaks_utf32, utf32_t, LINEBREAK_NOBREAK, lbk_breaks_utf32, uint32_t)
 
 int is_line_breakable(utf32_t char1, utf32_t char2, const char *lang)
 {

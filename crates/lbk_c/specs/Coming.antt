@@ -10,7 +10,7 @@ use Rattle.lbk_bytes.specs.declared.fill_state.FillState.{FillState}
 use Rattle.lbk_c.specs.declared.interface.State.{State}
 use Rattle.lbk_c.specs.State.{goes_on, plain, profile_numbered}
 use Rattle.lbk_bytes.specs.Bytes.{end_in}
-use Rattle.lbk_bytes.specs.Reached.{Onward, ReachedBy, onward_all, onward_to}
+use Rattle.lbk_bytes.specs.Reached.{Onward, ReachedBy, onward_to}
 
 -- where a state stands in a text
 abbrev pub from_state : State → FillState
@@ -53,7 +53,3 @@ onward_in number = onward_to (end_in (goes_on number))
 -- the same of breaks
 abbrev pub Comes : (ℕ → Cell) → FlatTable → List ℕ → State → List Break → Type 0
 Comes cell table text state to_come = ComesBy (onward_in state.profile) cell table text (plain state) to_come
-
--- the same of all positions
-abbrev pub PositionsCome : (ℕ → Cell) → FlatTable → List ℕ → State → List Break → Type 0
-PositionsCome = ComesBy onward_all

@@ -1,5 +1,4 @@
 -- What a reader has to believe.
-pub mod Positions
 pub mod Labels
 pub mod State
 pub mod Faults

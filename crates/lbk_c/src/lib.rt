@@ -31,7 +31,7 @@ pub use lbk_bytes::RawBreak;
 pub use lbk_cuts::joined_parts;
 pub use lbk_streams::{Fed, Stream, bytes_that_could_go_on};
 pub use lbk_units::same_in_each_encoding;
-pub use positions::lbk_positions;
+pub use positions::{lbk_positions, lbk_positions_utf16, lbk_positions_utf32};
 pub use streaming::lbk_feed;
 pub use table_reading::{lbk_read, lbk_read_published};
 pub use texts::{lbk_cause_text, lbk_file_name, lbk_version};

@@ -9,6 +9,7 @@ ghost use Rattle.lbk_values.specs.declared.profile.Profile.{Profile};
 ghost use Rattle.lbk_rules.specs.Breaks.{breaks};
 ghost use Rattle.lbk_steps.specs.FlatTable.{IsFlatBy, IsFlatOf};
 ghost use Rattle.lbk_bytes.specs.Order.{AreInOrder};
+ghost use Rattle.lbk_bytes.specs.Reached.{onward};
 ghost use Rattle.lbk_bytes.specs.Shown.{given_in};
 ghost use Rattle.lbk_units.specs.Encodings.{encode_utf16_all, placed_in};
 ghost use Rattle.lbk_units.specs.Reached.{UnitsReached, on_from};
@@ -158,7 +159,7 @@ fn go_on<U: Unit>(
     ensures at_end { 0 < state.new.ended → state.new.at ≡ length text.now }
     ensures goes { (cell : ℕ → Cell) (lefts : List Left) (to_come : List Break) → IsFlatBy lefts table.now cell
         → UnitsReached profile cell lefts (on_from U.pieces_of text.now) to_come (from_state state.old) []
-        → UnitsGo U.pieces_of profile cell lefts text.now to_come state.new (given_in out.new result) result (length out.old) }
+        → UnitsGo onward U.pieces_of profile cell lefts text.now to_come state.new (given_in out.new result) result (length out.old) }
     ensures no_room { length out.old ≡ 0 → (result ≡ 0) × (state.new ≡ state.old) }
 {
     let start = FillState {

@@ -1,5 +1,5 @@
 -- The same scalars in several encodings.
-use Rattle.std.proofs.Common.{◌≡◌, ℕ, ◌+◌, ◌-◌, ◌/◌, ◌%◌, ◌<◌, ◌≤◌, ◌⊎◌, ⊎_elim, inl, inr, true, false, cond, Some, List, [], ◌∷◌, ◌++◌, append_assoc, length, map, take, refl, sym, ap, ◌∙◌, arith}
+use Rattle.std.proofs.Common.{◌≡◌, ℕ, ◌+◌, ◌-◌, ◌/◌, ◌%◌, ◌<◌, ◌≤◌, ◌⊎◌, ⊎_elim, inl, inr, true, false, cond, not, Some, List, [], ◌∷◌, ◌++◌, append_assoc, length, map, take, refl, sym, ap, ◌∙◌, arith}
 use Rattle.std.specs.Char.{IsScalar, encode_utf8}
 use Rattle.std.specs.Char.Escape.{encode_utf16}
 use Rattle.std.specs.Char.Utf16.{surrogate_pair_char, utf16_chars}
@@ -16,10 +16,13 @@ use Rattle.lbk_values.specs.declared.profile.Profile.{Profile}
 use Rattle.lbk_rules.specs.declared.verdicts.Verdict.{Verdict}
 use Rattle.lbk_rules.specs.Breaks.{break_by, is_no}
 use Rattle.lbk_rules.specs.Marks.{Marked, marks}
+use Rattle.lbk_rules.specs.Verdict.{verdict_between_in}
+use Rattle.lbk_rules.proofs.EndLemmas.{start_of_text}
 use Rattle.lbk_words.proofs.WellFormedLemmas.{pieces-encode}
 use Rattle.lbk_bytes.specs.Bytes.{breaks_after, breaks_of_bytes, with_break}
 use Rattle.lbk_bytes.specs.Reached.{scalars_of}
 use Rattle.lbk_units.specs.Encodings.{encode_utf16_all, placed_in}
+use Rattle.lbk_units.specs.Positions.{breaks_among, positions_after, positions_of_bytes, positions_of_pieces, positions_of_utf16, positions_of_utf32}
 use Rattle.lbk_units.specs.Units.{breaks_of_pieces, breaks_of_utf16, breaks_of_utf32, pieces_of_utf16, pieces_of_utf32, utf16_piece}
 use Rattle.lbk_units.proofs.UnitLemmas.{lone-high, lone-low}
 
@@ -101,21 +104,11 @@ joins8 (x ∷ xs) c =
     let rest = joins8 xs c in
     omega (arith, on, here, rest)
 
--- The breaks
-
-placed-more : (encode : List ℕ → List ℕ) (all : List ℕ) (at place : ℕ) (verdict : Verdict) (more : List Break) → length (encode (take at all)) ≡ place
-    → with_break place verdict (map (placed_in encode all) more) ≡ map (placed_in encode all) (with_break at verdict more)
-placed-more encode all at place verdict more same =
-    elim (is_no verdict.kind)
-    as (λ no. cond no (map (placed_in encode all) more) (break_by place verdict ∷ map (placed_in encode all) more)
-    ≡ map (placed_in encode all) (cond no more (break_by at verdict ∷ more))) [
-      | true ↦ refl
-      | false ↦ ap (λ n. break_by n verdict ∷ map (placed_in encode all) more) (sym same)
-    ]
+-- The positions
 
 after-placed : (encode : List ℕ → List ℕ) (size : ℕ → ℕ) → ((xs : List ℕ) (c : ℕ) → length (encode (xs ++ c ∷ [])) ≡ length (encode xs) + size c)
     → (all before cs : List ℕ) (ms : List Marked) → all ≡ before ++ cs
-    → breaks_after (length (encode before)) (map (sized size) cs) ms ≡ map (placed_in encode all) (breaks_after (length before) (map (sized one) cs) ms)
+    → positions_after (length (encode before)) (map (sized size) cs) ms ≡ map (placed_in encode all) (positions_after (length before) (map (sized one) cs) ms)
 after-placed encode size joins all before [] ms same = refl
 after-placed encode size joins all before (c ∷ cs) [] same = refl
 after-placed encode size joins all before (c ∷ cs) (m ∷ ms) same =
@@ -125,28 +118,78 @@ after-placed encode size joins all before (c ∷ cs) (m ∷ ms) same =
     let here : length (encode before) + size c ≡ place = sym (joins before c) in
     let count : length before + 1 ≡ length on = sym (length-append before (c ∷ [])) in
     let front : take (length on) all ≡ on = ap (take (length on)) split ∙ take_at on cs (length on) refl in
-    ap (λ n. with_break n m.after (breaks_after n (map (sized size) cs) ms)) here
-    ∙ ap (with_break place m.after) (after-placed encode size joins all on cs ms split)
-    ∙ placed-more encode all (length on) place m.after (breaks_after (length on) (map (sized one) cs) ms) (ap (λ l. length (encode l)) front)
-    ∙ ap (λ n. map (placed_in encode all) (with_break n m.after (breaks_after n (map (sized one) cs) ms))) (sym count)
+    ap (λ n. break_by n m.after ∷ positions_after n (map (sized size) cs) ms) here
+    ∙ ap (λ l. break_by place m.after ∷ l) (after-placed encode size joins all on cs ms split)
+    ∙ ap (λ n. break_by n m.after ∷ map (placed_in encode all) (positions_after (length on) (map (sized one) cs) ms)) (ap (λ l. length (encode l)) (sym front))
+    ∙ ap (λ n. map (placed_in encode all) (break_by n m.after ∷ positions_after n (map (sized one) cs) ms)) (sym count)
 
--- the breaks of some scalars in an encoding
+-- the positions of some scalars in an encoding
 encoded : (encode : List ℕ → List ℕ) (size : ℕ → ℕ) → ((xs : List ℕ) (c : ℕ) → length (encode (xs ++ c ∷ [])) ≡ length (encode xs) + size c)
     → length (encode []) ≡ 0 → (profile : Profile) (cell : ℕ → Cell) (cs : List ℕ) (ps : List Decoded) → ps ≡ map (sized size) cs → scalars cs ≡ true
-    → breaks_of_pieces profile cell ps ≡ map (placed_in encode cs) (breaks_of_utf32 profile cell cs)
+    → positions_of_pieces profile cell ps ≡ map (placed_in encode cs) (positions_of_utf32 profile cell cs)
 encoded encode size joins empty profile cell cs ps are all =
     let told = marks profile cell cs in
-    ap (breaks_of_pieces profile cell) are
-    ∙ ap (λ l. breaks_after 0 (map (sized size) cs) (marks profile cell l)) (scalars-sized size cs)
-    ∙ ap (λ n. breaks_after n (map (sized size) cs) told) (sym empty)
-    ∙ after-placed encode size joins cs [] cs told refl
+    let first = verdict_between_in profile [] (map cell cs) in
+    ap (positions_of_pieces profile cell) are
+    ∙ ap (λ l. break_by 0 (verdict_between_in profile [] (map cell l)) ∷ positions_after 0 (map (sized size) cs) (marks profile cell l)) (scalars-sized size cs)
+    ∙ ap (λ n. break_by n first ∷ positions_after n (map (sized size) cs) told) (sym empty)
+    ∙ ap (λ l. break_by (length (encode [])) first ∷ l) (after-placed encode size joins cs [] cs told refl)
     ∙ sym (ap (map (placed_in encode cs))
-    (ap (breaks_of_pieces profile cell) (pieces-utf32 cs all) ∙ ap (λ l. breaks_after 0 (map (sized one) cs) (marks profile cell l)) (scalars-sized one cs)))
+    (ap (positions_of_pieces profile cell) (pieces-utf32 cs all)
+    ∙ ap (λ l. break_by 0 (verdict_between_in profile [] (map cell l)) ∷ positions_after 0 (map (sized one) cs) (marks profile cell l)) (scalars-sized one cs)))
+
+pub positions-utf16 : (profile : Profile) (cell : ℕ → Cell) (cs : List ℕ) → scalars cs ≡ true
+    → positions_of_utf16 profile cell (encode_utf16_all cs) ≡ map (placed_in encode_utf16_all cs) (positions_of_utf32 profile cell cs)
+positions-utf16 profile cell cs all = encoded encode_utf16_all units16 joins16 refl profile cell cs (pieces_of_utf16 (encode_utf16_all cs)) (pieces-utf16 cs all) all
+
+pub positions-utf8 : (profile : Profile) (cell : ℕ → Cell) (cs : List ℕ) → scalars cs ≡ true
+    → positions_of_bytes profile cell (encode_utf8_all cs) ≡ map (placed_in encode_utf8_all cs) (positions_of_utf32 profile cell cs)
+positions-utf8 profile cell cs all = encoded encode_utf8_all units8 joins8 refl profile cell cs (pieces (encode_utf8_all cs)) (pieces-encode cs all) all
+
+-- The breaks, which are among them
+
+after-among : (at : ℕ) (ps : List Decoded) (ms : List Marked) → breaks_among (positions_after at ps ms) ≡ breaks_after at ps ms
+after-among at [] ms = refl
+after-among at (p ∷ ps) [] = refl
+after-among at (p ∷ ps) (m ∷ ms) =
+    let next = at + p.size in
+    let rest = breaks_among (positions_after next ps ms) in
+    (elim (is_no m.after.kind) as (λ k. cond (not k) (break_by next m.after ∷ rest) rest ≡ cond k rest (break_by next m.after ∷ rest)) [
+      | true ↦ refl
+      | false ↦ refl
+    ])
+    ∙ ap (with_break next m.after) (after-among next ps ms)
+
+pub breaks-among : (profile : Profile) (cell : ℕ → Cell) (ps : List Decoded) → breaks_among (positions_of_pieces profile cell ps) ≡ breaks_of_pieces profile cell ps
+breaks-among profile cell ps =
+    let told = marks profile cell (scalars_of ps) in
+    ap (λ (v : Verdict). breaks_among (break_by 0 v ∷ positions_after 0 ps told)) (start_of_text profile (map cell (scalars_of ps)))
+    ∙ after-among 0 ps told
+
+among-placed : (encode : List ℕ → List ℕ) (all : List ℕ) (found : List Break) → breaks_among (map (placed_in encode all) found) ≡ map (placed_in encode all) (breaks_among found)
+among-placed encode all [] = refl
+among-placed encode all (one ∷ more) =
+    let there = placed_in encode all one in
+    let rest = map (placed_in encode all) (breaks_among more) in
+    ap (λ l. cond (not (is_no one.kind)) (there ∷ l) l) (among-placed encode all more)
+    ∙ (elim (is_no one.kind) as (λ k. cond (not k) (there ∷ rest) rest ≡ map (placed_in encode all) (cond (not k) (one ∷ breaks_among more) (breaks_among more))) [
+      | true ↦ refl
+      | false ↦ refl
+    ])
+
+breaks-placed : (encode : List ℕ → List ℕ) (profile : Profile) (cell : ℕ → Cell) (cs : List ℕ) (ps : List Decoded)
+    → positions_of_pieces profile cell ps ≡ map (placed_in encode cs) (positions_of_utf32 profile cell cs)
+    → breaks_of_pieces profile cell ps ≡ map (placed_in encode cs) (breaks_of_utf32 profile cell cs)
+breaks-placed encode profile cell cs ps placed =
+    sym (breaks-among profile cell ps)
+    ∙ ap breaks_among placed
+    ∙ among-placed encode cs (positions_of_utf32 profile cell cs)
+    ∙ ap (map (placed_in encode cs)) (breaks-among profile cell (pieces_of_utf32 cs))
 
 pub breaks-utf16 : (profile : Profile) (cell : ℕ → Cell) (cs : List ℕ) → scalars cs ≡ true
     → breaks_of_utf16 profile cell (encode_utf16_all cs) ≡ map (placed_in encode_utf16_all cs) (breaks_of_utf32 profile cell cs)
-breaks-utf16 profile cell cs all = encoded encode_utf16_all units16 joins16 refl profile cell cs (pieces_of_utf16 (encode_utf16_all cs)) (pieces-utf16 cs all) all
+breaks-utf16 profile cell cs all = breaks-placed encode_utf16_all profile cell cs (pieces_of_utf16 (encode_utf16_all cs)) (positions-utf16 profile cell cs all)
 
 pub breaks-utf8 : (profile : Profile) (cell : ℕ → Cell) (cs : List ℕ) → scalars cs ≡ true
     → breaks_of_bytes profile cell (encode_utf8_all cs) ≡ map (placed_in encode_utf8_all cs) (breaks_of_utf32 profile cell cs)
-breaks-utf8 profile cell cs all = encoded encode_utf8_all units8 joins8 refl profile cell cs (pieces (encode_utf8_all cs)) (pieces-encode cs all) all
+breaks-utf8 profile cell cs all = breaks-placed encode_utf8_all profile cell cs (pieces (encode_utf8_all cs)) (positions-utf8 profile cell cs all)

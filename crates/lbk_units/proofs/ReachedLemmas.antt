@@ -1,5 +1,5 @@
 -- How far a call has come, scalar by scalar.
-use Rattle.std.proofs.Common.{◌≡◌, ℕ, ◌+◌, ◌<◌, List, [], ◌∷◌, ◌++◌, drop, get_or, map, append_assoc, reverse, sym, ap, subst, ◌∙◌, arith}
+use Rattle.std.proofs.Common.{◌≡◌, ℕ, ◌+◌, ◌<◌, List, [], ◌∷◌, ◌++◌, drop, get_or, map, append_assoc, reverse, refl, sym, ap, subst, ◌∙◌, arith}
 use Rattle.std.specs.Char.{IsScalar}
 use Rattle.std.proofs.lemmas.List.{length-append}
 use Rattle.bstr.specs.Utf8.{Decoded, or_replacement}
@@ -11,6 +11,7 @@ use Rattle.lbk_steps.specs.declared.flat_table.FlatTable.{FlatTable}
 use Rattle.lbk_steps.specs.declared.flat_table.TheConstants.{HELD}
 use Rattle.lbk_values.specs.declared.profile.Profile.{Profile}
 use Rattle.lbk_rules.specs.declared.verdicts.Verdict.{Verdict}
+use Rattle.lbk_rules.specs.Breaks.{break_by}
 use Rattle.lbk_rules.specs.Codes.{IsCode, verdict_coded}
 use Rattle.lbk_rules.specs.Facts.{facts}
 use Rattle.lbk_rules.specs.Normal.{normal}
@@ -24,42 +25,59 @@ use Rattle.lbk_bytes.specs.declared.deciding.Decided.{Decided}
 use Rattle.lbk_bytes.specs.declared.fill_state.FillState.{FillState}
 use Rattle.lbk_bytes.specs.declared.raw_break.RawBreak.{RawBreak}
 use Rattle.lbk_bytes.specs.Bytes.{with_break}
-use Rattle.lbk_bytes.specs.Reached.{AreSwift, IsSwiftStep, onward, scalars_of}
+use Rattle.lbk_bytes.specs.Reached.{AreSwift, IsSwiftStep, Onward, onward, onward_all, scalars_of}
 use Rattle.lbk_bytes.specs.Shown.{given_in}
 use Rattle.lbk_bytes.proofs.ReachedLemmas.{with_break-more}
 use Rattle.lbk_bytes.proofs.StepLemmas.{decides-text, flat_step_at, knows-more}
 use Rattle.lbk_units.specs.declared.unit.Piece.{Piece}
-use Rattle.lbk_units.specs.Reached.{IsUnitDecided, UnitsReached, on_from}
+use Rattle.lbk_units.specs.Reached.{IsUnitDecided, UnitsReached, UnitsReachedBy, on_from}
 use Rattle.lbk_units.proofs.UnitLemmas.{IsFrontAt}
 
--- one more scalar
-pub reached-step : (profile : Profile) (cell : ℕ → Cell) (lefts : List Left) (on : ℕ → List Decoded) (all : List Break) (here there : FillState) (given after : List Break)
-    (p : Decoded) (verdict : Verdict) (r : UnitsReached profile cell lefts on all here given)
-    → on here.at ≡ p ∷ on there.at → there.at ≡ here.at + p.size → 0 < p.size
-    → KnowsTaken cell lefts there.row (r.taken ++ or_replacement p.char ∷ [])
-    → verdict ≡ verdict_between_in profile (map cell r.taken) (cell (or_replacement p.char) ∷ map cell (scalars_of (on there.at)))
-    → after ≡ given ++ with_break here.at verdict []
-    → UnitsReached profile cell lefts on all there after
-reached-step profile cell lefts on all here there given after p verdict r begins moved more knows decides grown =
-    let c = or_replacement p.char in
-    let rest = on there.at in
-    let taken = r.taken ++ c ∷ [] in
-    let further = onward profile cell taken there.at rest in
-    let stepped : onward profile cell r.taken here.at (p ∷ rest) ≡ with_break here.at verdict further =
-    ap (λ v. with_break here.at v (onward profile cell taken (here.at + p.size) rest)) (sym decides)
-    ∙ ap (λ n. with_break here.at verdict (onward profile cell taken n rest)) (sym moved) in
-    let longer = length-append r.taken (c ∷ []) in
-    record {
-      taken = taken;
-      knows = knows;
-      some = λ _. omega arith;
-      joined =
-          r.joined
-          ∙ ap (λ ps. given ++ onward profile cell r.taken here.at ps) begins
-          ∙ ap (λ l. given ++ l) (stepped ∙ with_break-more here.at verdict further)
-          ∙ sym (append_assoc given (with_break here.at verdict []) further)
-          ∙ ap (λ g. g ++ further) (sym grown);
-    }
+-- one more scalar, before which `add` adds what is given
+module _ (from : Onward) (add : ℕ → Verdict → List Break → List Break)
+    (steps : (profile : Profile) (cell : ℕ → Cell) (before : List ℕ) (at : ℕ) (p : Decoded) (ps : List Decoded)
+    → from profile cell before at (p ∷ ps)
+    ≡ add at (verdict_between_in profile (map cell before) (map cell (scalars_of (p ∷ ps)))) (from profile cell (before ++ or_replacement p.char ∷ []) (at + p.size) ps))
+    (adds : (at : ℕ) (verdict : Verdict) (more : List Break) → add at verdict more ≡ add at verdict [] ++ more) where
+  pub reached-step : (profile : Profile) (cell : ℕ → Cell) (lefts : List Left) (on : ℕ → List Decoded) (all : List Break) (here there : FillState) (given after : List Break)
+      (p : Decoded) (verdict : Verdict) (r : UnitsReachedBy from profile cell lefts on all here given)
+      → on here.at ≡ p ∷ on there.at → there.at ≡ here.at + p.size → 0 < p.size
+      → KnowsTaken cell lefts there.row (r.taken ++ or_replacement p.char ∷ [])
+      → verdict ≡ verdict_between_in profile (map cell r.taken) (cell (or_replacement p.char) ∷ map cell (scalars_of (on there.at)))
+      → after ≡ given ++ add here.at verdict []
+      → UnitsReachedBy from profile cell lefts on all there after
+  reached-step profile cell lefts on all here there given after p verdict r begins moved more knows decides grown =
+      let c = or_replacement p.char in
+      let rest = on there.at in
+      let taken = r.taken ++ c ∷ [] in
+      let further = from profile cell taken there.at rest in
+      let stepped : from profile cell r.taken here.at (p ∷ rest) ≡ add here.at verdict further =
+      steps profile cell r.taken here.at p rest
+      ∙ ap (λ v. add here.at v (from profile cell taken (here.at + p.size) rest)) (sym decides)
+      ∙ ap (λ n. add here.at verdict (from profile cell taken n rest)) (sym moved) in
+      let longer = length-append r.taken (c ∷ []) in
+      record {
+        taken = taken;
+        knows = knows;
+        some = λ _. omega arith;
+        joined =
+            r.joined
+            ∙ ap (λ ps. given ++ from profile cell r.taken here.at ps) begins
+            ∙ ap (λ l. given ++ l) (stepped ∙ adds here.at verdict further)
+            ∙ sym (append_assoc given (add here.at verdict []) further)
+            ∙ ap (λ g. g ++ further) (sym grown);
+      }
+
+  -- by what follows
+  pub step-decided : (profile : Profile) (cell : ℕ → Cell) (lefts : List Left) (on : ℕ → List Decoded) (all : List Break) (here : FillState) (next : ℕ) (given after : List Break) (found : Decided)
+      → ((taken : List ℕ) → KnowsTaken cell lefts here.row taken → IsUnitDecided profile cell lefts on here.at taken found)
+      → (IsCode found.code → after ≡ given ++ add here.at (verdict_coded found.code) [])
+      → UnitsReachedBy from profile cell lefts on all here given
+      → UnitsReachedBy from profile cell lefts on all (record { count = next; row = found.row; at = found.at }) after
+  step-decided profile cell lefts on all here next given after found decided front r =
+      let d = decided r.taken r.knows in
+      reached-step profile cell lefts on all here (record { count = next; row = found.row; at = found.at })
+      given after d.piece (verdict_coded found.code) r d.begins d.moved d.some d.knows d.decides (front d.coded)
 
 -- by a step that decides
 pub reached-swift : (profile : Profile) (cell : ℕ → Cell) (lefts : List Left) (on : ℕ → List Decoded) (all : List Break) (steps : List FlatStep) (kinds : List ℕ)
@@ -76,7 +94,7 @@ reached-swift profile cell lefts on all steps kinds out after count next row at 
     let here : IsSwiftStep profile lefts (left_at lefts row) (kind_cell kind) step =
     subst (λ s. IsSwiftStep profile lefts (left_at lefts row) (kind_cell kind) s) (sym same) (swift row kind r.knows.0 is_kind.0) in
     let right = map cell (scalars_of (on (at + size))) in
-    reached-step profile cell lefts on all (record { count = count; row = row; at = at }) (record { count = next; row = step.next; at = at + size })
+    reached-step onward with_break (λ profile cell before at p ps. refl) with_break-more profile cell lefts on all (record { count = count; row = row; at = at }) (record { count = next; row = step.next; at = at + size })
     (given_in out count) (given_in after next) p (verdict_coded step.code) r begins (ap (λ n. at + n) (sym sized)) (omega arith)
     (subst (λ x. KnowsTaken cell lefts step.next (r.taken ++ x ∷ [])) (sym reads)
     (knows-more cell lefts row step.next c kind is_kind.1 here.starts here.leads r.taken r.knows))
@@ -85,17 +103,21 @@ reached-swift profile cell lefts on all steps kinds out after count next row at 
     ∙ ap (λ x. verdict_between_in profile (map cell r.taken) (cell x ∷ right)) (sym reads))
     (front here.coded)
 
--- by what follows
-pub reached-decided : (profile : Profile) (cell : ℕ → Cell) (lefts : List Left) (on : ℕ → List Decoded) (all : List Break)
-    (out after : List RawBreak) (here : FillState) (next : ℕ) (found : Decided)
+-- of breaks
+pub reached-decided : (profile : Profile) (cell : ℕ → Cell) (lefts : List Left) (on : ℕ → List Decoded) (all : List Break) (here : FillState) (next : ℕ) (given after : List Break) (found : Decided)
     → ((taken : List ℕ) → KnowsTaken cell lefts here.row taken → IsUnitDecided profile cell lefts on here.at taken found)
-    → (IsCode found.code → given_in after next ≡ given_in out here.count ++ with_break here.at (verdict_coded found.code) [])
-    → UnitsReached profile cell lefts on all here (given_in out here.count)
-    → UnitsReached profile cell lefts on all (record { count = next; row = found.row; at = found.at }) (given_in after next)
-reached-decided profile cell lefts on all out after here next found decided front r =
-    let d = decided r.taken r.knows in
-    reached-step profile cell lefts on all here (record { count = next; row = found.row; at = found.at })
-    (given_in out here.count) (given_in after next) d.piece (verdict_coded found.code) r d.begins d.moved d.some d.knows d.decides (front d.coded)
+    → (IsCode found.code → after ≡ given ++ with_break here.at (verdict_coded found.code) [])
+    → UnitsReached profile cell lefts on all here given
+    → UnitsReached profile cell lefts on all (record { count = next; row = found.row; at = found.at }) after
+reached-decided = step-decided onward with_break (λ profile cell before at p ps. refl) with_break-more
+
+-- of positions
+pub position-decided : (profile : Profile) (cell : ℕ → Cell) (lefts : List Left) (on : ℕ → List Decoded) (all : List Break) (here : FillState) (next : ℕ) (given after : List Break) (found : Decided)
+    → ((taken : List ℕ) → KnowsTaken cell lefts here.row taken → IsUnitDecided profile cell lefts on here.at taken found)
+    → (IsCode found.code → after ≡ given ++ break_by here.at (verdict_coded found.code) ∷ [])
+    → UnitsReachedBy onward_all profile cell lefts on all here given
+    → UnitsReachedBy onward_all profile cell lefts on all (record { count = next; row = found.row; at = found.at }) after
+position-decided = step-decided onward_all (λ at verdict more. break_by at verdict ∷ more) (λ profile cell before at p ps. refl) (λ at verdict more. refl)
 
 pub unit-decided : {A : Type 0} (pieces_of : List A → List Decoded) (text rest : List A) (at : ℕ) (found : Piece)
     (profile : Profile) (cell : ℕ → Cell) (lefts : List Left) (taken : List ℕ) (table : FlatTable) (row code : ℕ) (step : FlatStep)

@@ -8,7 +8,8 @@ use Rattle.std.proofs.lemmas.Bool.Decides.{nat_tests}
 use Rattle.std.proofs.lemmas.List.{drop-drop, length-drop, take_all}
 use Rattle.std.proofs.lemmas.Str.{utf16_chars_lone, utf16_chars_pair}
 use lib.Utf8.{scalar, scalar_cases}
-use Rattle.bstr.specs.Utf8.{Decoded, bad, good, or_replacement}
+use Rattle.bstr.specs.Utf8.{Decoded, bad, decoded, good, or_replacement, pieces}
+use Rattle.bstr.proofs.lemmas.PieceLemmas.{piece-bounds, pieces-step}
 use Rattle.lbk_rules.specs.declared.cells.Cell.{Cell}
 use Rattle.lbk_rules.specs.Normal.{normal}
 use Rattle.lbk_bytes.specs.Reached.{scalars_of}
@@ -99,6 +100,22 @@ utf16-pair units c some pair same =
       sized = two-units x (omega arith);
       some = omega arith;
       within = omega arith;
+    }
+
+-- UTF-8
+
+pub utf8-front : (bs : List ℕ) (c size : ℕ) → 0 < length bs → c ≡ or_replacement (decoded bs).char → size ≡ (decoded bs).size
+    → IsFront pieces bs (record { scalar = c; size = size })
+utf8-front bs c size some reads sized =
+    let p = decoded bs in
+    let bounds = piece-bounds bs some in
+    record {
+      piece = p;
+      begins = pieces-step bs some ∙ ap (λ n. p ∷ pieces (drop n bs)) (sym sized);
+      reads = sym reads;
+      sized = sym sized;
+      some = omega (arith, bounds.0, sized);
+      within = omega (arith, bounds.2, sized);
     }
 
 -- UTF-32

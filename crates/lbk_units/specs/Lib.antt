@@ -1,5 +1,6 @@
 -- What a reader has to believe.
 pub mod Units
+pub mod Positions
 pub mod Encodings
 -- What only carries proofs.
 pub mod Front

@@ -10,7 +10,7 @@ use Rattle.lbk_rules.specs.Verdict.{verdict_between_in}
 use Rattle.lbk_steps.specs.FlatTable.{KnowsTaken}
 use Rattle.lbk_bytes.specs.declared.deciding.Decided.{Decided}
 use Rattle.lbk_bytes.specs.declared.fill_state.FillState.{FillState}
-use Rattle.lbk_bytes.specs.Reached.{onward, scalars_of}
+use Rattle.lbk_bytes.specs.Reached.{Onward, onward, scalars_of}
 
 -- the pieces of a text from each of its units on
 abbrev pub on_from : {A : Type 0} → (List A → List Decoded) → List A → ℕ → List Decoded
@@ -27,9 +27,13 @@ pub record IsUnitDecided (profile : Profile) (cell : ℕ → Cell) (lefts : List
   pub decides : verdict_coded found.code
       ≡ verdict_between_in profile (map cell taken) (cell (or_replacement piece.char) ∷ map cell (scalars_of (on found.at)))
 
--- of all these breaks some were given, and the others come from here on
-pub record UnitsReached (profile : Profile) (cell : ℕ → Cell) (lefts : List Left) (on : ℕ → List Decoded) (all : List Break) (here : FillState) (given : List Break) : Type 0 where
+-- of all these some were given, and the others come from here on
+pub record UnitsReachedBy (from : Onward) (profile : Profile) (cell : ℕ → Cell) (lefts : List Left) (on : ℕ → List Decoded) (all : List Break) (here : FillState) (given : List Break) : Type 0 where
   pub taken : List ℕ
   pub knows : KnowsTaken cell lefts here.row taken
   pub some : 0 < here.row → 0 < length taken
-  pub joined : all ≡ given ++ onward profile cell taken here.at (on here.at)
+  pub joined : all ≡ given ++ from profile cell taken here.at (on here.at)
+
+-- the same of breaks
+abbrev pub UnitsReached : Profile → (ℕ → Cell) → List Left → (ℕ → List Decoded) → List Break → FillState → List Break → Type 0
+UnitsReached = UnitsReachedBy onward

@@ -13,6 +13,7 @@ use lbk_rules::Profile;
 use lbk_steps::FlatTable;
 
 /// Decides the position before this unit, by the row there and by what follows, and takes the scalar that begins there.
+#[inline(always)]
 pub(crate) fn decide_unit<U: Unit>(
     table: &FlatTable,
     profile: Profile,

@@ -1,15 +1,18 @@
-//! The breaks of texts in UTF-16 and UTF-32: a block of breaks is filled from a place of the text on, as over bytes. What reads
-//! a scalar differs between the encodings, the steps do not.
+//! The breaks of texts in UTF-16 and UTF-32, and the positions of texts in UTF-8, too: a block is filled from a place of the
+//! text on, as with breaks over bytes. What reads a scalar differs between the encodings, the steps do not.
 #![tactic(auto)]
 
 mod ahead;
 mod deciding;
 mod filling;
 mod laws;
+mod positions;
 mod unit;
 mod utf16;
 mod utf32;
+mod utf8;
 
 pub use filling::fill_units;
 pub use laws::same_in_each_encoding;
+pub use positions::{fill_positions, put_position};
 pub use unit::{Piece, Unit};

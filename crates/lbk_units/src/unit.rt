@@ -9,7 +9,7 @@ ghost use Rattle.lbk_units.specs.Front.{IsFront};
 pub struct Piece {
     /// The scalar, or U+FFFD where none is spelled.
     pub scalar: char,
-    /// How many units it takes: where none is spelled, one.
+    /// How many units it takes: where none is spelled, one, or in UTF-8 all that could have begun one.
     pub size: usize,
 }
 

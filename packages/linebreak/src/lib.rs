@@ -22,7 +22,7 @@
 use core::ptr;
 use core::sync::atomic::{AtomicPtr, Ordering};
 
-use lbk::{Kind, Table};
+use lbk::{Kind, Profile, Table};
 
 /// The version of Unicode whose rules and properties these are.
 pub const UNICODE_VERSION: (u8, u8, u8) = (15, 0, 0);
@@ -45,12 +45,18 @@ pub fn linebreaks(s: &str) -> impl Iterator<Item = (usize, BreakOpportunity)> + 
     })
 }
 
-/// Divides a text before its last byte or earlier, so that the breaks of the second part are those of the text after the first.
+/// Divides a text so that the breaks of the second part are those of the text after the first, also where more text follows.
 ///
-/// It divides after the last line end that is followed by text, where there is one (rules LB4 and LB5), and else before all of
-/// the text. The crate unicode-linebreak also divides within lines.
+/// It divides at a break: the last one before the end of the text where as much is known of the text as of one that begins there,
+/// or else before all of it. The crate unicode-linebreak goes by pairs of classes, and divides elsewhere, too.
+///
+/// ```
+/// use unicode_linebreak::split_at_safe;
+///
+/// assert_eq!(split_at_safe("See p. 7, or so"), ("See p. 7, or ", "so"));
+/// ```
 pub fn split_at_safe(s: &str) -> (&str, &str) {
-    s.split_at(table().cut_before(s.as_bytes(), s.len().saturating_sub(1)))
+    s.split_at(table().safe_break(Profile::First, s.as_bytes()))
 }
 
 /// The table in the program, whose digest is checked once.

@@ -63,19 +63,24 @@ fn the_breaks_after_a_safe_place_do_not_depend_on_what_was_before() {
         let (before, after) = split_at_safe(&text);
         assert_eq!(format!("{before}{after}"), text);
         assert!(text.is_empty() || !after.is_empty(), "{text:?}");
-        let moved = linebreaks(after).map(|(at, kind)| (at + before.len(), kind));
-        assert!(
-            moved.eq(linebreaks(&text).filter(|(at, _)| *at > before.len())),
-            "{text:?}"
-        );
+        for more in PARTS {
+            let (text, after) = (format!("{text}{more}"), format!("{after}{more}"));
+            let moved = linebreaks(&after).map(|(at, kind)| (at + before.len(), kind));
+            assert!(
+                moved.eq(linebreaks(&text).filter(|(at, _)| *at > before.len())),
+                "{before:?}, {after:?}"
+            );
+        }
     }
 }
 
 #[test]
-fn a_safe_place_is_after_the_last_line_end_inside() {
-    assert_eq!(split_at_safe("a b\nc d"), ("a b\n", "c d"));
+fn a_safe_place_is_the_last_break_at_which_nothing_is_known() {
+    assert_eq!(split_at_safe("a b\nc d"), ("a b\nc ", "d"));
     assert_eq!(split_at_safe("a\nb\r\nc\n"), ("a\nb\r\n", "c\n"));
-    assert_eq!(split_at_safe("no end"), ("", "no end"));
+    assert_eq!(split_at_safe("one two"), ("one ", "two"));
+    assert_eq!(split_at_safe("一二三"), ("一二", "三"));
+    assert_eq!(split_at_safe("single"), ("", "single"));
     assert_eq!(split_at_safe(""), ("", ""));
 }
 

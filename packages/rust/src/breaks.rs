@@ -5,7 +5,7 @@ use core::iter::FusedIterator;
 use core::str;
 
 use crate::calls;
-use crate::found::{Call, Found};
+use crate::found::{ByBreaks, ByPositions, Found};
 use crate::table::Table;
 
 /// Which rules stand for quotation marks.
@@ -80,17 +80,9 @@ impl From<calls::Break> for Break {
     }
 }
 
-/// lbk_breaks
-#[derive(Clone)]
-struct ByBreaks;
-
-impl Call for ByBreaks {
-    const CALL: calls::Finding = calls::lbk_breaks;
-}
-
 /// The breaks of a text in their order. A copy goes on by itself.
 #[derive(Clone)]
-pub struct Breaks<'a>(Found<'a, ByBreaks>);
+pub struct Breaks<'a>(Found<'a, ByBreaks, u8>);
 
 impl<'a> Breaks<'a> {
     #[inline]
@@ -114,10 +106,7 @@ impl Iterator for Breaks<'_> {
 
     #[inline]
     fn size_hint(&self) -> (usize, Option<usize>) {
-        let (held, at) = self.0.held();
-        // Before each of the bytes that are left, and at the end.
-        let most = held + self.0.text().len().saturating_sub(at) + 1;
-        (held, Some(most))
+        self.0.left()
     }
 }
 
@@ -142,17 +131,20 @@ pub struct Position {
     pub rule: Rule,
 }
 
-/// lbk_positions
-#[derive(Clone)]
-struct ByPositions;
-
-impl Call for ByPositions {
-    const CALL: calls::Finding = calls::lbk_positions;
+impl From<calls::Break> for Position {
+    #[inline]
+    fn from(found: calls::Break) -> Position {
+        Position {
+            at: found.at,
+            kind: (found.kind != calls::NO).then(|| Break::from(found).kind),
+            rule: Rule(found.rule),
+        }
+    }
 }
 
 /// All positions of a text in their order. A copy goes on by itself.
 #[derive(Clone)]
-pub struct Positions<'a>(Found<'a, ByPositions>);
+pub struct Positions<'a>(Found<'a, ByPositions, u8>);
 
 impl<'a> Positions<'a> {
     #[inline]
@@ -166,12 +158,12 @@ impl Iterator for Positions<'_> {
 
     #[inline]
     fn next(&mut self) -> Option<Position> {
-        let found = self.0.next()?;
-        Some(Position {
-            at: found.at,
-            kind: (found.kind != calls::NO).then(|| Break::from(found).kind),
-            rule: Rule(found.rule),
-        })
+        self.0.next().map(Position::from)
+    }
+
+    #[inline]
+    fn size_hint(&self) -> (usize, Option<usize>) {
+        self.0.left()
     }
 }
 

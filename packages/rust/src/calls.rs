@@ -19,7 +19,7 @@ pub const GOES_ON: u8 = 2;
 pub struct Table([u64; TABLE_WORDS]);
 
 #[repr(C)]
-#[derive(Clone, Copy)]
+#[derive(Clone, Copy, PartialEq, Eq)]
 pub struct State {
     pub at: usize,
     pub row: u16,
@@ -27,8 +27,21 @@ pub struct State {
     pub ended: u8,
 }
 
+impl State {
+    /// The start of a text, or of a part of one that begins at this byte.
+    #[inline]
+    pub fn new(profile: u8, at: usize) -> State {
+        State {
+            at,
+            row: 0,
+            profile,
+            ended: 0,
+        }
+    }
+}
+
 #[repr(C)]
-#[derive(Clone, Copy, Default)]
+#[derive(Clone, Copy, Default, PartialEq, Eq)]
 pub struct Break {
     pub at: usize,
     pub kind: u8,
@@ -123,9 +136,15 @@ pub type Reading = unsafe extern "C" fn(
     usize,
 ) -> Fault;
 
-/// A call that finds breaks or positions.
-pub type Finding =
-    unsafe extern "C" fn(*const Table, *mut State, *const u8, usize, *mut Break, usize) -> usize;
+/// A call that finds breaks or positions of a text of some units.
+pub type Finding<Number> = unsafe extern "C" fn(
+    *const Table,
+    *mut State,
+    *const Number,
+    usize,
+    *mut Break,
+    usize,
+) -> usize;
 
 extern "C" {
     pub fn lbk_read(
@@ -197,6 +216,22 @@ extern "C" {
         room: usize,
     ) -> usize;
     pub fn lbk_breaks_utf32(
+        table: *const Table,
+        state: *mut State,
+        text: *const u32,
+        size: usize,
+        block: *mut Break,
+        room: usize,
+    ) -> usize;
+    pub fn lbk_positions_utf16(
+        table: *const Table,
+        state: *mut State,
+        text: *const u16,
+        size: usize,
+        block: *mut Break,
+        room: usize,
+    ) -> usize;
+    pub fn lbk_positions_utf32(
         table: *const Table,
         state: *mut State,
         text: *const u32,

@@ -15,9 +15,63 @@ const FEW: usize = 4;
 
 type Block = [calls::Break; ROOM];
 
-/// One of the calls that find breaks or positions.
+/// A unit of a text, and the calls for texts of such units.
+pub trait Coded: Copy {
+    /// What the unit is in C: of the same size and at the same places.
+    type Number;
+    const BREAKS: calls::Finding<Self::Number>;
+    const POSITIONS: calls::Finding<Self::Number>;
+}
+
+impl Coded for u8 {
+    type Number = u8;
+    const BREAKS: calls::Finding<u8> = calls::lbk_breaks;
+    const POSITIONS: calls::Finding<u8> = calls::lbk_positions;
+}
+
+impl Coded for u16 {
+    type Number = u16;
+    const BREAKS: calls::Finding<u16> = calls::lbk_breaks_utf16;
+    const POSITIONS: calls::Finding<u16> = calls::lbk_positions_utf16;
+}
+
+impl Coded for u32 {
+    type Number = u32;
+    const BREAKS: calls::Finding<u32> = calls::lbk_breaks_utf32;
+    const POSITIONS: calls::Finding<u32> = calls::lbk_positions_utf32;
+}
+
+impl Coded for char {
+    type Number = u32;
+    const BREAKS: calls::Finding<u32> = calls::lbk_breaks_utf32;
+    const POSITIONS: calls::Finding<u32> = calls::lbk_positions_utf32;
+}
+
+/// One of the two calls.
 pub trait Call {
-    const CALL: calls::Finding;
+    fn call<U: Coded>() -> calls::Finding<U::Number>;
+}
+
+/// That for breaks.
+#[derive(Clone)]
+pub struct ByBreaks;
+
+impl Call for ByBreaks {
+    #[inline]
+    fn call<U: Coded>() -> calls::Finding<U::Number> {
+        U::BREAKS
+    }
+}
+
+/// That for positions.
+#[derive(Clone)]
+pub struct ByPositions;
+
+impl Call for ByPositions {
+    #[inline]
+    fn call<U: Coded>() -> calls::Finding<U::Number> {
+        U::POSITIONS
+    }
 }
 
 /// What a call finds in a text, in its order. A copy goes on by itself.
@@ -25,7 +79,7 @@ pub trait Call {
 // In this order, and no call is given a part of it: so a loop has `next` and `count` in registers. The state is in two parts, which
 // are not beside each other: as a whole it would be read right after its parts were written, which costs a wait.
 #[repr(C)]
-pub struct Found<'a, C> {
+pub struct Found<'a, C, U> {
     /// The next one is that of the block.
     next: u32,
     /// So many the block has. They are the last ones where it has room for more.
@@ -33,7 +87,7 @@ pub struct Found<'a, C> {
     /// Up to this byte of the text the library came.
     at: usize,
     table: &'a Table,
-    text: &'a [u8],
+    text: &'a [U],
     call: PhantomData<C>,
     row: u16,
     profile: u8,
@@ -41,9 +95,9 @@ pub struct Found<'a, C> {
     block: MaybeUninit<Block>,
 }
 
-impl<'a, C: Call> Found<'a, C> {
+impl<'a, C: Call, U: Coded> Found<'a, C, U> {
     #[inline]
-    pub fn new(table: &'a Table, profile: u8, text: &'a [u8]) -> Found<'a, C> {
+    pub fn new(table: &'a Table, profile: u8, text: &'a [U]) -> Found<'a, C, U> {
         Found {
             // As if a full block had been used up.
             next: ROOM as u32,
@@ -69,7 +123,7 @@ impl<'a, C: Call> Found<'a, C> {
             ended: self.ended,
         };
         let mut block = MaybeUninit::uninit();
-        let count = fill::<C>(self.table, self.text, &mut state, &mut block);
+        let count = fill::<C, U>(self.table, self.text, &mut state, &mut block);
         let from = block.as_ptr().cast::<calls::Break>();
         let to = self.block.as_mut_ptr().cast::<calls::Break>();
         // SAFETY: the call wrote so many, which both blocks have room for.
@@ -90,31 +144,34 @@ impl<'a, C: Call> Found<'a, C> {
         self.count = count as u32;
     }
 
-    pub fn text(&self) -> &'a [u8] {
+    pub fn text(&self) -> &'a [U] {
         self.text
     }
 
-    /// How many are held, and up to which byte of the text they came.
+    /// How many are held, and at most how many are left.
     #[inline]
-    pub fn held(&self) -> (usize, usize) {
-        ((self.count - self.next) as usize, self.at)
+    pub fn left(&self) -> (usize, Option<usize>) {
+        let held = (self.count - self.next) as usize;
+        // Before each of the units that are left, and at the end.
+        let most = held + self.text.len().saturating_sub(self.at) + 1;
+        (held, Some(most))
     }
 }
 
 /// Asks for the next ones.
 #[inline(never)]
-fn fill<C: Call>(
+fn fill<C: Call, U: Coded>(
     table: &Table,
-    text: &[u8],
+    text: &[U],
     state: &mut calls::State,
     block: &mut MaybeUninit<Block>,
 ) -> usize {
     // SAFETY: the text and the block are as long as is said, and the state and the block are borrowed by nobody else.
     let count = unsafe {
-        C::CALL(
+        C::call::<U>()(
             &table.0,
             state,
-            text.as_ptr(),
+            text.as_ptr().cast(),
             text.len(),
             block.as_mut_ptr().cast(),
             ROOM,
@@ -123,7 +180,7 @@ fn fill<C: Call>(
     count.min(ROOM)
 }
 
-impl<C: Call> Iterator for Found<'_, C> {
+impl<C: Call, U: Coded> Iterator for Found<'_, C, U> {
     type Item = calls::Break;
 
     #[inline]
@@ -149,4 +206,4 @@ impl<C: Call> Iterator for Found<'_, C> {
     }
 }
 
-impl<C: Call> FusedIterator for Found<'_, C> {}
+impl<C: Call, U: Coded> FusedIterator for Found<'_, C, U> {}

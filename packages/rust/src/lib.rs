@@ -25,6 +25,7 @@ extern crate std;
 
 mod breaks;
 mod calls;
+mod cuts;
 mod fault;
 mod found;
 #[cfg(feature = "std")]
@@ -45,5 +46,5 @@ pub use load::LoadError;
 pub use reader::ReaderBreaks;
 pub use stream::Stream;
 pub use table::{Aligned, Files, Table};
-pub use units::{ScalarUnit, Unit, UnitBreaks};
+pub use units::{ScalarUnit, Unit, UnitBreaks, UnitPositions};
 pub use words::{word_ranges, words, WordRanges, Words};

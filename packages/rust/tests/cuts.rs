@@ -75,6 +75,26 @@ fn a_part_ends_where_a_line_must() {
 }
 
 #[test]
+fn the_breaks_after_a_safe_break_are_those_of_the_text_from_there_on() {
+    let table = table(USUAL);
+    let text = "ab c\r\n一d\n\r\n a\r".repeat(2).into_bytes();
+    for profile in [Profile::First, Profile::Second] {
+        for size in 0..=text.len() {
+            let text = &text[..size];
+            let safe = table.safe_break(profile, text);
+            let after = table.breaks_in(profile, &text[safe..]).map(|it| Break {
+                at: safe + it.at,
+                ..it
+            });
+            assert!(after.eq(table.breaks_in(profile, text).filter(|it| it.at > safe)));
+        }
+    }
+    let safe = |text: &[u8]| table.safe_break(Profile::First, text);
+    assert_eq!((safe(b"ab c d"), safe(b"ab\ncd"), safe(b"ab\n")), (5, 3, 0));
+    assert_eq!((safe(b"ab"), safe(b"")), (0, 0));
+}
+
+#[test]
 fn positions_of_a_text() {
     let table = table(USUAL);
     let shown: Vec<String> = table

@@ -1,6 +1,6 @@
 use Rattle.std.proofs.Common.{length, refl, subst, inl, arith}
 use Rattle.lbk_c.specs.declared.interface.State.{State}
-use Rattle.lbk_bytes.specs.Reached.{IsInOrder}
+use Rattle.lbk_bytes.specs.Reached.{IsInOrder, onward}
 use Rattle.lbk_c.proofs.UnitsComingLemmas.{units-ended, units-full}
 use Rattle.lbk_bytes.proofs.OrderLemmas.{AreInOrder-none, AreInOrder-wider}
 use Rattle.lbk_c.proofs.unit_breaking.go_on.Goals as goal
@@ -11,7 +11,7 @@ returns-then-here-out-clause-goes g c = λ cell lefts to_come flat start.
     let within = fill.ensures.within in
     let old = c.args.state.now in
     let state : State = record { at = fill.result.at; row = fill.result.row; profile = old.profile; ended = old.ended } in
-    units-full g.U.Unit.pieces_of c.args.profile cell lefts c.args.text.now to_come fill.result state fill.new.out (length c.args.out.now)
+    units-full onward g.U.Unit.pieces_of c.args.profile cell lefts c.args.text.now to_come fill.result state fill.new.out (length c.args.out.now)
     (fill.ensures.reached cell lefts to_come flat start) within.2 refl refl c.requires.unended (omega (arith, within.0)) (omega arith)
 
 pub returns-clause-goes : goal.returns-clause-goes
@@ -22,7 +22,7 @@ returns-clause-goes g c = λ cell lefts to_come flat start.
     let old = c.args.state.now in
     let state : State = record { at = fill.result.at; row = fill.result.row; profile = old.profile; ended = 1 } in
     let ends = fill.ensures.stops (omega arith) in
-    units-ended g.U.Unit.pieces_of c.args.profile cell lefts c.args.text.now to_come fill.result state fill.new.out put.new.out put.result (length c.args.out.now)
+    units-ended onward g.U.Unit.pieces_of c.args.profile cell lefts c.args.text.now to_come fill.result state fill.new.out put.new.out put.result (length c.args.out.now)
     g.met.U.Unit.ends (fill.ensures.reached cell lefts to_come flat start) ends refl refl
     (λ taken knows some. put.ensures.front c.args.profile cell lefts taken flat knows some)
     (omega (arith, put.ensures.within)) (omega arith)

@@ -1,18 +1,20 @@
 use Rattle.std.proofs.Common.{length, ap, arith, refl}
+use Rattle.lbk_bytes.specs.Reached.{onward}
 use Rattle.lbk_bytes.specs.Shown.{given_in}
 use Rattle.lbk_bytes.proofs.OrderLemmas.{AreInOrder-none}
+use Rattle.lbk_bytes.proofs.ReachedLemmas.{onward-start}
 use Rattle.lbk_c.proofs.UnitsComingLemmas.{units-go, units-next, units-none, units-start}
 use Rattle.lbk_c.proofs.unit_breaking.next_breaks.Goals as goal
 
 pub returns-in_default-clause-start : goal.returns-in_default-clause-start
-returns-in_default-clause-start g c = λ cell profile flat starts. units-start g.U.Unit.pieces_of cell c.args.table.now c.args.text.now profile c.args.state.now flat starts
+returns-in_default-clause-start g c = λ cell profile flat starts. units-start onward g.U.Unit.pieces_of cell c.args.table.now c.args.text.now profile c.args.state.now _ flat starts (onward-start profile cell (g.U.Unit.pieces_of c.args.text.now))
 
 pub returns-clause-start : goal.returns-clause-start
-returns-clause-start g c = λ cell profile flat starts. units-start g.U.Unit.pieces_of cell c.args.table.now c.args.text.now profile c.args.state.now flat starts
+returns-clause-start g c = λ cell profile flat starts. units-start onward g.U.Unit.pieces_of cell c.args.table.now c.args.text.now profile c.args.state.now _ flat starts (onward-start profile cell (g.U.Unit.pieces_of c.args.text.now))
 
 pub returns-in_default-clause-count : goal.returns-in_default-clause-count
 returns-in_default-clause-count g c = λ cell to_come comes.
-    let none = ap length (units-none g.U.Unit.pieces_of cell c.args.table.now c.args.text.now c.args.state.now to_come c.in_default.ensures comes) in
+    let none = ap length (units-none onward g.U.Unit.pieces_of cell c.args.table.now c.args.text.now c.args.state.now to_come c.in_default.ensures comes) in
     omega arith
 
 pub returns-in_default-clause-front : goal.returns-in_default-clause-front
@@ -23,21 +25,21 @@ returns-in_default-clause-rest g c = λ cell to_come comes. comes
 
 pub returns-clause-count : goal.returns-clause-count
 returns-clause-count g c = λ cell to_come comes.
-    let gone = units-go g.U.Unit.pieces_of c.in-Some.profile cell c.args.table.now c.args.text.now c.args.state.now c.go_on.new.state to_come
+    let gone = units-go onward g.U.Unit.pieces_of c.in-Some.profile cell c.args.table.now c.args.text.now c.args.state.now c.go_on.new.state to_come
     (given_in c.go_on.new.out c.go_on.result) c.go_on.result (length c.args.out.now) c.go_on.ensures.goes c.in-Some.ensures comes in
     gone.counted
 
 pub returns-clause-front : goal.returns-clause-front
 returns-clause-front g c = λ cell to_come comes.
-    let gone = units-go g.U.Unit.pieces_of c.in-Some.profile cell c.args.table.now c.args.text.now c.args.state.now c.go_on.new.state to_come
+    let gone = units-go onward g.U.Unit.pieces_of c.in-Some.profile cell c.args.table.now c.args.text.now c.args.state.now c.go_on.new.state to_come
     (given_in c.go_on.new.out c.go_on.result) c.go_on.result (length c.args.out.now) c.go_on.ensures.goes c.in-Some.ensures comes in
     gone.front
 
 pub returns-clause-rest : goal.returns-clause-rest
 returns-clause-rest g c = λ cell to_come comes.
-    let gone = units-go g.U.Unit.pieces_of c.in-Some.profile cell c.args.table.now c.args.text.now c.args.state.now c.go_on.new.state to_come
+    let gone = units-go onward g.U.Unit.pieces_of c.in-Some.profile cell c.args.table.now c.args.text.now c.args.state.now c.go_on.new.state to_come
     (given_in c.go_on.new.out c.go_on.result) c.go_on.result (length c.args.out.now) c.go_on.ensures.goes c.in-Some.ensures comes in
-    units-next g.U.Unit.pieces_of c.in-Some.profile cell c.args.table.now c.args.text.now c.args.state.now c.go_on.new.state to_come
+    units-next onward g.U.Unit.pieces_of c.in-Some.profile cell c.args.table.now c.args.text.now c.args.state.now c.go_on.new.state to_come
     (given_in c.go_on.new.out c.go_on.result) c.go_on.result (length c.args.out.now) c.in-Some.ensures c.go_on.ensures.profile_same comes gone
 
 pub returns-in_default-clause-in_order : goal.returns-in_default-clause-in_order

@@ -1,4 +1,5 @@
 use Rattle.std.proofs.Common.{arith}
+use Rattle.lbk_bytes.specs.Shown.{given_in}
 use Rattle.lbk_units.specs.Reached.{on_from}
 use Rattle.lbk_units.proofs.ReachedLemmas.{reached-decided}
 use Rattle.lbk_units.proofs.filling.take_one.Goals as goal
@@ -7,7 +8,8 @@ pub returns-clause-reached : goal.returns-clause-reached
 returns-clause-reached g c = λ cell lefts all flat reached.
     let here = c.args.here in
     let decided = c.decide_unit-decided in
-    reached-decided c.args.profile cell lefts (on_from g.U.Unit.pieces_of c.args.text.now) all c.args.out.now c.put-count.new.out here c.put-count.result decided.result
+    reached-decided c.args.profile cell lefts (on_from g.U.Unit.pieces_of c.args.text.now) all here c.put-count.result
+    (given_in c.args.out.now here.count) (given_in c.put-count.new.out c.put-count.result) decided.result
     (λ taken known. decided.ensures.decided cell lefts taken flat known) c.put-count.ensures.front reached
 
 pub returns-clause-in_order : goal.returns-clause-in_order

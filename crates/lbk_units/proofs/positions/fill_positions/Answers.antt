@@ -1,13 +1,14 @@
 use Rattle.std.proofs.Common.{arith}
 use Rattle.lbk_bytes.specs.Shown.{given_in}
-use Rattle.lbk_c.proofs.PositionLemmas.{All-decided}
-use Rattle.lbk_c.proofs.positions.fill.Goals as goal
+use Rattle.lbk_units.specs.Reached.{on_from}
+use Rattle.lbk_units.proofs.ReachedLemmas.{position-decided}
+use Rattle.lbk_units.proofs.positions.fill_positions.Goals as goal
 
 pub loop-here-preserved : goal.loop-here-preserved
-loop-here-preserved c =
+loop-here-preserved g c =
     let l = c.loop-here in
-    let decided = c.decide_one-decided in
-    let put = c.put in
+    let decided = c.decide_unit-decided in
+    let put = c.put_position in
     let within = decided.ensures.within in
     record {
       room = omega arith;
@@ -18,7 +19,7 @@ loop-here-preserved c =
           let here = l.invariant.in_order from order in
           (omega (arith, here.0, within.1), put.ensures.in_order from decided.result.at within.1 here);
       reached = λ cell lefts all flat start.
-          All-decided c.args.profile cell lefts c.args.text.now all l.here put.result (given_in l.out l.here.count) (given_in put.new.out put.result) decided.result
-          (omega arith) (λ taken known. decided.ensures.decided cell lefts taken flat known) put.ensures.front
+          position-decided c.args.profile cell lefts (on_from g.U.Unit.pieces_of c.args.text.now) all l.here put.result (given_in l.out l.here.count) (given_in put.new.out put.result)
+          decided.result (λ taken known. decided.ensures.decided cell lefts taken flat known) put.ensures.front
           (l.invariant.reached cell lefts all flat start);
     }

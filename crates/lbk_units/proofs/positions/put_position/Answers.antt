@@ -8,7 +8,7 @@ use Rattle.lbk_bytes.specs.Order.{ArePositionsInOrder, IsPosition}
 use Rattle.lbk_bytes.specs.Shown.{shown}
 use Rattle.lbk_bytes.proofs.OrderLemmas.{AreInOrder-added}
 use Rattle.lbk_bytes.proofs.ShownLemmas.{raw-split, shown-raw}
-use Rattle.lbk_c.proofs.positions.put.Goals as goal
+use Rattle.lbk_units.proofs.positions.put_position.Goals as goal
 
 pub returns-clause-in_order : goal.returns-clause-in_order
 returns-clause-in_order c = λ from to below order.

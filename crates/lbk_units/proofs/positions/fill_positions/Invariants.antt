@@ -4,21 +4,22 @@ use Rattle.lbk_rules.specs.declared.cells.Cell.{Cell}
 use Rattle.lbk_rules.specs.declared.facts.Left.{Left}
 use Rattle.lbk_steps.specs.FlatTable.{IsFlatBy}
 use Rattle.lbk_bytes.specs.Order.{IsPosition}
-use Rattle.lbk_bytes.specs.Reached.{IsInOrderBy, ReachedBy, onward_all}
+use Rattle.lbk_bytes.specs.Reached.{IsInOrderBy, onward_all}
 use Rattle.lbk_bytes.specs.Shown.{given_in}
-use Rattle.lbk_c.proofs.positions.fill.Given as goal
+use Rattle.lbk_units.specs.Reached.{UnitsReachedBy, on_from}
+use Rattle.lbk_units.proofs.positions.fill_positions.Given as goal
 
 abbrev pub invariant-loop-here : goal.invariant-loop-here
-invariant-loop-here l = record {
+invariant-loop-here g l = record {
   room : l.here.count ≤ length l.out;
   row : l.here.row < 65536;
   within : l.here.at ≤ length l.text;
   no_room : length l.out ≡ 0 → l.here ≡ l.fn.start;
   in_order : (from : ℕ) → IsInOrderBy IsPosition l.fn.out l.fn.start.count from l.fn.start.at → IsInOrderBy IsPosition l.out l.here.count from l.here.at;
   reached : (cell : ℕ → Cell) (lefts : List Left) (all : List Break) → IsFlatBy lefts l.fn.table cell
-      → ReachedBy onward_all l.fn.profile cell lefts l.text all l.fn.start (given_in l.fn.out l.fn.start.count)
-      → ReachedBy onward_all l.fn.profile cell lefts l.text all l.here (given_in l.out l.here.count);
+      → UnitsReachedBy onward_all l.fn.profile cell lefts (on_from g.U.Unit.pieces_of l.text) all l.fn.start (given_in l.fn.out l.fn.start.count)
+      → UnitsReachedBy onward_all l.fn.profile cell lefts (on_from g.U.Unit.pieces_of l.text) all l.here (given_in l.out l.here.count);
 }
 
 abbrev pub decreases-loop-here : goal.decreases-loop-here
-decreases-loop-here l = length l.text - l.here.at
+decreases-loop-here g l = length l.text - l.here.at

@@ -1,0 +1,14 @@
+use Rattle.std.proofs.Common.{◌≡◌, map, subst, sym}
+use Rattle.lbk_units.specs.Encodings.{encode_utf16_all, placed_in}
+use Rattle.lbk_units.specs.Positions.{positions_of_utf16, positions_of_utf32}
+use Rattle.lbk_units.specs.Units.{pieces_of_utf16}
+use Rattle.lbk_units.proofs.EncodingLemmas.{breaks-among, positions-utf16}
+use Rattle.lbk_c.proofs.positions.lbk_positions_utf16.Goals as goal
+
+pub returns-clause-breaks : goal.returns-clause-breaks
+returns-clause-breaks c = λ cell profile. breaks-among profile cell (pieces_of_utf16 c.args.text.now)
+
+pub returns-clause-well_formed : goal.returns-clause-well_formed
+returns-clause-well_formed c = λ cell profile scalars all same.
+    subst (λ t. positions_of_utf16 profile cell t ≡ map (placed_in encode_utf16_all scalars) (positions_of_utf32 profile cell scalars)) (sym same)
+    (positions-utf16 profile cell scalars all)
