@@ -118,9 +118,9 @@ function start(table, chosen) {
     positions.chooseAt(at);
   });
   takeFiles(changed);
+  widen();
   changed();
   positions.chooseAt(chosen);
-  widen();
   document.documentElement.dataset.readyAfter = performance.now();
   document.documentElement.dataset.ready = "yes";
 }

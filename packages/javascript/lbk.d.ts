@@ -70,7 +70,7 @@ export class Table {
 
   /**
    * The breaks of a text, in their order. The last is the text's end; an empty text has none. Of a text of any size the
-   * module holds 64 KB at a time, and of a string 256 KB, or more where so much has no break.
+   * module holds 256 KB at a time, or more where so much has no break.
    */
   breaks(text: Text, options?: Options): IterableIterator<Break>;
   /** All positions of a text, the start and the end among them, with what decided each. The module holds the whole text. */

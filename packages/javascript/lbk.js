@@ -6,24 +6,20 @@
 //
 // lbk.wasm does the work. It is proved, and has no imports. This file is tested and not proved: it copies text into the
 // module's memory and positions out of it, and counts the places of strings in UTF-16 code units.
-import { ModuleMemory, UnitCounter, bytesOf, checkText, guarded, unzipped } from "./module_memory.js";
+import { ModuleMemory, UnitCounter, bytesOf, checkText, guarded, isAscii, unzipped } from "./module_memory.js";
 import { TABLE_SIZE, unpackTable } from "./packed_table.js";
 
 /** How many breaks or positions a call of the module has room for. */
-const ROOM = 4096;
+const ROOM = 2048;
 /** How many bytes of a text are in the module's memory at once, where its breaks are asked for. */
-const WINDOW = 65536;
-/** How many units of a string are, and how many of its breaks are asked for at once. */
-const UNITS_WINDOW = 131072;
-const UNITS_ROOM = 1024;
+const WINDOW = 262144;
 /** For how many positions columns get room before these are found. */
 const MOST_EXPECTED = 1 << 22;
 const STATE_SIZE = 16;
-const STREAM_SIZE = 32;
-const FED_SIZE = 16;
 const POSITION_SIZE = 16;
 const RULE_NUMBERS = 256;
 const KINDS = ["no", "may", "must"];
+const COLUMNS = ["at", "kind", "rule"];
 
 /** A file of a folder, which is a URL or a string, as `Source` in lbk.d.ts says. */
 function inFolder(folder, name) {
@@ -36,37 +32,31 @@ function profileNumber({ profile = 1 } = {}) {
   return profile - 1;
 }
 
-/** The columns of positions, which grow as positions are added. */
+/** The columns of positions of a text of this length, which grow as positions are added. */
 class ColumnsBuilder {
-  constructor(room = 16) {
+  #length;
+
+  constructor(length, room = 16) {
+    this.#length = length;
     this.size = 0;
     this.at = new Uint32Array(room);
     this.kind = new Uint8Array(room);
     this.rule = new Uint8Array(room);
   }
 
-  /** Makes room for the positions of a text, of which a share was gone through, if the rest has as many. */
-  expect(share) {
-    const all = Math.min(MOST_EXPECTED, Math.ceil((1.05 * this.size) / share));
-    if (all > this.at.length) this.#grow(all);
-  }
-
-  /** Adds the first `count` positions of a block, counted from `base` on, with their places in units where these are counted. */
-  add(rows, count, units, base = 0) {
-    if (this.size + count > this.at.length) this.#grow(2 * (this.size + count));
-    const { at, kind, rule, size } = this;
-    for (let k = 0; k < count; k++) {
-      const code = rows[4 * k + 2];
-      at[size + k] = rows[4 * k] + base;
-      kind[size + k] = code;
-      rule[size + k] = code >> 8;
+  /** Adds the columns of a block. Where there is no room for them, as much is made as the text needs, if the rest of it is like its front. */
+  add(block) {
+    const end = this.size + block.at.length;
+    if (end > this.at.length) {
+      const all = (1.2 * end * this.#length) / block.at.at(-1);
+      this.#grow(Math.ceil(Math.max(1.25 * end, Math.min(MOST_EXPECTED, all))));
     }
-    this.size += count;
-    units?.convert(at.subarray(size, this.size));
+    for (const name of COLUMNS) this[name].set(block[name], this.size);
+    this.size = end;
   }
 
   #grow(room) {
-    for (const name of ["at", "kind", "rule"]) {
+    for (const name of COLUMNS) {
       const grown = new this[name].constructor(room);
       grown.set(this[name]);
       this[name] = grown;
@@ -86,10 +76,14 @@ class Machine {
     this.memory = memory;
     this.table = memory.place(TABLE_SIZE);
     this.state = memory.place(STATE_SIZE);
-    this.stream = memory.place(STREAM_SIZE);
-    this.fed = memory.place(FED_SIZE);
     this.block = memory.place(POSITION_SIZE * ROOM);
+    this.at = memory.place(4 * ROOM);
+    this.kind = memory.place(ROOM);
+    this.rule = memory.place(ROOM);
     this.text = memory.place(WINDOW);
+    // (as the module takes its pointers and sizes)
+    this.big = { room: BigInt(ROOM) };
+    for (const name of ["table", "state", "block", "at", "kind", "rule", "text"]) this.big[name] = BigInt(this[name]);
   }
 
   /** The bytes of the table, which no call of the module changes. */
@@ -101,19 +95,14 @@ class Machine {
   loadTable(saved) {
     if (saved.length === TABLE_SIZE) this.tableBytes.set(saved);
     else unpackTable(saved, this.tableBytes);
-    if (this.memory.exports.lbk_check(BigInt(this.table)) === 0) {
+    if (this.memory.exports.lbk_check(this.big.table) === 0) {
       throw new RangeError("these bytes are not a whole table of this version");
     }
   }
 
-  /** The block as 32-bit numbers, four to a position. */
-  rows() {
-    return new Uint32Array(this.memory.buffer, this.block, 4 * ROOM);
-  }
-
   /** The label that a call of the module writes into the block. */
   #label(write) {
-    write(BigInt(this.block));
+    write(this.big.block);
     const label = this.memory.bytes(this.block, 4);
     return String.fromCharCode(...label.subarray(0, label.indexOf(0)));
   }
@@ -123,7 +112,7 @@ class Machine {
   }
 
   classLabel(scalar) {
-    return this.#label((to) => this.memory.exports.lbk_class(to, BigInt(this.table), scalar));
+    return this.#label((to) => this.memory.exports.lbk_class(to, this.big.table, scalar));
   }
 
   startState(profile) {
@@ -132,10 +121,22 @@ class Machine {
     state[10] = profile;
   }
 
-  /** Has the next positions of the loaded text written into the block, and returns how many these are. */
-  positions(size) {
-    const words = [this.table, this.state, this.text, size, this.block, ROOM].map(BigInt);
-    return Number(this.memory.exports.lbk_positions(...words));
+  /** Has a call write the next positions of the loaded text into the block, so many at most, and returns how many these are. */
+  find(call, size, room) {
+    const { table, state, text, block } = this.big;
+    return Number(this.memory.exports[call](table, state, text, BigInt(size), block, BigInt(room)));
+  }
+
+  /** The columns of the first positions of the block, whose places count from `from` on. The next call writes over them. */
+  columns(count, from) {
+    const { block, at, kind, rule, room } = this.big;
+    this.memory.exports.lbk_columns(block, BigInt(count), from, at, room, kind, room, rule, room);
+    const { buffer } = this.memory;
+    return {
+      at: new Uint32Array(buffer, this.at, count),
+      kind: new Uint8Array(buffer, this.kind, count),
+      rule: new Uint8Array(buffer, this.rule, count),
+    };
   }
 
   /** A copy of the state, which can be put back. */
@@ -147,7 +148,7 @@ class Machine {
     this.memory.bytes(this.state, STATE_SIZE).set(saved);
   }
 
-  /** How many units were taken. They are left out of the text from now on. */
+  /** How many bytes or units of the window were taken. The next window begins after them. */
   dropTaken() {
     const state = new DataView(this.memory.buffer, this.state);
     const taken = state.getUint32(0, true);
@@ -157,33 +158,6 @@ class Machine {
 
   get hasEnded() {
     return this.memory.bytes(this.state, STATE_SIZE)[11] !== 0;
-  }
-
-  /** Has the next breaks of the loaded units, so many at most, written into the block, and returns how many these are. */
-  breaksOfUnits(size, room) {
-    const words = [this.table, this.state, this.text, size, this.block, room].map(BigInt);
-    return Number(this.memory.exports.lbk_breaks_utf16(...words));
-  }
-
-  startStream(profile) {
-    const stream = this.memory.bytes(this.stream, STREAM_SIZE);
-    stream.fill(0);
-    stream[25] = profile;
-  }
-
-  /** Takes bytes of the window, and has the breaks that they settle written into the block: how many of each. */
-  feed(from, size, isLast) {
-    const [fed, table, stream, piece, length, block, room] =
-      [this.fed, this.table, this.stream, this.text + from, size, this.block, ROOM].map(BigInt);
-    this.memory.exports.lbk_feed(fed, table, stream, piece, length, isLast ? 1 : 0, block, room);
-    const found = new DataView(this.memory.buffer, this.fed, FED_SIZE);
-    return { taken: found.getUint32(0, true), count: found.getUint32(8, true) };
-  }
-
-  /** The byte of the stream at which a break waits for what follows, or undefined. */
-  heldAt() {
-    const stream = new DataView(this.memory.buffer, this.stream, STREAM_SIZE);
-    return stream.getUint16(18, true) === 0 ? undefined : stream.getUint32(8, true);
   }
 }
 
@@ -235,9 +209,7 @@ export class Table {
   }
 
   breakColumns(text, options) {
-    // (for ASCII the module is faster over bytes)
-    const isWide = typeof text === "string" && /[^\0-\x7f]/.test(text.slice(0, WINDOW));
-    return this.#columns(text, options, (profile) => (isWide ? this.#unitBreaks(text, profile) : this.#feed(text, profile)));
+    return this.#columns(text, options, (profile) => this.#breaks(text, profile));
   }
 
   positionColumns(text, options) {
@@ -284,80 +256,64 @@ export class Table {
     this.#machine = machine;
   }
 
-  /** The breaks, with a piece of the text in memory at a time. */
-  #feed(text, profile) {
+  /** The breaks, with a window of the text in memory at a time: of bytes, of a string's ASCII, or of its units. */
+  #breaks(text, profile) {
     const machine = this.#machine;
-    const columns = new ColumnsBuilder();
-    const units = typeof text === "string" ? new UnitCounter() : null;
-    machine.startStream(profile);
-    let [from, base] = [0, 0];
-    do {
-      const { read, written } = machine.memory.loadPiece(text, from, machine.text, WINDOW);
-      from += read;
-      units?.begin(machine.memory.bytes(machine.text, written), read, base);
-      this.#feedPiece(written, from === text.length, columns, units);
-      if (base === 0) columns.expect(from / text.length);
-      units?.end(machine.heldAt());
-      base += written;
-    } while (from < text.length);
-    return columns.finish();
-  }
-
-  #feedPiece(size, isLast, columns, units) {
-    let [done, fed] = [0];
-    do {
-      fed = this.#machine.feed(done, size - done, isLast);
-      columns.add(this.#machine.rows(), fed.count, units);
-      done += fed.taken;
-    } while (fed.count === ROOM);
-  }
-
-  /** The breaks of a string, with a window of its units in memory at a time. */
-  #unitBreaks(text, profile) {
-    const machine = this.#machine;
-    const columns = new ColumnsBuilder();
+    const columns = new ColumnsBuilder(text.length);
     machine.startState(profile);
-    let [from, size, room] = [0, UNITS_WINDOW, UNITS_ROOM];
+    // (for ASCII the module is faster over bytes)
+    let inUnits = typeof text === "string" && !isAscii(text.slice(0, WINDOW));
+    let [from, size, room] = [0, WINDOW, ROOM];
     for (;;) {
-      const loaded = machine.memory.loadUnits(text, from, machine.text, size);
-      this.#windowBreaks(loaded, room, from, from + loaded === text.length, columns);
+      const load = inUnits ? "loadUnits" : "loadBytes";
+      const loaded = machine.memory[load](text, from, machine.text, size);
+      if (loaded === undefined) {
+        inUnits = true;
+        continue;
+      }
+      const window = { call: inUnits ? "lbk_breaks_utf16" : "lbk_breaks", from, size: loaded, isLast: from + loaded === text.length };
+      const count = this.#windowBreaks(window, room, columns);
       if (machine.hasEnded) return columns.finish();
       const taken = machine.dropTaken();
-      if (from === 0 && taken > 0) columns.expect(taken / text.length);
       from += taken;
-      // Where no block was full, breaks are asked for one by one, and where none is found more has to be seen at once.
-      if (taken === 0 && room === 1) size *= 2;
-      room = taken === 0 ? 1 : UNITS_ROOM;
+      // Where no block was full fewer breaks are asked for, and where the window has none but at its end more has to be seen.
+      room = taken > 0 || count < 2 ? ROOM : count - 1;
+      if (taken === 0 && count < 2) size *= 2;
     }
   }
 
-  /** The breaks of a window by full blocks. What is left is decided by what follows, too, unless the text ends there. */
-  #windowBreaks(size, room, base, isLast, columns) {
+  /**
+   * The breaks of a window by full blocks, and how many the last call found. What is left is decided by what follows, too, unless
+   * the text ends there.
+   */
+  #windowBreaks({ call, from, size, isLast }, room, columns) {
     const machine = this.#machine;
     let count;
     do {
-      const before = machine.savedState;
-      count = machine.breaksOfUnits(size, room);
-      if (!isLast && (count < room || machine.hasEnded)) {
+      const before = isLast ? null : machine.savedState;
+      count = machine.find(call, size, room);
+      if (before && (count < room || machine.hasEnded)) {
         machine.savedState = before;
-        return;
+        break;
       }
-      columns.add(machine.rows(), count, null, base);
+      columns.add(machine.columns(count, from));
     } while (count === room);
+    return count;
   }
 
   /** All positions, with the whole text in memory. */
   #wholeText(text, profile) {
     const machine = this.#machine;
     const size = machine.memory.loadAll(text, machine.text);
-    const columns = new ColumnsBuilder(size + 1);
-    const units = typeof text === "string" ? new UnitCounter() : null;
-    units?.begin(machine.memory.bytes(machine.text, size), text.length, 0);
+    const units = new UnitCounter(machine.memory.bytes(machine.text, size), text.length);
+    const columns = new ColumnsBuilder(text.length, size + 1);
     machine.startState(profile);
     let count;
     do {
-      count = machine.positions(size);
-      columns.add(machine.rows(), count, units);
+      count = machine.find("lbk_positions", size, ROOM);
+      const block = machine.columns(count, 0);
+      units.convert(block.at);
+      columns.add(block);
     } while (count === ROOM);
     return columns.finish();
   }

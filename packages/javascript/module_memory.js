@@ -33,10 +33,27 @@ export async function unzipped(bytes) {
 const PAGE = 65536;
 
 /** Where a piece of a string of so many units ends. A pair of surrogates is one scalar, and stays whole. */
-function endOfPiece(text, from, size) {
+function endOfUnits(text, from, size) {
   const end = from + size;
   if (end >= text.length) return text.length;
   return (text.charCodeAt(end - 1) & 0xfc00) === 0xd800 ? end - 1 : end;
+}
+
+function goesOn(byte) {
+  return (byte & 0xc0) === 0x80;
+}
+
+/** Where a piece of so many bytes ends. A scalar, in which at most three bytes go on, stays whole. */
+function endOfBytes(bytes, from, size) {
+  const most = from + size;
+  if (most >= bytes.length) return bytes.length;
+  let end = most;
+  while (end > most - 3 && goesOn(bytes[end])) end--;
+  return goesOn(bytes[end]) ? most : end;
+}
+
+export function isAscii(text) {
+  return !/[^\0-\x7f]/.test(text);
 }
 
 /** An instance of a module without imports, and its memory, in which places are given out one after another. */
@@ -82,26 +99,32 @@ export class ModuleMemory {
     }
   }
 
-  /** Copies the next piece of a text, from this unit or byte on, into a window: how many of these were read, and bytes written. */
-  loadPiece(text, from, start, size) {
-    if (typeof text !== "string") {
-      const piece = text.subarray(from, from + size);
-      this.bytes(start, piece.length).set(piece);
-      return { read: piece.length, written: piece.length };
+  /**
+   * Copies the next bytes of a text, or of a string of ASCII, to a place behind which none was given out, and returns how many.
+   * Where other characters are in the string nothing is returned.
+   */
+  loadBytes(text, from, start, size) {
+    this.#reserve(start + size);
+    if (typeof text === "string") {
+      const piece = text.slice(from, from + size);
+      const { read, written } = this.#encoder.encodeInto(piece, this.bytes(start, size));
+      return read === piece.length && written === read ? read : undefined;
     }
-    return this.#encoder.encodeInto(text.slice(from, endOfPiece(text, from, size)), this.bytes(start, size));
+    const piece = text.subarray(from, endOfBytes(text, from, size));
+    this.bytes(start, piece.length).set(piece);
+    return piece.length;
   }
 
-  /** Copies the next units of a string to a place behind which none was given out, and returns how many. */
+  /** Copies the next units of a string, of at most so many bytes, in the same way. */
   loadUnits(text, from, start, size) {
-    const end = endOfPiece(text, from, size);
-    this.#reserve(start + 2 * size);
+    const end = endOfUnits(text, from, size / 2);
+    this.#reserve(start + size);
     const units = new Uint16Array(this.#memory.buffer, start, end - from);
     for (let k = from; k < end; k++) units[k - from] = text.charCodeAt(k);
     return end - from;
   }
 
-  /** Copies a whole text as UTF-8 to a place behind which none was given out, and returns its size there. */
+  /** Copies a whole text as UTF-8 in the same way, and returns its size there. */
   loadAll(text, start) {
     const most = typeof text === "string" ? 3 * text.length : text.length;
     this.#reserve(start + most);
@@ -136,43 +159,29 @@ export function guarded(action, startAgain) {
 /** How many UTF-16 code units begin with each byte of UTF-8: none with a continuation byte, two with the first of four. */
 const UNITS_OF_BYTE = Uint8Array.from({ length: 256 }, (_, byte) => (byte < 0x80 || byte >= 0xc0) + (byte >= 0xf0));
 
-/** Where the bytes of a string stand in it, asked for in rising order while pieces of it are in a window. */
+/** Where the bytes of a text stand in it, asked for in rising order. */
 export class UnitCounter {
   #bytes;
-  #isAscii = false;
-  #base = 0;
+  #isPlain;
   #at = 0;
   #units = 0;
-  #held = {};
 
-  /** A piece is in the window, of so many units, whose first byte is this one of the text. */
-  begin(bytes, units, base) {
+  /** The bytes are so many units of the text. */
+  constructor(bytes, units) {
     this.#bytes = bytes;
-    this.#isAscii = bytes.length === units;
-    this.#base = base;
+    this.#isPlain = bytes.length === units;
   }
 
-  /** The piece is done with. `heldAt` is a place of which may be asked yet, or undefined. */
-  end(heldAt) {
-    const places = new Uint32Array([heldAt ?? 0, this.#base + this.#bytes.length]);
-    const isNew = heldAt !== undefined && heldAt >= this.#base;
-    this.convert(isNew ? places : places.subarray(1));
-    if (isNew) this.#held = { at: heldAt, units: places[0] };
-  }
-
-  /** Replaces places in bytes, which rise, by those in units. Only the first may be one before the piece, which was held. */
+  /** Replaces places in bytes, which rise, by those in units. Where each byte is a unit they are these already. */
   convert(places) {
-    const [bytes, isAscii, base] = [this.#bytes, this.#isAscii, this.#base];
-    let [at, units, k] = [this.#at - base, this.#units, 0];
-    if (places.length > 0 && places[0] === this.#held.at) places[k++] = this.#held.units;
-    for (; k < places.length; k++) {
-      const last = places[k] - base;
-      if (isAscii) units += last - at;
-      else for (; at < last; at++) units += UNITS_OF_BYTE[bytes[at]];
-      at = last;
+    if (this.#isPlain) return;
+    const bytes = this.#bytes;
+    let [at, units] = [this.#at, this.#units];
+    for (let k = 0; k < places.length; k++) {
+      for (const last = places[k]; at < last; at++) units += UNITS_OF_BYTE[bytes[at]];
       places[k] = units;
     }
-    this.#at = at + base;
+    this.#at = at;
     this.#units = units;
   }
 }

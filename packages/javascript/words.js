@@ -65,13 +65,12 @@ export class Words {
 
   #find(text) {
     const size = this.#machine.start(text);
-    const units = typeof text === "string" ? new UnitCounter() : null;
-    units?.begin(this.#machine.memory.bytes(this.#machine.text, size), text.length, 0);
+    const units = new UnitCounter(this.#machine.memory.bytes(this.#machine.text, size), text.length);
     const blocks = [];
     let count;
     do {
       const block = this.#machine.next(size);
-      units?.convert(block);
+      units.convert(block);
       blocks.push(block);
       count = block.length / 2;
     } while (count === ROOM);

@@ -233,10 +233,10 @@ test("pieces of a text give what the whole gives", () => {
 
 test("after the module stopped the table has a new instance", async () => {
   const { instantiate } = WebAssembly;
-  const lbk_feed = () => {
+  const lbk_breaks = () => {
     throw new WebAssembly.RuntimeError("unreachable");
   };
-  WebAssembly.instantiate = async (...words) => ({ exports: { ...(await instantiate(...words)).exports, lbk_feed } });
+  WebAssembly.instantiate = async (...words) => ({ exports: { ...(await instantiate(...words)).exports, lbk_breaks } });
   const broken = await Table.fromBytes(saved).finally(() => {
     WebAssembly.instantiate = instantiate;
   });
