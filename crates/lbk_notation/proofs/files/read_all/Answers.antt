@@ -1,7 +1,7 @@
 use Rattle.std.proofs.Common.{◌≡◌, ◌<◌, ◌≤◌, refl, sym, ◌∙◌, length, take, drop, arith}
 use Rattle.std.proofs.lemmas.List.{length-take-le}
 use Rattle.std.proofs.lemmas.Result.{err_from_is_err_and}
-use Rattle.lbk_notation.proofs.RunLemmas.{Ran-long, Ran-stopped, Reads-more, Reads-start, front-split, length-past}
+use Rattle.lbk_notation.proofs.RunLemmas.{Ran-failed, Ran-long, Ran-stopped, Reads-more, Reads-start, front-split, length-past}
 use Rattle.lbk_notation.proofs.files.read_all.Goals as goal
 
 pub loop-count-init : goal.loop-count-init
@@ -56,3 +56,7 @@ loop-count-preserved g c =
       none_failed_to_read = c.in-Ok.ensures.failures ∙ c.loop-count.invariant.none_failed_to_read;
       none_failed_to_write = c.in_ok-take_all.ensures.none_failed ∙ c.loop-count.invariant.none_failed_to_write;
     }
+
+pub returns-in_default-clause-run : goal.returns-in_default-clause-run
+returns-in_default-clause-run g c =
+    Ran-failed _ _ _ c.loop-count.progress _ _ _ _ _ _ c.loop-count.invariant.reads c.in_default.ensures.bytes c.loop-count.progress.within c.in_default.ensures.gave
