@@ -1,11 +1,12 @@
 -- What is settled before a read is written before it.
-use Rattle.std.proofs.Common.{◌≡◌, ℕ, ◌+◌, ◌<◌, ◌≤◌, true, false, Bool, List, [], ◌++◌, length, take, drop, Option, Result, encode_utf8, encode_utf8_all, sym, ap, subst, ◌∙◌, arith, inl, refl, ⊎_elim, length-append, append_assoc, append-nil}
-use Rattle.std.proofs.lemmas.Bool.{cases_lt}
+use Rattle.std.proofs.Common.{◌≡◌, ℕ, ◌+◌, ◌≤◌, true, false, Bool, List, [], ◌∷◌, ◌++◌, length, take, drop, Option, Result, encode_utf8, encode_utf8_all, sym, ap, subst, ◌∙◌, arith, inl, inr, refl, ⊎_elim, length-append, append_assoc, append-nil}
+use Rattle.std.proofs.lemmas.Bool.{false≢true}
 use Rattle.std.proofs.lemmas.List.{take-append-drop, take-append-le}
 use Rattle.std.proofs.Math.Seq.{take-append_seam}
 use Rattle.std.proofs.lemmas.Str.{encode_same, encodes-append}
+use Rattle.lbk_feed.specs.Devices.{Reads}
 use Rattle.lbk_feed.specs.Text.{IsCutScalar}
-use Rattle.lbk_feed.specs.View.{CanGoOn}
+use Rattle.lbk_feed.specs.View.{CanGoOn, IsStill}
 use Rattle.lbk_passage.specs.Passages.{passages}
 use Rattle.lbk_passage.specs.State.{State}
 use Rattle.lbk_passage.specs.Next.{AfterNext, BeginsWithAll, WereDue, lent_text}
@@ -16,12 +17,13 @@ use Rattle.lbk_cmd.proofs.Running.{some_bytes, Stands, fresh, goes_on, ended, St
 use Rattle.lbk_cmd.proofs.Stopping.{settled_by, settled_none}
 
 -- nothing was read
-pub keeps_none : (e : Engine) (reads : ℕ) → KeepsUp e reads reads [] []
+pub keeps_none : (e : Engine) (reads : Reads) → KeepsUp e reads reads [] []
 unfolding settled_none
 keeps_none e reads = record {
   before = [];
   last = [];
   read = refl;
+  is_last = inl (refl, refl);
   each_gave = omega arith;
   written = [];
   later = [];
@@ -31,11 +33,12 @@ keeps_none e reads = record {
 }
 
 -- more was written
-pub keeps_written : (e : Engine) (from to : ℕ) (bytes out line : List ℕ) → KeepsUp e from to bytes out → KeepsUp e from to bytes (out ++ line)
+pub keeps_written : (e : Engine) (from to : Reads) (bytes out line : List ℕ) → KeepsUp e from to bytes out → KeepsUp e from to bytes (out ++ line)
 keeps_written e from to bytes out line k = record {
   before = k.before;
   last = k.last;
   read = k.read;
+  is_last = k.is_last;
   each_gave = k.each_gave;
   written = k.written;
   later = k.later ++ line;
@@ -45,18 +48,16 @@ keeps_written e from to bytes out line k = record {
 }
 
 -- a call that made no read
-keeps_still : (e : Engine) (from to to' : ℕ) (bytes got out : List ℕ) → to' ≤ to → KeepsUp e from to bytes out → KeepsUp e from to' (bytes ++ got) out
-keeps_still e from to to' bytes got out none k = record {
-  before = k.before;
-  last = k.last ++ got;
-  read = ap (λ l. l ++ got) k.read ∙ append_assoc k.before k.last got;
-  each_gave = omega (arith, k.each_gave);
-  written = k.written;
-  later = k.later;
-  is = k.is;
-  settled = k.settled;
-  goes_on = k.goes_on;
-}
+keeps_still : (e : Engine) (from to to' : Reads) (bytes held all got out : List ℕ) → all ≡ held ++ got → IsStill held all to to'
+    → KeepsUp e from to bytes out → KeepsUp e from to' (bytes ++ got) out
+keeps_still e from to to' bytes held all got out grown still k =
+    let none = none_more held got (sym grown ∙ still.0) in
+    subst (λ r. KeepsUp e from r (bytes ++ got) out) (sym still.1)
+    (subst (λ l. KeepsUp e from to l out) (sym (append-nil bytes) ∙ ap (λ l. bytes ++ l) (sym none)) k)
+  where
+    none_more : (held got : List ℕ) → held ++ got ≡ held → got ≡ []
+    none_more held [] same = refl
+    none_more held (x ∷ got) same = absurd (let long = ap length same in omega (arith, long, length-append held (x ∷ got)))
 
 -- bytes that may go on to a scalar do not begin with one
 not_whole : (next : ℕ) (rest last behind : List ℕ) → rest ++ last ≡ encode_utf8 next ++ behind → length (encode_utf8 next) ≤ length rest → IsCutScalar rest → ⊥
@@ -71,19 +72,12 @@ not_whole next rest last behind same long cut =
     let lacks = cut.lacks in
     omega (arith, lacks, ap length cut.spells, length-append rest cut.more, ap (λ c. length (encode_utf8 c)) one.0, long)
 
-module _ (e : Engine) (from : ℕ) (s : State) (bytes out : List ℕ) (st : Standing e s bytes out) (t : State) (u v : Option (List ℕ)) (e1 e2 : Bool) (r1 r2 : ℕ)
-    (r : Result (Option Passage) PassageFault) (a : AfterNext s t u v e1 e2 r1 r2 r) (paid : s.is_ended ≡ false → r1 ≤ from + (s.start + length s.held)) where
-  module _ (more : r1 < r2) (due : WereDue s (lent_text r ++ t.held) r1 r2) where
+module _ (e : Engine) (from : Reads) (s : State) (bytes out : List ℕ) (st : Standing e s bytes out) (t : State) (u v : Option (List ℕ)) (e1 e2 : Bool) (r1 r2 : Reads)
+    (r : Result (Option Passage) PassageFault) (a : AfterNext s t u v e1 e2 r1 r2 r) (paid : s.is_ended ≡ false → r1.count ≤ from.count + (s.start + length s.held)) where
+  -- reads were made, and the end was not met before them
+  module _ (open_end : s.is_ended ≡ false) (due : WereDue s (lent_text r ++ t.held) r1 r2) where
     used : List ℕ
     used = encode_utf8_all st.scalars
-
-    -- the end was not met before it
-    open_end : s.is_ended ≡ false
-    open_end = by s.is_ended refl
-      where
-        by : (b : Bool) → s.is_ended ≡ b → s.is_ended ≡ false
-        by true is = absurd (let few = (a.quiet is).2 in omega (arith, few, more))
-        by false is = is
 
     -- something was seen behind a passage that was given
     none_seen : due.seen ≡ [] → (st.scalars ≡ []) × (st.given ≡ [])
@@ -95,14 +89,14 @@ module _ (e : Engine) (from : ℕ) (s : State) (bytes out : List ℕ) (st : Stan
             let some = some_bytes next in
             let nothing : length (encode_utf8_all due.seen) ≡ 0 = ap (λ l. length (encode_utf8_all l)) none in
             let many = ap length held ∙ length-append (encode_utf8 next) rest in
-            let long : length (encode_utf8 next) ≤ length due.rest = omega (arith, due.each_gave, nothing, many, more) in
+            let long : length (encode_utf8 next) ≤ length due.rest = omega (arith, due.holds, nothing, many) in
             let same : due.rest ++ due.last ≡ encode_utf8 next ++ (rest ++ a.got) =
             sym (due.bytes ∙ ap (λ l. encode_utf8_all l ++ (due.rest ++ due.last)) none) ∙ a.grown ∙ ap (λ l. l ++ a.got) held ∙ append_assoc (encode_utf8 next) rest a.got in
             absurd (⊎_elim
             (λ (empty : due.rest ≡ []). omega (arith, some, long, ap length empty))
             (λ (cut : IsCutScalar due.rest). not_whole next due.rest due.last (rest ++ a.got) same long cut)
             due.goes_on.cut)
-        by (ended held at_end given) = absurd (let few = (a.quiet at_end).2 in omega (arith, few, more))
+        by (ended held at_end given) = absurd (false≢true (sym open_end ∙ at_end))
 
     begin_now : length used ≡ s.start
     unfolding used
@@ -126,6 +120,7 @@ module _ (e : Engine) (from : ℕ) (s : State) (bytes out : List ℕ) (st : Stan
           read = ap (λ l. l ++ a.got) st.bytes_are ∙ append_assoc used s.held a.got
               ∙ ap (λ l. used ++ l) (sym a.grown ∙ due.bytes ∙ sym (append_assoc (encode_utf8_all due.seen) due.rest due.last))
               ∙ sym (append_assoc used (encode_utf8_all due.seen ++ due.rest) due.last);
+          is_last = inr due.is_last;
           each_gave = omega (
             arith,
             due.each_gave,
@@ -144,7 +139,11 @@ module _ (e : Engine) (from : ℕ) (s : State) (bytes out : List ℕ) (st : Stan
 
   -- a call more
   pub keeps_next : KeepsUp e from r1 bytes out → KeepsUp e from r2 (bytes ++ a.got) out
-  keeps_next k = ⊎_elim
-      (λ (more : r1 < r2). keeps_due more (a.costs.due more))
-      (λ (none : r2 ≤ r1). keeps_still e from r1 r2 bytes a.got out none k)
-      (cases_lt r1 r2)
+  keeps_next k = by s.is_ended refl
+    where
+      still : IsStill s.held (lent_text r ++ t.held) r1 r2 → KeepsUp e from r2 (bytes ++ a.got) out
+      still none = keeps_still e from r1 r2 bytes s.held (lent_text r ++ t.held) a.got out a.grown none k
+
+      by : (b : Bool) → s.is_ended ≡ b → KeepsUp e from r2 (bytes ++ a.got) out
+      by true is = let quiet = a.quiet is in still (quiet.0, quiet.2)
+      by false is = ⊎_elim still (keeps_due is) a.costs.due

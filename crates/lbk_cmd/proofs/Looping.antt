@@ -3,6 +3,7 @@ use Rattle.std.proofs.Common.{◌≡◌, ℕ, ◌+◌, ◌<◌, ◌≤◌, Bool,
 use Rattle.std.proofs.Math.Seq.{take-append-add, take-append_seam}
 use Rattle.std.proofs.lemmas.Bool.{cases_lt, false≢true}
 use Rattle.std.specs.Io.KnownBytes.{Appends, Consumes, IsAtEnd}
+use Rattle.lbk_feed.specs.Devices.{Reads}
 use Rattle.lbk_feed.specs.Runs.{Took, Ran}
 use Rattle.lbk_feed.specs.Text.{longest_text}
 use Rattle.lbk_feed.proofs.Taking.{Consumes-nil, Consumes-trans, Took-then, kept_took, begun_took, told_took}
@@ -30,7 +31,7 @@ Appends-trans (Some x) (Some y) None bs cs p q = absurd q
 Appends-trans (Some x) (Some y) (Some z) bs cs p q = q ∙ ap (λ l. l ++ cs) p ∙ append_assoc x bs cs
 
 -- what a call that answered a fault took from its reader
-took_fault : (X : Type 0) (s t : State) (u v : Option (List ℕ)) (e1 e2 : Bool) (r1 r2 : ℕ) (why : PassageFault) (a : AfterNext s t u v e1 e2 r1 r2 (Err why))
+took_fault : (X : Type 0) (s t : State) (u v : Option (List ℕ)) (e1 e2 : Bool) (r1 r2 : Reads) (why : PassageFault) (a : AfterNext s t u v e1 e2 r1 r2 (Err why))
     → Took (is_failed_read {X = X} (Err (cmd.Passage why))) u v a.got
 took_fault X s t u v e1 e2 r1 r2 fault.Limit a = kept_took _ _ _ a.grown u v a.ahead_kept
 took_fault X s t u v e1 e2 r1 r2 fault.Memory a = kept_took _ _ _ a.grown u v a.ahead_kept
@@ -40,17 +41,17 @@ took_fault X s t u v e1 e2 r1 r2 fault.TextTooLong a = kept_took _ _ _ a.grown u
 took_fault X s t u v e1 e2 r1 r2 (fault.ParagraphTooLong start) a = kept_took _ _ _ a.grown u v a.ahead_kept
 took_fault X s t u v e1 e2 r1 r2 fault.Spent a = kept_took _ _ _ a.grown u v a.ahead_kept
 
-module _ (e : Engine) (u0 w0 : Option (List ℕ)) (reads0 : ℕ) where
+module _ (e : Engine) (u0 w0 : Option (List ℕ)) (reads0 : Reads) where
   -- what the calls so far took from the reader, and what was written
-  pub record Going (s : State) (u w : Option (List ℕ)) (has_ended : Bool) (reads : ℕ) : Type 0 where
+  pub record Going (s : State) (u w : Option (List ℕ)) (has_ended : Bool) (reads : Reads) : Type 0 where
     pub bytes : List ℕ
     pub out : List ℕ
     pub took : Consumes u0 u bytes
     pub put : Appends w0 w out
     pub standing : Standing e s bytes out
     pub agrees : Agrees s has_ended u
-    pub paid : s.is_ended ≡ false → reads ≤ reads0 + (s.start + length s.held)
-    pub most : reads ≤ reads0 + (longest_text + 1)
+    pub paid : s.is_ended ≡ false → reads.count ≤ reads0.count + (s.start + length s.held)
+    pub most : reads.count ≤ reads0.count + (longest_text + 1)
     pub keeps_up : KeepsUp e reads0 reads bytes out
 
   pub Going-new : (s : State) (has_ended : Bool) → s ≡ new_state e.cell e.profile e.limit → Going s u0 w0 has_ended reads0
@@ -70,26 +71,27 @@ module _ (e : Engine) (u0 w0 : Option (List ℕ)) (reads0 : ℕ) where
   unfolding Going-new
   Going-new-given s has_ended is = Standing-new-given e s is
 
-  module _ (s t : State) (u v w : Option (List ℕ)) (e1 e2 : Bool) (r1 r2 : ℕ) (g : Going s u w e1 r1) where
+  module _ (s t : State) (u v w : Option (List ℕ)) (e1 e2 : Bool) (r1 r2 : Reads) (g : Going s u w e1 r1) where
     -- the reads of a call, where `all` are the bytes held in the end and those given
-    module _ (all : List ℕ) (stops : Bool) (each : (stops || t.is_ended) ≡ false → r2 + length s.held ≤ r1 + length all)
-        (within : r1 < r2 → r2 + (s.start + length s.held) ≤ r1 + (longest_text + 1))
-        (quiet : s.is_ended ≡ true → (all ≡ s.held) × (t.is_ended ≡ true) × (r2 ≤ r1)) where
-      few_reads : r2 ≤ reads0 + (longest_text + 1)
+    module _ (all : List ℕ) (stops : Bool) (each : (stops || t.is_ended) ≡ false → r2.count + length s.held ≤ r1.count + length all)
+        (within : r1.count < r2.count → r2.count + (s.start + length s.held) ≤ r1.count + (longest_text + 1))
+        (quiet : s.is_ended ≡ true → (all ≡ s.held) × (t.is_ended ≡ true) × (r2 ≡ r1)) where
+      few_reads : r2.count ≤ reads0.count + (longest_text + 1)
       few_reads = by s.is_ended refl
         where
-          by : (b : Bool) → s.is_ended ≡ b → r2 ≤ reads0 + (longest_text + 1)
-          by true is = omega (arith, (quiet is).2, g.most)
-          by false is = ⊎_elim (λ (more : r1 < r2). omega (arith, within more, g.paid is)) (λ (none : r2 ≤ r1). omega (arith, g.most)) (cases_lt r1 r2)
+          by : (b : Bool) → s.is_ended ≡ b → r2.count ≤ reads0.count + (longest_text + 1)
+          by true is = omega (arith, ap (λ r. r.count) (quiet is).2, g.most)
+          by false is = ⊎_elim (λ (more : r1.count < r2.count). omega (arith, within more, g.paid is)) (λ (none : r2.count ≤ r1.count). omega (arith, g.most))
+              (cases_lt r1.count r2.count)
 
-      paid_reads : stops ≡ false → t.is_ended ≡ false → r2 ≤ reads0 + (s.start + length all)
+      paid_reads : stops ≡ false → t.is_ended ≡ false → r2.count ≤ reads0.count + (s.start + length all)
       paid_reads goes open_end = by s.is_ended refl
         where
-          by : (b : Bool) → s.is_ended ≡ b → r2 ≤ reads0 + (s.start + length all)
+          by : (b : Bool) → s.is_ended ≡ b → r2.count ≤ reads0.count + (s.start + length all)
           by true is = absurd (false≢true (sym open_end ∙ (quiet is).1))
           by false is = omega (arith, each (ap (λ b. b || t.is_ended) goes ∙ open_end), g.paid is)
 
-    pub most_reads : (r : Result (Option Passage) PassageFault) (a : AfterNext s t u v e1 e2 r1 r2 r) → r2 ≤ reads0 + (longest_text + 1)
+    pub most_reads : (r : Result (Option Passage) PassageFault) (a : AfterNext s t u v e1 e2 r1 r2 r) → r2.count ≤ reads0.count + (longest_text + 1)
     most_reads r a =
         few_reads (lent_text r ++ t.held) (ends_run (fault_in r)) a.costs.each_gave a.costs.within
         (λ h. ((a.quiet h).0, (a.quiet h).1, (a.quiet h).2))
@@ -210,7 +212,7 @@ module _ (e : Engine) (u0 w0 : Option (List ℕ)) (reads0 : ℕ) where
 
 -- A run by the answers of its calls
 
-module _ (e : Engine) (u0 w0 : Option (List ℕ)) (reads0 : ℕ) (X : Type 0) (answer : Result X CmdFault) where
+module _ (e : Engine) (u0 w0 : Option (List ℕ)) (reads0 : Reads) (X : Type 0) (answer : Result X CmdFault) where
   -- the segmenter could not be made
   pub run_none : (why : PassageFault) (has_ended : Bool) → answer ≡ Err (cmd.Passage why) → (why ≡ fault.Limit) ⊎ (why ≡ fault.Memory)
       → Ran (is_failed_read answer) u0 u0 w0 w0 (IsRun e reads0 reads0 has_ended answer)
@@ -219,7 +221,7 @@ module _ (e : Engine) (u0 w0 : Option (List ℕ)) (reads0 : ℕ) (X : Type 0) (a
       (λ memory. subst (λ r. Ran (is_failed_read r) u0 u0 w0 w0 (IsRun e reads0 reads0 has_ended r)) (sym (is ∙ ap (λ f. Err (cmd.Passage f)) memory)) (ran_none e u0 w0 reads0 X has_ended))
       one
 
-  module _ (s t : State) (u v w : Option (List ℕ)) (e1 e2 : Bool) (r1 r2 : ℕ) (r : Result (Option Passage) PassageFault)
+  module _ (s t : State) (u v w : Option (List ℕ)) (e1 e2 : Bool) (r1 r2 : Reads) (r : Result (Option Passage) PassageFault)
       (g : Going e u0 w0 reads0 s u w e1 r1) (a : AfterNext s t u v e1 e2 r1 r2 r) where
     pub run_stopped : (why : PassageFault) → r ≡ Err why → answer ≡ Err (cmd.Passage why)
         → Ran (is_failed_read answer) u0 v w0 w (IsRun e reads0 r2 e2 answer)

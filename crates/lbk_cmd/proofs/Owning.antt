@@ -4,6 +4,7 @@ use Rattle.std.specs.List.{flat_map}
 use Rattle.std.proofs.KnownBytes.{Consumes-whole}
 use Rattle.std.proofs.lemmas.Str.{encodes-append, scalars-chars}
 use Rattle.std.proofs.Math.Utf8.{scalars}
+use Rattle.lbk_feed.specs.Devices.{Reads}
 use Rattle.lbk_feed.proofs.Taking.{Consumes-trans, kept_took}
 use Rattle.lbk_passage.specs.Segments.{segments_of}
 use Rattle.lbk_ucd.specs.declared.tables.Files.{Files}
@@ -58,9 +59,9 @@ lent_is s ms p cell start of cell_is first =
     ∙ ap (λ segments. owned_of start (text_of ms) segments p.pieces.now) of.segments
     ∙ ap (λ pieces. owned_of start (text_of ms) (segments_of ms) pieces) (of.pieces ∙ ap (λ f. pieces_of f (text_of ms)) cell_is)
 
-module _ (e : Engine) (u0 : Option (List ℕ)) (reads0 : ℕ) where
+module _ (e : Engine) (u0 : Option (List ℕ)) (reads0 : Reads) where
   -- what the calls so far took from the reader, and the passages that they lent
-  pub record Owning (s : State) (u : Option (List ℕ)) (has_ended : Bool) (reads : ℕ) (items : List Owned) : Type 0 where
+  pub record Owning (s : State) (u : Option (List ℕ)) (has_ended : Bool) (reads : Reads) (items : List Owned) : Type 0 where
     pub going : Going e u0 None reads0 s u None has_ended reads
     pub list : items ≡ owned_from e.cell 0 going.standing.given
 
@@ -71,7 +72,7 @@ module _ (e : Engine) (u0 : Option (List ℕ)) (reads0 : ℕ) where
     list = none ∙ ap (owned_from e.cell 0) (sym (Going-new-given e u0 None reads0 s has_ended is));
   }
 
-  module _ (s t : State) (u v : Option (List ℕ)) (e1 e2 : Bool) (r1 r2 : ℕ) (r : Result (Option Passage) PassageFault) (items : List Owned)
+  module _ (s t : State) (u v : Option (List ℕ)) (e1 e2 : Bool) (r1 r2 : Reads) (r : Result (Option Passage) PassageFault) (items : List Owned)
       (o : Owning s u e1 r1 items) (after : AfterNext s t u v e1 e2 r1 r2 r) where
     pub Owning-next : (p : Passage) → r ≡ Ok (Some p) → (items' : List Owned) → items' ≡ items ++ lent_as p ∷ [] → Owning t v e2 r2 items'
     Owning-next p was items' more =

@@ -3,6 +3,7 @@ use Rattle.std.proofs.Common.{◌≡◌, ℕ, ◌+◌, ◌<◌, ◌≤◌, Bool,
 use Rattle.std.specs.List.{AllByRecursion, flat_map}
 use Rattle.std.proofs.lemmas.Grind.{flat_map-append}
 use Rattle.std.proofs.lemmas.Str.{IsUtf8-append, IsUtf8-nil, encodes-append, encode_same, length-encode, len_utf8_bounds}
+use Rattle.lbk_feed.specs.Devices.{Reads}
 use Rattle.lbk_feed.specs.Text.{longest_text}
 use Rattle.lbk_passage.specs.Marks.{Marked, scalars_of, text_of}
 use Rattle.lbk_passage.specs.Passages.{passages}
@@ -103,7 +104,7 @@ module _ (e : Engine) where
             let some = some_bytes c in
             absurd (omega (arith, none, some, length-append (encode_utf8 c) ys))
 
-    module _ (t : State) (u v : Option (List ℕ)) (e1 e2 : Bool) (r1 r2 : ℕ) where
+    module _ (t : State) (u v : Option (List ℕ)) (e1 e2 : Bool) (r1 r2 : Reads) where
       -- a passage was given
       module _ (p : Passage) (a : AfterNext s t u v e1 e2 r1 r2 (Ok (Some p))) where
         lent : Lends s t p

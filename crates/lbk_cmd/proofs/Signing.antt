@@ -4,6 +4,7 @@ use Rattle.std.specs.Prelude.{slice_range, if◌then◌else◌}
 use Rattle.std.specs.List.{flat_map}
 use Rattle.std.proofs.Math.Seq.{drop-append_seam, take-append_seam}
 use Rattle.std.proofs.lemmas.Str.{chars_from_encodes}
+use Rattle.lbk_feed.specs.Devices.{Reads}
 use Rattle.lbk_rules.specs.declared.cells.Cell.{Cell}
 use Rattle.lbk_rules.specs.declared.verdicts.Kind.TheVariants.{No, May, Must}
 use Rattle.lbk_rules.specs.Breaks.{is_no}
@@ -85,7 +86,7 @@ module _ (s : State) (ms : List Marked) (p : Passage) (of : IsPassage s ms p) wh
       (sym (chars_from_encodes (scalars_of ms) p.text.now of.utf8 (sym of.text)))
 
 -- so do those of a passage that a segmenter lent
-pub lent_cut : (s t : State) (u v : Option (List ℕ)) (e1 e2 : Bool) (r1 r2 : ℕ) (r : Result (Option Passage) PassageFault) (p : Passage)
+pub lent_cut : (s t : State) (u v : Option (List ℕ)) (e1 e2 : Bool) (r1 r2 : Reads) (r : Result (Option Passage) PassageFault) (p : Passage)
     → r ≡ Ok (Some p) → AfterNext s t u v e1 e2 r1 r2 r → IsCut 0 (length p.text.now) p.segments.now
 lent_cut s t u v e1 e2 r1 r2 r p was after =
     let lent = (subst (λ (a : Result (Option Passage) PassageFault). AfterNext s t u v e1 e2 r1 r2 a) was after).answer in

@@ -4,6 +4,7 @@ use Rattle.std.specs.List.{flat_map}
 use Rattle.std.proofs.Math.Seq.{take-append-add}
 use Rattle.std.proofs.lemmas.Bool.{false≢true}
 use Rattle.std.proofs.lemmas.Str.{IsUtf8-append, IsUtf8-nil, encodes-append, chars_from_encodes}
+use Rattle.lbk_feed.specs.Devices.{Reads}
 use Rattle.lbk_feed.specs.Runs.{IsStopped, midway, at_end}
 use Rattle.lbk_feed.specs.Text.{longest_text, well_formed_prefix, counted, IsNotUtf8At, IsTooLong, IsOpen}
 use Rattle.lbk_feed.specs.View.{CanGoOn}
@@ -141,7 +142,7 @@ module _ (e : Engine) where
             at_end out n (notices is_at_end)
             (whole_at bytes (st.bytes_are ∙ ap (λ l. encode_utf8_all st.scalars ++ l) held ∙ append-nil (encode_utf8_all st.scalars)) given) front
 
-    module _ (t : State) (u v : Option (List ℕ)) (e1 e2 : Bool) (r1 r2 : ℕ) where
+    module _ (t : State) (u v : Option (List ℕ)) (e1 e2 : Bool) (r1 r2 : Reads) where
       -- the text was read to its end
       module _ (a : AfterNext s t u v e1 e2 r1 r2 (Ok None)) where
         none_left : s.held ++ a.got ≡ []

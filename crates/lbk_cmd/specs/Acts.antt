@@ -7,7 +7,7 @@ use Rattle.lbk_feed.specs.Text.{longest_text}
 use Rattle.lbk_passage.specs.Passages.{passages}
 use Rattle.lbk_passage.specs.State.{IsLimit}
 use Rattle.lbk_passage.specs.declared.faults.PassageFault.{PassageFault}
-use Rattle.lbk_notation.specs.Replay.{IsReplay, IsReplayed, is_read_fault}
+use Rattle.lbk_notation.specs.Replay.{IsReplayRun, IsReplayed, is_read_fault}
 use Rattle.lbk_cmd.specs.Engines.{engine_of, lines_of, marking, segmenting, showing}
 use Rattle.lbk_cmd.specs.Run.{Engine as TextEngine, IsRun, is_failed_read}
 use Rattle.lbk_cmd.specs.Texts.{lines_from, segment_text, show_text, signed_text}
@@ -40,7 +40,7 @@ pub record TextRuns (text : List ℕ → List ℕ) (engine : TextEngine) (before
   pub shown : OnOk answer (IfSome before.unread (λ input. IsUtf8 input × Appends before.written after.written (text input)))
   pub ended : OnOk answer (IsTrue after.has_ended × IsAtEnd after.unread)
   pub run : Ran (is_failed_read answer) before.unread after.unread before.written after.written (IsRun engine before.reads after.reads after.has_ended answer)
-  pub reads : after.reads ≤ before.reads + (longest_text + 1)
+  pub reads : after.reads.count ≤ before.reads.count + (longest_text + 1)
   pub limit : IsErrOf answer (CmdFault.Passage PassageFault.Limit) ↔ (¬ (IsLimit engine.limit))
   pub read : IsErrOf answer (CmdFault.Passage PassageFault.Read) → HasFailed before.failed_reads after.failed_reads
   pub read_failed : before.failed_reads < after.failed_reads → answer ≡ Err (CmdFault.Passage PassageFault.Read)
@@ -66,13 +66,13 @@ pub record Replays (cell : ℕ → Cell) (form : Form) (profile : Profile) (befo
   pub replayed : IfOk answer (λ report. IfSome before.unread (λ input.
       IsReplayed cell form profile input report before.written after.written))
   pub run : Ran (is_read_fault answer) before.unread after.unread before.written after.written
-      (IsReplay cell form profile (IsTrue after.has_ended × IsAtEnd after.unread) answer)
+      (IsReplayRun cell form profile after.reads (IsTrue after.has_ended × IsAtEnd after.unread) answer)
   pub ended : OnOk answer (IsTrue after.has_ended × IsAtEnd after.unread)
   pub read : IsErrOf answer ReplayFault.Read → HasFailed before.failed_reads after.failed_reads
   pub read_failed : before.failed_reads < after.failed_reads → answer ≡ Err ReplayFault.Read
   pub write : IsErrOf answer ReplayFault.Write → HasFailed before.failed_writes after.failed_writes
   pub write_failed : before.failed_writes < after.failed_writes → answer ≡ Err ReplayFault.Write
-  pub reads : after.reads ≤ before.reads + (longest_text + 1)
+  pub reads : after.reads.count ≤ before.reads.count + (longest_text + 1)
 
 -- `--kinds`
 abbrev pub form_of : Bool → Form

@@ -1,12 +1,13 @@
 -- A reader and a writer at one moment.
 use Rattle.std.specs.Prelude.{ℕ, Bool, List, Option, None}
+use Rattle.lbk_feed.specs.Devices.{Reads}
 use Rattle.lbk_feed.specs.declared.traits.Source.{Ghosts as SourceMembers}
 use Rattle.lbk_feed.specs.declared.traits.Sink.{Ghosts as SinkMembers}
 
 -- what a reader has still to give and what a writer has taken, where they tell it, with what they counted
 pub record Devices : Type 0 where
   pub unread : Option (List ℕ)
-  pub reads : ℕ
+  pub reads : Reads
   pub failed_reads : ℕ
   pub has_ended : Bool
   pub written : Option (List ℕ)
@@ -16,7 +17,7 @@ pub record Devices : Type 0 where
 abbrev pub devices_of : {R W : Type 0} → SourceMembers R → SinkMembers W → R → W → Devices
 devices_of source sink reader writer = record {
   unread = source.unread reader;
-  reads = source.read_count reader;
+  reads = source.reads_made reader;
   failed_reads = source.failure_count reader;
   has_ended = source.has_ended reader;
   written = sink.written writer;
@@ -27,7 +28,7 @@ devices_of source sink reader writer = record {
 abbrev pub reader_alone : {R : Type 0} → SourceMembers R → R → Devices
 reader_alone source reader = record {
   unread = source.unread reader;
-  reads = source.read_count reader;
+  reads = source.reads_made reader;
   failed_reads = source.failure_count reader;
   has_ended = source.has_ended reader;
   written = None;

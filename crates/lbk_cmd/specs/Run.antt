@@ -2,9 +2,10 @@
 use Rattle.std.specs.Prelude.{◌≡◌, ◌⊎◌, ℕ, ◌+◌, ◌<◌, ◌≤◌, Bool, true, false, List, [], ◌∷◌, ◌++◌, length, Result, Ok, Err, IsUtf8, encode_utf8_all}
 use Rattle.std.specs.List.{AllByRecursion, flat_map}
 use Rattle.std.specs.Str.{chars}
+use Rattle.lbk_feed.specs.Devices.{Reads}
 use Rattle.lbk_feed.specs.Runs.{IsStopped}
 use Rattle.lbk_feed.specs.Text.{longest_text, well_formed_prefix, counted, IsNotUtf8At, IsTooLong}
-use Rattle.lbk_feed.specs.View.{CanGoOn}
+use Rattle.lbk_feed.specs.View.{CanGoOn, IsStill}
 use Rattle.lbk_rules.specs.declared.cells.Cell.{Cell}
 use Rattle.lbk_values.specs.declared.profile.Profile.{Profile}
 use Rattle.lbk_passage.specs.Marks.{Marked, scalars_of, text_of}
@@ -109,14 +110,15 @@ ComesTo e ended (Err (Passage fault.Limit)) bytes out = (bytes ≡ []) × (out �
 ComesTo e ended (Err (Passage fault.Memory)) bytes out = ((bytes ≡ []) × (out ≡ [])) ⊎ IsHeldUp e ended bytes out
 ComesTo e ended (Err (Passage why)) bytes out = IsRefused e why ended bytes out
 
--- little is kept back: of some first bytes of those read, at least one for each read but the last, the lines of all passages
--- that they settle were written. Behind the scalars that settle them stood nothing, or the first bytes of a scalar. `from` and
--- `to` are the counts of reads before the run and after it; which bytes a read gave is not known of every reader
-pub record KeepsUp (e : Engine) (from to : ℕ) (bytes out : List ℕ) : Type 0 where
+-- nothing is kept back: of the bytes that all reads but the last gave, at least one each, the lines of all passages that they
+-- settle were written. Behind the scalars that settle them stood nothing, or the first bytes of a scalar. `from` and `to` are
+-- the reads before the run and after it
+pub record KeepsUp (e : Engine) (from to : Reads) (bytes out : List ℕ) : Type 0 where
   pub before : List ℕ
   pub last : List ℕ
   pub read : bytes ≡ before ++ last
-  pub each_gave : to ≤ from + (length before + 1)
+  pub is_last : IsStill [] bytes from to ⊎ (length last ≡ to.gave)
+  pub each_gave : to.count ≤ from.count + (length before + 1)
   pub written : List ℕ
   pub later : List ℕ
   pub is : out ≡ written ++ later
@@ -124,7 +126,7 @@ pub record KeepsUp (e : Engine) (from to : ℕ) (bytes out : List ℕ) : Type 0 
   pub goes_on : CanGoOn (length (encode_utf8_all settled.scalars)) settled.rest
 
 -- what a run reads and writes, whatever the answer
-pub record IsRun {X : Type 0} (e : Engine) (from to : ℕ) (ended : Bool) (answer : Result X CmdFault) (bytes out : List ℕ) : Type 0 where
+pub record IsRun {X : Type 0} (e : Engine) (from to : Reads) (ended : Bool) (answer : Result X CmdFault) (bytes out : List ℕ) : Type 0 where
   pub comes : ComesTo e ended answer bytes out
   pub keeps_up : KeepsUp e from to bytes out
 

@@ -55,7 +55,7 @@ impl<'a, S> Input<'a, S> {
 impl<'a, S: Source> Source for Input<'a, S> {
     ghost unread = { λ input. S.unread (within_input input) };
 
-    ghost read_count = { λ input. S.read_count (within_input input) };
+    ghost reads_made = { λ input. S.reads_made (within_input input) };
 
     ghost failure_count = { λ input. S.failure_count (within_input input) };
 

@@ -38,7 +38,7 @@ impl<S, P> Prompted<S, P> {
 impl<S: Source, P: Prompt> Source for Prompted<S, P> {
     ghost unread = { λ prompted. S.unread (within_prompted prompted) };
 
-    ghost read_count = { λ prompted. S.read_count (within_prompted prompted) };
+    ghost reads_made = { λ prompted. S.reads_made (within_prompted prompted) };
 
     ghost failure_count = { λ prompted. S.failure_count (within_prompted prompted) };
 

@@ -1,11 +1,11 @@
 -- What a call leaves, from what its reads brought and what was wrong with the bytes.
-use Rattle.std.proofs.Common.{◌≡◌, ◌⊎◌, ℕ, ◌+◌, ◌<◌, ◌≤◌, Bool, true, false, ◌||◌, List, [], ◌++◌, length, Option, None, Some, IfSome, IfNone, is_some, Result, Ok, Err, OnOk, IfErr, is_err, refl, sym, ap, ◌∙◌, arith, length-append, append_assoc, append-nil}
+use Rattle.std.proofs.Common.{◌≡◌, ◌⊎◌, ℕ, ◌+◌, ◌<◌, ◌≤◌, Bool, true, false, ◌||◌, List, [], ◌++◌, length, Option, None, Some, IfSome, IfNone, is_some, Result, Ok, Err, OnOk, IfErr, is_err, refl, sym, ap, ◌∙◌, arith, inl, inr, length-append, append_assoc, append-nil}
 use Rattle.std.specs.Io.KnownBytes.{Consumes, Keeps, prepend_known}
 use Rattle.lbk_feed.specs.Text.{longest_text}
 use Rattle.lbk_feed.specs.declared.faults.FeedFault.{FeedFault}
 use Rattle.lbk_feed.specs.declared.faults.FeedFault.TheVariants.{Read, NotUtf8, TextTooLong, Spent}
-use Rattle.lbk_feed.specs.Devices.{KeepsIfTold}
-use Rattle.lbk_feed.specs.View.{View, IsFront, LendsFront, LiesIn, IsOfText, IsIdle, fault_of, ahead, KeepsAhead, BeginsWith, AreDue, Steps, Pays}
+use Rattle.lbk_feed.specs.Devices.{KeepsIfTold, Reads}
+use Rattle.lbk_feed.specs.View.{View, IsFront, LendsFront, LiesIn, IsOfText, IsIdle, fault_of, ahead, KeepsAhead, BeginsWith, IsStill, AreDue, Steps, Pays}
 use Rattle.lbk_feed.specs.Intake.{Draws, DrawsAndFails, KeepsAfter}
 use Rattle.lbk_feed.proofs.Standing.{few_held}
 
@@ -120,13 +120,33 @@ told old new got None after grown kept = tt
 told old new got (Some xs) None grown kept = tt
 told old new got (Some xs) (Some ys) grown kept = ap (λ l. l ++ ys) grown ∙ append_assoc old got ys ∙ ap (λ l. old ++ l) kept
 
-due-few : (given : ℕ) (held held' : List ℕ) (from to : ℕ) → AreDue given held held' from to → to + length held ≤ from + 4
+due-few : (given : ℕ) (held held' : List ℕ) (from to : Reads) → AreDue given held held' from to → to.count + length held ≤ from.count + 4
 due-few given held held' from to due = omega (arith, due.each_gave, few_held given (held ++ due.seen) due.went_on, length-append held due.seen)
 
-due-within : (given : ℕ) (held held' : List ℕ) (from to : ℕ) → AreDue given held held' from to → to + (given + length held) ≤ from + (longest_text + 1)
+due-within : (given : ℕ) (held held' : List ℕ) (from to : Reads) → AreDue given held held' from to → to.count + (given + length held) ≤ from.count + (longest_text + 1)
 due-within given held held' from to due = omega (arith, due.each_gave, due.went_on.within, length-append held due.seen)
 
-module _ (old mid : View) (before after : Option (List ℕ)) (from to : ℕ) where
+-- no read was made
+pub Pays-still : (v : View) (s : Bool) (reads : Reads) → Pays v (record v { is_spent = s }) reads reads
+Pays-still v s reads = record {
+  all = λ some. omega arith;
+  but_one = omega arith;
+  due = inl (refl, refl);
+  few = λ more. absurd (omega arith);
+  within = λ more. absurd (omega arith);
+}
+
+counted-few : (given : ℕ) (held held' : List ℕ) (from to : Reads) → IsStill held held' from to ⊎ AreDue given held held' from to → from.count < to.count
+    → to.count + length held ≤ from.count + 4
+counted-few given held held' from to (inl none) more = absurd (let same = ap (λ r. r.count) none.1 in omega (arith, same))
+counted-few given held held' from to (inr due) more = due-few given held held' from to due
+
+counted-within : (given : ℕ) (held held' : List ℕ) (from to : Reads) → IsStill held held' from to ⊎ AreDue given held held' from to → from.count < to.count
+    → to.count + (given + length held) ≤ from.count + (longest_text + 1)
+counted-within given held held' from to (inl none) more = absurd (let same = ap (λ r. r.count) none.1 in omega (arith, same))
+counted-within given held held' from to (inr due) more = due-within given held held' from to due
+
+module _ (old mid : View) (before after : Option (List ℕ)) (from to : Reads) where
   pub Steps-drawn : (fault : Option FeedFault) → Draws old mid before after from to → old.is_spent ≡ false → ¬ (IsIdle old) → IsFront mid → LendsFront mid → Finds mid fault
       → Steps old (record mid { is_spent = is_some fault }) before after fault
   Steps-drawn fault drawn fresh due front lends finds = record {
@@ -150,11 +170,11 @@ module _ (old mid : View) (before after : Option (List ℕ)) (from to : ℕ) whe
         all = λ some. by mid.is_ended refl some;
         but_one = omega (arith, long, drawn.but_one_gave);
         due = drawn.due;
-        few = λ more. due-few _ _ _ _ _ (drawn.due more);
-        within = λ more. due-within _ _ _ _ _ (drawn.due more);
+        few = counted-few _ _ _ _ _ drawn.due;
+        within = counted-within _ _ _ _ _ drawn.due;
       }
     where
-      by : (b : Bool) → mid.is_ended ≡ b → 0 < length mid.ready → to + length old.held ≤ from + length mid.held
+      by : (b : Bool) → mid.is_ended ≡ b → 0 < length mid.ready → to.count + length old.held ≤ from.count + length mid.held
       by true is some = absurd (omega (arith, drawn.none_ready is))
       by false is some = omega (arith, drawn.each_gave is, ap length drawn.grown, length-append old.held drawn.got)
 
@@ -178,7 +198,7 @@ module _ (old mid : View) (before after : Option (List ℕ)) (from to : ℕ) whe
   Pays-failed drawn = record {
     all = λ some. absurd (omega (arith, drawn.none_ready));
     but_one = omega (arith, ap length drawn.grown, length-append old.held drawn.got, drawn.but_one_gave);
-    due = drawn.due;
-    few = λ more. due-few _ _ _ _ _ (drawn.due more);
-    within = λ more. due-within _ _ _ _ _ (drawn.due more);
+    due = inr drawn.due;
+    few = λ more. due-few _ _ _ _ _ drawn.due;
+    within = λ more. due-within _ _ _ _ _ drawn.due;
   }

@@ -1,14 +1,15 @@
 -- What a `Device` shows: what it is over, and what it has counted.
 use Rattle.std.specs.Prelude.{ℕ, Bool}
+use Rattle.lbk_feed.specs.Devices.{Reads}
 use Rattle.lbk_feed.specs.declared.adapter.Device.{Device}
 
 -- the reader or the writer of std
 unfoldable pub inner_of : {D : Type 0} → Device D → D
 inner_of d = d.inner
 
--- how many reads were made
-unfoldable pub reads_of : {D : Type 0} → Device D → ℕ
-reads_of d = d.tally.reads
+-- how many reads were made, and what the last gave
+unfoldable pub reads_of : {D : Type 0} → Device D → Reads
+reads_of d = record { count = d.tally.reads; gave = d.tally.gave }
 
 -- how many calls failed
 unfoldable pub failures_of : {D : Type 0} → Device D → ℕ

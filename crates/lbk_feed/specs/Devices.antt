@@ -2,6 +2,16 @@
 use Rattle.std.specs.Prelude.{◌≡◌, ℕ, ◌+◌, ◌-◌, ◌^◌, ◌<◌, ◌==◌, ◌&&◌, ◌||◌, min, nat_lt, Bool, List, length, take, Option, None, Some, Result, Ok, Err, MatchResult, ⊤}
 use Rattle.std.specs.Io.KnownBytes.{Keeps, Appends, Consumes, IsAtEnd}
 
+-- how many reads were made, and how many bytes the last of them gave: none where it failed, or where none was made
+pub record Reads : Type 0 where
+  pub count : ℕ
+  pub gave : ℕ
+
+-- how many bytes a read gave that answered r
+abbrev pub given_by : {E : Type 0} → Result ℕ E → ℕ
+given_by (Ok n) = n
+given_by (Err _) = 0
+
 -- one more, or the last value of a count, at which it stays
 abbrev pub count_up : ℕ → ℕ
 count_up n = min (n + 1) (2 ^ 64 - 1)

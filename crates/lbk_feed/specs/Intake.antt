@@ -4,9 +4,9 @@ use Rattle.std.specs.Io.KnownBytes.{Consumes, IsAtEnd, prepend_known}
 use Rattle.lbk_feed.specs.Text.{longest_text}
 use Rattle.lbk_feed.specs.declared.judge.Stop.TheVariants.{Faulty}
 use Rattle.lbk_feed.specs.declared.intake.Intake.{Intake}
-use Rattle.lbk_feed.specs.Devices.{KeepsIfTold}
+use Rattle.lbk_feed.specs.Devices.{KeepsIfTold, Reads}
 use Rattle.lbk_feed.specs.Block.{items}
-use Rattle.lbk_feed.specs.View.{View, BeginsWith, CanGoOn, AreDue}
+use Rattle.lbk_feed.specs.View.{View, BeginsWith, CanGoOn, IsStill, AreDue}
 
 -- the intake as callers of the feed see it
 unfoldable pub view_of : Intake → View
@@ -23,8 +23,8 @@ pub record WantsMore (i : Intake) : Type 0 where
 abbrev pub IsSettled : Intake → Type 0
 IsSettled i = (0 < i.ready_len) ⊎ ((i.stop ≡ Faulty) ⊎ ((longest_text < i.given + length (items i.block)) ⊎ (i.is_ended ≡ true)))
 
--- what reads that did not fail bring: `before` and `after` are the bytes unread, `from` and `to` the counts of reads
-pub record Draws (old new : View) (before after : Option (List ℕ)) (from to : ℕ) : Type 0 where
+-- what reads that did not fail bring: `before` and `after` are the bytes unread, `from` and `to` the reads made
+pub record Draws (old new : View) (before after : Option (List ℕ)) (from to : Reads) : Type 0 where
   pub got : List ℕ
   pub grown : new.held ≡ old.held ++ got
   pub taken : Consumes before after got
@@ -32,16 +32,16 @@ pub record Draws (old new : View) (before after : Option (List ℕ)) (from to : 
   pub spent : new.is_spent ≡ old.is_spent
   pub at_end : new.is_ended ≡ true → IsAtEnd after
   pub none_ready : new.is_ended ≡ true → length new.ready ≡ 0
-  pub each_gave : new.is_ended ≡ false → to ≤ from + length got
-  pub but_one_gave : to ≤ from + length got + 1
-  pub due : from < to → AreDue old.given old.held new.held from to
+  pub each_gave : new.is_ended ≡ false → to.count ≤ from.count + length got
+  pub but_one_gave : to.count ≤ from.count + length got + 1
+  pub due : IsStill old.held new.held from to ⊎ AreDue old.given old.held new.held from to
 
 -- what the source tells after it failed is what was unread without the bytes got
 abbrev pub KeepsAfter : List ℕ → Option (List ℕ) → Option (List ℕ) → Type 0
 KeepsAfter got before after = KeepsIfTold before (prepend_known got after)
 
 -- the same where the last read failed
-pub record DrawsAndFails (old new : View) (before after : Option (List ℕ)) (from to : ℕ) : Type 0 where
+pub record DrawsAndFails (old new : View) (before after : Option (List ℕ)) (from to : Reads) : Type 0 where
   pub got : List ℕ
   pub grown : new.held ≡ old.held ++ got
   pub front : BeginsWith got before
@@ -50,6 +50,6 @@ pub record DrawsAndFails (old new : View) (before after : Option (List ℕ)) (fr
   pub spent : new.is_spent ≡ old.is_spent
   pub open_end : new.is_ended ≡ false
   pub none_ready : length new.ready ≡ 0
-  pub but_one_gave : to ≤ from + length got + 1
+  pub but_one_gave : to.count ≤ from.count + length got + 1
   pub goes_on : CanGoOn new.given new.held
-  pub due : from < to → AreDue old.given old.held new.held from to
+  pub due : AreDue old.given old.held new.held from to

@@ -4,7 +4,7 @@ use Rattle.std.specs.Borrow.{Bor}
 use Rattle.std.specs.Io.KnownBytes.{prepend_known, Keeps, IsAtEnd}
 use Rattle.lbk_feed.specs.declared.faults.FeedFault.{FeedFault}
 use Rattle.lbk_feed.specs.declared.faults.FeedFault.TheVariants.{Read, NotUtf8, TextTooLong, Spent}
-use Rattle.lbk_feed.specs.Devices.{KeepsIfTold, count_up}
+use Rattle.lbk_feed.specs.Devices.{KeepsIfTold, Reads, count_up}
 use Rattle.lbk_feed.specs.Text.{longest_text, well_formed_prefix, counted, IsCutScalar, IsNotUtf8At, IsTooLong}
 
 -- the bytes that were read and not yet used up, those of them that are lent, how many were used up,
@@ -100,28 +100,33 @@ pub record Steps (old new : View) (before after : Option (List ℕ)) (fault : Op
   pub spent : new.is_spent ≡ (old.is_spent || is_some fault)
   pub same : IsIdle old → (new.held ≡ old.held) × (new.ready ≡ old.ready) × (new.is_ended ≡ old.is_ended)
 
--- reads are made only while the bytes held may go on to a piece: some first bytes of those that came, and at least
--- one of each read but the last, still could before the last
-pub record AreDue (given : ℕ) (held held' : List ℕ) (from to : ℕ) : Type 0 where
+-- no read was made, and no byte came
+abbrev pub IsStill : List ℕ → List ℕ → Reads → Reads → Type 0
+IsStill held held' from to = (held' ≡ held) × (to ≡ from)
+
+-- reads are made only while the bytes held may go on to a piece: before the last of them, those that the others gave, at
+-- least one each, still could
+pub record AreDue (given : ℕ) (held held' : List ℕ) (from to : Reads) : Type 0 where
   pub seen : List ℕ
   pub last : List ℕ
   pub grown : held' ≡ held ++ seen ++ last
   pub went_on : CanGoOn given (held ++ seen)
-  pub each_gave : to ≤ from + (length seen + 1)
+  pub is_last : length last ≡ to.gave
+  pub each_gave : to.count ≤ from.count + (length seen + 1)
 
--- what the reads of a call cost, from the count before it to the count after: each but the last gives a byte,
+-- what the reads of a call cost, from those made before it to those made after it: each but the last gives a byte,
 -- and so does the last where a piece comes; none is made where a fault is certain, so at most three bytes are held
 -- before each, and none is made once more bytes were read than a text may have
-pub record Pays (old new : View) (from to : ℕ) : Type 0 where
-  pub all : 0 < length new.ready → to + length old.held ≤ from + length new.held
-  pub but_one : to + length old.held ≤ from + length new.held + 1
-  pub due : from < to → AreDue old.given old.held new.held from to
-  pub few : from < to → to + length old.held ≤ from + 4
-  pub within : from < to → to + (old.given + length old.held) ≤ from + (longest_text + 1)
+pub record Pays (old new : View) (from to : Reads) : Type 0 where
+  pub all : 0 < length new.ready → to.count + length old.held ≤ from.count + length new.held
+  pub but_one : to.count + length old.held ≤ from.count + length new.held + 1
+  pub due : IsStill old.held new.held from to ⊎ AreDue old.given old.held new.held from to
+  pub few : from.count < to.count → to.count + length old.held ≤ from.count + 4
+  pub within : from.count < to.count → to.count + (old.given + length old.held) ≤ from.count + (longest_text + 1)
 
 -- what the feed is once the piece that a call lent is given back; `unread`, `ended` and `reads` are the reader's
 -- before the call, and those with a prime after it
-pub record AfterPiece (old new : View) (unread unread' : Option (List ℕ)) (ended ended' : Bool) (reads reads' : ℕ)
+pub record AfterPiece (old new : View) (unread unread' : Option (List ℕ)) (ended ended' : Bool) (reads reads' : Reads)
     (r : Result (Option (Bor (List ℕ))) FeedFault) : Type 0 where
   pub steps : Steps old new unread unread' (fault_of r)
   pub pays : Pays old new reads reads'

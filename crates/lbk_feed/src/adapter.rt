@@ -26,7 +26,7 @@ impl<D> Device<D> {
     /// The device over `inner`, with no call made yet.
     pub fn new(inner: D) -> Device<D>
         ensures inner { inner_of result ≡ inner }
-        ensures reads { reads_of result ≡ 0 }
+        ensures reads { reads_of result ≡ record { count = 0; gave = 0 } }
         ensures failures { failures_of result ≡ 0 }
         ensures ended { has_met_end result ≡ false }
     {
@@ -48,7 +48,7 @@ impl<D> Device<D> {
 impl<R: Read> Source for Device<R> {
     ghost unread = { λ d. R.remaining (inner_of d) };
 
-    ghost read_count = { λ d. reads_of d };
+    ghost reads_made = { λ d. reads_of d };
 
     ghost failure_count = { λ d. failures_of d };
 

@@ -19,7 +19,7 @@ pub struct Block {
 
 impl Block {
     ghost use Rattle.std.specs.Prelude.{◌≡◌, ◌<◌, [], length, drop};
-    ghost use Rattle.lbk_feed.specs.Devices.{count_up, failures_after, ended_after};
+    ghost use Rattle.lbk_feed.specs.Devices.{count_up, given_by, failures_after, ended_after};
     ghost use Rattle.lbk_feed.specs.Block.{items, Fills};
 
     pub fn new() -> Block
@@ -66,7 +66,8 @@ impl Block {
     pub fn read_from<R: Source>(&mut self, reader: &mut R) -> Result<usize, Failed>
         requires { length (items self.old) < 4096 }
         ensures fills { Fills (items self.old) (items self.new) (R.unread reader.old) (R.unread reader.new) result }
-        ensures reads { R.read_count reader.new ≡ count_up (R.read_count reader.old) }
+        ensures reads { (R.reads_made reader.new).count ≡ count_up (R.reads_made reader.old).count }
+        ensures gave { (R.reads_made reader.new).gave ≡ given_by result }
         ensures failures { R.failure_count reader.new ≡ failures_after (R.failure_count reader.old) result }
         ensures ended { R.has_ended reader.new ≡ ended_after (R.has_ended reader.old) result 1 }
     {

@@ -124,14 +124,14 @@ impl Intake {
         requires due { WantsMore self.old }
         requires unspent { self.old.is_spent ≡ false }
         ensures ok { OnOk result (Draws (view_of self.old) (view_of self.new)
-            (R.unread reader.old) (R.unread reader.new) (R.read_count reader.old) (R.read_count reader.new)) }
+            (R.unread reader.old) (R.unread reader.new) (R.reads_made reader.old) (R.reads_made reader.new)) }
         ensures err { OnErr result (DrawsAndFails (view_of self.old) (view_of self.new)
-            (R.unread reader.old) (R.unread reader.new) (R.read_count reader.old) (R.read_count reader.new)) }
+            (R.unread reader.old) (R.unread reader.new) (R.reads_made reader.old) (R.reads_made reader.new)) }
         ensures grows { OnOk result ((self.new.is_ended ≡ true)
             ⊎ (length (items self.old.block) < length (items self.new.block))) }
         ensures ended { R.has_ended reader.new ≡ (R.has_ended reader.old || self.new.is_ended) }
         ensures failures { R.failure_count reader.new ≡ failures_after (R.failure_count reader.old) result }
-        ensures reads { R.read_count reader.new ≤ R.read_count reader.old + 1 }
+        ensures reads { (R.reads_made reader.new).count ≤ (R.reads_made reader.old).count + 1 }
     {
         let n = self.block.read_from(reader)?;
         let judgement = judge(self.block.as_slice(), self.given);
@@ -146,13 +146,13 @@ impl Intake {
         requires due { WantsMore self.old }
         requires unspent { self.old.is_spent ≡ false }
         ensures ok { OnOk result (Draws (view_of self.old) (view_of self.new)
-            (R.unread reader.old) (R.unread reader.new) (R.read_count reader.old) (R.read_count reader.new)) }
+            (R.unread reader.old) (R.unread reader.new) (R.reads_made reader.old) (R.reads_made reader.new)) }
         ensures settled { OnOk result (IsSettled self.new) }
         ensures err { OnErr result (DrawsAndFails (view_of self.old) (view_of self.new)
-            (R.unread reader.old) (R.unread reader.new) (R.read_count reader.old) (R.read_count reader.new)) }
+            (R.unread reader.old) (R.unread reader.new) (R.reads_made reader.old) (R.reads_made reader.new)) }
         ensures ended { R.has_ended reader.new ≡ (R.has_ended reader.old || self.new.is_ended) }
         ensures failures { R.failure_count reader.new ≡ failures_after (R.failure_count reader.old) result }
-        ensures reads { R.read_count reader.new ≤ R.read_count reader.old + 4 }
+        ensures reads { (R.reads_made reader.new).count ≤ (R.reads_made reader.old).count + 4 }
     {
         for _ in 0..READS {
             self.read_more(reader)?;
@@ -187,7 +187,7 @@ impl Intake {
     pub fn settle<R: Source>(&mut self, reader: &mut R) -> Result<(), FeedFault>
         ensures steps { Steps (view_of self.old) (view_of self.new) (R.unread reader.old) (R.unread reader.new)
             (fault_of result) }
-        ensures pays { Pays (view_of self.old) (view_of self.new) (R.read_count reader.old) (R.read_count reader.new) }
+        ensures pays { Pays (view_of self.old) (view_of self.new) (R.reads_made reader.old) (R.reads_made reader.new) }
         ensures agrees { Agrees (view_of self.old) (R.has_ended reader.old) (R.unread reader.old)
             → Agrees (view_of self.new) (R.has_ended reader.new) (R.unread reader.new) }
         ensures notices { (view_of self.new).is_ended ≡ false → R.has_ended reader.new ≡ R.has_ended reader.old }
@@ -198,7 +198,7 @@ impl Intake {
         ensures idle { IsIdle (view_of self.old) → reader.new ≡ reader.old }
         ensures read { result ≡ Err FeedFault.Read → ¬ (IsIdle (view_of self.old)) }
         ensures failures { R.failure_count reader.new ≡ failures_with (R.failure_count reader.old) (fault_of result) }
-        ensures reads { R.read_count reader.new ≤ R.read_count reader.old + 4 }
+        ensures reads { (R.reads_made reader.new).count ≤ (R.reads_made reader.old).count + 4 }
     {
         if self.is_spent {
             return Err(FeedFault::Spent);

@@ -76,7 +76,7 @@ impl Feed {
     /// It is `piece` with nothing lent: it makes the same reads, and meets the same faults.
     pub fn settle<R: Source>(&mut self, reader: &mut R) -> Result<bool, FeedFault>
         ensures steps { Steps self.old self.new (R.unread reader.old) (R.unread reader.new) (fault_of result) }
-        ensures pays { Pays self.old self.new (R.read_count reader.old) (R.read_count reader.new) }
+        ensures pays { Pays self.old self.new (R.reads_made reader.old) (R.reads_made reader.new) }
         ensures agrees { Agrees self.old (R.has_ended reader.old) (R.unread reader.old)
             → Agrees self.new (R.has_ended reader.new) (R.unread reader.new) }
         ensures notices { self.new.is_ended ≡ false → R.has_ended reader.new ≡ R.has_ended reader.old }
@@ -91,7 +91,7 @@ impl Feed {
         // Where a piece is ready, the end was met, or a fault was returned or is certain, no read is made.
         ensures idle { IsIdle self.old → reader.new ≡ reader.old }
         ensures read { result ≡ Err FeedFault.Read → ¬ (IsIdle self.old) }
-        ensures reads { R.read_count reader.new ≤ R.read_count reader.old + 4 }
+        ensures reads { (R.reads_made reader.new).count ≤ (R.reads_made reader.old).count + 4 }
         // `Read` is returned exactly where a read failed.
         ensures failures { R.failure_count reader.new ≡ failures_with (R.failure_count reader.old) (fault_of result) }
     {
@@ -107,7 +107,7 @@ impl Feed {
         ensures* after_borrow { sem 𝓛 (Rests the_row self.entry (λ new.
             AfterPiece self.old new (R.unread reader.old) (R.unread reader.new)
             (R.has_ended reader.old) (R.has_ended reader.new)
-            (R.read_count reader.old) (R.read_count reader.new) result)) }
+            (R.reads_made reader.old) (R.reads_made reader.new) result)) }
 
         ensures some { IfOk result (λ o. IfSome o (λ piece. 0 < length piece.now)) }
         ensures text { IfOk result (λ o. IfSome o (λ piece. IsUtf8 piece.now)) }
@@ -120,7 +120,7 @@ impl Feed {
         // Where a piece is ready, the end was met, or a fault was returned or is certain, no read is made.
         ensures idle { IsIdle self.old → reader.new ≡ reader.old }
         ensures read { result ≡ Err FeedFault.Read → ¬ (IsIdle self.old) }
-        ensures reads { R.read_count reader.new ≤ R.read_count reader.old + 4 }
+        ensures reads { (R.reads_made reader.new).count ≤ (R.reads_made reader.old).count + 4 }
         // `Read` is returned exactly where a read failed.
         ensures failures { R.failure_count reader.new ≡ failures_with (R.failure_count reader.old) (fault_of result) }
     {

@@ -1,14 +1,15 @@
 //! What every device counts.
 
 ghost use Rattle.std.specs.Prelude.{◌≡◌, false};
-ghost use Rattle.lbk_feed.specs.Devices.{count_up, failures_after, ended_after};
+ghost use Rattle.lbk_feed.specs.Devices.{count_up, given_by, failures_after, ended_after};
 
 use super::traits::Failed;
 
-/// The reads and the failures of a device, and whether its end was met.
+/// The reads and the failures of a device, how many bytes the last read gave, and whether the end was met.
 #[derive(Clone, Copy, Debug)]
 pub struct Tally {
     pub reads: u64,
+    pub gave: usize,
     pub failures: u64,
     pub ended: bool,
 }
@@ -16,11 +17,13 @@ pub struct Tally {
 impl Tally {
     pub fn new() -> Tally
         ensures reads { result.reads ≡ 0 }
+        ensures gave { result.gave ≡ 0 }
         ensures failures { result.failures ≡ 0 }
         ensures ended { result.ended ≡ false }
     {
         Tally {
             reads: 0,
+            gave: 0,
             failures: 0,
             ended: false,
         }
@@ -29,10 +32,15 @@ impl Tally {
     /// Notes a read into a list of `room` bytes.
     pub fn note_read(&mut self, outcome: &Result<usize, Failed>, room: usize)
         ensures reads { self.new.reads ≡ count_up self.old.reads }
+        ensures gave { self.new.gave ≡ given_by outcome.now }
         ensures failures { self.new.failures ≡ failures_after self.old.failures outcome.now }
         ensures ended { self.new.ended ≡ ended_after self.old.ended outcome.now room }
     {
         self.reads = self.reads.saturating_add(1);
+        self.gave = match outcome {
+            Ok(n) => *n,
+            Err(_) => 0,
+        };
         match outcome {
             Ok(n) => self.ended = self.ended || *n == 0 && room > 0,
             Err(_) => self.failures = self.failures.saturating_add(1),

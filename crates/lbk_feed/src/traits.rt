@@ -1,7 +1,7 @@
 //! What the calls above ask of a reader and of a writer.
 
 ghost use Rattle.std.specs.Prelude.{◌≡◌, ℕ, ◌<◌, ◌≤◌, Bool, List, Option, length, IfOk};
-ghost use Rattle.lbk_feed.specs.Devices.{count_up, failures_after, ended_after, Takes, Puts};
+ghost use Rattle.lbk_feed.specs.Devices.{Reads, count_up, given_by, failures_after, ended_after, Takes, Puts};
 
 /// A read or a write failed.
 #[derive(Clone, Copy, Debug, PartialEq, Eq)]
@@ -14,7 +14,8 @@ pub trait Source {
     // The bytes that reads have not given yet, where the source tells them.
     ghost unread: { Self → Option (List ℕ) };
 
-    ghost read_count: { Self → ℕ };
+    // How many reads were made, and how many bytes the last of them gave.
+    ghost reads_made: { Self → Reads };
 
     ghost failure_count: { Self → ℕ };
 
@@ -27,13 +28,14 @@ pub trait Source {
     fn read(&mut self, buf: &mut [u8]) -> Result<usize, Failed>
         ensures within { IfOk result (λ n. n ≤ length buf.old) }
         ensures bytes { Takes (unread self.old) (unread self.new) result buf.new }
-        ensures reads { read_count self.new ≡ count_up (read_count self.old) }
+        ensures reads { (reads_made self.new).count ≡ count_up (reads_made self.old).count }
+        ensures gave { (reads_made self.new).gave ≡ given_by result }
         ensures failures { failure_count self.new ≡ failures_after (failure_count self.old) result }
         ensures ended { has_ended self.new ≡ ended_after (has_ended self.old) result (length buf.old) };
 
     /// How many reads were made, those that failed among them.
     fn reads(&self) -> u64
-        ensures { result ≡ read_count self.now };
+        ensures { result ≡ (reads_made self.now).count };
 
     /// How many reads failed.
     fn failures(&self) -> u64

@@ -21,7 +21,7 @@ pub fn read_front<R: Source>(
     ensures front { IfOk result (λ bytes. IfSome (R.unread reader.old) (λ all. bytes.items ≡ take (most + 1) all)) }
     ensures within { IfOk result (λ bytes. vec_len bytes ≤ most + 1) }
     ensures ended { IfOk result (λ bytes. vec_len bytes < most + 1 → IsTrue (R.has_ended reader.new)) }
-    ensures reads { R.read_count reader.new ≤ R.read_count reader.old + (most + 1) }
+    ensures reads { (R.reads_made reader.new).count ≤ (R.reads_made reader.old).count + (most + 1) }
     ensures failed { IsErrOf result LoadFault.Unreadable → R.failure_count reader.new ≡ count_up (R.failure_count reader.old) }
     ensures failure { R.failure_count reader.old < R.failure_count reader.new → result ≡ Err LoadFault.Unreadable }
 {

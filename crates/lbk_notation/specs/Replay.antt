@@ -10,6 +10,7 @@ use Rattle.lbk_notation.specs.declared.findings.ReplayFault.TheVariants.{Read, W
 use Rattle.lbk_notation.specs.declared.marks.Form.{Form}
 use Rattle.lbk_notation.specs.Findings.{AreFindings}
 use Rattle.lbk_notation.specs.ReplayText.{text_from, report_of, total_text}
+use Rattle.lbk_feed.specs.Devices.{Reads}
 use Rattle.lbk_feed.specs.Runs.{IsStopped}
 use Rattle.lbk_notation.specs.Stream.{ended_lines, lines_of, longest_stream}
 
@@ -54,3 +55,21 @@ IsReplay cell form profile ended (Err StreamTooLong) read out =
     (longest_stream < length read) × IsEndedText cell form profile (take longest_stream read) out
 IsReplay cell form profile ended (Err Write) read out = IsStoppedReplay cell form profile ended (take longest_stream read) out
 IsReplay cell form profile ended (Err Memory) read out = IsStoppedReplay cell form profile ended (take longest_stream read) out
+
+-- nothing is kept back: of the bytes that all reads but the last gave, what the lines write that they end was written; `reads`
+-- are those made in the end
+pub record KeepsUp (cell : ℕ → Cell) (form : Form) (profile : Profile) (reads : Reads) (read out : List ℕ) : Type 0 where
+  pub before : List ℕ
+  pub last : List ℕ
+  pub split : read ≡ before ++ last
+  pub is_last : length last ≡ reads.gave
+  pub written : List ℕ
+  pub later : List ℕ
+  pub is : out ≡ written ++ later
+  pub settled : IsEndedText cell form profile before written
+
+-- what a replay reads and writes, whatever the answer
+pub record IsReplayRun (cell : ℕ → Cell) (form : Form) (profile : Profile) (reads : Reads) (ended : Type 0)
+    (answer : Result Report ReplayFault) (read out : List ℕ) : Type 0 where
+  pub comes : IsReplay cell form profile ended answer read out
+  pub keeps_up : KeepsUp cell form profile reads read out

@@ -1,6 +1,7 @@
 -- How far a replay has come, and what its steps do.
 use Rattle.std.specs.Prelude.{◌≡◌, ℕ, ◌+◌, ◌<◌, ◌≤◌, Bool, true, false, List, [], ◌++◌, length, Option, Result, Ok, Err, MatchResult}
 use Rattle.std.specs.Io.KnownBytes.{Appends}
+use Rattle.lbk_feed.specs.Devices.{Reads}
 use Rattle.lbk_rules.specs.declared.cells.Cell.{Cell}
 use Rattle.lbk_values.specs.declared.profile.Profile.{Profile}
 use Rattle.lbk_notation.specs.declared.findings.Finding.{Finding}
@@ -12,7 +13,7 @@ use Rattle.lbk_notation.specs.declared.marks.Form.{Form}
 use Rattle.lbk_notation.specs.Fault.{longest}
 use Rattle.lbk_notation.specs.Counted.{counted}
 use Rattle.lbk_notation.specs.Findings.{IsFinding, AreFindings}
-use Rattle.lbk_notation.specs.Replay.{IsReplay, IsReplayText, IsStoppedReplay}
+use Rattle.lbk_notation.specs.Replay.{IsReplayRun, IsReplayText, IsStoppedReplay}
 use Rattle.lbk_notation.specs.ReplayText.{finding_text, text_from, report_of}
 use Rattle.lbk_notation.specs.Stream.{cut_of, ended_lines, lines_of}
 
@@ -71,7 +72,7 @@ abbrev pub is_read_fault_of : Result ReplayState ReplayFault → Bool
 is_read_fault_of (Err Read) = true
 is_read_fault_of _ = false
 
--- what was read to the end of the stream, or to a fault, and written of it
-abbrev pub HasRead : (ℕ → Cell) → Form → Profile → Result ReplayState ReplayFault → List ℕ → List ℕ → Type 0
-HasRead cell form profile (Ok progress) read out = Stands cell form profile progress read out
-HasRead cell form profile (Err fault) read out = IsReplay cell form profile ⊥ (Err fault) read out
+-- what was read to the end of the stream, or to a fault, and written of it; at the end the last of the reads gave no byte
+abbrev pub HasRead : (ℕ → Cell) → Form → Profile → Reads → Result ReplayState ReplayFault → List ℕ → List ℕ → Type 0
+HasRead cell form profile reads (Ok progress) read out = (reads.gave ≡ 0) × Stands cell form profile progress read out
+HasRead cell form profile reads (Err fault) read out = IsReplayRun cell form profile reads ⊥ (Err fault) read out

@@ -3,7 +3,7 @@
 ghost use Rattle.std.specs.Prelude.{◌≡◌, ◌+◌, ◌<◌, ◌≤◌, ◌⊎◌, ℕ, List, [], ◌∷◌, length, take, IsTrue, IfSome, IfOk, IfErr, OnOk, IsErrOf};
 ghost use Rattle.std.specs.Io.KnownBytes.{Appends, IsAtEnd};
 ghost use Rattle.lbk_notation.specs.ReplayState.{Ends, HasRead, Uses, is_read_fault_of};
-ghost use Rattle.lbk_notation.specs.Replay.{IsReplay, IsReplayed, is_read_fault};
+ghost use Rattle.lbk_notation.specs.Replay.{IsReplayRun, IsReplayed, is_read_fault};
 ghost use Rattle.lbk_notation.specs.Stream.{longest_stream};
 ghost use Rattle.lbk_feed.specs.Runs.{HasFailed, Ran};
 
@@ -31,7 +31,8 @@ const BLOCK: usize = 4096;
 /// order mark at the front of the file is passed over. One line is held at a time, and none that is too long.
 ///
 /// After `Read` what went out is that of the lines whose LF was read, and no counts; after `StreamTooLong` that of
-/// the lines ended among the first 1,073,741,824 bytes; after `Write` and `Memory` a prefix of the output.
+/// the lines ended among the first 1,073,741,824 bytes; after `Write` and `Memory` a prefix of the output, in which is
+/// what the lines write that the bytes of all reads but the last end.
 ///
 /// ```rust
 /// let mut sink = MemorySink::new(alloc, ROOM)?;
@@ -51,7 +52,8 @@ pub fn replay<R: Source, W: Sink, C: CellSource>(
 
     // What is written of what was read, whatever the result.
     ensures run { Ran (is_read_fault result) (R.unread reader.old) (R.unread reader.new) (W.written writer.old) (W.written writer.new)
-        (IsReplay (C.cell_of cells.now) form profile (IsTrue (R.has_ended reader.new) × IsAtEnd (R.unread reader.new)) result) }
+        (IsReplayRun (C.cell_of cells.now) form profile (R.reads_made reader.new)
+        (IsTrue (R.has_ended reader.new) × IsAtEnd (R.unread reader.new)) result) }
     ensures ended { OnOk result (IsTrue (R.has_ended reader.new) × IsAtEnd (R.unread reader.new)) }
 
     // When a device's fault comes, and how much is read.
@@ -59,7 +61,7 @@ pub fn replay<R: Source, W: Sink, C: CellSource>(
     ensures read_failed { R.failure_count reader.old < R.failure_count reader.new → result ≡ Err ReplayFault.Read }
     ensures write { IsErrOf result ReplayFault.Write → HasFailed (W.failure_count writer.old) (W.failure_count writer.new) }
     ensures write_failed { W.failure_count writer.old < W.failure_count writer.new → result ≡ Err ReplayFault.Write }
-    ensures reads { R.read_count reader.new ≤ R.read_count reader.old + (longest_stream + 1) }
+    ensures reads { (R.reads_made reader.new).count ≤ (R.reads_made reader.old).count + (longest_stream + 1) }
 {
     let replayer = Replayer {
         cells,
@@ -78,14 +80,14 @@ fn read_all<R: Source, W: Sink, C: CellSource>(
     replayer: &Replayer<C>,
 ) -> Result<ReplayState, ReplayFault>
     ensures run { Ran (is_read_fault_of result) (R.unread reader.old) (R.unread reader.new) (W.written writer.old) (W.written writer.new)
-        (HasRead (C.cell_of replayer.now.cells.now) replayer.now.form replayer.now.profile result) }
+        (HasRead (C.cell_of replayer.now.cells.now) replayer.now.form replayer.now.profile (R.reads_made reader.new) result) }
     ensures ended { OnOk result (IsTrue (R.has_ended reader.new) × IsAtEnd (R.unread reader.new)) }
     ensures read { IsErrOf result ReplayFault.Read → HasFailed (R.failure_count reader.old) (R.failure_count reader.new) }
     ensures read_failed { R.failure_count reader.old < R.failure_count reader.new → result ≡ Err ReplayFault.Read }
     ensures write { IsErrOf result ReplayFault.Write → HasFailed (W.failure_count writer.old) (W.failure_count writer.new) }
     ensures write_failed { W.failure_count writer.old < W.failure_count writer.new → result ≡ Err ReplayFault.Write }
     ensures none_failed { OnOk result (W.failure_count writer.new ≡ W.failure_count writer.old) }
-    ensures reads { R.read_count reader.new ≤ R.read_count reader.old + (longest_stream + 1) }
+    ensures reads { (R.reads_made reader.new).count ≤ (R.reads_made reader.old).count + (longest_stream + 1) }
 {
     let mut progress = ReplayState::new(alloc);
     let mut block = [0u8; BLOCK];

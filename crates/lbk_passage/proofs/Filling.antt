@@ -1,7 +1,8 @@
 -- What filling a paragraph leaves, as its callers see it.
-use Rattle.std.proofs.Common.{◌≡◌, ℕ, ◌+◌, Bool, true, false, ◌||◌, not, List, [], ◌++◌, length, Option, None, Some, Result, Ok, Err, string_bytes, encode_utf8_all, chars, IsUtf8, if◌then◌else◌, refl, sym, ap, subst, ◌∙◌, arith, inl, append-nil}
+use Rattle.std.proofs.Common.{◌≡◌, ℕ, ◌+◌, Bool, true, false, ◌||◌, not, List, [], ◌++◌, length, Option, None, Some, Result, Ok, Err, string_bytes, encode_utf8_all, chars, IsUtf8, if◌then◌else◌, refl, sym, ap, subst, ◌∙◌, arith, inl, inr, ⊎_elim, append-nil}
 use Rattle.std.specs.Io.KnownBytes.{prepend_known}
 use Rattle.std.proofs.lemmas.Str.{chars-nil, encodes-chars}
+use Rattle.lbk_feed.specs.Devices.{Reads}
 use Rattle.lbk_feed.specs.View.{BeginsWith, CanGoOn}
 use Rattle.lbk_rules.specs.declared.cells.Cell.{Cell}
 use Rattle.lbk_values.specs.declared.profile.Profile.{Profile}
@@ -30,7 +31,7 @@ module _ (cell : ℕ → Cell) (profile : Profile) (p : Paragraph) where
       ready_nil (string_bytes p.text) p.feed.held (ap (λ b. (if b then string_bytes p.text else []) ++ p.feed.held) (sym in_hand) ∙ done.none) in
       whole.end_is ∙ ap (λ k. end_before k (not (is_nil (chars p.feed.ready)))) (ap (last_class cell None) (ap chars none ∙ chars-nil))
 
-module _ (cell : ℕ → Cell) (profile : Profile) (old : Paragraph) (u : Option (List ℕ)) (e : Bool) (reads : ℕ) where
+module _ (cell : ℕ → Cell) (profile : Profile) (old : Paragraph) (u : Option (List ℕ)) (e : Bool) (reads : Reads) where
   state : State
   state = state_with cell profile old
 
@@ -47,10 +48,10 @@ module _ (cell : ℕ → Cell) (profile : Profile) (old : Paragraph) (u : Option
     grown = sym (append-nil (state_with cell profile old).held);
     ahead_kept = Keeps-refl (prepend_known (state_with cell profile old).held u);
     begins = BeginsWith-held (state_with cell profile old).held u;
-    costs = record { each_gave = λ open_end. cc; but_one = omega arith; within = λ less. absurd (omega arith); due = λ less. absurd (omega arith) };
+    costs = record { each_gave = λ open_end. cc; but_one = omega arith; within = λ less. absurd (omega arith); due = inl (refl, refl) };
     agrees = λ h. h;
     notices = λ h. refl;
-    quiet = λ h. (refl, h, omega arith, λ e. cc);
+    quiet = λ h. (refl, h, refl, λ e. cc);
   }
 
   -- a paragraph that is held already
@@ -66,14 +67,14 @@ module _ (cell : ℕ → Cell) (profile : Profile) (old : Paragraph) (u : Option
     grown = sym (append-nil (state_with cell profile old).held);
     ahead_kept = Keeps-refl (prepend_known (state_with cell profile old).held u);
     begins = BeginsWith-held (state_with cell profile old).held u;
-    costs = record { each_gave = λ open_end. omega arith; but_one = omega arith; within = λ less. absurd (omega arith); due = λ less. absurd (omega arith) };
+    costs = record { each_gave = λ open_end. omega arith; but_one = omega arith; within = λ less. absurd (omega arith); due = inl (refl, refl) };
     agrees = λ h. h;
     notices = λ h. refl;
-    quiet = λ h. (refl, h, omega arith, λ e. cc);
+    quiet = λ h. (refl, h, refl, λ e. cc);
   }
 
   -- a paragraph that was gathered
-  module _ (mid new p : Paragraph) (v : Option (List ℕ)) (e' : Bool) (reads' : ℕ) (r : Result (Option Verdict) PassageFault)
+  module _ (mid new p : Paragraph) (v : Option (List ℕ)) (e' : Bool) (reads' : Reads) (r : Result (Option Verdict) PassageFault)
       (fresh : (old.is_held || old.is_spent) ≡ false) (feed_is : mid.feed ≡ old.feed) (limit_is : mid.limit ≡ old.limit)
       (g : Gathers cell mid new u v e e' reads reads' r) (feed_same : p.feed ≡ new.feed) (text_same : string_bytes p.text ≡ string_bytes new.text)
       (limit_same : p.limit ≡ new.limit) (spent_same : p.is_spent ≡ new.is_spent) (in_hand : (p.is_held || p.is_spent) ≡ true) where
@@ -112,6 +113,8 @@ module _ (cell : ℕ → Cell) (profile : Profile) (old : Paragraph) (u : Option
           unfinished = λ some more. begins_with_all profile cell (chars o.text) more some o.none_ends;
           within = omega (arith, long, o.within, limit_is);
           goes_on = subst (λ n. CanGoOn n o.rest) place o.goes_on;
+          is_last = o.is_last;
+          holds = omega (arith, long, ap length old_held, o.holds);
           each_gave = omega (arith, long, ap length old_held, o.each_gave);
         }
 
@@ -137,7 +140,7 @@ module _ (cell : ℕ → Cell) (profile : Profile) (old : Paragraph) (u : Option
             each_gave = λ open_end. omega (arith, long_old, long_new, g.each_gave (ap (λ f. ends_run (fault_in r) || f.is_ended) (sym feed_same) ∙ open_end));
             but_one = omega (arith, long_old, long_new, read.but_one);
             within = λ less. omega (arith, long_old, before, read.within less);
-            due = λ less. due (read.due less);
+            due = ⊎_elim (λ none. inl (new_held ∙ none.0 ∙ sym old_held, none.1)) (λ o. inr (due o)) read.due;
           };
           agrees = λ h at_end. g.agrees (λ k. h (ap (λ f. f.is_ended) (sym feed_is) ∙ k)) (ap (λ f. f.is_ended) (sym feed_same) ∙ at_end);
           notices = λ open_end. g.notices (ap (λ f. f.is_ended) (sym feed_same) ∙ open_end);
@@ -157,8 +160,8 @@ ends_by_fault s (ParagraphTooLong start) stops = refl
 ends_by_fault s Spent stops = refl
 
 -- a paragraph whose end was found
-pub Fills-ok : (cell : ℕ → Cell) (profile : Profile) (old : Paragraph) (u : Option (List ℕ)) (e : Bool) (reads : ℕ)
-    (mid new p : Paragraph) (v : Option (List ℕ)) (e' : Bool) (reads' : ℕ) (end : Option Verdict)
+pub Fills-ok : (cell : ℕ → Cell) (profile : Profile) (old : Paragraph) (u : Option (List ℕ)) (e : Bool) (reads : Reads)
+    (mid new p : Paragraph) (v : Option (List ℕ)) (e' : Bool) (reads' : Reads) (end : Option Verdict)
     → (old.is_held || old.is_spent) ≡ false → mid.feed ≡ old.feed → mid.limit ≡ old.limit
     → Gathers cell mid new u v e e' reads reads' (Ok end) → p.feed ≡ new.feed → string_bytes p.text ≡ string_bytes new.text
     → p.limit ≡ new.limit → p.is_spent ≡ new.is_spent → p.is_held ≡ true → old.is_spent ≡ false → Fills cell profile old p u v e e' reads reads' (Ok end)

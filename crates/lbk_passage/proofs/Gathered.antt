@@ -6,6 +6,7 @@ use Rattle.std.proofs.Math.Seq.{drop-append_seam}
 use Rattle.std.proofs.lemmas.Str.{scalars-chars, encodes-chars, chars-nil, is_utf8-from_IsUtf8, IsUtf8-string_bytes}
 use Rattle.lbk_feed.specs.declared.faults.FeedFault.{FeedFault}
 use Rattle.lbk_feed.specs.declared.faults.FeedFault.TheVariants as feed_fault
+use Rattle.lbk_feed.specs.Devices.{Reads}
 use Rattle.lbk_feed.specs.View.{View, IsFront, LendsFront, LiesIn, Steps}
 use Rattle.lbk_feed.specs.View as feed
 use Rattle.lbk_rules.specs.declared.classes.Class.{Class}
@@ -58,7 +59,7 @@ Shows-of cell profile p in_hand =
       within = omega (arith, len, short);
     }
 
-module _ (cell : ℕ → Cell) (old : Paragraph) (unread : Option (List ℕ)) (ended : Bool) (reads : ℕ) where
+module _ (cell : ℕ → Cell) (old : Paragraph) (unread : Option (List ℕ)) (ended : Bool) (reads : Reads) where
   -- nothing is gathered yet
   pub Gathering-none : string_bytes old.text ≡ [] → old.is_held ≡ false → old.is_spent ≡ false → Gathering cell old old None unread unread ended ended reads reads
   Gathering-none none open_end unspent =
@@ -74,13 +75,13 @@ module _ (cell : ℕ → Cell) (old : Paragraph) (unread : Option (List ℕ)) (e
         few = omega arith;
         agrees = λ h. h;
         notices = λ h. refl;
-        quiet = λ h. (all, h, omega arith);
+        quiet = λ h. (all, h, refl);
         none_ends = ap (stays cell None) scalars_are;
         last_is = sym (ap (last_class cell None) scalars_are);
       }
 
   -- where nothing was left at first, nothing is gathered
-  pub still_done : (now : Paragraph) (last : Option Class) (u : Option (List ℕ)) (e : Bool) (r1 : ℕ) → Gathering cell old now last unread u ended e reads r1
+  pub still_done : (now : Paragraph) (last : Option Class) (u : Option (List ℕ)) (e : Bool) (r1 : Reads) → Gathering cell old now last unread u ended e reads r1
       → old.feed.is_ended ≡ true → old.feed.held ≡ [] → (now.feed.is_ended ≡ true) × (now.feed.held ≡ []) × (last ≡ None)
   still_done now last u e r1 g at_end none =
       let was = g.quiet at_end in
@@ -91,21 +92,21 @@ module _ (cell : ℕ → Cell) (old : Paragraph) (unread : Option (List ℕ)) (e
       )
 
   -- after a step of the feed
-  pub record Settled (p : Paragraph) (last : Option Class) (unread' : Option (List ℕ)) (ended' : Bool) (reads' : ℕ) (fault : Option PassageFault) : Type 0 where
+  pub record Settled (p : Paragraph) (last : Option Class) (unread' : Option (List ℕ)) (ended' : Bool) (reads' : Reads) (fault : Option PassageFault) : Type 0 where
     pub limit : p.limit ≡ old.limit
     pub open_end : p.is_held ≡ false
     pub given : p.feed.given ≡ old.feed.given + length (string_bytes p.text)
     pub read : HasRead cell old.limit old.feed (string_bytes p.text ++ p.feed.held) unread unread' reads reads' fault
-    pub each_gave : 0 < length p.feed.ready → reads' + length old.feed.held ≤ reads + length (string_bytes p.text ++ p.feed.held)
-    pub few : reads' ≤ reads + (length (string_bytes p.text) + 4)
+    pub each_gave : 0 < length p.feed.ready → reads'.count + length old.feed.held ≤ reads.count + length (string_bytes p.text ++ p.feed.held)
+    pub few : reads'.count ≤ reads.count + (length (string_bytes p.text) + 4)
     pub agrees : feed.Agrees old.feed ended unread → feed.Agrees p.feed ended' unread'
     pub notices : p.feed.is_ended ≡ false → ended' ≡ ended
     pub quiet : old.feed.is_ended ≡ true
-        → (string_bytes p.text ++ p.feed.held ≡ old.feed.held) × (p.feed.is_ended ≡ true) × (reads' ≤ reads) × (¬ (fault ≡ Some Read))
+        → (string_bytes p.text ++ p.feed.held ≡ old.feed.held) × (p.feed.is_ended ≡ true) × (reads' ≡ reads) × (¬ (fault ≡ Some Read))
     pub none_ends : stays cell None (chars (string_bytes p.text)) ≡ true
     pub last_is : last ≡ last_class cell None (chars (string_bytes p.text))
 
-  pub Settled-of : (now p : Paragraph) (last : Option Class) (u v : Option (List ℕ)) (e e' : Bool) (r1 r2 : ℕ) (r : Result Bool PassageFault)
+  pub Settled-of : (now p : Paragraph) (last : Option Class) (u v : Option (List ℕ)) (e e' : Bool) (r1 r2 : Reads) (r : Result Bool PassageFault)
       → Gathering cell old now last unread u ended e reads r1 → Settles now p u v e e' r1 r2 r → Settled p last v e' r2 (fault_in r)
   Settled-of now p last u v e e' r1 r2 r g s =
       let text : string_bytes p.text ≡ string_bytes now.text = s.text in
@@ -134,7 +135,7 @@ module _ (cell : ℕ → Cell) (old : Paragraph) (unread : Option (List ℕ)) (e
             let same = s.steps.same (inr (inl was.1)) in (
               ap (λ l. l ++ p.feed.held) text ∙ ap (λ l. string_bytes now.text ++ l) same.0 ∙ was.0,
               same.2 ∙ was.1,
-              omega (arith, was.2, (s.unasked was.1).0),
+              (s.unasked was.1).0 ∙ was.2,
               λ e. (s.unasked was.1).1 (read_by s.fault (sym s.fault_is ∙ e)),
             ));
         none_ends = ap (λ l. stays cell None (chars l)) text ∙ g.none_ends;
@@ -148,7 +149,7 @@ module _ (cell : ℕ → Cell) (old : Paragraph) (unread : Option (List ℕ)) (e
           by false is = is
           by true is = absurd (let same = (steps.same (inr (inl is))).2 in cc)
 
-  module _ (p : Paragraph) (last : Option Class) (v : Option (List ℕ)) (e' : Bool) (r2 : ℕ) where
+  module _ (p : Paragraph) (last : Option Class) (v : Option (List ℕ)) (e' : Bool) (r2 : Reads) where
     short : length (string_bytes p.text) ≤ p.limit
     short = let len = string_len-is p.text in let kept = p.within in omega (arith, len, kept)
 
@@ -225,10 +226,10 @@ module _ (cell : ℕ → Cell) (old : Paragraph) (unread : Option (List ℕ)) (e
           → HasRead cell old.limit old.feed (string_bytes n.text ++ n.feed.held) unread v reads r2 fault
       read fault h = subst (λ l. HasRead cell old.limit old.feed l unread v reads r2 fault) (sym all_same) h
 
-      gave : r2 + length old.feed.held ≤ reads + length (string_bytes n.text ++ n.feed.held)
+      gave : r2.count + length old.feed.held ≤ reads.count + length (string_bytes n.text ++ n.feed.held)
       gave = omega (arith, ap length all_same, s.each_gave some)
 
-      few : r2 ≤ reads + (length (string_bytes n.text) + 4)
+      few : r2.count ≤ reads.count + (length (string_bytes n.text) + 4)
       few = omega (arith, longer, s.few)
 
       none_ends : stays cell None (chars (string_bytes n.text)) ≡ true
@@ -244,7 +245,7 @@ module _ (cell : ℕ → Cell) (old : Paragraph) (unread : Option (List ℕ)) (e
       kept_short : length (string_bytes n.text) ≤ n.limit
       kept_short = let len = string_len-is n.text in let kept = n.within in omega (arith, len, kept)
 
-      still : old.feed.is_ended ≡ true → (string_bytes n.text ++ n.feed.held ≡ old.feed.held) × (n.feed.is_ended ≡ true) × (r2 ≤ reads)
+      still : old.feed.is_ended ≡ true → (string_bytes n.text ++ n.feed.held ≡ old.feed.held) × (n.feed.is_ended ≡ true) × (r2 ≡ reads)
       still h = (all_same ∙ (s.quiet h).0, t.ended ∙ (s.quiet h).1, (s.quiet h).2)
 
       -- the piece is all of the paragraph
@@ -370,8 +371,8 @@ pub no_fault : (fault : Option FeedFault) → None ≡ option_map passage_fault 
 no_fault None e = refl
 no_fault (Some x) e = cc
 
-module _ (cell : ℕ → Cell) (old : Paragraph) (unread : Option (List ℕ)) (ended : Bool) (reads : ℕ) (now p : Paragraph) (last : Option Class)
-    (u v : Option (List ℕ)) (e e' : Bool) (r1 r2 : ℕ) (r : Result Bool PassageFault)
+module _ (cell : ℕ → Cell) (old : Paragraph) (unread : Option (List ℕ)) (ended : Bool) (reads : Reads) (now p : Paragraph) (last : Option Class)
+    (u v : Option (List ℕ)) (e e' : Bool) (r1 r2 : Reads) (r : Result Bool PassageFault)
     (g : Gathering cell old now last unread u ended e reads r1) (s : Settles now p u v e e' r1 r2 r) where
   settled : Settled cell old unread ended reads p last v e' r2 (fault_in r)
   settled = Settled-of cell old unread ended reads now p last u v e e' r1 r2 r g s

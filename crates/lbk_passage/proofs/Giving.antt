@@ -2,7 +2,8 @@
 use Rattle.std.proofs.Common.{◌≡◌, ◌⊎◌, ℕ, ◌-◌, ◌<◌, Bool, true, false, ◌||◌, List, [], ◌∷◌, ◌++◌, length, Option, None, Some, Result, Ok, Err, is_ok, OnOk, string_bytes, string_len, encode_utf8_all, chars, IsUtf8, if◌then◌else◌, refl, sym, ap, subst, ◌∙◌, arith, inl, inr, ⊎_elim}
 use Rattle.std.proofs.lemmas.Str.{chars-nil, encodes-chars, IsUtf8-string_bytes}
 use Rattle.std.specs.Io.KnownBytes.{prepend_known}
-use Rattle.lbk_feed.specs.View.{BeginsWith}
+use Rattle.lbk_feed.specs.Devices.{Reads}
+use Rattle.lbk_feed.specs.View.{BeginsWith, IsStill}
 use Rattle.lbk_rules.specs.declared.cells.Cell.{Cell}
 use Rattle.lbk_values.specs.declared.profile.Profile.{Profile}
 use Rattle.lbk_rules.specs.declared.verdicts.Verdict.{Verdict}
@@ -39,7 +40,7 @@ pub spent_by : (s : State) (p : Paragraph) (was : Bool) (fault : PassageFault) �
 spent_by s p was fault answer is =
     ⊎_elim (λ a. a.1) (λ stops. absurd (let at_spent : Stops s Spent = subst (Stops s) is stops in at_spent.lies)) answer
 
-module _ (cell : ℕ → Cell) (profile : Profile) (old p : Paragraph) (u v : Option (List ℕ)) (e e' : Bool) (reads reads' : ℕ) where
+module _ (cell : ℕ → Cell) (profile : Profile) (old p : Paragraph) (u v : Option (List ℕ)) (e e' : Bool) (reads reads' : Reads) where
   fault-answers : (s : State) (fault : PassageFault) → FillAnswers s p old.is_spent (Err fault) → Answers (state_with cell profile old) s (Err fault)
   fault-answers s Limit (inl h) = absurd (let e = h.0 in cc)
   fault-answers s Limit (inr h) = h
@@ -230,7 +231,7 @@ module _ (cell : ℕ → Cell) (profile : Profile) (old p : Paragraph) (u v : Op
               each_gave = λ open_end. omega (arith, long, f.costs.each_gave (sym ended_is ∙ open_end));
               but_one = omega (arith, long, f.costs.but_one);
               within = f.costs.within;
-              due = λ less. subst (λ l. WereDue (state_with cell profile old) l reads reads') (sym all_is) (f.costs.due less);
+              due = subst (λ l. IsStill (state_with cell profile old).held l reads reads' ⊎ WereDue (state_with cell profile old) l reads reads') (sym all_is) f.costs.due;
             };
             agrees = λ h at_end. f.agrees h (sym ended_is ∙ at_end);
             notices = λ open_end. f.notices (sym ended_is ∙ open_end);

@@ -10,18 +10,18 @@ use Rattle.lbk_rules.specs.declared.verdicts.Verdict.{Verdict}
 use Rattle.lbk_values.specs.declared.profile.Profile.{Profile}
 use Rattle.lbk_rules.specs.Breaks.{is_no}
 use Rattle.lbk_rules.specs.Ends.{end_of_text}
-use Rattle.lbk_rules.specs.Joins.{AreParts, end_before_more, marks_in, must_end_between, of_parts, with_last}
+use Rattle.lbk_rules.specs.Joins.{AreParts, end_before_more, must_end_between, of_parts, with_last}
 use Rattle.lbk_rules.specs.Marks.{Marked, ended, marks, scalars_of, text_of}
 use Rattle.lbk_rules.proofs.JoinLemmas.{JoinsTwo, end_before_more-must, joined-marks, joined-parts, with_last-snoc}
 use Rattle.lbk_rules.proofs.MarkLemmas.{last-marks, scalars-ended}
-use Rattle.lbk_passage.specs.Laws.{EndsOnce, IsPart}
+use Rattle.lbk_passage.specs.Laws.{EndsOnce}
 use Rattle.lbk_passage.specs.Parts.{moved_piece, moved_segment, of_passages, passages_in, pieces_at, pieces_in, segment_by_rule, segments_at, segments_before, segments_in}
-use Rattle.lbk_passage.specs.Passages.{cut_after, ends_passage, is_must, join_first, passages}
+use Rattle.lbk_passage.specs.Passages.{cut_after, ends_passage, join_first, passages}
 use Rattle.lbk_passage.specs.Pieces.{pieces_of}
 use Rattle.lbk_passage.specs.Segments.{segment_by, segments_from, segments_of}
 use Rattle.lbk_passage.specs.declared.passage.Piece.{Piece}
 use Rattle.lbk_passage.specs.declared.passage.Segment.{Segment}
-use Rattle.lbk_passage.proofs.Cutting.{Holds, IsClosed, cut_after-alone, cut_after-append, cut_after-open, cut_after-part, cut_after-step}
+use Rattle.lbk_passage.proofs.Cutting.{Holds, IsClosed, cut_after-alone, cut_after-append, cut_after-open, cut_after-step}
 use Rattle.lbk_passage.proofs.Marking.{is_must-kind, marks-closed}
 use Rattle.lbk_passage.proofs.Together.{passages-end, passages-scalars, texts-joined}
 

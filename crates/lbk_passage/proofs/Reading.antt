@@ -1,11 +1,11 @@
 -- What was read while a paragraph is gathered: one step of the feed more.
-use Rattle.std.proofs.Common.{◌≡◌, ℕ, ◌+◌, ◌<◌, ◌≤◌, true, List, [], ◌++◌, length, Option, None, Some, option_map, chars, IsUtf8, refl, sym, ap, subst, ◌∙◌, arith, ⊎_elim, length-append, append_assoc, append-nil}
+use Rattle.std.proofs.Common.{◌≡◌, ◌⊎◌, ℕ, ◌+◌, ◌<◌, ◌≤◌, true, List, [], ◌++◌, length, Option, None, Some, option_map, chars, IsUtf8, refl, sym, ap, subst, ◌∙◌, arith, inl, inr, ⊎_elim, length-append, append_assoc, append-nil}
 use Rattle.std.proofs.lemmas.Bool.{cases_lt}
 use Rattle.std.specs.Io.KnownBytes.{prepend_known, Keeps}
 use Rattle.lbk_feed.specs.declared.faults.FeedFault.{FeedFault}
 use Rattle.lbk_feed.specs.declared.faults.FeedFault.TheVariants as feed_fault
-use Rattle.lbk_feed.specs.Devices.{KeepsIfTold}
-use Rattle.lbk_feed.specs.View.{View, BeginsWith, CanGoOn, Steps, Pays}
+use Rattle.lbk_feed.specs.Devices.{KeepsIfTold, Reads}
+use Rattle.lbk_feed.specs.View.{View, AreDue, BeginsWith, CanGoOn, IsStill, Steps, Pays}
 use Rattle.lbk_feed.specs.View as feed
 use Rattle.lbk_rules.specs.declared.cells.Cell.{Cell}
 use Rattle.lbk_passage.specs.Faults.{passage_fault}
@@ -22,7 +22,7 @@ BeginsWith-held held None = tt
 BeginsWith-held held (Some xs) = (xs, refl)
 
 -- nothing was read
-pub HasRead-none : (cell : ℕ → Cell) (limit : ℕ) (old : View) (unread : Option (List ℕ)) (reads : ℕ)
+pub HasRead-none : (cell : ℕ → Cell) (limit : ℕ) (old : View) (unread : Option (List ℕ)) (reads : Reads)
     → HasRead cell limit old old.held unread unread reads reads None
 HasRead-none cell limit old unread reads = record {
   got = [];
@@ -31,7 +31,7 @@ HasRead-none cell limit old unread reads = record {
   begins = BeginsWith-held old.held unread;
   but_one = omega arith;
   within = λ less. absurd (omega arith);
-  due = λ less. absurd (omega arith);
+  due = inl (refl, refl);
 }
 
 -- what is kept behind a text that the feed gave up
@@ -67,32 +67,16 @@ begun (Some xs) text a b None k l = absurd k
 begun (Some xs) text a b (Some ys) k l =
     (l.0, sym k ∙ append_assoc text a ys ∙ ap (λ r. text ++ r) l.1 ∙ sym (append_assoc text b l.0))
 
--- what was open before the last read still was, where more bytes came and no read was made
-WasOpen-more : (cell : ℕ → Cell) (limit : ℕ) (old : View) (all got : List ℕ) (from reads reads' : ℕ) → reads' ≤ reads
-    → WasOpen cell limit old all from reads → WasOpen cell limit old (all ++ got) from reads'
-WasOpen-more cell limit old all got from reads reads' none o = record {
-  text = o.text;
-  utf8 = o.utf8;
-  none_ends = o.none_ends;
-  within = o.within;
-  rest = o.rest;
-  last = o.last ++ got;
-  bytes = ap (λ l. l ++ got) o.bytes ∙ append_assoc o.text (o.rest ++ o.last) got ∙ ap (λ l. o.text ++ l) (append_assoc o.rest o.last got);
-  goes_on = o.goes_on;
-  each_gave = omega (arith, o.each_gave);
-}
-
-module _ (cell : ℕ → Cell) (limit : ℕ) (old : View) (text : List ℕ) (now next : View) (unread u v : Option (List ℕ)) (from reads reads' : ℕ)
+module _ (cell : ℕ → Cell) (limit : ℕ) (old : View) (text : List ℕ) (now next : View) (unread u v : Option (List ℕ)) (from reads reads' : Reads)
     (fault : Option FeedFault) where
   module _ (utf8 : IsUtf8 text) (none_ends : stays cell None (chars text) ≡ true) (short : length text ≤ limit)
-      (read : HasRead cell limit old (text ++ now.held) unread u from reads None) (each : reads + length old.held ≤ from + length (text ++ now.held))
+      (read : HasRead cell limit old (text ++ now.held) unread u from reads None) (each : reads.count + length old.held ≤ from.count + length (text ++ now.held))
       (given : now.given ≡ old.given + length text) (steps : Steps now next u v fault) (pays : Pays now next reads reads') where
     grown : text ++ next.held ≡ (text ++ now.held) ++ steps.got
     grown = ap (λ l. text ++ l) steps.grown ∙ sym (append_assoc text now.held steps.got)
 
-    open_before : reads < reads' → WasOpen cell limit old (text ++ next.held) from reads'
-    open_before more =
-        let due = pays.due more in
+    open_before : AreDue now.given now.held next.held reads reads' → WasOpen cell limit old (text ++ next.held) from reads'
+    open_before due =
         record {
           text = text;
           utf8 = utf8;
@@ -102,8 +86,18 @@ module _ (cell : ℕ → Cell) (limit : ℕ) (old : View) (text : List ℕ) (now
           last = due.last;
           bytes = ap (λ l. text ++ l) due.grown;
           goes_on = subst (λ n. CanGoOn n (now.held ++ due.seen)) given due.went_on;
+          is_last = due.is_last;
+          holds = omega (arith, length-append text now.held, length-append now.held due.seen, ap length read.grown, length-append old.held read.got);
           each_gave = omega (arith, length-append text now.held, length-append now.held due.seen, each, due.each_gave);
         }
+
+    -- no read more
+    same_before : IsStill now.held next.held reads reads' → IsStill old.held (text ++ now.held) from reads ⊎ WasOpen cell limit old (text ++ now.held) from reads
+        → IsStill old.held (text ++ next.held) from reads' ⊎ WasOpen cell limit old (text ++ next.held) from reads'
+    same_before none (inl before) = inl (ap (λ l. text ++ l) none.0 ∙ before.0, none.1 ∙ before.1)
+    same_before none (inr o) =
+        inr (subst (λ r. WasOpen cell limit old (text ++ next.held) from r) (sym none.1)
+        (subst (λ l. WasOpen cell limit old (text ++ l) from reads) (sym none.0) o))
 
     -- a step of the feed more
     pub HasRead-step : HasRead cell limit old (text ++ next.held) unread v from reads' (option_map passage_fault fault)
@@ -117,24 +111,19 @@ module _ (cell : ℕ → Cell) (limit : ℕ) (old : View) (text : List ℕ) (now
           begins = begun (prepend_known old.held unread) text now.held next.held u read.ahead_kept steps.begins;
           but_one = omega (arith, long, longer, each, pays.but_one);
           within = λ less. ⊎_elim
-              (λ (more : reads < reads'). omega (arith, long, each, given, pays.within more))
-              (λ (none : reads' ≤ reads). let before : from < reads = omega arith in omega (arith, read.within before))
-              (cases_lt reads reads');
-          due = λ less. ⊎_elim
-              (λ (more : reads < reads'). open_before more)
-              (λ (none : reads' ≤ reads).
-              let before : from < reads = omega arith in
-              subst (λ l. WasOpen cell limit old l from reads') (sym grown)
-              (WasOpen-more cell limit old (text ++ now.held) steps.got from reads reads' none (read.due before)))
-              (cases_lt reads reads');
+              (λ (more : reads.count < reads'.count). omega (arith, long, each, given, pays.within more))
+              (λ (none : reads'.count ≤ reads.count). let before : from.count < reads.count = omega arith in omega (arith, read.within before))
+              (cases_lt reads.count reads'.count);
+          due = ⊎_elim (λ none. same_before none read.due) (λ due. inr (open_before due)) pays.due;
         }
 
-  pub few-step : reads ≤ from + (length text + 4) → reads + length old.held ≤ from + length (text ++ now.held) → Pays now next reads reads'
-      → reads' ≤ from + (length text + 4)
+  pub few-step : reads.count ≤ from.count + (length text + 4) → reads.count + length old.held ≤ from.count + length (text ++ now.held)
+      → Pays now next reads reads' → reads'.count ≤ from.count + (length text + 4)
   few-step few each pays =
       let long = length-append text now.held in
-      ⊎_elim (λ (more : reads < reads'). omega (arith, long, each, pays.few more)) (λ (none : reads' ≤ reads). omega (arith, few)) (cases_lt reads reads')
+      ⊎_elim (λ (more : reads.count < reads'.count). omega (arith, long, each, pays.few more)) (λ (none : reads'.count ≤ reads.count). omega (arith, few))
+      (cases_lt reads.count reads'.count)
 
-  pub each-step : reads + length old.held ≤ from + length (text ++ now.held) → 0 < length next.ready → Pays now next reads reads'
-      → reads' + length old.held ≤ from + length (text ++ next.held)
+  pub each-step : reads.count + length old.held ≤ from.count + length (text ++ now.held) → 0 < length next.ready → Pays now next reads reads'
+      → reads'.count + length old.held ≤ from.count + length (text ++ next.held)
   each-step each some pays = omega (arith, length-append text now.held, length-append text next.held, each, pays.all some)

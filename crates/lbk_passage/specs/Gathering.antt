@@ -4,7 +4,8 @@ use Rattle.std.specs.Str.{chars}
 use Rattle.std.specs.Bool.{OnTrue, OnFalse}
 use Rattle.std.specs.Io.KnownBytes.{prepend_known}
 use Rattle.lbk_feed.specs.declared.faults.FeedFault.{FeedFault}
-use Rattle.lbk_feed.specs.View.{View, Steps, Pays, BeginsWith, AfterEach, CanGoOn, IsFront, LendsFront}
+use Rattle.lbk_feed.specs.Devices.{Reads}
+use Rattle.lbk_feed.specs.View.{View, Steps, Pays, BeginsWith, AfterEach, CanGoOn, IsFront, IsStill, LendsFront}
 use Rattle.lbk_feed.specs.Text.{longest_text}
 use Rattle.lbk_feed.specs.declared.faults.FeedFault.TheVariants.{Read as feed_read, Spent as feed_spent}
 use Rattle.lbk_feed.specs.View as feed
@@ -69,7 +70,7 @@ pub record Takes (cell : ℕ → Cell) (last : Option Class) (old new : Paragrap
   pub stop : StopsBefore cell r.last (string_len new.text) old.limit r.stop rest
 
 -- a step of the feed; the text stays
-pub record Settles (old new : Paragraph) (unread unread' : Option (List ℕ)) (ended ended' : Bool) (reads reads' : ℕ)
+pub record Settles (old new : Paragraph) (unread unread' : Option (List ℕ)) (ended ended' : Bool) (reads reads' : Reads)
     (r : Result Bool PassageFault) : Type 0 where
   pub text : string_bytes new.text ≡ string_bytes old.text
   pub limit : new.limit ≡ old.limit
@@ -82,13 +83,13 @@ pub record Settles (old new : Paragraph) (unread unread' : Option (List ℕ)) (e
   pub pays : Pays old.feed new.feed reads reads'
   pub agrees : feed.Agrees old.feed ended unread → feed.Agrees new.feed ended' unread'
   pub notices : new.feed.is_ended ≡ false → ended' ≡ ended
-  pub unasked : old.feed.is_ended ≡ true → (reads' ≤ reads) × (¬ (fault ≡ Some feed_read))
+  pub unasked : old.feed.is_ended ≡ true → (reads' ≡ reads) × (¬ (fault ≡ Some feed_read))
   pub stands : IfOk r (λ stands. OnTrue stands (0 < length new.feed.ready))
   pub ends : IfOk r (λ stands. OnFalse stands ((new.feed.held ≡ []) × (new.feed.is_ended ≡ true)))
 
 -- before the last of some reads, from when nothing was gathered, no line must end in what was gathered, and behind it was
--- what may go on
-pub record WasOpen (cell : ℕ → Cell) (limit : ℕ) (old : View) (all : List ℕ) (reads reads' : ℕ) : Type 0 where
+-- what may go on: all that was held at first and that the other reads gave
+pub record WasOpen (cell : ℕ → Cell) (limit : ℕ) (old : View) (all : List ℕ) (reads reads' : Reads) : Type 0 where
   pub text : List ℕ
   pub utf8 : IsUtf8 text
   pub none_ends : stays cell None (chars text) ≡ true
@@ -97,51 +98,53 @@ pub record WasOpen (cell : ℕ → Cell) (limit : ℕ) (old : View) (all : List 
   pub last : List ℕ
   pub bytes : all ≡ text ++ (rest ++ last)
   pub goes_on : CanGoOn (old.given + length text) rest
-  pub each_gave : reads' + length old.held ≤ reads + (length text + length rest + 1)
+  pub is_last : length last ≡ reads'.gave
+  pub holds : length old.held ≤ length text + length rest
+  pub each_gave : reads'.count + length old.held ≤ reads.count + (length text + length rest + 1)
 
 -- what was read from when nothing was gathered, where `all` are the bytes gathered and held
-pub record HasRead (cell : ℕ → Cell) (limit : ℕ) (old : View) (all : List ℕ) (unread unread' : Option (List ℕ)) (reads reads' : ℕ)
+pub record HasRead (cell : ℕ → Cell) (limit : ℕ) (old : View) (all : List ℕ) (unread unread' : Option (List ℕ)) (reads reads' : Reads)
     (fault : Option PassageFault) : Type 0 where
   pub got : List ℕ
   pub grown : all ≡ old.held ++ got
   pub ahead_kept : KeepsAhead fault (prepend_known old.held unread) (prepend_known all unread')
   pub begins : BeginsWith all (prepend_known old.held unread)
-  pub but_one : reads' + length old.held ≤ reads + length all + 1
-  pub within : reads < reads' → reads' + (old.given + length old.held) ≤ reads + (longest_text + 1)
-  pub due : reads < reads' → WasOpen cell limit old all reads reads'
+  pub but_one : reads'.count + length old.held ≤ reads.count + length all + 1
+  pub within : reads.count < reads'.count → reads'.count + (old.given + length old.held) ≤ reads.count + (longest_text + 1)
+  pub due : IsStill old.held all reads reads' ⊎ WasOpen cell limit old all reads reads'
 
 -- a paragraph that is being gathered, from when nothing was
 pub record Gathering (cell : ℕ → Cell) (old now : Paragraph) (last : Option Class) (unread unread' : Option (List ℕ))
-    (ended ended' : Bool) (reads reads' : ℕ) : Type 0 where
+    (ended ended' : Bool) (reads reads' : Reads) : Type 0 where
   pub limit : now.limit ≡ old.limit
   pub open_end : now.is_held ≡ false
   pub unspent : now.is_spent ≡ false
   pub given : now.feed.given ≡ old.feed.given + length (string_bytes now.text)
   pub read : HasRead cell old.limit old.feed (string_bytes now.text ++ now.feed.held) unread unread' reads reads' None
-  pub each_gave : reads' + length old.feed.held ≤ reads + length (string_bytes now.text ++ now.feed.held)
-  pub few : reads' ≤ reads + (length (string_bytes now.text) + 4)
+  pub each_gave : reads'.count + length old.feed.held ≤ reads.count + length (string_bytes now.text ++ now.feed.held)
+  pub few : reads'.count ≤ reads.count + (length (string_bytes now.text) + 4)
   pub agrees : feed.Agrees old.feed ended unread → feed.Agrees now.feed ended' unread'
   pub notices : now.feed.is_ended ≡ false → ended' ≡ ended
-  pub quiet : old.feed.is_ended ≡ true → (string_bytes now.text ++ now.feed.held ≡ old.feed.held) × (now.feed.is_ended ≡ true) × (reads' ≤ reads)
+  pub quiet : old.feed.is_ended ≡ true → (string_bytes now.text ++ now.feed.held ≡ old.feed.held) × (now.feed.is_ended ≡ true) × (reads' ≡ reads)
   pub none_ends : stays cell None (chars (string_bytes now.text)) ≡ true
   pub last_is : last ≡ last_class cell None (chars (string_bytes now.text))
 
 -- what gathering leaves, from nothing gathered; `unread`, `ended` and `reads` are the reader's before it, and those
 -- with a prime after it
 pub record Gathers (cell : ℕ → Cell) (old new : Paragraph) (unread unread' : Option (List ℕ)) (ended ended' : Bool)
-    (reads reads' : ℕ) (r : Result (Option Verdict) PassageFault) : Type 0 where
+    (reads reads' : Reads) (r : Result (Option Verdict) PassageFault) : Type 0 where
   pub limit : new.limit ≡ old.limit
   pub open_end : new.is_held ≡ false
   pub spent : new.is_spent ≡ ends_run (fault_in r)
   pub given : new.feed.given ≡ old.feed.given + length (string_bytes new.text)
   pub read : HasRead cell old.limit old.feed (string_bytes new.text ++ new.feed.held) unread unread' reads reads' (fault_in r)
   pub each_gave : (ends_run (fault_in r) || new.feed.is_ended) ≡ false
-      → reads' + length old.feed.held ≤ reads + length (string_bytes new.text ++ new.feed.held)
-  pub few : reads' ≤ reads + (old.limit + 4)
+      → reads'.count + length old.feed.held ≤ reads.count + length (string_bytes new.text ++ new.feed.held)
+  pub few : reads'.count ≤ reads.count + (old.limit + 4)
   pub agrees : feed.Agrees old.feed ended unread → feed.Agrees new.feed ended' unread'
   pub notices : new.feed.is_ended ≡ false → ended' ≡ ended
   pub quiet : old.feed.is_ended ≡ true
-      → (string_bytes new.text ++ new.feed.held ≡ old.feed.held) × (new.feed.is_ended ≡ true) × (reads' ≤ reads) × (¬ (fault_in r ≡ Some Read))
+      → (string_bytes new.text ++ new.feed.held ≡ old.feed.held) × (new.feed.is_ended ≡ true) × (reads' ≡ reads) × (¬ (fault_in r ≡ Some Read))
   pub whole : IfOk r (λ end. IsWholeText cell (string_bytes new.text) new.feed end)
   pub stops : IfErr r (λ fault. (profile : Profile) → Stops (state_with cell profile new) fault)
 
@@ -160,7 +163,7 @@ FillAnswers s p was_spent (Err fault) = ((fault ≡ Spent) × (was_spent ≡ tru
 
 -- what a call that fills a paragraph leaves
 pub record Fills (cell : ℕ → Cell) (profile : Profile) (old new : Paragraph) (unread unread' : Option (List ℕ))
-    (ended ended' : Bool) (reads reads' : ℕ) (r : Result (Option Verdict) PassageFault) : Type 0 where
+    (ended ended' : Bool) (reads reads' : Reads) (r : Result (Option Verdict) PassageFault) : Type 0 where
   pub limit : new.limit ≡ old.limit
   pub answer : FillAnswers (state_with cell profile new) new old.is_spent r
   pub start : (state_with cell profile new).start ≡ (state_with cell profile old).start
@@ -175,7 +178,7 @@ pub record Fills (cell : ℕ → Cell) (profile : Profile) (old new : Paragraph)
   pub agrees : feed.Agrees old.feed ended unread → feed.Agrees new.feed ended' unread'
   pub notices : new.feed.is_ended ≡ false → ended' ≡ ended
   pub quiet : old.feed.is_ended ≡ true
-      → ((state_with cell profile new).held ≡ (state_with cell profile old).held) × (new.feed.is_ended ≡ true) × (reads' ≤ reads) × (¬ (fault_in r ≡ Some Read))
+      → ((state_with cell profile new).held ≡ (state_with cell profile old).held) × (new.feed.is_ended ≡ true) × (reads' ≡ reads) × (¬ (fault_in r ≡ Some Read))
 
 -- the same paragraph, but for whether it is held, and whether it is spent
 pub record IsSame (old new : Paragraph) (is_held is_spent : Bool) : Type 0 where

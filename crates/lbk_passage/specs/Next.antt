@@ -1,9 +1,9 @@
 -- What a call of `next` gives, what it leaves, and what its faults say.
 use Rattle.std.specs.Prelude.{◌≡◌, ◌⊎◌, ℕ, ◌+◌, ◌<◌, ◌≤◌, Bool, true, false, ◌||◌, not, List, [], ◌∷◌, ◌++◌, length, Option, None, Some, Result, Ok, Err, IsUtf8, encode_utf8, encode_utf8_all}
 use Rattle.std.specs.Io.KnownBytes.{prepend_known, Keeps, IsAtEnd}
-use Rattle.lbk_feed.specs.Devices.{KeepsIfTold, count_up}
+use Rattle.lbk_feed.specs.Devices.{KeepsIfTold, Reads, count_up}
 use Rattle.lbk_feed.specs.Text.{longest_text, well_formed_prefix, counted, IsNotUtf8At, IsTooLong}
-use Rattle.lbk_feed.specs.View.{AfterEach, BeginsWith, CanGoOn}
+use Rattle.lbk_feed.specs.View.{AfterEach, BeginsWith, CanGoOn, IsStill}
 use Rattle.lbk_rules.specs.Marks.{Marked, marks, ended, scalars_of, text_of}
 use Rattle.lbk_passage.specs.Passages.{passages}
 use Rattle.lbk_passage.specs.Segments.{segments_of}
@@ -162,11 +162,11 @@ pub record DecidesAlike (old new : State) : Type 0 where
   pub profile : new.profile ≡ old.profile
   pub limit : new.limit ≡ old.limit
 
--- reads are made while no passage and no fault is certain, as far as their count tells: some first bytes of those held in
--- the end and those given, which are `all`, at least one for each read but the last, settle none. They are scalars within the
--- limit that are at most one passage, and begin the first passage of every text that goes on from them, and behind them
--- nothing, or the first bytes of a scalar
-pub record WereDue (s : State) (all : List ℕ) (from to : ℕ) : Type 0 where
+-- reads are made only while no passage and no fault is certain: before the last of them, those held at first and those that
+-- the other reads gave, at least one each, settle none. Of `all`, the bytes held in the end and those given, these are all but
+-- the bytes of the last read. They are scalars within the limit that are at most one passage, and begin the first passage of
+-- every text that goes on from them, and behind them nothing, or the first bytes of a scalar
+pub record WereDue (s : State) (all : List ℕ) (from to : Reads) : Type 0 where
   pub seen : List ℕ
   pub rest : List ℕ
   pub last : List ℕ
@@ -176,16 +176,18 @@ pub record WereDue (s : State) (all : List ℕ) (from to : ℕ) : Type 0 where
   pub unfinished : 0 < length seen → (more : List ℕ) → BeginsWithAll seen (passages s.profile s.cell (seen ++ more))
   pub within : length (encode_utf8_all seen) ≤ s.limit
   pub goes_on : CanGoOn (s.start + length (encode_utf8_all seen)) rest
-  pub each_gave : to + length s.held ≤ from + (length (encode_utf8_all seen) + length rest + 1)
+  pub is_last : length last ≡ to.gave
+  pub holds : length s.held ≤ length (encode_utf8_all seen) + length rest
+  pub each_gave : to.count + length s.held ≤ from.count + (length (encode_utf8_all seen) + length rest + 1)
 
--- what the reads of a call cost, from the count before it to the count after, where `all` are the bytes held in the
+-- what the reads of a call cost, from those made before it to those made after, where `all` are the bytes held in the
 -- end and those given: each read gives a byte, but perhaps the last, where the end was met or the run stops; none is
 -- made once more bytes were read than a text may have, nor where a passage or a fault is certain
-pub record Costs (old new : State) (all : List ℕ) (stops : Bool) (from to : ℕ) : Type 0 where
-  pub each_gave : (stops || new.is_ended) ≡ false → to + length old.held ≤ from + length all
-  pub but_one : to + length old.held ≤ from + length all + 1
-  pub within : from < to → to + (old.start + length old.held) ≤ from + (longest_text + 1)
-  pub due : from < to → WereDue old all from to
+pub record Costs (old new : State) (all : List ℕ) (stops : Bool) (from to : Reads) : Type 0 where
+  pub each_gave : (stops || new.is_ended) ≡ false → to.count + length old.held ≤ from.count + length all
+  pub but_one : to.count + length old.held ≤ from.count + length all + 1
+  pub within : from.count < to.count → to.count + (old.start + length old.held) ≤ from.count + (longest_text + 1)
+  pub due : IsStill old.held all from to ⊎ WereDue old all from to
 
 -- the segmenter has met the end only where its reader has: one reader serves all its calls
 abbrev pub Agrees : State → Bool → Option (List ℕ) → Type 0
@@ -193,7 +195,7 @@ Agrees s ended unread = s.is_ended ≡ true → (ended ≡ true) × IsAtEnd unre
 
 -- what the segmenter is once the passage that a call lent is given back; `unread`, `ended` and `reads` are the
 -- reader's before the call, and those with a prime after it
-pub record AfterNext (old new : State) (unread unread' : Option (List ℕ)) (ended ended' : Bool) (reads reads' : ℕ)
+pub record AfterNext (old new : State) (unread unread' : Option (List ℕ)) (ended ended' : Bool) (reads reads' : Reads)
     (r : Result (Option Passage) PassageFault) : Type 0 where
   pub alike : DecidesAlike old new
   pub answer : Answers old new r
@@ -207,4 +209,4 @@ pub record AfterNext (old new : State) (unread unread' : Option (List ℕ)) (end
   pub costs : Costs old new (lent_text r ++ new.held) (ends_run (fault_in r)) reads reads'
   pub agrees : Agrees old ended unread → Agrees new ended' unread'
   pub notices : new.is_ended ≡ false → ended' ≡ ended
-  pub quiet : old.is_ended ≡ true → (lent_text r ++ new.held ≡ old.held) × (new.is_ended ≡ true) × (reads' ≤ reads) × (¬ (fault_in r ≡ Some Read))
+  pub quiet : old.is_ended ≡ true → (lent_text r ++ new.held ≡ old.held) × (new.is_ended ≡ true) × (reads' ≡ reads) × (¬ (fault_in r ≡ Some Read))

@@ -91,11 +91,11 @@ impl Paragraph {
         requires whole { self.old.is_held ≡ true → IsWhole (C.cell_of cells.now) self.old }
         ensures fills { (profile : Profile) → Fills (C.cell_of cells.now) profile self.old self.new
             (R.unread reader.old) (R.unread reader.new) (R.has_ended reader.old) (R.has_ended reader.new)
-            (R.read_count reader.old) (R.read_count reader.new) result }
+            (R.reads_made reader.old) (R.reads_made reader.new) result }
         ensures whole { self.new.is_held ≡ true → IsWhole (C.cell_of cells.now) self.new }
         ensures end { IfOk result (λ end. end ≡ self.new.end) }
         ensures failures { R.failure_count reader.new ≡ failures_with (R.failure_count reader.old) (fault_in result) }
-        ensures reads { R.read_count reader.new ≤ R.read_count reader.old + (self.old.limit + 4) }
+        ensures reads { (R.reads_made reader.new).count ≤ (R.reads_made reader.old).count + (self.old.limit + 4) }
         ensures quiet { self.old.is_held ≡ true → reader.new ≡ reader.old }
         ensures spent { self.old.is_spent ≡ true → reader.new ≡ reader.old }
         ensures ended { self.old.feed.is_ended ≡ true → reader.new ≡ reader.old }
@@ -129,7 +129,7 @@ impl Paragraph {
         requires unspent { self.old.is_spent ≡ false }
         ensures gathers { Gathers (C.cell_of cells.now) self.old self.new
             (R.unread reader.old) (R.unread reader.new) (R.has_ended reader.old) (R.has_ended reader.new)
-            (R.read_count reader.old) (R.read_count reader.new) result }
+            (R.reads_made reader.old) (R.reads_made reader.new) result }
         ensures failures { R.failure_count reader.new ≡ failures_with (R.failure_count reader.old) (fault_in result) }
         ensures quiet { self.old.feed.is_ended ≡ true → reader.new ≡ reader.old }
         ensures again { self.old.feed.is_ended ≡ true → self.old.feed.held ≡ [] → result ≡ Ok None }
@@ -152,7 +152,7 @@ impl Paragraph {
         requires unspent { self.old.is_spent ≡ false }
         ensures settles { Settles self.old self.new
             (R.unread reader.old) (R.unread reader.new) (R.has_ended reader.old) (R.has_ended reader.new)
-            (R.read_count reader.old) (R.read_count reader.new) result }
+            (R.reads_made reader.old) (R.reads_made reader.new) result }
         ensures failures { R.failure_count reader.new ≡ failures_with (R.failure_count reader.old) (fault_in result) }
         ensures quiet { self.old.feed.is_ended ≡ true → reader.new ≡ reader.old }
         ensures again { self.old.feed.is_ended ≡ true → self.old.feed.held ≡ [] → result ≡ Ok false }

@@ -94,7 +94,7 @@ impl<'a, C: CellSource> Segmenter<'a, C> {
         ensures* after_borrow { sem 𝓛 (Rests (the_row (record { mir = named 1; lft = [] }) C.row C.CellSource) self.entry (λ new.
             AfterNext (state_of C.cell_of self.old) (state_of C.cell_of new) (R.unread reader.old) (R.unread reader.new)
             (R.has_ended reader.old) (R.has_ended reader.new)
-            (R.read_count reader.old) (R.read_count reader.new) result)) }
+            (R.reads_made reader.old) (R.reads_made reader.new) result)) }
 
         ensures lent { IfOk result (λ o. IfSome o IsPlaced) }
         ensures spent { (state_of C.cell_of self.old).is_spent ≡ true → result ≡ Err PassageFault.Spent }
@@ -104,7 +104,7 @@ impl<'a, C: CellSource> Segmenter<'a, C> {
         // Where the end was seen before, or a fault was returned, no read is made.
         ensures settled { (state_of C.cell_of self.old).is_settled ≡ true → reader.new ≡ reader.old }
         ensures ended { (state_of C.cell_of self.old).is_ended ≡ true → reader.new ≡ reader.old }
-        ensures reads { R.read_count reader.new ≤ R.read_count reader.old + ((state_of C.cell_of self.old).limit + 8) }
+        ensures reads { (R.reads_made reader.new).count ≤ (R.reads_made reader.old).count + ((state_of C.cell_of self.old).limit + 8) }
         // `Read` is returned exactly where a read failed.
         ensures failures { R.failure_count reader.new ≡ failures_with (R.failure_count reader.old) (fault_in result) }
     {

@@ -11,7 +11,8 @@ use test_support_runs::runs::{Run, whole};
 use test_support_runs::tasks::{Setting, Task};
 
 /// What is run on an input in reads of one byte, and all that went out once so many bytes were read.
-static FAILED_READS: [(Task, &str, &[(u64, &str)]); 4] = [
+static FAILED_READS: [(Task, &str, &[(u64, &str)]); 5] = [
+    (Task::Mark, "a b\r\nc", &[(0, ""), (6, "a ÷b\r\n")]),
     (
         Task::Show,
         "a\r\nb",

@@ -65,7 +65,7 @@ pub enum Cause {
     TooManyRows,
     /// The heap refused memory.
     OutOfMemory,
-    /// The rules need more steps than a table has, which no files make them.
+    /// The rules need more steps than a table has. No files that were tested make them.
     TableTooLarge,
     /// The file is not the one that Unicode published; only of [`Table::read_published`](crate::Table::read_published).
     NotPublished,

@@ -2,8 +2,8 @@
 #![tactic(auto, unfolding(crate::specs::MemorySource::source_bytes, crate::specs::MemorySource::source_sizes, crate::specs::MemorySource::failing_read, crate::specs::MemorySource::source_tally))]
 
 ghost use Rattle.std.specs.Prelude.{◌≡◌, ◌≤◌, ◌↔◌, [], min, length, Some, None, IsErr, IfOk, OnOk, OnErr};
-ghost use Rattle.lbk_feed.specs.Devices.{count_up, failures_after, ended_after, Takes};
-ghost use Rattle.lbk_feed.specs.Tally.{IsFresh};
+ghost use Rattle.lbk_feed.specs.Devices.{count_up, given_by, failures_after, ended_after, Takes};
+ghost use Rattle.lbk_feed.specs.Tally.{IsFresh, reads_in};
 ghost use Rattle.lbk_feed.specs.MemorySource.{source_bytes, source_sizes, next_size_of, later_sizes, failing_read, source_tally};
 
 use crate::tally::Tally;
@@ -101,7 +101,7 @@ impl<'a> MemorySource<'a> {
 impl Source for MemorySource<'_> {
     ghost unread = { λ s. Some (source_bytes s) };
 
-    ghost read_count = { λ s. (source_tally s).reads };
+    ghost reads_made = { λ s. reads_in (source_tally s) };
 
     ghost failure_count = { λ s. (source_tally s).failures };
 
@@ -112,7 +112,8 @@ impl Source for MemorySource<'_> {
     fn read(&mut self, buf: &mut [u8]) -> Result<usize, Failed>
         ensures within { IfOk result (λ n. n ≤ length buf.old) }
         ensures bytes { Takes (Some (source_bytes self.old)) (Some (source_bytes self.new)) result buf.new }
-        ensures reads { (source_tally self.new).reads ≡ count_up (source_tally self.old).reads }
+        ensures reads { (reads_in (source_tally self.new)).count ≡ count_up (reads_in (source_tally self.old)).count }
+        ensures gave { (reads_in (source_tally self.new)).gave ≡ given_by result }
         ensures failures { (source_tally self.new).failures ≡ failures_after (source_tally self.old).failures result }
         ensures ended { (source_tally self.new).ended ≡ ended_after (source_tally self.old).ended result (length buf.old) }
 

@@ -16,7 +16,7 @@ returns-in_err-segmenter-clause-refused g c =
       shown = search rules;
       ended = search rules;
       run = run_none (showing (page_cell c.args.cells.now) c.args.profile c.args.limit)
-          _ _ (g.R.Source.read_count c.args.reader.now) _ c.from_residual.result c.in_err-segmenter.field-0.0 _ (exit.1 ∙ ap Err exit.2)
+          _ _ (g.R.Source.reads_made c.args.reader.now) _ c.from_residual.result c.in_err-segmenter.field-0.0 _ (exit.1 ∙ ap Err exit.2)
           c.in_err-segmenter.ensures.only;
       reads = search rules;
       limit = search rules;

@@ -7,7 +7,7 @@ abbrev pub invariant-loop-block : goal.invariant-loop-block
 invariant-loop-block g l = record {
   read : Consumes (g.R.Source.unread l.initial.reader) (g.R.Source.unread l.reader) l.front.items;
   within : length l.front.items ≤ l.most + 1;
-  few : g.R.Source.read_count l.reader ≤ g.R.Source.read_count l.initial.reader + length l.front.items;
+  few : (g.R.Source.reads_made l.reader).count ≤ (g.R.Source.reads_made l.initial.reader).count + length l.front.items;
   none_failed : g.R.Source.failure_count l.reader ≡ g.R.Source.failure_count l.initial.reader;
 }
 

@@ -1,7 +1,7 @@
-use Rattle.std.proofs.Common.{◌≡◌, ◌<◌, ◌≤◌, refl, ◌∙◌, length, take, drop, arith}
+use Rattle.std.proofs.Common.{◌≡◌, ◌<◌, ◌≤◌, refl, sym, ◌∙◌, length, take, drop, arith}
 use Rattle.std.proofs.lemmas.List.{length-take-le}
 use Rattle.std.proofs.lemmas.Result.{err_from_is_err_and}
-use Rattle.lbk_notation.proofs.RunLemmas.{Ran-long, Ran-stopped, Reads-more, Reads-start, front-split, length-past}
+use Rattle.lbk_notation.proofs.RunLemmas.{Ran-failed, Ran-long, Ran-stopped, Reads-more, Reads-start, front-split, length-past}
 use Rattle.lbk_notation.proofs.files.read_all.Goals as goal
 
 pub loop-count-init : goal.loop-count-init
@@ -23,8 +23,9 @@ returns-in_err-take_all-clause-run g c =
     let size : length (take counted buf) ≡ counted = length-take-le counted buf (omega arith) in
     rw (p.1, p.2)
     (Ran-stopped _ _ _ c.loop-count.progress c.take_all.new.progress (take count buf) (take counted buf) (drop counted (take count buf))
-    _ _ _ _ _ _ c.in_err-take_all.field-0.0 c.loop-count.invariant.reads c.in-Ok.ensures.bytes.0 c.in_err-take_all.ensures.uses
-    (front-split counted count buf below) (omega (arith, c.min-counted.ensures, c.room.ensures)) c.in_err-take_all.ensures.only)
+    _ _ _ _ _ _ c.in_err-take_all.field-0.0 _ c.loop-count.invariant.reads c.in-Ok.ensures.bytes.0 c.in_err-take_all.ensures.uses
+    (front-split counted count buf below) (omega (arith, c.min-counted.ensures, c.room.ensures)) c.in_err-take_all.ensures.only
+    (length-take-le count buf within ∙ sym c.in-Ok.ensures.gave))
 
 pub returns-then-counted-count-clause-run : goal.returns-then-counted-count-clause-run
 returns-then-counted-count-clause-run g c =
@@ -35,9 +36,9 @@ returns-then-counted-count-clause-run g c =
     let past : counted < count = c.if-counted-count.true in
     let size : length (take counted buf) ≡ counted = length-take-le counted buf (omega arith) in
     Ran-long _ _ _ c.loop-count.progress c.take_all.new.progress (take count buf) (take counted buf) (drop counted (take count buf))
-    _ _ _ _ _ _ c.in_ok-take_all.field-0 c.loop-count.invariant.reads c.in-Ok.ensures.bytes.0 c.in_ok-take_all.ensures.uses
+    _ _ _ _ _ _ c.in_ok-take_all.field-0 _ c.loop-count.invariant.reads c.in-Ok.ensures.bytes.0 c.in_ok-take_all.ensures.uses
     (front-split counted count buf (omega arith)) (length-past counted count buf past within)
-    (omega (arith, c.min-counted.ensures, c.room.ensures))
+    (omega (arith, c.min-counted.ensures, c.room.ensures)) (length-take-le count buf within ∙ sym c.in-Ok.ensures.gave)
 
 pub loop-count-preserved : goal.loop-count-preserved
 loop-count-preserved g c =
@@ -55,3 +56,7 @@ loop-count-preserved g c =
       none_failed_to_read = c.in-Ok.ensures.failures ∙ c.loop-count.invariant.none_failed_to_read;
       none_failed_to_write = c.in_ok-take_all.ensures.none_failed ∙ c.loop-count.invariant.none_failed_to_write;
     }
+
+pub returns-in_default-clause-run : goal.returns-in_default-clause-run
+returns-in_default-clause-run g c =
+    Ran-failed _ _ _ c.loop-count.progress _ _ _ _ _ _ c.loop-count.invariant.reads c.in_default.ensures.bytes c.loop-count.progress.within c.in_default.ensures.gave

@@ -1,4 +1,4 @@
-use Rattle.std.proofs.Common.{◌≡◌, ◌<◌, ◌||◌, Bool, true, false, eqb, length, slice_index_or, rules, sym, ap, ◌∙◌}
+use Rattle.std.proofs.Common.{◌≡◌, ◌<◌, ◌||◌, false, eqb, length, slice_index_or, rules, sym, ap, ◌∙◌}
 use Rattle.std.proofs.lemmas.Bool.{eqb-true}
 use Rattle.lbk_passage.proofs.Letters.{letter-told}
 use Rattle.lbk_passage.proofs.pieces.is_word.Goals as goal

@@ -17,11 +17,11 @@ returns-clause-ok g c =
     ∙ sym i.judged.ready ∙ c.requires.due.none_ready in
     Draws-one (view_of i) _ _ _ _ _ c.in_ok-n.n gives refl refl refl
     (λ none. ap (λ n. length (take n (items c.read_from.new.self))) (still none))
-    c.read_from.ensures.reads c.requires.due.goes_on
+    c.read_from.ensures.reads c.in_ok-n.ensures.gave c.requires.due.goes_on
 
 pub returns-in_err-n-clause-err : goal.returns-in_err-n-clause-err
 unfolding view_of
 returns-in_err-n-clause-err g c =
     let due = c.requires.due in
     OnErr-always c.from_residual.result (Draws-failed (view_of c.args.self.now) _ _ _ _ _ c.in_err-n.ensures.fills.0 c.in_err-n.ensures.fills.1
-    refl refl due.open_end (ap (λ n. length (take n (items c.read_from.new.self))) due.none_ready) c.read_from.ensures.reads due.goes_on)
+    refl refl due.open_end (ap (λ n. length (take n (items c.read_from.new.self))) due.none_ready) c.read_from.ensures.reads c.in_err-n.ensures.gave due.goes_on)

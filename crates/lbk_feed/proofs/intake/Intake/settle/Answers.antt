@@ -1,4 +1,4 @@
-use Rattle.std.proofs.Common.{◌≡◌, ◌⊎◌, ◌<◌, [], length, take, Bool, true, false, sym, ap, subst, ◌∙◌, ⊎_elim, arith}
+use Rattle.std.proofs.Common.{◌≡◌, ◌⊎◌, ◌<◌, [], length, take, Bool, true, false, is_err, sym, ap, subst, ◌∙◌, ⊎_elim, arith}
 use Rattle.std.proofs.lemmas.List.{length-take}
 use Rattle.lbk_feed.specs.declared.intake.Intake.{Intake}
 use Rattle.lbk_feed.specs.Block.{items}
@@ -7,7 +7,7 @@ use Rattle.lbk_feed.specs.Intake.{view_of, WantsMore}
 use Rattle.lbk_feed.proofs.Judged.{front, lends, judged-spent}
 use Rattle.lbk_feed.proofs.Drawing.{no_bytes}
 use Rattle.lbk_feed.proofs.Outcomes.{OnErr-at, OnOk-at}
-use Rattle.lbk_feed.proofs.Stepping.{Finds-of, is_some-fault_of, Steps-still, Steps-spent, Steps-drawn, Steps-failed, Pays-drawn, Pays-failed}
+use Rattle.lbk_feed.proofs.Stepping.{Finds-of, is_some-fault_of, Steps-still, Steps-spent, Steps-drawn, Steps-failed, Pays-drawn, Pays-failed, Pays-still}
 use Rattle.lbk_feed.proofs.intake.Intake.settle.Goals as goal
 use Rattle.lbk_feed.proofs.intake.Intake.settle.Goals.{After-refill}
 
@@ -38,6 +38,17 @@ returns-then-self-clause-steps g c =
     let i = c.args.self.now in
     let none : take i.ready_len (items i.block) ≡ [] = ap (λ n. take n (items i.block)) (i.judged.spent c.if-self.true) in
     Steps-spent (view_of i) _ c.if-self.true none (front_of i) (lends_of i)
+
+pub returns-then-self-clause-pays : goal.returns-then-self-clause-pays
+unfolding view_of
+returns-then-self-clause-pays g c = Pays-still (view_of c.args.self.now) c.args.self.now.is_spent (g.R.Source.reads_made c.args.reader.now)
+
+pub returns-then-not-wants_more-clause-pays : goal.returns-then-not-wants_more-clause-pays
+unfolding view_of
+returns-then-not-wants_more-clause-pays g c =
+    let i = c.args.self.now in
+    subst (λ (v : View). Pays (view_of i) v (g.R.Source.reads_made c.args.reader.now) (g.R.Source.reads_made c.args.reader.now)) (sym c.finish.ensures.view)
+    (Pays-still (view_of i) (is_err c.finish.result) (g.R.Source.reads_made c.args.reader.now))
 
 pub returns-then-not-wants_more-clause-steps : goal.returns-then-not-wants_more-clause-steps
 unfolding view_of
@@ -87,5 +98,5 @@ unfolding view_of
 returns-clause-pays g c =
     let m = c.refill.new.self in
     let drawn = OnOk-at c.refill.result (sym c.is_err.ensures.value ∙ c.if-is_err.false) c.refill.ensures.ok in
-    subst (λ (v : View). Pays (view_of c.args.self.now) v (g.R.Source.read_count c.args.reader.now) (g.R.Source.read_count c.refill.new.reader)) (sym c.finish-2.ensures.view)
+    subst (λ (v : View). Pays (view_of c.args.self.now) v (g.R.Source.reads_made c.args.reader.now) (g.R.Source.reads_made c.refill.new.reader)) (sym c.finish-2.ensures.view)
     (Pays-drawn (view_of c.args.self.now) (view_of m) (g.R.Source.unread c.args.reader.now) (g.R.Source.unread c.refill.new.reader) _ _ _ drawn)

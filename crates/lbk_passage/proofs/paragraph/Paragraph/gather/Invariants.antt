@@ -6,7 +6,7 @@ abbrev pub invariant-loop-self : goal.invariant-loop-self
 invariant-loop-self g l = record {
   gathering : Gathering (g.C.CellSource.cell_of l.cells) l.initial.self l.self l.last
       (g.R.Source.unread l.initial.reader) (g.R.Source.unread l.reader) (g.R.Source.has_ended l.initial.reader) (g.R.Source.has_ended l.reader)
-      (g.R.Source.read_count l.initial.reader) (g.R.Source.read_count l.reader);
+      (g.R.Source.reads_made l.initial.reader) (g.R.Source.reads_made l.reader);
   failures : g.R.Source.failure_count l.reader ≡ g.R.Source.failure_count l.initial.reader;
   quiet : l.initial.self.feed.is_ended ≡ true → (l.reader ≡ l.initial.reader) × (l.self.feed.is_ended ≡ true);
 }

@@ -1,4 +1,4 @@
-use Rattle.std.proofs.Common.{◌≡◌, false, None, Some, Ok, Err, ◌&&◌, not, is_err, inl, inr, arith, refl, sym, ap, ◌∙◌}
+use Rattle.std.proofs.Common.{◌≡◌, false, None, Some, Ok, Err, ◌&&◌, not, is_err, inl, inr, refl, sym, ap, ◌∙◌}
 use Rattle.lbk_feed.specs.declared.faults.FeedFault.TheVariants.{Read, Spent}
 use Rattle.lbk_feed.specs.View.{fault_of}
 use Rattle.lbk_feed.specs.View as feed
@@ -27,7 +27,7 @@ returns-in-Ok-clause-settles g c = record {
   agrees = c.settle-outcome.ensures.agrees;
   notices = c.settle-outcome.ensures.notices;
   unasked = λ h.
-      (let same = ap g.R.Source.read_count (c.settle-outcome.ensures.idle (inr (inl h))) in (omega (arith, same), λ e. cc));
+      (ap g.R.Source.reads_made (c.settle-outcome.ensures.idle (inr (inl h))), λ e. cc);
   stands = rw c.in-Ok.is at c.settle-outcome.ensures.stands;
   ends = rw c.in-Ok.is at c.settle-outcome.ensures.ends;
 }
@@ -48,8 +48,7 @@ returns-in-Err-clause-settles g c = record {
   agrees = c.settle-outcome.ensures.agrees;
   notices = c.settle-outcome.ensures.notices;
   unasked = λ h.
-      (let same = ap g.R.Source.read_count (c.settle-outcome.ensures.idle (inr (inl h))) in
-      (omega (arith, same), λ e. let is : c.in-Err.fault ≡ Read = cc in c.settle-outcome.ensures.read (c.in-Err.is ∙ ap Err is) (inr (inl h))));
+      (ap g.R.Source.reads_made (c.settle-outcome.ensures.idle (inr (inl h))), λ e. let is : c.in-Err.fault ≡ Read = cc in c.settle-outcome.ensures.read (c.in-Err.is ∙ ap Err is) (inr (inl h)));
   stands = tt;
   ends = tt;
 }
