@@ -1,7 +1,7 @@
 //! The scalars of one, two and three bytes, read without a call.
 
-ghost use Rattle.std.specs.Prelude.{◌≡◌, ◌<◌, ◌≤◌, true, length, IfSome};
-ghost use Rattle.bstr.specs.Utf8.{code_of_2, code_of_3, continues, decoded, good, second};
+ghost use Rattle.std.specs.Prelude.{◌≡◌, ◌<◌, ◌≤◌, ◌⊎◌, true, length, IfSome};
+ghost use Rattle.bstr.specs.Utf8.{code_of_2, code_of_3, continues, decoded, good};
 ghost use Rattle.lbk_bytes.specs.Widths.{more_of};
 
 /// A scalar value and how many bytes it takes.
@@ -99,17 +99,18 @@ fn scalar_of_three(bytes: &[u8]) -> Option<Scalar>
         return None;
     }
     let next = bytes[1];
-    if !is_second_of_three(first, next) {
+    if !is_continuation(next) {
         return None;
     }
     let last = bytes[2];
     if !is_continuation(last) {
         return None;
     }
-    Some(Scalar {
-        code: code_of_three(first, next, last),
-        size: 3,
-    })
+    let code = code_of_three(first, next, last);
+    if !takes_three(code) {
+        return None;
+    }
+    Some(Scalar { code, size: 3 })
 }
 
 /// Whether a byte may stand after the first of a scalar.
@@ -120,19 +121,12 @@ fn is_continuation(byte: u8) -> bool
     0x7F < byte && byte < 0xC0
 }
 
-/// Whether a byte may stand second in a scalar of three bytes.
+/// Whether a scalar that three bytes spell takes three: it is of no fewer, and no surrogate.
 #[inline(always)]
-fn is_second_of_three(first: u8, next: u8) -> bool
-    requires { (0xE0 ≤ first) × (first < 0xF0) }
-    ensures { result ≡ second first next }
+fn takes_three(code: u32) -> bool
+    ensures { result ≡ true → (0x800 ≤ code) × (code < 0xD800 ⊎ 0xE000 ≤ code) }
 {
-    if first == 0xE0 {
-        return 0x9F < next && next < 0xC0;
-    }
-    if first == 0xED {
-        return 0x7F < next && next < 0xA0;
-    }
-    is_continuation(next)
+    (0x7FF < code && code < 0xD800) || 0xDFFF < code
 }
 
 #[inline(always)]

@@ -6,26 +6,22 @@ ghost use Rattle.lbk_rules.specs.declared.facts.Left.{Left};
 ghost use Rattle.lbk_values.specs.declared.profile.Profile.{Profile};
 ghost use Rattle.lbk_rules.specs.Codes.{IsCode, verdict_coded};
 ghost use Rattle.lbk_steps.specs.FlatTable.{AreFlatKinds, IsFlatBy};
+ghost use Rattle.lbk_steps.specs.Neighbours.{AreTold};
 ghost use Rattle.lbk_bytes.specs.Bytes.{with_break};
 ghost use Rattle.lbk_bytes.specs.Order.{AreBreaks, AreInOrder};
 ghost use Rattle.lbk_bytes.specs.Reached.{Ahead, AreSwift, IsInOrder, Reached};
 ghost use Rattle.lbk_bytes.specs.Shown.{given_in};
 
-use crate::blocks::{BLOCK, blocks, wide_ahead};
+use crate::blocks::{BLOCK, blocks};
 use crate::deciding::decide_one;
 use crate::decoding::{Width, scalar_of};
 use crate::fill_state::FillState;
 use crate::raw_break::RawBreak;
 use crate::shown::shown_of;
 use crate::steps::{CODES, pairs_of, step_at, steps_of};
+use crate::tries::{is_worthy, next_try};
 use lbk_rules::{Profile, VERDICTS, is_break};
-use lbk_steps::{FlatStep, FlatTable, STEPS};
-
-/// How many bytes are taken one by one where scalars of more than two are usual.
-const MANY: usize = 2048;
-
-/// Blocks that take fewer bytes than this cost more than they save.
-const WORTH_WHILE: usize = 16;
+use lbk_steps::{FlatStep, FlatTable, Neighbours, STEPS};
 
 /// Goes on until the block is full or the text ends, and writes the breaks before the scalars taken after those in the
 /// front of the block. A text of fewer bytes than a block is gone over here, with no call, as long as its scalars are common.
@@ -50,13 +46,26 @@ pub fn fill(
         return start;
     }
     if BLOCK <= text.len() - start.at {
-        return fill_on(table, profile, start, text, out);
+        return copied(fill_on(table, profile, start, text, out));
     }
-    let here = scalars(&table.kinds, steps_of(table, profile), start, text, out);
+    let steps = steps_of(table, profile);
+    let here = scalars(&table.kinds, steps, start, text.len(), text, out);
     if here.count == out.len() || here.at == text.len() {
         return here;
     }
-    fill_on(table, profile, here, text, out)
+    copied(fill_on(table, profile, copied(here), text, out))
+}
+
+/// The same state, field by field. A state that a call takes or returns stands in memory, and a copy of it in registers.
+#[inline(always)]
+fn copied(state: FillState) -> FillState
+    ensures { result ≡ state }
+{
+    FillState {
+        count: state.count,
+        row: state.row,
+        at: state.at,
+    }
 }
 
 /// The same of any text, by blocks of bytes and single scalars in turn.
@@ -106,7 +115,7 @@ pub fn fill_common(
         return start;
     }
     let mut part = common_part(table, profile, start, text, out);
-    while part.here.at == part.until && part.until < text.len() {
+    while part.until <= part.here.at && part.here.at < text.len() {
         part = common_part(table, profile, part.here, text, out);
     }
     part.here
@@ -144,8 +153,8 @@ struct Part {
     until: usize,
 }
 
-/// Takes blocks of bytes and then common scalars, up to where blocks are tried again, unless another scalar comes or the block
-/// is full before.
+/// Takes blocks of bytes and then common scalars, up to the first that begins where blocks are tried again or after it, unless
+/// another scalar comes or the block is full before.
 #[inline(always)]
 fn common_part(
     table: &FlatTable,
@@ -155,7 +164,7 @@ fn common_part(
     out: &mut [RawBreak],
 ) -> Part
     requires { (here.count ≤ length out.old) × (here.row < 65536) × (here.at < length text.now) }
-    ensures within { (result.here.count ≤ length out.old) × (result.here.row < 65536) × (result.here.at ≤ result.until) × (result.until ≤ length text.now) }
+    ensures within { (result.here.count ≤ length out.old) × (result.here.row < 65536) × (result.here.at ≤ length text.now) × (result.until ≤ length text.now) }
     ensures onward { (here.count ≤ result.here.count) × (here.at ≤ result.here.at) × (here.at < result.until) }
     ensures in_order { (from : ℕ) → IsInOrder out.old here.count from here.at → IsInOrder out.new result.here.count from result.here.at }
     ensures reached { (cell : ℕ → Cell) (lefts : List Left) (more : List ℕ) (all : Ahead) → IsFlatBy lefts table.now cell
@@ -163,63 +172,19 @@ fn common_part(
         → Reached profile cell lefts (text.now ++ more) all result.here (given_in out.new result.here.count) }
 {
     let steps = steps_of(table, profile);
-    let there = blocks(
-        pairs_of(table, profile),
-        &table.kinds,
-        steps,
-        here,
-        text,
-        out,
-    );
-    let until = next_try(here.at, there.at, text);
+    let pairs = pairs_of(table, profile);
+    let there = worthy_blocks(pairs, &table.kinds, steps, here, text, out);
+    let until = next_try(there.at, text);
     Part {
-        here: quick(&table.kinds, steps, there, &text[..until], out),
+        here: quick(&table.kinds, steps, there, until, text, out),
         until,
     }
 }
 
-/// Up to where scalars are taken one by one, before blocks are tried again, where the last blocks took the bytes between two
-/// places.
+/// Takes blocks of bytes where the first is worth it.
 #[inline(always)]
-fn next_try(from: usize, at: usize, text: &[u8]) -> usize
-    requires { (from ≤ at) × (at ≤ length text.now) }
-    ensures { (at ≤ result) × (result ≤ length text.now) × (at < length text.now → at < result) }
-{
-    if text.len() - at < BLOCK {
-        return text.len();
-    }
-    let pause = pause(at - from, &text[at..]);
-    if text.len() - at < pause {
-        return text.len();
-    }
-    at + pause
-}
-
-/// How many bytes are taken one by one at the front of these, after blocks that took so many: many where more than two scalars
-/// in sight have more than two bytes, as many as a block has where the blocks took few, and else a few, or up to the last of
-/// these scalars.
-#[inline(always)]
-fn pause(taken: usize, text: &[u8]) -> usize
-    requires { 16 ≤ length text.now }
-    ensures { 0 < result }
-{
-    let wide = wide_ahead(text);
-    if wide.count_ones() > 2 {
-        return MANY;
-    }
-    if taken < WORTH_WHILE {
-        return BLOCK;
-    }
-    if wide == 0 {
-        return 4;
-    }
-    65 - (wide.leading_zeros() as usize)
-}
-
-/// Takes scalars as long as none of four bytes, no ill-formed bytes and no held position come, whatever may follow the text.
-/// It calls nothing, so that all it has stays in registers.
-#[inline(never)]
-fn quick(
+fn worthy_blocks(
+    pairs: &Neighbours,
     kinds: &[u8; CODES],
     steps: &[FlatStep; STEPS],
     start: FillState,
@@ -231,10 +196,36 @@ fn quick(
     ensures onward { (start.at ≤ result.at) × (start.count ≤ result.count) }
     ensures in_order { (from : ℕ) → IsInOrder out.old start.count from start.at → IsInOrder out.new result.count from result.at }
     ensures reached { (profile : Profile) (cell : ℕ → Cell) (lefts : List Left) (more : List ℕ) (all : Ahead) → AreSwift profile lefts steps.now → AreFlatKinds kinds.now cell
+        → AreTold steps.now kinds.now pairs.now
         → Reached profile cell lefts (text.now ++ more) all start (given_in out.old start.count)
         → Reached profile cell lefts (text.now ++ more) all result (given_in out.new result.count) }
 {
-    scalars(kinds, steps, start, text, out)
+    if is_worthy(&text[start.at..]) {
+        return blocks(pairs, kinds, steps, start, text, out);
+    }
+    start
+}
+
+/// Takes scalars that begin before a byte, as long as none of four bytes, no ill-formed bytes and no held position come, whatever
+/// may follow the text. It calls nothing, so that all it has stays in registers.
+#[inline(never)]
+fn quick(
+    kinds: &[u8; CODES],
+    steps: &[FlatStep; STEPS],
+    start: FillState,
+    stop: usize,
+    text: &[u8],
+    out: &mut [RawBreak],
+) -> FillState
+    requires { (start.count ≤ length out.old) × (start.row < 65536) × (start.at ≤ length text.now) × (stop ≤ length text.now) }
+    ensures within { (result.count ≤ length out.old) × (result.row < 65536) × (result.at ≤ length text.now) }
+    ensures onward { (start.at ≤ result.at) × (start.count ≤ result.count) }
+    ensures in_order { (from : ℕ) → IsInOrder out.old start.count from start.at → IsInOrder out.new result.count from result.at }
+    ensures reached { (profile : Profile) (cell : ℕ → Cell) (lefts : List Left) (more : List ℕ) (all : Ahead) → AreSwift profile lefts steps.now → AreFlatKinds kinds.now cell
+        → Reached profile cell lefts (text.now ++ more) all start (given_in out.old start.count)
+        → Reached profile cell lefts (text.now ++ more) all result (given_in out.new result.count) }
+{
+    scalars(kinds, steps, start, stop, text, out)
 }
 
 /// The same, where it is called from.
@@ -243,10 +234,11 @@ fn scalars(
     kinds: &[u8; CODES],
     steps: &[FlatStep; STEPS],
     start: FillState,
+    stop: usize,
     text: &[u8],
     out: &mut [RawBreak],
 ) -> FillState
-    requires { (start.count ≤ length out.old) × (start.row < 65536) × (start.at ≤ length text.now) }
+    requires { (start.count ≤ length out.old) × (start.row < 65536) × (start.at ≤ length text.now) × (stop ≤ length text.now) }
     ensures within { (result.count ≤ length out.old) × (result.row < 65536) × (result.at ≤ length text.now) }
     ensures onward { (start.at ≤ result.at) × (start.count ≤ result.count) }
     ensures in_order { (from : ℕ) → IsInOrder out.old start.count from start.at → IsInOrder out.new result.count from result.at }
@@ -254,25 +246,28 @@ fn scalars(
         → Reached profile cell lefts (text.now ++ more) all start (given_in out.old start.count)
         → Reached profile cell lefts (text.now ++ more) all result (given_in out.new result.count) }
 {
-    let mut from = start.at;
-    let mut here = runs(kinds, steps, start, text, out);
-    while from < here.at && here.at < text.len() {
-        from = here.at;
-        here = runs(kinds, steps, here, text, out);
+    let mut here = start;
+    while here.at < stop {
+        let past = runs(kinds, steps, here, stop, text, out);
+        if past.at == here.at {
+            return past;
+        }
+        here = past;
     }
     here
 }
 
-/// A run of scalars of each width, one after the other. Each may be empty.
+/// A run of scalars of one byte, and then one of those that the next byte may begin. Each may be empty.
 #[inline(always)]
 fn runs(
     kinds: &[u8; CODES],
     steps: &[FlatStep; STEPS],
     start: FillState,
+    stop: usize,
     text: &[u8],
     out: &mut [RawBreak],
 ) -> FillState
-    requires { (start.count ≤ length out.old) × (start.row < 65536) × (start.at ≤ length text.now) }
+    requires { (start.count ≤ length out.old) × (start.row < 65536) × (start.at ≤ length text.now) × (stop ≤ length text.now) }
     ensures within { (result.count ≤ length out.old) × (result.row < 65536) × (result.at ≤ length text.now) }
     ensures onward { (start.at ≤ result.at) × (start.count ≤ result.count) }
     ensures in_order { (from : ℕ) → IsInOrder out.old start.count from start.at → IsInOrder out.new result.count from result.at }
@@ -280,12 +275,14 @@ fn runs(
         → Reached profile cell lefts (text.now ++ more) all start (given_in out.old start.count)
         → Reached profile cell lefts (text.now ++ more) all result (given_in out.new result.count) }
 {
-    let behind_one = run(Width::One, kinds, steps, start, text, out);
-    if behind_one.at == text.len() {
+    let behind_one = run(Width::One, kinds, steps, start, stop, text, out);
+    if stop <= behind_one.at {
         return behind_one;
     }
-    let behind_two = run(Width::Two, kinds, steps, behind_one, text, out);
-    run(Width::Three, kinds, steps, behind_two, text, out)
+    if text[behind_one.at] < 0xE0 {
+        return run(Width::Two, kinds, steps, behind_one, stop, text, out);
+    }
+    run(Width::Three, kinds, steps, behind_one, stop, text, out)
 }
 
 /// A run of scalars of one width. In a text most scalars have the width of the one before, so a loop of its own for each
@@ -296,10 +293,11 @@ fn run(
     kinds: &[u8; CODES],
     steps: &[FlatStep; STEPS],
     start: FillState,
+    stop: usize,
     text: &[u8],
     out: &mut [RawBreak],
 ) -> FillState
-    requires { (start.count ≤ length out.old) × (start.row < 65536) × (start.at ≤ length text.now) }
+    requires { (start.count ≤ length out.old) × (start.row < 65536) × (start.at ≤ length text.now) × (stop ≤ length text.now) }
     ensures within { (result.count ≤ length out.old) × (result.row < 65536) × (result.at ≤ length text.now) }
     ensures onward { (start.at ≤ result.at) × (start.count ≤ result.count) }
     ensures in_order { (from : ℕ) → IsInOrder out.old start.count from start.at → IsInOrder out.new result.count from result.at }
@@ -310,7 +308,7 @@ fn run(
     let mut count = start.count;
     let mut row = start.row;
     let mut at = start.at;
-    let end = text.len().saturating_sub(width.more());
+    let end = stop.min(text.len().saturating_sub(width.more()));
     while count < out.len() && at < end {
         let Some(scalar) = scalar_of(width, &text[at..]) else {
             break;

@@ -13,6 +13,7 @@ mod profiles;
 mod raw_break;
 mod shown;
 mod steps;
+mod tries;
 
 pub use deciding::{Decided, decide_one};
 pub use ends::{END, put_end};

@@ -10,7 +10,7 @@ abbrev pub invariant-loop-part : goal.invariant-loop-part
 invariant-loop-part l = record {
   room : l.part.here.count ≤ length l.out;
   row : l.part.here.row < 65536;
-  within : l.part.here.at ≤ l.part.until;
+  within : l.part.here.at ≤ length l.text;
   until : l.part.until ≤ length l.text;
   onward : l.fn.start.at ≤ l.part.here.at;
   more : l.fn.start.count ≤ l.part.here.count;

@@ -7,13 +7,12 @@ use Rattle.lbk_bytes.specs.Reached.{Ahead, AreSwift, IsInOrder, Reached}
 use Rattle.lbk_bytes.specs.Shown.{given_in}
 use Rattle.lbk_bytes.proofs.filling.scalars.Given as goal
 
-abbrev pub invariant-loop-from : goal.invariant-loop-from
-invariant-loop-from l = record {
+abbrev pub invariant-loop-here : goal.invariant-loop-here
+invariant-loop-here l = record {
   room : l.here.count ≤ length l.out;
   row : l.here.row < 65536;
   within : l.here.at ≤ length l.text;
-  onward : l.fn.start.at ≤ l.from;
-  ahead : l.from ≤ l.here.at;
+  onward : l.fn.start.at ≤ l.here.at;
   more : l.fn.start.count ≤ l.here.count;
   in_order : (from : ℕ) → IsInOrder l.fn.out l.fn.start.count from l.fn.start.at → IsInOrder l.out l.here.count from l.here.at;
   reached : (profile : Profile) (cell : ℕ → Cell) (lefts : List Left) (more : List ℕ) (all : Ahead) → AreSwift profile lefts l.steps → AreFlatKinds l.kinds cell
@@ -21,5 +20,5 @@ invariant-loop-from l = record {
       → Reached profile cell lefts (l.text ++ more) all l.here (given_in l.out l.here.count);
 }
 
-abbrev pub decreases-loop-from : goal.decreases-loop-from
-decreases-loop-from l = length l.text - l.from
+abbrev pub decreases-loop-here : goal.decreases-loop-here
+decreases-loop-here l = length l.text - l.here.at
