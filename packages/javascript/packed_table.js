@@ -54,11 +54,12 @@ export function unpackTable(packed, table) {
 function unpackSteps(codes, rowsAfter, differences, table) {
   const [first, second] = [FIRST_AT, SECOND_AT].map((at) => new Uint16Array(table.buffer, table.byteOffset + at, 2 * codes.length));
   const rows = codes.length / KINDS;
-  for (let step = 0; step < codes.length; step++) {
-    const [row, kind] = [Math.floor(step / KINDS), step % KINDS];
-    first[2 * step] = codes[step];
-    second[2 * step] = (codes[step] + differences[step]) & 0xff;
-    first[2 * step + 1] = second[2 * step + 1] = KINDS * rowsAfter[rows * kind + row];
+  for (let row = 0, step = 0; row < rows; row++) {
+    for (let kind = 0; kind < KINDS; kind++, step++) {
+      first[2 * step] = codes[step];
+      second[2 * step] = (codes[step] + differences[step]) & 0xff;
+      first[2 * step + 1] = second[2 * step + 1] = KINDS * rowsAfter[rows * kind + row];
+    }
   }
 }
 

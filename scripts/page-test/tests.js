@@ -119,7 +119,7 @@ async function trySpeed(table) {
 async function tryStart() {
   const isHeld = Intl.v8BreakIterator && (await (await fetch("speed.json")).json()).length > 0;
   const times = [];
-  for (let k = 0; k < 8; k++) {
+  for (let k = 0; k < 16; k++) {
     const page = await openPage();
     times.push(Math.round(page.document.documentElement.dataset.readyAfter));
   }

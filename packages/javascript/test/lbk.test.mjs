@@ -223,10 +223,12 @@ test("pack.js refuses what is no table", () => {
 test("pieces of a text give what the whole gives", () => {
   const few = "a « b »\u0301 c 😀 – ";
   for (const profile of [1, 2]) {
-    for (const start of ["", "ascii ".repeat(20_000)]) {
+    for (const start of ["", "ascii ".repeat(50_000), `${"x".repeat(600_000)} `]) {
       const marked = start + few.repeat(10_000) + "»" + "\u0301".repeat(200_000) + " x" + few.repeat(10_000);
-      const breaks = [...table.positions(marked, { profile })].filter((it) => it.kind !== "no");
-      assert.deepEqual([...table.breaks(marked, { profile })], breaks);
+      for (const text of [marked, new TextEncoder().encode(marked)]) {
+        const breaks = [...table.positions(text, { profile })].filter((it) => it.kind !== "no");
+        assert.deepEqual([...table.breaks(text, { profile })], breaks);
+      }
     }
   }
 });
