@@ -391,13 +391,14 @@ size_t lbk_words(lbk_word_state *state, const char *text, size_t size, lbk_word 
  * The parts can be broken in any order, by other threads or processes: their breaks, one after another, are those of the text,
  * and places count from its start. A part whose bytes stand elsewhere begins at 0; then add the bytes before it to each `at`.
  * The table decides where lines end, so no part begins between CR and LF, within a scalar, or within
- * ill-formed bytes that are read as one U+FFFD. The call reads the text from four bytes before `at` to
- * the scalar after the cut. Takes no memory from the heap. */
+ * ill-formed bytes that are read as one U+FFFD. What is returned depends only on the bytes from four
+ * before `at` to four after the cut: some bytes of a text that have these, or all that are there, are
+ * cut where the text is. The call reads no others. Takes no memory from the heap. */
 size_t lbk_cut(const lbk_table *table, const char *text, size_t size, size_t at);
 
 /* Returns the last such byte at or before `at`: no break after it depends on the bytes before it.
- * Returns the size for an `at` that is not below it. The call reads the text from four bytes before
- * the cut to the scalar at `at`. Takes no memory from the heap. */
+ * Returns the size for an `at` that is not below it. It depends only on the bytes from four before the
+ * cut to four after `at`, and the call reads no others. Takes no memory from the heap. */
 size_t lbk_cut_before(const lbk_table *table, const char *text, size_t size, size_t at);
 
 /* The name of a rule by its number; an empty name for a number that no rule has. */

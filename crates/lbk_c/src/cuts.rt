@@ -4,7 +4,7 @@ ghost use Rattle.std.specs.Prelude.{◌≡◌, ℕ, ◌<◌, ◌≤◌, length};
 ghost use Rattle.lbk_rules.specs.declared.cells.Cell.{Cell};
 ghost use Rattle.lbk_values.specs.declared.profile.Profile.{Profile};
 ghost use Rattle.lbk_steps.specs.FlatTable.{IsFlatOf};
-ghost use Rattle.lbk_cuts.specs.Cuts.{IsSafeCut, JoinsAt};
+ghost use Rattle.lbk_cuts.specs.Cuts.{IsCutAfter, IsCutBefore, JoinsAt};
 
 use lbk_cuts::{cut, cut_before};
 use lbk_steps::FlatTable;
@@ -20,8 +20,7 @@ pub extern "C" fn lbk_cut(table: &FlatTable, text: &[u8], at: usize) -> usize
     ensures within { result ≤ length text.now }
     ensures past { length text.now ≤ at → result ≡ length text.now }
     ensures behind { at ≤ length text.now → at ≤ result }
-    ensures safe { (cell : ℕ → Cell) → IsFlatOf table.now cell → IsSafeCut cell text.now result }
-    ensures least { (cell : ℕ → Cell) (place : ℕ) → IsFlatOf table.now cell → at ≤ place → place < result → ¬ IsSafeCut cell text.now place }
+    ensures first { (cell : ℕ → Cell) → IsFlatOf table.now cell → IsCutAfter cell text.now at result }
     ensures joined { (cell : ℕ → Cell) (profile : Profile) → IsFlatOf table.now cell → 0 < result → result < length text.now
         → JoinsAt profile cell text.now result }
 {
@@ -34,9 +33,7 @@ pub extern "C" fn lbk_cut_before(table: &FlatTable, text: &[u8], at: usize) -> u
     ensures within { result ≤ length text.now }
     ensures past { length text.now ≤ at → result ≡ length text.now }
     ensures before { result ≤ at }
-    ensures safe { (cell : ℕ → Cell) → IsFlatOf table.now cell → IsSafeCut cell text.now result }
-    ensures greatest { (cell : ℕ → Cell) (place : ℕ) → IsFlatOf table.now cell → result < place → place ≤ at → place ≤ length text.now
-        → ¬ IsSafeCut cell text.now place }
+    ensures last { (cell : ℕ → Cell) → IsFlatOf table.now cell → IsCutBefore cell text.now at result }
     ensures joined { (cell : ℕ → Cell) (profile : Profile) → IsFlatOf table.now cell → 0 < result → result < length text.now
         → JoinsAt profile cell text.now result }
 {

@@ -28,7 +28,7 @@ pub use interface::{ClassLabel, Fault, RuleLabel, State, Text};
 pub use labels::lbk_label;
 pub use laws::only_bytes_from_a_state_on;
 pub use lbk_bytes::RawBreak;
-pub use lbk_cuts::joined_parts;
+pub use lbk_cuts::{joined_parts, only_bytes_near_a_cut};
 pub use lbk_streams::{Fed, Stream, bytes_that_could_go_on};
 pub use lbk_units::same_in_each_encoding;
 pub use positions::{lbk_positions, lbk_positions_utf16, lbk_positions_utf32};

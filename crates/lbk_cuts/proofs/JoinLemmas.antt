@@ -208,7 +208,7 @@ must_end_between-last_of cell [] c cs second = refl
 must_end_between-last_of cell (a ∷ []) c cs second = refl
 must_end_between-last_of cell (a ∷ b ∷ front) c cs second = must_end_between-last_of cell (b ∷ front) c cs second
 
-must_end_between-later : (cell : ℕ → Cell) (front rest second : List ℕ) → 0 < length rest
+pub must_end_between-later : (cell : ℕ → Cell) (front rest second : List ℕ) → 0 < length rest
     → must_end_between cell (front ++ rest) second ≡ must_end_between cell rest second
 must_end_between-later cell front [] second some = absurd (omega arith)
 must_end_between-later cell front (c ∷ cs) second some = must_end_between-last_of cell front c cs second

@@ -1,3 +1,4 @@
 pub mod PieceStartLemmas
 pub mod JoinLemmas
 pub mod SafeLemmas
+pub mod NearLemmas

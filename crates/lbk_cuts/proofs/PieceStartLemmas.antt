@@ -80,7 +80,7 @@ module _ (k n b c d e c' d' e' : ℕ) (some : 0 < k) (below : k < (decoded_by n 
       (λ h. let size = ap (λ p. p.size) h.6 in three h.1 h.2 h.3 h.4 (omega arith))
 
 -- what follows a piece may go
-decoded-take : (bs : List ℕ) (k : ℕ) → 0 < k → k ≤ length bs → (decoded bs).size ≤ k → decoded (take k bs) ≡ decoded bs
+pub decoded-take : (bs : List ℕ) (k : ℕ) → 0 < k → k ≤ length bs → (decoded bs).size ≤ k → decoded (take k bs) ≡ decoded bs
 decoded-take bs k some within fits =
     let t = take k bs in
     let at : (i : ℕ) → i < k → slice_index t i ≡ slice_index bs i = λ i l. get_or-take k bs i 0 l in

@@ -1,5 +1,5 @@
 -- Where a text of any bytes may be cut, so that its parts are decided apart.
-use Rattle.std.specs.Prelude.{◌≡◌, ◌⊎◌, ℕ, ◌+◌, false, true, List, [], ◌∷◌, ◌++◌, length, map, take, drop}
+use Rattle.std.specs.Prelude.{◌≡◌, ◌⊎◌, ℕ, ◌+◌, ◌<◌, ◌≤◌, false, true, List, [], ◌∷◌, ◌++◌, length, map, min, take, drop}
 use Rattle.std.specs.List.{flat_map}
 use Rattle.bstr.specs.Utf8.{lossy_chars, pieces}
 use Rattle.lbk_rules.specs.declared.breaks.Break.{Break}
@@ -21,6 +21,23 @@ EndsBefore cell text place =
 -- a part of the text may begin at this byte: at the start, at the end, and where a line must end before it
 abbrev pub IsSafeCut : (ℕ → Cell) → List ℕ → ℕ → Type 0
 IsSafeCut cell text place = (place ≡ 0) ⊎ (place ≡ length text) ⊎ EndsBefore cell text place
+
+-- the first place at or after `at` at which a part may begin · the last one at or before it. A place past the text counts as its end
+pub record IsCutAfter (cell : ℕ → Cell) (text : List ℕ) (at result : ℕ) : Type 0 where
+  pub within : result ≤ length text
+  pub behind : min at (length text) ≤ result
+  pub safe : IsSafeCut cell text result
+  pub least : (place : ℕ) → at ≤ place → place < result → ¬ (IsSafeCut cell text place)
+
+pub record IsCutBefore (cell : ℕ → Cell) (text : List ℕ) (at result : ℕ) : Type 0 where
+  pub before : result ≤ min at (length text)
+  pub safe : IsSafeCut cell text result
+  pub greatest : (place : ℕ) → result < place → place ≤ at → place ≤ length text → ¬ (IsSafeCut cell text place)
+
+-- `near`, some bytes of a text, has what is near its places from `first` to `last`: four bytes on each side, or all that are there
+pub record HasNear (before near after : List ℕ) (first last : ℕ) : Type 0 where
+  pub start : (before ≡ []) ⊎ (4 ≤ first)
+  pub end : (after ≡ []) ⊎ (last + 4 ≤ length near)
 
 -- cut there, the breaks of the text are those of its parts, if the places of the second are moved by the bytes of the first
 abbrev pub JoinsAt : Profile → (ℕ → Cell) → List ℕ → ℕ → Type 0

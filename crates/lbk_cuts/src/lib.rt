@@ -4,5 +4,5 @@
 mod laws;
 mod safe_cuts;
 
-pub use laws::joined_parts;
+pub use laws::{joined_parts, only_bytes_near_a_cut};
 pub use safe_cuts::{cut, cut_before};

@@ -1,3 +1,4 @@
 pub mod PieceWords
 pub mod Seams
 pub mod Whole
+pub mod WordsInParts

@@ -6,6 +6,10 @@ use Rattle.lbk_passage.specs.Pieces.{pieces_of}
 use Rattle.lbk_passage.specs.declared.passage.Piece.{Piece}
 use Rattle.lbk_words.specs.declared.word.Word.{Word}
 
+-- a word so many bytes further on
+abbrev pub moved_word : ℕ → Word → Word
+moved_word bytes word = record { start = bytes + word.start; end = bytes + word.end }
+
 -- the pieces that are words, of a passage that begins at byte `start`
 abbrev pub words_in_pieces : ℕ → List Piece → List Word
 words_in_pieces start [] = []

@@ -109,6 +109,21 @@ class Files(WithFiles):
             self.assertEqual([(one.start, one.end) for one in far], [(one.start, one.end) for one in near])
             self.assertEqual(joined(far), joined(near))
 
+    def test_parts_do_not_share_memory(self):
+        chance = samples.chance(24)
+        data = b"".join(samples.random_bytes(chance, 90) for _ in range(3000))
+        path = self.write("text", data)
+        kept = _parts.KEPT
+        self.addCleanup(setattr, _parts, "KEPT", kept)
+        for limit in (kept, 100):
+            _parts.KEPT = limit
+            with dask.config.set(scheduler="threads", num_workers=4):
+                parts = self.columns(path, 5000)
+                self.is_whole(parts, path, len(data))
+                # (not assertEqual, which goes through long lists for minutes to show how they differ)
+                self.assertTrue(joined(parts) == samples.found(self.table, data))
+                self.assertTrue("".join(self.paragraphs(path, 5000)) == data.decode("utf-8", "replace"))
+
     def test_compressed_and_empty_files(self):
         text = "é ab\ncd\r\n".encode() * 50
         (self.folder / "text.gz").write_bytes(gzip.compress(text))
@@ -162,6 +177,7 @@ class Files(WithFiles):
         path = self.write("text", b"ab\ncd" * 50)
         self.assertRaises(TypeError, lbk.dask.read_text, path, self.table)
         for bag in (lbk.dask.read_text(path, self.name, 8), lbk.dask.read_columns(path, self.name, 8)):
+            self.assertEqual(len(dict(bag.dask)), bag.npartitions)
             self.assertLess(len(pickle.dumps(dict(bag.dask))), 2000 * bag.npartitions)
         self.assertRaises(ValueError, lbk.dask.read_columns, path, self.name, profile=3)
         self.assertRaises(ValueError, lbk.dask.read_columns, path, self.name, 0)

@@ -1,6 +1,7 @@
 """Parts of files: ranges of bytes that are broken apart, and how each is read by itself."""
 
 import mmap
+import threading
 from dataclasses import dataclass
 from typing import Any, Literal, NamedTuple
 
@@ -17,8 +18,12 @@ Errors = Literal["replace", "strict"]
 # So much of a file that is not on this machine is read for a cut at first.
 WINDOW = 1 << 16
 
-# A character has so many bytes at most. So many before a place are read for a cut there.
+# A character has so many bytes at most. So many before a place are read for a cut there, and so
+# many after the cut: no others decide (`only_bytes_near_a_cut`, which is proved).
 LONGEST = 4
+
+# A thread keeps memory of up to so many bytes for the parts that it reads, one after the other.
+KEPT = 1 << 26
 
 
 class TextFault(ValueError):
@@ -105,8 +110,7 @@ def _cuts(file: OpenFile, table: Table, blocksize: int) -> list[int]:
 
 
 def _cut_from_afar(file: OpenFile, size: int, table: Table, at: int) -> int:
-    """As Table.cut, of a file of which only what is near the place is read. What comes depends on
-    no byte before the last four before the place; and on none after the character at the cut."""
+    """As Table.cut, of a file of which only what is near the place is read."""
     start, window = max(0, at - LONGEST), WINDOW
     data = b""
     while True:
@@ -117,17 +121,39 @@ def _cut_from_afar(file: OpenFile, size: int, table: Table, at: int) -> int:
         window *= 2
 
 
-def read_part(part: Part, errors: Errors = "replace") -> bytes:
-    """A part's bytes. One more is read, to see whether the file goes on as it did."""
+_kept = threading.local()
+
+
+def _memory(size: int) -> memoryview:
+    """Memory for a part: that of the part before, since new memory is cleared by the system, which
+    takes as long as to read into it."""
+    if size > KEPT:
+        return memoryview(bytearray(size))
+    if len(getattr(_kept, "memory", b"")) < size:
+        _kept.memory = bytearray(size)
+    return memoryview(_kept.memory)[:size]
+
+
+def _fill(memory: memoryview, file: Any) -> memoryview:
+    """Reads until the memory is full or the file ends."""
+    count = 0
+    while count < len(memory) and (more := file.readinto(memory[count:])):
+        count += more
+    return memory[:count].toreadonly()
+
+
+def read_part(part: Part, errors: Errors = "replace") -> memoryview:
+    """A part's bytes, up to the next call in this thread. One more is read, to see whether the file
+    goes on as it did."""
     try:
         with part.file as file:
             if part.end is None:
-                data = file.read()
+                data = memoryview(file.read())
                 size = len(data)
             else:
                 size = part.end - part.start
                 file.seek(part.start)
-                data = file.read(size + 1)
+                data = _fill(_memory(size + 1), file)
     except Exception as error:
         raise TextFault(part.path, part.start, f"{type(error).__name__}: {error}") from error
     if len(data) < size:
@@ -137,13 +163,13 @@ def read_part(part: Part, errors: Errors = "replace") -> bytes:
     data = data[:size]
     if errors == "strict":
         try:
-            data.decode()
+            str(data, "utf-8")
         except UnicodeDecodeError as error:
             raise TextFault(part.path, part.start + error.start, f"ill-formed UTF-8: {error.reason}") from error
     return data
 
 
-def _columns(data: bytes, part: Part, table: Table, profile: int) -> tuple[Any, Any, Any]:
+def _columns(data: memoryview, part: Part, table: Table, profile: int) -> tuple[Any, Any, Any]:
     """The breaks of a part's bytes."""
     places, kinds, rules = table.break_columns(data, profile, goes_on=not part.is_last)
     return np.frombuffer(places, np.int64), np.frombuffer(kinds, np.uint8), np.frombuffer(rules, np.uint8)
@@ -161,4 +187,4 @@ def part_paragraphs(part: Part, table: Table, errors: Errors) -> list[str]:
     data = read_part(part, errors)
     places, kinds, _ = _columns(data, part, table, 1)
     ends = places[kinds == Kind.MUST].tolist()
-    return [data[start:end].decode("utf-8", "replace") for start, end in zip([0, *ends], ends)]
+    return [str(data[start:end], "utf-8", "replace") for start, end in zip([0, *ends], ends)]

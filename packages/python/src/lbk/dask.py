@@ -21,6 +21,8 @@ from pathlib import Path
 from typing import Any, Literal
 
 import dask.bag as db
+from dask.base import tokenize
+from dask.highlevelgraph import HighLevelGraph
 from dask.utils import parse_bytes
 
 from ._parts import Errors, Part, PartColumns, TextFault, part_columns, part_paragraphs, plan
@@ -113,7 +115,7 @@ def read_text(
     fault in the part's place, the calls here hand it on, and `faults` finds it.
     """
     parts = _plan(paths, table, blocksize, compression, storage_options)
-    return parts.map_partitions(_paragraphs, _name_of(table), errors, on_fault)
+    return _bag_of(parts, _paragraphs, _name_of(table), errors, on_fault)
 
 
 def read_columns(
@@ -131,7 +133,7 @@ def read_columns(
     the file. All else is as read_text has it."""
     _check_profile(profile)
     parts = _plan(paths, table, blocksize, compression, storage_options)
-    return parts.map_partitions(_part_columns, _name_of(table), profile, errors, on_fault)
+    return _bag_of(parts, _part_columns, _name_of(table), profile, errors, on_fault)
 
 
 def breaks(texts: Any, table: Name, profile: int = 1) -> Any:
@@ -182,14 +184,22 @@ def _check_profile(profile: int) -> None:
         raise ValueError(f"the profile is 1 or 2, and not {profile!r}")
 
 
-def _plan(paths: Any, table: Name, blocksize: Any, compression: Any, storage_options: Any) -> db.Bag:
+def _plan(paths: Any, table: Name, blocksize: Any, compression: Any, storage_options: Any) -> list[Part]:
     size = parse_bytes(blocksize) if isinstance(blocksize, str) else blocksize
     if size is not None and size < 1:
         raise ValueError("a part has one byte at least")
     parts = plan(paths, _open(_name_of(table)), size, compression, storage_options)
     if not parts:
         raise FileNotFoundError(f"no file has the name {paths}")
-    return db.from_sequence(parts, npartitions=len(parts))
+    return parts
+
+
+def _bag_of(parts: list[Part], call: Any, *arguments: Any) -> db.Bag:
+    """A bag with a partition for each part, and one task for each partition: parts that came from
+    tasks of their own would cost the workers a question to the scheduler more."""
+    name = f"lbk{call.__name__}-{tokenize(parts, *arguments)}"
+    tasks = {(name, k): (call, part, *arguments) for k, part in enumerate(parts)}
+    return db.Bag(HighLevelGraph.from_collections(name, tasks), name, len(parts))
 
 
 def _or_fault(call: "Callable[[], list[Any]]", on_fault: Faults) -> list[Any]:
@@ -201,18 +211,12 @@ def _or_fault(call: "Callable[[], list[Any]]", on_fault: Faults) -> list[Any]:
         return [fault]
 
 
-def _paragraphs(parts: Iterable[Part], table: str, errors: Errors, on_fault: Faults) -> list[Any]:
-    found = []
-    for part in parts:
-        found += _or_fault(lambda: part_paragraphs(part, _open(table), errors), on_fault)
-    return found
+def _paragraphs(part: Part, table: str, errors: Errors, on_fault: Faults) -> list[Any]:
+    return _or_fault(lambda: part_paragraphs(part, _open(table), errors), on_fault)
 
 
-def _part_columns(parts: Iterable[Part], table: str, profile: int, errors: Errors, on_fault: Faults) -> list[Any]:
-    found = []
-    for part in parts:
-        found += _or_fault(lambda: [part_columns(part, _open(table), profile, errors)], on_fault)
-    return found
+def _part_columns(part: Part, table: str, profile: int, errors: Errors, on_fault: Faults) -> list[Any]:
+    return _or_fault(lambda: [part_columns(part, _open(table), profile, errors)], on_fault)
 
 
 def _is_fault(item: Any) -> bool:

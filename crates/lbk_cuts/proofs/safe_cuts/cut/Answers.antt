@@ -1,5 +1,20 @@
+use Rattle.std.proofs.Common.{arith}
 use Rattle.lbk_cuts.proofs.SafeLemmas.{joins-safe}
 use Rattle.lbk_cuts.proofs.safe_cuts.cut.Goals as goal
+
+pub returns-clause-first : goal.returns-clause-first
+returns-clause-first c = λ cell flat.
+    let start = c.piece_start.ensures in
+    let found = c.first_cut.ensures in
+    let before = start.before in
+    let holds = start.holds in
+    let behind = found.behind in
+    record {
+      within = found.within;
+      behind = omega arith;
+      safe = found.safe cell flat.1.kinds;
+      least = λ place from less. found.least cell place flat.1.kinds (omega arith) less;
+    }
 
 pub returns-clause-joined : goal.returns-clause-joined
 returns-clause-joined c = λ cell profile flat some inside.

@@ -3,15 +3,22 @@ use Rattle.std.proofs.lemmas.Bool.{cases_lt}
 use Rattle.lbk_cuts.proofs.SafeLemmas.{joins-safe, unsafe-within}
 use Rattle.lbk_cuts.proofs.safe_cuts.cut_before.Goals as goal
 
-pub returns-clause-greatest : goal.returns-clause-greatest
-returns-clause-greatest c = λ cell place flat later before within.
+pub returns-clause-last : goal.returns-clause-last
+returns-clause-last c = λ cell flat.
     let text = c.args.text.now in
     let start = c.piece_start.result in
+    let up = c.piece_start.ensures.before in
     let holds = c.piece_start.ensures.holds in
+    let few = c.last_cut.ensures.before in
     let inside = c.if-text-at.false in
-    ⊎_elim (λ behind. unsafe-within cell text start place behind (omega arith) (omega arith) c.piece_start.ensures.begins)
-    (λ not_behind. c.last_cut.ensures.greatest cell place flat.1.kinds later not_behind)
-    (cases_lt start place)
+    record {
+      before = omega arith;
+      safe = c.last_cut.ensures.safe cell flat.1.kinds;
+      greatest = λ place later last within.
+          ⊎_elim (λ behind. unsafe-within cell text start place behind (omega arith) (omega arith) c.piece_start.ensures.begins)
+          (λ not_behind. c.last_cut.ensures.greatest cell place flat.1.kinds later not_behind)
+          (cases_lt start place);
+    }
 
 pub returns-clause-joined : goal.returns-clause-joined
 returns-clause-joined c = λ cell profile flat some inside.
