@@ -10,7 +10,7 @@ use Rattle.lbk_passage.specs.State.{IsLimit}
 use Rattle.lbk_passage.specs.declared.faults.PassageFault.{PassageFault}
 use Rattle.lbk_args.specs.declared.order.Part.{Part}
 use Rattle.lbk_cmd.specs.Devices.{Devices}
-use Rattle.lbk_cmd.specs.Run.{ComesTo, Engine, IsSettled, IsWhole, KeepsUp, is_failed_read, passages_by, written_by}
+use Rattle.lbk_cmd.specs.Run.{ComesTo, Engine, IsSettled, IsWhole, KeepsUp, is_failed_read, passages_by}
 use Rattle.lbk_cmd.specs.Texts.{lines_from}
 use Rattle.lbk_cmd.specs.declared.faults.CmdFault.{CmdFault}
 

@@ -1,4 +1,4 @@
-use Rattle.std.proofs.Common.{◌≡◌, ◌∙◌, sym, refl, arith}
+use Rattle.std.proofs.Common.{◌∙◌, sym, refl, arith}
 use Rattle.lbk_steps.specs.CellPages.{page_cell}
 use Rattle.lbk_cmd.specs.Acts.{RunsOver}
 use Rattle.lbk_cmd.specs.Devices.{devices_of}
