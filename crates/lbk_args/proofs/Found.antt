@@ -5,12 +5,12 @@ use Rattle.std.specs.Box.{box_value}
 use Rattle.clap.specs.Kinds.{or_else}
 use Rattle.clap.specs.Words.{IsAmong, Kinds, Row, Text, fault_of, subcommand_of, subcommand_rows}
 use Rattle.clap.specs.declared.error.kind.ErrorKind.{ErrorKind}
-use Rattle.clap.specs.declared.error.kind.ErrorKind.TheVariants.{MissingRequiredArgument, OutOfMemory}
+use Rattle.clap.specs.declared.error.kind.ErrorKind.TheVariants.{OutOfMemory}
 use Rattle.clap.specs.declared.parser.matches.ArgMatches.TheViews.{out-SubCommand}
 use Rattle.clap.specs.declared.parser.matches.SubCommand.{SubCommand}
 use Rattle.lbk_args.specs.declared.order.WordsFault.{WordsFault}
 use Rattle.lbk_args.specs.declared.order.WordsFault.TheVariants.{Help, Usage, Memory}
-use Rattle.lbk_args.specs.Accepted.{faults_of, unnamed_fault}
+use Rattle.lbk_args.specs.Accepted.{faults_of, task_fault}
 use Rattle.lbk_args.specs.Command.{lbk_app}
 use Rattle.lbk_args.specs.Task.{Task, task_by, task_in}
 use Rattle.lbk_args.specs.Refusal.{HasFault, IsCallForHelp, IsMistake, IsRefusalBy}
@@ -60,15 +60,10 @@ pub asked : (words : List Text) (found : Option (Text × List Row)) (name : Text
     → found ≡ Some (name, rows) → task_by words ≡ task_in (name, rows)
 asked words found name rows of pair = ap (option_and_then task_in) (sym of ∙ pair)
 
-pub not_none : (found : Option Task) (task : Task) → found ≡ Some task → ¬ (found ≡ None)
-not_none found task some none = absurd (cc)
+-- words that `clap` takes have the faults of their task
+pub faults_are : (words : List Text) (found : Option Task) → fault_of lbk_app words ≡ [] → task_by words ≡ found → faults_of words ≡ task_fault found
+faults_are words found clean asks = ap₂ (λ (ks : Kinds) (t : Option Task). or_else ks (task_fault t)) clean asks
 
--- words that name no files have this fault alone
-pub unnamed_only : (words : List Text) (fault : WordsFault) → fault_of lbk_app words ≡ [] → task_by words ≡ None
-    → IsRefusalBy (MissingRequiredArgument ∷ []) fault → IsRefusalBy (faults_of words) fault
-unnamed_only words fault clean none refused =
-    subst (λ (ks : Kinds). IsRefusalBy ks fault) (sym (ap₂ (λ (ks : Kinds) (t : Option Task). or_else ks (unnamed_fault t)) clean none)) refused
-
--- it is a mistake
-pub missing : HasFault IsMistake (MissingRequiredArgument ∷ [])
-missing = (MissingRequiredArgument, inl refl, ((λ e. absurd (cc)), (λ e. absurd (cc)), λ e. absurd (cc)))
+-- a kind that is a mistake is one by itself
+pub one_mistake : (kind : ErrorKind) → IsMistake kind → HasFault IsMistake (kind ∷ [])
+one_mistake kind is = (kind, inl refl, is)

@@ -13,11 +13,12 @@ use Rattle.lbk_values.specs.declared.profile.Profile.{Profile}
 use Rattle.lbk_values.specs.declared.profile.Profile.TheVariants.{First, Second}
 use Rattle.lbk_args.specs.declared.order.Engine.{Engine}
 use Rattle.lbk_args.specs.declared.order.Engine.TheVariants.{Mark, Show, Segment, Replay}
-use Rattle.lbk_args.specs.Accepted.{faults_of, unnamed_fault}
+use Rattle.lbk_args.specs.declared.order.Part.{Part}
+use Rattle.lbk_args.specs.Accepted.{faults_of, task_fault}
 use Rattle.lbk_feed.specs.Text.{greatest_limit}
 use Rattle.lbk_args.specs.Command.{default_limit, default_limit_text, flag_rule, lbk_app, limited_app, number_rule, profile_rule, replay_app, value_rule}
 use Rattle.lbk_args.specs.PlainWords.{AreEngineWords, AreFolderWords, AreFourWords, AreKindsWords, AreLimitWords, AreProfileWords, IsPlainFor, IsPlainName, folder_files, given_files, name_of_engine, profile_word}
-use Rattle.lbk_args.specs.Task.{NamedFiles, Task, files_in, limit_in, number_or, profile_in, task_by, task_in, texts_in}
+use Rattle.lbk_args.specs.Task.{NamedFiles, Task, files_in, limit_in, number_or, part_in, profile_in, task_by, task_in, texts_in}
 use Rattle.lbk_args.proofs.Numerals.{limit_plain, limit_read, limit_taken}
 use Rattle.lbk_args.proofs.Steps.{Enters, Takes, Walks, between, done, entered_clean, entered_rows, pair, step, taken}
 
@@ -113,10 +114,11 @@ pub record Performs (words : List Text) (task : Task) : Type 0 where
   pub accepted : faults_of words ≡ []
   pub asks : task_by words ≡ Some task
 
--- words that `clap` takes, and that ask for a task
-pub performs : (words : List Text) (task : Task) → fault_of lbk_app words ≡ [] → task_by words ≡ Some task → Performs words task
-performs words task clean asks = record {
-  accepted = ap₂ (λ (ks : Kinds) (t : Option Task). or_else ks (unnamed_fault t)) clean asks;
+-- words that `clap` takes, and that ask for a task in which nothing is wrong
+pub performs : (words : List Text) (task : Task) → fault_of lbk_app words ≡ [] → task_by words ≡ Some task → task_fault (Some task) ≡ []
+    → Performs words task
+performs words task clean asks fits = record {
+  accepted = ap₂ (λ (ks : Kinds) (t : Option Task). or_else ks (task_fault t)) clean asks ∙ fits;
   asks = asks;
 }
 
@@ -143,32 +145,32 @@ abbrev replay_shape : Shape
 replay_shape = sub replay_app.top
 
 mark_performs : (words : List Text) (rows : List Row) (task : Task) → Takes (limited_shape (codes "mark")) words rows
-    → task_in (codes "mark", rows) ≡ Some task → Performs (codes "mark" ∷ words) task
-mark_performs words rows task takes same =
+    → task_in (codes "mark", rows) ≡ Some task → task_fault (Some task) ≡ [] → Performs (codes "mark" ∷ words) task
+mark_performs words rows task takes same fits =
     performs (codes "mark" ∷ words) task (entered_clean (built lbk_app) (codes "mark") words enters_mark takes.clean refl)
     (ap (option_and_then task_in)
-    (entered_rows (built lbk_app) (codes "mark") words enters_mark ∙ ap (λ (r : List Row). Some (codes "mark", r)) takes.rows_are) ∙ same)
+    (entered_rows (built lbk_app) (codes "mark") words enters_mark ∙ ap (λ (r : List Row). Some (codes "mark", r)) takes.rows_are) ∙ same) fits
 
 show_performs : (words : List Text) (rows : List Row) (task : Task) → Takes (limited_shape (codes "show")) words rows
-    → task_in (codes "show", rows) ≡ Some task → Performs (codes "show" ∷ words) task
-show_performs words rows task takes same =
+    → task_in (codes "show", rows) ≡ Some task → task_fault (Some task) ≡ [] → Performs (codes "show" ∷ words) task
+show_performs words rows task takes same fits =
     performs (codes "show" ∷ words) task (entered_clean (built lbk_app) (codes "show") words enters_show takes.clean refl)
     (ap (option_and_then task_in)
-    (entered_rows (built lbk_app) (codes "show") words enters_show ∙ ap (λ (r : List Row). Some (codes "show", r)) takes.rows_are) ∙ same)
+    (entered_rows (built lbk_app) (codes "show") words enters_show ∙ ap (λ (r : List Row). Some (codes "show", r)) takes.rows_are) ∙ same) fits
 
 segment_performs : (words : List Text) (rows : List Row) (task : Task) → Takes (limited_shape (codes "segment")) words rows
-    → task_in (codes "segment", rows) ≡ Some task → Performs (codes "segment" ∷ words) task
-segment_performs words rows task takes same =
+    → task_in (codes "segment", rows) ≡ Some task → task_fault (Some task) ≡ [] → Performs (codes "segment" ∷ words) task
+segment_performs words rows task takes same fits =
     performs (codes "segment" ∷ words) task (entered_clean (built lbk_app) (codes "segment") words enters_segment takes.clean refl)
     (ap (option_and_then task_in)
-    (entered_rows (built lbk_app) (codes "segment") words enters_segment ∙ ap (λ (r : List Row). Some (codes "segment", r)) takes.rows_are) ∙ same)
+    (entered_rows (built lbk_app) (codes "segment") words enters_segment ∙ ap (λ (r : List Row). Some (codes "segment", r)) takes.rows_are) ∙ same) fits
 
 replay_performs : (words : List Text) (rows : List Row) (task : Task) → Takes replay_shape words rows
-    → task_in (codes "replay", rows) ≡ Some task → Performs (codes "replay" ∷ words) task
-replay_performs words rows task takes same =
+    → task_in (codes "replay", rows) ≡ Some task → task_fault (Some task) ≡ [] → Performs (codes "replay" ∷ words) task
+replay_performs words rows task takes same fits =
     performs (codes "replay" ∷ words) task (entered_clean (built lbk_app) (codes "replay") words enters_replay takes.clean refl)
     (ap (option_and_then task_in)
-    (entered_rows (built lbk_app) (codes "replay") words enters_replay ∙ ap (λ (r : List Row). Some (codes "replay", r)) takes.rows_are) ∙ same)
+    (entered_rows (built lbk_app) (codes "replay") words enters_replay ∙ ap (λ (r : List Row). Some (codes "replay", r)) takes.rows_are) ∙ same) fits
 
 -- ---- the words behind the files
 
@@ -344,7 +346,7 @@ replay_both (four l e c m) p plain pp good =
 -- ---- all plain words
 
 abbrev task_with : Engine → Files → Profile → Task
-task_with engine fs profile = record { engine = engine; files = files_of fs; profile = profile; texts = [] }
+task_with engine fs profile = record { engine = engine; files = files_of fs; profile = profile; part = None; texts = [] }
 
 -- what `mark`, `show` or `segment` finds behind its name
 record Finds (name : Text) (words : List Text) (fs : Files) (limit : ℕ) (profile : Profile) : Type 0 where
@@ -353,6 +355,7 @@ record Finds (name : Text) (words : List Text) (fs : Files) (limit : ℕ) (profi
   files_are : files_in rows ≡ Some (files_of fs)
   limit_is : limit_in rows ≡ limit
   profile_is : profile_in rows ≡ profile
+  part_is : part_in rows ≡ None
   texts_are : texts_in rows ≡ []
 
 limited_plain : (name : Text) (fs : Files) (limit : ℕ) (profile : Profile) (own last : List Text) → ArePlain fs
@@ -365,6 +368,7 @@ limited_plain name (folder (u ∷ us)) limit profile own last plain (inl none) (
   files_are = refl;
   limit_is = refl;
   profile_is = refl;
+  part_is = refl;
   texts_are = refl;
 })
 limited_plain name (folder (u ∷ us)) limit profile own last plain (inl none) (inr given) = rw (none.0, given, none.1) (record {
@@ -373,6 +377,7 @@ limited_plain name (folder (u ∷ us)) limit profile own last plain (inl none) (
   files_are = refl;
   limit_is = refl;
   profile_is = profile_read profile;
+  part_is = refl;
   texts_are = refl;
 })
 limited_plain name (folder (u ∷ us)) limit profile own last plain (inr number) (inl first) = rw (number.0, first.0, first.1) (record {
@@ -381,6 +386,7 @@ limited_plain name (folder (u ∷ us)) limit profile own last plain (inr number)
   files_are = refl;
   limit_is = sym (limit_read default_limit limit number.2);
   profile_is = refl;
+  part_is = refl;
   texts_are = refl;
 })
 limited_plain name (folder (u ∷ us)) limit profile own last plain (inr number) (inr given) = rw (number.0, given) (record {
@@ -390,6 +396,7 @@ limited_plain name (folder (u ∷ us)) limit profile own last plain (inr number)
   files_are = refl;
   limit_is = sym (limit_read default_limit limit number.2);
   profile_is = profile_read profile;
+  part_is = refl;
   texts_are = refl;
 })
 limited_plain name (four l e c m) limit profile own last plain (inl none) (inl first) = rw (none.0, first.0, none.1, first.1) (record {
@@ -398,6 +405,7 @@ limited_plain name (four l e c m) limit profile own last plain (inl none) (inl f
   files_are = refl;
   limit_is = refl;
   profile_is = refl;
+  part_is = refl;
   texts_are = refl;
 })
 limited_plain name (four l e c m) limit profile own last plain (inl none) (inr given) = rw (none.0, given, none.1) (record {
@@ -406,6 +414,7 @@ limited_plain name (four l e c m) limit profile own last plain (inl none) (inr g
   files_are = refl;
   limit_is = refl;
   profile_is = profile_read profile;
+  part_is = refl;
   texts_are = refl;
 })
 limited_plain name (four l e c m) limit profile own last plain (inr number) (inl first) = rw (number.0, first.0, first.1) (record {
@@ -414,6 +423,7 @@ limited_plain name (four l e c m) limit profile own last plain (inr number) (inl
   files_are = refl;
   limit_is = sym (limit_read default_limit limit number.2);
   profile_is = refl;
+  part_is = refl;
   texts_are = refl;
 })
 limited_plain name (four l e c m) limit profile own last plain (inr number) (inr given) = rw (number.0, given) (record {
@@ -423,6 +433,7 @@ limited_plain name (four l e c m) limit profile own last plain (inr number) (inr
   files_are = refl;
   limit_is = sym (limit_read default_limit limit number.2);
   profile_is = profile_read profile;
+  part_is = refl;
   texts_are = refl;
 })
 
@@ -431,40 +442,40 @@ replay_plain : (fs : Files) (kinds : Bool) (profile : Profile) (own last : List 
 unfolding clap_on_literals
 replay_plain (folder []) kinds profile own last plain given more = absurd plain
 replay_plain (folder (u ∷ us)) kinds profile own last plain (inl none) (inl first) =
-    rw (none.0, first.0, none.1, first.1) (replay_performs _ _ _ (replay_alone (folder (u ∷ us)) plain) refl)
+    rw (none.0, first.0, none.1, first.1) (replay_performs _ _ _ (replay_alone (folder (u ∷ us)) plain) refl refl)
 replay_plain (folder (u ∷ us)) kinds profile own last plain (inl none) (inr given) =
     rw (none.0, given, none.1) (replay_performs _ _ _ (replay_profile (folder (u ∷ us)) (profile_word profile) plain (profile_plain profile) (profile_taken profile))
-    (ap (λ (p : Profile). Some (task_with (Replay false) (folder (u ∷ us)) p)) (profile_read profile)))
+    (ap (λ (p : Profile). Some (task_with (Replay false) (folder (u ∷ us)) p)) (profile_read profile)) refl)
 replay_plain (folder (u ∷ us)) kinds profile own last plain (inr flag) (inl first) =
-    rw (flag.0, first.0, flag.1, first.1) (replay_performs _ _ _ (replay_kinds (folder (u ∷ us)) plain) refl)
+    rw (flag.0, first.0, flag.1, first.1) (replay_performs _ _ _ (replay_kinds (folder (u ∷ us)) plain) refl refl)
 replay_plain (folder (u ∷ us)) kinds profile own last plain (inr flag) (inr given) =
     rw (flag.0, given, flag.1) (replay_performs _ _ _ (replay_both (folder (u ∷ us)) (profile_word profile) plain (profile_plain profile) (profile_taken profile))
-    (ap (λ (p : Profile). Some (task_with (Replay true) (folder (u ∷ us)) p)) (profile_read profile)))
+    (ap (λ (p : Profile). Some (task_with (Replay true) (folder (u ∷ us)) p)) (profile_read profile)) refl)
 replay_plain (four l e c m) kinds profile own last plain (inl none) (inl first) =
-    rw (none.0, first.0, none.1, first.1) (replay_performs _ _ _ (replay_alone (four l e c m) plain) refl)
+    rw (none.0, first.0, none.1, first.1) (replay_performs _ _ _ (replay_alone (four l e c m) plain) refl refl)
 replay_plain (four l e c m) kinds profile own last plain (inl none) (inr given) =
     rw (none.0, given, none.1) (replay_performs _ _ _ (replay_profile (four l e c m) (profile_word profile) plain (profile_plain profile) (profile_taken profile))
-    (ap (λ (p : Profile). Some (task_with (Replay false) (four l e c m) p)) (profile_read profile)))
+    (ap (λ (p : Profile). Some (task_with (Replay false) (four l e c m) p)) (profile_read profile)) refl)
 replay_plain (four l e c m) kinds profile own last plain (inr flag) (inl first) =
-    rw (flag.0, first.0, flag.1, first.1) (replay_performs _ _ _ (replay_kinds (four l e c m) plain) refl)
+    rw (flag.0, first.0, flag.1, first.1) (replay_performs _ _ _ (replay_kinds (four l e c m) plain) refl refl)
 replay_plain (four l e c m) kinds profile own last plain (inr flag) (inr given) =
     rw (flag.0, given, flag.1) (replay_performs _ _ _ (replay_both (four l e c m) (profile_word profile) plain (profile_plain profile) (profile_taken profile))
-    (ap (λ (p : Profile). Some (task_with (Replay true) (four l e c m) p)) (profile_read profile)))
+    (ap (λ (p : Profile). Some (task_with (Replay true) (four l e c m) p)) (profile_read profile)) refl)
 
 engine_plain : (fs : Files) (engine : Engine) (profile : Profile) (own last : List Text) → ArePlain fs → AreEngineWords engine own
     → AreProfileWords profile last → Performs (name_of_engine engine ∷ words_before fs (own ++ last)) (task_with engine fs profile)
 engine_plain fs (Mark limit) profile own last plain given more =
     let f = limited_plain (codes "mark") fs limit profile own last plain given more in
     mark_performs (words_before fs (own ++ last)) f.rows (task_with (Mark limit) fs profile) f.takes
-    (λ i. option_map (λ files. record { engine = Mark (f.limit_is i); files = files; profile = f.profile_is i; texts = f.texts_are i }) (f.files_are i))
+    (λ i. option_map (λ files. record { engine = Mark (f.limit_is i); files = files; profile = f.profile_is i; part = f.part_is i; texts = f.texts_are i }) (f.files_are i)) refl
 engine_plain fs (Show limit) profile own last plain given more =
     let f = limited_plain (codes "show") fs limit profile own last plain given more in
     show_performs (words_before fs (own ++ last)) f.rows (task_with (Show limit) fs profile) f.takes
-    (λ i. option_map (λ files. record { engine = Show (f.limit_is i); files = files; profile = f.profile_is i; texts = f.texts_are i }) (f.files_are i))
+    (λ i. option_map (λ files. record { engine = Show (f.limit_is i); files = files; profile = f.profile_is i; part = f.part_is i; texts = f.texts_are i }) (f.files_are i)) refl
 engine_plain fs (Segment limit) profile own last plain given more =
     let f = limited_plain (codes "segment") fs limit profile own last plain given more in
     segment_performs (words_before fs (own ++ last)) f.rows (task_with (Segment limit) fs profile) f.takes
-    (λ i. option_map (λ files. record { engine = Segment (f.limit_is i); files = files; profile = f.profile_is i; texts = f.texts_are i }) (f.files_are i))
+    (λ i. option_map (λ files. record { engine = Segment (f.limit_is i); files = files; profile = f.profile_is i; part = f.part_is i; texts = f.texts_are i }) (f.files_are i)) refl
 engine_plain fs (Replay kinds) profile own last plain given more = replay_plain fs kinds profile own last plain given more
 
 -- the words of the files are those of a folder or of four names
@@ -494,7 +505,9 @@ plain_performs task words plain =
     subst (λ (ws : List Text). Performs ws task)
     (sym (plain.are ∙ ap (λ (ws : List Text). name_of_engine task.engine ∷ ws) (r.before (plain.engine_words ++ plain.profile_words))))
     (subst (λ (texts : List Text). Performs (name_of_engine task.engine ∷ words_before r.fs (plain.engine_words ++ plain.profile_words))
-    (record { engine = task.engine; files = task.files; profile = task.profile; texts = texts })) (sym plain.texts)
+    (record { engine = task.engine; files = task.files; profile = task.profile; part = task.part; texts = texts })) (sym plain.texts)
+    (subst (λ (part : Option Part). Performs (name_of_engine task.engine ∷ words_before r.fs (plain.engine_words ++ plain.profile_words))
+    (record { engine = task.engine; files = task.files; profile = task.profile; part = part; texts = [] })) (sym plain.part)
     (subst (λ (files : NamedFiles). Performs (name_of_engine task.engine ∷ words_before r.fs (plain.engine_words ++ plain.profile_words))
-    (record { engine = task.engine; files = files; profile = task.profile; texts = [] })) (sym r.files_are)
-    (engine_plain r.fs task.engine task.profile plain.engine_words plain.profile_words r.plain plain.engine plain.profile)))
+    (record { engine = task.engine; files = files; profile = task.profile; part = None; texts = [] })) (sym r.files_are)
+    (engine_plain r.fs task.engine task.profile plain.engine_words plain.profile_words r.plain plain.engine plain.profile))))

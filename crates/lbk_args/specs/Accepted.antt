@@ -1,19 +1,26 @@
 -- Which words are a command line of the program, and what is wrong with others.
-use Rattle.std.specs.Prelude.{◌≡◌, List, [], ◌∷◌, Option, None, Some}
+use Rattle.std.specs.Prelude.{◌≡◌, Bool, true, not, List, [], ◌∷◌, Option, None, Some, if◌then◌else◌, nat_lt}
 use Rattle.clap.specs.Kinds.{or_else}
 use Rattle.clap.specs.Words.{Kinds, Text, fault_of}
-use Rattle.clap.specs.declared.error.kind.ErrorKind.TheVariants.{MissingRequiredArgument}
+use Rattle.clap.specs.declared.error.kind.ErrorKind.TheVariants.{MissingRequiredArgument, ValueValidation}
 use Rattle.lbk_args.specs.Command.{lbk_app}
 use Rattle.lbk_args.specs.Task.{Task, task_by}
+use Rattle.lbk_args.specs.declared.order.Part.{Part}
 
--- words that `clap` takes ask for no task where a property file is not named
-abbrev pub unnamed_fault : Option Task → Kinds
-unnamed_fault None = MissingRequiredArgument ∷ []
-unnamed_fault (Some task) = []
+-- a range of bytes does not end before it begins
+abbrev pub is_range : Option Part → Bool
+is_range None = true
+is_range (Some part) = not (nat_lt part.to part.from)
 
--- what is wrong with the words, or what they ask for in place of work, as `clap` sorts it; else that a file is not named
+-- words that `clap` takes ask for no task where a property file is not named, and for one that is refused where a range ends
+-- before it begins
+abbrev pub task_fault : Option Task → Kinds
+task_fault None = MissingRequiredArgument ∷ []
+task_fault (Some task) = if is_range task.part then [] else ValueValidation ∷ []
+
+-- what is wrong with the words, or what they ask for in place of work, as `clap` sorts it; else what is with their task
 abbrev pub faults_of : List Text → Kinds
-faults_of words = or_else (fault_of lbk_app words) (unnamed_fault (task_by words))
+faults_of words = or_else (fault_of lbk_app words) (task_fault (task_by words))
 
 -- the words are a command line of the program
 abbrev pub AreAccepted : List Text → Type 0

@@ -27,6 +27,14 @@ number_rule name most default = record (value_rule name) {
   defaults = default ∷ [];
 }
 
+-- the greatest byte of a text that an option takes: more than any text has
+abbrev pub greatest_byte : ℕ
+greatest_byte = 4294967295
+
+-- an option with a byte of a text
+abbrev pub byte_rule : Text → Rule
+byte_rule name = record (value_rule name) { parser = Some (Unsigned 0 greatest_byte) }
+
 -- a flag
 abbrev pub flag_rule : Text → Rule
 flag_rule name = record (long_rule name) { action = Some SetTrue }
@@ -53,8 +61,9 @@ profile_rule = number_rule (codes "profile") 2 (codes "1")
 
 -- `mark`, `show` and `segment`
 abbrev pub limited_app : Text → App
-limited_app name = with_rule (with_rule (with_rule (files_app name)
-    (number_rule (codes "limit") greatest_limit default_limit_text)) profile_rule) texts_rule
+limited_app name = with_rule (with_rule (with_rule (with_rule (with_rule (files_app name)
+    (number_rule (codes "limit") greatest_limit default_limit_text)) (byte_rule (codes "from"))) (byte_rule (codes "to")))
+    profile_rule) texts_rule
 
 -- `replay`
 abbrev pub replay_app : App

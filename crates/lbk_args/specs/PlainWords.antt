@@ -1,5 +1,5 @@
 -- Words that nobody can read in two ways: they are always accepted, and mean what they say.
-use Rattle.std.specs.Prelude.{◌≡◌, ◌≢◌, ℕ, ◌≤◌, ◌⊎◌, Bool, true, false, List, [], ◌∷◌, ◌++◌, codes}
+use Rattle.std.specs.Prelude.{◌≡◌, ◌≢◌, ℕ, ◌≤◌, ◌⊎◌, Bool, true, false, List, [], ◌∷◌, ◌++◌, None, codes}
 use Rattle.std.specs.Fmt.{decimal}
 use Rattle.clap.specs.Words.{Text}
 use Rattle.lbk_values.specs.declared.profile.Profile.{Profile}
@@ -88,7 +88,7 @@ pub record AreFourWords (files : NamedFiles) (words : List Text) : Type 0 where
   pub are : words ≡ four_words line_break east_asian category emoji
   pub files_are : files ≡ given_files line_break east_asian category emoji
 
--- the subcommand, the files, the engine's own option and the profile, and no operand
+-- the subcommand, the files, the engine's own option and the profile, and no range and no operand
 pub record IsPlainFor (task : Task) (words : List Text) : Type 0 where
   pub file_words : List Text
   pub engine_words : List Text
@@ -97,4 +97,5 @@ pub record IsPlainFor (task : Task) (words : List Text) : Type 0 where
   pub files : AreFolderWords task.files file_words ⊎ AreFourWords task.files file_words
   pub engine : AreEngineWords task.engine engine_words
   pub profile : AreProfileWords task.profile profile_words
+  pub part : task.part ≡ None
   pub texts : task.texts ≡ []

@@ -6,13 +6,14 @@ use Rattle.clap.specs.Words.{Row, Text, all_of, first_of, one_of, subcommand_of}
 use Rattle.clap.specs.ValueTests.{is_numeral}
 use Rattle.lbk_values.specs.declared.profile.Profile.{Profile}
 use Rattle.lbk_values.specs.declared.profile.Profile.TheVariants.{First, Second}
-use Rattle.lbk_args.specs.Command.{lbk_app, default_limit}
+use Rattle.lbk_args.specs.Command.{lbk_app, default_limit, greatest_byte}
 use Rattle.lbk_args.specs.declared.order.Engine.{Engine}
 use Rattle.lbk_args.specs.declared.order.Engine.TheVariants.{Mark, Show, Segment, Replay}
 use Rattle.lbk_args.specs.declared.order.FileName.{FileName}
 use Rattle.lbk_args.specs.declared.order.FileName.TheVariants.{Given, InFolder}
 use Rattle.lbk_args.specs.declared.order.FileNames.{FileNames}
 use Rattle.lbk_args.specs.declared.order.Order.{Order}
+use Rattle.lbk_args.specs.declared.order.Part.{Part}
 
 -- how a property file is named: by an option of its own, or by the folder that it is in
 pub data Named : Type 0 where
@@ -26,11 +27,12 @@ pub record NamedFiles : Type 0 where
   pub category : Named
   pub emoji : Named
 
--- an engine with its option, the names of the four files, the profile, and the names of the texts
+-- an engine with its option, the names of the four files, the profile, which passages of each text, and the names of the texts
 pub record Task : Type 0 where
   pub engine : Engine
   pub files : NamedFiles
   pub profile : Profile
+  pub part : Option Part
   pub texts : List Text
 
 abbrev pub named_of : FileName → Named
@@ -51,6 +53,7 @@ task_of o = record {
   engine = o.engine;
   files = files_of_names o.files;
   profile = o.profile;
+  part = o.part;
   texts = map (λ name. name.now) o.texts.items;
 }
 
@@ -97,6 +100,13 @@ limit_in rows = number_or default_limit (one_of (codes "limit") rows)
 abbrev pub profile_in : List Row → Profile
 profile_in rows = if number_or 1 (one_of (codes "profile") rows) == 2 then Second else First
 
+-- the passages that begin at byte `from` or behind it, before byte `to`; None, where these are all that a text may have
+abbrev pub part_by : ℕ → ℕ → Option Part
+part_by from to = if (from == 0) && (to == greatest_byte) then None else Some (record { from = from; to = to })
+
+abbrev pub part_in : List Row → Option Part
+part_in rows = part_by (number_or 0 (one_of (codes "from") rows)) (number_or greatest_byte (one_of (codes "to") rows))
+
 -- the names of the texts, in the order of the words
 abbrev pub texts_in : List Row → List Text
 texts_in rows = unwrap_or (all_of (codes "text") rows) []
@@ -122,6 +132,7 @@ task_in found = option_map (λ files. record {
   engine = engine_in found.0 found.1;
   files = files;
   profile = profile_in found.1;
+  part = part_in found.1;
   texts = texts_in found.1;
 }) (files_in found.1)
 

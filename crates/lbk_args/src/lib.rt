@@ -6,5 +6,5 @@ mod options;
 mod order;
 mod parsing;
 
-pub use order::{Engine, FileName, FileNames, Order, WordsFault};
+pub use order::{Engine, FileName, FileNames, Order, Part, WordsFault};
 pub use parsing::{DEFAULT_LIMIT, parse};

@@ -4,7 +4,7 @@ ghost use Rattle.std.specs.Prelude.{◌≡◌, false, IfOk, codes};
 ghost use Rattle.clap.specs.Words.{App, Rule, app_of, rule_of, with_rule, with_subcommand};
 ghost use Rattle.lbk_feed.specs.Text.{greatest_limit};
 ghost use Rattle.lbk_args.specs.Local.{IsLocal, IsMade};
-ghost use Rattle.lbk_args.specs.Command.{long_rule, value_rule, number_rule, default_limit_text, flag_rule, profile_rule, texts_rule, files_app, limited_app, replay_app, bare_app, lbk_app};
+ghost use Rattle.lbk_args.specs.Command.{byte_rule, long_rule, value_rule, number_rule, default_limit_text, flag_rule, profile_rule, texts_rule, files_app, limited_app, replay_app, bare_app, lbk_app};
 
 use clap::builder::ValueParser;
 use clap::{Arg, ArgAction, Command};
@@ -62,7 +62,8 @@ A mark stands before and after each scalar: × no break, ÷ break allowed, ! bre
 
 const SEGMENT_AFTER: &str = "\
 `P start end` is a passage, `S start end kind rule` a segment of it up to a break that may be (kind May) or must
-be (kind Must), and `W start end` a word. Places count bytes of the whole text. Example:
+be (kind Must), and `W start end` a word. Places count bytes of the whole text. Ranges one after another, as
+`--to 1000` and `--from 1000`, write together what is written of the whole text. Example:
   $ printf 'ab cd' | lbk segment --ucd FOLDER
   P 0 5
   S 0 3 May 18
@@ -131,6 +132,16 @@ fn limit_option<'a>(alloc: Global) -> Arg<'a>
     number_option(alloc, "limit", u64::from(LIMIT_MAX), "65536").help(
         "The most bytes of a paragraph, 1 to 16777216",
     )
+}
+
+/// An option that takes a byte of a text.
+fn byte_option<'a>(alloc: Global, name: &'a str, help: &'a str) -> Arg<'a>
+    ensures rule { rule_of result ≡ byte_rule name.entry.now }
+    ensures local { result.global ≡ false }
+{
+    value_option(alloc, name, "BYTE")
+        .value_parser(ValueParser::unsigned(0, u64::from(u32::MAX)))
+        .help(help)
 }
 
 fn profile_option<'a>(alloc: Global) -> Arg<'a>
@@ -217,6 +228,10 @@ fn limited<'a>(alloc: Global, name: &'a str) -> Made<'a>
     ensures { IsMade (limited_app name.entry.now) result }
 {
     let command = with_option(with_files(alloc, name), limit_option(alloc));
+    let from = "Only the passages that begin at this byte of a text or after it, counted from 0";
+    let command = with_option(command, byte_option(alloc, "from", from));
+    let to = "Only the passages that begin before this byte of a text";
+    let command = with_option(command, byte_option(alloc, "to", to));
     let command = with_option(command, profile_option(alloc));
     with_option(command, texts_operand(alloc))
 }

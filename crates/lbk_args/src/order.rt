@@ -33,12 +33,23 @@ pub enum Engine {
     Replay { kinds: bool },
 }
 
+/// The passages of a text that begin in a range of its bytes.
+#[derive(Clone, Copy, Debug, PartialEq, Eq)]
+pub struct Part {
+    /// The first byte of the range, counted from 0.
+    pub from: u32,
+    /// The byte after its last.
+    pub to: u32,
+}
+
 /// What the words ask for.
 #[derive(Debug, Drop)]
 pub struct Order<'a> {
     pub engine: Engine,
     pub files: FileNames<'a>,
     pub profile: Profile,
+    /// Which passages of each text; all of them without one.
+    pub part: Option<Part>,
     /// The names of the texts, in order; none stands for standard input, as `-` does.
     pub texts: Vec<&'a str>,
 }

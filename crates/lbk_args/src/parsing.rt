@@ -1,15 +1,15 @@
 //! Words into an order.
 
-ghost use Rattle.std.specs.Prelude.{◌≡◌, [], ◌∷◌, None, Some, IfOk, IfErr, MatchOption, MatchResult, codes, map, option_map};
+ghost use Rattle.std.specs.Prelude.{◌≡◌, [], ◌∷◌, None, Some, IfOk, IfErr, MatchOption, MatchResult, OnOk, codes, map, option_map};
 ghost use Rattle.clap.specs.Words.{first_of, found_of, kind_of, one_of, rows_of};
-ghost use Rattle.clap.specs.declared.error.kind.ErrorKind.TheVariants.{MissingRequiredArgument};
-ghost use Rattle.lbk_args.specs.Accepted.{AreAccepted, faults_of};
-ghost use Rattle.lbk_args.specs.Task.{Task, engine_in, files_in, files_of_names, kinds_in, limit_in, named_folder, named_in, named_of, number_or, own_or_folder, profile_in, task_by, task_in, task_of, texts_in};
+ghost use Rattle.clap.specs.declared.error.kind.ErrorKind.{ErrorKind};
+ghost use Rattle.lbk_args.specs.Accepted.{AreAccepted, faults_of, is_range, task_fault};
+ghost use Rattle.lbk_args.specs.Task.{Task, engine_in, files_in, files_of_names, kinds_in, limit_in, named_folder, named_in, named_of, number_or, own_or_folder, part_in, profile_in, task_by, task_in, task_of, texts_in};
 ghost use Rattle.lbk_args.specs.PlainWords.{IsPlainFor};
-ghost use Rattle.lbk_args.specs.Refusal.{IsRefusalBy};
+ghost use Rattle.lbk_args.specs.Refusal.{IsMistake, IsRefusalBy};
 
 use super::options::command;
-use super::order::{Engine, FileName, FileNames, Order, WordsFault};
+use super::order::{Engine, FileName, FileNames, Order, Part, WordsFault};
 use clap::error::ErrorKind;
 use clap::{ArgMatches, Error};
 use lbk_values::Profile;
@@ -17,6 +17,17 @@ use std::alloc::{AllocError, Global};
 
 /// The most bytes of a paragraph where the words give no limit.
 pub const DEFAULT_LIMIT: u32 = 65_536;
+
+/// What is said of arguments that name no property files.
+const UNNAMED: &str = "\
+the property files are not named: give --ucd <FOLDER>, or each of
+  --line-break <FILE>
+  --east-asian <FILE>
+  --category <FILE>
+  --emoji <FILE>";
+
+/// What is said of a range that ends before it begins.
+const TURNED_ROUND: &str = "--from <BYTE> is greater than --to <BYTE>";
 
 /// Reads the arguments after the program's name.
 ///
@@ -38,12 +49,39 @@ pub fn parse<'a>(alloc: Global, words: &'a [&'a str]) -> Result<Order<'a>, Words
             let Ok(texts) = texts(alloc, given) else {
                 return Err(WordsFault::Memory);
             };
-            match order(name, given, texts) {
-                Some(order) => Ok(order),
-                None => Err(unnamed(alloc, name)),
-            }
+            accepted(alloc, name, order(name, given, texts))
         }
         Err(error) => Err(refusal(alloc, &error)),
+    }
+}
+
+/// An order, if the property files are named and its range does not end before it begins.
+fn accepted<'a>(
+    alloc: Global,
+    name: &str,
+    order: Option<Order<'a>>,
+) -> Result<Order<'a>, WordsFault>
+    ensures order { IfOk result (λ made. order.entry ≡ Some made) }
+    ensures clean { OnOk result (task_fault (option_map task_of order.entry) ≡ []) }
+    ensures refused { IfErr result (IsRefusalBy (task_fault (option_map task_of order.entry))) }
+{
+    let Some(order) = order else {
+        return Err(mistake(alloc, name, UNNAMED));
+    };
+    if is_range(order.part) {
+        Ok(order)
+    } else {
+        Err(mistake(alloc, name, TURNED_ROUND))
+    }
+}
+
+/// Whether a range does not end before it begins.
+fn is_range(part: Option<Part>) -> bool
+    ensures { result ≡ is_range part }
+{
+    match part {
+        None => true,
+        Some(part) => part.from <= part.to,
     }
 }
 
@@ -57,6 +95,7 @@ fn order<'a>(name: &str, given: &ArgMatches<'a>, texts: Vec<&'a str>) -> Option<
         engine: engine(name, given),
         files,
         profile: profile(given),
+        part: part(given),
         texts,
     })
 }
@@ -147,6 +186,19 @@ fn profile(given: &ArgMatches<'_>) -> Profile
     }
 }
 
+/// Which passages of a text, unless all.
+fn part(given: &ArgMatches<'_>) -> Option<Part>
+    ensures { result ≡ part_in (rows_of (found_of given.now)) }
+{
+    let from = number(given, "from", 0);
+    let to = number(given, "to", u32::MAX);
+    if from == 0 && to == u32::MAX {
+        None
+    } else {
+        Some(Part { from, to })
+    }
+}
+
 /// The names of the texts.
 fn texts<'a>(alloc: Global, given: &ArgMatches<'a>) -> Result<Vec<&'a str>, AllocError>
     ensures { IfOk result (λ texts. map (λ name. name.now) texts.items ≡ texts_in (rows_of (found_of given.now))) }
@@ -171,14 +223,12 @@ fn refusal(alloc: Global, error: &Error) -> WordsFault
     }
 }
 
-/// What the program writes for arguments that `clap` takes where a property file is not named.
-fn unnamed(alloc: Global, name: &str) -> WordsFault
-    ensures { IsRefusalBy (MissingRequiredArgument ∷ []) result }
+/// What the program writes for arguments that `clap` takes, and in which this is wrong.
+fn mistake(alloc: Global, name: &str, cause: &str) -> WordsFault
+    ensures { (kind : ErrorKind) → IsMistake kind → IsRefusalBy (kind ∷ []) result }
 {
     let told = format!(in alloc;
-        "error: the property files are not named: give --ucd <FOLDER>, or each of\n  \
-         --line-break <FILE>\n  --east-asian <FILE>\n  --category <FILE>\n  --emoji <FILE>\n\n\
-         Usage: lbk {name} --ucd <FOLDER> [OPTIONS] [FILE]...\n\nFor more information, try '--help'.\n"
+        "error: {cause}\n\nUsage: lbk {name} --ucd <FOLDER> [OPTIONS] [FILE]...\n\nFor more information, try '--help'.\n"
     );
     match told {
         Ok(text) => WordsFault::Usage { text },

@@ -12,6 +12,7 @@ pub mod KeepingUp
 pub mod Looping
 pub mod Owning
 pub mod Known
+pub mod Ranging
 mod Rows
 pub mod Headlines
 pub mod Joined

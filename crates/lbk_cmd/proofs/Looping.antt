@@ -20,7 +20,7 @@ use Rattle.lbk_cmd.proofs.Running.{Standing, Standing-new, Standing-new-given, S
 use Rattle.lbk_cmd.proofs.KeepingUp.{keeps_none, keeps_written, keeps_next}
 use Rattle.lbk_cmd.proofs.Stopping.{stopped, run_whole, run_fault}
 
-Appends-nil : (a : Option (List ℕ)) → Appends a a []
+pub Appends-nil : (a : Option (List ℕ)) → Appends a a []
 Appends-nil None = tt
 Appends-nil (Some xs) = sym (append-nil xs)
 

@@ -5,25 +5,28 @@ use Rattle.std.specs.Borrow.{Bor}
 use Rattle.lbk_steps.specs.CellPages.{page_cell}
 use Rattle.lbk_values.specs.declared.profile.Profile.{Profile}
 use Rattle.lbk_args.specs.declared.order.Engine.{Engine}
+use Rattle.lbk_args.specs.declared.order.Part.{Part}
 use Rattle.lbk_args.specs.Task.{Task}
 use Rattle.lbk_files.specs.declared.faults.Stop.{Stop}
 use Rattle.lbk_files.specs.declared.readiness.Ready.{Ready}
 use Rattle.lbk_files.specs.FileFault.{LoadCounts}
 use Rattle.lbk_files.specs.Ready.{IsReadyFor}
 use Rattle.lbk_cmd.specs.Operands.{Reads, Standing}
-use Rattle.lbk_cmd.specs.Acts.{EngineRuns, Performs}
+use Rattle.lbk_cmd.specs.Acts.{RunsOver, Performs}
 
 -- an engine that runs on what is ready for a task performs it
 pub ready_performs : (file text : List ℕ → Option (Option (List ℕ))) (task : Task) (counts counts' : LoadCounts) (ready : Ready)
     (before after : Standing) → IsReadyFor file task ready
-    → Reads text (EngineRuns ready.engine ready.profile (page_cell ready.cells)) (map (λ name. name.now) ready.texts.items) before after
+    → Reads text (RunsOver ready.part ready.engine ready.profile (page_cell ready.cells)) (map (λ name. name.now) ready.texts.items) before after
     → Performs file text task counts counts' before after
 ready_performs file text task counts counts' ready before after is reads = inr (
   page_cell ready.cells,
   is.cells,
-  subst (λ (engine : Engine). Reads text (EngineRuns engine task.profile (page_cell ready.cells)) task.texts before after) is.engine
-      (subst (λ (profile : Profile). Reads text (EngineRuns ready.engine profile (page_cell ready.cells)) task.texts before after) is.profile
-      (subst (λ (names : List (List ℕ)). Reads text (EngineRuns ready.engine ready.profile (page_cell ready.cells)) names before after) is.texts reads)),
+  subst (λ (part : Option Part). Reads text (RunsOver part task.engine task.profile (page_cell ready.cells)) task.texts before after) is.part
+      (subst (λ (engine : Engine). Reads text (RunsOver ready.part engine task.profile (page_cell ready.cells)) task.texts before after) is.engine
+      (subst (λ (profile : Profile). Reads text (RunsOver ready.part ready.engine profile (page_cell ready.cells)) task.texts before after) is.profile
+      (subst (λ (names : List (List ℕ)). Reads text (RunsOver ready.part ready.engine ready.profile (page_cell ready.cells)) names before after) is.texts
+      reads))),
 )
 
 -- one stop

@@ -1,5 +1,5 @@
 -- Where a run of an engine ends.
-use Rattle.std.proofs.Common.{◌≡◌, ℕ, ◌+◌, ◌-◌, ◌<◌, ◌≤◌, Bool, true, List, [], ◌∷◌, ◌++◌, length, take, None, Option, Ok, Err, IsUtf8, encode_utf8, encode_utf8_all, chars, refl, sym, ap, subst, ◌∙◌, arith, inl, inr, ⊎_elim, length-append, length-take, append_assoc, append-nil}
+use Rattle.std.proofs.Common.{◌≡◌, ℕ, ◌+◌, ◌-◌, ◌<◌, ◌≤◌, Bool, true, ◌⊎◌, List, [], ◌∷◌, ◌++◌, length, take, None, Option, Ok, Err, IsUtf8, encode_utf8, encode_utf8_all, chars, refl, sym, ap, subst, ◌∙◌, arith, inl, inr, ⊎_elim, length-append, length-take, append_assoc, append-nil}
 use Rattle.std.specs.List.{flat_map}
 use Rattle.std.proofs.Math.Seq.{take-append-add}
 use Rattle.std.proofs.lemmas.Bool.{false≢true}
@@ -16,6 +16,7 @@ use Rattle.lbk_passage.specs.Next.{AfterNext, BeginsWithAll, ComesFirst, GoesOn,
 use Rattle.lbk_passage.specs.declared.faults.PassageFault.{PassageFault}
 use Rattle.lbk_passage.specs.declared.faults.PassageFault.TheVariants as fault
 use Rattle.lbk_passage.proofs.Marking.{begins_with_all}
+use Rattle.lbk_cmd.specs.Ranges.{HasPassed}
 use Rattle.lbk_cmd.specs.Run.{Engine, passages_by, written_by, AreWithin, IsWhole, AreGiven, IsSettled, IsHeldUp, AreAll, ComesTo, segmenter_of}
 use Rattle.lbk_cmd.specs.declared.faults.CmdFault.TheVariants.{Passage}
 use Rattle.lbk_cmd.proofs.Running.{some_bytes, Stands, fresh, goes_on, ended, Standing, onward}
@@ -141,6 +142,23 @@ module _ (e : Engine) where
         by (ended held is_at_end given) =
             at_end out n (notices is_at_end)
             (whole_at bytes (st.bytes_are ∙ ap (λ l. encode_utf8_all st.scalars ++ l) held ∙ append-nil (encode_utf8_all st.scalars)) given) front
+
+    -- the passages given reach up to `to`, or are all of the text
+    pub passed : (to : ℕ) → to ≤ s.start → ((s.is_ended ≡ true) × IsWhole e bytes out) ⊎ HasPassed e to bytes out
+    unfolding settled_fresh settled_on
+    passed to past = by st.stands
+      where
+        by : Stands e s st.scalars st.given → ((s.is_ended ≡ true) × IsWhole e bytes out) ⊎ HasPassed e to bytes out
+        by (fresh none no_given) = inr (record {
+          settled = settled_fresh no_given;
+          reaches = let empty = ap (λ l. length (encode_utf8_all l)) none in omega (arith, past, st.start, empty);
+        })
+        by (goes_on next rest held utf8 near first) = inr (record {
+          settled = settled_on next rest held utf8 near first;
+          reaches = let long = ap (λ l. length (encode_utf8_all l)) st.joined in omega (arith, past, st.start, long);
+        })
+        by (ended held is_at_end given) =
+            inl (is_at_end, whole_at bytes (st.bytes_are ∙ ap (λ l. encode_utf8_all st.scalars ++ l) held ∙ append-nil (encode_utf8_all st.scalars)) given)
 
     module _ (t : State) (u v : Option (List ℕ)) (e1 e2 : Bool) (r1 r2 : Reads) where
       -- the text was read to its end

@@ -1,5 +1,5 @@
 -- What a run of the program does, by its words.
-use Rattle.std.specs.Prelude.{◌≡◌, ◌⊎◌, ◌+◌, ◌<◌, ◌≤◌, ◌↔◌, ℕ, Bool, List, Option, Result, Err, IfOk, IfSome, IsErrOf, IsTrue, IsUtf8, OnOk, if◌then◌else◌}
+use Rattle.std.specs.Prelude.{◌≡◌, ◌⊎◌, ◌+◌, ◌<◌, ◌≤◌, ◌↔◌, ℕ, Bool, List, Option, None, Some, Result, Err, IfOk, IfSome, IsErrOf, IsTrue, IsUtf8, OnOk, if◌then◌else◌}
 use Rattle.std.specs.Str.{chars}
 use Rattle.std.specs.Io.KnownBytes.{Appends, IsAtEnd}
 use Rattle.lbk_feed.specs.Runs.{HasFailed, Ran}
@@ -10,6 +10,7 @@ use Rattle.lbk_passage.specs.declared.faults.PassageFault.{PassageFault}
 use Rattle.lbk_notation.specs.Replay.{IsReplayRun, IsReplayed, is_read_fault}
 use Rattle.lbk_cmd.specs.Engines.{engine_of, lines_of, marking, segmenting, showing}
 use Rattle.lbk_cmd.specs.Run.{Engine as TextEngine, IsRun, is_failed_read}
+use Rattle.lbk_cmd.specs.Ranges.{RangeRuns}
 use Rattle.lbk_cmd.specs.Texts.{lines_from, segment_text, show_text, signed_text}
 use Rattle.lbk_rules.specs.declared.cells.Cell.{Cell}
 use Rattle.lbk_values.specs.declared.profile.Profile.{Profile}
@@ -20,6 +21,7 @@ use Rattle.lbk_notation.specs.declared.marks.Form.{Form}
 use Rattle.lbk_notation.specs.declared.marks.Form.TheVariants.{Plain, Kinds}
 use Rattle.lbk_args.specs.declared.order.Engine.{Engine}
 use Rattle.lbk_args.specs.declared.order.Engine.TheVariants.{Mark, Show, Segment, Replay}
+use Rattle.lbk_args.specs.declared.order.Part.{Part}
 use Rattle.lbk_args.specs.Command.{default_limit}
 use Rattle.lbk_args.specs.Task.{Task}
 use Rattle.lbk_files.specs.declared.faults.CellsFault.{CellsFault}
@@ -100,10 +102,23 @@ EngineRuns (Segment limit) profile cell before after ending =
 EngineRuns (Replay kinds) profile cell before after ending =
     (answer : Result Report ReplayFault) × Replays cell (form_of kinds) profile before after answer × (ending ≡ ending_of_replay answer)
 
+-- an engine writes of the passages of a range, and the run ends as its answer says
+abbrev pub RangeEnds : Part → TextEngine → Devices → Devices → Ending → Type 0
+RangeEnds part engine before after ending =
+    (answer : Result (Unit {0}) CmdFault) × RangeRuns part engine before after answer × (ending ≡ ending_of_text answer)
+
+-- the engine runs over a text, or over a range of it, which `replay` has none of
+abbrev pub RunsOver : Option Part → Engine → Profile → (ℕ → Cell) → Devices → Devices → Ending → Type 0
+RunsOver None engine profile cell = EngineRuns engine profile cell
+RunsOver (Some part) (Mark limit) profile cell = RangeEnds part (marking cell profile limit)
+RunsOver (Some part) (Show limit) profile cell = RangeEnds part (showing cell profile limit)
+RunsOver (Some part) (Segment limit) profile cell = RangeEnds part (segmenting cell profile limit)
+RunsOver (Some part) (Replay kinds) profile cell = EngineRuns (Replay kinds) profile cell
+
 -- a task: its files stop the run and no text is opened, or its engine runs with its option and profile on the cells of the
--- files, over its texts
+-- files, over its texts, or over its range of each
 abbrev pub Performs : (List ℕ → Option (Option (List ℕ))) → (List ℕ → Option (Option (List ℕ))) → Task → LoadCounts → LoadCounts → Standing → Standing → Type 0
 Performs file text task counts counts' before after =
     (StopsBefore (IsStoppedAt file task counts counts') before.devices after.devices after.ending × (after.refused ≡ before.refused))
     ⊎ ((cell : ℕ → Cell) × AreCellsFrom (files_of file task.files) cell
-    × Reads text (EngineRuns task.engine task.profile cell) task.texts before after)
+    × Reads text (RunsOver task.part task.engine task.profile cell) task.texts before after)

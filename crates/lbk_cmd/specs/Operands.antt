@@ -1,5 +1,5 @@
 -- What a run does over the texts that operands name.
-use Rattle.std.specs.Prelude.{◌≡◌, ◌≢◌, ◌⊎◌, ◌++◌, ℕ, Bool, true, false, List, [], ◌∷◌, Option, codes, option_map}
+use Rattle.std.specs.Prelude.{◌≡◌, ◌≢◌, ◌⊎◌, ◌++◌, ℕ, true, false, List, [], ◌∷◌, Option, codes, option_map}
 use Rattle.lbk_files.specs.FileStore.{AreLeft}
 use Rattle.lbk_files.specs.Store.{IsUnreadable}
 use Rattle.lbk_cmd.specs.Devices.{Devices}

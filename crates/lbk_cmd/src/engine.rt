@@ -86,7 +86,7 @@ pub fn segment<R: Source, W: Sink, C: CellSource>(
 
 /// What is written of a passage.
 #[derive(Clone, Copy)]
-enum Lines {
+pub(crate) enum Lines {
     /// Its text, with a sign at each position where a line may end.
     Signed,
     /// Its marks, scalars and rules, in one line.
@@ -121,7 +121,7 @@ fn write_lines<R: Source, W: Sink, C: CellSource>(
 
 /// Puts the lines of a passage at the end of a text, `verdicts` being a list to work in. After an error some of them
 /// may stand there.
-fn push_lines<C: CellSource>(
+pub(crate) fn push_lines<C: CellSource>(
     lines: Lines,
     cells: &C,
     profile: Profile,

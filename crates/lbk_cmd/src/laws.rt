@@ -1,7 +1,7 @@
 //! What the calls amount to together, over definitions only. Each law is the contract of a function that does
 //! nothing.
 
-ghost use Rattle.std.specs.Prelude.{ℕ, ◌+◌, ◌*◌, ◌≤◌, ◌∷◌, List, Some, length, ◌≡◌};
+ghost use Rattle.std.specs.Prelude.{ℕ, ◌+◌, ◌*◌, ◌≤◌, ◌∷◌, List, Some, length, encode_utf8_all, ◌≡◌};
 ghost use Rattle.std.specs.Char.{IsScalar};
 ghost use Rattle.std.specs.List.{AllByRecursion, flat_map};
 ghost use Rattle.lbk_notation.specs.declared.marks.Form.TheVariants.{Kinds};
@@ -20,9 +20,12 @@ ghost use Rattle.lbk_passage.specs.declared.passage.Passage.{Passage};
 ghost use Rattle.lbk_files.specs.Cells.{AreCellsOf};
 ghost use Rattle.lbk_cmd.specs.Headline.{ArePassagesOf};
 ghost use Rattle.lbk_cmd.specs.Owned.{AreRead, Owned, lent_as, owned_passage};
+ghost use Rattle.lbk_cmd.specs.Engines.{lines_of};
 ghost use Rattle.lbk_cmd.specs.Parts.{DiffersInLabel, lines_in, shown_in};
+ghost use Rattle.lbk_cmd.specs.Ranges.{AreRanges, end_of_ranges, text_by_ranges, text_within};
+ghost use Rattle.lbk_cmd.specs.declared.engine.Lines.{Lines};
 ghost use Rattle.lbk_cmd.specs.Segment.{segmented_passage};
-ghost use Rattle.lbk_cmd.specs.Texts.{segment_text, show_text, signed_text};
+ghost use Rattle.lbk_cmd.specs.Texts.{lines_from, segment_text, show_text, signed_text};
 
 /// For all property files, every text and either profile: the passages joined are the text, their breaks are the
 /// positions, kinds and rules that the first matching rule gives on the whole text (UAX #14, section 6), and the line written
@@ -68,4 +71,15 @@ pub fn joined_lines()
         → segment_text cell (passages profile cell (flat_map (λ part. part) parts))
         ≡ of_parts (lines_in (segmented_passage cell) profile cell) 0 parts }
     ensures label { (profile : Profile) (cell : ℕ → Cell) (first : ℕ) (rest : List ℕ) → DiffersInLabel profile cell (first ∷ rest) }
+{}
+
+/// What is written of the passages of ranges, each of which begins where the one before it ends, is, joined, what is written of
+/// the range of all: `mark`, `show` and `segment` over ranges that tile a text write what they write of the text.
+pub fn joined_ranges()
+    ensures whole { (lines : Lines) (profile : Profile) (cell : ℕ → Cell) (text : List ℕ) (tos : List ℕ) → AreRanges 0 tos
+        → length (encode_utf8_all text) ≤ end_of_ranges 0 tos
+        → text_by_ranges (lines_of lines cell) 0 tos (passages profile cell text) ≡ lines_from (lines_of lines cell) 0 (passages profile cell text) }
+    ensures range { (lines : Lines) (profile : Profile) (cell : ℕ → Cell) (text : List ℕ) (from : ℕ) (tos : List ℕ) → AreRanges from tos
+        → text_by_ranges (lines_of lines cell) from tos (passages profile cell text)
+        ≡ text_within (lines_of lines cell) from (end_of_ranges from tos) (passages profile cell text) }
 {}

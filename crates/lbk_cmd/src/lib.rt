@@ -13,6 +13,7 @@ mod output_line;
 mod owned;
 mod passages;
 mod performing;
+mod ranges;
 mod segmented;
 mod shown;
 mod signed;

@@ -2,15 +2,17 @@
 
 ghost use Rattle.std.specs.Prelude.{◌≡◌, map};
 ghost use Rattle.lbk_steps.specs.CellPages.{page_cell};
-ghost use Rattle.lbk_cmd.specs.Acts.{EngineRuns, form_of};
+ghost use Rattle.lbk_cmd.specs.Acts.{EngineRuns, RangeEnds, RunsOver, form_of};
 ghost use Rattle.lbk_cmd.specs.Devices.{devices_of};
+ghost use Rattle.lbk_cmd.specs.Engines.{engine_of};
 ghost use Rattle.lbk_cmd.specs.Operands.{Reads, ReadsText, ReadsTexts, refused_after, standing};
 ghost use Rattle.lbk_cmd.specs.declared.ending.Ending.TheVariants.{Done};
 
 use super::ending::{Ending, RunFault};
-use super::engine::{mark, segment, show};
+use super::engine::{Lines, mark, segment, show};
 use super::operands::Texts;
-use lbk_args::Engine;
+use super::ranges::write_range;
+use lbk_args::{Engine, Part};
 use lbk_feed::{Sink, Source};
 use lbk_files::{LoadFault, Ready};
 use lbk_notation::{Form, replay};
@@ -25,7 +27,7 @@ pub(crate) fn perform<T: Texts, R: Source, W: Sink>(
     reader: &mut R,
     writer: &mut W,
 ) -> Ending
-    ensures reads { Reads (T.contents texts.old) (EngineRuns ready.now.engine ready.now.profile (page_cell ready.now.cells))
+    ensures reads { Reads (T.contents texts.old) (RunsOver ready.now.part ready.now.engine ready.now.profile (page_cell ready.now.cells))
         (map (λ name. name.now) ready.now.texts.items)
         (standing (devices_of R.Source W.Sink reader.old writer.old) (T.refused texts.old) Done)
         (standing (devices_of R.Source W.Sink reader.new writer.new) (T.refused texts.new) result) }
@@ -48,7 +50,7 @@ fn perform_all<T: Texts, R: Source, W: Sink>(
     reader: &mut R,
     writer: &mut W,
 ) -> Ending
-    ensures reads { ReadsTexts (T.contents texts.old) (EngineRuns ready.now.engine ready.now.profile (page_cell ready.now.cells))
+    ensures reads { ReadsTexts (T.contents texts.old) (RunsOver ready.now.part ready.now.engine ready.now.profile (page_cell ready.now.cells))
         (map (λ name. name.now) names.now)
         (standing (devices_of R.Source W.Sink reader.old writer.old) (T.refused texts.old) Done)
         (standing (devices_of R.Source W.Sink reader.new writer.new) (T.refused texts.new) result) }
@@ -86,7 +88,7 @@ fn perform_named<T: Texts, R: Source, W: Sink>(
     reader: &mut R,
     writer: &mut W,
 ) -> Ending
-    ensures { ReadsText (T.contents texts.now) (EngineRuns ready.now.engine ready.now.profile (page_cell ready.now.cells)) name.now
+    ensures { ReadsText (T.contents texts.now) (RunsOver ready.now.part ready.now.engine ready.now.profile (page_cell ready.now.cells)) name.now
         (devices_of R.Source W.Sink reader.old writer.old) (devices_of R.Source W.Sink reader.new writer.new) result }
 {
     if name == "-" {
@@ -99,9 +101,81 @@ fn perform_named<T: Texts, R: Source, W: Sink>(
     }
 }
 
-/// Runs the engine that is ready, over one text.
+/// Runs the engine that is ready, over one text or its range of it.
 #[tactic(none)]
 fn perform_one<R: Source, W: Sink>(
+    alloc: Global,
+    ready: &Ready<'_>,
+    reader: &mut R,
+    writer: &mut W,
+) -> Ending
+    ensures { RunsOver ready.now.part ready.now.engine ready.now.profile (page_cell ready.now.cells)
+        (devices_of R.Source W.Sink reader.old writer.old) (devices_of R.Source W.Sink reader.new writer.new) result }
+{
+    let Some(part) = ready.part else {
+        return perform_whole(alloc, ready, reader, writer);
+    };
+    match ready.engine {
+        Engine::Mark { limit } => perform_range(
+            alloc,
+            Lines::Signed,
+            part,
+            limit,
+            ready,
+            reader,
+            writer,
+        ),
+        Engine::Show { limit } => perform_range(
+            alloc,
+            Lines::Shown,
+            part,
+            limit,
+            ready,
+            reader,
+            writer,
+        ),
+        Engine::Segment { limit } => perform_range(
+            alloc,
+            Lines::Segmented,
+            part,
+            limit,
+            ready,
+            reader,
+            writer,
+        ),
+        Engine::Replay { .. } => perform_whole(alloc, ready, reader, writer),
+    }
+}
+
+/// Writes these lines of the passages that begin in a range of one text.
+#[tactic(none)]
+fn perform_range<R: Source, W: Sink>(
+    alloc: Global,
+    lines: Lines,
+    part: Part,
+    limit: u32,
+    ready: &Ready<'_>,
+    reader: &mut R,
+    writer: &mut W,
+) -> Ending
+    ensures { RangeEnds part (engine_of lines (page_cell ready.now.cells) ready.now.profile limit)
+        (devices_of R.Source W.Sink reader.old writer.old) (devices_of R.Source W.Sink reader.new writer.new) result }
+{
+    Ending::of_text(write_range(
+        lines,
+        part,
+        alloc,
+        reader,
+        writer,
+        &ready.cells,
+        limit,
+        ready.profile,
+    ))
+}
+
+/// Runs the engine that is ready, over one text as a whole.
+#[tactic(none)]
+fn perform_whole<R: Source, W: Sink>(
     alloc: Global,
     ready: &Ready<'_>,
     reader: &mut R,

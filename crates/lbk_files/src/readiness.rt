@@ -10,16 +10,18 @@ ghost use Rattle.lbk_files.specs.Ready.{IsReadyFor, IsStoppedAt, IsStoppedByWord
 use super::faults::{CellsFault, Stop};
 use super::loading::load_cells;
 use super::store::Store;
-use lbk_args::{Engine, Order, WordsFault, parse};
+use lbk_args::{Engine, Order, Part, WordsFault, parse};
 use lbk_rules::Profile;
 use lbk_steps::CellPages;
 use std::alloc::Global;
 
-/// An engine with its option, the profile, the cells of the files and the names of the texts.
+/// An engine with its option, the profile, which passages of each text, unless all, the cells of the files and the names of
+/// the texts.
 #[derive(Drop)]
 pub struct Ready<'a> {
     pub engine: Engine,
     pub profile: Profile,
+    pub part: Option<Part>,
     pub cells: CellPages,
     pub texts: Vec<&'a str>,
 }
@@ -70,6 +72,7 @@ fn made_ready<'a, S: Store>(
         Ok(cells) => Ok(Ready {
             engine: order.engine,
             profile: order.profile,
+            part: order.part,
             cells,
             texts: order.texts,
         }),

@@ -7,6 +7,7 @@ pub mod Pieces
 pub mod State
 pub mod Shown
 pub mod Next
+pub mod Passing
 pub mod Laws
 pub mod Runs
 pub use Rattle.lbk_rules.specs.Joins

@@ -72,6 +72,13 @@ impl Paragraph {
         self.feed.given() - self.text.len() as u64
     }
 
+    /// How many bytes of the whole text were gathered, up to the end of the paragraph.
+    pub fn given(&self) -> u64
+        ensures { result ≡ self.now.feed.given }
+    {
+        self.feed.given()
+    }
+
     /// Lets the paragraph go, which was given.
     pub fn release(&mut self)
         ensures { IsSame self.old self.new false self.old.is_spent }

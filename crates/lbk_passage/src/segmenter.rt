@@ -50,6 +50,7 @@ impl<'a, C: CellSource> Segmenter<'a, C> {
     ghost use Rattle.lbk_passage.specs.State.{IsLimit, new_state};
     ghost use Rattle.lbk_passage.specs.Shown.{HasRoom, state_of};
     ghost use Rattle.lbk_passage.specs.Next.{AfterNext, IsDone, IsPlaced, fault_in, failures_with};
+    ghost use Rattle.lbk_passage.specs.Passing.{PassesOver};
     ghost use Rattle.lbk_passage.specs.contracts.segmenter.Segmenter.{the_row};
     ghost use mir.Syntax.{named};
 
@@ -122,6 +123,20 @@ impl<'a, C: CellSource> Segmenter<'a, C> {
         }
         self.paragraph.release();
         Ok(Some(self.lend(end)))
+    }
+
+    /// Passes over the next passage, without finding its segments and words, and returns the byte of the text after it, or
+    /// `None` at the end of the text. Reads and faults are those of `next`, and so is what later calls give.
+    pub fn pass<R: Source>(&mut self, reader: &mut R) -> Result<Option<u64>, PassageFault>
+        ensures passes { PassesOver (state_of C.cell_of self.old) (state_of C.cell_of self.new) (R.unread reader.old) (R.unread reader.new)
+            (R.has_ended reader.old) (R.has_ended reader.new) (R.reads_made reader.old) (R.reads_made reader.new) result }
+        ensures failures { R.failure_count reader.new ≡ failures_with (R.failure_count reader.old) (fault_in result) }
+    {
+        let Some(_) = self.paragraph.fill(reader, self.cells, &self.flags)? else {
+            return Ok(None);
+        };
+        self.paragraph.release();
+        Ok(Some(self.paragraph.given()))
     }
 
     /// The paragraph as a passage.

@@ -238,7 +238,7 @@ fn refused(rt: HostRuntime) -> Result<(), Fail> {
 }
 
 /// Words after an engine and its files that no command line has.
-static WRONG: [(&str, &[&str]); 14] = [
+static WRONG: [(&str, &[&str]); 17] = [
     ("show", &["--limit", "0"]),
     ("show", &["--limit", "16777217"]),
     ("show", &["--limit", "many"]),
@@ -249,6 +249,9 @@ static WRONG: [(&str, &[&str]); 14] = [
     ("segment", &["--profile", "0"]),
     ("segment", &["--kinds"]),
     ("segment", &["--line-break", "L"]),
+    ("segment", &["--from", "2", "--to", "1"]),
+    ("mark", &["--to", "4294967296"]),
+    ("replay", &["--from", "1"]),
     ("replay", &["--limit", "4"]),
     ("replay", &["--profile", "3"]),
     ("replay", &["--profile", "first"]),

@@ -4,4 +4,5 @@
 fn laws_of_the_program() {
     lbk_cmd::laws::shown_lines();
     lbk_cmd::laws::headline();
+    lbk_cmd::laws::joined_ranges();
 }

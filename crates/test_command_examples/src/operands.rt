@@ -9,14 +9,19 @@ use std::process::Abort;
 use std::test::Fail;
 use test_support::property_files::{NAMED_SAMPLES, words_with};
 
-const TEXTS: [(&str, &[u8]); 4] = [
+const TEXTS: [(&str, &[u8]); 5] = [
     ("one", b"a b"),
     ("two", b"cd\n"),
     ("bad", b"x\n\xFF"),
+    ("lines", b"a b\ncd\ne\n\xFF"),
     ("tests", b"\xC3\x97 0061 \xC3\xB7 0062 \xC3\xB7\n"),
 ];
 
 const NOT_UTF_8: RunFault = RunFault::Cmd(CmdFault::Passage(PassageFault::NotUtf8 { at: 2 }));
+
+const NOT_UTF_8_BEHIND_LINES: RunFault = RunFault::Cmd(CmdFault::Passage(PassageFault::NotUtf8 {
+    at: 9,
+}));
 
 /// A subcommand, its operands, what it writes where `ef` is the text of the reader, why texts were refused, and the status.
 type Row = (
@@ -27,7 +32,7 @@ type Row = (
     u8,
 );
 
-static ROWS: [Row; 12] = [
+static ROWS: [Row; 17] = [
     ("mark", &[], "ef\n", &[], 0),
     ("mark", &["-"], "ef\n", &[], 0),
     ("mark", &["one"], "a ÷b\n", &[], 0),
@@ -49,6 +54,36 @@ static ROWS: [Row; 12] = [
         "P 0 3\nS 0 2 May 18\nS 2 3 Must 3\nW 0 1\nW 2 3\nP 0 3\nS 0 3 Must 3\nW 0 2\n",
         &[],
         0,
+    ),
+    // Ranges: a passage that begins in one is written, and what is ill-formed after it is not read.
+    (
+        "segment",
+        &["--from", "4", "--to", "7", "lines"],
+        "P 4 7\nS 4 7 Must 5\nW 4 6\n",
+        &[],
+        0,
+    ),
+    (
+        "show",
+        &["--to", "4", "lines"],
+        "× 0061 × 0020 ÷ 0062 × 000A !\t# 2 7 18 6 5\n",
+        &[],
+        0,
+    ),
+    (
+        "mark",
+        &["--from", "1", "--to", "5", "lines", "two"],
+        "cd\n",
+        &[],
+        0,
+    ),
+    ("segment", &["--from", "4", "one"], "", &[], 0),
+    (
+        "segment",
+        &["--from", "7", "lines"],
+        "",
+        &[NOT_UTF_8_BEHIND_LINES],
+        1,
     ),
     (
         "replay",

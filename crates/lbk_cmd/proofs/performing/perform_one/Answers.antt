@@ -1,38 +1,16 @@
 use Rattle.lbk_cmd.proofs.performing.perform_one.Goals as goal
 
+pub returns-in_default : goal.returns-in_default
+returns-in_default g c = rw c.in_default.is c.perform_whole.ensures
+
 pub returns-in-Mark : goal.returns-in-Mark
-returns-in-Mark g c = rw c.in-Mark.is (
-  c.mark.result,
-  c.mark.ensures,
-  c.of_text.ensures,
-)
+returns-in-Mark g c = rw (c.in-Some.is, c.in-Mark.is) c.perform_range.ensures
 
 pub returns-in-Show : goal.returns-in-Show
-returns-in-Show g c = rw c.in-Show.is (
-  c.show.result,
-  c.show.ensures,
-  c.of_text-in-Show.ensures,
-)
+returns-in-Show g c = rw (c.in-Some.is, c.in-Show.is) c.perform_range-in-Show.ensures
 
 pub returns-in-Segment : goal.returns-in-Segment
-returns-in-Segment g c = rw c.in-Segment.is (
-  c.segment.result,
-  c.segment.ensures,
-  c.of_text-in-Segment.ensures,
-)
+returns-in-Segment g c = rw (c.in-Some.is, c.in-Segment.is) c.perform_range-in-Segment.ensures
 
 pub returns-in-Replay : goal.returns-in-Replay
-returns-in-Replay g c = rw (c.in-Replay.is, ← c.form.ensures) (
-  c.replay.result,
-  record {
-    replayed = c.replay.ensures.replayed;
-    run = c.replay.ensures.run;
-    ended = c.replay.ensures.ended;
-    read = c.replay.ensures.read;
-    read_failed = c.replay.ensures.read_failed;
-    write = c.replay.ensures.write;
-    write_failed = c.replay.ensures.write_failed;
-    reads = c.replay.ensures.reads;
-  },
-  c.of_replay.ensures,
-)
+returns-in-Replay g c = rw (c.in-Some.is, c.in-Replay.is) (rw c.in-Replay.is at c.perform_whole-in-Replay.ensures)

@@ -1,0 +1,16 @@
+use Rattle.std.proofs.Common.{◌∙◌, sym}
+use Rattle.clap.specs.declared.error.kind.ErrorKind.TheVariants.{MissingRequiredArgument, ValueValidation}
+use Rattle.lbk_args.specs.Refusal.{IsMistake}
+use Rattle.lbk_args.proofs.parsing.accepted.Goals as goal
+
+missing : IsMistake MissingRequiredArgument
+missing = ((λ e. absurd (cc)), (λ e. absurd (cc)), λ e. absurd (cc))
+
+unfit : IsMistake ValueValidation
+unfit = ((λ e. absurd (cc)), (λ e. absurd (cc)), λ e. absurd (cc))
+
+pub returns-in_default-clause-refused : goal.returns-in_default-clause-refused
+returns-in_default-clause-refused c = rw c.in_default.is (c.mistake.ensures MissingRequiredArgument missing)
+
+pub returns-clause-refused : goal.returns-clause-refused
+returns-clause-refused c = rw (c.in-Some.is, sym c.is_range.ensures ∙ c.if-is_range.false) (c.mistake-else-is_range.ensures ValueValidation unfit)

@@ -1,0 +1,74 @@
+-- What is read and written of a part of a text: of the passages that begin in a range of its bytes.
+use Rattle.std.specs.Prelude.{◌≡◌, ◌⊎◌, ◌&&◌, ℕ, ◌+◌, ◌<◌, ◌≤◌, ◌↔◌, ⊤, Bool, not, List, [], ◌∷◌, ◌++◌, length, Result, Ok, Err, IfSome, IsErrOf, IsTrue, IsUtf8, OnOk, if◌then◌else◌, nat_lt, encode_utf8_all}
+use Rattle.std.specs.List.{flat_map}
+use Rattle.std.specs.Str.{chars}
+use Rattle.std.specs.Io.KnownBytes.{Appends, IsAtEnd}
+use Rattle.lbk_feed.specs.Devices.{Reads}
+use Rattle.lbk_feed.specs.Runs.{HasFailed, Ran}
+use Rattle.lbk_feed.specs.Text.{longest_text}
+use Rattle.lbk_passage.specs.Marks.{Marked, scalars_of}
+use Rattle.lbk_passage.specs.State.{IsLimit}
+use Rattle.lbk_passage.specs.declared.faults.PassageFault.{PassageFault}
+use Rattle.lbk_args.specs.declared.order.Part.{Part}
+use Rattle.lbk_cmd.specs.Devices.{Devices}
+use Rattle.lbk_cmd.specs.Run.{ComesTo, Engine, IsSettled, IsWhole, KeepsUp, is_failed_read, passages_by}
+use Rattle.lbk_cmd.specs.Texts.{lines_from}
+use Rattle.lbk_cmd.specs.declared.faults.CmdFault.{CmdFault}
+
+-- a passage that begins at this byte of the text begins in the range
+abbrev pub begins_in : Part → ℕ → Bool
+begins_in part start = not (nat_lt start part.from) && nat_lt start part.to
+
+-- the lines of a passage that begins in the range; no other has any
+abbrev pub lines_within : Part → (ℕ → List Marked → List ℕ) → ℕ → List Marked → List ℕ
+lines_within part lines start ms = if begins_in part start then lines start ms else []
+
+-- an engine that writes the lines of these passages, at their places in the whole text, and of no others
+abbrev pub within : Part → Engine → Engine
+within part e = record e { lines = lines_within part e.lines }
+
+-- what is written of the passages that begin from byte `from` on, before byte `to`
+abbrev pub text_within : (ℕ → List Marked → List ℕ) → ℕ → ℕ → List (List Marked) → List ℕ
+text_within lines from to passages = lines_from (lines_within (record { from = from; to = to }) lines) 0 passages
+
+-- ranges one after another: the first from `from` on, each up to one of these bytes, where the next begins. What is written of
+-- all of them, whether none ends before it begins, and where the last ends
+abbrev pub text_by_ranges : (ℕ → List Marked → List ℕ) → ℕ → List ℕ → List (List Marked) → List ℕ
+text_by_ranges lines from [] passages = []
+text_by_ranges lines from (to ∷ tos) passages = text_within lines from to passages ++ text_by_ranges lines to tos passages
+
+abbrev pub AreRanges : ℕ → List ℕ → Type 0
+AreRanges from [] = ⊤
+AreRanges from (to ∷ tos) = (from ≤ to) × AreRanges to tos
+
+abbrev pub end_of_ranges : ℕ → List ℕ → ℕ
+end_of_ranges from [] = from
+end_of_ranges from (to ∷ tos) = end_of_ranges to tos
+
+-- `out` is written of passages that some first scalars of the bytes settle, and that reach up to byte `to`
+pub record HasPassed (e : Engine) (to : ℕ) (bytes out : List ℕ) : Type 0 where
+  pub settled : IsSettled e bytes out
+  pub reaches : to ≤ length (encode_utf8_all (flat_map scalars_of settled.given))
+
+-- what was read and what was written, by the answer: as in a run over the whole text, except that no more has to be read
+-- once the range was passed. `ended`: a read has given no byte; `AtEnd`: the text was read to its end
+abbrev pub RangeComesTo : {X : Type 0} → Engine → ℕ → Bool → Type 0 → Result X CmdFault → List ℕ → List ℕ → Type 0
+RangeComesTo e to ended AtEnd (Ok x) bytes out = (AtEnd × IsWhole e bytes out) ⊎ HasPassed e to bytes out
+RangeComesTo {X} e to ended AtEnd (Err fault) bytes out = ComesTo {X = X} e ended (Err fault) bytes out
+
+pub record IsRangeRun {X : Type 0} (e : Engine) (to : ℕ) (reads reads' : Reads) (ended : Bool) (AtEnd : Type 0) (answer : Result X CmdFault) (bytes out : List ℕ) : Type 0 where
+  pub comes : RangeComesTo e to ended AtEnd answer bytes out
+  pub keeps_up : KeepsUp e reads reads' bytes out
+
+-- what `mark`, `show` and `segment` do with the passages of a range: to the devices, with the answer
+pub record RangeRuns (part : Part) (engine : Engine) (before after : Devices) (answer : Result (Unit {0}) CmdFault) : Type 0 where
+  pub shown : OnOk answer (IfSome before.unread (λ input. IsUtf8 input
+      → Appends before.written after.written (text_within engine.lines part.from part.to (passages_by engine (chars input)))))
+  pub run : Ran (is_failed_read answer) before.unread after.unread before.written after.written
+      (IsRangeRun (within part engine) part.to before.reads after.reads after.has_ended (IsTrue after.has_ended × IsAtEnd after.unread) answer)
+  pub reads : after.reads.count ≤ before.reads.count + (longest_text + 1)
+  pub limit : IsErrOf answer (CmdFault.Passage PassageFault.Limit) ↔ (¬ (IsLimit engine.limit))
+  pub read : IsErrOf answer (CmdFault.Passage PassageFault.Read) → HasFailed before.failed_reads after.failed_reads
+  pub read_failed : before.failed_reads < after.failed_reads → answer ≡ Err (CmdFault.Passage PassageFault.Read)
+  pub write : IsErrOf answer CmdFault.Write → HasFailed before.failed_writes after.failed_writes
+  pub write_failed : before.failed_writes < after.failed_writes → answer ≡ Err CmdFault.Write

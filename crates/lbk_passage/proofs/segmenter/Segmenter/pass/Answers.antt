@@ -1,0 +1,73 @@
+use Rattle.std.proofs.Common.{◌≡◌, ℕ, ◌+◌, ◌-◌, [], length, chars, Bool, Ok, Err, None, Some, Result, refl, sym, ap, subst, ◌∙◌, arith, string_bytes, string_len}
+use Rattle.std.specs.Prelude.{if◌then◌else◌}
+use Rattle.std.proofs.lemmas.Result.{err_from_is_err_and}
+use Rattle.lbk_rules.specs.declared.cells.Cell.{Cell}
+use Rattle.lbk_rules.specs.declared.verdicts.Verdict.{Verdict}
+use Rattle.lbk_values.specs.declared.profile.Profile.{Profile}
+use Rattle.lbk_passage.specs.Marks.{marks, ended}
+use Rattle.lbk_passage.specs.Segments.{segments_of}
+use Rattle.lbk_passage.specs.Pieces.{pieces_of}
+use Rattle.lbk_passage.specs.Next.{failures_with, fault_in}
+use Rattle.lbk_passage.specs.State.{state_with, text_held}
+use Rattle.lbk_passage.specs.declared.paragraph.Paragraph.{Paragraph}
+use Rattle.lbk_passage.specs.declared.passage.Passage.{Passage}
+use Rattle.lbk_passage.proofs.Giving.{After-fault, After-none, After-lent}
+use Rattle.lbk_passage.proofs.segmenter.Segmenter.pass.Goals as goal
+
+-- the passage that is passed over
+abbrev passed : (ℕ → Cell) → Profile → Paragraph → Verdict → Passage
+passed cell profile p end = record {
+  start = p.feed.given - string_len p.text;
+  text = record { ref_ptr = (0, 0); now = string_bytes p.text };
+  segments = record { ref_ptr = (0, 0); now = segments_of (ended end (marks profile cell (chars (string_bytes p.text)))) };
+  pieces = record { ref_ptr = (0, 0); now = pieces_of cell (string_bytes p.text) };
+  end = end;
+}
+
+pub returns-in_err-fill : goal.returns-in_err-fill
+returns-in_err-fill g c =
+    let cell = g.C.CellSource.cell_of c.args.self.now.cells.now in
+    let profile = c.args.self.now.profile in
+    let old = c.args.self.now.paragraph in
+    let p = c.fill.new.self in
+    let exit = err_from_is_err_and c.from_residual.result c.from_residual.ensures.1 in
+    let was = c.in_err-fill.was ∙ ap Err (sym exit.2) in
+    let fills = rw was at (c.fill.ensures.fills profile) in
+    rw exit.1 (record {
+      passes = record { lent = Err exit.0; after = After-fault cell profile old p _ _ _ _ _ _ exit.0 fills; is = refl };
+      failures = c.fill.ensures.failures ∙ ap (λ r. failures_with (g.R.Source.failure_count c.args.reader.now) (fault_in r)) was;
+    })
+
+pub returns-in_default : goal.returns-in_default
+returns-in_default g c =
+    let cell = g.C.CellSource.cell_of c.args.self.now.cells.now in
+    let profile = c.args.self.now.profile in
+    let old = c.args.self.now.paragraph in
+    let p = c.fill.new.self in
+    let was = c.in_ok-fill.was ∙ ap Ok c.in_default.is in
+    let fills = rw was at (c.fill.ensures.fills profile) in record {
+      passes = record { lent = Ok None; after = After-none cell profile old p _ _ _ _ _ _ fills; is = refl };
+      failures = c.fill.ensures.failures ∙ ap (λ r. failures_with (g.R.Source.failure_count c.args.reader.now) (fault_in r)) was;
+    }
+
+pub returns : goal.returns
+returns g c =
+    let cell = g.C.CellSource.cell_of c.args.self.now.cells.now in
+    let profile = c.args.self.now.profile in
+    let old = c.args.self.now.paragraph in
+    let p = c.fill.new.self in
+    let q = c.release.new.self in
+    let was = c.in_ok-fill.was ∙ ap Ok c.in-Some.is in
+    let fills = rw was at (c.fill.ensures.fills profile) in
+    let pg = passed cell profile p c.in-Some.field-0 in
+    let lent = After-lent cell profile old p _ _ _ _ _ _ c.in-Some.field-0 fills q pg c.release.ensures
+    (record { start = refl; bytes = refl; segments = refl; pieces = refl; ends = refl }) in
+    let after = lent.0 in
+    let none : length (text_held q) ≡ 0 = ap (λ (b : Bool). length (if b then string_bytes q.text else [])) after.settled in record {
+      passes = record {
+        lent = Ok (Some pg);
+        after = after;
+        is = ap (λ (n : ℕ). Ok (Some n)) (omega (arith, c.given.ensures, after.start, after.answer.start, none));
+      };
+      failures = c.fill.ensures.failures ∙ ap (λ r. failures_with (g.R.Source.failure_count c.args.reader.now) (fault_in r)) was;
+    }
