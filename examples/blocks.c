@@ -36,8 +36,8 @@ static int are_those(const lbk_word *word, size_t count, const found *all, size_
     return 1;
 }
 
-/* Asks for the words in blocks of these rooms, and then of the last one, which is not 0, until none is left. Where the bytes before the state are to turn
- * into others, they do so after each block. Says whether all held that has to. */
+/* Asks for the words in blocks of these rooms, and then of the last one, which is not 0, until none is left. If `turns`, the bytes
+ * before the state turn into others after each block. Returns whether all held that has to. */
 static int agrees(const char *made, size_t size, const size_t *rooms, size_t count, int turns, const found *all)
 {
     char *text = place(texts, size);

@@ -140,7 +140,7 @@ static int agrees(uint8_t profile, const char *text, size_t start, const size_t 
     return holds && same_breaks(&got, all) && is_over(&stream);
 }
 
-/* All ways to cut a text into up to four pieces, empty ones among them, and the end told with the last or after it; where the text
+/* All ways to cut a text into up to four pieces, empty ones among them, and `last` set with the last or after it; where the text
  * ends there, and where it goes on. */
 static void try_all_cuttings(const char *text, size_t size)
 {

@@ -276,7 +276,7 @@ lbk_text lbk_file_name(uint32_t file);
  *
  * Whatever the table and the state have, each break is LBK_MAY or LBK_MUST by one of the rules; their places rise, from the
  * state's `at` on and up to `size`; and a state of which breaks came is further on than it was, or has ended, with its `at` at
- * `size`. So kinds and rules can be looked up in arrays, and calls while a block comes back full come to an end.
+ * `size`. So kinds and rules can be looked up in arrays, and calls while a block with room comes back full come to an end.
  *
  * Returns 0 and leaves the state unchanged: where `room` is 0, where the state's profile is none of the two, where its `at` is
  * past the text's end, and where it has ended. Entries of the block past the returned count are unspecified and may be
@@ -327,8 +327,8 @@ size_t lbk_breaks_utf32(const lbk_table *table, lbk_state *state, const uint32_t
  * A break is given by the call that brings what settles it: the whole of the scalar after it. Where that is a closing
  * quotation mark, the second profile may also need the next scalar that is no combining mark; at most one place waits so.
  *
- * Whatever the table and the stream have, each break is LBK_MAY or LBK_MUST by one of the rules, and calls while a block comes
- * back full come to an end.
+ * Whatever the table and the stream have, each break is LBK_MAY or LBK_MUST by one of the rules, and calls with room while a
+ * block comes back full come to an end.
  *
  * Takes nothing and leaves the stream unchanged where `room` is 0. Gives no break and takes all where the stream's profile is
  * none of the two. A stream has fewer than 2^64 bytes. Entries of the block past `count` are unspecified. Takes no memory from
@@ -391,7 +391,7 @@ size_t lbk_words(lbk_word_state *state, const char *text, size_t size, lbk_word 
  * The parts can be broken in any order, by other threads or processes: their breaks, one after another, are those of the text,
  * and places count from its start. A part whose bytes stand elsewhere begins at 0; then add the bytes before it to each `at`.
  * The table decides where lines end, so no part begins between CR and LF, within a scalar, or within
- * ill-formed bytes that are read as one U+FFFD. What is returned depends only on the bytes from four
+ * ill-formed bytes that are read as one U+FFFD. Of a table of property files, what is returned depends only on the bytes from four
  * before `at` to four after the cut: some bytes of a text that have these, or all that are there, are
  * cut where the text is. The call reads no others. Takes no memory from the heap. */
 size_t lbk_cut(const lbk_table *table, const char *text, size_t size, size_t at);

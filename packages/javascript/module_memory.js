@@ -100,7 +100,7 @@ export class ModuleMemory {
   }
 
   /**
-   * Copies the next bytes of a text, or of a string of ASCII, to a place behind which none was given out, and returns how many.
+   * Copies the next bytes of a text, or of a string of ASCII, to a place after which none was given out, and returns how many.
    * Where other characters are in the string nothing is returned.
    */
   loadBytes(text, from, start, size) {

@@ -84,7 +84,7 @@ pub struct Found<'a, C, U> {
     next: u32,
     /// So many the block has. They are the last ones where it has room for more.
     count: u32,
-    /// Up to this byte of the text the library came.
+    /// Up to this unit of the text the library came.
     at: usize,
     table: &'a Table,
     text: &'a [U],
