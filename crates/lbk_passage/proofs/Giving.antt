@@ -40,6 +40,11 @@ pub spent_by : (s : State) (p : Paragraph) (was : Bool) (fault : PassageFault) �
 spent_by s p was fault answer is =
     ⊎_elim (λ a. a.1) (λ stops. absurd (let at_spent : Stops s Spent = subst (Stops s) is stops in at_spent.lies)) answer
 
+-- a paragraph is gathered in memory that is there
+pub never_memory : (s : State) (p : Paragraph) (was : Bool) (fault : PassageFault) → FillAnswers s p was (Err fault) → ¬ (fault ≡ Memory)
+never_memory s p was fault answer is =
+    ⊎_elim (λ a. let e : Spent ≡ Memory = sym a.0 ∙ is in cc) (λ stops. let at_memory : Stops s Memory = subst (Stops s) is stops in at_memory.lies) answer
+
 module _ (cell : ℕ → Cell) (profile : Profile) (old p : Paragraph) (u v : Option (List ℕ)) (e e' : Bool) (reads reads' : Reads) where
   fault-answers : (s : State) (fault : PassageFault) → FillAnswers s p old.is_spent (Err fault) → Answers (state_with cell profile old) s (Err fault)
   fault-answers s Limit (inl h) = absurd (let e = h.0 in cc)

@@ -130,6 +130,14 @@ impl<'a, C: CellSource> Segmenter<'a, C> {
     pub fn pass<R: Source>(&mut self, reader: &mut R) -> Result<Option<u64>, PassageFault>
         ensures passes { PassesOver (state_of C.cell_of self.old) (state_of C.cell_of self.new) (R.unread reader.old) (R.unread reader.new)
             (R.has_ended reader.old) (R.has_ended reader.new) (R.reads_made reader.old) (R.reads_made reader.new) result }
+        ensures spent { (state_of C.cell_of self.old).is_spent ≡ true → result ≡ Err PassageFault.Spent }
+        ensures spent_only { result ≡ Err PassageFault.Spent → (state_of C.cell_of self.old).is_spent ≡ true }
+        ensures again { IsDone (state_of C.cell_of self.old) → (state_of C.cell_of self.old).is_spent ≡ false → result ≡ Ok None }
+        ensures settled { (state_of C.cell_of self.old).is_settled ≡ true → reader.new ≡ reader.old }
+        ensures ended { (state_of C.cell_of self.old).is_ended ≡ true → reader.new ≡ reader.old }
+        ensures reads { (R.reads_made reader.new).count ≤ (R.reads_made reader.old).count + ((state_of C.cell_of self.old).limit + 8) }
+        // Nothing grows, so it is never out of memory.
+        ensures memory { ¬ (result ≡ Err PassageFault.Memory) }
         ensures failures { R.failure_count reader.new ≡ failures_with (R.failure_count reader.old) (fault_in result) }
     {
         let Some(_) = self.paragraph.fill(reader, self.cells, &self.flags)? else {

@@ -1,4 +1,4 @@
-use Rattle.std.proofs.Common.{◌≡◌, ℕ, ◌+◌, ◌-◌, [], length, chars, Bool, Ok, Err, None, Some, Result, refl, sym, ap, subst, ◌∙◌, arith, string_bytes, string_len}
+use Rattle.std.proofs.Common.{◌≡◌, ℕ, ◌+◌, ◌-◌, [], length, chars, Bool, Ok, Err, None, Some, Result, refl, sym, ap, subst, ◌∙◌, ⊎_elim, arith, string_bytes, string_len}
 use Rattle.std.specs.Prelude.{if◌then◌else◌}
 use Rattle.std.proofs.lemmas.Result.{err_from_is_err_and}
 use Rattle.lbk_rules.specs.declared.cells.Cell.{Cell}
@@ -9,9 +9,12 @@ use Rattle.lbk_passage.specs.Segments.{segments_of}
 use Rattle.lbk_passage.specs.Pieces.{pieces_of}
 use Rattle.lbk_passage.specs.Next.{failures_with, fault_in}
 use Rattle.lbk_passage.specs.State.{state_with, text_held}
+use Rattle.lbk_passage.specs.declared.faults.PassageFault.{PassageFault}
+use Rattle.lbk_passage.specs.declared.faults.PassageFault.TheVariants.{Memory, Spent}
 use Rattle.lbk_passage.specs.declared.paragraph.Paragraph.{Paragraph}
 use Rattle.lbk_passage.specs.declared.passage.Passage.{Passage}
-use Rattle.lbk_passage.proofs.Giving.{After-fault, After-none, After-lent}
+use Rattle.lbk_passage.proofs.Giving.{or-cases, spent_by, never_memory, After-fault, After-none, After-lent}
+use Rattle.lbk_passage.proofs.Settling.{ok_err, some_none}
 use Rattle.lbk_passage.proofs.segmenter.Segmenter.pass.Goals as goal
 
 -- the passage that is passed over
@@ -35,6 +38,14 @@ returns-in_err-fill g c =
     let fills = rw was at (c.fill.ensures.fills profile) in
     rw exit.1 (record {
       passes = record { lent = Err exit.0; after = After-fault cell profile old p _ _ _ _ _ _ exit.0 fills; is = refl };
+      spent = λ spent. let told = sym was ∙ c.fill.ensures.refused spent in
+          let same : exit.0 ≡ Spent = cc in ap (λ (f : PassageFault). Err f) same;
+      spent_only = λ is. spent_by (state_with cell profile p) p old.is_spent exit.0 fills.answer (let same : exit.0 ≡ Spent = cc in same);
+      again = λ done unspent. absurd (ok_err c.fill.result None exit.0 (c.fill.ensures.again profile done unspent) was);
+      settled = λ seen. ⊎_elim (λ held. c.fill.ensures.quiet held) (λ spent. c.fill.ensures.spent spent) (or-cases old.is_held old.is_spent seen);
+      ended = λ h. c.fill.ensures.ended h;
+      reads = omega (arith, c.fill.ensures.reads);
+      memory = λ is. never_memory (state_with cell profile p) p old.is_spent exit.0 fills.answer (let same : exit.0 ≡ Memory = cc in same);
       failures = c.fill.ensures.failures ∙ ap (λ r. failures_with (g.R.Source.failure_count c.args.reader.now) (fault_in r)) was;
     })
 
@@ -47,6 +58,13 @@ returns-in_default g c =
     let was = c.in_ok-fill.was ∙ ap Ok c.in_default.is in
     let fills = rw was at (c.fill.ensures.fills profile) in record {
       passes = record { lent = Ok None; after = After-none cell profile old p _ _ _ _ _ _ fills; is = refl };
+      spent = λ spent. absurd (let refused = c.fill.ensures.refused spent in cc);
+      spent_only = λ is. cc;
+      again = λ done unspent. refl;
+      settled = λ seen. ⊎_elim (λ held. c.fill.ensures.quiet held) (λ spent. c.fill.ensures.spent spent) (or-cases old.is_held old.is_spent seen);
+      ended = λ h. c.fill.ensures.ended h;
+      reads = omega (arith, c.fill.ensures.reads);
+      memory = λ is. cc;
       failures = c.fill.ensures.failures ∙ ap (λ r. failures_with (g.R.Source.failure_count c.args.reader.now) (fault_in r)) was;
     }
 
@@ -69,5 +87,12 @@ returns g c =
         after = after;
         is = ap (λ (n : ℕ). Ok (Some n)) (omega (arith, c.given.ensures, after.start, after.answer.start, none));
       };
+      spent = λ spent. absurd (ok_err c.fill.result (Some c.in-Some.field-0) Spent was (c.fill.ensures.refused spent));
+      spent_only = λ is. absurd (ok_err (Ok (Some c.given.result)) (Some c.given.result) Spent refl is);
+      again = λ done unspent. absurd (some_none c.fill.result c.in-Some.field-0 was (c.fill.ensures.again profile done unspent));
+      settled = λ seen. ⊎_elim (λ held. c.fill.ensures.quiet held) (λ spent. c.fill.ensures.spent spent) (or-cases old.is_held old.is_spent seen);
+      ended = λ h. c.fill.ensures.ended h;
+      reads = omega (arith, c.fill.ensures.reads);
+      memory = λ is. absurd (ok_err (Ok (Some c.given.result)) (Some c.given.result) Memory refl is);
       failures = c.fill.ensures.failures ∙ ap (λ r. failures_with (g.R.Source.failure_count c.args.reader.now) (fault_in r)) was;
     }
