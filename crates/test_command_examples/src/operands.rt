@@ -55,7 +55,7 @@ static ROWS: [Row; 17] = [
         &[],
         0,
     ),
-    // Ranges: a passage that begins in one is written, and what is ill-formed after it is not read.
+    // Ranges: a passage that begins in one is written, and what is ill-formed past the character after it is not reported.
     (
         "segment",
         &["--from", "4", "--to", "7", "lines"],
