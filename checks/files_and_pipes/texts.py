@@ -34,6 +34,9 @@ def run(place):
     ):
         row = f"texts: {what}"
         place.row(row, words_of("mark", more=names), b"in", 1 if err else 0, out.replace(b"a b", "a ÷b".encode()), err.encode())
+    # (a read takes at most 4,096 bytes)
+    words = words_of("mark", more=["--to", "1", "-", "-"])
+    place.row("texts: a range of standard input twice", words, b"a\n" * 2048 + b"b\nc\n", 0, b"a\nb\n")
     user = NOBODY if os.getuid() == 0 else None
     err = b"lbk: hidden cannot be read: permission denied\n"
     place.row("texts: one without leave", words_of("mark", more=["hidden", "two"]), b"", 1, b"cd\n", err, user)

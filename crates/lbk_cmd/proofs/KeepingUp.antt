@@ -1,5 +1,5 @@
 -- What is settled before a read is written before it.
-use Rattle.std.proofs.Common.{◌≡◌, ℕ, ◌+◌, ◌≤◌, true, false, Bool, List, [], ◌∷◌, ◌++◌, length, take, drop, Option, Result, encode_utf8, encode_utf8_all, sym, ap, subst, ◌∙◌, arith, inl, inr, refl, ⊎_elim, length-append, append_assoc, append-nil}
+use Rattle.std.proofs.Common.{◌≡◌, ℕ, ◌+◌, ◌<◌, ◌≤◌, true, false, Bool, List, [], ◌∷◌, ◌++◌, length, take, drop, Option, Result, encode_utf8, encode_utf8_all, sym, ap, subst, ◌∙◌, arith, inl, inr, refl, ⊎_elim, length-append, append_assoc, append-nil}
 use Rattle.std.proofs.lemmas.Bool.{false≢true}
 use Rattle.std.proofs.lemmas.List.{take-append-drop, take-append-le}
 use Rattle.std.proofs.Math.Seq.{take-append_seam}
@@ -12,6 +12,7 @@ use Rattle.lbk_passage.specs.State.{State}
 use Rattle.lbk_passage.specs.Next.{AfterNext, BeginsWithAll, WereDue, lent_text}
 use Rattle.lbk_passage.specs.declared.faults.PassageFault.{PassageFault}
 use Rattle.lbk_passage.specs.declared.passage.Passage.{Passage}
+use Rattle.lbk_cmd.specs.Ranges.{ReadsBefore, next_start}
 use Rattle.lbk_cmd.specs.Run.{Engine, KeepsUp, passages_by}
 use Rattle.lbk_cmd.proofs.Running.{some_bytes, Stands, fresh, goes_on, ended, Standing}
 use Rattle.lbk_cmd.proofs.Stopping.{settled_by, settled_none}
@@ -32,6 +33,9 @@ keeps_none e reads = record {
   goes_on = record { within = omega arith; cut = inl refl };
 }
 
+pub before_none : (e : Engine) (reads : Reads) (end : ℕ) → ReadsBefore end (keeps_none e reads)
+before_none e reads end = inl (refl, refl)
+
 -- more was written
 pub keeps_written : (e : Engine) (from to : Reads) (bytes out line : List ℕ) → KeepsUp e from to bytes out → KeepsUp e from to bytes (out ++ line)
 keeps_written e from to bytes out line k = record {
@@ -47,17 +51,40 @@ keeps_written e from to bytes out line k = record {
   goes_on = k.goes_on;
 }
 
+pub before_written : (e : Engine) (from to : Reads) (bytes out line : List ℕ) (k : KeepsUp e from to bytes out) (end : ℕ) → ReadsBefore end k
+    → ReadsBefore end (keeps_written e from to bytes out line k)
+unfolding keeps_written
+before_written e from to bytes out line k end before = before
+
 -- a call that made no read
-keeps_still : (e : Engine) (from to to' : Reads) (bytes held all got out : List ℕ) → all ≡ held ++ got → IsStill held all to to'
-    → KeepsUp e from to bytes out → KeepsUp e from to' (bytes ++ got) out
-keeps_still e from to to' bytes held all got out grown still k =
-    let none = none_more held got (sym grown ∙ still.0) in
-    subst (λ r. KeepsUp e from r (bytes ++ got) out) (sym still.1)
-    (subst (λ l. KeepsUp e from to l out) (sym (append-nil bytes) ∙ ap (λ l. bytes ++ l) (sym none)) k)
-  where
-    none_more : (held got : List ℕ) → held ++ got ≡ held → got ≡ []
-    none_more held [] same = refl
-    none_more held (x ∷ got) same = absurd (let long = ap length same in omega (arith, long, length-append held (x ∷ got)))
+module _ (e : Engine) (from to to' : Reads) (bytes held all got out : List ℕ) (grown : all ≡ held ++ got) (still : IsStill held all to to') (k : KeepsUp e from to bytes out) where
+  none_got : (held got : List ℕ) → held ++ got ≡ held → got ≡ []
+  none_got held [] same = refl
+  none_got held (x ∷ got) same = absurd (let long = ap length same in omega (arith, long, length-append held (x ∷ got)))
+
+  same_bytes : bytes ++ got ≡ bytes
+  same_bytes = ap (λ l. bytes ++ l) (none_got held got (sym grown ∙ still.0)) ∙ append-nil bytes
+
+  none_still : IsStill [] bytes from to → IsStill [] (bytes ++ got) from to'
+  none_still none = (same_bytes ∙ none.0, still.1 ∙ none.1)
+
+  keeps_still : KeepsUp e from to' (bytes ++ got) out
+  keeps_still = record {
+    before = k.before;
+    last = k.last;
+    read = same_bytes ∙ k.read;
+    is_last = ⊎_elim (λ none. inl (none_still none)) (λ (last : length k.last ≡ to.gave). inr (last ∙ ap (λ r. r.gave) (sym still.1))) k.is_last;
+    each_gave = omega (arith, ap (λ r. r.count) still.1, k.each_gave);
+    written = k.written;
+    later = k.later;
+    is = k.is;
+    settled = k.settled;
+    goes_on = k.goes_on;
+  }
+
+  before_still : (end : ℕ) → ReadsBefore end k → ReadsBefore end keeps_still
+  unfolding keeps_still
+  before_still end before = ⊎_elim (λ none. inl (none_still none)) (λ (early : next_start k.settled < end). inr early) before
 
 -- bytes that may go on to a scalar do not begin with one
 not_whole : (next : ℕ) (rest last behind : List ℕ) → rest ++ last ≡ encode_utf8 next ++ behind → length (encode_utf8 next) ≤ length rest → IsCutScalar rest → ⊥
@@ -137,13 +164,33 @@ module _ (e : Engine) (from : Reads) (s : State) (bytes out : List ℕ) (st : St
           goes_on = subst (λ n. CanGoOn n due.rest) place due.goes_on;
         }
 
-  -- a call more
-  pub keeps_next : KeepsUp e from r1 bytes out → KeepsUp e from r2 (bytes ++ a.got) out
-  keeps_next k = by s.is_ended refl
-    where
-      still : IsStill s.held (lent_text r ++ t.held) r1 r2 → KeepsUp e from r2 (bytes ++ a.got) out
-      still none = keeps_still e from r1 r2 bytes s.held (lent_text r ++ t.held) a.got out a.grown none k
+    before_due : (end : ℕ) → s.start < end → ReadsBefore end keeps_due
+    unfolding keeps_due settled_by
+    before_due end early = inr (omega (arith, early, begin_now, ap (λ l. length (encode_utf8_all l)) st.joined))
 
-      by : (b : Bool) → s.is_ended ≡ b → KeepsUp e from r2 (bytes ++ a.got) out
-      by true is = let quiet = a.quiet is in still (quiet.0, quiet.2)
-      by false is = ⊎_elim still (keeps_due is) a.costs.due
+  -- a call more, whose reads are made for the passage that begins where the segmenter stands
+  module _ (k : KeepsUp e from r1 bytes out) where
+    Next : Type 0
+    Next = (k' : KeepsUp e from r2 (bytes ++ a.got) out) × ((end : ℕ) → s.start < end → ReadsBefore end k → ReadsBefore end k')
+
+    next : Next
+    unfolding Next
+    next = by s.is_ended refl
+      where
+        still : IsStill s.held (lent_text r ++ t.held) r1 r2 → Next
+        still none = (
+          keeps_still e from r1 r2 bytes s.held (lent_text r ++ t.held) a.got out a.grown none k,
+          λ end early before. before_still e from r1 r2 bytes s.held (lent_text r ++ t.held) a.got out a.grown none k end before,
+        )
+
+        by : (b : Bool) → s.is_ended ≡ b → Next
+        by true is = let quiet = a.quiet is in still (quiet.0, quiet.2)
+        by false is = ⊎_elim still (λ due. (keeps_due is due, λ end early before. before_due is due end early)) a.costs.due
+
+    pub keeps_next : KeepsUp e from r2 (bytes ++ a.got) out
+    unfolding Next
+    keeps_next = next.0
+
+    pub before_next : (end : ℕ) → s.start < end → ReadsBefore end k → ReadsBefore end keeps_next
+    unfolding Next keeps_next
+    before_next = next.1

@@ -1,5 +1,5 @@
 -- The loop of an engine: what was read and what was written, from passage to passage.
-use Rattle.std.proofs.Common.{◌≡◌, ℕ, ◌+◌, ◌<◌, ◌≤◌, Bool, true, false, ◌||◌, ◌⊎◌, List, [], ◌∷◌, ◌++◌, length, take, Option, None, Some, Result, Ok, Err, refl, sym, ap, subst, ◌∙◌, arith, inl, ⊎_elim, length-append, append_assoc, append-nil}
+use Rattle.std.proofs.Common.{◌≡◌, ℕ, ◌+◌, ◌<◌, ◌≤◌, Bool, true, false, ◌||◌, ◌⊎◌, List, [], ◌∷◌, ◌++◌, length, take, Option, None, Some, Result, Ok, Err, refl, IsTrue, sym, ap, subst, ◌∙◌, arith, inl, ⊎_elim, length-append, append_assoc, append-nil}
 use Rattle.std.proofs.Math.Seq.{take-append-add, take-append_seam}
 use Rattle.std.proofs.lemmas.Bool.{cases_lt, false≢true}
 use Rattle.std.specs.Io.KnownBytes.{Appends, Consumes, IsAtEnd}
@@ -13,12 +13,13 @@ use Rattle.lbk_passage.specs.Next.{AfterNext, Agrees, IsDone, IsPassage, ends_ru
 use Rattle.lbk_passage.specs.declared.faults.PassageFault.{PassageFault}
 use Rattle.lbk_passage.specs.declared.faults.PassageFault.TheVariants as fault
 use Rattle.lbk_passage.specs.declared.passage.Passage.{Passage}
-use Rattle.lbk_cmd.specs.Run.{Engine, IsRun, KeepsUp, is_failed_read}
+use Rattle.lbk_cmd.specs.Ranges.{IsRangeRun, RangeComesTo, ReadsBefore}
+use Rattle.lbk_cmd.specs.Run.{ComesTo, Engine, IsRun, KeepsUp, is_failed_read}
 use Rattle.lbk_cmd.specs.declared.faults.CmdFault.{CmdFault}
 use Rattle.lbk_cmd.specs.declared.faults.CmdFault.TheVariants as cmd
 use Rattle.lbk_cmd.proofs.Running.{Standing, Standing-new, Standing-new-given, Standing-next, Standing-next-given, given_now, passage_now, start_now}
-use Rattle.lbk_cmd.proofs.KeepingUp.{keeps_none, keeps_written, keeps_next}
-use Rattle.lbk_cmd.proofs.Stopping.{stopped, run_whole, run_fault}
+use Rattle.lbk_cmd.proofs.KeepingUp.{before_next, before_none, before_written, keeps_none, keeps_written, keeps_next}
+use Rattle.lbk_cmd.proofs.Stopping.{range_fault, stopped, run_whole, run_fault}
 
 pub Appends-nil : (a : Option (List ℕ)) → Appends a a []
 Appends-nil None = tt
@@ -40,6 +41,15 @@ took_fault X s t u v e1 e2 r1 r2 (fault.NotUtf8 at) a = kept_took _ _ _ a.grown 
 took_fault X s t u v e1 e2 r1 r2 fault.TextTooLong a = kept_took _ _ _ a.grown u v a.ahead_kept
 took_fault X s t u v e1 e2 r1 r2 (fault.ParagraphTooLong start) a = kept_took _ _ _ a.grown u v a.ahead_kept
 took_fault X s t u v e1 e2 r1 r2 fault.Spent a = kept_took _ _ _ a.grown u v a.ahead_kept
+
+-- what a run comes to that ends with an answer, where `unread` is left: over the whole text, or over a range up to a byte where
+-- it may end so
+pub record Ends {X : Type 0} (e : Engine) (from to : Reads) (has_ended : Bool) (unread : Option (List ℕ)) (May : ℕ → Type 0) (answer : Result X CmdFault)
+    (bytes out : List ℕ) : Type 0 where
+  pub comes : ComesTo e has_ended answer bytes out
+  pub in_range : (end : ℕ) → May end → RangeComesTo e end has_ended (IsTrue has_ended × IsAtEnd unread) answer bytes out
+  pub keeps_up : KeepsUp e from to bytes out
+  pub before : (end : ℕ) → May end → ReadsBefore end keeps_up
 
 module _ (e : Engine) (u0 w0 : Option (List ℕ)) (reads0 : Reads) where
   -- what the calls so far took from the reader, and what was written
@@ -66,6 +76,10 @@ module _ (e : Engine) (u0 w0 : Option (List ℕ)) (reads0 : Reads) where
     most = omega arith;
     keeps_up = keeps_none e reads0;
   }
+
+  pub before-new : (s : State) (has_ended : Bool) (is : s ≡ new_state e.cell e.profile e.limit) (end : ℕ) → ReadsBefore end (Going-new s has_ended is).keeps_up
+  unfolding Going-new
+  before-new s has_ended is end = before_none e reads0 end
 
   pub Going-new-given : (s : State) (has_ended : Bool) (is : s ≡ new_state e.cell e.profile e.limit) → (Going-new s has_ended is).standing.given ≡ []
   unfolding Going-new
@@ -99,8 +113,17 @@ module _ (e : Engine) (u0 w0 : Option (List ℕ)) (reads0 : Reads) where
     keeps_now : (r : Result (Option Passage) PassageFault) (a : AfterNext s t u v e1 e2 r1 r2 r) → KeepsUp e reads0 r2 (g.bytes ++ a.got) g.out
     keeps_now r a = keeps_next e reads0 s g.bytes g.out g.standing t u v e1 e2 r1 r2 r a g.paid g.keeps_up
 
+    before_now : (r : Result (Option Passage) PassageFault) (a : AfterNext s t u v e1 e2 r1 r2 r) (to : ℕ) → s.start < to → ReadsBefore to g.keeps_up
+        → ReadsBefore to (keeps_now r a)
+    unfolding keeps_now
+    before_now r a = before_next e reads0 s g.bytes g.out g.standing t u v e1 e2 r1 r2 r a g.paid g.keeps_up
+
     notices : (r : Result (Option Passage) PassageFault) (a : AfterNext s t u v e1 e2 r1 r2 r) → t.is_ended ≡ true → e2 ≡ true
     notices r a at_end = (a.agrees g.agrees at_end).0
+
+    -- a run over a range up to byte `to` may end after the call
+    abbrev pub MayEnd : ℕ → Type 0
+    MayEnd to = (s.start < to) × ReadsBefore to g.keeps_up
 
     module _ (p : Passage) (a : AfterNext s t u v e1 e2 r1 r2 (Ok (Some p))) where
       took_now : Consumes u0 v (g.bytes ++ a.got)
@@ -126,6 +149,13 @@ module _ (e : Engine) (u0 w0 : Option (List ℕ)) (reads0 : Reads) where
             keeps_up = keeps_written e reads0 r2 (g.bytes ++ a.got) g.out line (keeps_now (Ok (Some p)) a);
           }
 
+      pub before-given : (w' : Option (List ℕ)) (wrote : Appends w w' (e.lines s.start (given_now e s g.bytes g.out g.standing t u v e1 e2 r1 r2 p a)))
+          (to : ℕ) → MayEnd to → ReadsBefore to (Going-given w' wrote).keeps_up
+      unfolding Going-given
+      before-given w' wrote to may =
+          before_written e reads0 r2 (g.bytes ++ a.got) g.out (e.lines s.start (given_now e s g.bytes g.out g.standing t u v e1 e2 r1 r2 p a))
+          (keeps_now (Ok (Some p)) a) to (before_now (Ok (Some p)) a to may.0 may.1)
+
       pub Going-given-is : (w' : Option (List ℕ)) (wrote : Appends w w' (e.lines s.start (given_now e s g.bytes g.out g.standing t u v e1 e2 r1 r2 p a)))
           → (Going-given w' wrote).standing.given ≡ g.standing.given ++ given_now e s g.bytes g.out g.standing t u v e1 e2 r1 r2 p a ∷ []
       unfolding Going-given
@@ -146,52 +176,72 @@ module _ (e : Engine) (u0 w0 : Option (List ℕ)) (reads0 : Reads) where
         pub Going-next : (w' : Option (List ℕ)) → Appends w w' line → Going t v w' e2 r2
         Going-next w' wrote = Going-given w' (subst (Appends w w') line_is wrote)
 
+        pub before-next : (w' : Option (List ℕ)) (wrote : Appends w w' line) (to : ℕ) → MayEnd to → ReadsBefore to (Going-next w' wrote).keeps_up
+        unfolding Going-next
+        before-next w' wrote = before-given w' (subst (Appends w w') line_is wrote)
+
         pub ran_write : (X : Type 0) (w' : Option (List ℕ)) (n : ℕ) → Appends w w' (take n line)
-            → Ran false u0 v w0 w' (IsRun {X = X} e reads0 r2 e2 (Err cmd.Write))
-        ran_write X w' n wrote = record {
-          read = g.bytes ++ a.got;
-          out = g.out ++ take n line;
-          took = took_now;
-          put = Appends-trans w0 w w' g.out (take n line) g.put wrote;
-          so = record {
-            comes = stopped e t (g.bytes ++ a.got) (g.out ++ line) standing_now e2 (notices (Ok (Some p)) a) (g.out ++ take n line) (length g.out + n)
-                (sym (take-append-add g.out line n));
-            keeps_up = keeps_written e reads0 r2 (g.bytes ++ a.got) g.out (take n line) (keeps_now (Ok (Some p)) a);
-          };
-        }
+            → Ran false u0 v w0 w' (Ends {X = X} e reads0 r2 e2 v MayEnd (Err cmd.Write))
+        ran_write X w' n wrote =
+            let put = take n line in
+            let kept = keeps_now (Ok (Some p)) a in
+            let comes = stopped e t (g.bytes ++ a.got) (g.out ++ line) standing_now e2 (notices (Ok (Some p)) a) (g.out ++ put) (length g.out + n)
+            (sym (take-append-add g.out line n)) in
+            record {
+              read = g.bytes ++ a.got;
+              out = g.out ++ put;
+              took = took_now;
+              put = Appends-trans w0 w w' g.out put g.put wrote;
+              so = record {
+                comes = comes;
+                in_range = λ to may. comes;
+                keeps_up = keeps_written e reads0 r2 (g.bytes ++ a.got) g.out put kept;
+                before = λ to may. before_written e reads0 r2 (g.bytes ++ a.got) g.out put kept to (before_now (Ok (Some p)) a to may.0 may.1);
+              };
+            }
 
       -- memory could not grow for its lines
-      pub ran_memory : (X : Type 0) → Ran false u0 v w0 w (IsRun {X = X} e reads0 r2 e2 (Err cmd.Memory))
+      pub ran_memory : (X : Type 0) → Ran false u0 v w0 w (Ends {X = X} e reads0 r2 e2 v MayEnd (Err cmd.Memory))
       ran_memory X =
           let line = e.lines s.start (given_now e s g.bytes g.out g.standing t u v e1 e2 r1 r2 p a) in
+          let comes = stopped e t (g.bytes ++ a.got) (g.out ++ line) (Standing-next e s g.bytes g.out g.standing t u v e1 e2 r1 r2 p a) e2 (notices (Ok (Some p)) a)
+          g.out (length g.out) (sym (take-append_seam g.out line)) in
           record {
             read = g.bytes ++ a.got;
             out = g.out;
             took = took_now;
             put = g.put;
             so = record {
-              comes = stopped e t (g.bytes ++ a.got) (g.out ++ line) (Standing-next e s g.bytes g.out g.standing t u v e1 e2 r1 r2 p a) e2 (notices (Ok (Some p)) a)
-                  g.out (length g.out) (sym (take-append_seam g.out line));
+              comes = comes;
+              in_range = λ to may. comes;
               keeps_up = keeps_now (Ok (Some p)) a;
+              before = λ to may. before_now (Ok (Some p)) a to may.0 may.1;
             };
           }
-
-    -- the text was read to its end
-    pub ran_whole : {X : Type 0} (x : X) → AfterNext s t u v e1 e2 r1 r2 (Ok None) → Ran false u0 v w0 w (IsRun e reads0 r2 e2 (Ok x))
-    ran_whole x a = record {
-      read = g.bytes ++ a.got;
-      out = g.out;
-      took = Consumes-trans u0 u v g.bytes a.got g.took (kept_took _ _ _ a.grown u v a.ahead_kept);
-      put = g.put;
-      so = record { comes = run_whole e s g.bytes g.out g.standing t u v e1 e2 r1 r2 a; keeps_up = keeps_now (Ok None) a };
-    }
 
     pub at_the_end : AfterNext s t u v e1 e2 r1 r2 (Ok None) → (e2 ≡ true) × IsAtEnd v
     at_the_end a = let done : IsDone t = a.answer in a.agrees g.agrees done.at_end
 
+    -- the text was read to its end
+    pub ran_whole : {X : Type 0} (x : X) → AfterNext s t u v e1 e2 r1 r2 (Ok None) → Ran false u0 v w0 w (Ends e reads0 r2 e2 v MayEnd (Ok x))
+    ran_whole x a =
+        let whole = run_whole e s g.bytes g.out g.standing t u v e1 e2 r1 r2 a in
+        record {
+          read = g.bytes ++ a.got;
+          out = g.out;
+          took = Consumes-trans u0 u v g.bytes a.got g.took (kept_took _ _ _ a.grown u v a.ahead_kept);
+          put = g.put;
+          so = record {
+            comes = whole;
+            in_range = λ to may. inl (at_the_end a, whole);
+            keeps_up = keeps_now (Ok None) a;
+            before = λ to may. before_now (Ok None) a to may.0 may.1;
+          };
+        }
+
     -- the segmenter answered a fault
     pub ran_fault : (X : Type 0) (why : PassageFault) → AfterNext s t u v e1 e2 r1 r2 (Err why)
-        → Ran (is_failed_read {X = X} (Err (cmd.Passage why))) u0 v w0 w (IsRun {X = X} e reads0 r2 e2 (Err (cmd.Passage why)))
+        → Ran (is_failed_read {X = X} (Err (cmd.Passage why))) u0 v w0 w (Ends {X = X} e reads0 r2 e2 v MayEnd (Err (cmd.Passage why)))
     ran_fault X why a = record {
       read = g.bytes ++ a.got;
       out = g.out;
@@ -199,55 +249,117 @@ module _ (e : Engine) (u0 w0 : Option (List ℕ)) (reads0 : Reads) where
       put = g.put;
       so = record {
         comes = run_fault e s g.bytes g.out g.standing t u v e1 e2 r1 r2 X why a (notices (Err why) a);
+        in_range = λ to may. range_fault e s g.bytes g.out g.standing t u v e1 e2 r1 r2 X to (IsTrue e2 × IsAtEnd v) why a (notices (Err why) a) may.0;
         keeps_up = keeps_now (Err why) a;
+        before = λ to may. before_now (Err why) a to may.0 may.1;
       };
     }
 
   -- nothing was read, where the segmenter could not be made
-  pub ran_none : (X : Type 0) (has_ended : Bool) → Ran false u0 u0 w0 w0 (IsRun {X = X} e reads0 reads0 has_ended (Err (cmd.Passage fault.Memory)))
-  ran_none X has_ended = record { read = []; out = []; took = Consumes-nil u0; put = Appends-nil w0; so = record { comes = inl (refl, refl); keeps_up = keeps_none e reads0 } }
+  ran_none : (X : Type 0) (has_ended : Bool) → Ran false u0 u0 w0 w0 (Ends {X = X} e reads0 reads0 has_ended u0 (λ end. Unit {0}) (Err (cmd.Passage fault.Memory)))
+  ran_none X has_ended = record {
+    read = [];
+    out = [];
+    took = Consumes-nil u0;
+    put = Appends-nil w0;
+    so = record {
+      comes = inl (refl, refl);
+      in_range = λ end may. inl (refl, refl);
+      keeps_up = keeps_none e reads0;
+      before = λ end may. before_none e reads0 end;
+    };
+  }
 
-  pub ran_limit : (X : Type 0) (has_ended : Bool) → Ran false u0 u0 w0 w0 (IsRun {X = X} e reads0 reads0 has_ended (Err (cmd.Passage fault.Limit)))
-  ran_limit X has_ended = record { read = []; out = []; took = Consumes-nil u0; put = Appends-nil w0; so = record { comes = (refl, refl); keeps_up = keeps_none e reads0 } }
+  ran_limit : (X : Type 0) (has_ended : Bool) → Ran false u0 u0 w0 w0 (Ends {X = X} e reads0 reads0 has_ended u0 (λ end. Unit {0}) (Err (cmd.Passage fault.Limit)))
+  ran_limit X has_ended = record {
+    read = [];
+    out = [];
+    took = Consumes-nil u0;
+    put = Appends-nil w0;
+    so = record {
+      comes = (refl, refl);
+      in_range = λ end may. (refl, refl);
+      keeps_up = keeps_none e reads0;
+      before = λ end may. before_none e reads0 end;
+    };
+  }
 
 -- A run by the answers of its calls
 
 module _ (e : Engine) (u0 w0 : Option (List ℕ)) (reads0 : Reads) (X : Type 0) (answer : Result X CmdFault) where
   -- the segmenter could not be made
   pub run_none : (why : PassageFault) (has_ended : Bool) → answer ≡ Err (cmd.Passage why) → (why ≡ fault.Limit) ⊎ (why ≡ fault.Memory)
-      → Ran (is_failed_read answer) u0 u0 w0 w0 (IsRun e reads0 reads0 has_ended answer)
-  run_none why has_ended is one = ⊎_elim
-      (λ limit. subst (λ r. Ran (is_failed_read r) u0 u0 w0 w0 (IsRun e reads0 reads0 has_ended r)) (sym (is ∙ ap (λ f. Err (cmd.Passage f)) limit)) (ran_limit e u0 w0 reads0 X has_ended))
-      (λ memory. subst (λ r. Ran (is_failed_read r) u0 u0 w0 w0 (IsRun e reads0 reads0 has_ended r)) (sym (is ∙ ap (λ f. Err (cmd.Passage f)) memory)) (ran_none e u0 w0 reads0 X has_ended))
-      one
+      → Ran (is_failed_read answer) u0 u0 w0 w0 (Ends e reads0 reads0 has_ended u0 (λ end. Unit {0}) answer)
+  run_none why has_ended is one =
+      subst (λ r. Ran (is_failed_read r) u0 u0 w0 w0 (Ends e reads0 reads0 has_ended u0 (λ end. Unit {0}) r)) (sym is)
+      (⊎_elim (λ limit. none limit (ran_limit e u0 w0 reads0 X has_ended)) (λ memory. none memory (ran_none e u0 w0 reads0 X has_ended)) one)
+    where
+      none : {known : PassageFault} → why ≡ known
+          → Ran (is_failed_read {X = X} (Err (cmd.Passage known))) u0 u0 w0 w0 (Ends {X = X} e reads0 reads0 has_ended u0 (λ end. Unit {0}) (Err (cmd.Passage known)))
+          → Ran (is_failed_read {X = X} (Err (cmd.Passage why))) u0 u0 w0 w0 (Ends {X = X} e reads0 reads0 has_ended u0 (λ end. Unit {0}) (Err (cmd.Passage why)))
+      none same ran =
+          subst (λ f. Ran (is_failed_read {X = X} (Err (cmd.Passage f))) u0 u0 w0 w0 (Ends {X = X} e reads0 reads0 has_ended u0 (λ end. Unit {0}) (Err (cmd.Passage f)))) (sym same) ran
 
   module _ (s t : State) (u v w : Option (List ℕ)) (e1 e2 : Bool) (r1 r2 : Reads) (r : Result (Option Passage) PassageFault)
       (g : Going e u0 w0 reads0 s u w e1 r1) (a : AfterNext s t u v e1 e2 r1 r2 r) where
-    pub run_stopped : (why : PassageFault) → r ≡ Err why → answer ≡ Err (cmd.Passage why)
-        → Ran (is_failed_read answer) u0 v w0 w (IsRun e reads0 r2 e2 answer)
-    run_stopped why was is =
-        subst (λ x. Ran (is_failed_read x) u0 v w0 w (IsRun e reads0 r2 e2 x)) (sym is)
-        (ran_fault e u0 w0 reads0 s t u v w e1 e2 r1 r2 g X why (subst (AfterNext s t u v e1 e2 r1 r2) was a))
+    -- a run that ends after the call
+    abbrev pub EndsSo : Option (List ℕ) → Type 0
+    EndsSo w' = Ran (is_failed_read answer) u0 v w0 w' (Ends e reads0 r2 e2 v (MayEnd e u0 w0 reads0 s t u v w e1 e2 r1 r2 g) answer)
 
-    pub run_ended : (x : X) → r ≡ Ok None → answer ≡ Ok x → Ran (is_failed_read answer) u0 v w0 w (IsRun e reads0 r2 e2 answer)
-    run_ended x was is =
-        subst (λ y. Ran (is_failed_read y) u0 v w0 w (IsRun e reads0 r2 e2 y)) (sym is)
-        (ran_whole e u0 w0 reads0 s t u v w e1 e2 r1 r2 g x (subst (AfterNext s t u v e1 e2 r1 r2) was a))
+    ended_so : (w' : Option (List ℕ)) (known : Result X CmdFault) → answer ≡ known
+        → Ran (is_failed_read known) u0 v w0 w' (Ends e reads0 r2 e2 v (MayEnd e u0 w0 reads0 s t u v w e1 e2 r1 r2 g) known) → EndsSo w'
+    ended_so w' known is =
+        subst (λ x. Ran (is_failed_read x) u0 v w0 w' (Ends e reads0 r2 e2 v (MayEnd e u0 w0 reads0 s t u v w e1 e2 r1 r2 g) x)) (sym is)
+
+    pub run_stopped : (why : PassageFault) → r ≡ Err why → answer ≡ Err (cmd.Passage why) → EndsSo w
+    run_stopped why was is =
+        ended_so w (Err (cmd.Passage why)) is (ran_fault e u0 w0 reads0 s t u v w e1 e2 r1 r2 g X why (subst (AfterNext s t u v e1 e2 r1 r2) was a))
+
+    pub run_ended : (x : X) → r ≡ Ok None → answer ≡ Ok x → EndsSo w
+    run_ended x was is = ended_so w (Ok x) is (ran_whole e u0 w0 reads0 s t u v w e1 e2 r1 r2 g x (subst (AfterNext s t u v e1 e2 r1 r2) was a))
 
     module _ (p : Passage) (was : r ≡ Ok (Some p)) where
       given : AfterNext s t u v e1 e2 r1 r2 (Ok (Some p))
       given = subst (AfterNext s t u v e1 e2 r1 r2) was a
 
-      pub run_out_of_memory : answer ≡ Err cmd.Memory → Ran (is_failed_read answer) u0 v w0 w (IsRun e reads0 r2 e2 answer)
-      run_out_of_memory is =
-          subst (λ x. Ran (is_failed_read x) u0 v w0 w (IsRun e reads0 r2 e2 x)) (sym is) (ran_memory e u0 w0 reads0 s t u v w e1 e2 r1 r2 g p given X)
+      pub run_out_of_memory : answer ≡ Err cmd.Memory → EndsSo w
+      run_out_of_memory is = ended_so w (Err cmd.Memory) is (ran_memory e u0 w0 reads0 s t u v w e1 e2 r1 r2 g p given X)
 
       module _ (line : List ℕ) (lines : (ms : List Marked) → s.cell ≡ e.cell → s.profile ≡ e.profile → IsPassage s ms p → line ≡ e.lines p.start ms)
           (w' : Option (List ℕ)) where
-        pub run_unwritten : answer ≡ Err cmd.Write → (n : ℕ) → Appends w w' (take n line) → Ran (is_failed_read answer) u0 v w0 w' (IsRun e reads0 r2 e2 answer)
+        pub run_unwritten : answer ≡ Err cmd.Write → (n : ℕ) → Appends w w' (take n line) → EndsSo w'
         run_unwritten is n wrote =
-            subst (λ x. Ran (is_failed_read x) u0 v w0 w' (IsRun e reads0 r2 e2 x)) (sym is)
-            (ran_write e u0 w0 reads0 s t u v w e1 e2 r1 r2 g p given line lines X w' n wrote)
+            ended_so w' (Err cmd.Write) is (ran_write e u0 w0 reads0 s t u v w e1 e2 r1 r2 g p given line lines X w' n wrote)
 
         pub run_goes_on : Appends w w' line → Going e u0 w0 reads0 t v w' e2 r2
         run_goes_on wrote = Going-next e u0 w0 reads0 s t u v w e1 e2 r1 r2 g p given line lines w' wrote
+
+        pub range_goes_on : Appends w w' line → (to : ℕ) → MayEnd e u0 w0 reads0 s t u v w e1 e2 r1 r2 g to
+            → (on : Going e u0 w0 reads0 t v w' e2 r2) × ReadsBefore to on.keeps_up
+        range_goes_on wrote to may = (
+          Going-next e u0 w0 reads0 s t u v w e1 e2 r1 r2 g p given line lines w' wrote,
+          before-next e u0 w0 reads0 s t u v w e1 e2 r1 r2 g p given line lines w' wrote to may,
+        )
+
+-- over the whole text
+pub whole_run : {X : Type 0} {failed : Bool} {u v w w' : Option (List ℕ)} {e : Engine} {from to : Reads} {has_ended : Bool} {unread : Option (List ℕ)} {May : ℕ → Type 0}
+    {answer : Result X CmdFault} → Ran failed u v w w' (Ends e from to has_ended unread May answer) → Ran failed u v w w' (IsRun e from to has_ended answer)
+whole_run ran = record {
+  read = ran.read;
+  out = ran.out;
+  took = ran.took;
+  put = ran.put;
+  so = record { comes = ran.so.comes; keeps_up = ran.so.keeps_up };
+}
+
+-- over a range
+pub range_run : {X : Type 0} {failed : Bool} {u v w w' : Option (List ℕ)} {e : Engine} {from to : Reads} {has_ended : Bool} {unread : Option (List ℕ)} {May : ℕ → Type 0}
+    {answer : Result X CmdFault} → Ran failed u v w w' (Ends e from to has_ended unread May answer) → (end : ℕ) → May end
+    → Ran failed u v w w' (IsRangeRun e end from to has_ended (IsTrue has_ended × IsAtEnd unread) answer)
+range_run ran end may = record {
+  read = ran.read;
+  out = ran.out;
+  took = ran.took;
+  put = ran.put;
+  so = record { comes = ran.so.in_range end may; keeps_up = ran.so.keeps_up; no_further = ran.so.before end may };
+}

@@ -22,11 +22,11 @@ use Rattle.lbk_passage.proofs.Together.{passages-end}
 use Rattle.lbk_args.specs.declared.order.Part.{Part}
 use Rattle.lbk_cmd.specs.Engines.{engine_of}
 use Rattle.lbk_cmd.specs.declared.engine.Lines.{Lines}
-use Rattle.lbk_cmd.specs.Ranges.{AreRanges, HasPassed, IsRangeRun, end_of_ranges, lines_within, text_by_ranges, text_within, within}
-use Rattle.lbk_cmd.specs.Run.{Engine, IsRun, IsWhole, is_failed_read, passages_by}
+use Rattle.lbk_cmd.specs.Ranges.{AreRanges, HasPassed, IsRangeRun, ReadsBefore, end_of_ranges, lines_within, text_by_ranges, text_within, within}
+use Rattle.lbk_cmd.specs.Run.{Engine, IsWhole, is_failed_read, passages_by}
 use Rattle.lbk_cmd.specs.Texts.{lines_from}
 use Rattle.lbk_cmd.specs.declared.faults.CmdFault.{CmdFault}
-use Rattle.lbk_cmd.proofs.Looping.{Appends-nil, Going, run_goes_on}
+use Rattle.lbk_cmd.proofs.Looping.{Appends-nil, Going, MayEnd, range_goes_on}
 use Rattle.lbk_cmd.proofs.Stopping.{passed}
 
 abbrev range : ℕ → ℕ → Part
@@ -190,35 +190,11 @@ known_range part e reads reads' has_ended (Ok x) (Some input) (Some left) w w' r
 abbrev pub engine_in : Part → Lines → (ℕ → Cell) → Profile → ℕ → Engine
 engine_in part lines cell profile limit = within part (engine_of lines cell profile limit)
 
--- a run by the answers of its calls: they are those of a run over the whole text
-module _ (e : Engine) (to : ℕ) (AtEnd : Type 0) (u u' w w' : Option (List ℕ)) (reads reads' : Reads) (has_ended : Bool) where
-  pub range_stopped : (answer : Result (Unit {0}) CmdFault) (fault : CmdFault) → answer ≡ Err fault
-      → Ran (is_failed_read answer) u u' w w' (IsRun e reads reads' has_ended answer)
-      → Ran (is_failed_read answer) u u' w w' (IsRangeRun e to reads reads' has_ended AtEnd answer)
-  range_stopped (Ok x) fault is ran = absurd (cc is)
-  range_stopped (Err why) fault is ran = record {
-    read = ran.read;
-    out = ran.out;
-    took = ran.took;
-    put = ran.put;
-    so = record { comes = ran.so.comes; keeps_up = ran.so.keeps_up };
-  }
-
-  pub range_ended : AtEnd → Ran false u u' w w' (IsRun {X = Unit {0}} e reads reads' has_ended (Ok (tt {0})))
-      → Ran false u u' w w' (IsRangeRun {X = Unit {0}} e to reads reads' has_ended AtEnd (Ok (tt {0})))
-  range_ended end ran = record {
-    read = ran.read;
-    out = ran.out;
-    took = ran.took;
-    put = ran.put;
-    so = record { comes = inl (end, ran.so.comes); keeps_up = ran.so.keeps_up };
-  }
-
 -- a run that stops where the passages given reach the end of its range
 pub range_passed : (e : Engine) (u0 w0 : Option (List ℕ)) (reads0 : Reads) (s : State) (u w : Option (List ℕ)) (has_ended : Bool) (reads : Reads) (to : ℕ)
-    → Going e u0 w0 reads0 s u w has_ended reads → to ≤ s.start
+    → (g : Going e u0 w0 reads0 s u w has_ended reads) → ReadsBefore to g.keeps_up → to ≤ s.start
     → Ran false u0 u w0 w (IsRangeRun {X = Unit {0}} e to reads0 reads has_ended (IsTrue has_ended × IsAtEnd u) (Ok (tt {0})))
-range_passed e u0 w0 reads0 s u w has_ended reads to g past = record {
+range_passed e u0 w0 reads0 s u w has_ended reads to g before past = record {
   read = g.bytes;
   out = g.out;
   took = g.took;
@@ -229,6 +205,7 @@ range_passed e u0 w0 reads0 s u w has_ended reads to g past = record {
         (λ (settled : HasPassed e to g.bytes g.out). inr settled)
         (passed e s g.bytes g.out g.standing to past);
     keeps_up = g.keeps_up;
+    no_further = before;
   };
 }
 
@@ -257,21 +234,32 @@ module _ (part : Part) (lines : ℕ → List Marked → List ℕ) (cell : ℕ �
   abbrev ranged : Engine
   ranged = within part (record { lines = lines; cell = cell; profile = profile; limit = limit })
 
+  -- what the calls leave that passed over a passage, and where they stand: `end` is what the last one answered
+  pub record PassedOver (u0 w0 : Option (List ℕ)) (reads0 : Reads) (s t : State) (v w : Option (List ℕ)) (has_ended : Bool) (reads : Reads) (end to : ℕ) : Type 0 where
+    pub going : Going ranged u0 w0 reads0 t v w has_ended reads
+    pub before : ReadsBefore to going.keeps_up
+    pub at : end ≡ t.start
+    pub onward : s.start < t.start
+    pub few : t.start ≤ longest_text
+
   pub passed_over : (u0 w0 : Option (List ℕ)) (reads0 : Reads) (s t : State) (u v w : Option (List ℕ)) (e1 e2 : Bool) (r1 r2 : Reads)
-      (lent : Result (Option Passage) PassageFault) (end : ℕ) → Going ranged u0 w0 reads0 s u w e1 r1 → AfterNext s t u v e1 e2 r1 r2 lent
-      → Ok (Some end) ≡ end_of lent → s.start < part.from
-      → Going ranged u0 w0 reads0 t v w e2 r2 × (end ≡ t.start) × (s.start < t.start) × (t.start ≤ longest_text)
-  passed_over u0 w0 reads0 s t u v w e1 e2 r1 r2 (Ok None) end g a is early = absurd (cc is)
-  passed_over u0 w0 reads0 s t u v w e1 e2 r1 r2 (Err why) end g a is early = absurd (cc is)
-  passed_over u0 w0 reads0 s t u v w e1 e2 r1 r2 (Ok (Some p)) end g a is early =
+      (lent : Result (Option Passage) PassageFault) (end to : ℕ) (g : Going ranged u0 w0 reads0 s u w e1 r1) → AfterNext s t u v e1 e2 r1 r2 lent
+      → Ok (Some end) ≡ end_of lent → s.start < part.from → MayEnd ranged u0 w0 reads0 s t u v w e1 e2 r1 r2 g to
+      → PassedOver u0 w0 reads0 s t v w e2 r2 end to
+  passed_over u0 w0 reads0 s t u v w e1 e2 r1 r2 (Ok None) end to g a is early may = absurd (cc is)
+  passed_over u0 w0 reads0 s t u v w e1 e2 r1 r2 (Err why) end to g a is early may = absurd (cc is)
+  passed_over u0 w0 reads0 s t u v w e1 e2 r1 r2 (Ok (Some p)) end to g a is early may =
       let begins : p.start ≡ s.start = a.answer.start in
-      let ends : end ≡ p.start + length p.text.now = cc in (
-        run_goes_on ranged u0 w0 reads0 (Unit {0}) (Ok (tt {0})) s t u v w e1 e2 r1 r2 (Ok (Some p)) g a p refl []
-            (λ ms cell_is profile_is of. lines-before part lines p.start ms (omega (arith, begins, early))) w (Appends-nil w),
-        omega (arith, ends, begins, a.start),
-        omega (arith, a.start, some_bytes_of a.answer.marks a.answer.passage.some, ap length a.answer.passage.text),
-        omega (arith, a.start, a.answer.counted),
-      )
+      let ends : end ≡ p.start + length p.text.now = cc in
+      let on = range_goes_on ranged u0 w0 reads0 (Unit {0}) (Ok (tt {0})) s t u v w e1 e2 r1 r2 (Ok (Some p)) g a p refl []
+      (λ ms cell_is profile_is of. lines-before part lines p.start ms (omega (arith, begins, early))) w (Appends-nil w) to may in
+      record {
+        going = on.0;
+        before = on.1;
+        at = omega (arith, ends, begins, a.start);
+        onward = omega (arith, a.start, some_bytes_of a.answer.marks a.answer.passage.some, ap length a.answer.passage.text);
+        few = omega (arith, a.start, a.answer.counted);
+      }
 
 -- where a passage stands that a call lent
 module _ (s t : State) (u v : Option (List ℕ)) (e1 e2 : Bool) (r1 r2 : Reads) (r : Result (Option Passage) PassageFault) (p : Passage)

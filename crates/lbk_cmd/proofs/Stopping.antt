@@ -16,7 +16,7 @@ use Rattle.lbk_passage.specs.Next.{AfterNext, BeginsWithAll, ComesFirst, GoesOn,
 use Rattle.lbk_passage.specs.declared.faults.PassageFault.{PassageFault}
 use Rattle.lbk_passage.specs.declared.faults.PassageFault.TheVariants as fault
 use Rattle.lbk_passage.proofs.Marking.{begins_with_all}
-use Rattle.lbk_cmd.specs.Ranges.{HasPassed}
+use Rattle.lbk_cmd.specs.Ranges.{HasPassed, RangeComesTo, next_start}
 use Rattle.lbk_cmd.specs.Run.{Engine, passages_by, written_by, AreWithin, IsWhole, AreGiven, IsSettled, IsHeldUp, AreAll, ComesTo, segmenter_of}
 use Rattle.lbk_cmd.specs.declared.faults.CmdFault.TheVariants.{Passage}
 use Rattle.lbk_cmd.proofs.Running.{some_bytes, Stands, fresh, goes_on, ended, Standing, onward}
@@ -226,17 +226,24 @@ module _ (e : Engine) where
         place = ap (λ l. l ++ a.got) st.bytes_are ∙ append_assoc (encode_utf8_all st.scalars) s.held a.got
             ∙ ap (λ l. encode_utf8_all st.scalars ++ l) (sym a.grown ∙ waits.bytes)
 
-        held_up : (given : List (List Marked)) → flat_map scalars_of given ≡ st.scalars → (is : IsSettled e (bytes ++ a.got) out) → is.given ≡ given
-            → IsHeldUp e e2 (bytes ++ a.got) out
+        -- for the passage that begins where the segmenter stands
+        abbrev pub HeldUp : Type 0
+        HeldUp = (h : IsHeldUp e e2 (bytes ++ a.got) out) × (next_start h.settled ≡ s.start)
+
+        held_up : (given : List (List Marked)) → flat_map scalars_of given ≡ st.scalars → (is : IsSettled e (bytes ++ a.got) out) → is.given ≡ given → HeldUp
         unfolding waits
-        held_up given joined is same = record {
-          settled = is;
-          passage = waits.marks;
-          some = waits.some;
-          behind = waits.behind;
-          next = place ∙ ap (λ l. encode_utf8_all l ++ (text_of waits.marks ++ waits.behind)) (sym (ap (flat_map scalars_of) same ∙ joined));
-          comes = comes_in;
-        }
+        held_up given joined is same =
+            let all = ap (flat_map scalars_of) same ∙ joined in (
+              record {
+                settled = is;
+                passage = waits.marks;
+                some = waits.some;
+                behind = waits.behind;
+                next = place ∙ ap (λ l. encode_utf8_all l ++ (text_of waits.marks ++ waits.behind)) (sym all);
+                comes = comes_in;
+              },
+              ap (λ l. length (encode_utf8_all l)) all ∙ sym st.start,
+            )
 
         settled_more : IsSettled e bytes out → IsSettled e (bytes ++ a.got) out
         settled_more x = record {
@@ -250,11 +257,11 @@ module _ (e : Engine) where
           is = x.is;
         }
 
-        pub run_memory : IsHeldUp e e2 (bytes ++ a.got) out
+        pub run_memory : HeldUp
         unfolding waits settled_more settled_fresh settled_on
         run_memory = by st.stands
           where
-            by : Stands e s st.scalars st.given → IsHeldUp e e2 (bytes ++ a.got) out
+            by : Stands e s st.scalars st.given → HeldUp
             by (fresh none no_given) = held_up [] (sym none) (settled_more (settled_fresh no_given)) refl
             by (goes_on next rest held utf8 near first) = held_up st.given st.joined (settled_more (settled_on next rest held utf8 near first)) refl
             by (ended held is_at_end given) =
@@ -340,6 +347,9 @@ module _ (e : Engine) where
                   ))
               by (ended held is_at_end given) = absurd (not_ended is_at_end held)
 
+      behind_given : length (encode_utf8_all (flat_map scalars_of st.given)) ≡ s.start
+      behind_given = ap (λ l. length (encode_utf8_all l)) st.joined ∙ sym st.start
+
       at_its_end : (bs : List ℕ) (b c : Bool) (at : ℕ) → (b ≡ true → c ≡ true) → IsNotUtf8At bs b at → IsNotUtf8At bs c at
       at_its_end bs b c at notices i = record {
         place = i.place;
@@ -353,7 +363,7 @@ module _ (e : Engine) where
           → ComesTo {X = X} e e2 (Err (Passage why)) (bytes ++ a.got) out
       unfolding used settled settled_by
       run_fault X fault.Limit a notices = absurd a.answer.lies
-      run_fault X fault.Memory a notices = inr (run_memory a notices)
+      run_fault X fault.Memory a notices = inr (run_memory a notices).0
       run_fault X fault.Read a notices =
           let stops : Stops t fault.Read = a.answer in
           let covered = stops.all_seen (used fault.Read a stops) st.utf8 (begin_now fault.Read a stops) in
@@ -421,3 +431,18 @@ module _ (e : Engine) where
             );
           }
       run_fault X fault.Spent a notices = absurd (false≢true (sym st.unspent ∙ a.answer))
+
+      -- in a run over a range: it is one of the passage that begins where the segmenter stands
+      pub range_fault : (X : Type 0) (to : ℕ) (AtEnd : Type 0) (why : PassageFault) (a : AfterNext s t u v e1 e2 r1 r2 (Err why)) → (t.is_ended ≡ true → e2 ≡ true)
+          → s.start < to → RangeComesTo {X = X} e to e2 AtEnd (Err (Passage why)) (bytes ++ a.got) out
+      unfolding run_fault settled settled_by
+      range_fault X to AtEnd fault.Limit a notices early = absurd a.answer.lies
+      range_fault X to AtEnd fault.Memory a notices early =
+          let held = run_memory a notices in inr (record { held_up = held.0; begins = omega (arith, held.1, early) })
+      range_fault X to AtEnd fault.Read a notices early = record { refused = run_fault X fault.Read a notices; begins = omega (arith, behind_given, early) }
+      range_fault X to AtEnd (fault.NotUtf8 at) a notices early =
+          record { refused = run_fault X (fault.NotUtf8 at) a notices; begins = omega (arith, behind_given, early) }
+      range_fault X to AtEnd fault.TextTooLong a notices early = record { refused = run_fault X fault.TextTooLong a notices; begins = omega (arith, behind_given, early) }
+      range_fault X to AtEnd (fault.ParagraphTooLong start) a notices early =
+          record { refused = run_fault X (fault.ParagraphTooLong start) a notices; begins = omega (arith, behind_given, early) }
+      range_fault X to AtEnd fault.Spent a notices early = absurd (false≢true (sym st.unspent ∙ a.answer))

@@ -6,14 +6,17 @@ use Rattle.std.specs.Io.KnownBytes.{Appends, IsAtEnd}
 use Rattle.lbk_feed.specs.Devices.{Reads}
 use Rattle.lbk_feed.specs.Runs.{HasFailed, Ran}
 use Rattle.lbk_feed.specs.Text.{longest_text}
+use Rattle.lbk_feed.specs.View.{IsStill}
 use Rattle.lbk_passage.specs.Marks.{Marked, scalars_of}
 use Rattle.lbk_passage.specs.State.{IsLimit}
 use Rattle.lbk_passage.specs.declared.faults.PassageFault.{PassageFault}
+use Rattle.lbk_passage.specs.declared.faults.PassageFault.TheVariants as passage
 use Rattle.lbk_args.specs.declared.order.Part.{Part}
 use Rattle.lbk_cmd.specs.Devices.{Devices}
-use Rattle.lbk_cmd.specs.Run.{ComesTo, Engine, IsSettled, IsWhole, KeepsUp, is_failed_read, passages_by}
+use Rattle.lbk_cmd.specs.Run.{ComesTo, Engine, IsHeldUp, IsRefused, IsSettled, IsWhole, KeepsUp, is_failed_read, passages_by}
 use Rattle.lbk_cmd.specs.Texts.{lines_from}
 use Rattle.lbk_cmd.specs.declared.faults.CmdFault.{CmdFault}
+use Rattle.lbk_cmd.specs.declared.faults.CmdFault.TheVariants.{Passage}
 
 -- a passage that begins at this byte of the text begins in the range
 abbrev pub begins_in : Part → ℕ → Bool
@@ -45,20 +48,44 @@ abbrev pub end_of_ranges : ℕ → List ℕ → ℕ
 end_of_ranges from [] = from
 end_of_ranges from (to ∷ tos) = end_of_ranges to tos
 
--- `out` is written of passages that some first scalars of the bytes settle, and that reach up to byte `to`
+-- the byte behind the passages that are settled, where the next one begins
+abbrev pub next_start : {e : Engine} {bytes out : List ℕ} → IsSettled e bytes out → ℕ
+next_start settled = length (encode_utf8_all (flat_map scalars_of settled.given))
+
+-- the range was passed: `out` is written of passages that some first scalars of the bytes settle, and that reach up to byte `to`
 pub record HasPassed (e : Engine) (to : ℕ) (bytes out : List ℕ) : Type 0 where
   pub settled : IsSettled e bytes out
-  pub reaches : to ≤ length (encode_utf8_all (flat_map scalars_of settled.given))
+  pub reaches : to ≤ next_start settled
 
--- what was read and what was written, by the answer: as in a run over the whole text, except that no more has to be read
--- once the range was passed. `ended`: a read has given no byte; `AtEnd`: the text was read to its end
+-- a fault of the reader or of the text comes of a passage that begins before byte `to`
+pub record IsRefusedBefore (e : Engine) (to : ℕ) (why : PassageFault) (ended : Bool) (bytes out : List ℕ) : Type 0 where
+  pub refused : IsRefused e why ended bytes out
+  pub begins : next_start refused.settled < to
+
+-- so does want of memory for one
+pub record IsHeldUpBefore (e : Engine) (to : ℕ) (ended : Bool) (bytes out : List ℕ) : Type 0 where
+  pub held_up : IsHeldUp e ended bytes out
+  pub begins : next_start held_up.settled < to
+
+-- what was read and what was written, by the answer: as in a run over the whole text, except that no more has to be read once
+-- the range was passed, and that no passage behind it is refused. `ended`: a read has given no byte; `AtEnd`: the text was
+-- read to its end
 abbrev pub RangeComesTo : {X : Type 0} → Engine → ℕ → Bool → Type 0 → Result X CmdFault → List ℕ → List ℕ → Type 0
 RangeComesTo e to ended AtEnd (Ok x) bytes out = (AtEnd × IsWhole e bytes out) ⊎ HasPassed e to bytes out
+RangeComesTo e to ended AtEnd (Err (Passage passage.Limit)) bytes out = (bytes ≡ []) × (out ≡ [])
+RangeComesTo e to ended AtEnd (Err (Passage passage.Memory)) bytes out = ((bytes ≡ []) × (out ≡ [])) ⊎ IsHeldUpBefore e to ended bytes out
+RangeComesTo e to ended AtEnd (Err (Passage why)) bytes out = IsRefusedBefore e to why ended bytes out
 RangeComesTo {X} e to ended AtEnd (Err fault) bytes out = ComesTo {X = X} e ended (Err fault) bytes out
+
+-- no read was made, or the last one, like those before it, for a passage that begins before byte `end`: what the bytes of all
+-- reads but the last settle ends before it
+abbrev pub ReadsBefore : {e : Engine} {from to : Reads} {bytes out : List ℕ} → ℕ → KeepsUp e from to bytes out → Type 0
+ReadsBefore {e} {from} {to} {bytes} {out} end keeps_up = IsStill [] bytes from to ⊎ (next_start keeps_up.settled < end)
 
 pub record IsRangeRun {X : Type 0} (e : Engine) (to : ℕ) (reads reads' : Reads) (ended : Bool) (AtEnd : Type 0) (answer : Result X CmdFault) (bytes out : List ℕ) : Type 0 where
   pub comes : RangeComesTo e to ended AtEnd answer bytes out
   pub keeps_up : KeepsUp e reads reads' bytes out
+  pub no_further : ReadsBefore to keeps_up
 
 -- what `mark`, `show` and `segment` do with the passages of a range: to the devices, with the answer
 pub record RangeRuns (part : Part) (engine : Engine) (before after : Devices) (answer : Result (Unit {0}) CmdFault) : Type 0 where

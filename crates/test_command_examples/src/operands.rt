@@ -122,6 +122,38 @@ fn check(rt: &impl Abort, alloc: Global, row: &Row) -> Result<(), Fail> {
     Ok(())
 }
 
+/// Standard input named twice, with a range: its text, given so many bytes a read, and what is written by `mark --to 1 - -`.
+/// The second text is what no read had taken.
+static TWICE: [(&[u8], &[usize], &str); 4] = [
+    (b"a\nb\nc\n", &[3], "a\n\n"),
+    (b"a\nb\nc\n", &[4], "a\nc\n"),
+    (b"a\nb\nc\n", &[6], "a\n"),
+    (b"a\n\xC3\xA9\n", &[3, 1], "a\n\n"),
+];
+
+#[test]
+fn a_range_of_standard_input_twice(rt: HostRuntime) -> Result<(), Fail> {
+    let alloc = rt.alloc();
+    let words = words_with(alloc, "mark", &["--to", "1", "-", "-"])?;
+    for (text, sizes, written) in &TWICE {
+        let mut store = MemoryStore::new(NAMED_SAMPLES.as_slice());
+        let mut texts = MemoryTexts::new(alloc, MemoryStore::new(TEXTS.as_slice()));
+        let mut reader = MemorySource::cut(text, sizes);
+        let mut writer = MemorySink::new(alloc, ROOM)?;
+        let ending = run(
+            alloc,
+            &words,
+            &mut store,
+            &mut texts,
+            &mut reader,
+            &mut writer,
+        );
+        same(&rt, &writer.bytes(), &written.as_bytes(), &words);
+        same(&rt, &ending.status(), &0, &words);
+    }
+    Ok(())
+}
+
 #[test]
 fn operands(rt: HostRuntime) -> Result<(), Fail> {
     for row in &ROWS {

@@ -5,7 +5,7 @@ use Rattle.lbk_passage.specs.Next.{failures_with, fault_in}
 use Rattle.lbk_passage.specs.Shown.{state_of}
 use Rattle.lbk_cmd.specs.Engines.{engine_of, lines_of}
 use Rattle.lbk_cmd.proofs.Known.{known_whole}
-use Rattle.lbk_cmd.proofs.Looping.{Going-new, most_reads, run_none, run_stopped, run_ended, run_out_of_memory, run_unwritten, run_goes_on}
+use Rattle.lbk_cmd.proofs.Looping.{Going-new, most_reads, run_none, run_stopped, run_ended, run_out_of_memory, run_unwritten, run_goes_on, whole_run}
 use Rattle.lbk_cmd.proofs.Signing.{lent_cut}
 use Rattle.lbk_cmd.proofs.engine.write_lines.Goals as goal
 
@@ -15,9 +15,9 @@ returns-in_err-segmenter g c =
     record {
       shown = search rules;
       ended = search rules;
-      run = run_none (engine_of c.args.lines (g.C.CellSource.cell_of c.args.cells.now) c.args.profile c.args.limit)
+      run = whole_run (run_none (engine_of c.args.lines (g.C.CellSource.cell_of c.args.cells.now) c.args.profile c.args.limit)
           _ _ (g.R.Source.reads_made c.args.reader.now) _ c.from_residual.result c.in_err-segmenter.field-0.0 _ (exit.1 ∙ ap Err exit.2)
-          c.in_err-segmenter.ensures.only;
+          c.in_err-segmenter.ensures.only);
       reads = search rules;
       limit = search rules;
       read = search rules;
@@ -40,9 +40,9 @@ returns-in_err-passage g c =
     record {
       shown = search rules;
       ended = search rules;
-      run = run_stopped (engine_of c.args.lines (g.C.CellSource.cell_of c.args.cells.now) c.args.profile c.args.limit) _ _ _ _
+      run = whole_run (run_stopped (engine_of c.args.lines (g.C.CellSource.cell_of c.args.cells.now) c.args.profile c.args.limit) _ _ _ _
           c.from_residual-in_err-passage.result _ _ _ _ _ _ _ _ _ c.next.result c.loop-text.invariant.going c.next.follows.holds-at-none
-          c.in_err-passage.field-0.0 c.in_err-passage.was (exit.1 ∙ ap Err exit.2);
+          c.in_err-passage.field-0.0 c.in_err-passage.was (exit.1 ∙ ap Err exit.2));
       reads = most_reads (engine_of c.args.lines (g.C.CellSource.cell_of c.args.cells.now) c.args.profile c.args.limit) _ _ _ _ _ _ _ _ _ _ _ _
           c.loop-text.invariant.going c.next.result c.next.follows.holds-at-none;
       limit = search rules;
@@ -62,9 +62,9 @@ returns-in_err-push_lines g c =
     record {
       shown = search rules;
       ended = search rules;
-      run = run_out_of_memory (engine_of c.args.lines (g.C.CellSource.cell_of c.args.cells.now) c.args.profile c.args.limit) _ _ _ _
+      run = whole_run (run_out_of_memory (engine_of c.args.lines (g.C.CellSource.cell_of c.args.cells.now) c.args.profile c.args.limit) _ _ _ _
           c.from_residual-in_err-push_lines.result _ _ _ _ _ _ _ _ _ c.next.result c.loop-text.invariant.going c.next.follows.holds-at-none
-          c.in-Some.passage (c.in_ok-passage.was ∙ ap Ok c.in-Some.is) (exit.1 ∙ ap Err exit.2);
+          c.in-Some.passage (c.in_ok-passage.was ∙ ap Ok c.in-Some.is) (exit.1 ∙ ap Err exit.2));
       reads = most_reads (engine_of c.args.lines (g.C.CellSource.cell_of c.args.cells.now) c.args.profile c.args.limit) _ _ _ _ _ _ _ _ _ _ _ _
           c.loop-text.invariant.going c.next.result c.next.follows.holds-at-none;
       limit = search rules;
@@ -98,13 +98,13 @@ returns-in_err-write_all g c =
     record {
       shown = search rules;
       ended = search rules;
-      run = run_unwritten (engine_of c.args.lines cell c.args.profile c.args.limit) _ _ _ _
+      run = whole_run (run_unwritten (engine_of c.args.lines cell c.args.profile c.args.limit) _ _ _ _
           c.from_residual-in_err-write_all.result _ _ _ _ _ _ _ _ _ c.next.result c.loop-text.invariant.going c.next.follows.holds-at-none
           c.in-Some.passage (c.in_ok-passage.was ∙ ap Ok c.in-Some.is) c.deref.result.now
           (λ ms cell_is profile_is of.
           c.deref.ensures.value ∙ c.in_ok-push_lines.ensures _ ms cell_is profile_is of
           ∙ ap (λ l. l ++ lines_of c.args.lines cell c.in-Some.passage.start ms) c.clear.ensures.items)
-          _ (exit.1 ∙ ap Err exit.2) front.0 front.1;
+          _ (exit.1 ∙ ap Err exit.2) front.0 front.1);
       reads = most_reads (engine_of c.args.lines (g.C.CellSource.cell_of c.args.cells.now) c.args.profile c.args.limit) _ _ _ _ _ _ _ _ _ _ _ _
           c.loop-text.invariant.going c.next.result c.next.follows.holds-at-none;
       limit = search rules;
@@ -117,9 +117,9 @@ returns-in_err-write_all g c =
 pub returns : goal.returns
 returns g c =
     let run =
-    run_ended (engine_of c.args.lines (g.C.CellSource.cell_of c.args.cells.now) c.args.profile c.args.limit) _ _ _ (Unit {0})
+    whole_run (run_ended (engine_of c.args.lines (g.C.CellSource.cell_of c.args.cells.now) c.args.profile c.args.limit) _ _ _ (Unit {0})
     (Ok (tt {0})) _ _ _ _ _ _ _ _ _ c.next.result c.loop-text.invariant.going c.next.follows.holds-at-none (tt {0})
-    (c.in_ok-passage.was ∙ ap Ok c.in_default.is) refl
+    (c.in_ok-passage.was ∙ ap Ok c.in_default.is) refl)
     in
     record {
       shown = known_whole _ (engine_of c.args.lines (g.C.CellSource.cell_of c.args.cells.now) c.args.profile c.args.limit) _ _ _

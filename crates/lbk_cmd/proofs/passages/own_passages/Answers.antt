@@ -5,7 +5,7 @@ use Rattle.lbk_passage.specs.Next.{failures_with, fault_in}
 use Rattle.lbk_passage.specs.Shown.{state_of}
 use Rattle.lbk_cmd.specs.Engines.{showing}
 use Rattle.lbk_cmd.proofs.Known.{known_whole}
-use Rattle.lbk_cmd.proofs.Looping.{most_reads, run_none, run_stopped, run_ended, run_out_of_memory}
+use Rattle.lbk_cmd.proofs.Looping.{most_reads, run_none, run_stopped, run_ended, run_out_of_memory, whole_run}
 use Rattle.lbk_cmd.proofs.Owning.{Owning-new, Owning-next, all_owned, shows_err}
 use Rattle.lbk_cmd.proofs.passages.own_passages.Goals as goal
 
@@ -15,9 +15,9 @@ returns-in_err-segmenter-clause-refused g c =
     shows_err (page_cell c.args.cells.now) c.args.limit c.args.profile _ _ c.from_residual.result (record {
       shown = search rules;
       ended = search rules;
-      run = run_none (showing (page_cell c.args.cells.now) c.args.profile c.args.limit)
+      run = whole_run (run_none (showing (page_cell c.args.cells.now) c.args.profile c.args.limit)
           _ _ (g.R.Source.reads_made c.args.reader.now) _ c.from_residual.result c.in_err-segmenter.field-0.0 _ (exit.1 ∙ ap Err exit.2)
-          c.in_err-segmenter.ensures.only;
+          c.in_err-segmenter.ensures.only);
       reads = search rules;
       limit = search rules;
       read = search rules;
@@ -39,9 +39,9 @@ returns-in_err-passage-clause-refused g c =
     shows_err (page_cell c.args.cells.now) c.args.limit c.args.profile _ _ c.from_residual-in_err-passage.result (record {
       shown = search rules;
       ended = search rules;
-      run = run_stopped (showing (page_cell c.args.cells.now) c.args.profile c.args.limit) _ _ _ _
+      run = whole_run (run_stopped (showing (page_cell c.args.cells.now) c.args.profile c.args.limit) _ _ _ _
           c.from_residual-in_err-passage.result _ _ _ _ _ _ _ _ _ c.next.result c.loop-segmenter.invariant.owning.going c.next.follows.holds-at-none
-          c.in_err-passage.field-0.0 c.in_err-passage.was (exit.1 ∙ ap Err exit.2);
+          c.in_err-passage.field-0.0 c.in_err-passage.was (exit.1 ∙ ap Err exit.2));
       reads = most_reads (showing (page_cell c.args.cells.now) c.args.profile c.args.limit) _ _ _ _ _ _ _ _ _ _ _ _
           c.loop-segmenter.invariant.owning.going c.next.result c.next.follows.holds-at-none;
       limit = search rules;
@@ -57,9 +57,9 @@ returns-in_err-owned-clause-refused g c =
     shows_err (page_cell c.args.cells.now) c.args.limit c.args.profile _ _ c.from_residual-in_err-owned.result (record {
       shown = search rules;
       ended = search rules;
-      run = run_out_of_memory (showing (page_cell c.args.cells.now) c.args.profile c.args.limit) _ _ _ _
+      run = whole_run (run_out_of_memory (showing (page_cell c.args.cells.now) c.args.profile c.args.limit) _ _ _ _
           c.from_residual-in_err-owned.result _ _ _ _ _ _ _ _ _ c.next.result c.loop-segmenter.invariant.owning.going c.next.follows.holds-at-none
-          c.in-Some.passage (c.in_ok-passage.was ∙ ap Ok c.in-Some.is) (exit.1 ∙ ap Err exit.2);
+          c.in-Some.passage (c.in_ok-passage.was ∙ ap Ok c.in-Some.is) (exit.1 ∙ ap Err exit.2));
       reads = most_reads (showing (page_cell c.args.cells.now) c.args.profile c.args.limit) _ _ _ _ _ _ _ _ _ _ _ _
           c.loop-segmenter.invariant.owning.going c.next.result c.next.follows.holds-at-none;
       limit = search rules;
@@ -75,9 +75,9 @@ returns-in_err-push-clause-refused g c =
     shows_err (page_cell c.args.cells.now) c.args.limit c.args.profile _ _ c.from_residual-in_err-push.result (record {
       shown = search rules;
       ended = search rules;
-      run = run_out_of_memory (showing (page_cell c.args.cells.now) c.args.profile c.args.limit) _ _ _ _
+      run = whole_run (run_out_of_memory (showing (page_cell c.args.cells.now) c.args.profile c.args.limit) _ _ _ _
           c.from_residual-in_err-push.result _ _ _ _ _ _ _ _ _ c.next.result c.loop-segmenter.invariant.owning.going c.next.follows.holds-at-none
-          c.in-Some.passage (c.in_ok-passage.was ∙ ap Ok c.in-Some.is) (exit.1 ∙ ap Err exit.2);
+          c.in-Some.passage (c.in_ok-passage.was ∙ ap Ok c.in-Some.is) (exit.1 ∙ ap Err exit.2));
       reads = most_reads (showing (page_cell c.args.cells.now) c.args.profile c.args.limit) _ _ _ _ _ _ _ _ _ _ _ _
           c.loop-segmenter.invariant.owning.going c.next.result c.next.follows.holds-at-none;
       limit = search rules;
@@ -106,9 +106,9 @@ returns-clause-owned g c =
 pub returns-clause-done : goal.returns-clause-done
 returns-clause-done g c =
     let run =
-    run_ended (showing (page_cell c.args.cells.now) c.args.profile c.args.limit) _ _ _ (Unit {0})
+    whole_run (run_ended (showing (page_cell c.args.cells.now) c.args.profile c.args.limit) _ _ _ (Unit {0})
     (Ok (tt {0})) _ _ _ _ _ _ _ _ _ c.next.result c.loop-segmenter.invariant.owning.going c.next.follows.holds-at-none (tt {0})
-    (c.in_ok-passage.was ∙ ap Ok c.in_default.is) refl
+    (c.in_ok-passage.was ∙ ap Ok c.in_default.is) refl)
     in
     record {
       shown = known_whole _ (showing (page_cell c.args.cells.now) c.args.profile c.args.limit) _ _ _

@@ -2,7 +2,7 @@ use Rattle.std.proofs.Common.{◌≡◌, ◌+◌, ◌-◌}
 use Rattle.lbk_feed.specs.Text.{longest_text}
 use Rattle.lbk_passage.specs.Shown.{state_of}
 use Rattle.lbk_cmd.specs.Engines.{engine_of}
-use Rattle.lbk_cmd.specs.Ranges.{within}
+use Rattle.lbk_cmd.specs.Ranges.{ReadsBefore, within}
 use Rattle.lbk_cmd.proofs.Looping.{Going}
 use Rattle.lbk_cmd.proofs.ranges.write_range.Given as goal
 
@@ -12,6 +12,7 @@ invariant-loop-at g l = record {
       (g.R.Source.unread l.fn.reader) (g.W.Sink.written l.fn.writer) (g.R.Source.reads_made l.fn.reader)
       (state_of g.C.CellSource.cell_of l.segmenter)
       (g.R.Source.unread l.reader) (g.W.Sink.written l.writer) (g.R.Source.has_ended l.reader) (g.R.Source.reads_made l.reader);
+  before : ReadsBefore l.fn.part.to going.keeps_up;
   read_failures : g.R.Source.failure_count l.reader ≡ g.R.Source.failure_count l.fn.reader;
   write_failures : g.W.Sink.failure_count l.writer ≡ g.W.Sink.failure_count l.fn.writer;
   at : l.at ≡ (state_of g.C.CellSource.cell_of l.segmenter).start;
