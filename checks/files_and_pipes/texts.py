@@ -15,6 +15,8 @@ def run(place):
     place.write("one", b"a b")
     place.write("two", b"cd\n")
     place.write("bad", b"ab\n\xff")
+    for name in ("none.txt", "NONE", "none~", "non"):
+        place.write(name, b"another\n")
     place.write("-", b"file\n")
     place.write("hidden", b"ef\n")
     (place.folder / "hidden").chmod(0)
