@@ -81,18 +81,18 @@ def limits(drawn):
         drawn.run("limits", [limit, len(text)], words, text, 0, lambda ran: ran.out == text + b"\n")
 
 
-def paragraphs(drawn):
-    sizes = drawn.sizes_together(LIMIT - 1)
+def paragraphs(drawn, sizes=None):
+    sizes = sizes or drawn.sizes_together(LIMIT - 1)
     text = b"".join(b"a" * size + b"\n" for size in sizes)
     task = drawn.chance.choice(("mark", "segment"))
     right = {"mark": lambda ran: ran.out == text, "segment": lambda ran: ran.out.count(b"\n") == 3 * len(sizes)}
     drawn.run(f"sizes of paragraphs, {task}", sizes, words_of(task, more=GREATEST), text, 0, right[task])
 
 
-def segments(drawn):
+def segments(drawn, sizes=None):
     """Paragraphs of some numbers of segments, each with a word."""
     task = drawn.chance.choice(("mark", "show", "segment"))
-    sizes = [size // 8 + 1 for size in drawn.sizes_together(LIMIT // 2 - 1)]
+    sizes = sizes or [size // 8 + 1 for size in drawn.sizes_together(LIMIT // 2 - 1)]
     text = b"".join(b"a " * size + b"\n" for size in sizes)
     right = {
         "mark": lambda ran: ran.out.count("÷".encode()) == sum(sizes) - len(sizes),
@@ -109,19 +109,17 @@ def arguments(drawn):
     drawn.run("numbers of arguments", [number], ["replay", *[word] * number, "x"], b"", 2, lambda ran: b"Usage: " in ran.err)
 
 
-def named(drawn, most):
-    """A path of so many bytes at most whose last part is a name: as many bytes as are drawn."""
-    size = drawn.size(most)
-    part = min(size, drawn.size(255))
-    rest = size - part
-    return "./" * (rest // 2) + "n" * part
+def named(drawn, size):
+    """A path of so many bytes whose last part is a name."""
+    dots = (size - min(size, drawn.size(254))) // 2
+    return "./" * dots + "n" * (size - 2 * dots)
 
 
 def names(drawn):
     """A file of a name of some size, and where it is not there, the line that names it."""
     k = drawn.chance.randrange(4)
     front, last, text, decided, _ = DECIDES[k]
-    name = named(drawn, LONGEST_NAME)
+    name = named(drawn, drawn.size(LONGEST_NAME))
     words = words_of("show", with_name(k, name))
     if drawn.chance.randrange(2):
         drawn.place.write(name, front + last)
@@ -132,9 +130,9 @@ def names(drawn):
         drawn.run("names of missing files", [len(name)], words, text.encode(), 1, lambda ran: ran.err == err)
 
 
-def folders(drawn):
+def folders(drawn, size=None):
     """A folder of a name of some size that is not there: the line names its first file."""
-    name = named(drawn, LONGEST_NAME - 20)
+    name = named(drawn, size or drawn.size(LONGEST_NAME - 20))
     err = f"lbk: {name}/LineBreak.txt: the file cannot be read: no such file".encode()
     drawn.run("names of folders", [len(name)], ["mark", "--ucd", name], b"a", 1, lambda ran: ran.err.startswith(err))
 
@@ -153,6 +151,8 @@ def lines(drawn):
 KINDS = [files, limits, paragraphs, segments, arguments, names, folders, lines]
 # How often each is run in a round: those of one size a run, which are quick, more often.
 TIMES = {files: 4, limits: 4, arguments: 8, names: 24, folders: 16}
+# What each run tries first: sizes that are seldom drawn, of paragraphs without their line end.
+ALWAYS = [(paragraphs, [5_000_002]), (segments, [60_000]), (folders, 1_023)]
 
 
 def run(tally, given):
@@ -160,6 +160,8 @@ def run(tally, given):
     print(f"seed {seed}", flush=True)
     with tempfile.TemporaryDirectory() as folder:
         drawn = Drawn(Place(tally, built_program(), folder), seed)
+        for kind, size in ALWAYS:
+            kind(drawn, size)
         end = time.monotonic() + SECONDS
         while time.monotonic() < end:
             for kind in KINDS:

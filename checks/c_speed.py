@@ -1,7 +1,7 @@
 """The speed of the calls of the library for C over letters of one, two and three bytes, held positions and short texts.
 
-Each is measured against a loop over the same bytes in the same process, and has to be at least some part as fast: a third of
-what is measured on an idle machine, so that neither the machine nor other load on it decides.
+Each is measured against a loop over the same bytes in the same process, and has to be at least some part as fast: a third to
+half of what is measured on an idle machine, so that neither the machine nor other load on it decides.
 """
 
 import re
@@ -16,19 +16,20 @@ from checks.unicode_files import property_files
 SIZE = 500_000
 HELD = "held positions"
 
-# A text, a call, and the least ratio of its speed to the loop's. `-2` is the second profile, `-8` eight bytes a call.
+# A text, a call, and the least ratio of its speed to the loop's. `-2` is the second profile, `-8` eight bytes a call. Without
+# blocks of 64 bytes 0.2 to 0.4 was left of the pages and of letters of two bytes.
 BOUNDS = [
-    ("the pages", "lbk_breaks", 0.33),
-    ("the pages", "lbk_breaks-2", 0.33),
+    ("the pages", "lbk_breaks", 0.45),
+    ("the pages", "lbk_breaks-2", 0.45),
     ("the pages", "lbk_breaks-8", 0.11),
-    ("the pages", "lbk_feed", 0.2),
+    ("the pages", "lbk_feed", 0.4),
     ("the pages", "lbk_feed-8", 0.06),
     ("the pages", "lbk_positions", 0.04),
     ("the pages", "lbk_words", 0.02),
-    ("letters of two bytes", "lbk_breaks", 0.15),
-    ("letters of two bytes", "lbk_breaks-2", 0.15),
+    ("letters of two bytes", "lbk_breaks", 0.35),
+    ("letters of two bytes", "lbk_breaks-2", 0.35),
     ("letters of two bytes", "lbk_breaks-8", 0.06),
-    ("letters of two bytes", "lbk_feed", 0.15),
+    ("letters of two bytes", "lbk_feed", 0.35),
     ("letters of two bytes", "lbk_words", 0.03),
     ("letters of three bytes", "lbk_breaks", 0.17),
     ("letters of three bytes", "lbk_breaks-2", 0.17),

@@ -36,7 +36,7 @@ For more information, try '--help'.
         for number in range(5, 14):
             place.row(f"{task}: {number} arguments that are accepted", accepted(task, number), b"ab", 0, out)
         help_text = run_program([place.program, task, "--help"]).out
-        for number in range(3, 61):
+        for number in range(3, 70):
             place.row(f"{task}: {number} arguments x", [task, *["x"] * (number - 1)], b"ab", 2, b"", usage)
             helped = [task, "--help", *["x"] * (number - 2)]
             place.row(f"{task}: --help and {number - 2} arguments", helped, b"ab", 0, help_text)

@@ -1,6 +1,8 @@
 """Property files that come from pipes, each opened once: what is read there cannot be read again."""
 
+import ctypes
 import os
+import struct
 import subprocess
 import threading
 
@@ -77,7 +79,31 @@ def substituted(place):
         place.tally.equal(f"{task}: files from commands of a shell", tuple(ran), (0, out.encode(), b""))
 
 
+# Of Linux's inotify: a file was opened, and a file that nobody writes to was closed.
+OPENED, CLOSED = 0x20, 0x10
+
+
+def opened_once(place):
+    """Each file and text is opened once, as the system tells whoever watches the folder."""
+    libc = ctypes.CDLL(None)
+    watch = libc.inotify_init1(os.O_NONBLOCK) if hasattr(libc, "inotify_init1") else -1
+    if watch < 0:
+        place.tally.leave_out("how often files are opened, which this system does not tell")
+        return
+    place.write("text", b"a a")
+    libc.inotify_add_watch(watch, os.fsencode(place.folder), OPENED | CLOSED)
+    run_program([place.program, *words_of("mark", more=["text"])], cwd=place.folder)
+    told, opens = os.read(watch, 1 << 16), []
+    os.close(watch)
+    while told:
+        _, kind, _, length = struct.unpack_from("iIII", told)
+        name, told = told[16 : 16 + length].rstrip(b"\0").decode(), told[16 + length :]
+        opens += [name] if kind & OPENED and name != "lbk" else []
+    place.tally.equal("mark: each file is opened once", opens, [*NAMES, "text"])
+
+
 def run(place):
+    opened_once(place)
     one_by_one(place)
     all_four(place)
     substituted(place)

@@ -2,10 +2,9 @@
 
 import os
 import subprocess
-import threading
 
 from checks.files_and_pipes.files import NOBODY
-from checks.files_and_pipes.pipes import give
+from checks.files_and_pipes.pipes import over_pipes
 from checks.files_and_pipes.place import words_of
 
 MISSING = "lbk: {} cannot be read: no such file\n"
@@ -15,6 +14,8 @@ def run(place):
     place.write("one", b"a b")
     place.write("two", b"cd\n")
     place.write("bad", b"ab\n\xff")
+    for name in ("none.txt", "NONE", "none~", "non"):
+        place.write(name, b"another\n")
     place.write("-", b"file\n")
     place.write("hidden", b"ef\n")
     (place.folder / "hidden").chmod(0)
@@ -40,16 +41,9 @@ def run(place):
     user = NOBODY if os.getuid() == 0 else None
     err = b"lbk: hidden cannot be read: permission denied\n"
     place.row("texts: one without leave", words_of("mark", more=["hidden", "two"]), b"", 1, b"cd\n", err, user)
-    piped(place)
+    pipes = {place.folder / "pipe": (b"ab\ncd", 1)}
+    over_pipes(place, "texts: one from a pipe", words_of("mark", more=["pipe", "one"]), pipes, b"", "ab\ncd\na ÷b\n".encode())
     shrunk(place)
-
-
-def piped(place):
-    """A text from a pipe with a name, which is opened once."""
-    os.mkfifo(place.folder / "pipe")
-    writer = threading.Thread(target=give, args=(place.folder / "pipe", b"ab\ncd", 1), daemon=True)
-    writer.start()
-    place.row("texts: one from a pipe", words_of("mark", more=["pipe", "one"]), b"", 0, "ab\ncd\na ÷b\n".encode())
 
 
 def shrunk(place):
