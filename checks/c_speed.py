@@ -16,11 +16,13 @@ from checks.unicode_files import property_files
 SIZE = 500_000
 HELD = "held positions"
 
-# A text, a call, and the least ratio of its speed to the loop's. `-2` is the second profile, `-8` eight bytes a call.
+# A text, a call, and the least ratio of its speed to the loop's. `-2` is the second profile, `-8` eight bytes a call,
+# `-60` a line of at most sixty.
 BOUNDS = [
     ("the pages", "lbk_breaks", 0.33),
     ("the pages", "lbk_breaks-2", 0.33),
     ("the pages", "lbk_breaks-8", 0.11),
+    ("the pages", "lbk_breaks-60", 0.25),
     ("the pages", "lbk_feed", 0.2),
     ("the pages", "lbk_feed-8", 0.06),
     ("the pages", "lbk_positions", 0.04),
@@ -28,11 +30,13 @@ BOUNDS = [
     ("letters of two bytes", "lbk_breaks", 0.15),
     ("letters of two bytes", "lbk_breaks-2", 0.15),
     ("letters of two bytes", "lbk_breaks-8", 0.06),
+    ("letters of two bytes", "lbk_breaks-60", 0.15),
     ("letters of two bytes", "lbk_feed", 0.15),
     ("letters of two bytes", "lbk_words", 0.03),
     ("letters of three bytes", "lbk_breaks", 0.17),
     ("letters of three bytes", "lbk_breaks-2", 0.17),
     ("letters of three bytes", "lbk_breaks-8", 0.06),
+    ("letters of three bytes", "lbk_breaks-60", 0.2),
     ("letters of three bytes", "lbk_feed", 0.17),
     ("letters of three bytes", "lbk_words", 0.03),
     (HELD, "lbk_breaks-2", 0.05),
