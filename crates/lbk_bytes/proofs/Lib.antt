@@ -13,3 +13,5 @@ pub mod BlockScalarLemmas
 pub mod BlockBeginLemmas
 pub mod BlockLemmas
 pub mod BlockOrderLemmas
+pub mod MarkLemmas
+pub mod MarkPlaceLemmas
