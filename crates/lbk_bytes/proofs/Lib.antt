@@ -15,3 +15,5 @@ pub mod BlockLemmas
 pub mod BlockOrderLemmas
 pub mod MarkLemmas
 pub mod MarkPlaceLemmas
+pub mod MarkBitLemmas
+pub mod MarkBlockLemmas

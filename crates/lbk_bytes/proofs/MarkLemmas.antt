@@ -27,7 +27,7 @@ use Rattle.lbk_bytes.proofs.BitLemmas.{none-set}
 
 -- A bit
 
-or-none : (x y : Bool) → y ≡ false → x ≡ (x || y)
+pub or-none : (x y : Bool) → y ≡ false → x ≡ (x || y)
 or-none true y none = refl
 or-none false y none = sym none
 

@@ -13,16 +13,17 @@ use Rattle.lbk_bytes.specs.Bytes.{end_in, with_break}
 use Rattle.lbk_bytes.specs.Marking.{AreBelow, AreFrom}
 use Rattle.lbk_bytes.specs.Marks.{from_on, stands_among}
 use Rattle.lbk_bytes.specs.Reached.{onward_to, scalars_of}
+use Rattle.lbk_bytes.proofs.MarkLemmas.{break-below}
 
-from-wider : (place further : ℕ) (bs : List Break) → place ≤ further → AreFrom further bs → AreFrom place bs
+pub from-wider : (place further : ℕ) (bs : List Break) → place ≤ further → AreFrom further bs → AreFrom place bs
 from-wider place further [] wider from = tt
 from-wider place further (b ∷ bs) wider from = (let first = from.0 in omega arith, from-wider place further bs wider from.1)
 
-break-from : (place at : ℕ) (verdict : Verdict) (more : List Break) → place ≤ at → AreFrom place more → AreFrom place (with_break at verdict more)
+pub break-from : (place at : ℕ) (verdict : Verdict) (more : List Break) → place ≤ at → AreFrom place more → AreFrom place (with_break at verdict more)
 break-from place at verdict more after from =
     elim (is_no verdict.kind) as (λ no. AreFrom place (cond no more (break_by at verdict ∷ more))) [ true ↦ from | false ↦ (after, from) ]
 
-end-from : (goes_on : Bool) (profile : Profile) (cell : ℕ → Cell) (taken : List ℕ) (at : ℕ) → AreFrom at (end_in goes_on profile cell taken at)
+pub end-from : (goes_on : Bool) (profile : Profile) (cell : ℕ → Cell) (taken : List ℕ) (at : ℕ) → AreFrom at (end_in goes_on profile cell taken at)
 end-from false profile cell taken at = break-from at at (verdict_between_in profile (map cell taken) []) [] (omega arith) tt
 end-from true profile cell [] at = tt
 end-from true profile cell (c ∷ []) at =
@@ -58,3 +59,17 @@ pub left-behind : (place : ℕ) (given rest : List Break) → AreBelow place giv
 left-behind place [] rest below = refl
 left-behind place (b ∷ bs) rest below =
     cond-false (leb place b.at) (b ∷ from_on place (bs ++ rest)) (from_on place (bs ++ rest)) (lt-leb place b.at below.0) ∙ left-behind place bs rest below.1
+
+pub left-past : (place : ℕ) (bs : List Break) → AreBelow place bs → from_on place bs ≡ []
+left-past place [] below = refl
+left-past place (b ∷ bs) below =
+    cond-false (leb place b.at) (b ∷ from_on place bs) (from_on place bs) (lt-leb place b.at below.0) ∙ left-past place bs below.1
+
+pub end-below : (goes_on : Bool) (profile : Profile) (cell : ℕ → Cell) (taken : List ℕ) (at stop : ℕ) → at < stop → AreBelow stop (end_in goes_on profile cell taken at)
+end-below false profile cell taken at stop before = break-below stop at (verdict_between_in profile (map cell taken) []) before
+end-below true profile cell [] at stop before = tt
+end-below true profile cell (c ∷ []) at stop before =
+    elim (ends_line (cell c).class)
+    as (λ b. AreBelow stop (cond b (break_by at (end_after (cell c).class) ∷ []) []))
+    [ true ↦ (before, tt) | false ↦ tt ]
+end-below true profile cell (c ∷ d ∷ ds) at stop before = end-below true profile cell (d ∷ ds) at stop before

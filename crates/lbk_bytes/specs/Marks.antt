@@ -1,11 +1,11 @@
 -- Breaks as bits: one for each byte of a text from a place on.
-use Rattle.std.specs.Prelude.{◌≡◌, ℕ, ◌+◌, ◌<◌, ◌/◌, ◌%◌, ◌==◌, ◌||◌, Bool, false, List, [], ◌∷◌, nat_le, slice_index, if◌then◌else◌}
-use Rattle.lbk_masks.specs.Sets.{is_set}
+use Rattle.std.specs.Prelude.{ℕ, ◌/◌, ◌%◌, ◌==◌, ◌||◌, Bool, false, List, [], ◌∷◌, nat_le, slice_index, if◌then◌else◌}
+use Rattle.std.specs.Int.{bit_at}
 use Rattle.lbk_rules.specs.declared.breaks.Break.{Break}
 
 -- bit i of some words: the lowest of the first word comes first
 abbrev pub is_marked : List ℕ → ℕ → Bool
-is_marked words i = is_set (slice_index words (i / 64)) (i % 64)
+is_marked words i = bit_at (slice_index words (i / 64)) (i % 64) == 1
 
 -- whether one of the breaks stands before this byte
 abbrev pub stands_among : ℕ → List Break → Bool

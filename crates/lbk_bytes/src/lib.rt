@@ -9,6 +9,7 @@ mod decoding;
 mod ends;
 mod fill_state;
 mod filling;
+mod mark_blocks;
 mod marking;
 mod marks;
 mod profiles;

@@ -13,9 +13,12 @@ ghost use Rattle.lbk_bytes.specs.Reached.{Ahead, Reached};
 use crate::deciding::decide_one;
 use crate::ends::end_code;
 use crate::fill_state::FillState;
-use crate::filling::fill_common;
+use crate::filling::quick;
+use crate::mark_blocks::mark_blocks;
 use crate::marks::{BITS, clear, mark, mark_breaks};
 use crate::raw_break::RawBreak;
+use crate::steps::{pairs_of, steps_of};
+use crate::tries::next_try;
 use lbk_rules::{Profile, is_break};
 use lbk_steps::FlatTable;
 
@@ -41,6 +44,7 @@ pub fn fill_marks(
     requires { (start.row < 65536) × (start.at ≤ length text.now) }
     ensures within { (result.row < 65536) × (start.at ≤ result.at) × (result.at ≤ length text.now) }
     ensures stops { min (length text.now) (start.at + 64 * length words.old) ≤ result.at }
+    ensures no_room { length words.old ≡ 0 → result ≡ start }
     ensures after { (i : ℕ) → result.at ≤ start.at + i → is_marked words.new i ≡ false }
     ensures marked { (cell : ℕ → Cell) (lefts : List Left) (all : Ahead) → IsFlatBy lefts table.now cell
         → Reached profile cell lefts text.now all (uncounted start) []
@@ -94,8 +98,29 @@ fn mark_further(
     mark_one(table, profile, there, from, text, words)
 }
 
-/// Takes common scalars of the front of a text.
+/// Takes blocks of bytes and then common scalars of the front of a text.
 fn mark_common(
+    table: &FlatTable,
+    profile: Profile,
+    here: FillState,
+    from: usize,
+    front: &[u8],
+    block: &mut [RawBreak],
+    words: &mut [u64],
+) -> FillState
+    requires { (here.row < 65536) × (from ≤ here.at) × (here.at ≤ length front.now) × (length front.now ≤ from + 64 * length words.old) }
+    ensures within { (result.row < 65536) × (here.at ≤ result.at) × (result.at ≤ length front.now) }
+    ensures after { (i : ℕ) → result.at ≤ from + i → is_marked words.new i ≡ is_marked words.old i }
+    ensures marked { (cell : ℕ → Cell) (lefts : List Left) (more : List ℕ) (all : Ahead) → IsFlatBy lefts table.now cell
+        → Marked profile cell lefts (front.now ++ more) all from (length front.now) here words.old
+        → Marked profile cell lefts (front.now ++ more) all from (length front.now) result words.new }
+{
+    let there = mark_blocks(pairs_of(table, profile), here, from, front, words);
+    mark_scalars(table, profile, there, from, front, block, words)
+}
+
+/// Takes common scalars, up to where blocks are tried again.
+fn mark_scalars(
     table: &FlatTable,
     profile: Profile,
     here: FillState,
@@ -116,7 +141,9 @@ fn mark_common(
         row: here.row,
         at: here.at,
     };
-    let there = fill_common(table, profile, start, front, block);
+    let until = next_try(here.at, front);
+    let steps = steps_of(table, profile);
+    let there = quick(&table.kinds, steps, start, until, front, block);
     mark_breaks(&block[..there.count], from, words);
     there
 }

@@ -1,6 +1,7 @@
 //! Bits in words of 64, one for each byte of a text from a place on.
 
-ghost use Rattle.std.specs.Prelude.{◌≡◌, ℕ, ◌+◌, ◌*◌, ◌<◌, ◌≤◌, ◌==◌, ◌&&◌, ◌||◌, false, length, map, slice_index_or};
+ghost use Rattle.std.specs.Prelude.{◌≡◌, ℕ, ◌+◌, ◌-◌, ◌*◌, ◌/◌, ◌%◌, ◌<◌, ◌≤◌, ◌==◌, ◌&&◌, ◌||◌, false, length, map, nat_le, slice_index_or};
+ghost use Rattle.lbk_masks.specs.Sets.{is_set};
 ghost use Rattle.lbk_bytes.specs.Marks.{is_marked, stands_among};
 ghost use Rattle.lbk_bytes.specs.Order.{no_break};
 ghost use Rattle.lbk_bytes.specs.Shown.{shown};
@@ -26,6 +27,29 @@ pub(crate) fn mark(words: &mut [u64], index: usize, is_set: bool)
     ensures { (i : ℕ) → is_marked words.new i ≡ (is_marked words.old i || (is_set && (index == i))) }
 {
     words[index / BITS] |= u64::from(is_set) << (index % BITS);
+}
+
+/// Sets 64 bits of some words that are set in a number, the first of them at an index.
+#[inline(always)]
+pub(crate) fn mark_bits(words: &mut [u64], index: usize, bits: u64)
+    requires { index + 64 ≤ 64 * length words.old }
+    ensures { (i : ℕ) → is_marked words.new i ≡ (is_marked words.old i || (nat_le index i && is_set bits (i - index))) }
+{
+    let word = index / BITS;
+    let shift = index % BITS;
+    join(words, word, bits << shift);
+    if shift != 0 {
+        join(words, word + 1, bits >> (BITS - shift));
+    }
+}
+
+/// Sets the bits of one word that are set in a number.
+#[inline(always)]
+fn join(words: &mut [u64], word: usize, bits: u64)
+    requires { word < length words.old }
+    ensures { (i : ℕ) → is_marked words.new i ≡ (is_marked words.old i || ((i / 64 == word) && is_set bits (i % 64))) }
+{
+    words[word] |= bits;
 }
 
 /// Sets the bit of each break, counted from a byte on.
