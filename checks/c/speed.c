@@ -114,6 +114,20 @@ static uint64_t go_positions(const char *text, size_t size)
     return sum;
 }
 
+/* Each word is looked at, as a caller would. */
+static uint64_t go_marks(const char *text, size_t size)
+{
+    lbk_state state = {0};
+    uint64_t bits[ROOM], sum = 0;
+    size_t count;
+    do {
+        count = lbk_marks(&table, &state, text, size, bits, ROOM);
+        for (size_t k = 0; k < ROOM; k++)
+            sum += bits[k];
+    } while (count == 64 * ROOM);
+    return sum;
+}
+
 static uint64_t feed_of(const char *text, size_t size, size_t most)
 {
     lbk_stream stream = {0};
@@ -176,7 +190,8 @@ int main(int count, char **word)
         uint64_t (*go)(const char *, size_t);
     } calls[] = {
         {"lbk_breaks", go_first},   {"lbk_breaks-2", go_second}, {"lbk_breaks-8", go_short}, {"lbk_breaks-60", go_lines},
-        {"lbk_feed", go_feed},      {"lbk_feed-8", go_feed_short}, {"lbk_positions", go_positions}, {"lbk_words", go_words},
+        {"lbk_feed", go_feed},      {"lbk_feed-8", go_feed_short}, {"lbk_positions", go_positions}, {"lbk_marks", go_marks},
+        {"lbk_words", go_words},
     };
     if (count < 6) {
         fprintf(stderr, "usage: speed LINE_BREAK EAST_ASIAN CATEGORY EMOJI TEXT..\n");
