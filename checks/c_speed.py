@@ -16,25 +16,31 @@ from checks.unicode_files import property_files
 SIZE = 500_000
 HELD = "held positions"
 
-# A text, a call, and the least ratio of its speed to the loop's. `-2` is the second profile, `-8` eight bytes a call. Without
-# blocks of 64 bytes 0.2 to 0.4 was left of the pages and of letters of two bytes.
+# A text, a call, and the least ratio of its speed to the loop's. `-2` is the second profile, `-8` eight bytes a call, `-60` a
+# line of at most sixty. Without blocks of 64 bytes 0.2 to 0.4 was left of the pages and of letters of two bytes.
 BOUNDS = [
     ("the pages", "lbk_breaks", 0.45),
     ("the pages", "lbk_breaks-2", 0.45),
     ("the pages", "lbk_breaks-8", 0.11),
+    ("the pages", "lbk_breaks-60", 0.25),
     ("the pages", "lbk_feed", 0.4),
     ("the pages", "lbk_feed-8", 0.06),
     ("the pages", "lbk_positions", 0.04),
+    ("the pages", "lbk_marks", 0.45),
     ("the pages", "lbk_words", 0.02),
     ("letters of two bytes", "lbk_breaks", 0.35),
     ("letters of two bytes", "lbk_breaks-2", 0.35),
     ("letters of two bytes", "lbk_breaks-8", 0.06),
+    ("letters of two bytes", "lbk_breaks-60", 0.15),
     ("letters of two bytes", "lbk_feed", 0.35),
+    ("letters of two bytes", "lbk_marks", 0.5),
     ("letters of two bytes", "lbk_words", 0.03),
     ("letters of three bytes", "lbk_breaks", 0.17),
     ("letters of three bytes", "lbk_breaks-2", 0.17),
     ("letters of three bytes", "lbk_breaks-8", 0.06),
+    ("letters of three bytes", "lbk_breaks-60", 0.2),
     ("letters of three bytes", "lbk_feed", 0.17),
+    ("letters of three bytes", "lbk_marks", 0.12),
     ("letters of three bytes", "lbk_words", 0.03),
     (HELD, "lbk_breaks-2", 0.05),
     (HELD, "lbk_feed", 0.17),

@@ -26,6 +26,7 @@
 #include <system_error>
 #include <type_traits>
 #include <utility>
+#include <vector>
 
 #if __has_include(<version>)
 #include <version>
@@ -498,6 +499,16 @@ using breaks = detail::break_view<&lbk_breaks>;
 /// All positions of a text in their order, each with what decides there: one before each scalar, and one at the end. The kind of those
 /// that are no break is LBK_NO.
 using positions = detail::break_view<&lbk_positions>;
+
+/// A bit for each byte of a text and one for its end, in words of 64 with the lowest first: set where `breaks` has a break.
+inline std::vector<std::uint64_t> marks(const lbk_table &by, std::string_view text, profile rules = profile::first,
+                                        follows after = follows::nothing)
+{
+    std::vector<std::uint64_t> words(text.size() / 64 + 1);
+    lbk_state state = {0, 0, static_cast<std::uint8_t>(static_cast<int>(rules) + static_cast<int>(after)), 0};
+    lbk_marks(&by, &state, text.data(), text.size(), words.data(), words.size());
+    return words;
+}
 
 /// The first byte at or after `at` where a part of the text may begin: one before which a line must end, or the text's size where
 /// there is none. The breaks of the parts, each but the last with `follows::more`, are those of the text, if the places of each are moved

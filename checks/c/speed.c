@@ -11,11 +11,13 @@
 
 #include <time.h>
 
-enum { ROOM = 256, RUNS = 40, SHORT = 8, PIECE = 4096 };
+enum { ROOM = 256, RUNS = 40, SHORT = 8, LINE = 60, PIECE = 4096, MOST_LINES = 1 << 20 };
 
 static lbk_table table;
 static lbk_break block[ROOM];
 static lbk_word words[ROOM];
+static size_t line_ends[MOST_LINES];
+static size_t lines;
 static uint8_t small[256][4];
 static volatile uint64_t kept;
 
@@ -69,6 +71,37 @@ static uint64_t go_short(const char *text, size_t size)
     return sum;
 }
 
+/* A call for each line of at most 60 bytes. The lines are found before. */
+static uint64_t go_lines(const char *text, size_t size)
+{
+    uint64_t sum = 0;
+    size_t start = 0;
+    for (size_t k = 0; k < lines && start < size; k++) {
+        sum += breaks_of(text + start, line_ends[k] - start, LBK_FIRST);
+        start = line_ends[k];
+    }
+    return sum;
+}
+
+/* Where a line ends that begins here: behind LF, or before the scalar of its 61st byte. */
+static size_t line_end(const bytes *text, size_t start)
+{
+    size_t end = text->size - start < LINE ? text->size : start + LINE;
+    for (size_t at = start; at < end; at++)
+        if (text->at[at] == '\n')
+            return at + 1;
+    while (end < text->size && start + 1 < end && (text->at[end] & 0xC0) == 0x80)
+        end--;
+    return end;
+}
+
+static void find_lines(const bytes *text)
+{
+    lines = 0;
+    for (size_t start = 0; start < text->size && lines < MOST_LINES;)
+        line_ends[lines++] = start = line_end(text, start);
+}
+
 static uint64_t go_positions(const char *text, size_t size)
 {
     lbk_state state = {0};
@@ -78,6 +111,20 @@ static uint64_t go_positions(const char *text, size_t size)
         count = lbk_positions(&table, &state, text, size, block, ROOM);
         sum += count;
     } while (count == ROOM);
+    return sum;
+}
+
+/* Each word is looked at, as a caller would. */
+static uint64_t go_marks(const char *text, size_t size)
+{
+    lbk_state state = {0};
+    uint64_t bits[ROOM], sum = 0;
+    size_t count;
+    do {
+        count = lbk_marks(&table, &state, text, size, bits, ROOM);
+        for (size_t k = 0; k < ROOM; k++)
+            sum += bits[k];
+    } while (count == 64 * ROOM);
     return sum;
 }
 
@@ -142,8 +189,9 @@ int main(int count, char **word)
         const char *name;
         uint64_t (*go)(const char *, size_t);
     } calls[] = {
-        {"lbk_breaks", go_first},   {"lbk_breaks-2", go_second}, {"lbk_breaks-8", go_short}, {"lbk_positions", go_positions},
-        {"lbk_feed", go_feed},      {"lbk_feed-8", go_feed_short}, {"lbk_words", go_words},
+        {"lbk_breaks", go_first},   {"lbk_breaks-2", go_second}, {"lbk_breaks-8", go_short}, {"lbk_breaks-60", go_lines},
+        {"lbk_feed", go_feed},      {"lbk_feed-8", go_feed_short}, {"lbk_positions", go_positions}, {"lbk_marks", go_marks},
+        {"lbk_words", go_words},
     };
     if (count < 6) {
         fprintf(stderr, "usage: speed LINE_BREAK EAST_ASIAN CATEGORY EMOJI TEXT..\n");
@@ -154,6 +202,7 @@ int main(int count, char **word)
         small[k / 4][k % 4] = (uint8_t)((k * 7 + 1) % 4);
     for (int k = 5; k < count; k++) {
         bytes text = load(word[k]);
+        find_lines(&text);
         for (size_t call = 0; call < sizeof calls / sizeof *calls; call++)
             printf("%s %s %.4f\n", word[k], calls[call].name, ratio_of(calls[call].go, &text));
         free(text.at);

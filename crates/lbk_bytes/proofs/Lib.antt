@@ -13,3 +13,7 @@ pub mod BlockScalarLemmas
 pub mod BlockBeginLemmas
 pub mod BlockLemmas
 pub mod BlockOrderLemmas
+pub mod MarkLemmas
+pub mod MarkPlaceLemmas
+pub mod MarkBitLemmas
+pub mod MarkBlockLemmas

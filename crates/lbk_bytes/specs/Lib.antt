@@ -4,8 +4,10 @@ pub mod Profiles
 pub mod Shown
 pub mod Order
 pub mod Open
+pub mod Marks
 -- What only carries proofs.
 pub mod Decided
 pub mod Reached
 pub mod Blocks
 pub mod Widths
+pub mod Marking

@@ -102,7 +102,7 @@ fn block(
 /// The left set of the byte before a block, if the row is that byte's and a block can begin here: 64 bytes are left, and of the
 /// next 16 none begins a scalar of more than two.
 #[inline(always)]
-fn set_before(pairs: &Neighbours, here: FillState, text: &[u8]) -> Option<u8>
+pub(crate) fn set_before(pairs: &Neighbours, here: FillState, text: &[u8]) -> Option<u8>
     requires { here.at ≤ length text.now }
     ensures { IfSome result (λ before. Rests pairs.now here text.now before) }
 {
@@ -137,7 +137,7 @@ pub(crate) fn wide_ahead(text: &[u8]) -> u64
 
 /// The bits of a number below this one.
 #[inline(always)]
-fn kept_below(bits: u64, count: usize) -> u64
+pub(crate) fn kept_below(bits: u64, count: usize) -> u64
     requires { count ≤ 64 }
     ensures { AreKeptBelow count bits result }
 {
@@ -194,7 +194,7 @@ fn stopped(pairs: &Neighbours, at: usize, taken: usize, here: BlockState, text: 
 
 /// A place with the row of the byte before it.
 #[inline(always)]
-fn behind_byte(pairs: &Neighbours, count: usize, at: usize, text: &[u8]) -> FillState
+pub(crate) fn behind_byte(pairs: &Neighbours, count: usize, at: usize, text: &[u8]) -> FillState
     requires { (0 < at) × (at ≤ length text.now) }
     ensures within { result.row < 65536 }
     ensures place { (result.count ≡ count) × (result.at ≡ at) }

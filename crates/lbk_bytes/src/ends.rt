@@ -48,7 +48,7 @@ pub fn put_end(
 }
 
 /// The number of the verdict at an end, or one by which no line breaks.
-fn end_code(table: &FlatTable, goes_on: bool, row: usize) -> u16
+pub(crate) fn end_code(table: &FlatTable, goes_on: bool, row: usize) -> u16
     requires { row < 65536 }
     ensures { (profile : Profile) (cell : ℕ → Cell) (lefts : List Left) (taken : List ℕ) (at : ℕ) → IsFlatBy lefts table.now cell → KnowsTaken cell lefts row taken
         → (0 < row → 0 < length taken) → IsCode result × (with_break at (verdict_coded result) [] ≡ end_in goes_on profile cell taken at) }

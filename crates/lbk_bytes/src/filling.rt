@@ -209,7 +209,7 @@ fn worthy_blocks(
 /// Takes scalars that begin before a byte, as long as none of four bytes, no ill-formed bytes and no held position come, whatever
 /// may follow the text. It calls nothing, so that all it has stays in registers.
 #[inline(never)]
-fn quick(
+pub(crate) fn quick(
     kinds: &[u8; CODES],
     steps: &[FlatStep; STEPS],
     start: FillState,

@@ -2,3 +2,4 @@ pub mod TableLemmas
 pub mod ComingLemmas
 pub mod UnitsComingLemmas
 pub mod PositionLemmas
+pub mod MarkLemmas

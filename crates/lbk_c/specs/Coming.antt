@@ -1,5 +1,5 @@
 -- What is to come of a text from a state on.
-use Rattle.std.specs.Prelude.{◌≡◌, ℕ, ◌<◌, ◌≤◌, List, [], length, drop, take, min, ◌⊎◌, Some, None}
+use Rattle.std.specs.Prelude.{◌≡◌, ℕ, ◌+◌, ◌*◌, ◌<◌, ◌≤◌, List, [], length, drop, take, min, ◌⊎◌, Some, None}
 use Rattle.lbk_rules.specs.declared.breaks.Break.{Break}
 use Rattle.lbk_rules.specs.declared.cells.Cell.{Cell}
 use Rattle.lbk_rules.specs.declared.facts.Left.{Left}
@@ -10,6 +10,7 @@ use Rattle.lbk_bytes.specs.declared.fill_state.FillState.{FillState}
 use Rattle.lbk_c.specs.declared.interface.State.{State}
 use Rattle.lbk_c.specs.State.{goes_on, plain, profile_numbered}
 use Rattle.lbk_bytes.specs.Bytes.{end_in}
+use Rattle.lbk_bytes.specs.Marks.{from_on, is_marked, stands_among}
 use Rattle.lbk_bytes.specs.Reached.{Onward, ReachedBy, onward_to}
 
 -- where a state stands in a text
@@ -45,6 +46,11 @@ pub record GoesBy (from : Onward) (profile : Profile) (cell : ℕ → Cell) (lef
   pub counted : count ≡ min room (length to_come)
   pub front : given ≡ take count to_come
   pub onto : OntoBy from profile cell lefts text state (drop count to_come)
+
+-- of the places from a byte on the bits tell at which those to come stand, and those behind come from the state on
+pub record MarksBy (from : Onward) (profile : Profile) (cell : ℕ → Cell) (lefts : List Left) (text : List ℕ) (to_come : List Break) (place : ℕ) (state : State) (words : List ℕ) : Type 0 where
+  pub bits : (i : ℕ) → i < 64 * length words → is_marked words i ≡ stands_among (place + i) to_come
+  pub onto : OntoBy from profile cell lefts text state (from_on (place + 64 * length words) to_come)
 
 -- the breaks from a byte on, by what the number of a profile says of the text's end
 abbrev pub onward_in : ℕ → Onward

@@ -70,7 +70,7 @@ pub extern "C" fn lbk_breaks(
 }
 
 /// The state with only the profile in its number.
-fn plain(state: &State) -> State
+pub(crate) fn plain(state: &State) -> State
     ensures { result ≡ plain state.now }
 {
     let profile = plain_number(state.profile);

@@ -1,0 +1,125 @@
+-- Bits of one number joined to those of some words.
+use Rattle.std.proofs.Common.{◌≡◌, ◌⊎◌, ℕ, zero, suc, ◌+◌, ◌-◌, ◌*◌, ◌/◌, ◌%◌, ◌^◌, ◌==◌, ◌<◌, ◌≤◌, ◌&&◌, ◌||◌, Bool, true, false, leb, List, length, get_or, set, get_or-set_other, get_or-set_same, refl, sym, ap, ap₂, ◌∙◌, ⊎_elim, inl, inr, arith}
+use Rattle.std.specs.Int.{bit_at}
+use Rattle.std.specs.Int.Bits.{bit_or}
+use Rattle.std.proofs.lemmas.Bool.{and_left, and_right, cases_eq, cases_lt, eq-eqb, le-leb, lt-leb, ne_eqb}
+use Rattle.std.proofs.lemmas.Nat.{pow_pos, shr-shr}
+use Rattle.std.proofs.lemmas.Nat.Bits.{bit_at_above, bit_at_cat_high, bit_at_cat_low, bit_at-zero}
+use Rattle.lbk_masks.proofs.BitLemmas.{set-or}
+use Rattle.lbk_masks.specs.Sets.{is_set}
+use Rattle.lbk_bytes.specs.Marks.{is_marked}
+use Rattle.lbk_bytes.proofs.MarkLemmas.{or-assoc, or-none}
+
+-- bits of one word more
+pub marked-joined : (words : List ℕ) (word i bits : ℕ) → word < length words
+    → is_marked (set words word (bit_or (get_or words word 0) bits)) i ≡ (is_marked words i || ((i / 64 == word) && is_set bits (i % 64)))
+marked-joined words word i bits within =
+    let joined = bit_or (get_or words word 0) bits in
+    ⊎_elim
+    (λ (same : i / 64 ≡ word).
+    ap (λ q. is_set (get_or (set words word joined) q 0) (i % 64)) same
+    ∙ ap (λ n. is_set n (i % 64)) (get_or-set_same words word joined 0 within)
+    ∙ set-or (get_or words word 0) bits (i % 64)
+    ∙ ap₂ ◌||◌ (ap (λ q. is_set (get_or words q 0) (i % 64)) (sym same)) (ap (λ b. b && is_set bits (i % 64)) (sym (eq-eqb (i / 64) word same))))
+    (λ (apart : i / 64 ≡ word → ⊥).
+    ap (λ n. is_set n (i % 64)) (get_or-set_other words word (i / 64) joined 0 apart)
+    ∙ or-none (is_marked words i) ((i / 64 == word) && is_set bits (i % 64)) (and_left (i / 64 == word) (is_set bits (i % 64)) (ne_eqb (i / 64) word apart)))
+    (cases_eq (i / 64) word)
+
+-- no bit past the last
+pub none-past : (n i : ℕ) → n < 2 ^ 64 → 64 ≤ i → is_set n i ≡ false
+none-past n i fits past = ap (λ b. b == 1) (bit_at_above n 64 i fits past)
+
+-- up by some places
+cut : (n i : ℕ) → i < 64 → bit_at (n % 2 ^ 64) i ≡ bit_at n i
+cut n i few =
+    sym (bit_at_cat_low (n / 2 ^ 64) 64 (n % 2 ^ 64) i few) ∙ ap (λ m. bit_at m i) (let e : n / 2 ^ 64 * 2 ^ 64 + n % 2 ^ 64 ≡ n = omega arith in e)
+
+up : (n s i : ℕ) → i < 64 → is_set (n * 2 ^ s % 2 ^ 64) i ≡ (leb s i && is_set n (i - s))
+up n s i few =
+    let whole : n * 2 ^ s + 0 ≡ n * 2 ^ s = omega arith in
+    ap (λ b. b == 1) (cut (n * 2 ^ s) i few ∙ ap (λ m. bit_at m i) (sym whole))
+    ∙ ⊎_elim
+    (λ (before : i < s).
+    ap (λ b. b == 1) (bit_at_cat_low n s 0 i before ∙ bit_at-zero i) ∙ sym (and_left (leb s i) (is_set n (i - s)) (lt-leb s i before)))
+    (λ (after : s ≤ i).
+    ap (λ b. b == 1) (bit_at_cat_high n s 0 i (pow_pos s) after) ∙ ap (λ b. b && is_set n (i - s)) (sym (le-leb s i after)))
+    (cases_lt i s)
+
+-- down by some places
+down : (n t i : ℕ) → is_set (n / 2 ^ t) i ≡ is_set n (t + i)
+down n t i = ap (λ m. m % 2 == 1) (shr-shr n t i)
+
+-- in the word of the index: as far up as the index stands in it
+in-first : (index bits i : ℕ) → i / 64 ≡ index / 64 → is_set (bits * 2 ^ (index % 64) % 2 ^ 64) (i % 64) ≡ (leb index i && is_set bits (i - index))
+in-first index bits i same =
+    up bits (index % 64) (i % 64) (omega arith)
+    ∙ ap₂ ◌&&◌ same-order (ap (is_set bits) (let e : i % 64 - index % 64 ≡ i - index = omega arith in e))
+  where
+    same-order : leb (index % 64) (i % 64) ≡ leb index i
+    same-order =
+        ⊎_elim
+        (λ (before : i < index). lt-leb (index % 64) (i % 64) (omega arith) ∙ sym (lt-leb index i before))
+        (λ (after : index ≤ i). le-leb (index % 64) (i % 64) (omega arith) ∙ sym (le-leb index i after))
+        (cases_lt i index)
+
+-- in the next word: what was left
+in-second : (index bits i : ℕ) → i / 64 ≡ index / 64 + 1 → is_set (bits / 2 ^ (64 - index % 64)) (i % 64) ≡ (leb index i && is_set bits (i - index))
+in-second index bits i next =
+    down bits (64 - index % 64) (i % 64)
+    ∙ ap₂ ◌&&◌ (sym (le-leb index i (omega arith))) (ap (is_set bits) (let e : 64 - index % 64 + i % 64 ≡ i - index = omega arith in e))
+
+-- in no other
+in-none : (index bits i : ℕ) → bits < 2 ^ 64 → (i / 64 < index / 64) ⊎ (index + 64 ≤ i) → (leb index i && is_set bits (i - index)) ≡ false
+in-none index bits i fits (inl before) = and_left (leb index i) (is_set bits (i - index)) (lt-leb index i (omega arith))
+in-none index bits i fits (inr past) = and_right (leb index i) (is_set bits (i - index)) (none-past bits (i - index) fits (omega arith))
+
+first-only : (index bits i : ℕ) → bits < 2 ^ 64 → index % 64 ≡ 0
+    → ((i / 64 == index / 64) && is_set (bits * 2 ^ (index % 64) % 2 ^ 64) (i % 64)) ≡ (leb index i && is_set bits (i - index))
+first-only index bits i fits whole =
+    ⊎_elim
+    (λ (same : i / 64 ≡ index / 64).
+    ap (λ b. b && is_set (bits * 2 ^ (index % 64) % 2 ^ 64) (i % 64)) (eq-eqb (i / 64) (index / 64) same) ∙ in-first index bits i same)
+    (λ (apart : i / 64 ≡ index / 64 → ⊥).
+    and_left (i / 64 == index / 64) (is_set (bits * 2 ^ (index % 64) % 2 ^ 64) (i % 64)) (ne_eqb (i / 64) (index / 64) apart)
+    ∙ sym (in-none index bits i fits
+    (⊎_elim (λ (less : i / 64 < index / 64). inl less) (λ (more : index / 64 ≤ i / 64). inr (omega arith)) (cases_lt (i / 64) (index / 64)))))
+    (cases_eq (i / 64) (index / 64))
+
+both : (index bits i : ℕ) → bits < 2 ^ 64
+    → (((i / 64 == index / 64) && is_set (bits * 2 ^ (index % 64) % 2 ^ 64) (i % 64)) || ((i / 64 == index / 64 + 1) && is_set (bits / 2 ^ (64 - index % 64)) (i % 64)))
+    ≡ (leb index i && is_set bits (i - index))
+both index bits i fits =
+    let low = is_set (bits * 2 ^ (index % 64) % 2 ^ 64) (i % 64) in
+    let high = is_set (bits / 2 ^ (64 - index % 64)) (i % 64) in
+    let first = i / 64 == index / 64 in
+    let second = i / 64 == index / 64 + 1 in
+    ⊎_elim
+    (λ (same : i / 64 ≡ index / 64).
+    ap₂ ◌||◌ (ap (λ b. b && low) (eq-eqb (i / 64) (index / 64) same)) (and_left second high (ne_eqb (i / 64) (index / 64 + 1) (λ e. omega arith)))
+    ∙ sym (or-none low false refl) ∙ in-first index bits i same)
+    (λ (apart : i / 64 ≡ index / 64 → ⊥).
+    ap (λ b. b || (second && high)) (and_left first low (ne_eqb (i / 64) (index / 64) apart))
+    ∙ ⊎_elim
+    (λ (next : i / 64 ≡ index / 64 + 1). ap (λ b. b && high) (eq-eqb (i / 64) (index / 64 + 1) next) ∙ in-second index bits i next)
+    (λ (other : i / 64 ≡ index / 64 + 1 → ⊥).
+    and_left second high (ne_eqb (i / 64) (index / 64 + 1) other)
+    ∙ sym (in-none index bits i fits
+    (⊎_elim (λ (less : i / 64 < index / 64). inl less) (λ (more : index / 64 ≤ i / 64). inr (omega arith)) (cases_lt (i / 64) (index / 64)))))
+    (cases_eq (i / 64) (index / 64 + 1)))
+    (cases_eq (i / 64) (index / 64))
+
+-- a number's bits in one word, or in two
+pub marked-whole : (words new : List ℕ) (index bits i : ℕ) → bits < 2 ^ 64 → index % 64 ≡ 0
+    → is_marked new i ≡ (is_marked words i || ((i / 64 == index / 64) && is_set (bits * 2 ^ (index % 64) % 2 ^ 64) (i % 64)))
+    → is_marked new i ≡ (is_marked words i || (leb index i && is_set bits (i - index)))
+marked-whole words new index bits i fits whole once = once ∙ ap (λ b. is_marked words i || b) (first-only index bits i fits whole)
+
+pub marked-both : (words some new : List ℕ) (index bits i : ℕ) → bits < 2 ^ 64
+    → is_marked some i ≡ (is_marked words i || ((i / 64 == index / 64) && is_set (bits * 2 ^ (index % 64) % 2 ^ 64) (i % 64)))
+    → is_marked new i ≡ (is_marked some i || ((i / 64 == index / 64 + 1) && is_set (bits / 2 ^ (64 - index % 64)) (i % 64)))
+    → is_marked new i ≡ (is_marked words i || (leb index i && is_set bits (i - index)))
+marked-both words some new index bits i fits once twice =
+    let low = (i / 64 == index / 64) && is_set (bits * 2 ^ (index % 64) % 2 ^ 64) (i % 64) in
+    let high = (i / 64 == index / 64 + 1) && is_set (bits / 2 ^ (64 - index % 64)) (i % 64) in
+    twice ∙ ap (λ b. b || high) once ∙ or-assoc (is_marked words i) low high ∙ ap (λ b. is_marked words i || b) (both index bits i fits)

@@ -1,0 +1,205 @@
+-- Bits that are set for breaks.
+use Rattle.std.proofs.Common.{◌≡◌, ℕ, zero, suc, ◌+◌, ◌-◌, ◌*◌, ◌/◌, ◌%◌, ◌^◌, ◌==◌, ◌<◌, ◌≤◌, ◌&&◌, ◌||◌, Bool, true, false, cond, not, List, [], ◌∷◌, ◌++◌, length, map, take, drop, get_or, set, append_assoc, get_or-set_other, get_or-set_same, refl, sym, ap, ap₂, subst, ◌∙◌, ⊎_elim, arith}
+use Rattle.std.specs.Int.{bit_at, from_bool}
+use Rattle.std.specs.Int.Bits.{bit_or}
+use Rattle.std.proofs.lemmas.Bool.{and_right, cases_eq, eq-eqb, ne_eqb}
+use Rattle.std.proofs.lemmas.List.{get_or-take, length-take, length-take-le, map-append, take-append-drop, take_more}
+use Rattle.std.proofs.lemmas.Nat.{one_shl}
+use Rattle.std.proofs.lemmas.Nat.Bits.{bit_at-pow_other, bit_at-pow_same}
+use Rattle.bstr.specs.Utf8.{pieces}
+use Rattle.lbk_masks.proofs.BitLemmas.{set-or}
+use Rattle.lbk_masks.specs.Sets.{is_set}
+use Rattle.lbk_rules.specs.declared.breaks.Break.{Break}
+use Rattle.lbk_rules.specs.declared.cells.Cell.{Cell}
+use Rattle.lbk_rules.specs.declared.facts.Left.{Left}
+use Rattle.lbk_rules.specs.declared.verdicts.Verdict.{Verdict}
+use Rattle.lbk_rules.specs.Breaks.{break_by, is_no}
+use Rattle.lbk_values.specs.declared.profile.Profile.{Profile}
+use Rattle.lbk_bytes.specs.declared.fill_state.FillState.{FillState}
+use Rattle.lbk_bytes.specs.declared.raw_break.RawBreak.{RawBreak}
+use Rattle.lbk_bytes.specs.Bytes.{with_break}
+use Rattle.lbk_bytes.specs.Marking.{AreBelow, Marked, uncounted}
+use Rattle.lbk_bytes.specs.Marks.{is_marked, stands_among}
+use Rattle.lbk_bytes.specs.Order.{AreInOrder, no_break}
+use Rattle.lbk_bytes.specs.Reached.{Ahead, Reached, onward_to}
+use Rattle.lbk_bytes.specs.Shown.{given_in, shown}
+use Rattle.lbk_bytes.proofs.BitLemmas.{none-set}
+
+-- A bit
+
+pub or-none : (x y : Bool) → y ≡ false → x ≡ (x || y)
+or-none true y none = refl
+or-none false y none = sym none
+
+pub or-assoc : (x y z : Bool) → ((x || y) || z) ≡ (x || (y || z))
+or-assoc true y z = refl
+or-assoc false y z = refl
+
+-- one bit, if it is to be set
+set-one : (s : Bool) (k j : ℕ) → k < 64 → is_set (from_bool s * 2 ^ k % 2 ^ 64) j ≡ (s && (k == j))
+set-one false k j few = ap (λ n. is_set n j) (let e : 0 * 2 ^ k % 2 ^ 64 ≡ 0 = omega arith in e) ∙ none-set j
+set-one true k j few =
+    ap (λ n. is_set n j) (one_shl k 64 few)
+    ∙ ⊎_elim
+    (λ (same : k ≡ j). ap (λ n. is_set (2 ^ k) n) (sym same) ∙ ap (λ n. n == 1) (bit_at-pow_same k) ∙ sym (eq-eqb k j same))
+    (λ (apart : k ≡ j → ⊥). ap (λ n. n == 1) (bit_at-pow_other k j (λ e. apart (sym e))) ∙ sym (ne_eqb k j apart))
+    (cases_eq k j)
+
+same-bit : (i index : ℕ) → i / 64 ≡ index / 64 → (index % 64 == i % 64) ≡ (index == i)
+same-bit i index same =
+    ⊎_elim
+    (λ (equal : index ≡ i). eq-eqb (index % 64) (i % 64) (ap (λ n. n % 64) equal) ∙ sym (eq-eqb index i equal))
+    (λ (apart : index ≡ i → ⊥). ne_eqb (index % 64) (i % 64) (λ e. apart (omega arith)) ∙ sym (ne_eqb index i apart))
+    (cases_eq index i)
+
+-- a bit of the words more
+pub marked-one : (words : List ℕ) (index i : ℕ) (s : Bool) → index < 64 * length words
+    → is_marked (set words (index / 64) (bit_or (get_or words (index / 64) 0) (from_bool s * 2 ^ (index % 64) % 2 ^ 64))) i ≡ (is_marked words i || (s && (index == i)))
+marked-one words index i s within =
+    let bit = from_bool s * 2 ^ (index % 64) % 2 ^ 64 in
+    let word = bit_or (get_or words (index / 64) 0) bit in
+    ⊎_elim
+    (λ (same : i / 64 ≡ index / 64).
+    ap (λ q. is_set (get_or (set words (index / 64) word) q 0) (i % 64)) same
+    ∙ ap (λ n. is_set n (i % 64)) (get_or-set_same words (index / 64) word 0 (omega arith))
+    ∙ set-or (get_or words (index / 64) 0) bit (i % 64)
+    ∙ ap₂ ◌||◌ (ap (λ q. is_set (get_or words q 0) (i % 64)) (sym same))
+    (set-one s (index % 64) (i % 64) (omega arith) ∙ ap (λ e. s && e) (same-bit i index same)))
+    (λ (apart : i / 64 ≡ index / 64 → ⊥).
+    ap (λ n. is_set n (i % 64)) (get_or-set_other words (index / 64) (i / 64) word 0 apart)
+    ∙ or-none (is_marked words i) (s && (index == i)) (and_right s (index == i) (ne_eqb index i (λ e. apart (ap (λ n. n / 64) (sym e))))))
+    (cases_eq (i / 64) (index / 64))
+
+-- Breaks
+
+pub among-append : (place : ℕ) (xs ys : List Break) → stands_among place (xs ++ ys) ≡ (stands_among place xs || stands_among place ys)
+among-append place [] ys = refl
+among-append place (b ∷ bs) ys =
+    ap (λ s. (b.at == place) || s) (among-append place bs ys) ∙ sym (or-assoc (b.at == place) (stands_among place bs) (stands_among place ys))
+
+pub below-none : (stop place : ℕ) (bs : List Break) → AreBelow stop bs → stop ≤ place → stands_among place bs ≡ false
+below-none stop place [] below past = refl
+below-none stop place (b ∷ bs) below past =
+    let first = below.0 in
+    ap₂ ◌||◌ (ne_eqb b.at place (λ e. omega arith)) (below-none stop place bs below.1 past)
+
+pub below-append : (stop : ℕ) (xs ys : List Break) → AreBelow stop xs → AreBelow stop ys → AreBelow stop (xs ++ ys)
+below-append stop [] ys below also = also
+below-append stop (b ∷ bs) ys below also = (below.0, below-append stop bs ys below.1 also)
+
+pub below-wider : (stop further : ℕ) (bs : List Break) → stop ≤ further → AreBelow stop bs → AreBelow further bs
+below-wider stop further [] wider below = tt
+below-wider stop further (b ∷ bs) wider below = (let first = below.0 in omega arith, below-wider stop further bs wider below.1)
+
+below-each : (stop : ℕ) (block : List RawBreak) → ((k : ℕ) → k < length block → (get_or block k no_break).at < stop) → AreBelow stop (map shown block)
+below-each stop [] each = tt
+below-each stop (b ∷ bs) each = (each 0 (omega arith), below-each stop bs (λ k h. each (suc k) (omega arith)))
+
+-- those of a block are below where they end
+pub below-given : (block : List RawBreak) (count from to : ℕ) → count ≤ length block → AreInOrder block count from to → AreBelow to (given_in block count)
+below-given block count from to few order =
+    below-each to (take count block) (λ k h.
+    let inside : k < count = omega (arith, length-take count block) in
+    subst (λ (b : RawBreak). b.at < to) (sym (get_or-take count block k no_break inside)) (order.within k inside).1)
+
+-- Further
+
+-- what comes from a state on is what is left of all
+later : (profile : Profile) (cell : ℕ → Cell) (lefts : List Left) (text : List ℕ) (all : Ahead) (here : FillState) (given : List Break)
+    → (r : Reached profile cell lefts text all here given)
+    → Reached profile cell lefts text (record { breaks = onward_to all.end profile cell r.taken here.at (pieces (drop here.at text)); end = all.end }) here []
+later profile cell lefts text all here given r = record { taken = r.taken; knows = r.knows; some = r.some; joined = refl }
+
+-- some breaks more
+pub record Adds (profile : Profile) (cell : ℕ → Cell) (lefts : List Left) (text : List ℕ) (all : Ahead) (from stop : ℕ) (there : FillState) (old new : List ℕ) : Type 0 where
+  pub given : List Break
+  pub reached : Reached profile cell lefts text all (uncounted there) given
+  pub below : AreBelow stop given
+  pub marked : (i : ℕ) → is_marked new i ≡ (is_marked old i || stands_among (from + i) given)
+
+pub Marked-more : (profile : Profile) (cell : ℕ → Cell) (lefts : List Left) (text : List ℕ) (all : Ahead) (from stop : ℕ) (here there : FillState) (old new : List ℕ)
+    → length new ≡ length old
+    → ((rest : Ahead) → Reached profile cell lefts text rest (uncounted here) [] → Adds profile cell lefts text rest from stop there old new)
+    → Marked profile cell lefts text all from stop here old → Marked profile cell lefts text all from stop there new
+Marked-more profile cell lefts text all from stop here there old new same adds m =
+    let r = m.reached in
+    let rest : Ahead = record { breaks = onward_to all.end profile cell r.taken here.at (pieces (drop here.at text)); end = all.end } in
+    let more = adds rest (later profile cell lefts text all (uncounted here) m.given r) in
+    let after = onward_to all.end profile cell more.reached.taken there.at (pieces (drop there.at text)) in
+    record {
+      given = m.given ++ more.given;
+      reached = record {
+        taken = more.reached.taken;
+        knows = more.reached.knows;
+        some = more.reached.some;
+        joined = r.joined ∙ ap (λ l. m.given ++ l) more.reached.joined ∙ sym (append_assoc m.given more.given after);
+      };
+      below = below-append stop m.given more.given m.below more.below;
+      marked = λ i h.
+          more.marked i
+          ∙ ap (λ s. s || stands_among (from + i) more.given) (m.marked i (omega arith))
+          ∙ sym (among-append (from + i) m.given more.given);
+    }
+
+-- The ways of going on
+
+pub or-false : (x y : Bool) → y ≡ false → (x || y) ≡ x
+or-false x y none = sym (or-none x y none)
+
+from-or : (from at i : ℕ) → from ≤ at → (at - from == i) ≡ (at == from + i)
+from-or from at i after =
+    ⊎_elim
+    (λ (same : at ≡ from + i). eq-eqb (at - from) i (omega arith) ∙ sym (eq-eqb at (from + i) same))
+    (λ (apart : at ≡ from + i → ⊥). ne_eqb (at - from) i (λ e. apart (omega arith)) ∙ sym (ne_eqb at (from + i) apart))
+    (cases_eq at (from + i))
+
+-- a break more
+pub break-more : (breaks : List RawBreak) (k from i : ℕ) → k < length breaks → from ≤ (get_or breaks k no_break).at
+    → (stands_among (from + i) (map shown (take k breaks)) || (true && ((get_or breaks k no_break).at - from == i))) ≡ stands_among (from + i) (map shown (take (k + 1) breaks))
+break-more breaks k from i inside after =
+    let found = get_or breaks k no_break in
+    let last : (found.at - from == i) ≡ stands_among (from + i) (shown found ∷ []) = from-or from found.at i after ∙ or-none (found.at == from + i) false refl in
+    sym
+    (ap (λ l. stands_among (from + i) (map shown l)) (take_more breaks k no_break inside)
+    ∙ ap (stands_among (from + i)) (map-append shown (take k breaks) (found ∷ []))
+    ∙ among-append (from + i) (map shown (take k breaks)) (shown found ∷ [])
+    ∙ ap (λ b. stands_among (from + i) (map shown (take k breaks)) || b) (sym last))
+
+-- what is decided before one scalar
+pub break-among : (b : Bool) (from at i : ℕ) (verdict : Verdict) → b ≡ not (is_no verdict.kind) → from ≤ at
+    → (b && (at - from == i)) ≡ stands_among (from + i) (with_break at verdict [])
+break-among b from at i verdict is after =
+    ap (λ c. c && (at - from == i)) is
+    ∙ elim (is_no verdict.kind)
+    as (λ no. (not no && (at - from == i)) ≡ stands_among (from + i) (cond no [] (break_by at verdict ∷ [])))
+    [ true ↦ refl | false ↦ from-or from at i after ∙ or-none (at == from + i) false refl ]
+
+pub break-below : (stop at : ℕ) (verdict : Verdict) → at < stop → AreBelow stop (with_break at verdict [])
+break-below stop at verdict below =
+    elim (is_no verdict.kind) as (λ no. AreBelow stop (cond no [] (break_by at verdict ∷ []))) [ true ↦ tt | false ↦ (below, tt) ]
+
+-- a state, whatever it counts
+pub Reached-uncounted : (profile : Profile) (cell : ℕ → Cell) (lefts : List Left) (text : List ℕ) (all : Ahead) (here : FillState) (given : List Break)
+    → Reached profile cell lefts text all here given → Reached profile cell lefts text all (uncounted here) given
+Reached-uncounted profile cell lefts text all here given r = record { taken = r.taken; knows = r.knows; some = r.some; joined = r.joined }
+
+-- the front of a text, and what is behind it
+pub Marked-front : (profile : Profile) (cell : ℕ → Cell) (lefts : List Left) (text : List ℕ) (all : Ahead) (from stop : ℕ) (here : FillState) (words : List ℕ) → stop ≤ length text
+    → Marked profile cell lefts text all from stop here words
+    → Marked profile cell lefts (take stop text ++ drop stop text) all from (length (take stop text)) here words
+Marked-front profile cell lefts text all from stop here words within m =
+    subst (λ n. Marked profile cell lefts (take stop text ++ drop stop text) all from n here words) (sym (length-take-le stop text within))
+    (subst (λ t. Marked profile cell lefts t all from stop here words) (sym (take-append-drop stop text)) m)
+
+pub Marked-whole : (profile : Profile) (cell : ℕ → Cell) (lefts : List Left) (text : List ℕ) (all : Ahead) (from stop : ℕ) (here : FillState) (words : List ℕ) → stop ≤ length text
+    → Marked profile cell lefts (take stop text ++ drop stop text) all from (length (take stop text)) here words
+    → Marked profile cell lefts text all from stop here words
+Marked-whole profile cell lefts text all from stop here words within m =
+    subst (λ t. Marked profile cell lefts t all from stop here words) (take-append-drop stop text)
+    (subst (λ n. Marked profile cell lefts (take stop text ++ drop stop text) all from n here words) (length-take-le stop text within) m)
+
+-- where nothing was given yet
+pub Marked-none : (profile : Profile) (cell : ℕ → Cell) (lefts : List Left) (text : List ℕ) (all : Ahead) (from stop : ℕ) (here : FillState) (words : List ℕ)
+    → ((i : ℕ) → is_marked words i ≡ false) → Reached profile cell lefts text all (uncounted here) []
+    → Marked profile cell lefts text all from stop here words
+Marked-none profile cell lefts text all from stop here words none r = record { given = []; reached = r; below = tt; marked = λ i h. none i }

@@ -1,0 +1,27 @@
+use Rattle.std.proofs.Common.{◌≡◌, ◌+◌, ◌-◌, ◌<◌, ◌≤◌, ◌++◌, ℕ, List, length}
+use Rattle.lbk_rules.specs.declared.cells.Cell.{Cell}
+use Rattle.lbk_rules.specs.declared.facts.Left.{Left}
+use Rattle.lbk_values.specs.declared.profile.Profile.{Profile}
+use Rattle.lbk_steps.specs.declared.flat_table.FlatStep.{FlatStep}
+use Rattle.lbk_steps.specs.FlatTable.{AreFlatKinds}
+use Rattle.lbk_steps.specs.Neighbours.{AreTold}
+use Rattle.lbk_bytes.specs.Marking.{Marked}
+use Rattle.lbk_bytes.specs.Marks.{is_marked}
+use Rattle.lbk_bytes.specs.Reached.{Ahead, AreSwift}
+use Rattle.lbk_bytes.proofs.mark_blocks.mark_blocks.Given as goal
+
+abbrev pub invariant-loop-here : goal.invariant-loop-here
+invariant-loop-here l = record {
+  row : l.here.row < 65536;
+  within : l.here.at ≤ length l.text;
+  onward : l.fn.start.at ≤ l.behind;
+  ahead : l.behind ≤ l.here.at;
+  after : (i : ℕ) → l.here.at ≤ l.from + i → is_marked l.words i ≡ is_marked l.fn.words i;
+  marked : (profile : Profile) (cell : ℕ → Cell) (lefts : List Left) (steps : List FlatStep) (kinds : List ℕ) (more : List ℕ) (all : Ahead) → AreSwift profile lefts steps
+      → AreFlatKinds kinds cell → AreTold steps kinds l.pairs
+      → Marked profile cell lefts (l.text ++ more) all l.from (length l.text) l.fn.start l.fn.words
+      → Marked profile cell lefts (l.text ++ more) all l.from (length l.text) l.here l.words;
+}
+
+abbrev pub decreases-loop-here : goal.decreases-loop-here
+decreases-loop-here l = length l.text - l.behind

@@ -1,0 +1,15 @@
+use Rattle.std.proofs.Common.{◌∙◌, arith}
+use Rattle.lbk_bytes.proofs.marking.fill_marks.Goals as goal
+
+pub loop-here-preserved : goal.loop-here-preserved
+loop-here-preserved c =
+    let l = c.loop-here in
+    let more = c.mark_further-here.ensures in
+    record {
+      row = more.within.0;
+      onward = omega (arith, more.within.1);
+      within = more.within.2;
+      no_room = λ none. absurd (omega arith);
+      after = λ i past. more.after i past ∙ l.invariant.after i (omega (arith, more.within.1));
+      marked = λ cell lefts all flat start. more.marked cell lefts all flat (l.invariant.marked cell lefts all flat start);
+    }

@@ -1,0 +1,23 @@
+use Rattle.std.proofs.Common.{◌≡◌, ◌+◌, ◌-◌, ◌<◌, ◌≤◌, ℕ, false, List, [], length}
+use Rattle.lbk_rules.specs.declared.cells.Cell.{Cell}
+use Rattle.lbk_rules.specs.declared.facts.Left.{Left}
+use Rattle.lbk_steps.specs.FlatTable.{IsFlatBy}
+use Rattle.lbk_bytes.specs.Marking.{Marked, uncounted}
+use Rattle.lbk_bytes.specs.Marks.{is_marked}
+use Rattle.lbk_bytes.specs.Reached.{Ahead, Reached}
+use Rattle.lbk_bytes.proofs.marking.fill_marks.Given as goal
+
+abbrev pub invariant-loop-here : goal.invariant-loop-here
+invariant-loop-here l = record {
+  row : l.here.row < 65536;
+  onward : l.fn.start.at ≤ l.here.at;
+  within : l.here.at ≤ length l.text;
+  no_room : length l.words ≡ 0 → l.here ≡ l.fn.start;
+  after : (i : ℕ) → l.here.at ≤ l.fn.start.at + i → is_marked l.words i ≡ false;
+  marked : (cell : ℕ → Cell) (lefts : List Left) (all : Ahead) → IsFlatBy lefts l.fn.table cell
+      → Reached l.fn.profile cell lefts l.text all (uncounted l.fn.start) []
+      → Marked l.fn.profile cell lefts l.text all l.fn.start.at l.stop l.here l.words;
+}
+
+abbrev pub decreases-loop-here : goal.decreases-loop-here
+decreases-loop-here l = length l.text - l.here.at

@@ -1,0 +1,65 @@
+//! Bits in words of 64, one for each byte of a text from a place on.
+
+ghost use Rattle.std.specs.Prelude.{◌≡◌, ℕ, ◌+◌, ◌-◌, ◌*◌, ◌/◌, ◌%◌, ◌<◌, ◌≤◌, ◌==◌, ◌&&◌, ◌||◌, false, length, map, nat_le, slice_index_or};
+ghost use Rattle.lbk_masks.specs.Sets.{is_set};
+ghost use Rattle.lbk_bytes.specs.Marks.{is_marked, stands_among};
+ghost use Rattle.lbk_bytes.specs.Order.{no_break};
+ghost use Rattle.lbk_bytes.specs.Shown.{shown};
+
+use crate::raw_break::RawBreak;
+
+/// How many bits a word has.
+pub(crate) const BITS: usize = 64;
+
+/// Clears all bits of some words.
+pub fn clear(words: &mut [u64])
+    ensures { (i : ℕ) → is_marked words.new i ≡ false }
+{
+    for word in words.iter_mut() {
+        *word = 0;
+    }
+}
+
+/// Sets a bit of some words, if it is to be set.
+#[inline(always)]
+pub(crate) fn mark(words: &mut [u64], index: usize, is_set: bool)
+    requires { index < 64 * length words.old }
+    ensures { (i : ℕ) → is_marked words.new i ≡ (is_marked words.old i || (is_set && (index == i))) }
+{
+    words[index / BITS] |= u64::from(is_set) << (index % BITS);
+}
+
+/// Sets 64 bits of some words that are set in a number, the first of them at an index.
+#[inline(always)]
+pub(crate) fn mark_bits(words: &mut [u64], index: usize, bits: u64)
+    requires { index + 64 ≤ 64 * length words.old }
+    ensures { (i : ℕ) → is_marked words.new i ≡ (is_marked words.old i || (nat_le index i && is_set bits (i - index))) }
+{
+    let word = index / BITS;
+    let shift = index % BITS;
+    join(words, word, bits << shift);
+    if shift != 0 {
+        join(words, word + 1, bits >> (BITS - shift));
+    }
+}
+
+/// Sets the bits of one word that are set in a number.
+#[inline(always)]
+fn join(words: &mut [u64], word: usize, bits: u64)
+    requires { word < length words.old }
+    ensures { (i : ℕ) → is_marked words.new i ≡ (is_marked words.old i || ((i / 64 == word) && is_set bits (i % 64))) }
+{
+    words[word] |= bits;
+}
+
+/// Sets the bit of each break, counted from a byte on.
+#[inline(always)]
+pub(crate) fn mark_breaks(breaks: &[RawBreak], from: usize, words: &mut [u64])
+    requires { (k : ℕ) → k < length breaks.now
+        → (from ≤ (slice_index_or breaks.now k no_break).at) × ((slice_index_or breaks.now k no_break).at < from + 64 * length words.old) }
+    ensures { (i : ℕ) → is_marked words.new i ≡ (is_marked words.old i || stands_among (from + i) (map shown breaks.now)) }
+{
+    for found in breaks {
+        mark(words, found.at - from, true);
+    }
+}

@@ -1,0 +1,126 @@
+-- The bits of the breaks to come.
+use Rattle.std.proofs.Common.{◌≡◌, ℕ, zero, suc, ◌+◌, ◌*◌, ◌<◌, ◌≤◌, ◌||◌, Bool, None, List, [], inl, inr, ◌++◌, length, drop, sym, ap, subst, ◌∙◌, arith}
+use Rattle.std.proofs.Math.Seq.{drop-length}
+use Rattle.bstr.specs.Utf8.{pieces}
+use Rattle.bstr.proofs.lemmas.PieceLemmas.{pieces-nil}
+use Rattle.lbk_rules.specs.declared.breaks.Break.{Break}
+use Rattle.lbk_rules.specs.declared.cells.Cell.{Cell}
+use Rattle.lbk_rules.specs.declared.facts.Left.{Left}
+use Rattle.lbk_values.specs.declared.profile.Profile.{Profile}
+use Rattle.lbk_steps.specs.declared.flat_table.FlatTable.{FlatTable}
+use Rattle.lbk_steps.specs.FlatTable.{IsFlatBy, KnowsTaken}
+use Rattle.lbk_bytes.specs.declared.fill_state.FillState.{FillState}
+use Rattle.lbk_bytes.specs.Bytes.{end_in}
+use Rattle.lbk_bytes.specs.Marking.{Marked}
+use Rattle.lbk_bytes.specs.Marks.{from_on, is_marked, stands_among}
+use Rattle.lbk_bytes.specs.Reached.{Onward, ReachedBy, onward_to}
+use Rattle.lbk_bytes.proofs.MarkLemmas.{among-append, below-wider, or-false}
+use Rattle.lbk_bytes.proofs.MarkPlaceLemmas.{end-below, from-none, from-wider, left-behind, left-from, left-past, onward-from}
+use Rattle.lbk_c.specs.declared.interface.State.{State}
+use Rattle.lbk_c.specs.Coming.{ComesBy, IsGoing, IsSpent, MarksBy, from_state}
+use Rattle.lbk_c.specs.State.{plain, plain_number, profile_numbered}
+use Rattle.lbk_c.proofs.ComingLemmas.{same-profile}
+
+-- the words are told before the text's end
+pub Marks-full : (goes_on : Bool) (profile : Profile) (cell : ℕ → Cell) (lefts : List Left) (text : List ℕ) (to_come : List Break) (place stop : ℕ) (here : FillState) (state : State) (words : List ℕ)
+    → Marked profile cell lefts text (record { breaks = to_come; end = end_in goes_on }) place stop here words
+    → stop ≤ place + 64 * length words → place + 64 * length words ≤ here.at → here.at ≤ length text
+    → state.at ≡ here.at → state.row ≡ here.row → state.ended ≡ 0
+    → MarksBy (onward_to (end_in goes_on)) profile cell lefts text to_come place state words
+Marks-full goes_on profile cell lefts text to_come place stop here state words m few past within at_same row_same unended =
+    let end = end_in goes_on in
+    let r = m.reached in
+    let room = place + 64 * length words in
+    let rest = onward_to end profile cell r.taken here.at (pieces (drop here.at text)) in
+    let from = onward-from goes_on profile cell r.taken here.at (pieces (drop here.at text)) in
+    record {
+      bits = λ i h.
+          m.marked i h
+          ∙ sym (or-false (stands_among (place + i) m.given) (stands_among (place + i) rest) (from-none here.at (place + i) rest from (omega arith)))
+          ∙ sym (among-append (place + i) m.given rest)
+          ∙ ap (stands_among (place + i)) (sym r.joined);
+      onto = record {
+        within = omega arith;
+        goes_on = λ _. record {
+          taken = r.taken;
+          knows = subst (λ n. KnowsTaken cell lefts n r.taken) (sym row_same) r.knows;
+          some = λ more. r.some (omega arith);
+          joined =
+              ap (from_on room) r.joined
+              ∙ left-behind room m.given rest (below-wider stop room m.given few m.below)
+              ∙ left-from room rest (from-wider room here.at rest past from)
+              ∙ ap (λ n. onward_to end profile cell r.taken n (pieces (drop n text))) (sym at_same);
+        };
+        none_come = λ ended. absurd (omega arith);
+      };
+    }
+
+-- they are told up to the end, and it too
+pub Marks-ended : (goes_on : Bool) (profile : Profile) (cell : ℕ → Cell) (lefts : List Left) (text : List ℕ) (to_come : List Break) (place stop : ℕ) (here : FillState) (state : State) (old new : List ℕ)
+    → Marked profile cell lefts text (record { breaks = to_come; end = end_in goes_on }) place stop here old
+    → length new ≡ length old → stop ≤ place + 64 * length new → here.at ≡ length text → length text < place + 64 * length new
+    → ((taken : List ℕ) → KnowsTaken cell lefts here.row taken → (0 < here.row → 0 < length taken)
+    → (i : ℕ) → is_marked new i ≡ (is_marked old i || stands_among (place + i) (end_in goes_on profile cell taken (length text))))
+    → state.at ≡ here.at → state.ended ≡ 1
+    → MarksBy (onward_to (end_in goes_on)) profile cell lefts text to_come place state new
+Marks-ended goes_on profile cell lefts text to_come place stop here state old new m same few ends inside put at_same ended =
+    let end = end_in goes_on in
+    let r = m.reached in
+    let room = place + 64 * length new in
+    let last = end profile cell r.taken (length text) in
+    let none_left : pieces (drop here.at text) ≡ [] = ap (λ n. pieces (drop n text)) ends ∙ ap pieces (drop-length text) ∙ pieces-nil in
+    let all : to_come ≡ m.given ++ last =
+    r.joined ∙ ap (λ ps. m.given ++ onward_to end profile cell r.taken here.at ps) none_left ∙ ap (λ n. m.given ++ end profile cell r.taken n) ends in
+    record {
+      bits = λ i h.
+          put r.taken r.knows r.some i
+          ∙ ap (λ b. b || stands_among (place + i) last) (m.marked i (omega arith))
+          ∙ sym (among-append (place + i) m.given last)
+          ∙ ap (stands_among (place + i)) (sym all);
+      onto = record {
+        within = omega arith;
+        goes_on = λ unended. absurd (omega arith);
+        none_come = λ _.
+            ap (from_on room) all
+            ∙ left-behind room m.given last (below-wider stop room m.given few m.below)
+            ∙ left-past room last (end-below goes_on profile cell r.taken (length text) room inside);
+      };
+    }
+
+-- what a call tells of the breaks to come
+pub Comes-marks : (from : Onward) (profile : Profile) (cell : ℕ → Cell) (table : FlatTable) (text : List ℕ) (place : ℕ) (old new : State) (to_come : List Break) (words : List ℕ)
+    → ((cell : ℕ → Cell) (lefts : List Left) (to_come : List Break) → IsFlatBy lefts table cell
+    → ReachedBy from profile cell lefts text to_come (from_state old) []
+    → MarksBy from profile cell lefts text to_come place new words)
+    → IsGoing profile old (length text) → (c : ComesBy from cell table text old to_come)
+    → MarksBy from profile cell c.lefts text to_come place new words
+Comes-marks from profile cell table text place old new to_come words marks going c =
+    let same = same-profile c.profile profile old c.named going.named in
+    marks cell c.lefts to_come c.flat
+    (subst (λ p. ReachedBy from p cell c.lefts text to_come (from_state old) []) same (c.onto.goes_on going.unended))
+
+-- and the others come from the next state on
+pub Comes-behind : (from : Onward) (profile : Profile) (cell : ℕ → Cell) (table : FlatTable) (text : List ℕ) (place : ℕ) (old new : State) (to_come : List Break) (words : List ℕ)
+    → IsGoing profile old (length text) → new.profile ≡ old.profile → (c : ComesBy from cell table text old to_come)
+    → MarksBy from profile cell c.lefts text to_come place new words
+    → ComesBy from cell table text new (from_on (place + 64 * length words) to_come)
+Comes-behind from profile cell table text place old new to_come words going kept c marks = record {
+  profile = profile;
+  named = ap profile_numbered kept ∙ going.named;
+  lefts = c.lefts;
+  flat = c.flat;
+  onto = marks.onto;
+}
+
+-- each number up to 3 names a profile
+named-few : (n : ℕ) → n ≤ 3 → profile_numbered (plain_number n) ≡ None → ⊥
+named-few zero few none = (let no : ⊥ = cc in no)
+named-few (suc zero) few none = (let no : ⊥ = cc in no)
+named-few (suc (suc zero)) few none = (let no : ⊥ = cc in no)
+named-few (suc (suc (suc zero))) few none = (let no : ⊥ = cc in no)
+named-few (suc (suc (suc (suc n)))) few none = absurd (omega (arith, few))
+
+pub never-spent : (state : State) (len : ℕ) → IsSpent (plain state) len → state.profile ≤ 3 → state.ended ≡ 0 → state.at ≤ len → ⊥
+never-spent state len (inl unnamed) few unended within = named-few state.profile few unnamed
+never-spent state len (inr (inl ended)) few unended within = omega arith
+never-spent state len (inr (inr past)) few unended within = omega arith

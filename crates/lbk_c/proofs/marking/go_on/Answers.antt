@@ -1,0 +1,42 @@
+use Rattle.std.proofs.Common.{◌+◌, ◌-◌, ◌*◌, ◌≡◌, ◌≤◌, ◌||◌, ℕ, length, min, refl, ap, ◌∙◌, arith}
+use Rattle.lbk_bytes.specs.Bytes.{end_in}
+use Rattle.lbk_bytes.specs.Marks.{is_marked, stands_among}
+use Rattle.lbk_c.specs.State.{goes_on, plain}
+use Rattle.lbk_c.specs.declared.interface.State.{State}
+use Rattle.lbk_c.proofs.MarkLemmas.{Marks-ended, Marks-full}
+use Rattle.lbk_c.proofs.marking.go_on.Goals as goal
+
+pub returns-then-words-left-clause-marks : goal.returns-then-words-left-clause-marks
+returns-then-words-left-clause-marks c = λ cell lefts to_come flat start.
+    let fill = c.fill_marks-here in
+    let here = fill.result in
+    let old = c.args.state.now in
+    let text = c.args.text.now in
+    let words = c.args.words.now in
+    let end = end_in (goes_on old.profile) in
+    let state : State = record { at = here.at; row = here.row; profile = old.profile; ended = old.ended } in
+    let stop = min (length text) (old.at + 64 * length words) in
+    Marks-full (goes_on old.profile) c.args.profile cell lefts text to_come old.at stop here (plain state) fill.new.words
+    (fill.ensures.marked cell lefts (record { breaks = to_come; end = end }) flat start)
+    (omega arith) (omega (arith, fill.ensures.stops)) fill.ensures.within.2 refl refl c.requires.unended
+
+pub returns-clause-marks : goal.returns-clause-marks
+returns-clause-marks c = λ cell lefts to_come flat start.
+    let fill = c.fill_marks-here in
+    let here = fill.result in
+    let old = c.args.state.now in
+    let text = c.args.text.now in
+    let words = c.args.words.now in
+    let put = c.mark_end in
+    let end = end_in (goes_on old.profile) in
+    let state : State = record { at = here.at; row = here.row; profile = old.profile; ended = 1 } in
+    let stop = min (length text) (old.at + 64 * length words) in
+    let ends : here.at ≡ length text = omega (arith, fill.ensures.stops, fill.ensures.within.2) in
+    Marks-ended (goes_on old.profile) c.args.profile cell lefts text to_come old.at stop here (plain state) fill.new.words put.new.words
+    (fill.ensures.marked cell lefts (record { breaks = to_come; end = end }) flat start)
+    (omega arith) (omega arith) ends (omega arith)
+    (λ taken knows some i.
+    put.ensures.marked c.args.profile cell lefts taken old.at flat knows some i
+    ∙ ap (λ g. is_marked fill.new.words i || stands_among (old.at + i) (end_in g c.args.profile cell taken (old.at + (length text - old.at)))) c.goes_on.ensures
+    ∙ ap (λ n. is_marked fill.new.words i || stands_among (old.at + i) (end_in (goes_on old.profile) c.args.profile cell taken n)) (let e : old.at + (length text - old.at) ≡ length text = omega arith in e))
+    refl refl

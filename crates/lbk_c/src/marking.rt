@@ -1,0 +1,104 @@
+//! The breaks of a text as bits, one for each byte.
+
+ghost use Rattle.std.specs.Prelude.{◌≡◌, ℕ, Bool, false, suc, ◌+◌, ◌-◌, ◌*◌, ◌<◌, ◌≤◌, ◌⊎◌, [], List, drop, length, map, min};
+ghost use Rattle.lbk_rules.specs.declared.breaks.Break.{Break};
+ghost use Rattle.lbk_rules.specs.declared.cells.Cell.{Cell};
+ghost use Rattle.lbk_rules.specs.declared.facts.Left.{Left};
+ghost use Rattle.lbk_values.specs.declared.profile.Profile.{Profile};
+ghost use Rattle.lbk_rules.specs.Joins.{moved};
+ghost use Rattle.lbk_steps.specs.FlatTable.{IsFlatBy, IsFlatOf};
+ghost use Rattle.lbk_bytes.specs.Bytes.{breaks_of_bytes, breaks_of_part};
+ghost use Rattle.lbk_bytes.specs.Marks.{from_on, is_marked, stands_among};
+ghost use Rattle.lbk_bytes.specs.Reached.{ReachedBy};
+ghost use Rattle.lbk_c.specs.Coming.{Comes, IsGoing, MarksBy, from_state, onward_in};
+ghost use Rattle.lbk_c.specs.State.{part_start, plain, start_in};
+
+use crate::breaking::{going_profile, plain};
+use crate::interface::State;
+use lbk_bytes::{FillState, clear, fill_marks, goes_on, mark_end};
+use lbk_rules::Profile;
+use lbk_steps::FlatTable;
+
+/// How many bits a word has.
+const BITS: usize = 64;
+
+/// Sets a bit for each of the next places of a text, from the state's on, at which `lbk_breaks` gives a break: the lowest bit of
+/// the first word for the state's place, and all other bits are cleared. Returns of how many places the words tell, the text's end
+/// being one: of as many as they have bits, or of all that are left. The state goes on behind those, at the next scalar.
+///
+/// Where there are no words, or the state is past the text or at its end, or names no profile, the state stays and all bits are
+/// cleared. Whatever the table and the state hold, no bit is set of a place that is not told of.
+#[unsafe(no_mangle)]
+pub extern "C" fn lbk_marks(
+    table: &FlatTable,
+    state: &mut State,
+    text: &[u8],
+    words: &mut [u64],
+) -> usize
+    ensures told { state.old.profile ≤ 3 → state.old.ended ≡ 0 → state.old.at ≤ length text.now
+        → result ≡ min (64 * length words.old) (suc (length text.now) - state.old.at) }
+    ensures after { (i : ℕ) → result ≤ i → is_marked words.new i ≡ false }
+    ensures profile_same { state.new.profile ≡ state.old.profile }
+    ensures forward { 0 < result → (state.old.at < state.new.at) ⊎ (0 < state.new.ended) }
+    ensures onward { state.old.at ≤ state.new.at }
+    ensures inside { state.old.at ≤ length text.now → state.new.at ≤ length text.now }
+    ensures at_end { state.old.ended ≡ 0 → 0 < state.new.ended → state.new.at ≡ length text.now }
+    ensures start { (cell : ℕ → Cell) (profile : Profile) → IsFlatOf table.now cell → state.old ≡ start_in profile
+        → Comes cell table.now text.now state.old (breaks_of_bytes profile cell text.now) }
+    ensures part { (cell : ℕ → Cell) (profile : Profile) (goes_on : Bool) (at : ℕ) → IsFlatOf table.now cell → at ≤ length text.now
+        → state.old ≡ part_start goes_on profile at
+        → Comes cell table.now text.now state.old (map (moved at) (breaks_of_part goes_on profile cell (drop at text.now))) }
+    // The bits that are set are the places of the breaks to come, which are those that lbk_breaks gives from this state.
+    ensures bits { (cell : ℕ → Cell) (to_come : List Break) → Comes cell table.now text.now state.old to_come
+        → (i : ℕ) → i < 64 * length words.old → is_marked words.new i ≡ stands_among (state.old.at + i) to_come }
+    ensures rest { (cell : ℕ → Cell) (to_come : List Break) → Comes cell table.now text.now state.old to_come
+        → Comes cell table.now text.now state.new (from_on (state.old.at + 64 * length words.old) to_come) }
+    ensures ended { 0 < state.old.ended → (result ≡ 0) × (state.new ≡ state.old) }
+    ensures past { length text.now < state.old.at → (result ≡ 0) × (state.new ≡ state.old) }
+    ensures unknown { 3 < state.old.profile → (result ≡ 0) × (state.new ≡ state.old) }
+    ensures no_room { length words.old ≡ 0 → (result ≡ 0) × (state.new ≡ state.old) }
+{
+    let Some(profile) = going_profile(&plain(state), text.len()) else {
+        clear(words);
+        return 0;
+    };
+    go_on(table, profile, state, text, words)
+}
+
+/// Sets the bits from a state from which breaks may come, and returns of how many places they tell.
+fn go_on(
+    table: &FlatTable,
+    profile: Profile,
+    state: &mut State,
+    text: &[u8],
+    words: &mut [u64],
+) -> usize
+    requires { IsGoing profile (plain state.old) (length text.now) }
+    ensures told { result ≡ min (64 * length words.old) (suc (length text.now) - state.old.at) }
+    ensures after { (i : ℕ) → result ≤ i → is_marked words.new i ≡ false }
+    ensures profile_same { state.new.profile ≡ state.old.profile }
+    ensures forward { 0 < result → (state.old.at < state.new.at) ⊎ (0 < state.new.ended) }
+    ensures onward { (state.old.at ≤ state.new.at) × (state.new.at ≤ length text.now) }
+    ensures at_end { 0 < state.new.ended → state.new.at ≡ length text.now }
+    ensures marks { (cell : ℕ → Cell) (lefts : List Left) (to_come : List Break) → IsFlatBy lefts table.now cell
+        → ReachedBy (onward_in state.old.profile) profile cell lefts text.now to_come (from_state (plain state.old)) []
+        → MarksBy (onward_in state.old.profile) profile cell lefts text.now to_come state.old.at (plain state.new) words.new }
+    ensures no_room { length words.old ≡ 0 → state.new ≡ state.old }
+{
+    let from = state.at;
+    let start = FillState {
+        count: 0,
+        row: state.row as usize,
+        at: from,
+    };
+    let here = fill_marks(table, profile, start, text, words);
+    state.row = here.row as u16;
+    state.at = here.at;
+    let left = text.len() - from;
+    if words.len() <= left / BITS {
+        return BITS * words.len();
+    }
+    state.ended = 1;
+    mark_end(table, goes_on(state.profile), here.row, words, left);
+    left + 1
+}
