@@ -1,6 +1,6 @@
 -- The breaks of a block of bytes, all at once.
-use Rattle.std.proofs.Common.{◌≡◌, ◌⊎◌, ℕ, zero, suc, ◌+◌, ◌-◌, ◌^◌, ◌==◌, ◌<◌, ◌≤◌, ◌&&◌, ◌||◌, Bool, true, false, cond, not, leb, List, [], ◌∷◌, ◌++◌, length, map, take, append-nil, refl, sym, ap, ap₂, subst, ◌∙◌, ⊎_elim, arith}
-use Rattle.std.proofs.lemmas.Bool.{and_left, cases_eq, cases_lt, eq-eqb, le-leb, lt-leb}
+use Rattle.std.proofs.Common.{◌≡◌, ◌⊎◌, ℕ, zero, suc, ◌+◌, ◌-◌, ◌^◌, ◌<◌, ◌≤◌, ◌&&◌, ◌||◌, true, false, cond, not, leb, List, [], ◌∷◌, ◌++◌, length, map, append-nil, refl, sym, ap, ap₂, subst, ◌∙◌, ⊎_elim, arith}
+use Rattle.std.proofs.lemmas.Bool.{and_left, cases_lt, eq-eqb, le-leb, lt-leb}
 use Rattle.std.proofs.lemmas.List.{length-map, take_all}
 use Rattle.lbk_masks.specs.Sets.{is_set}
 use Rattle.lbk_rules.specs.declared.breaks.Break.{Break}
@@ -14,7 +14,6 @@ use Rattle.lbk_rules.specs.Breaks.{break_by, is_no}
 use Rattle.lbk_rules.specs.Codes.{verdict_coded}
 use Rattle.lbk_steps.specs.Neighbours.{step_behind}
 use Rattle.lbk_bytes.specs.declared.fill_state.FillState.{FillState}
-use Rattle.lbk_bytes.specs.declared.raw_break.RawBreak.{RawBreak}
 use Rattle.lbk_bytes.specs.Blocks.{AreKeptBelow, IsBlock, byte_at, place_at, row_before, stands_at}
 use Rattle.lbk_bytes.specs.Bytes.{with_break}
 use Rattle.lbk_bytes.specs.Marking.{AreBelow, AreFrom}

@@ -23,7 +23,7 @@ use lbk_rules::{Profile, is_break};
 use lbk_steps::FlatTable;
 
 /// How many breaks are looked at together.
-const ROOM: usize = 64;
+const ROOM: usize = 16;
 
 /// A break that stands nowhere.
 const NO_BREAK: RawBreak = RawBreak {

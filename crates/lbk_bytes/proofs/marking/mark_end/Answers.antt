@@ -1,4 +1,4 @@
-use Rattle.std.proofs.Common.{◌+◌, ◌-◌, ◌==◌, ◌&&◌, ◌||◌, ◌≡◌, [], sym, ap, ◌∙◌, arith}
+use Rattle.std.proofs.Common.{◌+◌, ◌-◌, ◌==◌, ◌&&◌, ◌||◌, ◌≡◌, ap, ◌∙◌, arith}
 use Rattle.std.proofs.lemmas.Bool.{and_right, ne_eqb}
 use Rattle.lbk_rules.specs.Codes.{verdict_coded}
 use Rattle.lbk_bytes.specs.Marks.{is_marked, stands_among}

@@ -1,11 +1,11 @@
-use Rattle.std.proofs.Common.{◌+◌, ◌-◌, ◌==◌, ◌&&◌, ◌||◌, ◌≡◌, false, [], drop, refl, ap, ◌∙◌, arith}
+use Rattle.std.proofs.Common.{◌-◌, ◌==◌, ◌&&◌, ◌||◌, ◌≡◌, [], drop, refl, ap, ◌∙◌, arith}
 use Rattle.std.proofs.lemmas.Bool.{and_right, ne_eqb}
 use Rattle.bstr.specs.Utf8.{decoded}
 use Rattle.lbk_rules.specs.Codes.{verdict_coded}
 use Rattle.lbk_bytes.specs.declared.fill_state.FillState.{FillState}
 use Rattle.lbk_bytes.specs.Bytes.{with_break}
 use Rattle.lbk_bytes.specs.Marking.{uncounted}
-use Rattle.lbk_bytes.specs.Marks.{is_marked, stands_among}
+use Rattle.lbk_bytes.specs.Marks.{is_marked}
 use Rattle.lbk_bytes.proofs.MarkLemmas.{Marked-more, break-among, break-below, or-false}
 use Rattle.lbk_bytes.proofs.ReachedLemmas.{Reached-step}
 use Rattle.lbk_bytes.proofs.marking.mark_one.Goals as goal
