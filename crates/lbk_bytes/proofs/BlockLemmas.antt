@@ -228,24 +228,3 @@ stopped-there profile cell lefts text more all steps kinds pairs out at taken he
     reached-there profile cell lefts text more all pairs out here.count (at + (there.at - at)) there is_count is_row (omega arith)
     (next-break profile cell lefts text more all steps kinds pairs out at taken (there.at - at) here room block known.0 (omega arith) some found.0 known.1))
     (zero-or here.left)
-
--- a break is written, if one is left
-pub taken-or-kept : (profile : Profile) (cell : ℕ → Cell) (lefts : List Left) (text more : List ℕ) (all : Ahead) (steps : List FlatStep) (kinds : List ℕ) (pairs : Neighbours)
-    (out after : List RawBreak) (at taken index written : ℕ) (here there : BlockState) (step : FlatStep)
-    → at + 64 ≤ length text → IsBlock profile cell lefts steps kinds pairs text at taken → AreLeft pairs text at taken here → index < 64
-    → IsLowest here.left index → (0 < here.left → AreCleared here.left index there.left) → (0 < here.left → there.past ≡ at + index + 1)
-    → (0 < here.left → there.count ≡ written) → (here.left ≡ 0 → there ≡ here)
-    → step ≡ step_behind steps kinds pairs (byte_at text (at + index - 1)) (byte_at text (at + index))
-    → (IsCode step.code → given_in after written ≡ given_in out here.count ++ with_break (at + index) (verdict_coded step.code) [])
-    → given_in after here.count ≡ given_in out here.count
-    → Reached profile cell lefts (text ++ more) all (place_in pairs text here) (given_in out here.count)
-    → AreLeft pairs text at taken there × Reached profile cell lefts (text ++ more) all (place_in pairs text there) (given_in after there.count)
-taken-or-kept profile cell lefts text more all steps kinds pairs out after at taken index written here there step room block left few lowest cleared moved counted same is_step front kept r =
-    ⊎_elim
-    (λ (none : here.left ≡ 0).
-    subst (λ (h : BlockState). AreLeft pairs text at taken h × Reached profile cell lefts (text ++ more) all (place_in pairs text h) (given_in after h.count)) (sym (same none))
-    (left, subst (λ g. Reached profile cell lefts (text ++ more) all (place_in pairs text here) g) (sym kept) r))
-    (λ (some : 0 < here.left).
-    break-taken profile cell lefts text more all steps kinds pairs out after at taken index here there step room block left few some lowest (cleared some) (moved some) is_step
-    (λ coded. ap (given_in after) (counted some) ∙ front coded) r)
-    (zero-or here.left)

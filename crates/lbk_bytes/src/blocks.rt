@@ -1,6 +1,6 @@
 //! Blocks of 64 bytes whose breaks the sets of their bytes tell, so that no step waits for the one before it.
 
-ghost use Rattle.std.specs.Prelude.{◌≡◌, ℕ, ◌+◌, ◌-◌, ◌^◌, ◌<◌, ◌≤◌, ◌++◌, List, length, IfSome};
+ghost use Rattle.std.specs.Prelude.{◌≡◌, ℕ, ◌+◌, ◌-◌, ◌<◌, ◌≤◌, ◌++◌, List, length, IfSome};
 ghost use Rattle.lbk_rules.specs.declared.cells.Cell.{Cell};
 ghost use Rattle.lbk_rules.specs.declared.facts.Left.{Left};
 ghost use Rattle.lbk_values.specs.declared.profile.Profile.{Profile};
@@ -20,9 +20,6 @@ use std::simd::prelude::*;
 
 /// How many bytes are looked at together.
 pub(crate) const BLOCK: usize = 64;
-
-/// How many breaks are written without a test between them.
-const GROUP: usize = 8;
 
 /// How far a block of bytes was taken.
 #[derive(Clone, Copy)]
@@ -171,7 +168,7 @@ fn finish(
 {
     let mut here = start;
     while here.left != 0 && here.count < out.len() {
-        here = some_breaks(pairs, kinds, steps, at, here, text, out);
+        here = take_break(pairs, kinds, steps, at, here, text, out);
     }
     stopped(pairs, at, taken, here, text)
 }
@@ -207,121 +204,7 @@ fn behind_byte(pairs: &Neighbours, count: usize, at: usize, text: &[u8]) -> Fill
     }
 }
 
-/// Writes one break or more, as many at once as there is room for.
-#[inline(always)]
-fn some_breaks(
-    pairs: &Neighbours,
-    kinds: &[u8; CODES],
-    steps: &[FlatStep; STEPS],
-    at: usize,
-    here: BlockState,
-    text: &[u8],
-    out: &mut [RawBreak],
-) -> BlockState
-    requires { (here.count < length out.old) × (0 < at) × (at + 64 ≤ length text.now) × (at ≤ here.past) × (here.past ≤ at + 64) }
-    ensures ahead { (taken : ℕ) → IsAhead at taken here → IsAhead at taken result }
-    ensures in_order { (taken from : ℕ) → IsAhead at taken here → IsInOrder out.old here.count from here.past → IsInOrder out.new result.count from result.past }
-    ensures within { (result.count ≤ length out.old) × (at ≤ result.past) × (result.past ≤ at + 64) }
-    ensures onward { (here.count ≤ result.count) × (result.left ≤ here.left) × (0 < here.left → result.left < here.left) }
-    ensures reached { (profile : Profile) (cell : ℕ → Cell) (lefts : List Left) (more : List ℕ) (all : Ahead) (taken : ℕ)
-        → IsBlock profile cell lefts steps.now kinds.now pairs.now text.now at taken
-        → AreLeft pairs.now text.now at taken here
-        → Reached profile cell lefts (text.now ++ more) all (place_in pairs.now text.now here) (given_in out.old here.count)
-        → AreLeft pairs.now text.now at taken result
-        × Reached profile cell lefts (text.now ++ more) all (place_in pairs.now text.now result) (given_in out.new result.count) }
-{
-    if here.count + GROUP <= out.len() {
-        return eight_breaks(pairs, kinds, steps, at, here, text, out);
-    }
-    take_break(pairs, kinds, steps, at, here, text, out)
-}
-
-/// Writes the next eight breaks, or as many as are left.
-#[inline(always)]
-fn eight_breaks(
-    pairs: &Neighbours,
-    kinds: &[u8; CODES],
-    steps: &[FlatStep; STEPS],
-    at: usize,
-    here: BlockState,
-    text: &[u8],
-    out: &mut [RawBreak],
-) -> BlockState
-    requires { (here.count + 8 ≤ length out.old) × (0 < at) × (at + 64 ≤ length text.now) × (at ≤ here.past) × (here.past ≤ at + 64) }
-    ensures ahead { (taken : ℕ) → IsAhead at taken here → IsAhead at taken result }
-    ensures in_order { (taken from : ℕ) → IsAhead at taken here → IsInOrder out.old here.count from here.past → IsInOrder out.new result.count from result.past }
-    ensures within { (result.count ≤ length out.old) × (at ≤ result.past) × (result.past ≤ at + 64) }
-    ensures onward { (here.count ≤ result.count) × (result.left ≤ here.left) × (0 < here.left → result.left < here.left) }
-    ensures few { result.count ≤ here.count + 8 }
-    ensures reached { (profile : Profile) (cell : ℕ → Cell) (lefts : List Left) (more : List ℕ) (all : Ahead) (taken : ℕ)
-        → IsBlock profile cell lefts steps.now kinds.now pairs.now text.now at taken
-        → AreLeft pairs.now text.now at taken here
-        → Reached profile cell lefts (text.now ++ more) all (place_in pairs.now text.now here) (given_in out.old here.count)
-        → AreLeft pairs.now text.now at taken result
-        × Reached profile cell lefts (text.now ++ more) all (place_in pairs.now text.now result) (given_in out.new result.count) }
-{
-    let there = four_breaks(pairs, kinds, steps, at, here, text, out);
-    four_breaks(pairs, kinds, steps, at, there, text, out)
-}
-
-/// Writes the next four breaks, or as many as are left.
-#[inline(always)]
-fn four_breaks(
-    pairs: &Neighbours,
-    kinds: &[u8; CODES],
-    steps: &[FlatStep; STEPS],
-    at: usize,
-    here: BlockState,
-    text: &[u8],
-    out: &mut [RawBreak],
-) -> BlockState
-    requires { (here.count + 4 ≤ length out.old) × (0 < at) × (at + 64 ≤ length text.now) × (at ≤ here.past) × (here.past ≤ at + 64) }
-    ensures ahead { (taken : ℕ) → IsAhead at taken here → IsAhead at taken result }
-    ensures in_order { (taken from : ℕ) → IsAhead at taken here → IsInOrder out.old here.count from here.past → IsInOrder out.new result.count from result.past }
-    ensures within { (result.count ≤ length out.old) × (at ≤ result.past) × (result.past ≤ at + 64) }
-    ensures onward { (here.count ≤ result.count) × (result.left ≤ here.left) × (0 < here.left → result.left < here.left) }
-    ensures few { result.count ≤ here.count + 4 }
-    ensures reached { (profile : Profile) (cell : ℕ → Cell) (lefts : List Left) (more : List ℕ) (all : Ahead) (taken : ℕ)
-        → IsBlock profile cell lefts steps.now kinds.now pairs.now text.now at taken
-        → AreLeft pairs.now text.now at taken here
-        → Reached profile cell lefts (text.now ++ more) all (place_in pairs.now text.now here) (given_in out.old here.count)
-        → AreLeft pairs.now text.now at taken result
-        × Reached profile cell lefts (text.now ++ more) all (place_in pairs.now text.now result) (given_in out.new result.count) }
-{
-    let there = two_breaks(pairs, kinds, steps, at, here, text, out);
-    two_breaks(pairs, kinds, steps, at, there, text, out)
-}
-
-/// Writes the next two breaks, or as many as are left.
-#[inline(always)]
-fn two_breaks(
-    pairs: &Neighbours,
-    kinds: &[u8; CODES],
-    steps: &[FlatStep; STEPS],
-    at: usize,
-    here: BlockState,
-    text: &[u8],
-    out: &mut [RawBreak],
-) -> BlockState
-    requires { (here.count + 2 ≤ length out.old) × (0 < at) × (at + 64 ≤ length text.now) × (at ≤ here.past) × (here.past ≤ at + 64) }
-    ensures ahead { (taken : ℕ) → IsAhead at taken here → IsAhead at taken result }
-    ensures in_order { (taken from : ℕ) → IsAhead at taken here → IsInOrder out.old here.count from here.past → IsInOrder out.new result.count from result.past }
-    ensures within { (result.count ≤ length out.old) × (at ≤ result.past) × (result.past ≤ at + 64) }
-    ensures onward { (here.count ≤ result.count) × (result.left ≤ here.left) × (0 < here.left → result.left < here.left) }
-    ensures few { result.count ≤ here.count + 2 }
-    ensures reached { (profile : Profile) (cell : ℕ → Cell) (lefts : List Left) (more : List ℕ) (all : Ahead) (taken : ℕ)
-        → IsBlock profile cell lefts steps.now kinds.now pairs.now text.now at taken
-        → AreLeft pairs.now text.now at taken here
-        → Reached profile cell lefts (text.now ++ more) all (place_in pairs.now text.now here) (given_in out.old here.count)
-        → AreLeft pairs.now text.now at taken result
-        × Reached profile cell lefts (text.now ++ more) all (place_in pairs.now text.now result) (given_in out.new result.count) }
-{
-    let there = take_break(pairs, kinds, steps, at, here, text, out);
-    take_break(pairs, kinds, steps, at, there, text, out)
-}
-
-/// Writes the next break, if one is left. Where none is, the place after the breaks is written, which does not matter: so
-/// it takes no test.
+/// Writes the next break that is left.
 #[inline(always)]
 fn take_break(
     pairs: &Neighbours,
@@ -332,12 +215,11 @@ fn take_break(
     text: &[u8],
     out: &mut [RawBreak],
 ) -> BlockState
-    requires { (here.count < length out.old) × (0 < at) × (at + 64 ≤ length text.now) × (at ≤ here.past) × (here.past ≤ at + 64) }
+    requires { (here.count < length out.old) × (0 < here.left) × (0 < at) × (at + 64 ≤ length text.now) × (at ≤ here.past) × (here.past ≤ at + 64) }
     ensures ahead { (taken : ℕ) → IsAhead at taken here → IsAhead at taken result }
     ensures in_order { (taken from : ℕ) → IsAhead at taken here → IsInOrder out.old here.count from here.past → IsInOrder out.new result.count from result.past }
     ensures within { (result.count ≤ length out.old) × (at ≤ result.past) × (result.past ≤ at + 64) }
-    ensures onward { (here.count ≤ result.count) × (result.left ≤ here.left) × (0 < here.left → result.left < here.left) }
-    ensures few { result.count ≤ here.count + 1 }
+    ensures onward { (here.count ≤ result.count) × (result.left < here.left) }
     ensures reached { (profile : Profile) (cell : ℕ → Cell) (lefts : List Left) (more : List ℕ) (all : Ahead) (taken : ℕ)
         → IsBlock profile cell lefts steps.now kinds.now pairs.now text.now at taken
         → AreLeft pairs.now text.now at taken here
@@ -349,26 +231,10 @@ fn take_break(
     let place = at + index;
     let row = pairs.rows[text[place - 1] as usize] as usize;
     let step = step_at(steps, row, kinds[text[place] as usize]);
-    let written = put(out, here.count, place, step.code);
-    next_state(here, written, at, index)
-}
-
-/// The state after a break that was written, if one was left.
-#[inline(always)]
-fn next_state(here: BlockState, written: usize, at: usize, index: usize) -> BlockState
-    requires { (at < 2 ^ 63) × (index < 64) }
-    ensures none { here.left ≡ 0 → result ≡ here }
-    ensures count { 0 < here.left → result.count ≡ written }
-    ensures past { 0 < here.left → result.past ≡ at + index + 1 }
-    ensures left { 0 < here.left → AreCleared here.left index result.left }
-{
-    if here.left == 0 {
-        return here;
-    }
     BlockState {
-        count: written,
-        past: at + index + 1,
-        left: cleared(here.left, index),
+        count: put(out, here.count, place, step.code),
+        past: place + 1,
+        left: without_first(here.left),
     }
 }
 
@@ -381,11 +247,12 @@ fn first_set(bits: u64) -> usize
     (bits.trailing_zeros() & 63) as usize
 }
 
-/// The bits without this one.
+/// The bits without the lowest that is set.
 #[inline(always)]
-fn cleared(bits: u64, index: usize) -> u64
-    requires { index < 64 }
-    ensures { AreCleared bits index result }
+fn without_first(bits: u64) -> u64
+    requires { 0 < bits }
+    ensures cleared { (index : ℕ) → index < 64 → IsLowest bits index → AreCleared bits index result }
+    ensures fewer { result < bits }
 {
-    bits & !(1 << index)
+    bits & (bits - 1)
 }

@@ -6,7 +6,7 @@ use Rattle.lbk_bytes.proofs.blocks.finish.Goals as goal
 pub loop-here-preserved : goal.loop-here-preserved
 loop-here-preserved c =
     let l = c.loop-here in
-    let some = c.some_breaks-here.ensures in
+    let some = c.take_break-here.ensures in
     record {
       room = omega (arith, some.within.0);
       more = omega (arith, some.onward.0);
