@@ -1,14 +1,14 @@
 -- Bits of numbers of 64 bits.
 use Rattle.std.proofs.Common.{◌≡◌, ◌≢◌, ◌⊎◌, ℕ, zero, suc, ◌-◌, ◌*◌, ◌/◌, ◌%◌, ◌^◌, ◌==◌, ◌<◌, ◌≤◌, min, true, false, refl, sym, ap, ◌∙◌, ⊎_elim, inl, inr, arith, w64}
-use Rattle.std.specs.Int.{bit_at, trailing_zeros}
+use Rattle.std.specs.Int.{bit_at, bit_not, trailing_zeros}
 use Rattle.std.specs.Int.Count.{trailing_of_zero}
 use Rattle.std.proofs.lemmas.Bool.{cases_lt, eqb-true}
 use Rattle.std.proofs.lemmas.Bool.Decides.{eqb_tells}
 use Rattle.std.proofs.lemmas.Nat.{and_mask, and_le_l, and_le_r, pow_below, trailing_le}
-use Rattle.std.proofs.lemmas.Nat.Bits.{bit_at-lt, bit_at-trailing_zeros, bit_at-suc, bit_at-zero, bit_at_and, bit_at_lowest, bit_at_ones, bit_at_ones_above}
+use Rattle.std.proofs.lemmas.Nat.Bits.{bit_at-lt, bit_at-trailing_zeros, bit_at-suc, bit_at-zero, bit_at_and, bit_at_lowest, bit_at_not, bit_at_ones, bit_at_ones_above}
 use lib.Bits.{bit_and}
 use Rattle.lbk_masks.specs.Sets.{is_set}
-use Rattle.lbk_bytes.specs.Blocks.{AreCleared, AreKeptBelow, IsLowest}
+use Rattle.lbk_bytes.specs.Blocks.{AreCleared, AreKeptBelow, AreKeptFrom, IsLowest}
 
 -- no bit of 0 is set
 pub none-set : (i : ℕ) → is_set 0 i ≡ false
@@ -31,6 +31,21 @@ kept-below bits count few =
       none = λ i more h.
           ap (λ n. is_set (bit_and bits n) i) mask
           ∙ ap (λ n. n == 1) (bit_at_and bits (2 ^ count - 1) i ∙ ap (min (bit_at bits i)) (bit_at_ones_above count i more) ∙ (let e : min (bit_at bits i) 0 ≡ 0 = omega arith in e));
+    }
+
+pub kept-from : (bits first : ℕ) → first < 64 → AreKeptFrom first bits (bit_and bits (bit_not w64 (1 * 2 ^ first % 2 ^ 64 - 1)))
+kept-from bits first few =
+    let small = pow_below first 64 few in
+    let ones : 1 * 2 ^ first % 2 ^ 64 - 1 ≡ 2 ^ first - 1 = omega arith in
+    let fits : 2 ^ first - 1 < 2 ^ 64 = omega arith in
+    let bit : (i : ℕ) → i < 64 → bit_at (bit_and bits (bit_not w64 (1 * 2 ^ first % 2 ^ 64 - 1))) i ≡ min (bit_at bits i) (1 - bit_at (2 ^ first - 1) i) =
+    λ i h. bit_at_and bits (bit_not w64 (1 * 2 ^ first % 2 ^ 64 - 1)) i
+    ∙ ap (min (bit_at bits i)) (ap (λ n. bit_at (bit_not w64 n) i) ones ∙ bit_at_not w64 (2 ^ first - 1) i fits h) in
+    record {
+      same = λ i after h.
+          ap (λ n. n == 1) (bit i h ∙ ap (λ n. min (bit_at bits i) (1 - n)) (bit_at_ones_above first i after) ∙ min-one (bit_at bits i) (bit_at-lt bits i));
+      none = λ i h.
+          ap (λ n. n == 1) (bit i (omega arith) ∙ ap (λ n. min (bit_at bits i) (1 - n)) (bit_at_ones first i h) ∙ (let e : min (bit_at bits i) 0 ≡ 0 = omega arith in e));
     }
 
 low-six : (n : ℕ) → n < 64 → bit_and n 63 ≡ n
@@ -115,3 +130,14 @@ zeros-end (suc n) fits few = ap (λ n. n == 1) (bit_at-trailing_zeros w64 (suc n
 
 pub zeros-few : (bits : ℕ) → trailing_zeros w64 bits ≤ 64
 zeros-few bits = trailing_le 64 bits
+
+-- the lowest bit of those from one on is none before
+pub lowest-from : (bits first kept : ℕ) → kept < 2 ^ 64 → first < 64 → AreKeptFrom first bits kept → first ≤ trailing_zeros w64 kept
+lowest-from bits first kept fits few since =
+    ⊎_elim
+    (λ (less : trailing_zeros w64 kept < first).
+    let set = zeros-end kept fits (omega arith) in
+    let none = since.none (trailing_zeros w64 kept) less in
+    absurd (let e : true ≡ false = sym set ∙ none in (let never : ⊥ = cc in never)))
+    (λ (le : first ≤ trailing_zeros w64 kept). le)
+    (cases_lt (trailing_zeros w64 kept) first)

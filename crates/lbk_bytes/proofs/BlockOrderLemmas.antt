@@ -4,7 +4,7 @@ use Rattle.lbk_masks.specs.Sets.{is_set}
 use Rattle.lbk_bytes.specs.declared.blocks.BlockState.{BlockState}
 use Rattle.lbk_bytes.specs.declared.fill_state.FillState.{FillState}
 use Rattle.lbk_bytes.specs.declared.raw_break.RawBreak.{RawBreak}
-use Rattle.lbk_bytes.specs.Blocks.{AreCleared, AreKeptBelow, IsAhead, IsLowest}
+use Rattle.lbk_bytes.specs.Blocks.{AreCleared, AreKeptBelow, AreKeptFrom, IsAhead, IsLowest}
 use Rattle.lbk_bytes.specs.Order.{AreInOrder, IsBreak, no_break}
 use Rattle.lbk_bytes.specs.Reached.{IsInOrder}
 use Rattle.lbk_bytes.proofs.BlockLemmas.{order, zero-or}
@@ -48,24 +48,34 @@ order-taken out after at taken index written from here ahead few some lowest put
     let behind = IsInOrder-wider out here.count from here.past (at + index) first.1 o in
     (omega (arith, behind.0), put from (at + index + 1) (omega arith) behind)
 
--- a block as it begins has no break left but in its first bytes
-pub ahead-begins : (at taken bits : ℕ) (here : BlockState) → here.past ≡ at → AreKeptBelow taken bits here.left → IsAhead at taken here
-ahead-begins at taken bits here begins kept = record {
+-- bytes of a block that are begun have no break left but among them
+pub ahead-begins : (at begin taken bits from : ℕ) (here : BlockState) → begin ≤ taken → taken ≤ 64 → here.past ≡ at + begin → AreKeptFrom begin bits from → AreKeptBelow taken from here.left
+    → IsAhead at taken here
+ahead-begins at begin taken bits from here some few begins since kept = record {
   within = omega arith;
-  none = λ i h out_of. ⊎_elim (λ (le : taken ≤ i). kept.none i le h) (λ (lt : at + i < here.past). absurd (omega arith)) out_of;
+  none = λ i h out_of.
+      ⊎_elim (λ (le : taken ≤ i). kept.none i le h)
+      (λ (lt : at + i < here.past). kept.same i (omega arith) ∙ since.none i (omega arith)) out_of;
 }
+
+-- where a block is left is not before it was begun
+pub past-stopped : (at taken : ℕ) (here : BlockState) (there : FillState)
+    → at ≤ there.at → (here.left ≡ 0 → there.at ≡ at + taken) → (0 < here.left → IsLowest here.left (there.at - at) × (there.at < at + 64))
+    → IsAhead at taken here → here.past ≤ there.at
+past-stopped at taken here there onward done stopped ahead =
+    let within = ahead.within in
+    ⊎_elim (λ (none : here.left ≡ 0). (let e = done none in omega arith))
+    (λ (some : 0 < here.left).
+    let found = stopped some in
+    let few = found.1 in
+    let first = (lowest-ahead at taken (there.at - at) here ahead (omega arith) (found.0.set some)).1 in
+    omega arith)
+    (zero-or here.left)
 
 -- where a block is left the breaks are in order
 pub order-stopped : (out : List RawBreak) (at taken from : ℕ) (here : BlockState) (there : FillState)
     → there.count ≡ here.count → at ≤ there.at → (here.left ≡ 0 → there.at ≡ at + taken) → (0 < here.left → IsLowest here.left (there.at - at) × (there.at < at + 64))
     → IsAhead at taken here → IsInOrder out here.count from here.past → IsInOrder out there.count from there.at
 order-stopped out at taken from here there counted onward done stopped ahead o =
-    let within = ahead.within in
     subst (λ n. IsInOrder out n from there.at) (sym counted)
-    (⊎_elim (λ (none : here.left ≡ 0). (let e = done none in IsInOrder-wider out here.count from here.past there.at (omega arith) o))
-    (λ (some : 0 < here.left).
-    let found = stopped some in
-    let few = found.1 in
-    let first = (lowest-ahead at taken (there.at - at) here ahead (omega arith) (found.0.set some)).1 in
-    IsInOrder-wider out here.count from here.past there.at (omega arith) o)
-    (zero-or here.left))
+    (IsInOrder-wider out here.count from here.past there.at (past-stopped at taken here there onward done stopped ahead) o)
