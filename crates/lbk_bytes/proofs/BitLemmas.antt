@@ -1,12 +1,14 @@
 -- Bits of numbers of 64 bits.
-use Rattle.std.proofs.Common.{◌≡◌, ℕ, zero, suc, ◌-◌, ◌*◌, ◌%◌, ◌^◌, ◌==◌, ◌<◌, ◌≤◌, min, true, false, refl, ap, ◌∙◌, arith, w64}
+use Rattle.std.proofs.Common.{◌≡◌, ◌≢◌, ◌⊎◌, ℕ, zero, suc, ◌-◌, ◌*◌, ◌/◌, ◌%◌, ◌^◌, ◌==◌, ◌<◌, ◌≤◌, min, true, false, refl, sym, ap, ◌∙◌, ⊎_elim, inl, inr, arith, w64}
 use Rattle.std.specs.Int.{bit_at, bit_not, trailing_zeros}
 use Rattle.std.specs.Int.Count.{trailing_of_zero}
+use Rattle.std.proofs.lemmas.Bool.{cases_lt, eqb-true}
+use Rattle.std.proofs.lemmas.Bool.Decides.{eqb_tells}
 use Rattle.std.proofs.lemmas.Nat.{and_mask, and_le_l, and_le_r, pow_below, trailing_le}
-use Rattle.std.proofs.lemmas.Nat.Bits.{bit_at-lt, bit_at-trailing_zeros, bit_at-zero, bit_at_and, bit_at_clear_other, bit_at_clear_same, bit_at_ones, bit_at_ones_above}
+use Rattle.std.proofs.lemmas.Nat.Bits.{bit_at-lt, bit_at-trailing_zeros, bit_at-suc, bit_at-zero, bit_at_and, bit_at_lowest, bit_at_not, bit_at_ones, bit_at_ones_above}
 use lib.Bits.{bit_and}
 use Rattle.lbk_masks.specs.Sets.{is_set}
-use Rattle.lbk_bytes.specs.Blocks.{AreCleared, AreKeptBelow, IsLowest}
+use Rattle.lbk_bytes.specs.Blocks.{AreCleared, AreKeptBelow, AreKeptFrom, IsLowest}
 
 -- no bit of 0 is set
 pub none-set : (i : ℕ) → is_set 0 i ≡ false
@@ -31,6 +33,21 @@ kept-below bits count few =
           ∙ ap (λ n. n == 1) (bit_at_and bits (2 ^ count - 1) i ∙ ap (min (bit_at bits i)) (bit_at_ones_above count i more) ∙ (let e : min (bit_at bits i) 0 ≡ 0 = omega arith in e));
     }
 
+pub kept-from : (bits first : ℕ) → first < 64 → AreKeptFrom first bits (bit_and bits (bit_not w64 (1 * 2 ^ first % 2 ^ 64 - 1)))
+kept-from bits first few =
+    let small = pow_below first 64 few in
+    let ones : 1 * 2 ^ first % 2 ^ 64 - 1 ≡ 2 ^ first - 1 = omega arith in
+    let fits : 2 ^ first - 1 < 2 ^ 64 = omega arith in
+    let bit : (i : ℕ) → i < 64 → bit_at (bit_and bits (bit_not w64 (1 * 2 ^ first % 2 ^ 64 - 1))) i ≡ min (bit_at bits i) (1 - bit_at (2 ^ first - 1) i) =
+    λ i h. bit_at_and bits (bit_not w64 (1 * 2 ^ first % 2 ^ 64 - 1)) i
+    ∙ ap (min (bit_at bits i)) (ap (λ n. bit_at (bit_not w64 n) i) ones ∙ bit_at_not w64 (2 ^ first - 1) i fits h) in
+    record {
+      same = λ i after h.
+          ap (λ n. n == 1) (bit i h ∙ ap (λ n. min (bit_at bits i) (1 - n)) (bit_at_ones_above first i after) ∙ min-one (bit_at bits i) (bit_at-lt bits i));
+      none = λ i h.
+          ap (λ n. n == 1) (bit i (omega arith) ∙ ap (λ n. min (bit_at bits i) (1 - n)) (bit_at_ones first i h) ∙ (let e : min (bit_at bits i) 0 ≡ 0 = omega arith in e));
+    }
+
 low-six : (n : ℕ) → n < 64 → bit_and n 63 ≡ n
 low-six n few = and_mask n 6 ∙ (let e : n % 64 ≡ n = omega arith in e)
 
@@ -47,12 +64,59 @@ lowest (suc n) fits =
       none = λ i h. (let below : i < trailing_zeros w64 (suc n) = omega arith in ap (λ n. n == 1) (found.2 i below));
     }
 
-pub are-cleared : (bits index : ℕ) → index < 64 → AreCleared bits index (bit_and bits (bit_not w64 (1 * 2 ^ index % 2 ^ 64)))
-are-cleared bits index few = record {
-  same = λ i h other. ap (λ n. n == 1) (bit_at_clear_other w64 bits index few i h other);
-  gone = ap (λ n. n == 1) (bit_at_clear_same w64 bits index few);
-  fewer = and_le_l bits (bit_not w64 (1 * 2 ^ index % 2 ^ 64));
-}
+-- the number before has the same bits above the lowest, and not this one
+pred-bits : (k n : ℕ) → bit_at n k ≡ 1 → ((i : ℕ) → i < k → bit_at n i ≡ 0)
+    → (bit_at (n - 1) k ≡ 0) × ((i : ℕ) → k < i → bit_at (n - 1) i ≡ bit_at n i)
+pred-bits zero n set none =
+    let odd : n % 2 ≡ 1 = sym (bit_at_lowest n) ∙ set in
+    let half : (n - 1) / 2 ≡ n / 2 = omega arith in (
+      bit_at_lowest (n - 1) ∙ (let e : (n - 1) % 2 ≡ 0 = omega arith in e),
+      λ i more. above i more half,
+    )
+  where
+    above : (i : ℕ) → 0 < i → (n - 1) / 2 ≡ n / 2 → bit_at (n - 1) i ≡ bit_at n i
+    above zero more half = absurd (omega arith)
+    above (suc i) more half = bit_at-suc (n - 1) i ∙ ap (λ m. bit_at m i) half ∙ sym (bit_at-suc n i)
+pred-bits (suc k) n set none =
+    let even : n % 2 ≡ 0 = sym (bit_at_lowest n) ∙ none 0 (omega arith) in
+    let high : bit_at (n / 2) k ≡ 1 = sym (bit_at-suc n k) ∙ set in
+    let some : 0 < n / 2 = positive (n / 2) k high in
+    let half : (n - 1) / 2 ≡ n / 2 - 1 = omega arith in
+    let rest = pred-bits k (n / 2) high (λ i h. sym (bit_at-suc n i) ∙ none (suc i) (omega (arith, h))) in (
+      bit_at-suc (n - 1) k ∙ ap (λ m. bit_at m k) half ∙ rest.0,
+      λ i more. above i more half rest.1,
+    )
+  where
+    positive : (m i : ℕ) → bit_at m i ≡ 1 → 0 < m
+    positive zero i one = absurd (let e : 0 ≡ 1 = sym (bit_at-zero i) ∙ one in omega arith)
+    positive (suc m) i one = omega arith
+
+    above : (i : ℕ) → suc k < i → (n - 1) / 2 ≡ n / 2 - 1 → ((j : ℕ) → k < j → bit_at (n / 2 - 1) j ≡ bit_at (n / 2) j) → bit_at (n - 1) i ≡ bit_at n i
+    above zero more half rest = absurd (omega arith)
+    above (suc i) more half rest = bit_at-suc (n - 1) i ∙ ap (λ m. bit_at m i) half ∙ rest i (omega (arith, more)) ∙ sym (bit_at-suc n i)
+
+pub are-cleared : (bits index : ℕ) → 0 < bits → index < 64 → IsLowest bits index → AreCleared bits index (bit_and bits (bits - 1))
+are-cleared bits index some few first =
+    let set : bit_at bits index ≡ 1 = eqb-true (bit_at bits index) 1 (first.set some) in
+    let pred = pred-bits index bits set (λ i h. unset (bit_at bits i) (bit_at-lt bits i) (first.none i h)) in
+    record {
+      same = λ i h other.
+          ⊎_elim
+          (λ (below : i < index).
+          let zero_there = unset (bit_at bits i) (bit_at-lt bits i) (first.none i below) in
+          ap (λ n. n == 1) (bit_at_and bits (bits - 1) i ∙ (let e : min (bit_at bits i) (bit_at (bits - 1) i) ≡ bit_at bits i = omega arith in e)))
+          (λ (above : index < i).
+          ap (λ n. n == 1) (bit_at_and bits (bits - 1) i ∙ ap (min (bit_at bits i)) (pred.1 i above) ∙ (let e : min (bit_at bits i) (bit_at bits i) ≡ bit_at bits i = omega arith in e)))
+          (apart i index other);
+      gone = ap (λ n. n == 1) (bit_at_and bits (bits - 1) index ∙ ap (min (bit_at bits index)) pred.0 ∙ (let e : min (bit_at bits index) 0 ≡ 0 = omega arith in e));
+      fewer = and_le_l bits (bits - 1);
+    }
+  where
+    unset : (bit : ℕ) → bit < 2 → (bit == 1) ≡ false → bit ≡ 0
+    unset bit small is = ⊎_elim (λ yes. absurd (let e : true ≡ false = sym yes.0 ∙ is in (let never : ⊥ = cc in never))) (λ other. (let apart = other.1 in omega arith)) (eqb_tells bit 1)
+
+    apart : (i j : ℕ) → i ≢ j → (i < j) ⊎ (j < i)
+    apart i j other = ⊎_elim (λ (lt : i < j). inl lt) (λ (le : j ≤ i). inr (omega arith)) (cases_lt i j)
 
 -- no bit is set below the lowest
 pub zeros-below : (bits : ℕ) → bits < 2 ^ 64 → (i : ℕ) → i < trailing_zeros w64 bits → is_set bits i ≡ false
@@ -66,3 +130,14 @@ zeros-end (suc n) fits few = ap (λ n. n == 1) (bit_at-trailing_zeros w64 (suc n
 
 pub zeros-few : (bits : ℕ) → trailing_zeros w64 bits ≤ 64
 zeros-few bits = trailing_le 64 bits
+
+-- the lowest bit of those from one on is none before
+pub lowest-from : (bits first kept : ℕ) → kept < 2 ^ 64 → first < 64 → AreKeptFrom first bits kept → first ≤ trailing_zeros w64 kept
+lowest-from bits first kept fits few since =
+    ⊎_elim
+    (λ (less : trailing_zeros w64 kept < first).
+    let set = zeros-end kept fits (omega arith) in
+    let none = since.none (trailing_zeros w64 kept) less in
+    absurd (let e : true ≡ false = sym set ∙ none in (let never : ⊥ = cc in never)))
+    (λ (le : first ≤ trailing_zeros w64 kept). le)
+    (cases_lt (trailing_zeros w64 kept) first)

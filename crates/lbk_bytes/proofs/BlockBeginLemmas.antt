@@ -1,10 +1,12 @@
 -- Where a block begins, and what its bytes are as far as none is special or stray.
-use Rattle.std.proofs.Common.{◌≡◌, ◌⊎◌, ℕ, zero, suc, ◌+◌, ◌-◌, ◌<◌, ◌≤◌, ◌&&◌, ◌||◌, ◌==◌, Bool, true, false, not, leb, ltb, List, length, get_or, take, drop, bit_and, refl, sym, ap, subst, ◌∙◌, ⊎_elim, inl, inr, arith}
-use Rattle.std.proofs.lemmas.Bool.{and_from, and_parts, cases_lt, eq-eqb, le-leb, leb-true, lt-ltb, ltb-true, not_from_true}
+use Rattle.std.proofs.Common.{◌≡◌, ◌⊎◌, ℕ, zero, suc, ◌+◌, ◌-◌, ◌<◌, ◌≤◌, ◌&&◌, ◌||◌, ◌==◌, Bool, true, false, not, leb, ltb, List, length, get_or, take, drop, bit_and, refl, sym, ap, ap₂, subst, ◌∙◌, ⊎_elim, inl, inr, arith}
+use Rattle.std.specs.Int.Bits.{bit_or}
+use Rattle.std.proofs.lemmas.Bool.{and_from, and_parts, cases_lt, eq-eqb, le-leb, leb-true, lt-ltb, ltb-true, not_from_true, or_parts}
 use Rattle.std.proofs.lemmas.List.{get_or-drop}
 use Rattle.std.proofs.lemmas.Nat.{and_le_r}
 use Rattle.lbk_cover.specs.Letters.{StandsForAll}
-use Rattle.lbk_masks.specs.Sets.{left_before, left_in, meets, right_in}
+use Rattle.lbk_masks.proofs.BitLemmas.{set-or}
+use Rattle.lbk_masks.specs.Sets.{is_set, left_before, left_in, meets, right_in}
 use Rattle.lbk_masks.specs.Strays.{is_pair, is_second, is_stray}
 use Rattle.lbk_rules.specs.declared.cells.Cell.{Cell}
 use Rattle.lbk_rules.specs.declared.facts.Left.{Left}
@@ -16,8 +18,10 @@ use Rattle.lbk_steps.specs.Kinds.{kind_cell}
 use Rattle.lbk_steps.specs.Neighbours.{AreSettled, AreTold, is_special}
 use Rattle.lbk_steps.specs.Steps.{IsStart, left_at}
 use Rattle.lbk_bytes.specs.declared.fill_state.FillState.{FillState}
-use Rattle.lbk_bytes.specs.Blocks.{IsBlock, IsByteTold, Rests, byte_at, row_before, stands_at}
+use Rattle.lbk_bytes.specs.declared.blocks.Marks.{Marks}
+use Rattle.lbk_bytes.specs.Blocks.{AreMarks, IsBlock, IsByteTold, Rests, byte_at, row_before, stands_at, stops_at}
 use Rattle.lbk_bytes.specs.Reached.{AreSwift, IsSwiftStep}
+use Rattle.lbk_bytes.proofs.BlockLemmas.{order}
 use Rattle.lbk_bytes.proofs.BlockScalarLemmas.{begins-or, byte-scalar}
 use Rattle.lbk_bytes.proofs.PieceLemmas.{rest-of}
 
@@ -30,28 +34,39 @@ rest-byte : (text : List ℕ) (at i : ℕ) → get_or (take (length text - at) (
 rest-byte text at i = ap (λ l. get_or l i 0) (rest-of text at) ∙ get_or-drop at text i 0
 
 -- the set of the byte before byte i of it
-left-is : (pairs : Neighbours) (text : List ℕ) (here : FillState) (before i : ℕ) → Rests pairs here text before
-    → left_before pairs.sets before (take (length text - here.at) (drop here.at text)) i ≡ left_in pairs.sets (byte_at text (here.at + i - 1))
-left-is pairs text here before zero rests =
-    rests.set ∙ ap (λ n. left_in pairs.sets (byte_at text n)) (let e : here.at - 1 ≡ here.at + 0 - 1 = omega arith in e)
-left-is pairs text here before (suc i) rests =
-    ap (left_in pairs.sets) (rest-byte text here.at i)
-    ∙ ap (λ n. left_in pairs.sets (byte_at text n)) (let e : here.at + i ≡ here.at + suc i - 1 = omega arith in e)
+left-is : (pairs : Neighbours) (text : List ℕ) (at before i : ℕ) → before ≡ left_in pairs.sets (byte_at text (at - 1))
+    → left_before pairs.sets before (rest_at text at) i ≡ left_in pairs.sets (byte_at text (at + i - 1))
+left-is pairs text at before zero set = set ∙ ap (λ n. left_in pairs.sets (byte_at text n)) (let e : at - 1 ≡ at + 0 - 1 = omega arith in e)
+left-is pairs text at before (suc i) set =
+    ap (left_in pairs.sets) (rest-byte text at i)
+    ∙ ap (λ n. left_in pairs.sets (byte_at text n)) (let e : at + i ≡ at + suc i - 1 = omega arith in e)
 
-pub stands-is : (pairs : Neighbours) (text : List ℕ) (here : FillState) (before i : ℕ) → Rests pairs here text before
-    → meets (left_before pairs.sets before (take (length text - here.at) (drop here.at text)) i) (right_in pairs.sets (get_or (take (length text - here.at) (drop here.at text)) i 0))
-    ≡ stands_at pairs text (here.at + i)
-stands-is pairs text here before i rests =
-    ap (λ l. meets l (right_in pairs.sets (get_or (take (length text - here.at) (drop here.at text)) i 0))) (left-is pairs text here before i rests)
-    ∙ ap (λ b. meets (left_in pairs.sets (byte_at text (here.at + i - 1))) (right_in pairs.sets b)) (rest-byte text here.at i)
+stands-is : (pairs : Neighbours) (text : List ℕ) (at before i : ℕ) → before ≡ left_in pairs.sets (byte_at text (at - 1))
+    → meets (left_before pairs.sets before (rest_at text at) i) (right_in pairs.sets (get_or (rest_at text at) i 0)) ≡ stands_at pairs text (at + i)
+stands-is pairs text at before i set =
+    ap₂ meets (left-is pairs text at before i set) (ap (right_in pairs.sets) (rest-byte text at i))
 
-pub special-is : (pairs : Neighbours) (text : List ℕ) (here : FillState) (before i : ℕ) → Rests pairs here text before
-    → meets (left_before pairs.sets before (take (length text - here.at) (drop here.at text)) i)
-    (bit_and (right_in pairs.sets (get_or (take (length text - here.at) (drop here.at text)) i 0)) 3)
-    ≡ is_special pairs (byte_at text (here.at + i - 1)) (byte_at text (here.at + i))
-special-is pairs text here before i rests =
-    ap (λ l. meets l (bit_and (right_in pairs.sets (get_or (take (length text - here.at) (drop here.at text)) i 0)) 3)) (left-is pairs text here before i rests)
-    ∙ ap (λ b. meets (left_in pairs.sets (byte_at text (here.at + i - 1))) (bit_and (right_in pairs.sets b) 3)) (rest-byte text here.at i)
+special-is : (pairs : Neighbours) (text : List ℕ) (at before i : ℕ) → before ≡ left_in pairs.sets (byte_at text (at - 1))
+    → meets (left_before pairs.sets before (rest_at text at) i) (bit_and (right_in pairs.sets (get_or (rest_at text at) i 0)) 3)
+    ≡ is_special pairs (byte_at text (at + i - 1)) (byte_at text (at + i))
+special-is pairs text at before i set =
+    ap₂ meets (left-is pairs text at before i set) (ap (λ b. bit_and (right_in pairs.sets b) 3) (rest-byte text at i))
+
+-- what the masks tell are the marks
+pub are-marks : (pairs : Neighbours) (text : List ℕ) (at before special strays : ℕ) (marks : Marks) → 0 < at → at + 64 ≤ length text
+    → before ≡ left_in pairs.sets (byte_at text (at - 1)) → marks.stops ≡ bit_or special strays
+    → ((i : ℕ) → i < 64 → is_set marks.standing i ≡ meets (left_before pairs.sets before (rest_at text at) i) (right_in pairs.sets (get_or (rest_at text at) i 0)))
+    → ((i : ℕ) → i < 64 → is_set special i ≡ meets (left_before pairs.sets before (rest_at text at) i) (bit_and (right_in pairs.sets (get_or (rest_at text at) i 0)) 3))
+    → ((i : ℕ) → i < 64 → is_set strays i ≡ is_stray (rest_at text at) i)
+    → AreMarks pairs text at marks
+are-marks pairs text at before special strays marks begins within set both standing specials are_strays = record {
+  begins = begins;
+  within = within;
+  standing = λ i h. standing i h ∙ stands-is pairs text at before i set;
+  stops = λ i h.
+      ap (λ n. is_set n i) both ∙ set-or special strays i
+      ∙ ap₂ (λ (x y : Bool). x || y) (specials i h ∙ special-is pairs text at before i set) (are_strays i h);
+}
 
 -- Bytes that are no strays
 
@@ -211,25 +226,36 @@ behind-next profile cell lefts steps kinds pairs text at i swift are_kinds fits 
     }
 
 -- what is known of the bytes of a block that are taken
-record Begun (lefts : List Left) (steps : List FlatStep) (kinds : List ℕ) (pairs : Neighbours) (text : List ℕ) (at taken : ℕ) : Type 0 where
+record Begun (steps : List FlatStep) (kinds : List ℕ) (pairs : Neighbours) (text : List ℕ) (at begin taken : ℕ) : Type 0 where
   told : AreTold steps kinds pairs
   bytes : (i : ℕ) → byte_at text i < 256
   room : at + 64 ≤ length text
   few : taken ≤ 64
-  plain : (i : ℕ) → i < taken → is_special pairs (byte_at text (at + i - 1)) (byte_at text (at + i)) ≡ false
-  stays : (i : ℕ) → i < taken → is_stray (rest_at text at) i ≡ false
+  plain : (i : ℕ) → begin ≤ i → i < taken → is_special pairs (byte_at text (at + i - 1)) (byte_at text (at + i)) ≡ false
+  stays : (i : ℕ) → begin ≤ i → i < taken → is_stray (rest_at text at) i ≡ false
 
-behind-each : (profile : Profile) (cell : ℕ → Cell) (lefts : List Left) (steps : List FlatStep) (kinds : List ℕ) (pairs : Neighbours) (text : List ℕ) (at taken : ℕ)
-    → AreSwift profile lefts steps → AreFlatKinds kinds cell → Begun lefts steps kinds pairs text at taken
-    → IsBehind lefts kinds pairs text at → (i : ℕ) → i ≤ taken → IsBehind lefts kinds pairs text (at + i)
-behind-each profile cell lefts steps kinds pairs text at taken swift are_kinds begun begins zero h =
-    subst (IsBehind lefts kinds pairs text) (let e : at ≡ at + 0 = omega arith in e) begins
-behind-each profile cell lefts steps kinds pairs text at taken swift are_kinds begun begins (suc i) h =
+behind-each : (profile : Profile) (cell : ℕ → Cell) (lefts : List Left) (steps : List FlatStep) (kinds : List ℕ) (pairs : Neighbours) (text : List ℕ) (at begin taken : ℕ)
+    → AreSwift profile lefts steps → AreFlatKinds kinds cell → Begun steps kinds pairs text at begin taken
+    → IsBehind lefts kinds pairs text (at + begin) → (n : ℕ) → begin + n ≤ taken → IsBehind lefts kinds pairs text (at + (begin + n))
+behind-each profile cell lefts steps kinds pairs text at begin taken swift are_kinds begun begins zero h =
+    subst (IsBehind lefts kinds pairs text) (let e : at + begin ≡ at + (begin + 0) = omega arith in e) begins
+behind-each profile cell lefts steps kinds pairs text at begin taken swift are_kinds begun begins (suc n) h =
+    let i = begin + n in
+    let after : begin ≤ i = omega arith in
     let inside : i < taken = omega (arith, h) in
-    let behind = behind-each profile cell lefts steps kinds pairs text at taken swift are_kinds begun begins i (omega (arith, h)) in
-    let place = placed text at i (begun.stays i inside) in
-    behind-next profile cell lefts steps kinds pairs text at i swift are_kinds (begun.bytes (at + i)) behind place
-    (byte-told lefts steps kinds pairs text at i begun.told (begun.bytes (at + i)) behind place begun.room (begun.plain i inside))
+    let behind = behind-each profile cell lefts steps kinds pairs text at begin taken swift are_kinds begun begins n (omega (arith, h)) in
+    let place = placed text at i (begun.stays i after inside) in
+    subst (IsBehind lefts kinds pairs text) (let e : at + suc (begin + n) ≡ at + (begin + suc n) = omega arith in e)
+    (behind-next profile cell lefts steps kinds pairs text at i swift are_kinds (begun.bytes (at + i)) behind place
+    (byte-told lefts steps kinds pairs text at i begun.told (begun.bytes (at + i)) behind place begun.room (begun.plain i after inside)))
+
+behind-at : (profile : Profile) (cell : ℕ → Cell) (lefts : List Left) (steps : List FlatStep) (kinds : List ℕ) (pairs : Neighbours) (text : List ℕ) (at begin taken : ℕ)
+    → AreSwift profile lefts steps → AreFlatKinds kinds cell → Begun steps kinds pairs text at begin taken
+    → IsBehind lefts kinds pairs text (at + begin) → (i : ℕ) → begin ≤ i → i ≤ taken → IsBehind lefts kinds pairs text (at + i)
+behind-at profile cell lefts steps kinds pairs text at begin taken swift are_kinds begun begins i after h =
+    let same : begin + (i - begin) ≡ i = omega arith in
+    subst (λ n. IsBehind lefts kinds pairs text (at + n)) same
+    (behind-each profile cell lefts steps kinds pairs text at begin taken swift are_kinds begun begins (i - begin) (omega arith))
 
 neither : (one other : Bool) → one ≡ false → other ≡ false → (one || other) ≡ true → ⊥
 neither false false a b is = cc
@@ -237,18 +263,20 @@ neither true other a b is = cc
 neither false true a b is = cc
 
 -- the last byte that is taken is the last of a scalar: the first of two is followed by what is neither special nor stray
-last-ends : (lefts : List Left) (kinds : List ℕ) (pairs : Neighbours) (text : List ℕ) (at taken : ℕ)
-    → byte_at text (at - 1) < 192 → ((i : ℕ) → i < taken → is_stray (rest_at text at) i ≡ false) → taken ≤ 64
-    → (taken < 64 → (is_special pairs (byte_at text (at + taken - 1)) (byte_at text (at + taken)) || is_stray (rest_at text at) taken) ≡ true)
+last-ends : (lefts : List Left) (kinds : List ℕ) (pairs : Neighbours) (text : List ℕ) (at begin taken : ℕ) → begin ≤ taken
+    → byte_at text (at + begin - 1) < 192 → ((i : ℕ) → begin ≤ i → i < taken → is_stray (rest_at text at) i ≡ false) → taken ≤ 64
+    → (taken < 64 → stops_at pairs text at taken ≡ true)
     → IsBehind lefts kinds pairs text (at + taken) → byte_at text (at + taken - 1) < 192
-last-ends lefts kinds pairs text at zero low stays few stops behind =
-    subst (λ n. byte_at text n < 192) (let e : at - 1 ≡ at + 0 - 1 = omega arith in e) low
-last-ends lefts kinds pairs text at (suc i) low stays few stops behind =
-    let back : at + i ≡ at + suc i - 1 = omega arith in
+last-ends lefts kinds pairs text at begin zero some low stays few stops behind =
+    subst (λ n. byte_at text n < 192) (let e : at + begin - 1 ≡ at + 0 - 1 = omega arith in e) low
+last-ends lefts kinds pairs text at begin (suc i) some low stays few stops behind =
     ⊎_elim (λ (below : byte_at text (at + suc i - 1) < 192). below)
     (λ (high : 192 ≤ byte_at text (at + suc i - 1)).
+    ⊎_elim
+    (λ (after : begin ≤ i).
+    let back : at + i ≡ at + suc i - 1 = omega arith in
     let first : 192 ≤ byte_at text (at + i) = subst (λ n. 192 ≤ byte_at text n) (sym back) high in
-    let next = (placed text at i (stays i (omega arith))).first first in
+    let next = (placed text at i (stays i after (omega arith))).first first in
     let inside = next.0 in
     let stray = second-is text at i next.0 first next.1 next.2 in
     let special : is_special pairs (byte_at text (at + suc i - 1)) (byte_at text (at + suc i)) ≡ false =
@@ -256,29 +284,38 @@ last-ends lefts kinds pairs text at (suc i) low stays few stops behind =
     (ap (λ n. bit_and n 3) (quiet-last lefts kinds pairs text (at + suc i) behind high)) in
     let stopped = stops (omega arith) in
     absurd (neither (is_special pairs (byte_at text (at + suc i - 1)) (byte_at text (at + suc i))) (is_stray (rest_at text at) (suc i)) special stray stopped))
+    (λ (only : i < begin).
+    let same : at + begin - 1 ≡ at + suc i - 1 = omega arith in
+    subst (λ n. byte_at text n < 192) same low)
+    (order i begin))
     (cases_lt (byte_at text (at + suc i - 1)) 192)
 
-pub is-block : (profile : Profile) (cell : ℕ → Cell) (lefts : List Left) (steps : List FlatStep) (kinds : List ℕ) (pairs : Neighbours) (text : List ℕ) (here : FillState) (before taken : ℕ)
-    → AreSwift profile lefts steps → AreFlatKinds kinds cell → AreTold steps kinds pairs → ((i : ℕ) → byte_at text i < 256) → Rests pairs here text before → taken ≤ 64
+-- from a place whose row is that of the byte before, the bytes up to the next that is left to steps
+pub is-block : (profile : Profile) (cell : ℕ → Cell) (lefts : List Left) (steps : List FlatStep) (kinds : List ℕ) (pairs : Neighbours) (text : List ℕ) (at begin taken : ℕ) (marks : Marks) (here : FillState)
+    → AreSwift profile lefts steps → AreFlatKinds kinds cell → AreTold steps kinds pairs → ((i : ℕ) → byte_at text i < 256)
+    → AreMarks pairs text at marks → Rests pairs here text → here.at ≡ at + begin → begin ≤ taken → taken ≤ 64
     → IsStart lefts here.row
-    → ((i : ℕ) → i < taken → is_special pairs (byte_at text (here.at + i - 1)) (byte_at text (here.at + i)) ≡ false)
-    → ((i : ℕ) → i < taken → is_stray (rest_at text here.at) i ≡ false)
-    → (taken < 64 → (is_special pairs (byte_at text (here.at + taken - 1)) (byte_at text (here.at + taken)) || is_stray (rest_at text here.at) taken) ≡ true)
-    → IsBlock profile cell lefts steps kinds pairs text here.at taken
-is-block profile cell lefts steps kinds pairs text here before taken swift are_kinds told bytes rests few starts plain stays stops =
-    let low = rests.below in
-    let begins : IsBehind lefts kinds pairs text here.at = record {
-      starts = subst (IsStart lefts) rests.row starts;
+    → ((i : ℕ) → begin ≤ i → i < taken → is_set marks.stops i ≡ false)
+    → (taken < 64 → is_set marks.stops taken ≡ true)
+    → IsBlock profile cell lefts steps kinds pairs text at begin taken
+is-block profile cell lefts steps kinds pairs text at begin taken marks here swift are_kinds told bytes are_marks rests is_at some few starts none stopped =
+    let low : byte_at text (at + begin - 1) < 192 = subst (λ n. byte_at text (n - 1) < 192) is_at rests.below in
+    let begins : IsBehind lefts kinds pairs text (at + begin) = record {
+      starts = subst (λ n. IsStart lefts (row_before pairs text n)) is_at (subst (IsStart lefts) rests.row starts);
       stands = λ high. absurd (omega arith);
       follows = λ high. absurd (omega arith);
     } in
-    let begun : Begun lefts steps kinds pairs text here.at taken =
-    record { told = told; bytes = bytes; room = rests.within; few = few; plain = plain; stays = stays } in
-    let each = behind-each profile cell lefts steps kinds pairs text here.at taken swift are_kinds begun begins in
+    let each : (i : ℕ) → begin ≤ i → i < taken
+    → (is_special pairs (byte_at text (at + i - 1)) (byte_at text (at + i)) ≡ false) × (is_stray (rest_at text at) i ≡ false) =
+    λ i after h. or_parts (is_special pairs (byte_at text (at + i - 1)) (byte_at text (at + i))) (is_stray (rest_at text at) i)
+    (sym (are_marks.stops i (omega arith)) ∙ none i after h) in
+    let begun : Begun steps kinds pairs text at begin taken =
+    record { told = told; bytes = bytes; room = are_marks.within; few = few; plain = λ i after h. (each i after h).0; stays = λ i after h. (each i after h).1 } in
+    let behind = behind-at profile cell lefts steps kinds pairs text at begin taken swift are_kinds begun begins in
     record {
       swift = swift;
       kinds_are = are_kinds;
       few = few;
-      told = λ i h. byte-told lefts steps kinds pairs text here.at i told (bytes (here.at + i)) (each i (omega (arith, h))) (placed text here.at i (stays i h)) rests.within (plain i h);
-      ends = last-ends lefts kinds pairs text here.at taken rests.below stays few stops (each taken (omega arith));
+      told = λ i after h. byte-told lefts steps kinds pairs text at i told (bytes (at + i)) (behind i after (omega (arith, h))) (placed text at i (begun.stays i after h)) are_marks.within (begun.plain i after h);
+      ends = last-ends lefts kinds pairs text at begin taken some low begun.stays few (λ h. sym (are_marks.stops taken h) ∙ stopped h) (behind taken some (omega arith));
     }

@@ -14,7 +14,7 @@ use Rattle.lbk_steps.specs.Neighbours.{step_behind}
 use Rattle.lbk_bytes.specs.declared.blocks.BlockState.{BlockState}
 use Rattle.lbk_bytes.specs.declared.fill_state.FillState.{FillState}
 use Rattle.lbk_bytes.specs.declared.raw_break.RawBreak.{RawBreak}
-use Rattle.lbk_bytes.specs.Blocks.{AreCleared, AreKeptBelow, AreLeft, IsBlock, IsByteTold, IsLowest, byte_at, place_at, place_in, row_before, stands_at}
+use Rattle.lbk_bytes.specs.Blocks.{AreCleared, AreKeptBelow, AreKeptFrom, AreLeft, IsBlock, IsByteTold, IsLowest, byte_at, place_at, place_in, row_before, stands_at}
 use Rattle.lbk_bytes.specs.Bytes.{with_break}
 use Rattle.lbk_bytes.specs.Reached.{Ahead, AreSwift, Reached}
 use Rattle.lbk_bytes.specs.Shown.{given_in}
@@ -63,22 +63,23 @@ quiet-bytes profile cell lefts text more all steps kinds pairs out count at (suc
 
 -- the bytes from here on up to a break that is left
 up-to : (profile : Profile) (cell : ℕ → Cell) (lefts : List Left) (text more : List ℕ) (all : Ahead) (steps : List FlatStep) (kinds : List ℕ) (pairs : Neighbours)
-    (out : List RawBreak) (at taken index : ℕ) (here : BlockState)
-    → at + 64 ≤ length text → IsBlock profile cell lefts steps kinds pairs text at taken → AreLeft pairs text at taken here
+    (out : List RawBreak) (at begin taken index : ℕ) (here : BlockState)
+    → at + 64 ≤ length text → IsBlock profile cell lefts steps kinds pairs text at begin taken → AreLeft pairs text at begin taken here
     → index ≤ taken → here.past ≤ at + index → ((i : ℕ) → i < index → is_set here.left i ≡ false)
     → Reached profile cell lefts (text ++ more) all (place_in pairs text here) (given_in out here.count)
     → Reached profile cell lefts (text ++ more) all (place_at pairs text here.count (at + index)) (given_in out here.count)
-up-to profile cell lefts text more all steps kinds pairs out at taken index here room block left few after none r =
+up-to profile cell lefts text more all steps kinds pairs out at begin taken index here room block left few after none r =
     let n = at + index - here.past in
     let ends : here.past + n ≡ at + index = omega arith in
     let first = here.past - at in
-    let begins : at + first ≡ here.past = (let a = left.after in omega arith) in
+    let a = left.after in
+    let begins : at + first ≡ here.past = omega arith in
     let quiet : (i : ℕ) → i < n → IsByteTold steps kinds pairs text (here.past + i) × (stands_at pairs text (here.past + i) ≡ false) =
     λ i h.
     let same : at + (first + i) ≡ here.past + i = omega arith in
     let inside : first + i < taken = omega arith in
     let below : first + i < index = omega arith in (
-      subst (IsByteTold steps kinds pairs text) same (block.told (first + i) inside),
+      subst (IsByteTold steps kinds pairs text) same (block.told (first + i) (omega arith) inside),
       ap (stands_at pairs text) (sym same) ∙ sym (left.told (first + i) inside (omega arith)) ∙ none (first + i) below,
     ) in
     let f = block.few in
@@ -87,13 +88,13 @@ up-to profile cell lefts text more all steps kinds pairs out at taken index here
 
 -- all bytes of the block that are taken, where no break is left
 pub taken-all : (profile : Profile) (cell : ℕ → Cell) (lefts : List Left) (text more : List ℕ) (all : Ahead) (steps : List FlatStep) (kinds : List ℕ) (pairs : Neighbours)
-    (out : List RawBreak) (at taken : ℕ) (here : BlockState)
-    → at + 64 ≤ length text → IsBlock profile cell lefts steps kinds pairs text at taken → AreLeft pairs text at taken here → here.left ≡ 0
+    (out : List RawBreak) (at begin taken : ℕ) (here : BlockState)
+    → at + 64 ≤ length text → IsBlock profile cell lefts steps kinds pairs text at begin taken → AreLeft pairs text at begin taken here → here.left ≡ 0
     → Reached profile cell lefts (text ++ more) all (place_in pairs text here) (given_in out here.count)
     → Reached profile cell lefts (text ++ more) all (record { count = here.count; row = row_before pairs text (at + taken); at = at + taken }) (given_in out here.count)
-taken-all profile cell lefts text more all steps kinds pairs out at taken here room block left empty r =
+taken-all profile cell lefts text more all steps kinds pairs out at begin taken here room block left empty r =
     depart profile cell lefts text more all pairs out here.count (at + taken) (at + taken) (end-low text (at + taken) block.ends)
-    (up-to profile cell lefts text more all steps kinds pairs out at taken taken here room block left (omega arith) left.within
+    (up-to profile cell lefts text more all steps kinds pairs out at begin taken taken here room block left (omega arith) left.within
     (λ i h. ap (λ n. is_set n i) empty ∙ none-set i) r)
 
 -- Where the lowest bit is one that stands out
@@ -108,9 +109,9 @@ order m zero = inl (omega arith)
 order zero (suc n) = inr (omega arith)
 order (suc m) (suc n) = ⊎_elim (λ le. inl (omega arith)) (λ lt. inr (omega arith)) (order m n)
 
-stands-first : (pairs : Neighbours) (text : List ℕ) (at taken index : ℕ) (here : BlockState) → AreLeft pairs text at taken here → index < 64
+stands-first : (pairs : Neighbours) (text : List ℕ) (at begin taken index : ℕ) (here : BlockState) → AreLeft pairs text at begin taken here → index < 64
     → is_set here.left index ≡ true → StandsFirst pairs text at taken index here
-stands-first pairs text at taken index here left few set =
+stands-first pairs text at begin taken index here left few set =
     let never : (taken ≤ index) ⊎ (at + index < here.past) → ⊥ = λ out. (let no : true ≡ false = sym set ∙ left.none index few out in (let f : ⊥ = cc in f)) in
     let inside : index < taken = ⊎_elim (λ le. absurd (never (inl le))) (λ lt. lt) (order index taken) in
     let after : here.past ≤ at + index = ⊎_elim (λ le. le) (λ lt. absurd (never (inr lt))) (order (at + index) here.past) in
@@ -129,20 +130,20 @@ break-begins steps kinds pairs text place told stands =
 
 -- the break that stands first is written, and the others are left
 pub break-taken : (profile : Profile) (cell : ℕ → Cell) (lefts : List Left) (text more : List ℕ) (all : Ahead) (steps : List FlatStep) (kinds : List ℕ) (pairs : Neighbours)
-    (out after : List RawBreak) (at taken index : ℕ) (here there : BlockState) (step : FlatStep)
-    → at + 64 ≤ length text → IsBlock profile cell lefts steps kinds pairs text at taken → AreLeft pairs text at taken here → index < 64 → 0 < here.left
+    (out after : List RawBreak) (at begin taken index : ℕ) (here there : BlockState) (step : FlatStep)
+    → at + 64 ≤ length text → IsBlock profile cell lefts steps kinds pairs text at begin taken → AreLeft pairs text at begin taken here → index < 64 → 0 < here.left
     → IsLowest here.left index → AreCleared here.left index there.left → there.past ≡ at + index + 1
     → step ≡ step_behind steps kinds pairs (byte_at text (at + index - 1)) (byte_at text (at + index))
     → (IsCode step.code → given_in after there.count ≡ given_in out here.count ++ with_break (at + index) (verdict_coded step.code) [])
     → Reached profile cell lefts (text ++ more) all (place_in pairs text here) (given_in out here.count)
-    → AreLeft pairs text at taken there × Reached profile cell lefts (text ++ more) all (place_in pairs text there) (given_in after there.count)
-break-taken profile cell lefts text more all steps kinds pairs out after at taken index here there step room block left few some lowest cleared moved is_step front r =
-    let first = stands-first pairs text at taken index here left few (lowest.set some) in
+    → AreLeft pairs text at begin taken there × Reached profile cell lefts (text ++ more) all (place_in pairs text there) (given_in after there.count)
+break-taken profile cell lefts text more all steps kinds pairs out after at begin taken index here there step room block left few some lowest cleared moved is_step front r =
+    let first = stands-first pairs text at begin taken index here left few (lowest.set some) in
     let inside = first.inside in
     let behind = first.after in
-    let up = up-to profile cell lefts text more all steps kinds pairs out at taken index here room block left (omega arith) first.after lowest.none r in
+    let up = up-to profile cell lefts text more all steps kinds pairs out at begin taken index here room block left (omega arith) first.after lowest.none r in
     let f = block.few in
-    let told = block.told index inside in
+    let told = block.told index (omega arith) inside in
     let one = scalar-more profile cell lefts text more all steps kinds pairs out after here.count there.count (at + index) block.swift block.kinds_are (omega arith)
     (break-begins steps kinds pairs text (at + index) told first.stands) told
     (subst (λ (s : FlatStep). IsCode s.code → given_in after there.count ≡ given_in out here.count ++ with_break (at + index) (verdict_coded s.code) []) is_step front) up in (
@@ -162,20 +163,22 @@ break-taken profile cell lefts text more all steps kinds pairs out after at take
 
     left-none : (i : ℕ) → i < 64 → (taken ≤ i) ⊎ (at + i < there.past) → is_set there.left i ≡ false
     left-none i h (inl le) =
-        let inside = (stands-first pairs text at taken index here left few (lowest.set some)).inside in
+        let inside = (stands-first pairs text at begin taken index here left few (lowest.set some)).inside in
         let apart : i ≢ index = omega arith in
         cleared.same i h apart ∙ left.none i h (inl le)
     left-none i h (inr lt) = ⊎_elim (λ (le : index ≤ i). subst (λ j. is_set there.left j ≡ false) (let e : index ≡ i = omega arith in e) cleared.gone) (λ (less : i < index). below i h less) (order i index)
 
--- the breaks that are left when a block begins
-pub are-left : (pairs : Neighbours) (text : List ℕ) (at taken standing : ℕ) (here : BlockState) → taken ≤ 64 → here.past ≡ at
-    → AreKeptBelow taken standing here.left → ((i : ℕ) → i < 64 → is_set standing i ≡ stands_at pairs text (at + i))
-    → AreLeft pairs text at taken here
-are-left pairs text at taken standing here few begins kept stands = record {
+-- the breaks that are left when bytes of a block are begun
+pub are-left : (pairs : Neighbours) (text : List ℕ) (at begin taken standing from : ℕ) (here : BlockState) → taken ≤ 64 → begin ≤ taken → here.past ≡ at + begin
+    → AreKeptFrom begin standing from → AreKeptBelow taken from here.left → ((i : ℕ) → i < 64 → is_set standing i ≡ stands_at pairs text (at + i))
+    → AreLeft pairs text at begin taken here
+are-left pairs text at begin taken standing from here few some begins since kept stands = record {
   after = omega arith;
   within = omega arith;
-  told = λ i h past. kept.same i h ∙ stands i (omega arith);
-  none = λ i h out. ⊎_elim (λ (le : taken ≤ i). kept.none i le h) (λ (lt : at + i < here.past). absurd (omega arith)) out;
+  told = λ i h past. kept.same i h ∙ since.same i (omega arith) (omega arith) ∙ stands i (omega arith);
+  none = λ i h out_of.
+      ⊎_elim (λ (le : taken ≤ i). kept.none i le h)
+      (λ (lt : at + i < here.past). kept.same i (omega arith) ∙ since.none i (omega arith)) out_of;
 }
 
 -- Where a block is left
@@ -196,56 +199,35 @@ reached-there profile cell lefts text more all pairs out count at there is_count
 
 -- the bytes up to the next break that is left
 next-break : (profile : Profile) (cell : ℕ → Cell) (lefts : List Left) (text more : List ℕ) (all : Ahead) (steps : List FlatStep) (kinds : List ℕ) (pairs : Neighbours)
-    (out : List RawBreak) (at taken index : ℕ) (here : BlockState)
-    → at + 64 ≤ length text → IsBlock profile cell lefts steps kinds pairs text at taken → AreLeft pairs text at taken here → index < 64 → 0 < here.left
+    (out : List RawBreak) (at begin taken index : ℕ) (here : BlockState)
+    → at + 64 ≤ length text → IsBlock profile cell lefts steps kinds pairs text at begin taken → AreLeft pairs text at begin taken here → index < 64 → 0 < here.left
     → IsLowest here.left index
     → Reached profile cell lefts (text ++ more) all (place_in pairs text here) (given_in out here.count)
     → Reached profile cell lefts (text ++ more) all (record { count = here.count; row = row_before pairs text (at + index); at = at + index }) (given_in out here.count)
-next-break profile cell lefts text more all steps kinds pairs out at taken index here room block left few some lowest r =
-    let first = stands-first pairs text at taken index here left few (lowest.set some) in
-    let told = block.told index first.inside in
+next-break profile cell lefts text more all steps kinds pairs out at begin taken index here room block left few some lowest r =
+    let first = stands-first pairs text at begin taken index here left few (lowest.set some) in
+    let told = block.told index (let b = left.after in let f = first.after in omega arith) first.inside in
     let inside = first.inside in
     depart profile cell lefts text more all pairs out here.count (at + index) (at + index)
     (end-low text (at + index) (told.settled (break-begins steps kinds pairs text (at + index) told first.stands)).0)
-    (up-to profile cell lefts text more all steps kinds pairs out at taken index here room block left (omega arith) first.after lowest.none r)
+    (up-to profile cell lefts text more all steps kinds pairs out at begin taken index here room block left (omega arith) first.after lowest.none r)
 
 -- behind the bytes that are taken if no break is left, else before the next break
 pub stopped-there : (profile : Profile) (cell : ℕ → Cell) (lefts : List Left) (text more : List ℕ) (all : Ahead) (steps : List FlatStep) (kinds : List ℕ) (pairs : Neighbours)
-    (out : List RawBreak) (at taken : ℕ) (here : BlockState) (there : FillState)
-    → at + 64 ≤ length text → IsBlock profile cell lefts steps kinds pairs text at taken
+    (out : List RawBreak) (at begin taken : ℕ) (here : BlockState) (there : FillState)
+    → at + 64 ≤ length text → IsBlock profile cell lefts steps kinds pairs text at begin taken
     → there.count ≡ here.count → there.row ≡ row_before pairs text there.at → at ≤ there.at → (here.left ≡ 0 → there.at ≡ at + taken)
     → (0 < here.left → IsLowest here.left (there.at - at) × (there.at < at + 64))
-    → AreLeft pairs text at taken here × Reached profile cell lefts (text ++ more) all (place_in pairs text here) (given_in out here.count)
+    → AreLeft pairs text at begin taken here × Reached profile cell lefts (text ++ more) all (place_in pairs text here) (given_in out here.count)
     → Reached profile cell lefts (text ++ more) all there (given_in out there.count)
-stopped-there profile cell lefts text more all steps kinds pairs out at taken here there room block is_count is_row onward done stopped known =
+stopped-there profile cell lefts text more all steps kinds pairs out at begin taken here there room block is_count is_row onward done stopped known =
     ⊎_elim
     (λ (none : here.left ≡ 0).
     reached-there profile cell lefts text more all pairs out here.count (at + taken) there is_count is_row (done none)
-    (taken-all profile cell lefts text more all steps kinds pairs out at taken here room block known.0 none known.1))
+    (taken-all profile cell lefts text more all steps kinds pairs out at begin taken here room block known.0 none known.1))
     (λ (some : 0 < here.left).
     let found = stopped some in
     let few = found.1 in
     reached-there profile cell lefts text more all pairs out here.count (at + (there.at - at)) there is_count is_row (omega arith)
-    (next-break profile cell lefts text more all steps kinds pairs out at taken (there.at - at) here room block known.0 (omega arith) some found.0 known.1))
-    (zero-or here.left)
-
--- a break is written, if one is left
-pub taken-or-kept : (profile : Profile) (cell : ℕ → Cell) (lefts : List Left) (text more : List ℕ) (all : Ahead) (steps : List FlatStep) (kinds : List ℕ) (pairs : Neighbours)
-    (out after : List RawBreak) (at taken index written : ℕ) (here there : BlockState) (step : FlatStep)
-    → at + 64 ≤ length text → IsBlock profile cell lefts steps kinds pairs text at taken → AreLeft pairs text at taken here → index < 64
-    → IsLowest here.left index → (0 < here.left → AreCleared here.left index there.left) → (0 < here.left → there.past ≡ at + index + 1)
-    → (0 < here.left → there.count ≡ written) → (here.left ≡ 0 → there ≡ here)
-    → step ≡ step_behind steps kinds pairs (byte_at text (at + index - 1)) (byte_at text (at + index))
-    → (IsCode step.code → given_in after written ≡ given_in out here.count ++ with_break (at + index) (verdict_coded step.code) [])
-    → given_in after here.count ≡ given_in out here.count
-    → Reached profile cell lefts (text ++ more) all (place_in pairs text here) (given_in out here.count)
-    → AreLeft pairs text at taken there × Reached profile cell lefts (text ++ more) all (place_in pairs text there) (given_in after there.count)
-taken-or-kept profile cell lefts text more all steps kinds pairs out after at taken index written here there step room block left few lowest cleared moved counted same is_step front kept r =
-    ⊎_elim
-    (λ (none : here.left ≡ 0).
-    subst (λ (h : BlockState). AreLeft pairs text at taken h × Reached profile cell lefts (text ++ more) all (place_in pairs text h) (given_in after h.count)) (sym (same none))
-    (left, subst (λ g. Reached profile cell lefts (text ++ more) all (place_in pairs text here) g) (sym kept) r))
-    (λ (some : 0 < here.left).
-    break-taken profile cell lefts text more all steps kinds pairs out after at taken index here there step room block left few some lowest (cleared some) (moved some) is_step
-    (λ coded. ap (given_in after) (counted some) ∙ front coded) r)
+    (next-break profile cell lefts text more all steps kinds pairs out at begin taken (there.at - at) here room block known.0 (omega arith) some found.0 known.1))
     (zero-or here.left)

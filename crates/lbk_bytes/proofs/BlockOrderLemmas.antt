@@ -1,27 +1,14 @@
 -- Breaks in order, by the bits of a block.
-use Rattle.std.proofs.Common.{◌≡◌, ◌≢◌, ◌⊎◌, ℕ, ◌+◌, ◌-◌, ◌<◌, ◌≤◌, true, false, List, take, get_or, get_or-take, sym, ap, subst, ◌∙◌, ⊎_elim, inl, inr, arith}
+use Rattle.std.proofs.Common.{◌≡◌, ◌≢◌, ◌⊎◌, ℕ, ◌+◌, ◌-◌, ◌<◌, ◌≤◌, true, false, List, sym, subst, ◌∙◌, ⊎_elim, inl, inr, arith}
 use Rattle.lbk_masks.specs.Sets.{is_set}
 use Rattle.lbk_bytes.specs.declared.blocks.BlockState.{BlockState}
 use Rattle.lbk_bytes.specs.declared.fill_state.FillState.{FillState}
 use Rattle.lbk_bytes.specs.declared.raw_break.RawBreak.{RawBreak}
-use Rattle.lbk_bytes.specs.Blocks.{AreCleared, AreKeptBelow, IsAhead, IsLowest}
-use Rattle.lbk_bytes.specs.Order.{AreInOrder, IsBreak, no_break}
+use Rattle.lbk_bytes.specs.Blocks.{AreCleared, AreKeptBelow, AreKeptFrom, IsAhead, IsLowest}
+use Rattle.lbk_bytes.specs.Order.{AreInOrder}
 use Rattle.lbk_bytes.specs.Reached.{IsInOrder}
 use Rattle.lbk_bytes.proofs.BlockLemmas.{order, zero-or}
 use Rattle.lbk_bytes.proofs.OrderLemmas.{AreInOrder-wider}
-
--- blocks with the same front
-pub AreInOrder-front : (block other : List RawBreak) (count from to : ℕ) → take count other ≡ take count block → AreInOrder block count from to → AreInOrder other count from to
-AreInOrder-front block other count from to same o =
-    let kept_at : (k : ℕ) → k < count → get_or block k no_break ≡ get_or other k no_break =
-    λ k few. sym (get_or-take count block k no_break few) ∙ sym (ap (λ l. get_or l k no_break) same) ∙ get_or-take count other k no_break few in
-    record {
-      each = λ k few. subst IsBreak (kept_at k few) (o.each k few);
-      within = λ k few. subst (λ (b : RawBreak). (from ≤ b.at) × (b.at < to)) (kept_at k few) (o.within k few);
-      rising = λ k few j before.
-          subst (λ (b : RawBreak). (get_or other j no_break).at < b.at) (kept_at k few)
-          (subst (λ (b : RawBreak). b.at < (get_or block k no_break).at) (kept_at j (omega arith)) (o.rising k few j before));
-    }
 
 pub IsInOrder-wider : (block : List RawBreak) (count from at further : ℕ) → at ≤ further → IsInOrder block count from at → IsInOrder block count from further
 IsInOrder-wider block count from at further wider o = (omega (arith, o.0, wider), AreInOrder-wider block count from at further wider o.1)
@@ -35,7 +22,7 @@ lowest-ahead at taken index here ahead few set =
     )
 
 -- behind the lowest bit no other is left before
-ahead-taken : (at taken index : ℕ) (here there : BlockState) → IsAhead at taken here → index < 64 → 0 < here.left → IsLowest here.left index
+pub ahead-taken : (at taken index : ℕ) (here there : BlockState) → IsAhead at taken here → index < 64 → 0 < here.left → IsLowest here.left index
     → AreCleared here.left index there.left → there.past ≡ at + index + 1 → IsAhead at taken there
 ahead-taken at taken index here there ahead few some lowest cleared moved =
     let first = lowest-ahead at taken index here ahead few (lowest.set some) in
@@ -52,47 +39,43 @@ ahead-taken at taken index here there ahead few some lowest cleared moved =
         ⊎_elim (λ (le : index ≤ i). subst (λ j. is_set there.left j ≡ false) (let e : index ≡ i = omega arith in e) cleared.gone)
         (λ (less : i < index). (let apart : i ≢ index = omega arith in cleared.same i h apart ∙ lowest.none i less)) (order i index)
 
-pub ahead-next : (at taken index : ℕ) (here there : BlockState) → IsAhead at taken here → index < 64 → IsLowest here.left index
-    → (0 < here.left → AreCleared here.left index there.left) → (0 < here.left → there.past ≡ at + index + 1) → (here.left ≡ 0 → there ≡ here)
-    → IsAhead at taken there
-ahead-next at taken index here there ahead few lowest cleared moved same =
-    ⊎_elim (λ (none : here.left ≡ 0). subst (IsAhead at taken) (sym (same none)) ahead)
-    (λ (some : 0 < here.left). ahead-taken at taken index here there ahead few some lowest (cleared some) (moved some)) (zero-or here.left)
-
-pub order-next : (out after : List RawBreak) (at taken index written from : ℕ) (here there : BlockState)
-    → IsAhead at taken here → index < 64 → IsLowest here.left index → (0 < here.left → there.past ≡ at + index + 1) → (0 < here.left → there.count ≡ written)
-    → (here.left ≡ 0 → there ≡ here) → take here.count after ≡ take here.count out
+pub order-taken : (out after : List RawBreak) (at taken index written from : ℕ) (here : BlockState)
+    → IsAhead at taken here → index < 64 → 0 < here.left → IsLowest here.left index
     → ((from to : ℕ) → at + index < to → IsInOrder out here.count from (at + index) → AreInOrder after written from to)
-    → IsInOrder out here.count from here.past → IsInOrder after there.count from there.past
-order-next out after at taken index written from here there ahead few lowest moved counted same kept put o =
-    ⊎_elim
-    (λ (none : here.left ≡ 0).
-    subst (λ (h : BlockState). IsInOrder after h.count from h.past) (sym (same none)) (o.0, AreInOrder-front out after here.count from here.past kept o.1))
-    (λ (some : 0 < here.left).
+    → IsInOrder out here.count from here.past → IsInOrder after written from (at + index + 1)
+order-taken out after at taken index written from here ahead few some lowest put o =
     let first = lowest-ahead at taken index here ahead few (lowest.set some) in
     let behind = IsInOrder-wider out here.count from here.past (at + index) first.1 o in
-    let past = moved some in
-    subst (λ n. IsInOrder after n from there.past) (sym (counted some)) (omega (arith, behind.0), put from there.past (omega arith) behind))
-    (zero-or here.left)
+    (omega (arith, behind.0), put from (at + index + 1) (omega arith) behind)
 
--- a block as it begins has no break left but in its first bytes
-pub ahead-begins : (at taken bits : ℕ) (here : BlockState) → here.past ≡ at → AreKeptBelow taken bits here.left → IsAhead at taken here
-ahead-begins at taken bits here begins kept = record {
+-- bytes of a block that are begun have no break left but among them
+pub ahead-begins : (at begin taken bits from : ℕ) (here : BlockState) → begin ≤ taken → taken ≤ 64 → here.past ≡ at + begin → AreKeptFrom begin bits from → AreKeptBelow taken from here.left
+    → IsAhead at taken here
+ahead-begins at begin taken bits from here some few begins since kept = record {
   within = omega arith;
-  none = λ i h out_of. ⊎_elim (λ (le : taken ≤ i). kept.none i le h) (λ (lt : at + i < here.past). absurd (omega arith)) out_of;
+  none = λ i h out_of.
+      ⊎_elim (λ (le : taken ≤ i). kept.none i le h)
+      (λ (lt : at + i < here.past). kept.same i (omega arith) ∙ since.none i (omega arith)) out_of;
 }
+
+-- where a block is left is not before it was begun
+pub past-stopped : (at taken : ℕ) (here : BlockState) (there : FillState)
+    → at ≤ there.at → (here.left ≡ 0 → there.at ≡ at + taken) → (0 < here.left → IsLowest here.left (there.at - at) × (there.at < at + 64))
+    → IsAhead at taken here → here.past ≤ there.at
+past-stopped at taken here there onward done stopped ahead =
+    let within = ahead.within in
+    ⊎_elim (λ (none : here.left ≡ 0). (let e = done none in omega arith))
+    (λ (some : 0 < here.left).
+    let found = stopped some in
+    let few = found.1 in
+    let first = (lowest-ahead at taken (there.at - at) here ahead (omega arith) (found.0.set some)).1 in
+    omega arith)
+    (zero-or here.left)
 
 -- where a block is left the breaks are in order
 pub order-stopped : (out : List RawBreak) (at taken from : ℕ) (here : BlockState) (there : FillState)
     → there.count ≡ here.count → at ≤ there.at → (here.left ≡ 0 → there.at ≡ at + taken) → (0 < here.left → IsLowest here.left (there.at - at) × (there.at < at + 64))
     → IsAhead at taken here → IsInOrder out here.count from here.past → IsInOrder out there.count from there.at
 order-stopped out at taken from here there counted onward done stopped ahead o =
-    let within = ahead.within in
     subst (λ n. IsInOrder out n from there.at) (sym counted)
-    (⊎_elim (λ (none : here.left ≡ 0). (let e = done none in IsInOrder-wider out here.count from here.past there.at (omega arith) o))
-    (λ (some : 0 < here.left).
-    let found = stopped some in
-    let few = found.1 in
-    let first = (lowest-ahead at taken (there.at - at) here ahead (omega arith) (found.0.set some)).1 in
-    IsInOrder-wider out here.count from here.past there.at (omega arith) o)
-    (zero-or here.left))
+    (IsInOrder-wider out here.count from here.past there.at (past-stopped at taken here there onward done stopped ahead) o)

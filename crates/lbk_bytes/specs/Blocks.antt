@@ -1,14 +1,16 @@
 -- A block of 64 bytes whose breaks the sets of its bytes tell.
-use Rattle.std.specs.Prelude.{◌≡◌, ◌≢◌, ◌⊎◌, ℕ, ◌+◌, ◌-◌, ◌<◌, ◌≤◌, Bool, true, false, List, length, slice_index_or, nat_le, if◌then◌else◌}
+use Rattle.std.specs.Prelude.{◌≡◌, ◌≢◌, ◌⊎◌, ℕ, ◌+◌, ◌-◌, ◌<◌, ◌≤◌, ◌||◌, Bool, true, false, List, length, take, drop, slice_index_or, nat_le, if◌then◌else◌}
 use Rattle.lbk_masks.specs.Sets.{is_set, left_in, meets, right_in}
+use Rattle.lbk_masks.specs.Strays.{is_stray}
 use Rattle.lbk_rules.specs.declared.cells.Cell.{Cell}
 use Rattle.lbk_rules.specs.declared.facts.Left.{Left}
 use Rattle.lbk_steps.specs.declared.flat_table.FlatStep.{FlatStep}
 use Rattle.lbk_steps.specs.declared.neighbours.Neighbours.{Neighbours}
 use Rattle.lbk_values.specs.declared.profile.Profile.{Profile}
 use Rattle.lbk_steps.specs.FlatTable.{AreFlatKinds}
-use Rattle.lbk_steps.specs.Neighbours.{AreSettled}
+use Rattle.lbk_steps.specs.Neighbours.{AreSettled, is_special}
 use Rattle.lbk_bytes.specs.declared.blocks.BlockState.{BlockState}
+use Rattle.lbk_bytes.specs.declared.blocks.Marks.{Marks}
 use Rattle.lbk_bytes.specs.declared.fill_state.FillState.{FillState}
 use Rattle.lbk_bytes.specs.Reached.{AreSwift}
 
@@ -20,17 +22,26 @@ byte_at text place = slice_index_or text place 0
 abbrev pub row_before : Neighbours → List ℕ → ℕ → ℕ
 row_before pairs text place = slice_index_or pairs.rows (byte_at text (place - 1)) 0
 
--- a block can begin here, behind a byte with this left set
-pub record Rests (pairs : Neighbours) (here : FillState) (text : List ℕ) (before : ℕ) : Type 0 where
-  pub begins : 0 < here.at
-  pub within : here.at + 64 ≤ length text
+-- the row here is that of the byte before, which is the last of a scalar of one byte or two, if of one
+pub record Rests (pairs : Neighbours) (here : FillState) (text : List ℕ) : Type 0 where
   pub below : byte_at text (here.at - 1) < 192
   pub row : here.row ≡ row_before pairs text here.at
-  pub set : before ≡ left_in pairs.sets (byte_at text (here.at - 1))
 
 -- whether the byte at a place stands out behind the one before it
 abbrev pub stands_at : Neighbours → List ℕ → ℕ → Bool
 stands_at pairs text place = meets (left_in pairs.sets (byte_at text (place - 1))) (right_in pairs.sets (byte_at text place))
+
+-- whether the byte at a place is left to steps, in a block that begins here
+abbrev pub stops_at : Neighbours → List ℕ → ℕ → ℕ → Bool
+stops_at pairs text at i =
+    is_special pairs (byte_at text (at + i - 1)) (byte_at text (at + i)) || is_stray (take (length text - at) (drop at text)) i
+
+-- these are the marks of the 64 bytes from here on
+pub record AreMarks (pairs : Neighbours) (text : List ℕ) (at : ℕ) (marks : Marks) : Type 0 where
+  pub begins : 0 < at
+  pub within : at + 64 ≤ length text
+  pub standing : (i : ℕ) → i < 64 → is_set marks.standing i ≡ stands_at pairs text (at + i)
+  pub stops : (i : ℕ) → i < 64 → is_set marks.stops i ≡ stops_at pairs text at i
 
 -- a byte that goes on with a scalar stands here
 pub record GoesOn (text : List ℕ) (place : ℕ) : Type 0 where
@@ -42,6 +53,11 @@ pub record GoesOn (text : List ℕ) (place : ℕ) : Type 0 where
 pub record AreKeptBelow (count bits kept : ℕ) : Type 0 where
   pub same : (i : ℕ) → i < count → is_set kept i ≡ is_set bits i
   pub none : (i : ℕ) → count ≤ i → i < 64 → is_set kept i ≡ false
+
+-- these are the bits of a number from this one on
+pub record AreKeptFrom (first bits kept : ℕ) : Type 0 where
+  pub same : (i : ℕ) → first ≤ i → i < 64 → is_set kept i ≡ is_set bits i
+  pub none : (i : ℕ) → i < first → is_set kept i ≡ false
 
 -- this is the lowest bit of a number that is set, if one is
 pub record IsLowest (bits index : ℕ) : Type 0 where
@@ -62,12 +78,12 @@ pub record IsByteTold (steps : List FlatStep) (kinds : List ℕ) (pairs : Neighb
   pub goes_on : 192 ≤ byte_at text place → GoesOn text (place + 1)
   pub quiet : 128 ≤ byte_at text place → byte_at text place < 192 → (192 ≤ byte_at text (place - 1)) × (stands_at pairs text place ≡ false)
 
--- the first bytes of the block are scalars of one byte or two, whose last is there too
-pub record IsBlock (profile : Profile) (cell : ℕ → Cell) (lefts : List Left) (steps : List FlatStep) (kinds : List ℕ) (pairs : Neighbours) (text : List ℕ) (at taken : ℕ) : Type 0 where
+-- from one on the first bytes of the block are scalars of one byte or two, whose last is there too
+pub record IsBlock (profile : Profile) (cell : ℕ → Cell) (lefts : List Left) (steps : List FlatStep) (kinds : List ℕ) (pairs : Neighbours) (text : List ℕ) (at begin taken : ℕ) : Type 0 where
   pub swift : AreSwift profile lefts steps
   pub kinds_are : AreFlatKinds kinds cell
   pub few : taken ≤ 64
-  pub told : (i : ℕ) → i < taken → IsByteTold steps kinds pairs text (at + i)
+  pub told : (i : ℕ) → begin ≤ i → i < taken → IsByteTold steps kinds pairs text (at + i)
   pub ends : byte_at text (at + taken - 1) < 192
 
 -- no break is left but from here on, in the first bytes of the block
@@ -76,8 +92,8 @@ pub record IsAhead (at taken : ℕ) (here : BlockState) : Type 0 where
   pub none : (i : ℕ) → i < 64 → (taken ≤ i) ⊎ (at + i < here.past) → is_set here.left i ≡ false
 
 -- of the first bytes of the block those that stand out are left from here on
-pub record AreLeft (pairs : Neighbours) (text : List ℕ) (at taken : ℕ) (here : BlockState) : Type 0 where
-  pub after : at ≤ here.past
+pub record AreLeft (pairs : Neighbours) (text : List ℕ) (at begin taken : ℕ) (here : BlockState) : Type 0 where
+  pub after : at + begin ≤ here.past
   pub within : here.past ≤ at + taken
   pub told : (i : ℕ) → i < taken → here.past ≤ at + i → is_set here.left i ≡ stands_at pairs text (at + i)
   pub none : (i : ℕ) → i < 64 → (taken ≤ i) ⊎ (at + i < here.past) → is_set here.left i ≡ false

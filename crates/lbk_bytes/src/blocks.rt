@@ -1,28 +1,34 @@
 //! Blocks of 64 bytes whose breaks the sets of their bytes tell, so that no step waits for the one before it.
 
-ghost use Rattle.std.specs.Prelude.{◌≡◌, ℕ, ◌+◌, ◌-◌, ◌^◌, ◌<◌, ◌≤◌, ◌++◌, List, length, IfSome};
+ghost use Rattle.std.specs.Prelude.{◌≡◌, ℕ, ◌+◌, ◌-◌, ◌<◌, ◌≤◌, ◌++◌, List, length, IfSome};
 ghost use Rattle.lbk_rules.specs.declared.cells.Cell.{Cell};
 ghost use Rattle.lbk_rules.specs.declared.facts.Left.{Left};
 ghost use Rattle.lbk_values.specs.declared.profile.Profile.{Profile};
 ghost use Rattle.lbk_steps.specs.FlatTable.{AreFlatKinds};
 ghost use Rattle.lbk_steps.specs.Neighbours.{AreTold};
-ghost use Rattle.lbk_bytes.specs.Blocks.{AreCleared, AreKeptBelow, AreLeft, IsAhead, IsBlock, IsLowest, Rests, place_in, row_before};
+ghost use Rattle.lbk_bytes.specs.Blocks.{AreCleared, AreKeptBelow, AreKeptFrom, AreLeft, AreMarks, IsAhead, IsBlock, IsLowest, place_in, row_before};
 ghost use Rattle.lbk_bytes.specs.Reached.{Ahead, AreSwift, IsInOrder, Reached};
 ghost use Rattle.lbk_bytes.specs.Shown.{given_in};
 
 use crate::fill_state::FillState;
-use crate::filling::put;
+use crate::filling::{put, runs};
 use crate::raw_break::RawBreak;
 use crate::steps::{CODES, step_at};
+use crate::tries::are_many;
 use lbk_masks::strays;
 use lbk_steps::{FlatStep, Neighbours, STEPS};
-use std::simd::prelude::*;
 
 /// How many bytes are looked at together.
 pub(crate) const BLOCK: usize = 64;
 
-/// How many breaks are written without a test between them.
-const GROUP: usize = 8;
+/// What is known of the 64 bytes of a block, a bit each.
+#[derive(Clone, Copy)]
+pub(crate) struct Marks {
+    /// Which stand out behind the byte before.
+    pub(crate) standing: u64,
+    /// Which are left to steps: those that are special, or of no scalar of one or two bytes in the block.
+    pub(crate) stops: u64,
+}
 
 /// How far a block of bytes was taken.
 #[derive(Clone, Copy)]
@@ -35,10 +41,9 @@ pub(crate) struct BlockState {
     pub(crate) left: u64,
 }
 
-/// Takes blocks of 64 bytes, as many as come one after the other, and the front of one in which a byte is special or of no scalar
-/// of one or two bytes in the block.
-/// Nothing is taken where the row is not that of the byte before, or fewer bytes are left. It stands apart, so that what
-/// single scalars need stays in registers.
+/// Takes blocks of 64 bytes, as many as come one after the other, up to a scalar that no step takes, or that begins less than 64
+/// bytes before the end, or from which on many bytes are left to steps. It stands apart, so that what single scalars need stays in
+/// registers.
 #[inline(never)]
 pub(crate) fn blocks(
     pairs: &Neighbours,
@@ -59,14 +64,14 @@ pub(crate) fn blocks(
 {
     let mut from = start.at;
     let mut here = block(pairs, kinds, steps, start, text, out);
-    while here.at - from == BLOCK {
+    while BLOCK <= here.at - from {
         from = here.at;
         here = block(pairs, kinds, steps, here, text, out);
     }
     here
 }
 
-/// Takes the front of one block, up to the first such byte.
+/// Takes the bytes of one block: those that its marks tell by them, and the others by steps.
 #[inline(always)]
 fn block(
     pairs: &Neighbours,
@@ -85,54 +90,94 @@ fn block(
         → Reached profile cell lefts (text.now ++ more) all start (given_in out.old start.count)
         → Reached profile cell lefts (text.now ++ more) all result (given_in out.new result.count) }
 {
-    let Some(before) = set_before(pairs, start, text) else {
+    let Some(marks) = marks_ahead(pairs, start.at, text) else {
         return start;
     };
-    let ahead = &text[start.at..];
-    let masks = pairs.sets.masks(before, ahead);
-    let taken = (masks.special | strays(ahead)).trailing_zeros() as usize;
-    let marked = BlockState {
-        count: start.count,
-        past: start.at,
-        left: kept_below(masks.standing, taken),
-    };
-    finish(pairs, kinds, steps, start.at, taken, marked, text, out)
+    let end = start.at + BLOCK;
+    let mut here = start;
+    while here.at < end {
+        let there = told(pairs, kinds, steps, start.at, marks, here, text, out);
+        if end <= there.at {
+            return there;
+        }
+        here = runs(kinds, steps, there, there.at + 1, text, out);
+        if here.at == there.at {
+            return here;
+        }
+    }
+    here
 }
 
-/// The left set of the byte before a block, if the row is that byte's and a block can begin here: 64 bytes are left, and of the
-/// next 16 none begins a scalar of more than two.
+/// The marks of the next 64 bytes, unless fewer are left, no byte stands before them, or many of them are left to steps.
 #[inline(always)]
-pub(crate) fn set_before(pairs: &Neighbours, here: FillState, text: &[u8]) -> Option<u8>
-    requires { here.at ≤ length text.now }
-    ensures { IfSome result (λ before. Rests pairs.now here text.now before) }
+pub(crate) fn marks_ahead(pairs: &Neighbours, at: usize, text: &[u8]) -> Option<Marks>
+    requires { at ≤ length text.now }
+    ensures { IfSome result (λ marks. AreMarks pairs.now text.now at marks) }
 {
-    if here.at == 0 {
+    if at == 0 {
         return None;
     }
-    if text.len() - here.at < BLOCK {
+    if text.len() - at < BLOCK {
         return None;
     }
+    let ahead = &text[at..];
+    let strays = strays(ahead);
+    if are_many(strays) {
+        return None;
+    }
+    let before = pairs.sets.left_of(text[at - 1]);
+    let masks = pairs.sets.masks(before, ahead);
+    Some(Marks {
+        standing: masks.standing,
+        stops: masks.special | strays,
+    })
+}
+
+/// Takes bytes of a block up to the first that is left to steps, if the row here is that of the byte before.
+#[inline(always)]
+fn told(
+    pairs: &Neighbours,
+    kinds: &[u8; CODES],
+    steps: &[FlatStep; STEPS],
+    at: usize,
+    marks: Marks,
+    here: FillState,
+    text: &[u8],
+    out: &mut [RawBreak],
+) -> FillState
+    requires { (here.count ≤ length out.old) × (here.row < 65536) × (0 < at) × (at ≤ here.at) × (here.at < at + 64) × (at + 64 ≤ length text.now) }
+    ensures within { (result.count ≤ length out.old) × (result.row < 65536) × (result.at ≤ length text.now) }
+    ensures onward { (here.at ≤ result.at) × (here.count ≤ result.count) }
+    ensures in_order { (from : ℕ) → IsInOrder out.old here.count from here.at → IsInOrder out.new result.count from result.at }
+    ensures reached { (profile : Profile) (cell : ℕ → Cell) (lefts : List Left) (more : List ℕ) (all : Ahead) → AreSwift profile lefts steps.now → AreFlatKinds kinds.now cell
+        → AreTold steps.now kinds.now pairs.now → AreMarks pairs.now text.now at marks
+        → Reached profile cell lefts (text.now ++ more) all here (given_in out.old here.count)
+        → Reached profile cell lefts (text.now ++ more) all result (given_in out.new result.count) }
+{
     let byte = text[here.at - 1];
     if byte >= 192 {
-        return None;
+        return here;
     }
     if here.row != pairs.rows[byte as usize] as usize {
-        return None;
+        return here;
     }
-    if wide_ahead(&text[here.at..]) != 0 {
-        return None;
-    }
-    Some(pairs.sets.left_of(byte))
+    let begin = here.at - at;
+    let taken = kept_from(marks.stops, begin).trailing_zeros() as usize;
+    let marked = BlockState {
+        count: here.count,
+        past: here.at,
+        left: kept_below(kept_from(marks.standing, begin), taken),
+    };
+    finish(pairs, kinds, steps, at, taken, marked, text, out)
 }
 
-/// Which of the next 16 bytes begin scalars of more than two bytes, a bit each.
+/// The bits of a number from this one on.
 #[inline(always)]
-pub(crate) fn wide_ahead(text: &[u8]) -> u64
-    requires { 16 ≤ length text.now }
+fn kept_from(bits: u64, first: usize) -> u64
+    requires { first < 64 }
+    ensures { AreKeptFrom first bits result }
 {
-    u8x16::from_slice(text)
-        .simd_ge(u8x16::splat(0xE0))
-        .to_bitmask()
+    bits & !((1 << first) - 1)
 }
 
 /// The bits of a number below this one.
@@ -162,16 +207,17 @@ fn finish(
     requires { (start.count ≤ length out.old) × (0 < at) × (at + 64 ≤ length text.now) × (taken ≤ 64) × (at ≤ start.past) × (start.past ≤ at + 64) }
     ensures within { (result.count ≤ length out.old) × (result.row < 65536) × (result.at ≤ length text.now) }
     ensures onward { (at ≤ result.at) × (start.count ≤ result.count) }
+    ensures past { IsAhead at taken start → start.past ≤ result.at }
     ensures in_order { (from : ℕ) → IsAhead at taken start → IsInOrder out.old start.count from start.past → IsInOrder out.new result.count from result.at }
-    ensures reached { (profile : Profile) (cell : ℕ → Cell) (lefts : List Left) (more : List ℕ) (all : Ahead)
-        → IsBlock profile cell lefts steps.now kinds.now pairs.now text.now at taken
-        → AreLeft pairs.now text.now at taken start
+    ensures reached { (profile : Profile) (cell : ℕ → Cell) (lefts : List Left) (more : List ℕ) (all : Ahead) (begin : ℕ)
+        → IsBlock profile cell lefts steps.now kinds.now pairs.now text.now at begin taken
+        → AreLeft pairs.now text.now at begin taken start
         → Reached profile cell lefts (text.now ++ more) all (place_in pairs.now text.now start) (given_in out.old start.count)
         → Reached profile cell lefts (text.now ++ more) all result (given_in out.new result.count) }
 {
     let mut here = start;
     while here.left != 0 && here.count < out.len() {
-        here = some_breaks(pairs, kinds, steps, at, here, text, out);
+        here = take_break(pairs, kinds, steps, at, here, text, out);
     }
     stopped(pairs, at, taken, here, text)
 }
@@ -207,121 +253,7 @@ pub(crate) fn behind_byte(pairs: &Neighbours, count: usize, at: usize, text: &[u
     }
 }
 
-/// Writes one break or more, as many at once as there is room for.
-#[inline(always)]
-fn some_breaks(
-    pairs: &Neighbours,
-    kinds: &[u8; CODES],
-    steps: &[FlatStep; STEPS],
-    at: usize,
-    here: BlockState,
-    text: &[u8],
-    out: &mut [RawBreak],
-) -> BlockState
-    requires { (here.count < length out.old) × (0 < at) × (at + 64 ≤ length text.now) × (at ≤ here.past) × (here.past ≤ at + 64) }
-    ensures ahead { (taken : ℕ) → IsAhead at taken here → IsAhead at taken result }
-    ensures in_order { (taken from : ℕ) → IsAhead at taken here → IsInOrder out.old here.count from here.past → IsInOrder out.new result.count from result.past }
-    ensures within { (result.count ≤ length out.old) × (at ≤ result.past) × (result.past ≤ at + 64) }
-    ensures onward { (here.count ≤ result.count) × (result.left ≤ here.left) × (0 < here.left → result.left < here.left) }
-    ensures reached { (profile : Profile) (cell : ℕ → Cell) (lefts : List Left) (more : List ℕ) (all : Ahead) (taken : ℕ)
-        → IsBlock profile cell lefts steps.now kinds.now pairs.now text.now at taken
-        → AreLeft pairs.now text.now at taken here
-        → Reached profile cell lefts (text.now ++ more) all (place_in pairs.now text.now here) (given_in out.old here.count)
-        → AreLeft pairs.now text.now at taken result
-        × Reached profile cell lefts (text.now ++ more) all (place_in pairs.now text.now result) (given_in out.new result.count) }
-{
-    if here.count + GROUP <= out.len() {
-        return eight_breaks(pairs, kinds, steps, at, here, text, out);
-    }
-    take_break(pairs, kinds, steps, at, here, text, out)
-}
-
-/// Writes the next eight breaks, or as many as are left.
-#[inline(always)]
-fn eight_breaks(
-    pairs: &Neighbours,
-    kinds: &[u8; CODES],
-    steps: &[FlatStep; STEPS],
-    at: usize,
-    here: BlockState,
-    text: &[u8],
-    out: &mut [RawBreak],
-) -> BlockState
-    requires { (here.count + 8 ≤ length out.old) × (0 < at) × (at + 64 ≤ length text.now) × (at ≤ here.past) × (here.past ≤ at + 64) }
-    ensures ahead { (taken : ℕ) → IsAhead at taken here → IsAhead at taken result }
-    ensures in_order { (taken from : ℕ) → IsAhead at taken here → IsInOrder out.old here.count from here.past → IsInOrder out.new result.count from result.past }
-    ensures within { (result.count ≤ length out.old) × (at ≤ result.past) × (result.past ≤ at + 64) }
-    ensures onward { (here.count ≤ result.count) × (result.left ≤ here.left) × (0 < here.left → result.left < here.left) }
-    ensures few { result.count ≤ here.count + 8 }
-    ensures reached { (profile : Profile) (cell : ℕ → Cell) (lefts : List Left) (more : List ℕ) (all : Ahead) (taken : ℕ)
-        → IsBlock profile cell lefts steps.now kinds.now pairs.now text.now at taken
-        → AreLeft pairs.now text.now at taken here
-        → Reached profile cell lefts (text.now ++ more) all (place_in pairs.now text.now here) (given_in out.old here.count)
-        → AreLeft pairs.now text.now at taken result
-        × Reached profile cell lefts (text.now ++ more) all (place_in pairs.now text.now result) (given_in out.new result.count) }
-{
-    let there = four_breaks(pairs, kinds, steps, at, here, text, out);
-    four_breaks(pairs, kinds, steps, at, there, text, out)
-}
-
-/// Writes the next four breaks, or as many as are left.
-#[inline(always)]
-fn four_breaks(
-    pairs: &Neighbours,
-    kinds: &[u8; CODES],
-    steps: &[FlatStep; STEPS],
-    at: usize,
-    here: BlockState,
-    text: &[u8],
-    out: &mut [RawBreak],
-) -> BlockState
-    requires { (here.count + 4 ≤ length out.old) × (0 < at) × (at + 64 ≤ length text.now) × (at ≤ here.past) × (here.past ≤ at + 64) }
-    ensures ahead { (taken : ℕ) → IsAhead at taken here → IsAhead at taken result }
-    ensures in_order { (taken from : ℕ) → IsAhead at taken here → IsInOrder out.old here.count from here.past → IsInOrder out.new result.count from result.past }
-    ensures within { (result.count ≤ length out.old) × (at ≤ result.past) × (result.past ≤ at + 64) }
-    ensures onward { (here.count ≤ result.count) × (result.left ≤ here.left) × (0 < here.left → result.left < here.left) }
-    ensures few { result.count ≤ here.count + 4 }
-    ensures reached { (profile : Profile) (cell : ℕ → Cell) (lefts : List Left) (more : List ℕ) (all : Ahead) (taken : ℕ)
-        → IsBlock profile cell lefts steps.now kinds.now pairs.now text.now at taken
-        → AreLeft pairs.now text.now at taken here
-        → Reached profile cell lefts (text.now ++ more) all (place_in pairs.now text.now here) (given_in out.old here.count)
-        → AreLeft pairs.now text.now at taken result
-        × Reached profile cell lefts (text.now ++ more) all (place_in pairs.now text.now result) (given_in out.new result.count) }
-{
-    let there = two_breaks(pairs, kinds, steps, at, here, text, out);
-    two_breaks(pairs, kinds, steps, at, there, text, out)
-}
-
-/// Writes the next two breaks, or as many as are left.
-#[inline(always)]
-fn two_breaks(
-    pairs: &Neighbours,
-    kinds: &[u8; CODES],
-    steps: &[FlatStep; STEPS],
-    at: usize,
-    here: BlockState,
-    text: &[u8],
-    out: &mut [RawBreak],
-) -> BlockState
-    requires { (here.count + 2 ≤ length out.old) × (0 < at) × (at + 64 ≤ length text.now) × (at ≤ here.past) × (here.past ≤ at + 64) }
-    ensures ahead { (taken : ℕ) → IsAhead at taken here → IsAhead at taken result }
-    ensures in_order { (taken from : ℕ) → IsAhead at taken here → IsInOrder out.old here.count from here.past → IsInOrder out.new result.count from result.past }
-    ensures within { (result.count ≤ length out.old) × (at ≤ result.past) × (result.past ≤ at + 64) }
-    ensures onward { (here.count ≤ result.count) × (result.left ≤ here.left) × (0 < here.left → result.left < here.left) }
-    ensures few { result.count ≤ here.count + 2 }
-    ensures reached { (profile : Profile) (cell : ℕ → Cell) (lefts : List Left) (more : List ℕ) (all : Ahead) (taken : ℕ)
-        → IsBlock profile cell lefts steps.now kinds.now pairs.now text.now at taken
-        → AreLeft pairs.now text.now at taken here
-        → Reached profile cell lefts (text.now ++ more) all (place_in pairs.now text.now here) (given_in out.old here.count)
-        → AreLeft pairs.now text.now at taken result
-        × Reached profile cell lefts (text.now ++ more) all (place_in pairs.now text.now result) (given_in out.new result.count) }
-{
-    let there = take_break(pairs, kinds, steps, at, here, text, out);
-    take_break(pairs, kinds, steps, at, there, text, out)
-}
-
-/// Writes the next break, if one is left. Where none is, the place after the breaks is written, which does not matter: so
-/// it takes no test.
+/// Writes the next break that is left.
 #[inline(always)]
 fn take_break(
     pairs: &Neighbours,
@@ -332,43 +264,26 @@ fn take_break(
     text: &[u8],
     out: &mut [RawBreak],
 ) -> BlockState
-    requires { (here.count < length out.old) × (0 < at) × (at + 64 ≤ length text.now) × (at ≤ here.past) × (here.past ≤ at + 64) }
-    ensures ahead { (taken : ℕ) → IsAhead at taken here → IsAhead at taken result }
+    requires { (here.count < length out.old) × (0 < here.left) × (0 < at) × (at + 64 ≤ length text.now) × (at ≤ here.past) × (here.past ≤ at + 64) }
+    ensures ahead { (taken : ℕ) → IsAhead at taken here → IsAhead at taken result × (here.past ≤ result.past) }
     ensures in_order { (taken from : ℕ) → IsAhead at taken here → IsInOrder out.old here.count from here.past → IsInOrder out.new result.count from result.past }
     ensures within { (result.count ≤ length out.old) × (at ≤ result.past) × (result.past ≤ at + 64) }
-    ensures onward { (here.count ≤ result.count) × (result.left ≤ here.left) × (0 < here.left → result.left < here.left) }
-    ensures few { result.count ≤ here.count + 1 }
-    ensures reached { (profile : Profile) (cell : ℕ → Cell) (lefts : List Left) (more : List ℕ) (all : Ahead) (taken : ℕ)
-        → IsBlock profile cell lefts steps.now kinds.now pairs.now text.now at taken
-        → AreLeft pairs.now text.now at taken here
+    ensures onward { (here.count ≤ result.count) × (result.left < here.left) }
+    ensures reached { (profile : Profile) (cell : ℕ → Cell) (lefts : List Left) (more : List ℕ) (all : Ahead) (begin taken : ℕ)
+        → IsBlock profile cell lefts steps.now kinds.now pairs.now text.now at begin taken
+        → AreLeft pairs.now text.now at begin taken here
         → Reached profile cell lefts (text.now ++ more) all (place_in pairs.now text.now here) (given_in out.old here.count)
-        → AreLeft pairs.now text.now at taken result
+        → AreLeft pairs.now text.now at begin taken result
         × Reached profile cell lefts (text.now ++ more) all (place_in pairs.now text.now result) (given_in out.new result.count) }
 {
     let index = first_set(here.left);
     let place = at + index;
     let row = pairs.rows[text[place - 1] as usize] as usize;
     let step = step_at(steps, row, kinds[text[place] as usize]);
-    let written = put(out, here.count, place, step.code);
-    next_state(here, written, at, index)
-}
-
-/// The state after a break that was written, if one was left.
-#[inline(always)]
-fn next_state(here: BlockState, written: usize, at: usize, index: usize) -> BlockState
-    requires { (at < 2 ^ 63) × (index < 64) }
-    ensures none { here.left ≡ 0 → result ≡ here }
-    ensures count { 0 < here.left → result.count ≡ written }
-    ensures past { 0 < here.left → result.past ≡ at + index + 1 }
-    ensures left { 0 < here.left → AreCleared here.left index result.left }
-{
-    if here.left == 0 {
-        return here;
-    }
     BlockState {
-        count: written,
-        past: at + index + 1,
-        left: cleared(here.left, index),
+        count: put(out, here.count, place, step.code),
+        past: place + 1,
+        left: without_first(here.left),
     }
 }
 
@@ -381,11 +296,12 @@ fn first_set(bits: u64) -> usize
     (bits.trailing_zeros() & 63) as usize
 }
 
-/// The bits without this one.
+/// The bits without the lowest that is set.
 #[inline(always)]
-fn cleared(bits: u64, index: usize) -> u64
-    requires { index < 64 }
-    ensures { AreCleared bits index result }
+fn without_first(bits: u64) -> u64
+    requires { 0 < bits }
+    ensures cleared { (index : ℕ) → index < 64 → IsLowest bits index → AreCleared bits index result }
+    ensures fewer { result < bits }
 {
-    bits & !(1 << index)
+    bits & (bits - 1)
 }

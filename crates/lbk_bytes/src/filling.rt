@@ -19,7 +19,7 @@ use crate::fill_state::FillState;
 use crate::raw_break::RawBreak;
 use crate::shown::shown_of;
 use crate::steps::{CODES, pairs_of, step_at, steps_of};
-use crate::tries::{is_worthy, next_try};
+use crate::tries::next_try;
 use lbk_rules::{Profile, VERDICTS, is_break};
 use lbk_steps::{FlatStep, FlatTable, Neighbours, STEPS};
 
@@ -173,37 +173,12 @@ fn common_part(
 {
     let steps = steps_of(table, profile);
     let pairs = pairs_of(table, profile);
-    let there = worthy_blocks(pairs, &table.kinds, steps, here, text, out);
+    let there = blocks(pairs, &table.kinds, steps, here, text, out);
     let until = next_try(there.at, text);
     Part {
         here: quick(&table.kinds, steps, there, until, text, out),
         until,
     }
-}
-
-/// Takes blocks of bytes where the first is worth it.
-#[inline(always)]
-fn worthy_blocks(
-    pairs: &Neighbours,
-    kinds: &[u8; CODES],
-    steps: &[FlatStep; STEPS],
-    start: FillState,
-    text: &[u8],
-    out: &mut [RawBreak],
-) -> FillState
-    requires { (start.count ≤ length out.old) × (start.row < 65536) × (start.at ≤ length text.now) }
-    ensures within { (result.count ≤ length out.old) × (result.row < 65536) × (result.at ≤ length text.now) }
-    ensures onward { (start.at ≤ result.at) × (start.count ≤ result.count) }
-    ensures in_order { (from : ℕ) → IsInOrder out.old start.count from start.at → IsInOrder out.new result.count from result.at }
-    ensures reached { (profile : Profile) (cell : ℕ → Cell) (lefts : List Left) (more : List ℕ) (all : Ahead) → AreSwift profile lefts steps.now → AreFlatKinds kinds.now cell
-        → AreTold steps.now kinds.now pairs.now
-        → Reached profile cell lefts (text.now ++ more) all start (given_in out.old start.count)
-        → Reached profile cell lefts (text.now ++ more) all result (given_in out.new result.count) }
-{
-    if is_worthy(&text[start.at..]) {
-        return blocks(pairs, kinds, steps, start, text, out);
-    }
-    start
 }
 
 /// Takes scalars that begin before a byte, as long as none of four bytes, no ill-formed bytes and no held position come, whatever
@@ -259,7 +234,7 @@ fn scalars(
 
 /// A run of scalars of one byte, and then one of those that the next byte may begin. Each may be empty.
 #[inline(always)]
-fn runs(
+pub(crate) fn runs(
     kinds: &[u8; CODES],
     steps: &[FlatStep; STEPS],
     start: FillState,

@@ -1,25 +1,24 @@
 //! Blocks of 64 bytes whose bits the sets of their bytes tell at once.
 
-ghost use Rattle.std.specs.Prelude.{◌≡◌, ℕ, ◌+◌, ◌*◌, ◌<◌, ◌≤◌, ◌++◌, List, length};
+ghost use Rattle.std.specs.Prelude.{◌≡◌, ℕ, ◌+◌, ◌*◌, ◌<◌, ◌≤◌, ◌++◌, List, length, IfSome};
 ghost use Rattle.lbk_rules.specs.declared.cells.Cell.{Cell};
 ghost use Rattle.lbk_rules.specs.declared.facts.Left.{Left};
 ghost use Rattle.lbk_values.specs.declared.profile.Profile.{Profile};
 ghost use Rattle.lbk_steps.specs.declared.flat_table.FlatStep.{FlatStep};
 ghost use Rattle.lbk_steps.specs.FlatTable.{AreFlatKinds};
 ghost use Rattle.lbk_steps.specs.Neighbours.{AreTold};
+ghost use Rattle.lbk_bytes.specs.Blocks.{AreMarks, Rests};
 ghost use Rattle.lbk_bytes.specs.Marking.{Marked};
 ghost use Rattle.lbk_bytes.specs.Marks.{is_marked};
 ghost use Rattle.lbk_bytes.specs.Reached.{Ahead, AreSwift};
 
-use crate::blocks::{BLOCK, behind_byte, kept_below, set_before};
+use crate::blocks::{BLOCK, Marks, behind_byte, kept_below, marks_ahead};
 use crate::fill_state::FillState;
 use crate::marks::mark_bits;
-use crate::tries::is_worthy;
-use lbk_masks::strays;
 use lbk_steps::Neighbours;
 
-/// Takes blocks of bytes where the first is worth it, as many as come one after the other, and the front of one in which a byte is
-/// special or of no scalar of one or two bytes in the block.
+/// Takes blocks of bytes, as many as come one after the other, and the front of one in which a byte is special or of no scalar of
+/// one or two bytes in the block.
 #[inline(never)]
 pub(crate) fn mark_blocks(
     pairs: &Neighbours,
@@ -36,9 +35,6 @@ pub(crate) fn mark_blocks(
         → Marked profile cell lefts (text.now ++ more) all from (length text.now) start words.old
         → Marked profile cell lefts (text.now ++ more) all from (length text.now) result words.new }
 {
-    if !is_worthy(&text[start.at..]) {
-        return start;
-    }
     let mut behind = start.at;
     let mut here = mark_block(pairs, start, from, text, words);
     while here.at - behind == BLOCK {
@@ -65,12 +61,29 @@ fn mark_block(
         → Marked profile cell lefts (text.now ++ more) all from (length text.now) here words.old
         → Marked profile cell lefts (text.now ++ more) all from (length text.now) result words.new }
 {
-    let Some(before) = set_before(pairs, here, text) else {
+    let Some(marks) = marks_here(pairs, here, text) else {
         return here;
     };
-    let ahead = &text[here.at..];
-    let masks = pairs.sets.masks(before, ahead);
-    let taken = (masks.special | strays(ahead)).trailing_zeros() as usize;
-    mark_bits(words, here.at - from, kept_below(masks.standing, taken));
+    let taken = marks.stops.trailing_zeros() as usize;
+    mark_bits(words, here.at - from, kept_below(marks.standing, taken));
     behind_byte(pairs, 0, here.at + taken, text)
+}
+
+/// The marks of the next 64 bytes, if the row here is that of the byte before.
+#[inline(always)]
+fn marks_here(pairs: &Neighbours, here: FillState, text: &[u8]) -> Option<Marks>
+    requires { here.at ≤ length text.now }
+    ensures { IfSome result (λ marks. AreMarks pairs.now text.now here.at marks × Rests pairs.now here text.now) }
+{
+    if here.at == 0 {
+        return None;
+    }
+    let byte = text[here.at - 1];
+    if byte >= 192 {
+        return None;
+    }
+    if here.row != pairs.rows[byte as usize] as usize {
+        return None;
+    }
+    marks_ahead(pairs, here.at, text)
 }

@@ -1,41 +1,20 @@
 //! Where blocks of bytes are tried, and how many bytes are taken one by one before they are tried again.
 
-ghost use Rattle.std.specs.Prelude.{◌≡◌, ◌<◌, ◌≤◌, true, length};
+ghost use Rattle.std.specs.Prelude.{◌<◌, ◌≤◌, length};
 
 use crate::blocks::BLOCK;
-use std::simd::prelude::*;
+use lbk_masks::strays;
 
-/// Bytes from this one on begin scalars that blocks leave out: those of more than two bytes.
-const LEFT_OUT: u8 = 0xE0;
-
-/// A block that takes fewer bytes than this costs more than it saves.
-const WORTH_WHILE: u32 = 32;
-
-/// Where more bytes than this of 64 are left out, such scalars are usual.
-const FEW: u32 = 8;
+/// Where more bytes than this of 64 are of scalars of three bytes or more, such scalars are usual.
+const FEW: u32 = 12;
 
 /// How many bytes are then taken one by one.
 const MANY: usize = 1024;
 
-/// Whether a block is worth it here: the first byte that is left out, if one is in it, stands far enough in it.
+/// Whether these bytes of 64, a bit each, are so many that a block costs more than it saves.
 #[inline(always)]
-pub(crate) fn is_worthy(text: &[u8]) -> bool
-    ensures { result ≡ true → 64 ≤ length text.now }
-{
-    if text.len() < BLOCK {
-        return false;
-    }
-    WORTH_WHILE <= left_out_ahead(text).trailing_zeros()
-}
-
-/// Which of the next 64 bytes are left out, a bit each.
-#[inline(always)]
-fn left_out_ahead(text: &[u8]) -> u64
-    requires { 64 ≤ length text.now }
-{
-    u8x64::from_slice(text)
-        .simd_ge(u8x64::splat(LEFT_OUT))
-        .to_bitmask()
+pub(crate) fn are_many(strays: u64) -> bool {
+    FEW < strays.count_ones()
 }
 
 /// Up to where scalars are taken one by one, before blocks are tried again.
@@ -54,19 +33,12 @@ pub(crate) fn next_try(at: usize, text: &[u8]) -> usize
     at + pause
 }
 
-/// How many bytes are taken one by one at the front of these: many where scalars that are left out are usual, and else up to
-/// the second byte after the last such byte in sight, since a block begins after a byte that is not left out.
+/// How many bytes are taken one by one at the front of these: many where scalars that blocks leave to steps are usual, and else
+/// as few as can be.
 #[inline(always)]
 fn pause(text: &[u8]) -> usize
     requires { 64 ≤ length text.now }
     ensures { 0 < result }
 {
-    let left_out = left_out_ahead(text);
-    if FEW < left_out.count_ones() {
-        return MANY;
-    }
-    if left_out == 0 {
-        return 4;
-    }
-    BLOCK + 2 - (left_out.leading_zeros() as usize)
+    if are_many(strays(text)) { MANY } else { 1 }
 }

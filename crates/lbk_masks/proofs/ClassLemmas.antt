@@ -1,5 +1,6 @@
 -- The row of a byte, by the bits of its high half.
-use Rattle.std.proofs.Common.{◌≡◌, ℕ, ◌+◌, ◌/◌, ◌%◌, ◌<◌, ◌==◌, Bool, true, false, cond, eqb, eqb→eq, List, [], get_or, bit_and, refl, ap, ◌∙◌}
+use Rattle.std.proofs.Common.{◌≡◌, ℕ, ◌+◌, ◌/◌, ◌%◌, ◌<◌, ◌==◌, Bool, true, false, cond, eqb, eqb→eq, List, [], get_or, bit_and, refl, ap, ◌∙◌, arith}
+use Rattle.std.proofs.lemmas.Nat.{and_le_r, and_mask}
 use Rattle.lbk_masks.specs.Sets.{chosen, picked}
 use Rattle.lbk_masks.proofs.EveryLemmas.{every}
 
@@ -37,3 +38,15 @@ pub halves-by-bits : (rows : List (List ℕ)) (byte : ℕ) → byte < 256
 halves-by-bits rows byte below =
     by-bits rows byte (bit_and byte 64 == 0) (bit_and byte 32 == 0) (bit_and byte 16 == 0)
     ∙ ap (λ n. picked (get_or rows n []) byte) (high-is byte below)
+
+-- the low half of a choice is the choice of the low halves
+pub low-chosen : (halves byte : ℕ) → chosen 128 (bit_and halves 15) (bit_and (halves / 16) 15) byte ≡ bit_and (chosen 128 halves (halves / 16) byte) 15
+low-chosen halves byte = by (bit_and byte 128 == 0)
+  where
+    by : (b : Bool) → cond b (bit_and halves 15) (bit_and (halves / 16) 15) ≡ bit_and (cond b halves (halves / 16)) 15
+    by true = refl
+    by false = refl
+
+-- a row has the same at a number and at its low half
+pub picked-low : (row : List ℕ) (n : ℕ) → picked row (bit_and n 15) ≡ picked row n
+picked-low row n = ap (λ k. get_or row k 0) (and_mask (bit_and n 15) 4 ∙ (let e : bit_and n 15 % 16 ≡ bit_and n 15 = omega (arith, and_le_r n 15) in e))

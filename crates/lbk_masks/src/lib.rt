@@ -155,10 +155,10 @@ fn in_rows(low: [u8; 16], high: [u8; 16], bytes: u8x64) -> u8x64
     chosen(16, picked(low, bytes), picked(high, bytes), bytes)
 }
 
-/// The class of each byte, in the low half of a number. Bits of the high half choose the row.
+/// The class of each byte. Bits of the high half choose the row.
 #[inline(always)]
 fn classes(rows: &[[u8; 16]; 8], bytes: u8x64) -> u8x64
-    ensures { HasLanes result (λ i. class_in rows.now (get_or bytes i 0)) }
+    ensures { HasLanes result (λ i. bit_and (class_in rows.now (get_or bytes i 0)) 15) }
 {
     let a = in_rows(rows[0], rows[1], bytes);
     let b = in_rows(rows[2], rows[3], bytes);
@@ -166,8 +166,18 @@ fn classes(rows: &[[u8; 16]; 8], bytes: u8x64) -> u8x64
     let d = in_rows(rows[6], rows[7], bytes);
     let low = chosen(32, a, b, bytes);
     let high = chosen(32, c, d, bytes);
-    let class = chosen(64, low, high, bytes);
-    chosen(128, class, high_halves(class), bytes)
+    let halves = chosen(64, low, high, bytes);
+    // (of the halves alone, since a choice between a number and its high half would become a shift that differs by lane)
+    let above = low_halves(high_halves(halves));
+    chosen(128, low_halves(halves), above, bytes)
+}
+
+/// The low half of each byte.
+#[inline(always)]
+fn low_halves(bytes: u8x64) -> u8x64
+    ensures { HasLanes result (λ i. bit_and (get_or bytes i 0) 15) }
+{
+    both(bytes, u8x64::splat(15))
 }
 
 /// The high half of each byte.

@@ -1,22 +1,25 @@
 use Rattle.std.proofs.Common.{arith}
 use Rattle.lbk_bytes.proofs.BlockLemmas.{stopped-there}
-use Rattle.lbk_bytes.proofs.BlockOrderLemmas.{order-stopped}
+use Rattle.lbk_bytes.proofs.BlockOrderLemmas.{order-stopped, past-stopped}
 use Rattle.lbk_bytes.proofs.blocks.finish.Goals as goal
 
 pub loop-here-preserved : goal.loop-here-preserved
 loop-here-preserved c =
     let l = c.loop-here in
-    let some = c.some_breaks-here.ensures in
+    let some = c.take_break-here.ensures in
     record {
       room = omega (arith, some.within.0);
       more = omega (arith, some.onward.0);
       after = some.within.1;
       within = some.within.2;
-      ahead = λ ahead. some.ahead c.args.taken (l.invariant.ahead ahead);
-      in_order = λ from ahead order. some.in_order c.args.taken from (l.invariant.ahead ahead) (l.invariant.in_order from ahead order);
-      reached = λ profile cell lefts more all block left start.
-          let here = l.invariant.reached profile cell lefts more all block left start in
-          some.reached profile cell lefts more all c.args.taken block here.0 here.1;
+      ahead = λ ahead.
+          let before = l.invariant.ahead ahead in
+          let next = some.ahead c.args.taken before.0 in
+          (next.0, omega (arith, before.1, next.1));
+      in_order = λ from ahead order. some.in_order c.args.taken from (l.invariant.ahead ahead).0 (l.invariant.in_order from ahead order);
+      reached = λ profile cell lefts more all begin block left start.
+          let here = l.invariant.reached profile cell lefts more all begin block left start in
+          some.reached profile cell lefts more all begin c.args.taken block here.0 here.1;
     }
 
 pub returns-clause-within : goal.returns-clause-within
@@ -25,14 +28,22 @@ returns-clause-within c =
     (omega (arith, stopped.count), stopped.within.0, omega (arith, stopped.within.2))
 
 pub returns-clause-reached : goal.returns-clause-reached
-returns-clause-reached c = λ profile cell lefts more all block left start.
+returns-clause-reached c = λ profile cell lefts more all begin block left start.
     let l = c.loop-here in
     let stopped = c.stopped.ensures in
-    stopped-there profile cell lefts c.args.text.now more all c.args.steps.now c.args.kinds.now c.args.pairs.now l.out c.args.at c.args.taken l.here c.stopped.result
-    c.requires.2 block stopped.count stopped.row stopped.within.1 stopped.all stopped.some (l.invariant.reached profile cell lefts more all block left start)
+    stopped-there profile cell lefts c.args.text.now more all c.args.steps.now c.args.kinds.now c.args.pairs.now l.out c.args.at begin c.args.taken l.here c.stopped.result
+    c.requires.2 block stopped.count stopped.row stopped.within.1 stopped.all stopped.some (l.invariant.reached profile cell lefts more all begin block left start)
 
 pub returns-clause-in_order : goal.returns-clause-in_order
 returns-clause-in_order c = λ from ahead order.
     let l = c.loop-here in
     let stopped = c.stopped.ensures in
-    order-stopped l.out c.args.at c.args.taken from l.here c.stopped.result stopped.count stopped.within.1 stopped.all stopped.some (l.invariant.ahead ahead) (l.invariant.in_order from ahead order)
+    order-stopped l.out c.args.at c.args.taken from l.here c.stopped.result stopped.count stopped.within.1 stopped.all stopped.some (l.invariant.ahead ahead).0 (l.invariant.in_order from ahead order)
+
+pub returns-clause-past : goal.returns-clause-past
+returns-clause-past c = λ ahead.
+    let l = c.loop-here in
+    let stopped = c.stopped.ensures in
+    let here = l.invariant.ahead ahead in
+    let past = past-stopped c.args.at c.args.taken l.here c.stopped.result stopped.within.1 stopped.all stopped.some here.0 in
+    omega (arith, here.1, past)

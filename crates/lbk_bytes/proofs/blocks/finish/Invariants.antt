@@ -13,13 +13,13 @@ invariant-loop-here l = record {
   more : l.fn.start.count ≤ l.here.count;
   after : l.at ≤ l.here.past;
   within : l.here.past ≤ l.at + 64;
-  ahead : IsAhead l.at l.taken l.fn.start → IsAhead l.at l.taken l.here;
+  ahead : IsAhead l.at l.taken l.fn.start → IsAhead l.at l.taken l.here × (l.fn.start.past ≤ l.here.past);
   in_order : (from : ℕ) → IsAhead l.at l.taken l.fn.start → IsInOrder l.fn.out l.fn.start.count from l.fn.start.past → IsInOrder l.out l.here.count from l.here.past;
-  reached : (profile : Profile) (cell : ℕ → Cell) (lefts : List Left) (more : List ℕ) (all : Ahead)
-      → IsBlock profile cell lefts l.steps l.kinds l.pairs l.text l.at l.taken
-      → AreLeft l.pairs l.text l.at l.taken l.fn.start
+  reached : (profile : Profile) (cell : ℕ → Cell) (lefts : List Left) (more : List ℕ) (all : Ahead) (begin : ℕ)
+      → IsBlock profile cell lefts l.steps l.kinds l.pairs l.text l.at begin l.taken
+      → AreLeft l.pairs l.text l.at begin l.taken l.fn.start
       → Reached profile cell lefts (l.text ++ more) all (place_in l.pairs l.text l.fn.start) (given_in l.fn.out l.fn.start.count)
-      → AreLeft l.pairs l.text l.at l.taken l.here × Reached profile cell lefts (l.text ++ more) all (place_in l.pairs l.text l.here) (given_in l.out l.here.count);
+      → AreLeft l.pairs l.text l.at begin l.taken l.here × Reached profile cell lefts (l.text ++ more) all (place_in l.pairs l.text l.here) (given_in l.out l.here.count);
 }
 
 abbrev pub decreases-loop-here : goal.decreases-loop-here

@@ -1,27 +1,29 @@
-use Rattle.std.proofs.Common.{ap, map}
-use Rattle.lbk_bytes.specs.Shown.{shown}
-use Rattle.lbk_bytes.proofs.BlockLemmas.{taken-or-kept}
-use Rattle.lbk_bytes.proofs.BlockOrderLemmas.{ahead-next, order-next}
+use Rattle.std.proofs.Common.{◌+◌, refl, arith}
+use Rattle.lbk_bytes.specs.declared.blocks.BlockState.{BlockState}
+use Rattle.lbk_bytes.proofs.BlockLemmas.{break-taken}
+use Rattle.lbk_bytes.proofs.BlockOrderLemmas.{ahead-taken, lowest-ahead, order-taken}
 use Rattle.lbk_bytes.proofs.blocks.take_break.Goals as goal
 
 pub returns-clause-reached : goal.returns-clause-reached
-returns-clause-reached c = λ profile cell lefts more all taken block left start.
-    let next = c.next_state.ensures in
-    taken-or-kept profile cell lefts c.args.text.now more all c.args.steps.now c.args.kinds.now c.args.pairs.now c.args.out.now c.put-written.new.out
-    c.args.at taken c.first_set-index.result c.put-written.result c.args.here c.next_state.result c.step_at-step.result.now
-    c.requires.2 block left c.first_set-index.ensures.within c.first_set-index.ensures.lowest next.left next.past next.count next.none c.step_at-step.ensures
-    c.put-written.ensures.front (ap (map shown) c.put-written.ensures.kept) start
+returns-clause-reached c = λ profile cell lefts more all begin taken block left start.
+    let first = c.first_set-index in
+    let there : BlockState = record { count = c.put.result; past = c.args.at + first.result + 1; left = c.without_first.result } in
+    let cleared = c.without_first.ensures.cleared first.result first.ensures.within first.ensures.lowest in
+    break-taken profile cell lefts c.args.text.now more all c.args.steps.now c.args.kinds.now c.args.pairs.now c.args.out.now c.put.new.out
+    c.args.at begin taken first.result c.args.here there c.step_at-step.result.now
+    c.requires.3 block left first.ensures.within c.requires.1 first.ensures.lowest cleared refl c.step_at-step.ensures
+    c.put.ensures.front start
 
 pub returns-clause-ahead : goal.returns-clause-ahead
 returns-clause-ahead c = λ taken ahead.
-    let next = c.next_state.ensures in
     let first = c.first_set-index in
-    ahead-next c.args.at taken first.result c.args.here c.next_state.result ahead first.ensures.within first.ensures.lowest next.left next.past next.none
+    let there : BlockState = record { count = c.put.result; past = c.args.at + first.result + 1; left = c.without_first.result } in
+    let cleared = c.without_first.ensures.cleared first.result first.ensures.within first.ensures.lowest in
+    let lowest = lowest-ahead c.args.at taken first.result c.args.here ahead first.ensures.within (first.ensures.lowest.set c.requires.1) in
+    (ahead-taken c.args.at taken first.result c.args.here there ahead first.ensures.within c.requires.1 first.ensures.lowest cleared refl, omega (arith, lowest.1))
 
 pub returns-clause-in_order : goal.returns-clause-in_order
 returns-clause-in_order c = λ taken from ahead order.
-    let next = c.next_state.ensures in
     let first = c.first_set-index in
-    let put = c.put-written in
-    order-next c.args.out.now put.new.out c.args.at taken first.result put.result from c.args.here c.next_state.result ahead first.ensures.within first.ensures.lowest
-    next.past next.count next.none put.ensures.kept put.ensures.in_order order
+    order-taken c.args.out.now c.put.new.out c.args.at taken first.result c.put.result from c.args.here ahead first.ensures.within c.requires.1 first.ensures.lowest
+    c.put.ensures.in_order order
