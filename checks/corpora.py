@@ -92,18 +92,21 @@ class Report:
         run = Run(time.perf_counter() - start, spent() - before, memory(), os.getloadavg()[0])
         self.runs.setdefault(name, []).append(run)
         self.wanted = self.wanted or found
-        if found != self.wanted:
-            print(f"FAILED {name}: OTHER BREAKS", flush=True)
-            self.failed = True
+        self.failed = self.failed or found != self.wanted
+        print(f"{'ok     ' if found == self.wanted else 'FAILED '} {name}: {self.speed(run):.0f} MB/s, {found[0]} breaks", flush=True)
+
+    def speed(self, run):
+        return self.size / run.seconds / 1e6
 
     def show(self):
-        """Prints the middle run of each way."""
-        print("| Way | MB/s | of all runs | MB/s of processor time | MB a worker | load |\n|---|---|---|---|---|---|")
+        """Prints the middle run of each way, and the speeds of the slowest and the fastest."""
+        print("\n| Way | MB/s | slowest, fastest | MB/s of processor time | MB a worker | load |\n|---|---|---|---|---|---|")
         for name, runs in self.runs.items():
-            one, speeds = sorted(runs)[len(runs) // 2], [self.size / run.seconds / 1e6 for run in runs]
-            spent = self.size / one.spent / 1e6
-            all_runs = f"{min(speeds):.0f} to {max(speeds):.0f}" if len(runs) > 1 else ""
-            print(f"| {name} | {self.size / one.seconds / 1e6:.0f} | {all_runs} | {spent:.0f} | {one.memory} | {one.load:.1f} |")
+            # (a copy, since `compare` goes by the order of the turns)
+            ordered = sorted(runs)
+            one = ordered[len(ordered) // 2]
+            spent, ends = self.size / one.spent / 1e6, f"{self.speed(ordered[-1]):.0f}, {self.speed(ordered[0]):.0f}"
+            print(f"| {name} | {self.speed(one):.0f} | {ends} | {spent:.0f} | {one.memory} | {one.load:.1f} |")
         print(flush=True)
 
     def compare(self, wanted):
