@@ -28,10 +28,10 @@ def plan(table, size, path):
 
 
 def columns(table, path, start, end):
-    """The breaks of a part, in columns, with places from the part's start."""
+    """The breaks of a part, in columns."""
     with open(path, "rb") as file:
         file.seek(start)
-        return table.break_columns(file.read(end - start), goes_on=end < os.path.getsize(path))
+        return table.break_columns(file.read(end - start), goes_on=end < os.path.getsize(path), start=start)
 
 
 def main():

@@ -15,10 +15,9 @@ OTHER = (b"000A;AL\n000D;CR\n0061;BK\n0062;AL\n", b"", b"", b"")
 
 def joined(table, text, cut, profile):
     """The breaks of two parts, with the place of each in the text."""
-    first, second = (
-        table.break_columns(part, profile, goes_on=goes_on) for part, goes_on in ((text[:cut], True), (text[cut:], False))
-    )
-    return [*zip(*first)] + [(at + cut, kind, rule) for at, kind, rule in zip(*second)]
+    first = table.break_columns(text[:cut], profile, goes_on=True)
+    second = table.break_columns(text[cut:], profile, start=cut)
+    return [*zip(*first), *zip(*second)]
 
 
 class Cuts(unittest.TestCase):
@@ -59,6 +58,16 @@ class Cuts(unittest.TestCase):
         for part, ends in (("a", []), ("a ", []), ("a\r", [(2, 2, 40)]), ("a\n", [(2, 2, 40)]), ("", [])):
             self.assertEqual([*zip(*table.break_columns(part, goes_on=True))], ends)
         self.assertRaises(TypeError, table.break_columns, "a", 1, True)
+
+    def test_the_start_of_a_part_is_added_to_its_places(self):
+        chance, table = samples.chance(13), samples.table()
+        for start in (0, 1, 1 << 32, (1 << 62) - 1):
+            for text in (samples.random_text(chance, 9000), samples.random_bytes(chance, 90)):
+                places, kinds, rules = table.break_columns(text, start=start)
+                self.assertEqual([(at - start, *others) for at, *others in zip(places, kinds, rules)], samples.found(table, text))
+        for error, start in ((ValueError, -1), (ValueError, 1 << 62), (OverflowError, 1 << 70), (TypeError, "1")):
+            with self.assertRaises(error):
+                table.break_columns("a", start=start)
 
     def test_what_is_no_place_or_no_text_is_refused(self):
         for call in (samples.table().cut, samples.table().cut_before):

@@ -20,13 +20,13 @@ typedef struct {
 } columns;
 
 /* Texts whose breaks are asked for, and how far that came. `offsets[k]` is how many breaks the
- * texts before the k-th have. */
+ * texts before the k-th have. `before` is added to each place. */
 typedef struct {
     const lbk_table *table;
     const utf8_text *texts;
     size_t count, current;
     cursor start, from;
-    int64_t *offsets;
+    int64_t *offsets, before;
     lbk_break *block;
     size_t room;
     columns found;
@@ -74,15 +74,15 @@ static void release(columns *found)
 
 enum { TOGETHER = 8 };
 
-/* Splits so many breaks. */
-static void split_some(const lbk_break *block, int64_t *places, uint8_t *kinds, uint8_t *rules)
+/* Splits so many breaks, and adds `before` to the places. */
+static void split_some(const lbk_break *block, int64_t before, int64_t *places, uint8_t *kinds, uint8_t *rules)
 {
 #if defined(__SSE2__)
     _Static_assert(offsetof(lbk_break, kind) == 8 && offsetof(lbk_break, rule) == 9, "kind and rule stand after the place");
-    __m128i codes[TOGETHER / 2];
+    __m128i codes[TOGETHER / 2], moved = _mm_set1_epi64x(before);
     for (size_t k = 0; k < TOGETHER / 2; k++) {
         __m128i one = _mm_loadu_si128((const __m128i *)&block[2 * k]), two = _mm_loadu_si128((const __m128i *)&block[2 * k + 1]);
-        _mm_storeu_si128((__m128i *)&places[2 * k], _mm_unpacklo_epi64(one, two));
+        _mm_storeu_si128((__m128i *)&places[2 * k], _mm_add_epi64(_mm_unpacklo_epi64(one, two), moved));
         codes[k] = _mm_unpackhi_epi16(one, two);
     }
     /* A number of 16 bits for each: its kind and its rule. */
@@ -92,21 +92,21 @@ static void split_some(const lbk_break *block, int64_t *places, uint8_t *kinds, 
     _mm_storel_epi64((__m128i *)rules, _mm_packus_epi16(_mm_srli_epi16(all, 8), none));
 #else
     for (size_t k = 0; k < TOGETHER; k++) {
-        places[k] = (int64_t)block[k].at;
+        places[k] = before + (int64_t)block[k].at;
         kinds[k] = block[k].kind;
         rules[k] = block[k].rule;
     }
 #endif
 }
 
-static void split(const lbk_break *restrict block, size_t count, int64_t *restrict places, uint8_t *restrict kinds,
-                  uint8_t *restrict rules)
+static void split(const lbk_break *restrict block, size_t count, int64_t before, int64_t *restrict places,
+                  uint8_t *restrict kinds, uint8_t *restrict rules)
 {
     size_t k = 0;
     for (; k + TOGETHER <= count; k += TOGETHER)
-        split_some(block + k, places + k, kinds + k, rules + k);
+        split_some(block + k, before, places + k, kinds + k, rules + k);
     for (; k < count; k++) {
-        places[k] = (int64_t)block[k].at;
+        places[k] = before + (int64_t)block[k].at;
         kinds[k] = block[k].kind;
         rules[k] = block[k].rule;
     }
@@ -124,7 +124,7 @@ static bool fill(request *request, int64_t *places, uint8_t *kinds, uint8_t *rul
             return false;
         const utf8_text *text = &request->texts[request->current];
         size_t count = next_breaks(lbk_breaks, request->table, &request->from, text, request->block, room);
-        split(request->block, count, places + found->count, kinds + found->count, rules + found->count);
+        split(request->block, count, request->before, places + found->count, kinds + found->count, rules + found->count);
         found->count += count;
         if (count < room) {
             request->from = request->start;
@@ -176,6 +176,18 @@ static bool find_all(request *request)
     return is_found;
 }
 
+/* A place that a text of any size may stand behind. Returns false, with an exception set, for
+ * anything else. */
+static bool place_before(PyObject *given, int64_t *before)
+{
+    *before = PyNumber_AsSsize_t(given, PyExc_OverflowError);
+    if (*before >= 0 && *before <= INT64_MAX / 2)
+        return true;
+    if (!PyErr_Occurred())
+        PyErr_Format(PyExc_ValueError, "a place is not negative and below 2**62: %R", given);
+    return false;
+}
+
 PyObject *text_columns(PyObject *Py_UNUSED(module), PyObject *const *given, Py_ssize_t count)
 {
     PyObject *result = NULL;
@@ -183,10 +195,10 @@ PyObject *text_columns(PyObject *Py_UNUSED(module), PyObject *const *given, Py_s
     utf8_text text;
     int64_t offsets[2];
     request request = {.texts = &text, .count = 1, .offsets = offsets};
-    if (!has_arguments(count, 4) || !start_of_text(given[2], &request.start))
+    if (!has_arguments(count, 5) || !start_of_text(given[2], &request.start))
         return NULL;
     int goes_on = PyObject_IsTrue(given[3]);
-    if (goes_on < 0)
+    if (goes_on < 0 || !place_before(given[4], &request.before))
         return NULL;
     request.start.state.profile += goes_on ? LBK_GOES_ON : 0;
     PyObject *owner = text_owner(given[1], &text.in_code_points);

@@ -4,7 +4,8 @@
 
 #include "arguments.h"
 
-/* columns(table, text, profile, goes_on): bytearrays of places (8 bytes each), of kinds and of rules. */
+/* columns(table, text, profile, goes_on, before): bytearrays of places (8 bytes each), of kinds and of rules. `before` is
+ * added to each place. */
 PyObject *text_columns(PyObject *module, PyObject *const *given, Py_ssize_t count);
 
 /* list_columns(table, texts, profile): bytearrays of offsets (8 bytes each) and of the columns. */

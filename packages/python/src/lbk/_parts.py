@@ -169,22 +169,21 @@ def read_part(part: Part, errors: Errors = "replace") -> memoryview:
     return data
 
 
-def _columns(data: memoryview, part: Part, table: Table, profile: int) -> tuple[Any, Any, Any]:
-    """The breaks of a part's bytes."""
-    places, kinds, rules = table.break_columns(data, profile, goes_on=not part.is_last)
+def _columns(data: memoryview, part: Part, table: Table, profile: int, start: int) -> tuple[Any, Any, Any]:
+    """The breaks of a part's bytes, the first of which has the place `start`."""
+    places, kinds, rules = table.break_columns(data, profile, goes_on=not part.is_last, start=start)
     return np.frombuffer(places, np.int64), np.frombuffer(kinds, np.uint8), np.frombuffer(rules, np.uint8)
 
 
 def part_columns(part: Part, table: Table, profile: int, errors: Errors) -> PartColumns:
     data = read_part(part, errors)
-    places, kinds, rules = _columns(data, part, table, profile)
-    places += part.start
+    places, kinds, rules = _columns(data, part, table, profile, part.start)
     return PartColumns(part.path, part.start, part.start + len(data), places, kinds, rules)
 
 
 def part_paragraphs(part: Part, table: Table, errors: Errors) -> list[str]:
     """The text of a part up to each place where a line must end."""
     data = read_part(part, errors)
-    places, kinds, _ = _columns(data, part, table, 1)
+    places, kinds, _ = _columns(data, part, table, 1, 0)
     ends = places[kinds == Kind.MUST].tolist()
     return [str(data[start:end], "utf-8", "replace") for start, end in zip([0, *ends], ends)]

@@ -139,10 +139,11 @@ class Table:
         """The text cut at each break: slices of a `str`, or `bytes`."""
         return _calls.Found.of(self._memory, text, profile, _calls.SEGMENTS)
 
-    def break_columns(self, text: Text, profile: int = 1, *, goes_on: bool = False) -> Columns:
+    def break_columns(self, text: Text, profile: int = 1, *, goes_on: bool = False, start: int = 0) -> Columns:
         """All breaks of a text, in columns. Where it is a part of a text that goes on, its end is
-        one only if a line must end there whatever follows but LF after CR, and by LB4 or LB5."""
-        places, kinds, rules = _calls.columns(self._memory, text, profile, goes_on)
+        one only if a line must end there whatever follows but LF after CR, and by LB4 or LB5.
+        `start` is where the part starts in that text, and is added to each place."""
+        places, kinds, rules = _calls.columns(self._memory, text, profile, goes_on, start)
         return _new(Columns, (memoryview(places).cast("q"), kinds, rules))
 
     def break_list_columns(self, texts: Iterable[Text], profile: int = 1) -> ListColumns:
@@ -156,9 +157,8 @@ class Table:
         """The first place at or after `at` where a part of the text may begin: one before which a
         line must end, or the text's end where there is none.
 
-        The breaks of the parts, with `goes_on` for all but the last, are those of the text, if the
-        places of each part are moved by what stands before it. ValueError comes for a negative
-        place.
+        The breaks of the parts, each with its `start`, and with `goes_on` for all but the last, are
+        those of the text (`break_columns`). ValueError comes for a negative place.
         """
         return _calls.cut(self._memory, text, at)
 
