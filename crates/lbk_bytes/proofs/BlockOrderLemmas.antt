@@ -1,11 +1,11 @@
 -- Breaks in order, by the bits of a block.
-use Rattle.std.proofs.Common.{◌≡◌, ◌≢◌, ◌⊎◌, ℕ, ◌+◌, ◌-◌, ◌<◌, ◌≤◌, true, false, List, take, get_or, get_or-take, sym, ap, subst, ◌∙◌, ⊎_elim, inl, inr, arith}
+use Rattle.std.proofs.Common.{◌≡◌, ◌≢◌, ◌⊎◌, ℕ, ◌+◌, ◌-◌, ◌<◌, ◌≤◌, true, false, List, sym, subst, ◌∙◌, ⊎_elim, inl, inr, arith}
 use Rattle.lbk_masks.specs.Sets.{is_set}
 use Rattle.lbk_bytes.specs.declared.blocks.BlockState.{BlockState}
 use Rattle.lbk_bytes.specs.declared.fill_state.FillState.{FillState}
 use Rattle.lbk_bytes.specs.declared.raw_break.RawBreak.{RawBreak}
 use Rattle.lbk_bytes.specs.Blocks.{AreCleared, AreKeptBelow, AreKeptFrom, IsAhead, IsLowest}
-use Rattle.lbk_bytes.specs.Order.{AreInOrder, IsBreak, no_break}
+use Rattle.lbk_bytes.specs.Order.{AreInOrder}
 use Rattle.lbk_bytes.specs.Reached.{IsInOrder}
 use Rattle.lbk_bytes.proofs.BlockLemmas.{order, zero-or}
 use Rattle.lbk_bytes.proofs.OrderLemmas.{AreInOrder-wider}
