@@ -8,7 +8,7 @@ use Rattle.lbk_steps.specs.declared.flat_table.FlatStep.{FlatStep}
 use Rattle.lbk_steps.specs.declared.neighbours.Neighbours.{Neighbours}
 use Rattle.lbk_values.specs.declared.profile.Profile.{Profile}
 use Rattle.lbk_rules.specs.Breaks.{break_by, is_no}
-use Rattle.lbk_rules.specs.Codes.{IsCode, verdict_coded}
+use Rattle.lbk_rules.specs.Codes.{verdict_coded}
 use Rattle.lbk_steps.specs.FlatTable.{AreFlatKinds}
 use Rattle.lbk_steps.specs.Neighbours.{step_behind}
 use Rattle.lbk_bytes.specs.declared.blocks.BlockState.{BlockState}
@@ -20,6 +20,7 @@ use Rattle.lbk_bytes.specs.Reached.{Ahead, AreSwift, Reached}
 use Rattle.lbk_bytes.specs.Shown.{given_in}
 use Rattle.lbk_bytes.proofs.BitLemmas.{none-set}
 use Rattle.lbk_bytes.proofs.BlockScalarLemmas.{begins-or, depart, end-low, scalar-more, stay}
+use Rattle.lbk_bytes.proofs.ShownLemmas.{is-some}
 
 -- a verdict by which no line breaks
 no-break : (at code : ℕ) → is_no (verdict_coded code).kind ≡ true → with_break at (verdict_coded code) [] ≡ []
@@ -134,7 +135,7 @@ pub break-taken : (profile : Profile) (cell : ℕ → Cell) (lefts : List Left) 
     → at + 64 ≤ length text → IsBlock profile cell lefts steps kinds pairs text at begin taken → AreLeft pairs text at begin taken here → index < 64 → 0 < here.left
     → IsLowest here.left index → AreCleared here.left index there.left → there.past ≡ at + index + 1
     → step ≡ step_behind steps kinds pairs (byte_at text (at + index - 1)) (byte_at text (at + index))
-    → (IsCode step.code → given_in after there.count ≡ given_in out here.count ++ with_break (at + index) (verdict_coded step.code) [])
+    → (is_no (verdict_coded step.code).kind ≡ false → given_in after there.count ≡ given_in out here.count ++ with_break (at + index) (verdict_coded step.code) [])
     → Reached profile cell lefts (text ++ more) all (place_in pairs text here) (given_in out here.count)
     → AreLeft pairs text at begin taken there × Reached profile cell lefts (text ++ more) all (place_in pairs text there) (given_in after there.count)
 break-taken profile cell lefts text more all steps kinds pairs out after at begin taken index here there step room block left few some lowest cleared moved is_step front r =
@@ -144,9 +145,13 @@ break-taken profile cell lefts text more all steps kinds pairs out after at begi
     let up = up-to profile cell lefts text more all steps kinds pairs out at begin taken index here room block left (omega arith) first.after lowest.none r in
     let f = block.few in
     let told = block.told index (omega arith) inside in
-    let one = scalar-more profile cell lefts text more all steps kinds pairs out after here.count there.count (at + index) block.swift block.kinds_are (omega arith)
-    (break-begins steps kinds pairs text (at + index) told first.stands) told
-    (subst (λ (s : FlatStep). IsCode s.code → given_in after there.count ≡ given_in out here.count ++ with_break (at + index) (verdict_coded s.code) []) is_step front) up in (
+    let begins = break-begins steps kinds pairs text (at + index) told first.stands in
+    let breaks = is-some (is_no (verdict_coded (step_behind steps kinds pairs (byte_at text (at + index - 1)) (byte_at text (at + index))).code).kind)
+    (sym (told.settled begins).1.breaks ∙ first.stands) in
+    let one = scalar-more profile cell lefts text more all steps kinds pairs out after here.count there.count (at + index) block.swift block.kinds_are (omega arith) begins told
+    (λ coded.
+    subst (λ (s : FlatStep). is_no (verdict_coded s.code).kind ≡ false → given_in after there.count ≡ given_in out here.count ++ with_break (at + index) (verdict_coded s.code) []) is_step front breaks)
+    up in (
       record {
         after = (let a = left.after in omega arith);
         within = omega arith;

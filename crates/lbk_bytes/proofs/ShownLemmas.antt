@@ -1,5 +1,5 @@
 -- What a break shows of a verdict.
-use Rattle.std.proofs.Common.{◌≡◌, ℕ, zero, suc, ◌+◌, ◌%◌, ◌/◌, ◌<◌, ◌≤◌, List, [], ◌∷◌, get_or, refl, sym, ap, ◌∙◌, arith}
+use Rattle.std.proofs.Common.{◌≡◌, ℕ, zero, suc, ◌+◌, ◌%◌, ◌/◌, ◌<◌, ◌≤◌, Bool, true, false, not, List, [], ◌∷◌, get_or, refl, sym, ap, ◌∙◌, arith}
 use Rattle.std.proofs.lemmas.List.{get_or_past}
 use Rattle.lbk_rules.specs.declared.breaks.Break.{Break}
 use Rattle.lbk_rules.specs.declared.verdicts.Kind.{Kind}
@@ -49,6 +49,15 @@ again code past =
 
 pub shown-past : (code : ℕ) → 114 ≤ code → get_or SHOWN (code % 38) 0 ≡ numbers_of (verdict_coded code)
 shown-past code past = shown-at (code % 38) (omega arith) ∙ ap numbers_of (again code past)
+
+-- what is not No is a break
+pub is-some : (no : Bool) → not no ≡ true → no ≡ false
+is-some true never = absurd (let f : ⊥ = cc in f)
+is-some false is = refl
+
+pub is-none : (no : Bool) → not no ≡ false → no ≡ true
+is-none true is = refl
+is-none false never = absurd (let f : ⊥ = cc in f)
 
 pub few-kinds : (kind : Kind) → kind_number kind < 3
 few-kinds No = omega arith

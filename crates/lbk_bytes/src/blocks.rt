@@ -11,7 +11,7 @@ ghost use Rattle.lbk_bytes.specs.Reached.{Ahead, AreSwift, IsInOrder, Reached};
 ghost use Rattle.lbk_bytes.specs.Shown.{given_in};
 
 use crate::fill_state::FillState;
-use crate::filling::{put, runs};
+use crate::filling::{put_break, runs};
 use crate::raw_break::RawBreak;
 use crate::steps::{CODES, step_at};
 use crate::tries::are_many;
@@ -281,7 +281,7 @@ fn take_break(
     let row = pairs.rows[text[place - 1] as usize] as usize;
     let step = step_at(steps, row, kinds[text[place] as usize]);
     BlockState {
-        count: put(out, here.count, place, step.code),
+        count: put_break(out, here.count, place, step.code),
         past: place + 1,
         left: without_first(here.left),
     }

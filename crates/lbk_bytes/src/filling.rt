@@ -1,9 +1,10 @@
 //! A block that is filled with breaks.
 
-ghost use Rattle.std.specs.Prelude.{◌≡◌, ℕ, ◌+◌, ◌<◌, ◌≤◌, ◌++◌, [], List, length, take};
+ghost use Rattle.std.specs.Prelude.{◌≡◌, ℕ, ◌+◌, ◌<◌, ◌≤◌, ◌++◌, [], List, false, length, take};
 ghost use Rattle.lbk_rules.specs.declared.cells.Cell.{Cell};
 ghost use Rattle.lbk_rules.specs.declared.facts.Left.{Left};
 ghost use Rattle.lbk_values.specs.declared.profile.Profile.{Profile};
+ghost use Rattle.lbk_rules.specs.Breaks.{is_no};
 ghost use Rattle.lbk_rules.specs.Codes.{IsCode, verdict_coded};
 ghost use Rattle.lbk_steps.specs.FlatTable.{AreFlatKinds, IsFlatBy};
 ghost use Rattle.lbk_steps.specs.Neighbours.{AreTold};
@@ -17,7 +18,7 @@ use crate::deciding::decide_one;
 use crate::decoding::{Width, scalar_of};
 use crate::fill_state::FillState;
 use crate::raw_break::RawBreak;
-use crate::shown::shown_of;
+use crate::shown::{shown_of, shown_of_break};
 use crate::steps::{CODES, pairs_of, step_at, steps_of};
 use crate::tries::next_try;
 use lbk_rules::{Profile, VERDICTS, is_break};
@@ -341,4 +342,20 @@ pub fn put(out: &mut [RawBreak], count: usize, at: usize, code: u16) -> usize
     place.kind = (shown % 256) as u8;
     place.rule = (shown / 256) as u8;
     count + usize::from(is_break(code))
+}
+
+/// Writes the break of a number after those in the front of the block, whatever its verdict is, and returns how many these are now.
+#[inline(always)]
+pub(crate) fn put_break(out: &mut [RawBreak], count: usize, at: usize, code: u16) -> usize
+    requires { count < length out.old }
+    ensures more { result ≡ count + 1 }
+    ensures in_order { (from to : ℕ) → at < to → IsInOrder out.old count from at → AreInOrder out.new result from to }
+    ensures front { is_no (verdict_coded code).kind ≡ false → given_in out.new result ≡ given_in out.old count ++ with_break at (verdict_coded code) [] }
+{
+    let shown = shown_of_break(code);
+    let place = &mut out[count];
+    place.at = at;
+    place.kind = (shown % 256) as u8;
+    place.rule = (shown / 256) as u8;
+    count + 1
 }

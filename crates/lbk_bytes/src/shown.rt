@@ -1,10 +1,12 @@
 //! What a break shows of a verdict.
 
-ghost use Rattle.std.specs.Prelude.{◌≡◌};
+ghost use Rattle.std.specs.Prelude.{◌≡◌, false};
+ghost use Rattle.lbk_rules.specs.declared.verdicts.Verdict.{Verdict};
+ghost use Rattle.lbk_rules.specs.Breaks.{is_no};
 ghost use Rattle.lbk_rules.specs.Codes.{verdict_coded};
 ghost use Rattle.lbk_bytes.specs.Reached.{numbers_of};
 
-use lbk_rules::{RULES, VERDICTS};
+use lbk_rules::{RULES, VERDICTS, is_break};
 
 /// What a break shows of each verdict: 256 times the number of its rule, and the number of its kind.
 const SHOWN: [u16; VERDICTS as usize] = [
@@ -20,6 +22,9 @@ const SHOWN: [u16; VERDICTS as usize] = [
     0xE002, 0xE802, 0xF002, 0xF102, 0xF202, 0xF802,
 ];
 
+/// The number of the verdict by which a line may break by the last rule.
+const BY_THE_LAST_RULE: usize = 75;
+
 /// What a break shows of the verdict of a number: 256 times the number of its rule, and the number of its kind. Whatever the
 /// number is, it is that of some verdict.
 #[inline(always)]
@@ -30,4 +35,17 @@ pub fn shown_of(code: u16) -> u16
         return SHOWN[code as usize];
     }
     SHOWN[(code % RULES) as usize]
+}
+
+/// What a break shows of the verdict of a number. Where a line does not break by that, it is what a break by rule 31 shows, so that
+/// made-up numbers give breaks, too.
+#[inline(always)]
+pub(crate) fn shown_of_break(code: u16) -> u16
+    ensures some { (verdict : Verdict) × (result ≡ numbers_of verdict) × (is_no verdict.kind ≡ false) }
+    ensures same { is_no (verdict_coded code).kind ≡ false → result ≡ numbers_of (verdict_coded code) }
+{
+    if code < VERDICTS && is_break(code) {
+        return SHOWN[code as usize];
+    }
+    SHOWN[BY_THE_LAST_RULE]
 }
