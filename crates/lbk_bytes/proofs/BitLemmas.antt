@@ -1,18 +1,15 @@
 -- Bits of numbers of 64 bits.
-use Rattle.std.proofs.Common.{◌≡◌, ◌≢◌, ◌⊎◌, ℕ, zero, suc, ◌-◌, ◌*◌, ◌/◌, ◌%◌, ◌^◌, ◌==◌, ◌<◌, ◌≤◌, min, true, false, refl, sym, ap, ◌∙◌, ⊎_elim, inl, inr, arith, w64}
+use Rattle.std.proofs.Common.{◌≡◌, ◌≢◌, ◌⊎◌, ℕ, zero, suc, ◌+◌, ◌-◌, ◌*◌, ◌/◌, ◌%◌, ◌^◌, ◌==◌, ◌<◌, ◌≤◌, min, true, false, leb, List, length, refl, sym, ap, ◌∙◌, ⊎_elim, inl, inr, arith, w64}
 use Rattle.std.specs.Int.{bit_at, bit_not, trailing_zeros}
 use Rattle.std.specs.Int.Count.{trailing_of_zero}
-use Rattle.std.proofs.lemmas.Bool.{cases_lt, eqb-true}
+use Rattle.std.proofs.lemmas.Bool.{cases_lt, eqb-true, le-leb, lt-leb}
 use Rattle.std.proofs.lemmas.Bool.Decides.{eqb_tells}
 use Rattle.std.proofs.lemmas.Nat.{and_mask, and_le_l, and_le_r, pow_below, trailing_le}
 use Rattle.std.proofs.lemmas.Nat.Bits.{bit_at-lt, bit_at-trailing_zeros, bit_at-suc, bit_at-zero, bit_at_and, bit_at_lowest, bit_at_not, bit_at_ones, bit_at_ones_above}
 use lib.Bits.{bit_and}
+use Rattle.lbk_masks.proofs.BitLemmas.{set-none}
 use Rattle.lbk_masks.specs.Sets.{is_set}
-use Rattle.lbk_bytes.specs.Blocks.{AreCleared, AreKeptBelow, AreKeptFrom, IsLowest}
-
--- no bit of 0 is set
-pub none-set : (i : ℕ) → is_set 0 i ≡ false
-none-set i = ap (λ n. n == 1) (bit_at-zero i)
+use Rattle.lbk_bytes.specs.Blocks.{AreCleared, AreEnded, AreKeptBelow, AreKeptFrom, IsLowest}
 
 pub all-below : (bits count : ℕ) → count ≡ 64 → AreKeptBelow count bits bits
 all-below bits count whole = record { same = λ i h. refl; none = λ i more few. absurd (omega arith) }
@@ -55,7 +52,7 @@ pub low-below : (n : ℕ) → bit_and n 63 < 64
 low-below n = omega (arith, and_le_r n 63)
 
 pub lowest : (bits : ℕ) → bits < 2 ^ 64 → IsLowest bits (bit_and (trailing_zeros w64 bits) 63)
-lowest zero fits = record { set = λ some. absurd (omega arith); none = λ i h. none-set i }
+lowest zero fits = record { set = λ some. absurd (omega arith); none = λ i h. set-none i }
 lowest (suc n) fits =
     let found = bit_at-trailing_zeros w64 (suc n) (omega arith) fits in
     let same = low-six (trailing_zeros w64 (suc n)) found.0 in
@@ -120,7 +117,7 @@ are-cleared bits index some few first =
 
 -- no bit is set below the lowest
 pub zeros-below : (bits : ℕ) → bits < 2 ^ 64 → (i : ℕ) → i < trailing_zeros w64 bits → is_set bits i ≡ false
-zeros-below zero fits i h = none-set i
+zeros-below zero fits i h = set-none i
 zeros-below (suc n) fits i h = ap (λ n. n == 1) ((bit_at-trailing_zeros w64 (suc n) (omega arith) fits).2 i h)
 
 -- the lowest is set
@@ -141,3 +138,26 @@ lowest-from bits first kept fits few since =
     absurd (let e : true ≡ false = sym set ∙ none in (let never : ⊥ = cc in never)))
     (λ (le : first ≤ trailing_zeros w64 kept). le)
     (cases_lt (trailing_zeros w64 kept) first)
+
+-- the lowest bit of those from one on is not behind the end of a text, where all bits are set
+pub lowest-inside : (text : List ℕ) (at bits first kept : ℕ) → kept < 2 ^ 64 → first < 64 → at + first < length text → AreEnded text at bits → AreKeptFrom first bits kept
+    → at + trailing_zeros w64 kept ≤ length text
+lowest-inside text at bits first kept fits few inside ended since =
+    ⊎_elim
+    (λ (past : length text < at + trailing_zeros w64 kept).
+    let i = length text - at in
+    let most = zeros-few kept in
+    let few_too : i < 64 = omega arith in
+    let none = zeros-below kept fits i (omega arith) in
+    let set = since.same i (omega arith) few_too ∙ ended i few_too (omega arith) in
+    absurd (let e : true ≡ false = sym set ∙ none in (let never : ⊥ = cc in never)))
+    (λ (le : at + trailing_zeros w64 kept ≤ length text). le)
+    (cases_lt (length text) (at + trailing_zeros w64 kept))
+
+-- the bits from one on of the number that has all
+pub all-from : (first kept i : ℕ) → AreKeptFrom first (2 ^ 64 - 1) kept → i < 64 → is_set kept i ≡ leb first i
+all-from first kept i since few =
+    ⊎_elim
+    (λ (before : i < first). since.none i before ∙ sym (lt-leb first i before))
+    (λ (after : first ≤ i). since.same i after few ∙ ap (λ n. n == 1) (bit_at_ones 64 i few) ∙ sym (le-leb first i after))
+    (cases_lt i first)

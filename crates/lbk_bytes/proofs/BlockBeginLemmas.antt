@@ -1,11 +1,12 @@
 -- Where a block begins, and what its bytes are as far as none is special or stray.
 use Rattle.std.proofs.Common.{◌≡◌, ◌⊎◌, ℕ, zero, suc, ◌+◌, ◌-◌, ◌<◌, ◌≤◌, ◌&&◌, ◌||◌, ◌==◌, Bool, true, false, not, leb, ltb, List, length, get_or, take, drop, bit_and, refl, sym, ap, ap₂, subst, ◌∙◌, ⊎_elim, inl, inr, arith}
 use Rattle.std.specs.Int.Bits.{bit_or}
-use Rattle.std.proofs.lemmas.Bool.{and_from, and_parts, cases_lt, eq-eqb, le-leb, leb-true, lt-ltb, ltb-true, not_from_true, or_parts}
-use Rattle.std.proofs.lemmas.List.{get_or-drop}
+use Rattle.std.proofs.lemmas.Bool.{and_from, and_parts, cases_lt, eq-eqb, le-leb, leb-true, lt-leb, lt-ltb, ltb-true, not_from_true, or_parts}
+use Rattle.std.proofs.lemmas.List.{get_or_past, length-drop}
 use Rattle.std.proofs.lemmas.Nat.{and_le_r}
 use Rattle.lbk_cover.specs.Letters.{StandsForAll}
 use Rattle.lbk_masks.proofs.BitLemmas.{set-or}
+use Rattle.lbk_masks.proofs.FoundLemmas.{rest-byte}
 use Rattle.lbk_masks.specs.Sets.{is_set, left_before, left_in, meets, right_in}
 use Rattle.lbk_masks.specs.Strays.{is_pair, is_second, is_stray}
 use Rattle.lbk_rules.specs.declared.cells.Cell.{Cell}
@@ -23,15 +24,15 @@ use Rattle.lbk_bytes.specs.Blocks.{AreMarks, IsBlock, IsByteTold, Rests, byte_at
 use Rattle.lbk_bytes.specs.Reached.{AreSwift, IsSwiftStep}
 use Rattle.lbk_bytes.proofs.BlockLemmas.{order}
 use Rattle.lbk_bytes.proofs.BlockScalarLemmas.{begins-or, byte-scalar}
+use Rattle.lbk_bytes.proofs.MarkLemmas.{or-false}
 use Rattle.lbk_bytes.proofs.PieceLemmas.{rest-of}
 
 -- what is left of a text
 abbrev pub rest_at : List ℕ → ℕ → List ℕ
 rest_at text at = take (length text - at) (drop at text)
 
--- byte i of what is left of a text
-rest-byte : (text : List ℕ) (at i : ℕ) → get_or (take (length text - at) (drop at text)) i 0 ≡ byte_at text (at + i)
-rest-byte text at i = ap (λ l. get_or l i 0) (rest-of text at) ∙ get_or-drop at text i 0
+rest-length : (text : List ℕ) (at : ℕ) → length (rest_at text at) ≡ length text - at
+rest-length text at = ap length (rest-of text at) ∙ length-drop at text
 
 -- the set of the byte before byte i of it
 left-is : (pairs : Neighbours) (text : List ℕ) (at before i : ℕ) → before ≡ left_in pairs.sets (byte_at text (at - 1))
@@ -52,21 +53,31 @@ special-is : (pairs : Neighbours) (text : List ℕ) (at before i : ℕ) → befo
 special-is pairs text at before i set =
     ap₂ meets (left-is pairs text at before i set) (ap (λ b. bit_and (right_in pairs.sets b) 3) (rest-byte text at i))
 
--- what the masks tell are the marks
-pub are-marks : (pairs : Neighbours) (text : List ℕ) (at before special strays : ℕ) (marks : Marks) → 0 < at → at + 64 ≤ length text
-    → before ≡ left_in pairs.sets (byte_at text (at - 1)) → marks.stops ≡ bit_or special strays
-    → ((i : ℕ) → i < 64 → is_set marks.standing i ≡ meets (left_before pairs.sets before (rest_at text at) i) (right_in pairs.sets (get_or (rest_at text at) i 0)))
-    → ((i : ℕ) → i < 64 → is_set special i ≡ meets (left_before pairs.sets before (rest_at text at) i) (bit_and (right_in pairs.sets (get_or (rest_at text at) i 0)) 3))
+-- what the masks tell are the marks, with the bits behind the end of the text
+pub are-marks : (pairs : Neighbours) (text : List ℕ) (at before special strays past : ℕ) (marks : Marks) → 0 < at → at ≤ length text
+    → before ≡ left_in pairs.sets (byte_at text (at - 1)) → marks.stops ≡ bit_or (bit_or special strays) past
+    → ((i : ℕ) → i < 64 → i < length (rest_at text at) → is_set marks.standing i ≡ meets (left_before pairs.sets before (rest_at text at) i) (right_in pairs.sets (get_or (rest_at text at) i 0)))
+    → ((i : ℕ) → i < 64 → i < length (rest_at text at) → is_set special i ≡ meets (left_before pairs.sets before (rest_at text at) i) (bit_and (right_in pairs.sets (get_or (rest_at text at) i 0)) 3))
     → ((i : ℕ) → i < 64 → is_set strays i ≡ is_stray (rest_at text at) i)
+    → ((i : ℕ) → i < 64 → is_set past i ≡ leb (length (rest_at text at)) i)
     → AreMarks pairs text at marks
-are-marks pairs text at before special strays marks begins within set both standing specials are_strays = record {
-  begins = begins;
-  within = within;
-  standing = λ i h. standing i h ∙ stands-is pairs text at before i set;
-  stops = λ i h.
-      ap (λ n. is_set n i) both ∙ set-or special strays i
-      ∙ ap₂ (λ (x y : Bool). x || y) (specials i h ∙ special-is pairs text at before i set) (are_strays i h);
-}
+are-marks pairs text at before special strays past marks begins within set both standing specials are_strays ends =
+    let rest : length (rest_at text at) ≡ length text - at = rest-length text at in
+    let any : (i : ℕ) → is_set marks.stops i ≡ ((is_set special i || is_set strays i) || is_set past i) =
+    λ i. ap (λ n. is_set n i) both ∙ set-or (bit_or special strays) past i ∙ ap (λ b. b || is_set past i) (set-or special strays i) in
+    record {
+      begins = begins;
+      standing = λ i h inside. standing i h (omega arith) ∙ stands-is pairs text at before i set;
+      stops = λ i h inside.
+          any i
+          ∙ or-false (is_set special i || is_set strays i) (is_set past i) (ends i h ∙ lt-leb (length (rest_at text at)) i (omega arith))
+          ∙ ap₂ (λ (x y : Bool). x || y) (specials i h (omega arith) ∙ special-is pairs text at before i set) (are_strays i h);
+      ends = λ i h outside. any i ∙ or-all (is_set special i || is_set strays i) (is_set past i) (ends i h ∙ le-leb (length (rest_at text at)) i (omega arith));
+    }
+  where
+    or-all : (some all : Bool) → all ≡ true → (some || all) ≡ true
+    or-all true all is = refl
+    or-all false all is = is
 
 -- Bytes that are no strays
 
@@ -144,6 +155,13 @@ second-is text at i few high least below =
     (lt-ltb (get_or rest (i + 1) 0) 192 (omega arith)))) in
     no-stray (leb 128 (get_or rest (suc i) 0)) (is_pair rest (suc i)) (is_pair rest i) pair
 
+-- a byte of a text other than 0 stands in it
+byte-inside : (text : List ℕ) (place : ℕ) → 0 < byte_at text place → place < length text
+byte-inside text place some =
+    ⊎_elim (λ (inside : place < length text). inside)
+    (λ (past : length text ≤ place). absurd (let none = get_or_past text place 0 past in omega arith))
+    (cases_lt place (length text))
+
 -- the byte before a place has a row, and stands for its scalar if it is the first of two, whose second is then here
 record IsBehind (lefts : List Left) (kinds : List ℕ) (pairs : Neighbours) (text : List ℕ) (place : ℕ) : Type 0 where
   starts : IsStart lefts (row_before pairs text place)
@@ -166,10 +184,10 @@ quiet-last lefts kinds pairs text place behind high =
     ap (right_in pairs.sets) (sym same) ∙ ((behind.stands high).each (byte - 128) (omega arith)).quiet
 
 byte-told : (lefts : List Left) (steps : List FlatStep) (kinds : List ℕ) (pairs : Neighbours) (text : List ℕ) (at i : ℕ)
-    → AreTold steps kinds pairs → byte_at text (at + i) < 256 → IsBehind lefts kinds pairs text (at + i) → IsPlaced text at i → at + 64 ≤ length text
+    → AreTold steps kinds pairs → byte_at text (at + i) < 256 → IsBehind lefts kinds pairs text (at + i) → IsPlaced text at i
     → is_special pairs (byte_at text (at + i - 1)) (byte_at text (at + i)) ≡ false
     → IsByteTold steps kinds pairs text (at + i)
-byte-told lefts steps kinds pairs text at i told fits behind place room plain =
+byte-told lefts steps kinds pairs text at i told fits behind place plain =
     let before = byte_at text (at + i - 1) in
     let byte = byte_at text (at + i) in
     record {
@@ -180,8 +198,8 @@ byte-told lefts steps kinds pairs text at i told fits behind place room plain =
           (low, told before byte low fits begins behind.starts.0 plain);
       goes_on = λ high.
           let next = place.first high in
-          let few = next.0 in
           let same : at + suc i ≡ at + i + 1 = omega arith in
+          let inside = byte-inside text (at + suc i) (omega (arith, next.1)) in
           record { least = subst (λ n. 128 ≤ byte_at text n) same next.1; below = subst (λ n. byte_at text n < 192) same next.2; within = omega arith };
       quiet = λ least below.
           let high = (place.last least below).1 in
@@ -229,8 +247,6 @@ behind-next profile cell lefts steps kinds pairs text at i swift are_kinds fits 
 record Begun (steps : List FlatStep) (kinds : List ℕ) (pairs : Neighbours) (text : List ℕ) (at begin taken : ℕ) : Type 0 where
   told : AreTold steps kinds pairs
   bytes : (i : ℕ) → byte_at text i < 256
-  room : at + 64 ≤ length text
-  few : taken ≤ 64
   plain : (i : ℕ) → begin ≤ i → i < taken → is_special pairs (byte_at text (at + i - 1)) (byte_at text (at + i)) ≡ false
   stays : (i : ℕ) → begin ≤ i → i < taken → is_stray (rest_at text at) i ≡ false
 
@@ -247,7 +263,7 @@ behind-each profile cell lefts steps kinds pairs text at begin taken swift are_k
     let place = placed text at i (begun.stays i after inside) in
     subst (IsBehind lefts kinds pairs text) (let e : at + suc (begin + n) ≡ at + (begin + suc n) = omega arith in e)
     (behind-next profile cell lefts steps kinds pairs text at i swift are_kinds (begun.bytes (at + i)) behind place
-    (byte-told lefts steps kinds pairs text at i begun.told (begun.bytes (at + i)) behind place begun.room (begun.plain i after inside)))
+    (byte-told lefts steps kinds pairs text at i begun.told (begun.bytes (at + i)) behind place (begun.plain i after inside)))
 
 behind-at : (profile : Profile) (cell : ℕ → Cell) (lefts : List Left) (steps : List FlatStep) (kinds : List ℕ) (pairs : Neighbours) (text : List ℕ) (at begin taken : ℕ)
     → AreSwift profile lefts steps → AreFlatKinds kinds cell → Begun steps kinds pairs text at begin taken
@@ -265,7 +281,7 @@ neither false true a b is = cc
 -- the last byte that is taken is the last of a scalar: the first of two is followed by what is neither special nor stray
 last-ends : (lefts : List Left) (kinds : List ℕ) (pairs : Neighbours) (text : List ℕ) (at begin taken : ℕ) → begin ≤ taken
     → byte_at text (at + begin - 1) < 192 → ((i : ℕ) → begin ≤ i → i < taken → is_stray (rest_at text at) i ≡ false) → taken ≤ 64
-    → (taken < 64 → stops_at pairs text at taken ≡ true)
+    → (taken < 64 → at + taken < length text → stops_at pairs text at taken ≡ true)
     → IsBehind lefts kinds pairs text (at + taken) → byte_at text (at + taken - 1) < 192
 last-ends lefts kinds pairs text at begin zero some low stays few stops behind =
     subst (λ n. byte_at text n < 192) (let e : at + begin - 1 ≡ at + 0 - 1 = omega arith in e) low
@@ -282,7 +298,7 @@ last-ends lefts kinds pairs text at begin (suc i) some low stays few stops behin
     let special : is_special pairs (byte_at text (at + suc i - 1)) (byte_at text (at + suc i)) ≡ false =
     meets-none (left_in pairs.sets (byte_at text (at + suc i - 1))) (bit_and (right_in pairs.sets (byte_at text (at + suc i))) 3)
     (ap (λ n. bit_and n 3) (quiet-last lefts kinds pairs text (at + suc i) behind high)) in
-    let stopped = stops (omega arith) in
+    let stopped = stops (omega arith) (byte-inside text (at + suc i) (omega (arith, next.1))) in
     absurd (neither (is_special pairs (byte_at text (at + suc i - 1)) (byte_at text (at + suc i))) (is_stray (rest_at text at) (suc i)) special stray stopped))
     (λ (only : i < begin).
     let same : at + begin - 1 ≡ at + suc i - 1 = omega arith in
@@ -293,12 +309,12 @@ last-ends lefts kinds pairs text at begin (suc i) some low stays few stops behin
 -- from a place whose row is that of the byte before, the bytes up to the next that is left to steps
 pub is-block : (profile : Profile) (cell : ℕ → Cell) (lefts : List Left) (steps : List FlatStep) (kinds : List ℕ) (pairs : Neighbours) (text : List ℕ) (at begin taken : ℕ) (marks : Marks) (here : FillState)
     → AreSwift profile lefts steps → AreFlatKinds kinds cell → AreTold steps kinds pairs → ((i : ℕ) → byte_at text i < 256)
-    → AreMarks pairs text at marks → Rests pairs here text → here.at ≡ at + begin → begin ≤ taken → taken ≤ 64
+    → AreMarks pairs text at marks → Rests pairs here text → here.at ≡ at + begin → begin ≤ taken → taken ≤ 64 → at + taken ≤ length text
     → IsStart lefts here.row
     → ((i : ℕ) → begin ≤ i → i < taken → is_set marks.stops i ≡ false)
     → (taken < 64 → is_set marks.stops taken ≡ true)
     → IsBlock profile cell lefts steps kinds pairs text at begin taken
-is-block profile cell lefts steps kinds pairs text at begin taken marks here swift are_kinds told bytes are_marks rests is_at some few starts none stopped =
+is-block profile cell lefts steps kinds pairs text at begin taken marks here swift are_kinds told bytes are_marks rests is_at some few within starts none stopped =
     let low : byte_at text (at + begin - 1) < 192 = subst (λ n. byte_at text (n - 1) < 192) is_at rests.below in
     let begins : IsBehind lefts kinds pairs text (at + begin) = record {
       starts = subst (λ n. IsStart lefts (row_before pairs text n)) is_at (subst (IsStart lefts) rests.row starts);
@@ -308,14 +324,15 @@ is-block profile cell lefts steps kinds pairs text at begin taken marks here swi
     let each : (i : ℕ) → begin ≤ i → i < taken
     → (is_special pairs (byte_at text (at + i - 1)) (byte_at text (at + i)) ≡ false) × (is_stray (rest_at text at) i ≡ false) =
     λ i after h. or_parts (is_special pairs (byte_at text (at + i - 1)) (byte_at text (at + i))) (is_stray (rest_at text at) i)
-    (sym (are_marks.stops i (omega arith)) ∙ none i after h) in
+    (sym (are_marks.stops i (omega arith) (omega arith)) ∙ none i after h) in
     let begun : Begun steps kinds pairs text at begin taken =
-    record { told = told; bytes = bytes; room = are_marks.within; few = few; plain = λ i after h. (each i after h).0; stays = λ i after h. (each i after h).1 } in
+    record { told = told; bytes = bytes; plain = λ i after h. (each i after h).0; stays = λ i after h. (each i after h).1 } in
     let behind = behind-at profile cell lefts steps kinds pairs text at begin taken swift are_kinds begun begins in
     record {
       swift = swift;
       kinds_are = are_kinds;
       few = few;
-      told = λ i after h. byte-told lefts steps kinds pairs text at i told (bytes (at + i)) (behind i after (omega (arith, h))) (placed text at i (begun.stays i after h)) are_marks.within (begun.plain i after h);
-      ends = last-ends lefts kinds pairs text at begin taken some low begun.stays few (λ h. sym (are_marks.stops taken h) ∙ stopped h) (behind taken some (omega arith));
+      within = within;
+      told = λ i after h. byte-told lefts steps kinds pairs text at i told (bytes (at + i)) (behind i after (omega (arith, h))) (placed text at i (begun.stays i after h)) (begun.plain i after h);
+      ends = last-ends lefts kinds pairs text at begin taken some low begun.stays few (λ h inside. sym (are_marks.stops taken h inside) ∙ stopped h) (behind taken some (omega arith));
     }

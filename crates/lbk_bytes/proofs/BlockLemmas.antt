@@ -18,7 +18,7 @@ use Rattle.lbk_bytes.specs.Blocks.{AreCleared, AreKeptBelow, AreKeptFrom, AreLef
 use Rattle.lbk_bytes.specs.Bytes.{with_break}
 use Rattle.lbk_bytes.specs.Reached.{Ahead, AreSwift, Reached}
 use Rattle.lbk_bytes.specs.Shown.{given_in}
-use Rattle.lbk_bytes.proofs.BitLemmas.{none-set}
+use Rattle.lbk_masks.proofs.BitLemmas.{set-none}
 use Rattle.lbk_bytes.proofs.BlockScalarLemmas.{begins-or, depart, end-low, scalar-more, stay}
 use Rattle.lbk_bytes.proofs.ShownLemmas.{is-some}
 
@@ -65,7 +65,7 @@ quiet-bytes profile cell lefts text more all steps kinds pairs out count at (suc
 -- the bytes from here on up to a break that is left
 up-to : (profile : Profile) (cell : ℕ → Cell) (lefts : List Left) (text more : List ℕ) (all : Ahead) (steps : List FlatStep) (kinds : List ℕ) (pairs : Neighbours)
     (out : List RawBreak) (at begin taken index : ℕ) (here : BlockState)
-    → at + 64 ≤ length text → IsBlock profile cell lefts steps kinds pairs text at begin taken → AreLeft pairs text at begin taken here
+    → at + taken ≤ length text → IsBlock profile cell lefts steps kinds pairs text at begin taken → AreLeft pairs text at begin taken here
     → index ≤ taken → here.past ≤ at + index → ((i : ℕ) → i < index → is_set here.left i ≡ false)
     → Reached profile cell lefts (text ++ more) all (place_in pairs text here) (given_in out here.count)
     → Reached profile cell lefts (text ++ more) all (place_at pairs text here.count (at + index)) (given_in out here.count)
@@ -90,13 +90,13 @@ up-to profile cell lefts text more all steps kinds pairs out at begin taken inde
 -- all bytes of the block that are taken, where no break is left
 pub taken-all : (profile : Profile) (cell : ℕ → Cell) (lefts : List Left) (text more : List ℕ) (all : Ahead) (steps : List FlatStep) (kinds : List ℕ) (pairs : Neighbours)
     (out : List RawBreak) (at begin taken : ℕ) (here : BlockState)
-    → at + 64 ≤ length text → IsBlock profile cell lefts steps kinds pairs text at begin taken → AreLeft pairs text at begin taken here → here.left ≡ 0
+    → at + taken ≤ length text → IsBlock profile cell lefts steps kinds pairs text at begin taken → AreLeft pairs text at begin taken here → here.left ≡ 0
     → Reached profile cell lefts (text ++ more) all (place_in pairs text here) (given_in out here.count)
     → Reached profile cell lefts (text ++ more) all (record { count = here.count; row = row_before pairs text (at + taken); at = at + taken }) (given_in out here.count)
 taken-all profile cell lefts text more all steps kinds pairs out at begin taken here room block left empty r =
     depart profile cell lefts text more all pairs out here.count (at + taken) (at + taken) (end-low text (at + taken) block.ends)
     (up-to profile cell lefts text more all steps kinds pairs out at begin taken taken here room block left (omega arith) left.within
-    (λ i h. ap (λ n. is_set n i) empty ∙ none-set i) r)
+    (λ i h. ap (λ n. is_set n i) empty ∙ set-none i) r)
 
 -- Where the lowest bit is one that stands out
 
@@ -132,7 +132,7 @@ break-begins steps kinds pairs text place told stands =
 -- the break that stands first is written, and the others are left
 pub break-taken : (profile : Profile) (cell : ℕ → Cell) (lefts : List Left) (text more : List ℕ) (all : Ahead) (steps : List FlatStep) (kinds : List ℕ) (pairs : Neighbours)
     (out after : List RawBreak) (at begin taken index : ℕ) (here there : BlockState) (step : FlatStep)
-    → at + 64 ≤ length text → IsBlock profile cell lefts steps kinds pairs text at begin taken → AreLeft pairs text at begin taken here → index < 64 → 0 < here.left
+    → at + taken ≤ length text → IsBlock profile cell lefts steps kinds pairs text at begin taken → AreLeft pairs text at begin taken here → index < 64 → 0 < here.left
     → IsLowest here.left index → AreCleared here.left index there.left → there.past ≡ at + index + 1
     → step ≡ step_behind steps kinds pairs (byte_at text (at + index - 1)) (byte_at text (at + index))
     → (is_no (verdict_coded step.code).kind ≡ false → given_in after there.count ≡ given_in out here.count ++ with_break (at + index) (verdict_coded step.code) [])
@@ -174,13 +174,13 @@ break-taken profile cell lefts text more all steps kinds pairs out after at begi
     left-none i h (inr lt) = ⊎_elim (λ (le : index ≤ i). subst (λ j. is_set there.left j ≡ false) (let e : index ≡ i = omega arith in e) cleared.gone) (λ (less : i < index). below i h less) (order i index)
 
 -- the breaks that are left when bytes of a block are begun
-pub are-left : (pairs : Neighbours) (text : List ℕ) (at begin taken standing from : ℕ) (here : BlockState) → taken ≤ 64 → begin ≤ taken → here.past ≡ at + begin
-    → AreKeptFrom begin standing from → AreKeptBelow taken from here.left → ((i : ℕ) → i < 64 → is_set standing i ≡ stands_at pairs text (at + i))
+pub are-left : (pairs : Neighbours) (text : List ℕ) (at begin taken standing from : ℕ) (here : BlockState) → taken ≤ 64 → at + taken ≤ length text → begin ≤ taken → here.past ≡ at + begin
+    → AreKeptFrom begin standing from → AreKeptBelow taken from here.left → ((i : ℕ) → i < 64 → at + i < length text → is_set standing i ≡ stands_at pairs text (at + i))
     → AreLeft pairs text at begin taken here
-are-left pairs text at begin taken standing from here few some begins since kept stands = record {
+are-left pairs text at begin taken standing from here few room some begins since kept stands = record {
   after = omega arith;
   within = omega arith;
-  told = λ i h past. kept.same i h ∙ since.same i (omega arith) (omega arith) ∙ stands i (omega arith);
+  told = λ i h past. kept.same i h ∙ since.same i (omega arith) (omega arith) ∙ stands i (omega arith) (omega arith);
   none = λ i h out_of.
       ⊎_elim (λ (le : taken ≤ i). kept.none i le h)
       (λ (lt : at + i < here.past). kept.same i (omega arith) ∙ since.none i (omega arith)) out_of;
@@ -205,7 +205,7 @@ reached-there profile cell lefts text more all pairs out count at there is_count
 -- the bytes up to the next break that is left
 next-break : (profile : Profile) (cell : ℕ → Cell) (lefts : List Left) (text more : List ℕ) (all : Ahead) (steps : List FlatStep) (kinds : List ℕ) (pairs : Neighbours)
     (out : List RawBreak) (at begin taken index : ℕ) (here : BlockState)
-    → at + 64 ≤ length text → IsBlock profile cell lefts steps kinds pairs text at begin taken → AreLeft pairs text at begin taken here → index < 64 → 0 < here.left
+    → at + taken ≤ length text → IsBlock profile cell lefts steps kinds pairs text at begin taken → AreLeft pairs text at begin taken here → index < 64 → 0 < here.left
     → IsLowest here.left index
     → Reached profile cell lefts (text ++ more) all (place_in pairs text here) (given_in out here.count)
     → Reached profile cell lefts (text ++ more) all (record { count = here.count; row = row_before pairs text (at + index); at = at + index }) (given_in out here.count)
@@ -220,7 +220,7 @@ next-break profile cell lefts text more all steps kinds pairs out at begin taken
 -- behind the bytes that are taken if no break is left, else before the next break
 pub stopped-there : (profile : Profile) (cell : ℕ → Cell) (lefts : List Left) (text more : List ℕ) (all : Ahead) (steps : List FlatStep) (kinds : List ℕ) (pairs : Neighbours)
     (out : List RawBreak) (at begin taken : ℕ) (here : BlockState) (there : FillState)
-    → at + 64 ≤ length text → IsBlock profile cell lefts steps kinds pairs text at begin taken
+    → at + taken ≤ length text → IsBlock profile cell lefts steps kinds pairs text at begin taken
     → there.count ≡ here.count → there.row ≡ row_before pairs text there.at → at ≤ there.at → (here.left ≡ 0 → there.at ≡ at + taken)
     → (0 < here.left → IsLowest here.left (there.at - at) × (there.at < at + 64))
     → AreLeft pairs text at begin taken here × Reached profile cell lefts (text ++ more) all (place_in pairs text here) (given_in out here.count)

@@ -1,11 +1,10 @@
 -- Bits of one number joined to those of some words.
 use Rattle.std.proofs.Common.{◌≡◌, ◌⊎◌, ℕ, ◌+◌, ◌-◌, ◌*◌, ◌/◌, ◌%◌, ◌^◌, ◌==◌, ◌<◌, ◌≤◌, ◌&&◌, ◌||◌, false, leb, List, length, get_or, set, get_or-set_other, get_or-set_same, refl, sym, ap, ap₂, ◌∙◌, ⊎_elim, inl, inr, arith}
-use Rattle.std.specs.Int.{bit_at}
 use Rattle.std.specs.Int.Bits.{bit_or}
 use Rattle.std.proofs.lemmas.Bool.{and_left, and_right, cases_eq, cases_lt, eq-eqb, le-leb, lt-leb, ne_eqb}
-use Rattle.std.proofs.lemmas.Nat.{pow_pos, shr-shr}
-use Rattle.std.proofs.lemmas.Nat.Bits.{bit_at_above, bit_at_cat_high, bit_at_cat_low, bit_at-zero}
-use Rattle.lbk_masks.proofs.BitLemmas.{set-or}
+use Rattle.std.proofs.lemmas.Nat.{shr-shr}
+use Rattle.std.proofs.lemmas.Nat.Bits.{bit_at_above}
+use Rattle.lbk_masks.proofs.BitLemmas.{set-or, set-raised}
 use Rattle.lbk_masks.specs.Sets.{is_set}
 use Rattle.lbk_bytes.specs.Marks.{is_marked}
 use Rattle.lbk_bytes.proofs.MarkLemmas.{or-assoc, or-none}
@@ -30,22 +29,6 @@ marked-joined words word i bits within =
 pub none-past : (n i : ℕ) → n < 2 ^ 64 → 64 ≤ i → is_set n i ≡ false
 none-past n i fits past = ap (λ b. b == 1) (bit_at_above n 64 i fits past)
 
--- up by some places
-cut : (n i : ℕ) → i < 64 → bit_at (n % 2 ^ 64) i ≡ bit_at n i
-cut n i few =
-    sym (bit_at_cat_low (n / 2 ^ 64) 64 (n % 2 ^ 64) i few) ∙ ap (λ m. bit_at m i) (let e : n / 2 ^ 64 * 2 ^ 64 + n % 2 ^ 64 ≡ n = omega arith in e)
-
-up : (n s i : ℕ) → i < 64 → is_set (n * 2 ^ s % 2 ^ 64) i ≡ (leb s i && is_set n (i - s))
-up n s i few =
-    let whole : n * 2 ^ s + 0 ≡ n * 2 ^ s = omega arith in
-    ap (λ b. b == 1) (cut (n * 2 ^ s) i few ∙ ap (λ m. bit_at m i) (sym whole))
-    ∙ ⊎_elim
-    (λ (before : i < s).
-    ap (λ b. b == 1) (bit_at_cat_low n s 0 i before ∙ bit_at-zero i) ∙ sym (and_left (leb s i) (is_set n (i - s)) (lt-leb s i before)))
-    (λ (after : s ≤ i).
-    ap (λ b. b == 1) (bit_at_cat_high n s 0 i (pow_pos s) after) ∙ ap (λ b. b && is_set n (i - s)) (sym (le-leb s i after)))
-    (cases_lt i s)
-
 -- down by some places
 down : (n t i : ℕ) → is_set (n / 2 ^ t) i ≡ is_set n (t + i)
 down n t i = ap (λ m. m % 2 == 1) (shr-shr n t i)
@@ -53,7 +36,7 @@ down n t i = ap (λ m. m % 2 == 1) (shr-shr n t i)
 -- in the word of the index: as far up as the index stands in it
 in-first : (index bits i : ℕ) → i / 64 ≡ index / 64 → is_set (bits * 2 ^ (index % 64) % 2 ^ 64) (i % 64) ≡ (leb index i && is_set bits (i - index))
 in-first index bits i same =
-    up bits (index % 64) (i % 64) (omega arith)
+    set-raised bits (index % 64) (i % 64) (omega arith)
     ∙ ap₂ ◌&&◌ same-order (ap (is_set bits) (let e : i % 64 - index % 64 ≡ i - index = omega arith in e))
   where
     same-order : leb (index % 64) (i % 64) ≡ leb index i

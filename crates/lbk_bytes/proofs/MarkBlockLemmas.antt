@@ -103,7 +103,7 @@ byte-taken profile cell lefts text all pairs front at n more t r from below told
 
 -- the next byte of a block: it begins a scalar, whose break is the one that its sets tell, or goes on with one
 one-taken : (profile : Profile) (cell : ℕ → Cell) (lefts : List Left) (text more : List ℕ) (all : Ahead) (steps : List FlatStep) (kinds : List ℕ) (pairs : Neighbours) (at taken n : ℕ)
-    → at + 64 ≤ length text → IsBlock profile cell lefts steps kinds pairs text at 0 taken → n < taken
+    → at + taken ≤ length text → IsBlock profile cell lefts steps kinds pairs text at 0 taken → n < taken
     → Taken profile cell lefts (text ++ more) all pairs text at n → Taken profile cell lefts (text ++ more) all pairs text at (suc n)
 one-taken profile cell lefts text more all steps kinds pairs at taken n room block inside t =
     let place = at + n in
@@ -136,7 +136,7 @@ one-taken profile cell lefts text more all steps kinds pairs at taken n room blo
     (begins-or (byte_at text place))
 
 many-taken : (profile : Profile) (cell : ℕ → Cell) (lefts : List Left) (text more : List ℕ) (all : Ahead) (steps : List FlatStep) (kinds : List ℕ) (pairs : Neighbours) (at taken n : ℕ)
-    → at + 64 ≤ length text → IsBlock profile cell lefts steps kinds pairs text at 0 taken → n ≤ taken
+    → at + taken ≤ length text → IsBlock profile cell lefts steps kinds pairs text at 0 taken → n ≤ taken
     → Reached profile cell lefts (text ++ more) all (place_at pairs text 0 at) []
     → Taken profile cell lefts (text ++ more) all pairs text at n
 many-taken profile cell lefts text more all steps kinds pairs at taken zero room block inside r = none-taken profile cell lefts text more all pairs at r
@@ -152,7 +152,7 @@ pub record BlockTaken (profile : Profile) (cell : ℕ → Cell) (lefts : List Le
   pub bits : (from i : ℕ) → from ≤ at → kept < 2 ^ 64 → (leb (at - from) i && is_set kept (i - (at - from))) ≡ stands_among (from + i) given
 
 pub block-taken : (profile : Profile) (cell : ℕ → Cell) (lefts : List Left) (text more : List ℕ) (all : Ahead) (steps : List FlatStep) (kinds : List ℕ) (pairs : Neighbours) (row at taken standing kept : ℕ)
-    → at + 64 ≤ length text → IsBlock profile cell lefts steps kinds pairs text at 0 taken
+    → at + taken ≤ length text → IsBlock profile cell lefts steps kinds pairs text at 0 taken
     → ((i : ℕ) → i < 64 → is_set standing i ≡ stands_at pairs text (at + i)) → AreKeptBelow taken standing kept
     → row ≡ row_before pairs text at → byte_at text (at - 1) < 192
     → Reached profile cell lefts (text ++ more) all (record { count = 0; row = row; at = at }) []

@@ -23,7 +23,7 @@ use Rattle.lbk_bytes.specs.Marks.{is_marked, stands_among}
 use Rattle.lbk_bytes.specs.Order.{AreInOrder, no_break}
 use Rattle.lbk_bytes.specs.Reached.{Ahead, Reached, onward_to}
 use Rattle.lbk_bytes.specs.Shown.{given_in, shown}
-use Rattle.lbk_bytes.proofs.BitLemmas.{none-set}
+use Rattle.lbk_masks.proofs.BitLemmas.{set-none}
 
 -- A bit
 
@@ -37,7 +37,7 @@ or-assoc false y z = refl
 
 -- one bit, if it is to be set
 set-one : (s : Bool) (k j : ℕ) → k < 64 → is_set (from_bool s * 2 ^ k % 2 ^ 64) j ≡ (s && (k == j))
-set-one false k j few = ap (λ n. is_set n j) (let e : 0 * 2 ^ k % 2 ^ 64 ≡ 0 = omega arith in e) ∙ none-set j
+set-one false k j few = ap (λ n. is_set n j) (let e : 0 * 2 ^ k % 2 ^ 64 ≡ 0 = omega arith in e) ∙ set-none j
 set-one true k j few =
     ap (λ n. is_set n j) (one_shl k 64 few)
     ∙ ⊎_elim

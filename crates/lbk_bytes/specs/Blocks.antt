@@ -1,4 +1,4 @@
--- A block of 64 bytes whose breaks the sets of its bytes tell.
+-- A block of up to 64 bytes whose breaks the sets of its bytes tell.
 use Rattle.std.specs.Prelude.{◌≡◌, ◌≢◌, ◌⊎◌, ℕ, ◌+◌, ◌-◌, ◌<◌, ◌≤◌, ◌||◌, Bool, true, false, List, length, take, drop, slice_index_or, nat_le, if◌then◌else◌}
 use Rattle.lbk_masks.specs.Sets.{is_set, left_in, meets, right_in}
 use Rattle.lbk_masks.specs.Strays.{is_stray}
@@ -36,12 +36,20 @@ abbrev pub stops_at : Neighbours → List ℕ → ℕ → ℕ → Bool
 stops_at pairs text at i =
     is_special pairs (byte_at text (at + i - 1)) (byte_at text (at + i)) || is_stray (take (length text - at) (drop at text)) i
 
--- these are the marks of the 64 bytes from here on
+-- behind the end of a text all bits are set
+abbrev pub AreEnded : List ℕ → ℕ → ℕ → Type 0
+AreEnded text at stops = (i : ℕ) → i < 64 → length text ≤ at + i → is_set stops i ≡ true
+
+-- behind the end of a text no bit is set
+abbrev pub AreInside : List ℕ → ℕ → ℕ → Type 0
+AreInside text at bits = (i : ℕ) → i < 64 → length text ≤ at + i → is_set bits i ≡ false
+
+-- these are the marks of the 64 bytes from here on, or of all that are left, where they are fewer
 pub record AreMarks (pairs : Neighbours) (text : List ℕ) (at : ℕ) (marks : Marks) : Type 0 where
   pub begins : 0 < at
-  pub within : at + 64 ≤ length text
-  pub standing : (i : ℕ) → i < 64 → is_set marks.standing i ≡ stands_at pairs text (at + i)
-  pub stops : (i : ℕ) → i < 64 → is_set marks.stops i ≡ stops_at pairs text at i
+  pub standing : (i : ℕ) → i < 64 → at + i < length text → is_set marks.standing i ≡ stands_at pairs text (at + i)
+  pub stops : (i : ℕ) → i < 64 → at + i < length text → is_set marks.stops i ≡ stops_at pairs text at i
+  pub ends : AreEnded text at marks.stops
 
 -- a byte that goes on with a scalar stands here
 pub record GoesOn (text : List ℕ) (place : ℕ) : Type 0 where
@@ -83,6 +91,7 @@ pub record IsBlock (profile : Profile) (cell : ℕ → Cell) (lefts : List Left)
   pub swift : AreSwift profile lefts steps
   pub kinds_are : AreFlatKinds kinds cell
   pub few : taken ≤ 64
+  pub within : at + taken ≤ length text
   pub told : (i : ℕ) → begin ≤ i → i < taken → IsByteTold steps kinds pairs text (at + i)
   pub ends : byte_at text (at + taken - 1) < 192
 

@@ -1,12 +1,13 @@
-//! Blocks of 64 bytes whose breaks the sets of their bytes tell, so that no step waits for the one before it.
+//! Blocks of up to 64 bytes whose breaks the sets of their bytes tell, so that no step waits for the one before it.
 
-ghost use Rattle.std.specs.Prelude.{◌≡◌, ℕ, ◌+◌, ◌-◌, ◌<◌, ◌≤◌, ◌++◌, List, length, IfSome};
+ghost use Rattle.std.specs.Prelude.{◌≡◌, ℕ, ◌+◌, ◌-◌, ◌<◌, ◌≤◌, ◌++◌, List, length, nat_le, IfSome};
 ghost use Rattle.lbk_rules.specs.declared.cells.Cell.{Cell};
 ghost use Rattle.lbk_rules.specs.declared.facts.Left.{Left};
 ghost use Rattle.lbk_values.specs.declared.profile.Profile.{Profile};
 ghost use Rattle.lbk_steps.specs.FlatTable.{AreFlatKinds};
 ghost use Rattle.lbk_steps.specs.Neighbours.{AreTold};
-ghost use Rattle.lbk_bytes.specs.Blocks.{AreCleared, AreKeptBelow, AreKeptFrom, AreLeft, AreMarks, IsAhead, IsBlock, IsLowest, place_in, row_before};
+ghost use Rattle.lbk_masks.specs.Sets.{is_set};
+ghost use Rattle.lbk_bytes.specs.Blocks.{AreCleared, AreEnded, AreInside, AreKeptBelow, AreKeptFrom, AreLeft, AreMarks, IsAhead, IsBlock, IsLowest, place_in, row_before};
 ghost use Rattle.lbk_bytes.specs.Reached.{Ahead, AreSwift, IsInOrder, Reached};
 ghost use Rattle.lbk_bytes.specs.Shown.{given_in};
 
@@ -15,18 +16,20 @@ use crate::filling::{put_break, runs};
 use crate::raw_break::RawBreak;
 use crate::steps::{CODES, step_at};
 use crate::tries::are_many;
-use lbk_masks::strays;
 use lbk_steps::{FlatStep, Neighbours, STEPS};
 
-/// How many bytes are looked at together.
+/// How many bytes at most are looked at together.
 pub(crate) const BLOCK: usize = 64;
 
-/// What is known of the 64 bytes of a block, a bit each.
+/// How many bytes at least are looked at together. Fewer are taken as fast by steps.
+pub(crate) const LEAST: usize = 20;
+
+/// What is known of the bytes of a block, a bit each.
 #[derive(Clone, Copy)]
 pub(crate) struct Marks {
     /// Which stand out behind the byte before.
     pub(crate) standing: u64,
-    /// Which are left to steps: those that are special, or of no scalar of one or two bytes in the block.
+    /// Which are left to steps: those that are special, or of no scalar of one or two bytes in the block, and where the text ends.
     pub(crate) stops: u64,
 }
 
@@ -41,9 +44,8 @@ pub(crate) struct BlockState {
     pub(crate) left: u64,
 }
 
-/// Takes blocks of 64 bytes, as many as come one after the other, up to a scalar that no step takes, or that begins less than 64
-/// bytes before the end, or from which on many bytes are left to steps. It stands apart, so that what single scalars need stays in
-/// registers.
+/// Takes blocks of bytes, as many as come one after the other, up to a scalar that no step takes, or from which on few bytes are
+/// left, or many of them to steps. It stands apart, so that what single scalars need stays in registers.
 #[inline(never)]
 pub(crate) fn blocks(
     pairs: &Neighbours,
@@ -62,13 +64,37 @@ pub(crate) fn blocks(
         → Reached profile cell lefts (text.now ++ more) all start (given_in out.old start.count)
         → Reached profile cell lefts (text.now ++ more) all result (given_in out.new result.count) }
 {
-    let mut from = start.at;
-    let mut here = block(pairs, kinds, steps, start, text, out);
+    let first = begun(kinds, steps, start, text, out);
+    let mut from = first.at;
+    let mut here = block(pairs, kinds, steps, first, text, out);
     while BLOCK <= here.at - from {
         from = here.at;
         here = block(pairs, kinds, steps, here, text, out);
     }
     here
+}
+
+/// Takes the first scalar of a text by a step, since no byte stands before it.
+#[inline(always)]
+fn begun(
+    kinds: &[u8; CODES],
+    steps: &[FlatStep; STEPS],
+    start: FillState,
+    text: &[u8],
+    out: &mut [RawBreak],
+) -> FillState
+    requires { (start.count ≤ length out.old) × (start.row < 65536) × (start.at ≤ length text.now) }
+    ensures within { (result.count ≤ length out.old) × (result.row < 65536) × (result.at ≤ length text.now) }
+    ensures onward { (start.at ≤ result.at) × (start.count ≤ result.count) }
+    ensures in_order { (from : ℕ) → IsInOrder out.old start.count from start.at → IsInOrder out.new result.count from result.at }
+    ensures reached { (profile : Profile) (cell : ℕ → Cell) (lefts : List Left) (more : List ℕ) (all : Ahead) → AreSwift profile lefts steps.now → AreFlatKinds kinds.now cell
+        → Reached profile cell lefts (text.now ++ more) all start (given_in out.old start.count)
+        → Reached profile cell lefts (text.now ++ more) all result (given_in out.new result.count) }
+{
+    if start.at != 0 || text.is_empty() {
+        return start;
+    }
+    runs(kinds, steps, start, 1, text, out)
 }
 
 /// Takes the bytes of one block: those that its marks tell by them, and the others by steps.
@@ -93,7 +119,7 @@ fn block(
     let Some(marks) = marks_ahead(pairs, start.at, text) else {
         return start;
     };
-    let end = start.at + BLOCK;
+    let end = start.at + BLOCK.min(text.len() - start.at);
     let mut here = start;
     while here.at < end {
         let there = told(pairs, kinds, steps, start.at, marks, here, text, out);
@@ -108,7 +134,8 @@ fn block(
     here
 }
 
-/// The marks of the next 64 bytes, unless fewer are left, no byte stands before them, or many of them are left to steps.
+/// The marks of the next 64 bytes, or of all that are left, unless these are few, no byte stands before them, or many of them are
+/// left to steps.
 #[inline(always)]
 pub(crate) fn marks_ahead(pairs: &Neighbours, at: usize, text: &[u8]) -> Option<Marks>
     requires { at ≤ length text.now }
@@ -117,20 +144,30 @@ pub(crate) fn marks_ahead(pairs: &Neighbours, at: usize, text: &[u8]) -> Option<
     if at == 0 {
         return None;
     }
-    if text.len() - at < BLOCK {
+    if text.len() - at < LEAST {
         return None;
     }
     let ahead = &text[at..];
-    let strays = strays(ahead);
-    if are_many(strays) {
-        return None;
-    }
     let before = pairs.sets.left_of(text[at - 1]);
     let masks = pairs.sets.masks(before, ahead);
+    if are_many(masks.strays, ahead.len()) {
+        return None;
+    }
     Some(Marks {
         standing: masks.standing,
-        stops: masks.special | strays,
+        stops: masks.special | masks.strays | past_end(ahead.len()),
     })
+}
+
+/// The bits behind the end of a text of this length.
+#[inline(always)]
+fn past_end(length: usize) -> u64
+    ensures { (i : ℕ) → i < 64 → is_set result i ≡ nat_le length i }
+{
+    if BLOCK <= length {
+        return 0;
+    }
+    kept_from(u64::MAX, length)
 }
 
 /// Takes bytes of a block up to the first that is left to steps, if the row here is that of the byte before.
@@ -145,7 +182,8 @@ fn told(
     text: &[u8],
     out: &mut [RawBreak],
 ) -> FillState
-    requires { (here.count ≤ length out.old) × (here.row < 65536) × (0 < at) × (at ≤ here.at) × (here.at < at + 64) × (at + 64 ≤ length text.now) }
+    requires place { (here.count ≤ length out.old) × (here.row < 65536) × (0 < at) × (at ≤ here.at) × (here.at < at + 64) × (here.at < length text.now) }
+    requires ends { AreEnded text.now at marks.stops }
     ensures within { (result.count ≤ length out.old) × (result.row < 65536) × (result.at ≤ length text.now) }
     ensures onward { (here.at ≤ result.at) × (here.count ≤ result.count) }
     ensures in_order { (from : ℕ) → IsInOrder out.old here.count from here.at → IsInOrder out.new result.count from result.at }
@@ -204,11 +242,11 @@ fn finish(
     text: &[u8],
     out: &mut [RawBreak],
 ) -> FillState
-    requires { (start.count ≤ length out.old) × (0 < at) × (at + 64 ≤ length text.now) × (taken ≤ 64) × (at ≤ start.past) × (start.past ≤ at + 64) }
+    requires place { (start.count ≤ length out.old) × (0 < at) × (at + taken ≤ length text.now) × (taken ≤ 64) × (at ≤ start.past) }
+    requires ahead { IsAhead at taken start }
     ensures within { (result.count ≤ length out.old) × (result.row < 65536) × (result.at ≤ length text.now) }
-    ensures onward { (at ≤ result.at) × (start.count ≤ result.count) }
-    ensures past { IsAhead at taken start → start.past ≤ result.at }
-    ensures in_order { (from : ℕ) → IsAhead at taken start → IsInOrder out.old start.count from start.past → IsInOrder out.new result.count from result.at }
+    ensures onward { (start.past ≤ result.at) × (start.count ≤ result.count) }
+    ensures in_order { (from : ℕ) → IsInOrder out.old start.count from start.past → IsInOrder out.new result.count from result.at }
     ensures reached { (profile : Profile) (cell : ℕ → Cell) (lefts : List Left) (more : List ℕ) (all : Ahead) (begin : ℕ)
         → IsBlock profile cell lefts steps.now kinds.now pairs.now text.now at begin taken
         → AreLeft pairs.now text.now at begin taken start
@@ -225,8 +263,9 @@ fn finish(
 /// Where a block was left: after its first bytes, or before the next break that is left in them.
 #[inline(always)]
 fn stopped(pairs: &Neighbours, at: usize, taken: usize, here: BlockState, text: &[u8]) -> FillState
-    requires { (0 < at) × (at + 64 ≤ length text.now) × (taken ≤ 64) }
-    ensures within { (result.row < 65536) × (at ≤ result.at) × (result.at ≤ at + 64) }
+    requires place { (0 < at) × (at + taken ≤ length text.now) }
+    requires inside { AreInside text.now at here.left }
+    ensures within { (result.row < 65536) × (at ≤ result.at) × (result.at ≤ length text.now) }
     ensures count { result.count ≡ here.count }
     ensures row { result.row ≡ row_before pairs.now text.now result.at }
     ensures all { here.left ≡ 0 → result.at ≡ at + taken }
@@ -264,10 +303,11 @@ fn take_break(
     text: &[u8],
     out: &mut [RawBreak],
 ) -> BlockState
-    requires { (here.count < length out.old) × (0 < here.left) × (0 < at) × (at + 64 ≤ length text.now) × (at ≤ here.past) × (here.past ≤ at + 64) }
+    requires place { (here.count < length out.old) × (0 < here.left) × (0 < at) }
+    requires inside { AreInside text.now at here.left }
     ensures ahead { (taken : ℕ) → IsAhead at taken here → IsAhead at taken result × (here.past ≤ result.past) }
     ensures in_order { (taken from : ℕ) → IsAhead at taken here → IsInOrder out.old here.count from here.past → IsInOrder out.new result.count from result.past }
-    ensures within { (result.count ≤ length out.old) × (at ≤ result.past) × (result.past ≤ at + 64) }
+    ensures within { (result.count ≤ length out.old) × (at ≤ result.past) }
     ensures onward { (here.count ≤ result.count) × (result.left < here.left) }
     ensures reached { (profile : Profile) (cell : ℕ → Cell) (lefts : List Left) (more : List ℕ) (all : Ahead) (begin taken : ℕ)
         → IsBlock profile cell lefts steps.now kinds.now pairs.now text.now at begin taken

@@ -10,22 +10,23 @@ ghost use Rattle.lbk_steps.specs.FlatTable.{AreFlatKinds, IsFlatBy};
 ghost use Rattle.lbk_steps.specs.Neighbours.{AreTold};
 ghost use Rattle.lbk_bytes.specs.Bytes.{with_break};
 ghost use Rattle.lbk_bytes.specs.Order.{AreBreaks, AreInOrder};
-ghost use Rattle.lbk_bytes.specs.Reached.{Ahead, AreSwift, IsInOrder, Reached};
+ghost use Rattle.lbk_bytes.specs.Reached.{Ahead, AreSwift, IsInOrder, Reached, steps_in};
 ghost use Rattle.lbk_bytes.specs.Shown.{given_in};
 
-use crate::blocks::{BLOCK, blocks};
+use crate::blocks::{BLOCK, LEAST, blocks};
 use crate::deciding::decide_one;
 use crate::decoding::{Width, scalar_of};
 use crate::fill_state::FillState;
 use crate::raw_break::RawBreak;
 use crate::shown::{shown_of, shown_of_break};
 use crate::steps::{CODES, pairs_of, step_at, steps_of};
-use crate::tries::next_try;
+use crate::tries::{are_short, next_try};
 use lbk_rules::{Profile, VERDICTS, is_break};
 use lbk_steps::{FlatStep, FlatTable, Neighbours, STEPS};
 
 /// Goes on until the block is full or the text ends, and writes the breaks before the scalars taken after those in the
-/// front of the block. A text of fewer bytes than a block is gone over here, with no call, as long as its scalars are common.
+/// front of the block. What a text of fewer bytes than a block has besides one is gone over here, with no call, as long as its
+/// scalars are common.
 #[inline(always)]
 pub fn fill(
     table: &FlatTable,
@@ -50,11 +51,41 @@ pub fn fill(
         return copied(fill_on(table, profile, start, text, out));
     }
     let steps = steps_of(table, profile);
-    let here = scalars(&table.kinds, steps, start, text.len(), text, out);
+    let begun = few(table, profile, steps, start, text, out);
+    let here = scalars(&table.kinds, steps, begun, text.len(), text, out);
     if here.count == out.len() || here.at == text.len() {
         return here;
     }
     copied(fill_on(table, profile, copied(here), text, out))
+}
+
+/// Takes a block of a text of fewer than 64 bytes, unless they are very few or of scalars that a block leaves to steps.
+#[inline(always)]
+fn few(
+    table: &FlatTable,
+    profile: Profile,
+    steps: &[FlatStep; STEPS],
+    start: FillState,
+    text: &[u8],
+    out: &mut [RawBreak],
+) -> FillState
+    requires place { (start.count ≤ length out.old) × (start.row < 65536) × (start.at ≤ length text.now) }
+    requires steps { steps.now ≡ steps_in table.now profile }
+    ensures within { (result.count ≤ length out.old) × (result.row < 65536) × (result.at ≤ length text.now) }
+    ensures onward { (start.at ≤ result.at) × (start.count ≤ result.count) }
+    ensures in_order { (from : ℕ) → IsInOrder out.old start.count from start.at → IsInOrder out.new result.count from result.at }
+    ensures reached { (cell : ℕ → Cell) (lefts : List Left) (more : List ℕ) (all : Ahead) → IsFlatBy lefts table.now cell
+        → Reached profile cell lefts (text.now ++ more) all start (given_in out.old start.count)
+        → Reached profile cell lefts (text.now ++ more) all result (given_in out.new result.count) }
+{
+    if text.len() - start.at < LEAST {
+        return start;
+    }
+    if !are_short(&text[start.at..]) {
+        return start;
+    }
+    let pairs = pairs_of(table, profile);
+    copied(blocks(pairs, &table.kinds, steps, start, text, out))
 }
 
 /// The same state, field by field. A state that a call takes or returns stands in memory, and a copy of it in registers.

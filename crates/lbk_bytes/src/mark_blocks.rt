@@ -73,9 +73,12 @@ fn mark_block(
 #[inline(always)]
 fn marks_here(pairs: &Neighbours, here: FillState, text: &[u8]) -> Option<Marks>
     requires { here.at ≤ length text.now }
-    ensures { IfSome result (λ marks. AreMarks pairs.now text.now here.at marks × Rests pairs.now here text.now) }
+    ensures { IfSome result (λ marks. AreMarks pairs.now text.now here.at marks × Rests pairs.now here text.now × (here.at + 64 ≤ length text.now)) }
 {
     if here.at == 0 {
+        return None;
+    }
+    if text.len() - here.at < BLOCK {
         return None;
     }
     let byte = text[here.at - 1];

@@ -3,18 +3,27 @@
 ghost use Rattle.std.specs.Prelude.{◌<◌, ◌≤◌, length};
 
 use crate::blocks::BLOCK;
-use lbk_masks::strays;
+use lbk_masks::{long_scalars, strays};
 
 /// Where more bytes than this of 64 are of scalars of three bytes or more, such scalars are usual.
-const FEW: u32 = 12;
+const FEW: usize = 12;
 
 /// How many bytes are then taken one by one.
 const MANY: usize = 1024;
 
-/// Whether these bytes of 64, a bit each, are so many that a block costs more than it saves.
+/// Whether these bytes of the first 64 of a text, or of all where it has fewer, a bit each, are so many that a block costs more
+/// than it saves.
 #[inline(always)]
-pub(crate) fn are_many(strays: u64) -> bool {
-    FEW < strays.count_ones()
+pub(crate) fn are_many(strays: u64, length: usize) -> bool {
+    FEW * length.min(BLOCK) < BLOCK * strays.count_ones() as usize
+}
+
+/// Whether scalars of three bytes or more seem to be rare in a text, by its first bytes.
+#[inline(always)]
+pub(crate) fn are_short(text: &[u8]) -> bool
+    requires { 16 ≤ length text.now }
+{
+    long_scalars(text) < 2
 }
 
 /// Up to where scalars are taken one by one, before blocks are tried again.
@@ -40,5 +49,9 @@ fn pause(text: &[u8]) -> usize
     requires { 64 ≤ length text.now }
     ensures { 0 < result }
 {
-    if are_many(strays(text)) { MANY } else { 1 }
+    if are_many(strays(text), BLOCK) {
+        MANY
+    } else {
+        1
+    }
 }

@@ -1,7 +1,7 @@
 -- The row of a byte, by the bits of its high half.
 use Rattle.std.proofs.Common.{◌≡◌, ℕ, ◌+◌, ◌/◌, ◌%◌, ◌<◌, ◌==◌, Bool, true, false, cond, eqb, eqb→eq, List, [], get_or, bit_and, refl, ap, ◌∙◌, arith}
 use Rattle.std.proofs.lemmas.Nat.{and_le_r, and_mask}
-use Rattle.lbk_masks.specs.Sets.{chosen, picked}
+use Rattle.lbk_masks.specs.Sets.{chosen, class_in, picked}
 use Rattle.lbk_masks.proofs.EveryLemmas.{every}
 
 -- the high half of a byte but for its highest bit, as its bits tell it
@@ -50,3 +50,7 @@ low-chosen halves byte = by (bit_and byte 128 == 0)
 -- a row has the same at a number and at its low half
 pub picked-low : (row : List ℕ) (n : ℕ) → picked row (bit_and n 15) ≡ picked row n
 picked-low row n = ap (λ k. get_or row k 0) (and_mask (bit_and n 15) 4 ∙ (let e : bit_and n 15 % 16 ≡ bit_and n 15 = omega (arith, and_le_r n 15) in e))
+
+-- what a row has at the class of a lane
+pub set-of : (row : List ℕ) (rows : List (List ℕ)) {class lane byte : ℕ} → class ≡ bit_and (class_in rows lane) 15 → lane ≡ byte → picked row class ≡ picked row (class_in rows byte)
+set-of row rows {class} {lane} {byte} is same = ap (picked row) is ∙ picked-low row (class_in rows lane) ∙ ap (λ b. picked row (class_in rows b)) same

@@ -1,3 +1,4 @@
 pub mod BitLemmas
 pub mod ClassLemmas
 pub mod EveryLemmas
+pub mod FoundLemmas

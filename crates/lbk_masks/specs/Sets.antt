@@ -7,9 +7,9 @@ use Rattle.lbk_masks.specs.declared.ByteSets.{ByteSets}
 abbrev pub is_set : ℕ → ℕ → Bool
 is_set x i = bit_at x i == 1
 
--- the lanes of a vector of 64
+-- the lanes of a vector of 16
 abbrev pub HasLanes : List ℕ → (ℕ → ℕ) → Type 0
-HasLanes v lane = (i : ℕ) → i < 64 → get_or v i 0 ≡ lane i
+HasLanes v lane = (i : ℕ) → i < 16 → get_or v i 0 ≡ lane i
 
 -- what a row of sixteen has at the low half of a byte
 abbrev pub picked : List ℕ → ℕ → ℕ

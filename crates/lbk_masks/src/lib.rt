@@ -1,15 +1,26 @@
-//! Which of 64 bytes stand out: a bit for each, by what the sets of neighbours have in common.
+//! Which of up to 64 bytes stand out: a bit for each, by what the sets of neighbours have in common.
 //!
 //! Each byte has two sets of up to eight things: one as the left of two neighbours, one as the right. A byte stands out
 //! where its right set meets the left set of the byte before it, and is special where they meet in one of the first two
 //! things. All of it holds whatever the sets are.
+//! Bytes are looked at 16 at a time. Of a text of fewer than 64 the last 16 are looked at whatever was looked at before.
 #![tactic(auto)]
 
-ghost use Rattle.std.specs.Prelude.{◌≡◌, ◌/◌, ◌%◌, ℕ, ◌<◌, ◌≤◌, ◌∷◌, length, get_or, bit_and, nat_le};
+ghost use Rattle.std.specs.Prelude.{◌≡◌, ◌/◌, ◌%◌, ℕ, ◌+◌, ◌<◌, ◌≤◌, ◌∷◌, ◌&&◌, List, length, get_or, bit_and, min, nat_le, nat_lt};
+ghost use Rattle.lbk_masks.specs.Found.{AreEdges, AreFound};
 ghost use Rattle.lbk_masks.specs.Sets.{HasLanes, chosen, class_in, is_set, left_before, left_in, meets, picked, right_in};
 ghost use Rattle.lbk_masks.specs.Strays.{is_stray};
 
+mod found;
+
+use found::{Edges, Found, joined};
 use std::simd::prelude::*;
+
+/// How many bytes at most have a bit.
+const BITS: usize = 64;
+
+/// How many bytes are looked at together.
+const LANES: usize = 16;
 
 /// The things in which every byte that meets another is special.
 pub const SPECIAL: u8 = 3;
@@ -27,13 +38,15 @@ pub struct ByteSets {
     pub right: [u8; 16],
 }
 
-/// Some of 64 bytes, a bit each, the first the lowest.
+/// Some of the first 64 bytes of a text, a bit each, the first the lowest.
 #[derive(Clone, Copy)]
 pub struct Masks {
     /// Where a byte stands out.
     pub standing: u64,
     /// Where it is special.
     pub special: u64,
+    /// Where it is from 128 on and of no scalar of two bytes among these.
+    pub strays: u64,
 }
 
 impl ByteSets {
@@ -51,21 +64,98 @@ impl ByteSets {
         of_class(&self.right, class_of(&self.classes, byte))
     }
 
-    /// Which of the first 64 bytes of a text stand out, where `before` is the left set of the byte before them.
+    /// What is known of the first 64 bytes of a text, or of all where it has fewer, where `before` is the left set of the byte
+    /// before them.
     #[inline(always)]
     pub fn masks(&self, before: u8, text: &[u8]) -> Masks
-        requires { 64 ≤ length text.now }
-        ensures standing { (i : ℕ) → i < 64 → is_set result.standing i
+        requires { 16 < length text.now }
+        ensures standing { (i : ℕ) → i < 64 → i < length text.now → is_set result.standing i
             ≡ meets (left_before self.now before text.now i) (right_in self.now (get_or text.now i 0)) }
-        ensures special { (i : ℕ) → i < 64 → is_set result.special i
+        ensures special { (i : ℕ) → i < 64 → i < length text.now → is_set result.special i
             ≡ meets (left_before self.now before text.now i) (bit_and (right_in self.now (get_or text.now i 0)) SPECIAL) }
+        ensures strays { (i : ℕ) → i < 64 → is_set result.strays i ≡ is_stray text.now i }
     {
-        let class = classes(&self.classes, block_of(text));
-        let behind = one_back(before, picked(self.left, class));
-        let right = picked(self.right, class);
+        let found = self.found(before, text);
         Masks {
-            standing: meeting(behind, right),
-            special: meeting(behind, both(right, u8x64::splat(SPECIAL))),
+            standing: found.standing,
+            special: found.special,
+            strays: strays_by(found.edges),
+        }
+    }
+
+    /// What is found of these bytes.
+    #[inline(always)]
+    fn found(&self, before: u8, text: &[u8]) -> Found
+        requires { 16 < length text.now }
+        ensures { AreFound self.now before text.now (min 64 (length text.now)) result }
+    {
+        if BITS <= text.len() {
+            return self.found_in_many(before, text);
+        }
+        self.found_in_few(before, text)
+    }
+
+    /// What is found of the first 64 bytes of a text.
+    #[inline(always)]
+    fn found_in_many(&self, before: u8, text: &[u8]) -> Found
+        requires { 64 ≤ length text.now }
+        ensures { AreFound self.now before text.now 64 result }
+    {
+        let one = self.further(text, 0, Found::nothing(before));
+        let two = self.further(text, 16, one);
+        let three = self.further(text, 32, two);
+        self.further(text, 48, three)
+    }
+
+    /// What is found of a text of fewer bytes.
+    #[inline(always)]
+    fn found_in_few(&self, before: u8, text: &[u8]) -> Found
+        requires { (16 < length text.now) × (length text.now ≤ 64) }
+        ensures { AreFound self.now before text.now (length text.now) result }
+    {
+        let one = self.further(text, 0, Found::nothing(before));
+        if text.len() <= 2 * LANES {
+            return self.last(text, one);
+        }
+        let two = self.further(text, 16, one);
+        if text.len() <= 3 * LANES {
+            return self.last(text, two);
+        }
+        let three = self.further(text, 32, two);
+        self.last(text, three)
+    }
+
+    /// What is found of a text whose last 16 bytes are looked at last.
+    #[inline(always)]
+    fn last(&self, text: &[u8], so_far: Found) -> Found
+        requires { (16 < length text.now) × (length text.now ≤ 64) }
+        ensures { (before known : ℕ) → known ≤ length text.now → length text.now ≤ known + 16 → AreFound self.now before text.now known so_far
+            → AreFound self.now before text.now (length text.now) result }
+    {
+        let at = text.len() - LANES;
+        let left = u8x16::splat(self.left_of(text[at - 1]));
+        self.further(text, at, Found { left, ..so_far })
+    }
+
+    /// What is found where 16 bytes from a place on are looked at too. The left set of the byte before them is known.
+    #[inline(always)]
+    fn further(&self, text: &[u8], at: usize, so_far: Found) -> Found
+        requires { (at ≤ 48) × (at + 16 ≤ length text.now) }
+        ensures found { (before known : ℕ) → at ≤ known → known ≤ at + 16 → get_or so_far.left 15 0 ≡ left_before self.now before text.now at
+            → AreFound self.now before text.now known so_far → AreFound self.now before text.now (at + 16) result }
+        ensures left { (before : ℕ) → get_or result.left 15 0 ≡ left_before self.now before text.now (at + 16) }
+    {
+        let block = block_of(&text[at..]);
+        let class = classes(&self.classes, block);
+        let left = picked(self.left, class);
+        let behind = one_back(so_far.left, left);
+        let right = picked(self.right, class);
+        let special = both(right, u8x16::splat(SPECIAL));
+        Found {
+            standing: joined(so_far.standing, at, meeting(behind, right)),
+            special: joined(so_far.special, at, meeting(behind, special)),
+            edges: edges_further(block, at, so_far.edges),
+            left,
         }
     }
 }
@@ -76,11 +166,40 @@ pub fn strays(text: &[u8]) -> u64
     requires { 64 ≤ length text.now }
     ensures { (i : ℕ) → i < 64 → is_set result i ≡ is_stray text.now i }
 {
-    let block = block_of(text);
-    let wide = least(128, block);
-    let first = least(192, block);
-    let pairs = first & ((wide & !first) >> 1);
-    wide & !(pairs | (pairs << 1))
+    let one = edges_further(block_of(text), 0, Edges { wide: 0, first: 0 });
+    let two = edges_further(block_of(&text[16..]), 16, one);
+    let three = edges_further(block_of(&text[32..]), 32, two);
+    strays_by(edges_further(block_of(&text[48..]), 48, three))
+}
+
+/// How many of the first 16 bytes of a text begin scalars of three bytes or more.
+#[inline(always)]
+pub fn long_scalars(text: &[u8]) -> u32
+    requires { 16 ≤ length text.now }
+{
+    least(224, block_of(text)).count_ones()
+}
+
+/// Which bytes are strays, by which are from 128 on and from 192 on.
+#[inline(always)]
+fn strays_by(edges: Edges) -> u64
+    ensures { (text : List ℕ) → AreEdges text 64 edges → (i : ℕ) → i < 64 → is_set result i ≡ is_stray text i }
+{
+    let pairs = edges.first & ((edges.wide & !edges.first) >> 1);
+    edges.wide & !(pairs | (pairs << 1))
+}
+
+/// The edges of 16 bytes more from a place on.
+#[inline(always)]
+fn edges_further(block: u8x16, at: usize, so_far: Edges) -> Edges
+    requires { at ≤ 48 }
+    ensures { (text : List ℕ) (known : ℕ) → at ≤ known → known ≤ at + 16 → ((i : ℕ) → i < 16 → get_or block i 0 ≡ get_or text (at + i) 0)
+        → AreEdges text known so_far → AreEdges text (at + 16) result }
+{
+    Edges {
+        wide: joined(so_far.wide, at, least(128, block)),
+        first: joined(so_far.first, at, least(192, block)),
+    }
 }
 
 /// The class of one byte, in the low half of a number.
@@ -98,50 +217,37 @@ fn of_class(row: &[u8; 16], byte: u8) -> u8
     row[(byte & 15) as usize]
 }
 
-/// The first 64 bytes of a text.
+/// The first 16 bytes of a text.
 #[inline(always)]
-fn block_of(text: &[u8]) -> u8x64
-    requires { 64 ≤ length text.now }
-    ensures len { length result ≡ 64 }
+fn block_of(text: &[u8]) -> u8x16
+    requires { 16 ≤ length text.now }
+    ensures len { length result ≡ 16 }
     ensures lanes { HasLanes result (λ i. get_or text.now i 0) }
 {
-    u8x64::from_slice(text)
-}
-
-/// The row four times.
-#[inline(always)]
-fn four_times(row: u8x16) -> u8x64
-    ensures len { length result ≡ 64 }
-    ensures lanes { HasLanes result (λ i. get_or row (i % 16) 0) }
-{
-    row.swizzle::<64>([
-        0, 1, 2, 3, 4, 5, 6, 7, 8, 9, 10, 11, 12, 13, 14, 15, 0, 1, 2, 3, 4, 5, 6, 7, 8, 9, 10, 11,
-        12, 13, 14, 15, 0, 1, 2, 3, 4, 5, 6, 7, 8, 9, 10, 11, 12, 13, 14, 15, 0, 1, 2, 3, 4, 5, 6,
-        7, 8, 9, 10, 11, 12, 13, 14, 15,
-    ])
+    u8x16::from_slice(text)
 }
 
 /// What the row has at the low half of each byte.
 #[inline(always)]
-fn picked(row: [u8; 16], bytes: u8x64) -> u8x64
+fn picked(row: [u8; 16], bytes: u8x16) -> u8x16
     ensures { HasLanes result (λ i. picked row (get_or bytes i 0)) }
 {
-    four_times(u8x16::from_array(row)).swizzle_dyn_within::<16>(bytes & u8x64::splat(15))
+    u8x16::from_array(row).swizzle_dyn_within::<16>(bytes & u8x16::splat(15))
 }
 
 /// One of two at each byte, by a bit of it: the first where it is not set.
 #[inline(always)]
-fn chosen(bit: u8, low: u8x64, high: u8x64, bytes: u8x64) -> u8x64
+fn chosen(bit: u8, low: u8x16, high: u8x16, bytes: u8x16) -> u8x16
     ensures { HasLanes result (λ i. chosen bit (get_or low i 0) (get_or high i 0) (get_or bytes i 0)) }
 {
-    (bytes & u8x64::splat(bit))
-        .simd_eq(u8x64::splat(0))
+    (bytes & u8x16::splat(bit))
+        .simd_eq(u8x16::splat(0))
         .select(low, high)
 }
 
 /// What two vectors have in common.
 #[inline(always)]
-fn both(one: u8x64, other: u8x64) -> u8x64
+fn both(one: u8x16, other: u8x16) -> u8x16
     ensures { HasLanes result (λ i. bit_and (get_or one i 0) (get_or other i 0)) }
 {
     one & other
@@ -149,7 +255,7 @@ fn both(one: u8x64, other: u8x64) -> u8x64
 
 /// What one of two rows has at the low half of each byte, by the lowest bit of its high half.
 #[inline(always)]
-fn in_rows(low: [u8; 16], high: [u8; 16], bytes: u8x64) -> u8x64
+fn in_rows(low: [u8; 16], high: [u8; 16], bytes: u8x16) -> u8x16
     ensures { HasLanes result (λ i. chosen 16 (picked low (get_or bytes i 0)) (picked high (get_or bytes i 0)) (get_or bytes i 0)) }
 {
     chosen(16, picked(low, bytes), picked(high, bytes), bytes)
@@ -157,7 +263,7 @@ fn in_rows(low: [u8; 16], high: [u8; 16], bytes: u8x64) -> u8x64
 
 /// The class of each byte. Bits of the high half choose the row.
 #[inline(always)]
-fn classes(rows: &[[u8; 16]; 8], bytes: u8x64) -> u8x64
+fn classes(rows: &[[u8; 16]; 8], bytes: u8x16) -> u8x16
     ensures { HasLanes result (λ i. bit_and (class_in rows.now (get_or bytes i 0)) 15) }
 {
     let a = in_rows(rows[0], rows[1], bytes);
@@ -174,48 +280,45 @@ fn classes(rows: &[[u8; 16]; 8], bytes: u8x64) -> u8x64
 
 /// The low half of each byte.
 #[inline(always)]
-fn low_halves(bytes: u8x64) -> u8x64
+fn low_halves(bytes: u8x16) -> u8x16
     ensures { HasLanes result (λ i. bit_and (get_or bytes i 0) 15) }
 {
-    both(bytes, u8x64::splat(15))
+    both(bytes, u8x16::splat(15))
 }
 
 /// The high half of each byte.
 #[inline(always)]
-fn high_halves(bytes: u8x64) -> u8x64
+fn high_halves(bytes: u8x16) -> u8x16
     ensures { HasLanes result (λ i. get_or bytes i 0 / 16) }
 {
-    bytes >> u8x64::splat(4)
+    bytes >> u8x16::splat(4)
 }
 
 /// Which bytes are no less than this one.
 #[inline(always)]
-fn least(byte: u8, block: u8x64) -> u64
-    ensures { (i : ℕ) → i < 64 → is_set result i ≡ nat_le byte (get_or block i 0) }
+fn least(byte: u8, block: u8x16) -> u64
+    ensures { (i : ℕ) → is_set result i ≡ (nat_lt i 16 && nat_le byte (get_or block i 0)) }
 {
-    block.simd_ge(u8x64::splat(byte)).to_bitmask()
+    block.simd_ge(u8x16::splat(byte)).to_bitmask()
 }
 
 /// Where the sets of two vectors meet.
 #[inline(always)]
-fn meeting(left: u8x64, right: u8x64) -> u64
-    ensures { (i : ℕ) → i < 64 → is_set result i ≡ meets (get_or left i 0) (get_or right i 0) }
+fn meeting(left: u8x16, right: u8x16) -> u64
+    ensures { (i : ℕ) → is_set result i ≡ (nat_lt i 16 && meets (get_or left i 0) (get_or right i 0)) }
 {
-    (left & right).simd_ne(u8x64::splat(0)).to_bitmask()
+    (left & right).simd_ne(u8x16::splat(0)).to_bitmask()
 }
 
-/// The lanes, each a place further on, after this one.
+/// The lanes, each a place further on, after the last of those before.
 #[inline(always)]
-fn one_back(before: u8, block: u8x64) -> u8x64
-    ensures { HasLanes result (λ i. get_or (before ∷ block) i 0) }
+fn one_back(before: u8x16, block: u8x16) -> u8x16
+    ensures { HasLanes result (λ i. get_or (get_or before 15 0 ∷ block) i 0) }
 {
-    u8x64::splat(before).shuffle(
+    before.shuffle(
         block,
         [
-            63, 64, 65, 66, 67, 68, 69, 70, 71, 72, 73, 74, 75, 76, 77, 78, 79, 80, 81, 82, 83, 84,
-            85, 86, 87, 88, 89, 90, 91, 92, 93, 94, 95, 96, 97, 98, 99, 100, 101, 102, 103, 104,
-            105, 106, 107, 108, 109, 110, 111, 112, 113, 114, 115, 116, 117, 118, 119, 120, 121,
-            122, 123, 124, 125, 126,
+            15, 16, 17, 18, 19, 20, 21, 22, 23, 24, 25, 26, 27, 28, 29, 30,
         ],
     )
 }

@@ -7,16 +7,13 @@ pub loop-here-preserved : goal.loop-here-preserved
 loop-here-preserved c =
     let l = c.loop-here in
     let some = c.take_break-here.ensures in
+    let next = some.ahead c.args.taken l.invariant.ahead in
     record {
       room = omega (arith, some.within.0);
       more = omega (arith, some.onward.0);
-      after = some.within.1;
-      within = some.within.2;
-      ahead = λ ahead.
-          let before = l.invariant.ahead ahead in
-          let next = some.ahead c.args.taken before.0 in
-          (next.0, omega (arith, before.1, next.1));
-      in_order = λ from ahead order. some.in_order c.args.taken from (l.invariant.ahead ahead).0 (l.invariant.in_order from ahead order);
+      ahead = next.0;
+      onward = omega (arith, l.invariant.onward, next.1);
+      in_order = λ from order. some.in_order c.args.taken from l.invariant.ahead (l.invariant.in_order from order);
       reached = λ profile cell lefts more all begin block left start.
           let here = l.invariant.reached profile cell lefts more all begin block left start in
           some.reached profile cell lefts more all begin c.args.taken block here.0 here.1;
@@ -25,25 +22,24 @@ loop-here-preserved c =
 pub returns-clause-within : goal.returns-clause-within
 returns-clause-within c =
     let stopped = c.stopped.ensures in
-    (omega (arith, stopped.count), stopped.within.0, omega (arith, stopped.within.2))
+    (omega (arith, stopped.count), stopped.within.0, stopped.within.2)
 
 pub returns-clause-reached : goal.returns-clause-reached
 returns-clause-reached c = λ profile cell lefts more all begin block left start.
     let l = c.loop-here in
     let stopped = c.stopped.ensures in
     stopped-there profile cell lefts c.args.text.now more all c.args.steps.now c.args.kinds.now c.args.pairs.now l.out c.args.at begin c.args.taken l.here c.stopped.result
-    c.requires.2 block stopped.count stopped.row stopped.within.1 stopped.all stopped.some (l.invariant.reached profile cell lefts more all begin block left start)
+    block.within block stopped.count stopped.row stopped.within.1 stopped.all stopped.some (l.invariant.reached profile cell lefts more all begin block left start)
 
 pub returns-clause-in_order : goal.returns-clause-in_order
-returns-clause-in_order c = λ from ahead order.
+returns-clause-in_order c = λ from order.
     let l = c.loop-here in
     let stopped = c.stopped.ensures in
-    order-stopped l.out c.args.at c.args.taken from l.here c.stopped.result stopped.count stopped.within.1 stopped.all stopped.some (l.invariant.ahead ahead).0 (l.invariant.in_order from ahead order)
+    order-stopped l.out c.args.at c.args.taken from l.here c.stopped.result stopped.count stopped.within.1 stopped.all stopped.some l.invariant.ahead (l.invariant.in_order from order)
 
-pub returns-clause-past : goal.returns-clause-past
-returns-clause-past c = λ ahead.
+pub returns-clause-onward : goal.returns-clause-onward
+returns-clause-onward c =
     let l = c.loop-here in
     let stopped = c.stopped.ensures in
-    let here = l.invariant.ahead ahead in
-    let past = past-stopped c.args.at c.args.taken l.here c.stopped.result stopped.within.1 stopped.all stopped.some here.0 in
-    omega (arith, here.1, past)
+    let past = past-stopped c.args.at c.args.taken l.here c.stopped.result stopped.within.1 stopped.all stopped.some l.invariant.ahead in
+    (omega (arith, l.invariant.onward, past), omega (arith, l.invariant.more, stopped.count))

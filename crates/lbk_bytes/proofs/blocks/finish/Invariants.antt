@@ -1,4 +1,4 @@
-use Rattle.std.proofs.Common.{◌++◌, ◌+◌, ◌≤◌, ℕ, List, length}
+use Rattle.std.proofs.Common.{◌++◌, ◌≤◌, ℕ, List, length}
 use Rattle.lbk_rules.specs.declared.cells.Cell.{Cell}
 use Rattle.lbk_rules.specs.declared.facts.Left.{Left}
 use Rattle.lbk_values.specs.declared.profile.Profile.{Profile}
@@ -11,10 +11,9 @@ abbrev pub invariant-loop-here : goal.invariant-loop-here
 invariant-loop-here l = record {
   room : l.here.count ≤ length l.out;
   more : l.fn.start.count ≤ l.here.count;
-  after : l.at ≤ l.here.past;
-  within : l.here.past ≤ l.at + 64;
-  ahead : IsAhead l.at l.taken l.fn.start → IsAhead l.at l.taken l.here × (l.fn.start.past ≤ l.here.past);
-  in_order : (from : ℕ) → IsAhead l.at l.taken l.fn.start → IsInOrder l.fn.out l.fn.start.count from l.fn.start.past → IsInOrder l.out l.here.count from l.here.past;
+  ahead : IsAhead l.at l.taken l.here;
+  onward : l.fn.start.past ≤ l.here.past;
+  in_order : (from : ℕ) → IsInOrder l.fn.out l.fn.start.count from l.fn.start.past → IsInOrder l.out l.here.count from l.here.past;
   reached : (profile : Profile) (cell : ℕ → Cell) (lefts : List Left) (more : List ℕ) (all : Ahead) (begin : ℕ)
       → IsBlock profile cell lefts l.steps l.kinds l.pairs l.text l.at begin l.taken
       → AreLeft l.pairs l.text l.at begin l.taken l.fn.start

@@ -11,7 +11,7 @@ returns-clause-reached c = λ profile cell lefts more all begin taken block left
     let cleared = c.without_first.ensures.cleared first.result first.ensures.within first.ensures.lowest in
     break-taken profile cell lefts c.args.text.now more all c.args.steps.now c.args.kinds.now c.args.pairs.now c.args.out.now c.put_break.new.out
     c.args.at begin taken first.result c.args.here there c.step_at-step.result.now
-    c.requires.3 block left first.ensures.within c.requires.1 first.ensures.lowest cleared refl c.step_at-step.ensures
+    block.within block left first.ensures.within c.requires.place.1 first.ensures.lowest cleared refl c.step_at-step.ensures
     c.put_break.ensures.front start
 
 pub returns-clause-ahead : goal.returns-clause-ahead
@@ -19,11 +19,11 @@ returns-clause-ahead c = λ taken ahead.
     let first = c.first_set-index in
     let there : BlockState = record { count = c.put_break.result; past = c.args.at + first.result + 1; left = c.without_first.result } in
     let cleared = c.without_first.ensures.cleared first.result first.ensures.within first.ensures.lowest in
-    let lowest = lowest-ahead c.args.at taken first.result c.args.here ahead first.ensures.within (first.ensures.lowest.set c.requires.1) in
-    (ahead-taken c.args.at taken first.result c.args.here there ahead first.ensures.within c.requires.1 first.ensures.lowest cleared refl, omega (arith, lowest.1))
+    let lowest = lowest-ahead c.args.at taken first.result c.args.here ahead first.ensures.within (first.ensures.lowest.set c.requires.place.1) in
+    (ahead-taken c.args.at taken first.result c.args.here there ahead first.ensures.within c.requires.place.1 first.ensures.lowest cleared refl, omega (arith, lowest.1))
 
 pub returns-clause-in_order : goal.returns-clause-in_order
 returns-clause-in_order c = λ taken from ahead order.
     let first = c.first_set-index in
-    order-taken c.args.out.now c.put_break.new.out c.args.at taken first.result c.put_break.result from c.args.here ahead first.ensures.within c.requires.1 first.ensures.lowest
+    order-taken c.args.out.now c.put_break.new.out c.args.at taken first.result c.put_break.result from c.args.here ahead first.ensures.within c.requires.place.1 first.ensures.lowest
     c.put_break.ensures.in_order order

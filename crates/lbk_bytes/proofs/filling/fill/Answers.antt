@@ -14,7 +14,8 @@ returns-then-here-out-clause-reached c = λ cell lefts all flat start.
     let swift = swift-as profile lefts c.args.table.now cell c.steps_of-steps.result.now flat c.steps_of-steps.ensures in
     Reached-alone profile cell lefts text all here.result (given_in here.new.out here.result.count)
     (here.ensures.reached profile cell lefts [] all swift flat.kinds
-    (Reached-nothing profile cell lefts text all c.args.start (given_in c.args.out.now c.args.start.count) start))
+    (c.few-begun.ensures.reached cell lefts [] all flat
+    (Reached-nothing profile cell lefts text all c.args.start (given_in c.args.out.now c.args.start.count) start)))
 
 pub returns-clause-reached : goal.returns-clause-reached
 returns-clause-reached c = λ cell lefts all flat start.
@@ -25,7 +26,8 @@ returns-clause-reached c = λ cell lefts all flat start.
     let swift = swift-as profile lefts c.args.table.now cell c.steps_of-steps.result.now flat c.steps_of-steps.ensures in
     let alone = Reached-alone profile cell lefts text all here.result (given_in here.new.out here.result.count)
     (here.ensures.reached profile cell lefts [] all swift flat.kinds
-    (Reached-nothing profile cell lefts text all c.args.start (given_in c.args.out.now c.args.start.count) start)) in
+    (c.few-begun.ensures.reached cell lefts [] all flat
+    (Reached-nothing profile cell lefts text all c.args.start (given_in c.args.out.now c.args.start.count) start))) in
     subst (λ (s : FillState). Reached profile cell lefts text all s (given_in past.new.out s.count)) (sym c.copied-3.ensures)
     (past.ensures.reached cell lefts all flat
     (subst (λ (s : FillState). Reached profile cell lefts text all s (given_in here.new.out s.count)) (sym c.copied-2.ensures) alone))

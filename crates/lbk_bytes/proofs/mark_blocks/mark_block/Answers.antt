@@ -31,20 +31,21 @@ returns-clause-marked c = λ profile cell lefts steps kinds more all swift are_k
     let marks = c.in-Some.marks in
     let are_marks = c.in-Some.ensures.0 in
     let rests = c.in-Some.ensures.1 in
+    let whole = c.in-Some.ensures.2 in
     let fits : marks.stops < 2 ^ 64 = omega arith in
     let taken = trailing_zeros w64 marks.stops in
     let few = zeros-few marks.stops in
     let kept = c.kept_below.result in
-    let room = are_marks.within in
+    let room : here.at + taken ≤ length text = omega arith in
     let is_at : here.at ≡ here.at + 0 = omega arith in
     Marked-more profile cell lefts (text ++ more) all c.args.from (length text) here there c.args.words.now c.mark_bits.new.words (omega arith)
     (λ rest start.
     let block = is-block profile cell lefts steps kinds pairs text here.at 0 taken marks here swift are_kinds told (λ i. (c.type_inv.text i).fits)
-    are_marks rests is_at (omega arith) few start.knows.0
+    are_marks rests is_at (omega arith) few room start.knows.0
     (λ i after h. zeros-below marks.stops fits i h)
     (λ h. zeros-end marks.stops fits h) in
     let all_taken = block-taken profile cell lefts text more rest steps kinds pairs here.row here.at taken marks.standing kept room block
-    are_marks.standing c.kept_below.ensures rests.row rests.below start in
+    (λ i h. are_marks.standing i h (omega arith)) c.kept_below.ensures rests.row rests.below start in
     let place = c.behind_byte.ensures.place.1 in
     record {
       given = all_taken.given;
