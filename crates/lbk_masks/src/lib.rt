@@ -83,56 +83,30 @@ impl ByteSets {
         }
     }
 
-    /// What is found of these bytes.
+    /// What is found of these bytes. The last 16 of them are looked at last, whatever was looked at before.
     #[inline(always)]
     fn found(&self, before: u8, text: &[u8]) -> Found
         requires { 16 < length text.now }
         ensures { AreFound self.now before text.now (min 64 (length text.now)) result }
     {
-        if BITS <= text.len() {
-            return self.found_in_many(before, text);
+        let end = text.len().min(BITS);
+        let mut found = Found::nothing(before);
+        let mut at = 0;
+        while at + LANES < end {
+            found = self.further(text, at, found);
+            at += LANES;
         }
-        self.found_in_few(before, text)
+        self.last(text, end, found)
     }
 
-    /// What is found of the first 64 bytes of a text.
+    /// What is found where the last 16 bytes before a place are looked at too.
     #[inline(always)]
-    fn found_in_many(&self, before: u8, text: &[u8]) -> Found
-        requires { 64 ≤ length text.now }
-        ensures { AreFound self.now before text.now 64 result }
+    fn last(&self, text: &[u8], end: usize, so_far: Found) -> Found
+        requires { (16 < end) × (end ≤ 64) × (end ≤ length text.now) }
+        ensures { (before known : ℕ) → known ≤ end → end ≤ known + 16 → AreFound self.now before text.now known so_far
+            → AreFound self.now before text.now end result }
     {
-        let one = self.further(text, 0, Found::nothing(before));
-        let two = self.further(text, 16, one);
-        let three = self.further(text, 32, two);
-        self.further(text, 48, three)
-    }
-
-    /// What is found of a text of fewer bytes.
-    #[inline(always)]
-    fn found_in_few(&self, before: u8, text: &[u8]) -> Found
-        requires { (16 < length text.now) × (length text.now ≤ 64) }
-        ensures { AreFound self.now before text.now (length text.now) result }
-    {
-        let one = self.further(text, 0, Found::nothing(before));
-        if text.len() <= 2 * LANES {
-            return self.last(text, one);
-        }
-        let two = self.further(text, 16, one);
-        if text.len() <= 3 * LANES {
-            return self.last(text, two);
-        }
-        let three = self.further(text, 32, two);
-        self.last(text, three)
-    }
-
-    /// What is found of a text whose last 16 bytes are looked at last.
-    #[inline(always)]
-    fn last(&self, text: &[u8], so_far: Found) -> Found
-        requires { (16 < length text.now) × (length text.now ≤ 64) }
-        ensures { (before known : ℕ) → known ≤ length text.now → length text.now ≤ known + 16 → AreFound self.now before text.now known so_far
-            → AreFound self.now before text.now (length text.now) result }
-    {
-        let at = text.len() - LANES;
+        let at = end - LANES;
         let left = u8x16::splat(self.left_of(text[at - 1]));
         self.further(text, at, Found { left, ..so_far })
     }
