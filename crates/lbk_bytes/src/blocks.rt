@@ -64,14 +64,14 @@ pub(crate) fn blocks(
         → Reached profile cell lefts (text.now ++ more) all start (given_in out.old start.count)
         → Reached profile cell lefts (text.now ++ more) all result (given_in out.new result.count) }
 {
-    let first = begun(kinds, steps, start, text, out);
-    let mut from = first.at;
-    let mut here = block(pairs, kinds, steps, first, text, out);
-    while BLOCK <= here.at - from {
-        from = here.at;
+    let mut here = begun(kinds, steps, start, text, out);
+    loop {
+        let from = here.at;
         here = block(pairs, kinds, steps, here, text, out);
+        if here.at - from < BLOCK {
+            return here;
+        }
     }
-    here
 }
 
 /// Takes the first scalar of a text by a step, since no byte stands before it.

@@ -13,8 +13,7 @@ invariant-loop-here l = record {
   room : l.here.count ≤ length l.out;
   row : l.here.row < 65536;
   within : l.here.at ≤ length l.text;
-  onward : l.fn.start.at ≤ l.from;
-  ahead : l.from ≤ l.here.at;
+  onward : l.fn.start.at ≤ l.here.at;
   more : l.fn.start.count ≤ l.here.count;
   in_order : (from : ℕ) → IsInOrder l.fn.out l.fn.start.count from l.fn.start.at → IsInOrder l.out l.here.count from l.here.at;
   reached : (profile : Profile) (cell : ℕ → Cell) (lefts : List Left) (more : List ℕ) (all : Ahead) → AreSwift profile lefts l.steps → AreFlatKinds l.kinds cell
@@ -24,4 +23,4 @@ invariant-loop-here l = record {
 }
 
 abbrev pub decreases-loop-here : goal.decreases-loop-here
-decreases-loop-here l = length l.text - l.from
+decreases-loop-here l = length l.text - l.here.at
