@@ -384,10 +384,9 @@ pub(crate) fn put_break(out: &mut [RawBreak], count: usize, at: usize, code: u16
     ensures front { is_no (verdict_coded code).kind ≡ false → given_in out.new result ≡ given_in out.old count ++ with_break at (verdict_coded code) [] }
 {
     let shown = shown_of_break(code);
-    out[count] = RawBreak {
-        at,
-        kind: (shown % 256) as u8,
-        rule: (shown / 256) as u8,
-    };
+    let entry = &mut out[count];
+    entry.at = at;
+    entry.kind = (shown % 256) as u8;
+    entry.rule = (shown / 256) as u8;
     count + 1
 }
