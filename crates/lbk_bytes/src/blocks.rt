@@ -29,7 +29,8 @@ pub(crate) const LEAST: usize = 20;
 pub(crate) struct Marks {
     /// Which stand out behind the byte before.
     pub(crate) standing: u64,
-    /// Which are left to steps: those that are special, or of no scalar of one or two bytes in the block, and where the text ends.
+    /// Which are left to steps: those that are special, or of no scalar of one or two bytes in the block. Behind the text's end all
+    /// bits are set.
     pub(crate) stops: u64,
 }
 
@@ -44,8 +45,8 @@ pub(crate) struct BlockState {
     pub(crate) left: u64,
 }
 
-/// Takes blocks of bytes, as many as come one after the other, up to a scalar that no step takes, or from which on few bytes are
-/// left, or many of them to steps. It stands apart, so that what single scalars need stays in registers.
+/// Takes blocks of bytes, as many as come one after the other, up to a scalar that no step takes, or from which on few bytes
+/// are left, or many of them to steps. It stands apart, so that what single scalars need stays in registers.
 #[inline(never)]
 pub(crate) fn blocks(
     pairs: &Neighbours,
@@ -134,8 +135,8 @@ fn block(
     here
 }
 
-/// The marks of the next 64 bytes, or of all that are left, unless these are few, no byte stands before them, or many of them are
-/// left to steps.
+/// The marks of the next 64 bytes, or of all that are left, unless these are few, no byte stands before them, or many of
+/// them are left to steps.
 #[inline(always)]
 pub(crate) fn marks_ahead(pairs: &Neighbours, at: usize, text: &[u8]) -> Option<Marks>
     requires { at ≤ length text.now }

@@ -25,8 +25,8 @@ use lbk_rules::{Profile, VERDICTS, is_break};
 use lbk_steps::{FlatStep, FlatTable, Neighbours, STEPS};
 
 /// Goes on until the block is full or the text ends, and writes the breaks before the scalars taken after those in the
-/// front of the block. What a text of fewer bytes than a block has besides one is gone over here, with no call, as long as its
-/// scalars are common.
+/// front of the block. In a text of fewer than 64 bytes the scalars that no block takes are gone over here, with no call, as
+/// long as they are common.
 #[inline(always)]
 pub fn fill(
     table: &FlatTable,

@@ -1,5 +1,5 @@
 -- Bits of numbers of 64 bits, by name of what they are made by.
-use Rattle.std.proofs.Common.{◌≡◌, ℕ, zero, suc, ◌+◌, ◌-◌, ◌*◌, ◌/◌, ◌%◌, ◌^◌, ◌==◌, ◌<◌, ◌&&◌, ◌||◌, min, max, ◌≤◌, Bool, true, false, leb, ltb, not, cond, List, length, map, get_or, bit_and, refl, sym, ap, ap₂, ◌∙◌, ⊎_elim, arith, w64}
+use Rattle.std.proofs.Common.{◌≡◌, ℕ, zero, suc, ◌+◌, ◌-◌, ◌*◌, ◌/◌, ◌%◌, ◌^◌, ◌==◌, ◌<◌, ◌&&◌, ◌||◌, min, max, ◌≤◌, Bool, true, false, leb, ltb, not, cond, List, length, map, get_or, bit_and, refl, sym, ap, ◌∙◌, ⊎_elim, arith, w64}
 use Rattle.std.specs.Int.{bit_at, bit_not}
 use Rattle.std.specs.Int.Bits.{bit_or}
 use Rattle.std.proofs.lemmas.Bool.{and_left, cases_lt, le-leb, le-ltb, lt-leb, lt-ltb}

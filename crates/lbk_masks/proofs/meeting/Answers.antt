@@ -1,5 +1,5 @@
 use Rattle.std.proofs.Common.{◌≡◌, ℕ, ◌<◌, ◌≤◌, ◌&&◌, eqb, ltb, not, map, length, get_or, bit_and, ap, ◌∙◌, sym, ⊎_elim, arith, w8}
-use Rattle.std.proofs.lemmas.Bool.{cases_lt, le-ltb, lt-ltb}
+use Rattle.std.proofs.lemmas.Bool.{cases_lt, le-ltb}
 use Rattle.std.proofs.lemmas.Simd.{bitmask_splat, get_or-zip2, length-zip2}
 use lib.Lanes.{zip2}
 use Rattle.lbk_masks.specs.Sets.{is_set, meets}

@@ -1,4 +1,4 @@
-use Rattle.std.proofs.Common.{◌≡◌, ℕ, ◌+◌, ◌<◌, get_or, ap, ◌∙◌, arith}
+use Rattle.std.proofs.Common.{◌≡◌, ◌+◌, get_or, ap, ◌∙◌, arith}
 use Rattle.lbk_masks.specs.Found.{AreEdges}
 use Rattle.lbk_masks.proofs.FoundLemmas.{none-edges, rest-byte}
 use Rattle.lbk_masks.proofs.strays.Goals as goal
