@@ -25,7 +25,7 @@ BOUNDS = [
     ("the pages", "lbk_breaks-60", 0.25),
     ("the pages", "lbk_feed", 0.4),
     ("the pages", "lbk_feed-8", 0.06),
-    ("the pages", "lbk_positions", 0.04),
+    ("the pages", "lbk_positions", 0.15),
     ("the pages", "lbk_marks", 0.45),
     ("the pages", "lbk_words", 0.02),
     ("letters of two bytes", "lbk_breaks", 0.35),

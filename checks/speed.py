@@ -23,8 +23,9 @@ BOUNDS = [
     ("segments of passages", "Breaks, profile 1", (0.3, 0.3, 0.3)),
     ("next", "words", (0.2, 0.2, 0.2)),
     ("mark", "show", (1.1, 0.9, 0.7)),
-    # Time that grew as the square of the text would leave less than 0.2.
-    ("Breaks by the rules", "Breaks by the rules, an eighth of the text", (0.4, 0.4, 0.4)),
+    # Time that grew as the square of the text would leave less than 0.2. These are two runs, which other load sets apart: 0.40 was
+    # seen of a body that is right.
+    ("Breaks by the rules", "Breaks by the rules, an eighth of the text", (0.25, 0.25, 0.25)),
 ]
 
 # A text, two subcommands, and the least ratio of their speeds.
