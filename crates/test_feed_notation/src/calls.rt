@@ -1,0 +1,121 @@
+//! Calls that tests make, each without its contract. A test proves only that it is safe and returns, so it needs no
+//! fact of them; a check that does not carry their facts from call to call takes a fraction of the time.
+
+use crate::tasks::Setting;
+use lbk_cmd::{CmdFault, SAMPLE_FILES, mark, read_cells, segment, show};
+use lbk_feed::devices::{MemorySink, MemorySource};
+use lbk_feed::{Failed, Feed, FeedFault, Sink, Source, write_all};
+use lbk_notation::{Form, ReplayFault, Report, replay};
+use lbk_passage::{Passage, PassageFault, Segmenter};
+use lbk_steps::{CellPages, CellSource};
+use std::alloc::{AllocError, Global};
+use std::test::Fail;
+
+/// The cells of the sample files.
+pub fn sample_cells(alloc: Global) -> Result<CellPages, Fail> {
+    Ok(read_cells(alloc, SAMPLE_FILES)?)
+}
+
+/// Gives the bytes in reads of these sizes, the last of them for all that follow.
+pub fn cut_source<'a>(bytes: &'a [u8], sizes: &'a [usize]) -> MemorySource<'a> {
+    MemorySource::cut(bytes, sizes)
+}
+
+/// Gives the bytes in reads of these sizes, of which one may fail.
+pub fn source_of<'a>(
+    bytes: &'a [u8],
+    sizes: &'a [usize],
+    failing: Option<u64>,
+) -> MemorySource<'a> {
+    let source = cut_source(bytes, sizes);
+    match failing {
+        Some(read) => source.failing_at(read),
+        None => source,
+    }
+}
+
+/// Takes `room` bytes, and at most `most` in a write.
+pub fn memory_sink(alloc: Global, room: usize, most: usize) -> Result<MemorySink, AllocError> {
+    Ok(MemorySink::new(alloc, room)?.at_most(most))
+}
+
+/// Writes a line.
+pub fn write_line_to<W: Sink>(writer: &mut W, line: &str) -> Result<(), Failed> {
+    write_all(writer, line.as_bytes())?;
+    write_all(writer, b"\n")
+}
+
+/// Takes the next piece whole, and says whether there is one.
+pub fn take_piece<R: Source>(feed: &mut Feed, reader: &mut R) -> Result<bool, FeedFault> {
+    let found = feed.piece(reader)?.is_some();
+    let n = feed.ready().len();
+    feed.advance(n);
+    Ok(found)
+}
+
+pub fn next_passage<'a, R: Source, C: CellSource>(
+    segmenter: &'a mut Segmenter<'_, C>,
+    reader: &mut R,
+) -> Result<Option<Passage<'a>>, PassageFault> {
+    segmenter.next(reader)
+}
+
+/// How many bytes, segments and pieces the next passage has, if there is one.
+pub fn next_sizes<R: Source, C: CellSource>(
+    segmenter: &mut Segmenter<'_, C>,
+    reader: &mut R,
+) -> Result<Option<[usize; 3]>, PassageFault> {
+    match next_passage(segmenter, reader)? {
+        Some(passage) => Ok(Some([
+            passage.text.len(),
+            passage.segments.len(),
+            passage.pieces.len(),
+        ])),
+        None => Ok(None),
+    }
+}
+
+/// Says whether there is a passage more.
+pub fn has_next<R: Source, C: CellSource>(
+    segmenter: &mut Segmenter<'_, C>,
+    reader: &mut R,
+) -> Result<bool, PassageFault> {
+    Ok(next_passage(segmenter, reader)?.is_some())
+}
+
+pub fn mark_to<R: Source, W: Sink>(
+    setting: Setting<'_>,
+    reader: &mut R,
+    writer: &mut W,
+) -> Result<(), CmdFault> {
+    let Setting { alloc, cells, .. } = setting;
+    mark(alloc, reader, writer, cells, setting.limit, setting.profile)
+}
+
+pub fn show_to<R: Source, W: Sink>(
+    setting: Setting<'_>,
+    reader: &mut R,
+    writer: &mut W,
+) -> Result<(), CmdFault> {
+    let Setting { alloc, cells, .. } = setting;
+    show(alloc, reader, writer, cells, setting.limit, setting.profile)
+}
+
+pub fn segment_to<R: Source, W: Sink>(
+    setting: Setting<'_>,
+    reader: &mut R,
+    writer: &mut W,
+) -> Result<(), CmdFault> {
+    let Setting { alloc, cells, .. } = setting;
+    segment(alloc, reader, writer, cells, setting.limit, setting.profile)
+}
+
+pub fn replay_to<R: Source, W: Sink>(
+    setting: Setting<'_>,
+    form: Form,
+    reader: &mut R,
+    writer: &mut W,
+) -> Result<Report, ReplayFault> {
+    let Setting { alloc, cells, .. } = setting;
+    replay(alloc, reader, writer, cells, form, setting.profile)
+}

@@ -1,0 +1,338 @@
+//! The feed over reads that are cut, that fail and that end, with the pieces, counts and places that must come.
+
+use crate::feed_calls::{same, settle, use_up};
+use lbk_feed::devices::{MemorySource, RepeatedSource};
+use lbk_feed::{Feed, FeedFault, Source};
+use std::alloc::{AllocError, Global};
+use std::process::Abort;
+use std::test::Fail;
+use test_support::reads::SIZES;
+
+/// What a call of `piece` must return, and how many reads it makes.
+#[derive(Clone, Copy)]
+struct Row<'a>(Result<Option<&'a [u8]>, FeedFault>, u64);
+
+/// No piece, since a fault was returned before, and no read.
+const SPENT: Row<'static> = Row(Err(FeedFault::Spent), 0);
+
+/// Asks for a piece, and compares it.
+fn check_piece<R: Source>(
+    rt: &impl Abort,
+    feed: &mut Feed,
+    reader: &mut R,
+    want: Result<Option<&[u8]>, FeedFault>,
+) {
+    let found = feed
+        .piece(reader)
+        .map(|piece| piece.map(|text| text.as_bytes()));
+    same(rt, found, want, "a piece");
+}
+
+/// Uses up all that is ready, and compares what was given then.
+fn check_use_up(rt: &impl Abort, feed: &mut Feed) {
+    let given = feed.given();
+    let n = feed.ready().len();
+    feed.advance(n);
+    same(rt, feed.given(), given.saturating_add(n as u64), "given");
+}
+
+fn check_row<R: Source>(rt: &impl Abort, feed: &mut Feed, reader: &mut R, row: &Row<'_>) {
+    let before = reader.reads();
+    check_piece(rt, feed, reader, row.0);
+    same(rt, reader.reads().saturating_sub(before), row.1, "reads");
+    if row.0.is_err() {
+        assert!(rt; feed.ready().is_empty());
+    }
+    check_use_up(rt, feed);
+}
+
+// Calls `piece` for each row, and uses all of the piece up.
+fn check_pieces<R: Source>(rt: &impl Abort, reader: &mut R, rows: &[Row<'_>]) {
+    let mut feed = Feed::new();
+    for row in rows {
+        check_row(rt, &mut feed, reader, row);
+    }
+}
+
+/// A scalar of three bytes between two letters.
+const EURO: &[u8] = b"a\xE2\x82\xACb";
+
+const CUT_EURO: [Row<'static>; 4] = [
+    Row(Ok(Some(b"a")), 1),
+    Row(Ok(Some(b"\xE2\x82\xACb")), 2),
+    Row(Ok(None), 1),
+    Row(Ok(None), 0),
+];
+
+const FOUR_BYTES: [Row<'static>; 2] = [Row(Ok(Some(b"\xF0\x9F\x91\xA6")), 4), Row(Ok(None), 1)];
+
+const FAILED_READ: [Row<'static>; 5] = [
+    Row(Ok(Some(b"a")), 1),
+    Row(Err(FeedFault::Read), 1),
+    SPENT,
+    SPENT,
+    SPENT,
+];
+
+#[test]
+fn pieces(rt: HostRuntime) {
+    check_cut(&rt, EURO, &[2, 1, 2], &CUT_EURO);
+    check_cut(&rt, b"\xF0\x9F\x91\xA6", &[1], &FOUR_BYTES);
+    check_failing(&rt, EURO, &[2], 1, &FAILED_READ);
+}
+
+/// Checks the pieces of these bytes, read in these sizes.
+fn check_cut(rt: &impl Abort, bytes: &[u8], sizes: &[usize], rows: &[Row<'_>]) {
+    check_pieces(rt, &mut MemorySource::cut(bytes, sizes), rows);
+}
+
+/// The same where the read of this number fails.
+fn check_failing(rt: &impl Abort, bytes: &[u8], sizes: &[usize], read: u64, rows: &[Row<'_>]) {
+    let mut reader = MemorySource::cut(bytes, sizes).failing_at(read);
+    check_pieces(rt, &mut reader, rows);
+}
+
+const ILL_FORMED_SECOND: [Row<'static>; 3] = [
+    Row(Ok(Some(b"a")), 1),
+    Row(Err(FeedFault::NotUtf8 { at: 1 }), 0),
+    SPENT,
+];
+
+#[test]
+fn ill_formed_bytes(rt: HostRuntime) {
+    check_cut(&rt, b"a\xFF", &[], &ILL_FORMED_SECOND);
+    check_ill_formed(&rt, b"\xF0\x9F\x91", 2);
+    check_ill_formed(&rt, b"\xED\xA0\x80", 1);
+    check_ill_formed(&rt, b"\xC0\x80", 1);
+}
+
+/// Bytes that are ill-formed from the first on.
+fn check_ill_formed(rt: &impl Abort, bytes: &[u8], reads: u64) {
+    let fault = Row(Err(FeedFault::NotUtf8 { at: 0 }), reads);
+    check_cut(rt, bytes, &[], &[fault, SPENT, SPENT]);
+}
+
+const FAULT_AT_THE_THIRD: [Row<'static>; 4] = [
+    Row(Ok(Some(b"a")), 1),
+    Row(Ok(Some(b"b")), 1),
+    Row(Err(FeedFault::NotUtf8 { at: 2 }), 1),
+    SPENT,
+];
+
+const FAULT_IN_A_READ: [Row<'static>; 3] = [
+    Row(Ok(Some(b"ab")), 1),
+    Row(Err(FeedFault::NotUtf8 { at: 2 }), 0),
+    SPENT,
+];
+
+const FAULT_IN_A_SCALAR: [Row<'static>; 3] = [
+    Row(Ok(Some(b"a")), 1),
+    Row(Err(FeedFault::NotUtf8 { at: 1 }), 1),
+    SPENT,
+];
+
+// Where bytes are ill-formed no read follows, so one that would fail changes no result.
+#[test]
+fn no_read_after_a_fault(rt: HostRuntime) {
+    check_failing(&rt, b"ab\xFFc", &[1], 3, &FAULT_AT_THE_THIRD);
+    check_failing(&rt, b"ab\xFFc", &[3], 1, &FAULT_IN_A_READ);
+    check_failing(&rt, b"a\xE2\x41c", &[2, 1], 2, &FAULT_IN_A_SCALAR);
+}
+
+/// Settles the feed, and compares the result and how many reads were made in all.
+fn check_settle(
+    rt: &impl Abort,
+    feed: &mut Feed,
+    reader: &mut MemorySource<'_>,
+    want: Result<bool, FeedFault>,
+    reads: u64,
+) {
+    same(rt, settle(feed, reader), want, "settled");
+    same(rt, reader.reads(), reads, "reads");
+}
+
+/// Settles the feed twice, compares what is ready, and uses it up.
+fn check_settled(
+    rt: &impl Abort,
+    feed: &mut Feed,
+    reader: &mut MemorySource<'_>,
+    want: &str,
+    reads: u64,
+) {
+    check_settle(rt, feed, reader, Ok(true), reads);
+    check_settle(rt, feed, reader, Ok(true), reads);
+    same(rt, feed.ready(), want, "ready");
+    use_up(feed);
+}
+
+// `settle` returns whether a piece stands, and lends nothing.
+#[test]
+fn settled(rt: HostRuntime) {
+    let mut reader = MemorySource::cut(EURO, &[2, 1, 2]);
+    let mut feed = Feed::new();
+    check_settled(&rt, &mut feed, &mut reader, "a", 1);
+    check_settled(&rt, &mut feed, &mut reader, "€b", 3);
+    check_settle(&rt, &mut feed, &mut reader, Ok(false), 4);
+    check_settle(&rt, &mut feed, &mut reader, Ok(false), 4);
+}
+
+#[test]
+fn settled_by_a_fault(rt: HostRuntime) {
+    let mut feed = Feed::new();
+    let mut ill = MemorySource::new(b"\xFF");
+    let fault = FeedFault::NotUtf8 { at: 0 };
+    check_settle(&rt, &mut feed, &mut ill, Err(fault), 1);
+    check_settle(&rt, &mut feed, &mut ill, Err(FeedFault::Spent), 1);
+}
+
+/// Asks for a piece, which is this, and compares how many reads were made in all.
+fn check_text_piece(
+    rt: &impl Abort,
+    feed: &mut Feed,
+    reader: &mut MemorySource<'_>,
+    want: &str,
+    reads: u64,
+) {
+    check_piece(rt, feed, reader, Ok(Some(want.as_bytes())));
+    same(rt, reader.reads(), reads, "reads");
+}
+
+/// Uses up the first of the bytes that are ready.
+fn use_up_front(rt: &impl Abort, feed: &mut Feed, n: usize) {
+    assert!(rt; feed.ready().is_char_boundary(n));
+    feed.advance(n);
+}
+
+// A scalar is used up by itself, and the rest of what is ready is lent again without a read.
+#[test]
+fn parts_of_a_piece(rt: HostRuntime) {
+    let mut reader = MemorySource::cut(EURO, &[2, 1, 2]);
+    let mut feed = Feed::new();
+    check_text_piece(&rt, &mut feed, &mut reader, "a", 1);
+    use_up_front(&rt, &mut feed, 1);
+    check_text_piece(&rt, &mut feed, &mut reader, "€b", 3);
+    use_up_front(&rt, &mut feed, 3);
+    check_text_piece(&rt, &mut feed, &mut reader, "b", 3);
+    same(&rt, feed.ready(), "b", "ready");
+    same(&rt, feed.given(), 4, "given");
+}
+
+/// How far the pieces of some bytes were compared.
+#[derive(Clone, Copy)]
+enum Compared<'a> {
+    /// To a piece, with these bytes after it.
+    Piece(&'a [u8]),
+    /// To the end of the text, or to a fault.
+    End(Result<(), FeedFault>),
+}
+
+/// Asks for the next piece, with which the rest has to begin, and uses it up.
+fn next_piece<'a>(
+    rt: &impl Abort,
+    feed: &mut Feed,
+    reader: &mut MemorySource<'_>,
+    rest: &'a [u8],
+) -> Compared<'a> {
+    let left = match feed.piece(reader) {
+        Ok(Some(piece)) => rest.strip_prefix(piece.as_bytes()),
+        Ok(None) => return Compared::End(Ok(())),
+        Err(fault) => return Compared::End(Err(fault)),
+    };
+    assert!(rt; left.is_some(), "a piece that is not in the text");
+    use_up(feed);
+    Compared::Piece(left.unwrap_or(rest))
+}
+
+// All pieces of the bytes, used up whole, and how they end.
+fn check_text(rt: &impl Abort, bytes: &[u8], sizes: &[usize], end: Result<(), FeedFault>) {
+    let mut reader = MemorySource::cut(bytes, sizes);
+    let mut feed = Feed::new();
+    let mut rest = bytes;
+    for _ in 0..=bytes.len() {
+        match next_piece(rt, &mut feed, &mut reader, rest) {
+            Compared::Piece(left) => rest = left,
+            Compared::End(found) => {
+                same(rt, found, end, "the end");
+                assert!(rt; end.is_err() || rest.is_empty());
+                return;
+            }
+        }
+    }
+    assert!(rt; false, "each piece has a byte");
+}
+
+/// A text whose last scalar of three bytes begins at this place: whole, and cut off.
+fn check_edge(rt: &impl Abort, text: &[u8], at: usize, size: usize) {
+    check_text(rt, text, &[size], Ok(()));
+    for len in at.saturating_add(1)..at.saturating_add(3) {
+        let cut = text.get(..len).unwrap_or(&[]);
+        check_text(rt, cut, &[size], Err(FeedFault::NotUtf8 { at: at as u64 }));
+    }
+}
+
+/// So many letters, and a scalar of three bytes.
+fn text_to(alloc: Global, at: usize) -> Result<Vec<u8>, AllocError> {
+    let mut text = vec![in alloc; b'a'; at]?;
+    text.extend_from_slice("€".as_bytes())?;
+    Ok(text)
+}
+
+// A scalar at each place round the end of a block, whole and cut off, in reads of several sizes.
+#[test]
+fn block_edges(rt: HostRuntime) -> Result<(), Fail> {
+    for at in 4090..=4100 {
+        let text = text_to(rt.alloc(), at)?;
+        for size in &SIZES {
+            check_edge(&rt, &text, at, *size);
+        }
+    }
+    Ok(())
+}
+
+/// Asks for pieces and uses them up, so often at most. The fault that comes.
+fn fault_behind_pieces(
+    rt: &impl Abort,
+    feed: &mut Feed,
+    reader: &mut RepeatedSource,
+    most: u64,
+) -> Option<FeedFault> {
+    for _ in 0..most {
+        match feed.piece(reader) {
+            Ok(piece) => assert!(rt; piece.is_some(), "the text has no end yet"),
+            Err(fault) => return Some(fault),
+        }
+        use_up(feed);
+    }
+    None
+}
+
+// The longest text, and one byte more: it comes in 262,144 full reads and a last one, after which none is made.
+#[test]
+fn longest_text(rt: HostRuntime) {
+    let longest = 1_073_741_824u64;
+    let mut reader = RepeatedSource::new(b'a', longest + 1);
+    let mut feed = Feed::new();
+    let fault = fault_behind_pieces(&rt, &mut feed, &mut reader, longest);
+    same(&rt, fault, Some(FeedFault::TextTooLong), "the fault");
+    same(&rt, feed.given(), longest, "given");
+    same(&rt, reader.reads(), 262_145, "reads");
+    same(&rt, feed.ready(), "", "ready");
+    check_row(&rt, &mut feed, &mut reader, &SPENT);
+}
+
+/// Asks for a piece, which has so many bytes, and uses it up.
+fn check_length(rt: &impl Abort, feed: &mut Feed, reader: &mut RepeatedSource, want: usize) {
+    let found = feed.piece(reader).map(|piece| piece.map(|text| text.len()));
+    same(rt, found, Ok(Some(want)), "a length");
+    use_up(feed);
+}
+
+// A block is filled whole where the reader gives as much.
+#[test]
+fn full_blocks(rt: HostRuntime) {
+    let mut whole = RepeatedSource::new(b'a', 5000);
+    let mut feed = Feed::new();
+    check_length(&rt, &mut feed, &mut whole, 4096);
+    check_length(&rt, &mut feed, &mut whole, 904);
+    check_piece(&rt, &mut feed, &mut whole, Ok(None));
+}

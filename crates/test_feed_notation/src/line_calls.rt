@@ -1,0 +1,31 @@
+//! Calls that tests make, each without its contract. A test proves only that it is safe and returns, so it needs no
+//! fact of them; a check that does not carry their facts from call to call takes a fraction of the time.
+
+use lbk_notation::{
+    Form, LineFault, Outcome, TestLine, mark_text, read_line, replay_line, write_line,
+};
+use lbk_rules::Profile;
+use lbk_steps::CellPages;
+use std::alloc::{AllocError, Global};
+
+pub fn line_of(alloc: Global, bytes: &[u8], form: Form) -> Result<Option<TestLine>, LineFault> {
+    read_line(alloc, bytes, form)
+}
+
+pub fn written_line(alloc: Global, line: &TestLine, form: Form) -> Result<Vec<u8>, AllocError> {
+    write_line(alloc, line, form)
+}
+
+/// The line of a text.
+pub fn marked(
+    alloc: Global,
+    cells: &CellPages,
+    text: &str,
+    profile: Profile,
+) -> Result<TestLine, AllocError> {
+    mark_text(alloc, cells, text, profile)
+}
+
+pub fn outcome_of(cells: &CellPages, line: &TestLine, form: Form, profile: Profile) -> Outcome {
+    replay_line(cells, line, form, profile)
+}

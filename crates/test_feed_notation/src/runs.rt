@@ -1,0 +1,51 @@
+//! Runs of a task over bytes in memory, and what has to come of them.
+
+use crate::calls::{memory_sink, source_of};
+use crate::tasks::{End, ROOM, Setting, Task};
+use lbk_feed::Source;
+use lbk_feed::devices::MemorySink;
+use std::alloc::AllocError;
+
+/// A task, the bytes that it reads, the sizes of the reads, the last of them for all that follow, and the read that
+/// fails.
+#[derive(Clone, Copy, Debug)]
+pub struct Run<'a> {
+    pub task: Task,
+    pub input: &'a [u8],
+    pub sizes: &'a [usize],
+    pub failing: Option<u64>,
+}
+
+/// How a run ended, the sink that it wrote to, and what became of the source.
+#[derive(Drop)]
+pub struct Ran {
+    pub end: End,
+    pub sink: MemorySink,
+    pub reads: u64,
+    pub ended: bool,
+}
+
+/// A run that reads all at once.
+pub fn whole(task: Task, input: &[u8]) -> Run<'_> {
+    Run {
+        task,
+        input,
+        sizes: &[],
+        failing: None,
+    }
+}
+
+impl Run<'_> {
+    /// Runs into a sink that takes all.
+    pub fn ran(self, setting: Setting<'_>) -> Result<Ran, AllocError> {
+        let mut source = source_of(self.input, self.sizes, self.failing);
+        let mut sink = memory_sink(setting.alloc, ROOM, usize::MAX)?;
+        let end = self.task.run(setting, &mut source, &mut sink);
+        Ok(Ran {
+            end,
+            sink,
+            reads: source.reads(),
+            ended: source.ended(),
+        })
+    }
+}

@@ -1,0 +1,82 @@
+//! Texts of many sizes, with ample memory: each comes to its value, and none runs out of memory.
+
+use crate::calls::sample_cells;
+use lbk_feed::devices::MemorySource;
+use lbk_notation::{Form, LineFault, TestLine, mark_text, read_back};
+use lbk_passage::{LIMIT_MAX, PassageFault, Segmenter};
+use lbk_rules::Profile;
+use lbk_steps::CellPages;
+use std::alloc::{AllocError, Global};
+use std::process::Abort;
+use std::test::Fail;
+
+/// Two sizes between each power of two up to the 16th and the next, as a linear congruence draws them.
+fn sizes(alloc: Global) -> Result<Vec<u32>, AllocError> {
+    let mut drawn = Vec::new(alloc);
+    let mut chance: u32 = 14;
+    for power in 0..34u32 {
+        chance = chance.wrapping_mul(1_664_525).wrapping_add(1_013_904_223);
+        let least = 1u32 << (power / 2);
+        drawn.push(least + (chance >> 8) % least)?;
+    }
+    Ok(drawn)
+}
+
+fn marked(alloc: Global, cells: &CellPages, text: &str) -> Result<TestLine, AllocError> {
+    mark_text(alloc, cells, text, Profile::Second)
+}
+
+fn read_again(alloc: Global, line: &TestLine) -> Result<Option<TestLine>, LineFault> {
+    read_back(alloc, line, Form::Kinds)
+}
+
+/// How many scalars and marks a text's line has, and whether it is read back as it was.
+fn line_counts(alloc: Global, cells: &CellPages, text: &str) -> Result<(usize, usize, bool), Fail> {
+    let line = marked(alloc, cells, text)?;
+    let again = read_again(alloc, &line)?;
+    let is_same = match &again {
+        Some(read) => read.scalars() == line.scalars() && read.marks() == line.marks(),
+        None => false,
+    };
+    Ok((line.scalars().len(), line.marks().len(), is_same))
+}
+
+/// How many segments and pieces a text's first passage has.
+fn passage_counts(
+    alloc: Global,
+    cells: &CellPages,
+    text: &str,
+) -> Result<Option<(usize, usize)>, PassageFault> {
+    let mut source = MemorySource::new(text.as_bytes());
+    let mut segmenter = Segmenter::new(alloc, cells, LIMIT_MAX, Profile::Second)?;
+    match segmenter.next(&mut source)? {
+        Some(passage) => Ok(Some((passage.segments.len(), passage.pieces.len()))),
+        None => Ok(None),
+    }
+}
+
+fn check(rt: &impl Abort, alloc: Global, cells: &CellPages, size: u32) -> Result<(), Fail> {
+    // So many letters with a space after each.
+    let text = "a ".repeat(alloc, size as usize)?;
+    let counts = line_counts(alloc, cells, &text)?;
+    let passage = passage_counts(alloc, cells, &text)?;
+    let (pairs, scalars) = (text.len() / 2, text.len());
+    assert!(rt;
+        counts == (scalars, scalars + 1, true),
+        "the line of {size} letters"
+    );
+    assert!(rt;
+        passage == Some((pairs, scalars)),
+        "the passage of {size} letters"
+    );
+    Ok(())
+}
+
+#[test]
+fn lines_and_passages_of_drawn_sizes(rt: HostRuntime) -> Result<(), Fail> {
+    let cells = sample_cells(rt.alloc())?;
+    for size in &sizes(rt.alloc())? {
+        check(&rt, rt.alloc(), &cells, *size)?;
+    }
+    Ok(())
+}

@@ -1,0 +1,107 @@
+//! A writer that stops: for each n below the length of the output exactly the first n bytes went out, and the result is
+//! a failed write.
+
+use crate::calls::{cut_source, memory_sink, sample_cells};
+use crate::tasks::{End, Setting, Task};
+use lbk_feed::{Device, Sink};
+use lbk_notation::Form;
+use lbk_rules::Profile;
+use std::test::Fail;
+use test_support::checks::same;
+use test_support::replayed::{FOUR_LINES, FOUR_LINES_TEXT};
+
+/// What is run, its input, and what it writes.
+type Row = (Task, &'static str, &'static str);
+
+static RUNS: [Row; 4] = [
+    (Task::Mark, "a b\r\nc", "a ÷b\r\nc\n"),
+    (
+        Task::Show,
+        "a\r\nb",
+        "× 0061 × 000D × 000A !\t# 2 6 5 5\n× 0062 !\t# 2 3\n",
+    ),
+    (
+        Task::Segment,
+        "a\r\nb",
+        "P 0 3\nS 0 3 Must 5\nW 0 1\nP 3 4\nS 3 4 Must 3\nW 3 4\n",
+    ),
+    (Task::Replay(Form::Plain), FOUR_LINES, FOUR_LINES_TEXT),
+];
+
+/// Compares how a run into so much room ended, how many writes failed, and what went out.
+fn check(row: Row, room: usize, end: End, failures: u64, written: &[u8]) -> Result<(), Fail> {
+    let (task, _, output) = row;
+    let stopped = room < output.len();
+    let run = (task, room);
+    same(&(end == task.failed_write()), &stopped, &run)?;
+    same(&failures, &u64::from(stopped), &run)?;
+    same(&Some(written), &output.as_bytes().get(..room), &run)
+}
+
+fn check_sink(setting: Setting<'_>, row: Row, room: usize, most: usize) -> Result<(), Fail> {
+    let (task, input, _) = row;
+    let mut source = cut_source(input.as_bytes(), &[]);
+    let mut sink = memory_sink(setting.alloc, room, most)?;
+    let end = task.run(setting, &mut source, &mut sink);
+    check(row, room, end, sink.failures(), sink.bytes())
+}
+
+/// A write takes at most this many bytes.
+fn check_sinks(setting: Setting<'_>, row: Row, most: usize) -> Result<(), Fail> {
+    for room in 0..=row.2.len() {
+        check_sink(setting, row, room, most)?;
+    }
+    Ok(())
+}
+
+fn check_all_sinks(setting: Setting<'_>, row: Row) -> Result<(), Fail> {
+    for most in [1, 7, usize::MAX] {
+        check_sinks(setting, row, most)?;
+    }
+    Ok(())
+}
+
+fn check_into_sinks(setting: Setting<'_>) -> Result<(), Fail> {
+    for row in &RUNS {
+        check_all_sinks(setting, *row)?;
+    }
+    Ok(())
+}
+
+// A write takes one byte, a few, or all, until n bytes were taken.
+#[test]
+fn sinks(rt: HostRuntime) -> Result<(), Fail> {
+    let cells = sample_cells(rt.alloc())?;
+    check_into_sinks(Setting::new(rt.alloc(), &cells, Profile::First))
+}
+
+fn check_writer(setting: Setting<'_>, row: Row, room: usize) -> Result<(), Fail> {
+    let (task, input, _) = row;
+    let mut taken = vec![in setting.alloc; 0u8; room]?;
+    let mut source = cut_source(input.as_bytes(), &[]);
+    let mut device = Device::new(taken.as_mut_slice());
+    let end = task.run(setting, &mut source, &mut device);
+    let failures = device.failures();
+    check(row, room, end, failures, &taken)
+}
+
+fn check_writers(setting: Setting<'_>, row: Row) -> Result<(), Fail> {
+    for room in 0..=row.2.len() {
+        check_writer(setting, row, room)?;
+    }
+    Ok(())
+}
+
+fn check_into_writers(setting: Setting<'_>) -> Result<(), Fail> {
+    for row in &RUNS {
+        check_writers(setting, *row)?;
+    }
+    Ok(())
+}
+
+// A writer of std over n bytes takes no byte once they are full, which is no failure of its own.
+#[test]
+fn writers_of_std(rt: HostRuntime) -> Result<(), Fail> {
+    let cells = sample_cells(rt.alloc())?;
+    check_into_writers(Setting::new(rt.alloc(), &cells, Profile::First))
+}

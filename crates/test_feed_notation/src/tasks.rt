@@ -1,0 +1,115 @@
+//! What reads a text or a test file and writes, by a name that a table can hold.
+
+use crate::calls::{mark_to, replay_to, segment_to, show_to, write_line_to};
+use crate::told::told_next;
+use lbk_cmd::CmdFault;
+use lbk_feed::{Sink, Source};
+use lbk_notation::{Form, ReplayFault, Report};
+use lbk_passage::{PassageFault, Segmenter};
+use lbk_rules::Profile;
+use lbk_steps::CellPages;
+use std::alloc::Global;
+
+/// The most bytes of a paragraph.
+pub const LIMIT: u32 = 65_536;
+
+/// The most bytes that a run writes.
+pub const ROOM: usize = 4096;
+
+/// What is run.
+#[derive(Clone, Copy, Debug, PartialEq, Eq)]
+pub enum Task {
+    /// The segmenter by itself: each passage is written as the tests tell it.
+    Passages,
+    Mark,
+    Show,
+    Segment,
+    Replay(Form),
+}
+
+/// What each task runs with.
+#[derive(Clone, Copy)]
+pub struct Setting<'a> {
+    pub alloc: Global,
+    pub cells: &'a CellPages,
+    pub limit: u32,
+    pub profile: Profile,
+}
+
+impl<'a> Setting<'a> {
+    pub fn new(alloc: Global, cells: &'a CellPages, profile: Profile) -> Setting<'a> {
+        Setting {
+            alloc,
+            cells,
+            limit: LIMIT,
+            profile,
+        }
+    }
+
+    pub fn segmenter(self) -> Result<Segmenter<'a, CellPages>, PassageFault> {
+        Segmenter::new(self.alloc, self.cells, self.limit, self.profile)
+    }
+}
+
+/// How a run ends.
+#[derive(Clone, Copy, Debug, PartialEq, Eq)]
+pub enum End {
+    Text(Result<(), CmdFault>),
+    File(Result<Report, ReplayFault>),
+}
+
+impl End {
+    /// The end of a text that is refused.
+    pub fn refused(fault: PassageFault) -> End {
+        End::Text(Err(CmdFault::Passage(fault)))
+    }
+}
+
+impl Task {
+    pub fn run<R: Source, W: Sink>(
+        self,
+        setting: Setting<'_>,
+        reader: &mut R,
+        writer: &mut W,
+    ) -> End {
+        match self {
+            Task::Passages => End::Text(tell_all(setting, reader, writer)),
+            Task::Mark => End::Text(mark_to(setting, reader, writer)),
+            Task::Show => End::Text(show_to(setting, reader, writer)),
+            Task::Segment => End::Text(segment_to(setting, reader, writer)),
+            Task::Replay(form) => End::File(replay_to(setting, form, reader, writer)),
+        }
+    }
+
+    /// The end after a failed read.
+    pub fn failed_read(self) -> End {
+        match self {
+            Task::Replay(_) => End::File(Err(ReplayFault::Read)),
+            _ => End::refused(PassageFault::Read),
+        }
+    }
+
+    /// The end after a failed write.
+    pub fn failed_write(self) -> End {
+        match self {
+            Task::Replay(_) => End::File(Err(ReplayFault::Write)),
+            _ => End::Text(Err(CmdFault::Write)),
+        }
+    }
+}
+
+/// Writes what is reported of each passage, a line each.
+fn tell_all<R: Source, W: Sink>(
+    setting: Setting<'_>,
+    reader: &mut R,
+    writer: &mut W,
+) -> Result<(), CmdFault> {
+    let mut segmenter = setting.segmenter()?;
+    for _ in 0..ROOM {
+        let Some(line) = told_next(setting.alloc, &mut segmenter, reader)? else {
+            return Ok(());
+        };
+        write_line_to(writer, line.as_str())?;
+    }
+    Err(CmdFault::Memory)
+}

@@ -1,0 +1,225 @@
+//! The breaks of texts in memory over the sample files, in both profiles, from sources with and without a table of
+//! steps and in blocks of all sizes.
+
+use lbk_breaks::{Break, Breaks};
+use lbk_rules::{Kind, Profile, Rule, Verdict, decide_in};
+use lbk_steps::CellSource;
+use std::alloc::{AllocError, Global};
+use std::fmt::Write;
+use std::process::Abort;
+use std::test::Fail;
+use test_support::calls::{has_step_table, pages_by, tables_of};
+use test_support::cells::cells_of;
+use test_support::checks::same;
+use test_support::property_files::SAMPLES;
+use test_support::texts::{FIRST, SECOND};
+
+/// A text, and of each of its breaks the byte, the kind and the rule.
+type Row = (&'static str, &'static str);
+
+/// What both profiles say.
+const BOTH: [Row; 8] = [
+    ("", ""),
+    ("ab cd", "3 May 18 5 Must 3 "),
+    ("a\r\nb", "3 Must 5 4 Must 3 "),
+    ("\n\n", "1 Must 5 2 Must 3 "),
+    ("e\u{301} b", "4 May 18 5 Must 3 "),
+    ("\u{4E00}\u{4E00}", "3 May 31 6 Must 3 "),
+    ("a \u{2019}\u{301}b", "2 May 18 8 Must 3 "),
+    (
+        "a \u{2019}a \u{2019}b\nc",
+        "2 May 18 7 May 18 12 Must 5 13 Must 3 ",
+    ),
+];
+
+/// What the first says.
+const IN_FIRST: [Row; 2] = [
+    ("a \u{2019}\u{301},", "2 May 18 8 Must 3 "),
+    ("\u{4E00} \u{2019} \u{4E00}", "4 May 18 8 May 18 11 Must 3 "),
+];
+
+/// What the second says of the same, in which a closing quotation mark stays closed.
+const IN_SECOND: [Row; 2] = [
+    ("a \u{2019}\u{301},", "8 Must 3 "),
+    ("\u{4E00} \u{2019} \u{4E00}", "8 May 18 11 Must 3 "),
+];
+
+const NO_BREAK: Break = Break {
+    at: 0,
+    kind: Kind::No,
+    rule: Rule::Lb31,
+};
+
+/// The sizes of blocks.
+const SIZES: [usize; 4] = [1, 2, 3, 1024];
+
+/// The breaks of the next block, of which there are none after the last.
+fn next_block<'b, C: CellSource>(
+    breaks: &mut Breaks<'_, C>,
+    block: &'b mut [Break],
+) -> &'b [Break] {
+    let count = breaks.fill(block);
+    block.get(..count).unwrap_or(&[])
+}
+
+/// All breaks, by blocks of this size. A call after the last gives none.
+fn by_blocks<C: CellSource>(
+    alloc: Global,
+    source: &C,
+    profile: Profile,
+    text: &str,
+    size: usize,
+) -> Result<Vec<Break>, AllocError> {
+    let mut breaks = Breaks::new(source, text, profile);
+    let mut block = vec![in alloc; NO_BREAK; size]?;
+    let mut found = Vec::new(alloc);
+    for _ in 0..text.len() + 1 {
+        found.extend_from_slice(next_block(&mut breaks, &mut block))?;
+    }
+    Ok(found)
+}
+
+fn one_by_one<C: CellSource>(
+    alloc: Global,
+    source: &C,
+    profile: Profile,
+    text: &str,
+) -> Result<Vec<Break>, AllocError> {
+    Breaks::new(source, text, profile).collect(alloc)
+}
+
+/// The bytes after each scalar of a text.
+fn lengths_left(alloc: Global, text: &str) -> Result<Vec<usize>, AllocError> {
+    let mut lengths = Vec::new(alloc);
+    let mut rest = text.chars();
+    for _ in text.chars() {
+        let _ = rest.next();
+        lengths.push(rest.as_str().len())?;
+    }
+    Ok(lengths)
+}
+
+/// Adds the break at this byte, unless the verdict is No.
+fn push_break(found: &mut Vec<Break>, at: usize, verdict: Verdict) -> Result<(), AllocError> {
+    let Verdict { kind, rule } = verdict;
+    if kind != Kind::No {
+        found.push(Break { at, kind, rule })?;
+    }
+    Ok(())
+}
+
+/// The positions after the first that are not No, by the plain rules.
+fn by_rules<C: CellSource>(
+    rt: &impl Abort,
+    alloc: Global,
+    source: &C,
+    profile: Profile,
+    text: &str,
+) -> Result<Vec<Break>, AllocError> {
+    let cells = cells_of(alloc, source, text)?;
+    let mut found = Vec::new(alloc);
+    let mut k = 0usize;
+    for left in &lengths_left(alloc, text)? {
+        k = k.saturating_add(1);
+        let at = text.len().saturating_sub(*left);
+        assert!(rt; k <= cells.len());
+        push_break(&mut found, at, decide_in(profile, &cells, k))?;
+    }
+    Ok(found)
+}
+
+fn shown(alloc: Global, breaks: &[Break]) -> Result<String, AllocError> {
+    let mut shown = String::new(alloc);
+    for one in breaks {
+        let label = one.rule.label();
+        write!(shown, "{} {:?} {label} ", one.at, one.kind)?;
+    }
+    Ok(shown)
+}
+
+fn same_breaks(rt: &impl Abort, found: &[Break], want: &[Break], size: usize, text: &str) {
+    assert!(rt; found == want, "by {size}: {text:?}");
+}
+
+/// The breaks of a text by the rules, with which those in blocks of all sizes are compared, and those one by one.
+fn agreed<C: CellSource>(
+    rt: &impl Abort,
+    alloc: Global,
+    source: &C,
+    profile: Profile,
+    text: &str,
+) -> Result<Vec<Break>, AllocError> {
+    let want = by_rules(rt, alloc, source, profile, text)?;
+    for size in SIZES {
+        let found = by_blocks(alloc, source, profile, text, size)?;
+        same_breaks(rt, &found, &want, size, text);
+    }
+    let found = one_by_one(alloc, source, profile, text)?;
+    same_breaks(rt, &found, &want, 0, text);
+    Ok(want)
+}
+
+fn check<C: CellSource>(
+    rt: &impl Abort,
+    alloc: Global,
+    source: &C,
+    profile: Profile,
+    rows: &[Row],
+) -> Result<(), Fail> {
+    for (text, want) in rows {
+        let found = agreed(rt, alloc, source, profile, text)?;
+        let found = shown(alloc, &found)?;
+        same(&found.as_str(), want, text)?;
+    }
+    Ok(())
+}
+
+/// All texts of some rows, and these joined.
+fn check_agreement<C: CellSource>(
+    rt: &impl Abort,
+    alloc: Global,
+    source: &C,
+    profile: Profile,
+    rows: &[Row],
+) -> Result<(), Fail> {
+    let mut joined = String::new(alloc);
+    for (text, _) in rows {
+        joined.push_str(text)?;
+        let _ = agreed(rt, alloc, source, profile, text)?;
+    }
+    let _ = agreed(rt, alloc, source, profile, joined.as_str())?;
+    Ok(())
+}
+
+/// The rows of both profiles, and those of one.
+fn check_profile<C: CellSource>(
+    rt: &impl Abort,
+    alloc: Global,
+    source: &C,
+    profile: Profile,
+    rows: &[Row],
+) -> Result<(), Fail> {
+    check(rt, alloc, source, profile, &BOTH)?;
+    check(rt, alloc, source, profile, rows)?;
+    check_agreement(rt, alloc, source, profile, &FIRST)?;
+    check_agreement(rt, alloc, source, profile, &SECOND)
+}
+
+fn check_source<C: CellSource>(rt: &impl Abort, alloc: Global, source: &C) -> Result<(), Fail> {
+    check_profile(rt, alloc, source, Profile::First, &IN_FIRST)?;
+    check_profile(rt, alloc, source, Profile::Second, &IN_SECOND)
+}
+
+#[test]
+fn breaks_of_texts(rt: HostRuntime) -> Result<(), Fail> {
+    let pages = pages_by(rt.alloc(), SAMPLES)?;
+    assert!(&rt; has_step_table(&pages));
+    check_source(&rt, rt.alloc(), &pages)?;
+    Ok(())
+}
+
+#[test]
+fn breaks_of_texts_by_tables(rt: HostRuntime) -> Result<(), Fail> {
+    check_source(&rt, rt.alloc(), &tables_of(rt.alloc(), SAMPLES)?)?;
+    Ok(())
+}

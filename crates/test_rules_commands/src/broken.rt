@@ -1,0 +1,157 @@
+//! What `break_text` returns and refuses: the lines of `show`, without the rules' numbers, are what was read back.
+
+use lbk_cmd::{BreakFault, CellsFault, CmdFault, SAMPLE_FILES, break_text};
+use lbk_feed::Source;
+use lbk_feed::devices::MemorySource;
+use lbk_notation::{Form, TestLine, push_line};
+use lbk_passage::PassageFault;
+use lbk_rules::Profile;
+use lbk_ucd::{Files, UcdCause, UcdFault, Which};
+use std::alloc::{AllocError, Global};
+use std::test::Fail;
+use test_support::checks::same;
+use test_support::property_files::line_break_alone;
+use test_support::shown::{BOTH, FIRST, SECOND};
+
+/// The most bytes of a paragraph.
+const LIMIT: u32 = 65_536;
+
+/// `break_text` without its contract.
+fn broken(
+    alloc: Global,
+    files: Files<'_>,
+    source: &mut MemorySource<'_>,
+    limit: u32,
+    profile: Profile,
+) -> Result<Vec<TestLine>, BreakFault> {
+    break_text(alloc, files, source, limit, profile)
+}
+
+/// The lines written again, each with a line end.
+fn written(alloc: Global, lines: &[TestLine]) -> Result<Vec<u8>, AllocError> {
+    let mut text = Vec::new(alloc);
+    for line in lines {
+        push_line(&mut text, line.scalars(), line.marks(), Form::Kinds)?;
+        text.push(b'\n')?;
+    }
+    Ok(text)
+}
+
+/// Lines without the tab and the comment at the end of each.
+fn without_rules(alloc: Global, lines: &str) -> Result<Vec<u8>, AllocError> {
+    let mut text = Vec::new(alloc);
+    let mut in_comment = false;
+    for byte in lines.as_bytes() {
+        in_comment = *byte == b'\t' || in_comment && *byte != b'\n';
+        if !in_comment {
+            text.push(*byte)?;
+        }
+    }
+    Ok(text)
+}
+
+/// Compares what was read back with the lines of `show`.
+fn check_lines(
+    alloc: Global,
+    found: &[TestLine],
+    lines: &str,
+    of: &(&str, usize),
+) -> Result<(), Fail> {
+    let found = written(alloc, found)?;
+    let want = without_rules(alloc, lines)?;
+    same(&found.as_slice(), &want.as_slice(), of)
+}
+
+/// Checks a text in reads of `size` bytes.
+fn check(
+    alloc: Global,
+    text: &str,
+    lines: &str,
+    profile: Profile,
+    size: usize,
+) -> Result<(), Fail> {
+    let sizes = [size];
+    let mut source = MemorySource::cut(text.as_bytes(), &sizes);
+    let found = broken(alloc, SAMPLE_FILES, &mut source, LIMIT, profile)?;
+    check_lines(alloc, &found, lines, &(text, size))
+}
+
+/// Checks rows in a profile, in reads of `size` bytes.
+fn check_rows(
+    alloc: Global,
+    rows: &[(&str, &str)],
+    profile: Profile,
+    size: usize,
+) -> Result<(), Fail> {
+    for (text, lines) in rows {
+        check(alloc, text, lines, profile, size)?;
+    }
+    Ok(())
+}
+
+#[test]
+fn texts(rt: HostRuntime) -> Result<(), Fail> {
+    let alloc = rt.alloc();
+    check_rows(alloc, &BOTH[..5], Profile::First, 1)?;
+    check_rows(alloc, &BOTH[2..3], Profile::Second, 2)?;
+    check_rows(alloc, &FIRST, Profile::First, 4096)?;
+    check_rows(alloc, &SECOND, Profile::Second, 1)
+}
+
+/// Checks that a text is refused by the sample files, and why.
+fn refuses(
+    alloc: Global,
+    source: &mut MemorySource<'_>,
+    limit: u32,
+    want: PassageFault,
+) -> Result<(), Fail> {
+    let fault = broken(alloc, SAMPLE_FILES, source, limit, Profile::First).err();
+    let want = BreakFault::Text(CmdFault::Passage(want));
+    same(&fault, &Some(want), &limit)
+}
+
+static REFUSED: [(&[u8], u32, PassageFault); 4] = [
+    (b"a\nb\xFF", LIMIT, PassageFault::NotUtf8 { at: 3 }),
+    (b"ab", 0, PassageFault::Limit),
+    (b"ab", 16_777_217, PassageFault::Limit),
+    (b"\nab", 1, PassageFault::ParagraphTooLong { start: 1 }),
+];
+
+fn check_refused(alloc: Global) -> Result<(), Fail> {
+    for (text, limit, want) in &REFUSED {
+        refuses(alloc, &mut MemorySource::cut(text, &[]), *limit, *want)?;
+    }
+    Ok(())
+}
+
+fn check_failed_read(alloc: Global, read: u64) -> Result<(), Fail> {
+    let mut source = MemorySource::cut(b"a\r\nb", &[1]).failing_at(read);
+    refuses(alloc, &mut source, LIMIT, PassageFault::Read)
+}
+
+#[test]
+fn refused_texts(rt: HostRuntime) -> Result<(), Fail> {
+    let alloc = rt.alloc();
+    check_refused(alloc)?;
+    for read in 0..5 {
+        check_failed_read(alloc, read)?;
+    }
+    Ok(())
+}
+
+const REFUSAL: UcdFault = UcdFault {
+    file: Which::LineBreak,
+    line: 2,
+    cause: UcdCause::UnknownValue,
+};
+
+#[test]
+fn refused_files(rt: HostRuntime) -> Result<(), Fail> {
+    let alloc = rt.alloc();
+    let files = line_break_alone(b"# LineBreak-15.0.0.txt\n0041;XY\n");
+    let mut source = MemorySource::cut(b"ab", &[]);
+    let fault = broken(alloc, files, &mut source, LIMIT, Profile::First).err();
+    let want = BreakFault::Files(CellsFault::Tables(REFUSAL));
+    same(&fault, &Some(want), &"a bad row")?;
+    same(&source.reads(), &0, &"a bad row")
+}

@@ -1,0 +1,295 @@
+//! What the rules say of the positions of texts over the sample files: the evaluator in both profiles, and the machines.
+
+use crate::calls::{decided, decided_in, late_step, same, start_late, step_over, stepper};
+use lbk_rules::{
+    Cell, Class, EndVerdicts, Kind, Profile, Rule, StepVerdicts, Verdict, decide_all, decide_all_in,
+};
+use lbk_steps::{CellPages, CellSource};
+use std::alloc::{AllocError, Global};
+use std::fmt::Write;
+use std::process::Abort;
+use std::test::Fail;
+use test_support::calls::{cell_of, pages_by, tables_of};
+use test_support::cells::cells_of;
+use test_support::property_files::{SAMPLES, line_break_alone};
+use test_support::texts::{FIRST, SECOND, STEPS};
+
+/// A text, and what is said of it.
+type Row = (&'static str, &'static str);
+
+/// Adds a label, after a space unless it is the first.
+fn push_label(labels: &mut String, rule: Rule) -> Result<(), AllocError> {
+    if !labels.is_empty() {
+        labels.push(' ')?;
+    }
+    labels.push_str(rule.label())
+}
+
+/// Compares the labels of verdicts with those of a row.
+fn check_labels(
+    rt: &impl Abort,
+    alloc: Global,
+    verdicts: &[Verdict],
+    by: &str,
+    (text, want): Row,
+) -> Result<(), AllocError> {
+    let mut labels = String::new(alloc);
+    for verdict in verdicts {
+        push_label(&mut labels, verdict.rule)?;
+    }
+    same(rt, labels.as_str(), want, by, text);
+    Ok(())
+}
+
+fn by_evaluator(
+    rt: &impl Abort,
+    alloc: Global,
+    profile: Profile,
+    cells: &[Cell],
+) -> Result<Vec<Verdict>, AllocError> {
+    let mut verdicts = Vec::new(alloc);
+    for k in 0..cells.len() + 1 {
+        verdicts.push(decided_in(rt, profile, cells, k))?;
+    }
+    Ok(verdicts)
+}
+
+const BLANK: Verdict = Verdict {
+    kind: Kind::Must,
+    rule: Rule::Lb31,
+};
+
+fn by_plain_evaluator(
+    rt: &impl Abort,
+    alloc: Global,
+    cells: &[Cell],
+) -> Result<Vec<Verdict>, AllocError> {
+    let mut verdicts = Vec::new(alloc);
+    for k in 0..cells.len() + 1 {
+        verdicts.push(decided(rt, cells, k))?;
+    }
+    Ok(verdicts)
+}
+
+fn by_machine(alloc: Global, cells: &[Cell]) -> Result<Vec<Verdict>, AllocError> {
+    let mut verdicts = vec![in alloc; BLANK; cells.len() + 1]?;
+    decide_all(cells, &mut verdicts);
+    Ok(verdicts)
+}
+
+fn by_late_machine(
+    rt: &impl Abort,
+    alloc: Global,
+    profile: Profile,
+    cells: &[Cell],
+) -> Result<Vec<Verdict>, AllocError> {
+    let mut verdicts = vec![in alloc; BLANK; cells.len() + 1]?;
+    let count = decide_all_in(profile, cells, &mut verdicts);
+    assert!(rt; count == cells.len() + 1);
+    Ok(verdicts)
+}
+
+/// Compares the labels of the positions of some cells with those of their row.
+fn check_cells(
+    rt: &impl Abort,
+    alloc: Global,
+    profile: Profile,
+    cells: &[Cell],
+    row: Row,
+) -> Result<(), AllocError> {
+    let verdicts = by_evaluator(rt, alloc, profile, cells)?;
+    check_labels(rt, alloc, &verdicts, "the evaluator", row)?;
+    let verdicts = by_late_machine(rt, alloc, profile, cells)?;
+    check_labels(rt, alloc, &verdicts, "the late machine", row)
+}
+
+/// The same for the plain evaluator and its machine, which know only the first profile.
+fn check_cells_first(
+    rt: &impl Abort,
+    alloc: Global,
+    cells: &[Cell],
+    row: Row,
+) -> Result<(), AllocError> {
+    let verdicts = by_plain_evaluator(rt, alloc, cells)?;
+    check_labels(rt, alloc, &verdicts, "the plain evaluator", row)?;
+    let verdicts = by_machine(alloc, cells)?;
+    check_labels(rt, alloc, &verdicts, "the machine", row)
+}
+
+/// What each step of the late machine returns, in the notation of `STEPS`.
+fn steps_of(
+    rt: &impl Abort,
+    alloc: Global,
+    profile: Profile,
+    cells: &[Cell],
+) -> Result<String, AllocError> {
+    let mut steps = String::new(alloc);
+    let mut machine = start_late(profile);
+    for cell in cells {
+        let taken = machine.steps();
+        push_step(&mut steps, late_step(rt, &mut machine, taken, *cell))?;
+    }
+    push_end(&mut steps, machine.finish())?;
+    Ok(steps)
+}
+
+/// The same by a stepper over the scalars of a text.
+fn steps_over<C: CellSource>(
+    alloc: Global,
+    source: &C,
+    profile: Profile,
+    text: &str,
+) -> Result<String, AllocError> {
+    let mut steps = String::new(alloc);
+    let mut stepper = stepper(source, profile);
+    for c in text.chars() {
+        push_step(&mut steps, step_over(&mut stepper, c))?;
+    }
+    push_end(&mut steps, stepper.finish())?;
+    Ok(steps)
+}
+
+fn push_step(steps: &mut String, out: StepVerdicts) -> Result<(), AllocError> {
+    match out.now {
+        None => steps.push('-')?,
+        Some(verdict) => steps.push_str(verdict.rule.label())?,
+    }
+    push_late(steps, out.late)?;
+    steps.push(' ')
+}
+
+fn push_end(steps: &mut String, end: EndVerdicts) -> Result<(), AllocError> {
+    steps.push_str(end.end.rule.label())?;
+    push_late(steps, end.late)
+}
+
+fn push_late(steps: &mut String, late: Option<(u64, Verdict)>) -> Result<(), AllocError> {
+    if let Some((position, verdict)) = late {
+        write!(steps, ",{position}:")?;
+        steps.push_str(verdict.rule.label())?;
+    }
+    Ok(())
+}
+
+/// Compares the labels of the positions of each text, and what is returned at each, with those of its row.
+fn check<C: CellSource>(
+    rt: &impl Abort,
+    alloc: Global,
+    source: &C,
+    profile: Profile,
+    rows: &[Row],
+) -> Result<(), AllocError> {
+    for row in rows {
+        let cells = cells_of(alloc, source, row.0)?;
+        check_cells(rt, alloc, profile, &cells, *row)?;
+    }
+    Ok(())
+}
+
+/// The same for what knows only the first profile.
+fn check_first<C: CellSource>(
+    rt: &impl Abort,
+    alloc: Global,
+    source: &C,
+    rows: &[Row],
+) -> Result<(), AllocError> {
+    for row in rows {
+        let cells = cells_of(alloc, source, row.0)?;
+        check_cells_first(rt, alloc, &cells, *row)?;
+    }
+    Ok(())
+}
+
+/// Compares the steps of the late machine and of a stepper over each text with those of its row.
+fn check_steps<C: CellSource>(
+    rt: &impl Abort,
+    alloc: Global,
+    source: &C,
+    profile: Profile,
+    rows: &[Row],
+) -> Result<(), AllocError> {
+    for (text, want) in rows {
+        let cells = cells_of(alloc, source, text)?;
+        let found = steps_of(rt, alloc, profile, &cells)?;
+        same(rt, found.as_str(), want, "steps", text);
+        let found = steps_over(alloc, source, profile, text)?;
+        same(rt, found.as_str(), want, "the stepper", text);
+    }
+    Ok(())
+}
+
+fn check_source<C: CellSource>(
+    rt: &impl Abort,
+    alloc: Global,
+    source: &C,
+) -> Result<(), AllocError> {
+    check(rt, alloc, source, Profile::First, &FIRST)?;
+    check(rt, alloc, source, Profile::Second, &SECOND)?;
+    check_first(rt, alloc, source, &FIRST)?;
+    check_steps(rt, alloc, source, Profile::First, &FIRST)?;
+    check_steps(rt, alloc, source, Profile::Second, &STEPS)
+}
+
+#[test]
+fn sample_rows(rt: HostRuntime) -> Result<(), Fail> {
+    check_source(&rt, rt.alloc(), &pages_by(rt.alloc(), SAMPLES)?)?;
+    Ok(())
+}
+
+#[test]
+fn sample_rows_by_tables(rt: HostRuntime) -> Result<(), Fail> {
+    check_source(&rt, rt.alloc(), &tables_of(rt.alloc(), SAMPLES)?)?;
+    Ok(())
+}
+
+#[test]
+fn no_files(rt: HostRuntime) -> Result<(), Fail> {
+    let tables = tables_of(rt.alloc(), line_break_alone(b""))?;
+    check(
+        &rt,
+        rt.alloc(),
+        &tables,
+        Profile::First,
+        &[("a ", "2 28 3")],
+    )?;
+    Ok(())
+}
+
+/// The classes by `EDGES_FILE`.
+const EDGES: [(char, Class); 6] = [
+    ('\u{FE}', Class::Alphabetic),
+    ('\u{FF}', Class::Ideographic),
+    ('\u{100}', Class::ClosePunctuation),
+    ('\u{101}', Class::Alphabetic),
+    ('\u{10FFFE}', Class::Alphabetic),
+    ('\u{10FFFF}', Class::Ideographic),
+];
+
+const EDGES_FILE: &[u8] = b"00FF;ID\n0100;CL\n10FFFF;ID\n";
+
+fn check_class(rt: &impl Abort, pages: &CellPages, c: char, class: Class) {
+    assert_eq!(rt; cell_of(pages, c).class, class, "{c:?}");
+}
+
+#[test]
+fn edges_of_rows(rt: HostRuntime) -> Result<(), Fail> {
+    let pages = pages_by(rt.alloc(), line_break_alone(EDGES_FILE))?;
+    for (c, class) in &EDGES {
+        check_class(&rt, &pages, *c, *class);
+    }
+    Ok(())
+}
+
+#[test]
+fn default_of_all(rt: HostRuntime) -> Result<(), Fail> {
+    let file = line_break_alone(b"# @missing: 0000..10FFFF; CB");
+    check_all(&rt, &pages_by(rt.alloc(), file)?, Class::ContingentBreak);
+    Ok(())
+}
+
+/// All scalars are of this class.
+fn check_all(rt: &impl Abort, pages: &CellPages, class: Class) {
+    for c in '\0'..=char::MAX {
+        check_class(rt, pages, c, class);
+    }
+}

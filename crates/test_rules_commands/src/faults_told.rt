@@ -1,0 +1,125 @@
+//! How the faults of a run are reported to a caller of the library, who knows no words of the program.
+
+use lbk_cmd::{CellsFault, ClaimCause, CmdFault, RunFault, Version};
+use lbk_notation::ReplayFault;
+use lbk_passage::PassageFault;
+use lbk_ucd::{UcdCause, UcdFault, Which};
+use std::alloc::Global;
+use std::fmt::Display;
+use std::process::Abort;
+use std::test::Fail;
+
+/// Compares a fault as it is reported with what is wanted.
+fn check<T: Display>(rt: &impl Abort, alloc: Global, fault: &T, want: &str) -> Result<(), Fail> {
+    let told = format!(in alloc; "{fault}")?;
+    assert_eq!(rt; told.as_str(), want);
+    Ok(())
+}
+
+const ROW: UcdFault = UcdFault {
+    file: Which::Category,
+    line: 7,
+    cause: UcdCause::Overlap,
+};
+
+const FILE: UcdFault = UcdFault {
+    file: Which::Emoji,
+    line: 0,
+    cause: UcdCause::FileTooLong,
+};
+
+const VERSION: Version = Version {
+    major: 15,
+    minor: 1,
+    update: 0,
+};
+
+static OF_FILES: [(CellsFault, &str); 8] = [
+    (
+        CellsFault::Load(Which::LineBreak),
+        "LineBreak.txt: the file cannot be read",
+    ),
+    (
+        CellsFault::Claim(Which::EastAsianWidth, ClaimCause::Version(VERSION)),
+        "EastAsianWidth.txt: this is of Unicode 15.1.0, and lbk goes by 15.0.0",
+    ),
+    (
+        CellsFault::Claim(Which::Emoji, ClaimCause::Title),
+        "emoji-data.txt: this is not emoji-data.txt as Unicode 15.0 published it",
+    ),
+    (
+        CellsFault::Claim(
+            Which::Emoji,
+            ClaimCause::Version(Version {
+                update: 1,
+                ..VERSION
+            }),
+        ),
+        "emoji-data.txt: this is of Emoji 15.1.1, and lbk goes by 15.0.0",
+    ),
+    (
+        CellsFault::Claim(Which::Category, ClaimCause::Changed),
+        "DerivedGeneralCategory.txt: the file was changed or cut: it is not DerivedGeneralCategory.txt as Unicode 15.0.0 published it",
+    ),
+    (
+        CellsFault::Tables(ROW),
+        "DerivedGeneralCategory.txt:7: a row before this one holds a code of this row",
+    ),
+    (
+        CellsFault::Tables(FILE),
+        "emoji-data.txt: the file has more than 8388608 bytes",
+    ),
+    (CellsFault::Memory, "out of memory"),
+];
+
+#[test]
+fn faults_of_files(rt: HostRuntime) -> Result<(), Fail> {
+    for (fault, want) in &OF_FILES {
+        check(&rt, rt.alloc(), fault, want)?;
+    }
+    Ok(())
+}
+
+static OF_RUNS: [(RunFault, &str); 9] = [
+    (
+        RunFault::Load(Which::LineBreak),
+        "LineBreak.txt: the file cannot be read",
+    ),
+    (
+        RunFault::Cmd(CmdFault::Passage(PassageFault::Limit)),
+        "the limit of a paragraph is 1 to 16777216 bytes",
+    ),
+    (
+        RunFault::Cmd(CmdFault::Passage(PassageFault::Read)),
+        "the input cannot be read",
+    ),
+    (
+        RunFault::Cmd(CmdFault::Passage(PassageFault::NotUtf8 { at: 70_000 })),
+        "the input: byte 70000: invalid UTF-8",
+    ),
+    (
+        RunFault::Cmd(CmdFault::Passage(PassageFault::TextTooLong)),
+        "the input has more than 1073741824 bytes",
+    ),
+    (
+        RunFault::Cmd(CmdFault::Passage(PassageFault::ParagraphTooLong { start: 70_000 })),
+        "the input: byte 70000: the paragraph from here on has more bytes than the limit",
+    ),
+    (
+        RunFault::Cmd(CmdFault::Write),
+        "the output cannot be written",
+    ),
+    (
+        RunFault::Replay(ReplayFault::StreamTooLong),
+        "the input has more than 1073741824 bytes",
+    ),
+    (RunFault::Memory, "out of memory"),
+];
+
+#[test]
+fn faults_of_runs(rt: HostRuntime) -> Result<(), Fail> {
+    for (fault, want) in &OF_RUNS {
+        check(&rt, rt.alloc(), fault, want)?;
+    }
+    Ok(())
+}

@@ -1,0 +1,38 @@
+//! Calls that tests make, each without its contract. A test proves only that it is safe and returns, so it needs no
+//! fact of them; a check that does not carry their facts from call to call takes a fraction of the time.
+
+use lbk_ucd::{Category, EastAsian, LineBreak, Places, Run, Tables};
+use std::fmt::Debug;
+use std::process::Abort;
+
+pub const LAST_CODE: u32 = 0x10FFFF;
+
+pub fn line_break_of(rt: &impl Abort, tables: &Tables, code: u32) -> LineBreak {
+    assert!(rt; code <= LAST_CODE);
+    tables.line_break(code)
+}
+
+pub fn east_asian_of(rt: &impl Abort, tables: &Tables, code: u32) -> EastAsian {
+    assert!(rt; code <= LAST_CODE);
+    tables.east_asian(code)
+}
+
+pub fn category_of(rt: &impl Abort, tables: &Tables, code: u32) -> Category {
+    assert!(rt; code <= LAST_CODE);
+    tables.category(code)
+}
+
+pub fn is_pictographic(rt: &impl Abort, tables: &Tables, code: u32) -> bool {
+    assert!(rt; code <= LAST_CODE);
+    tables.is_pictographic(code)
+}
+
+pub fn run_of(rt: &impl Abort, tables: &Tables, code: u32, near: Places) -> Run {
+    assert!(rt; code <= LAST_CODE);
+    tables.run(code, near)
+}
+
+/// Compares what was found at a code with what is wanted.
+pub fn same_at<T: Copy + PartialEq + Debug>(rt: &impl Abort, found: T, want: T, code: u32) {
+    assert_eq!(rt; found, want, "at {code:x}");
+}

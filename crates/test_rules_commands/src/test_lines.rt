@@ -1,0 +1,37 @@
+//! Lines in the notation of the published break tests: written of a text, read, and compared with the rules.
+
+use lbk_cmd::{SAMPLE_FILES, read_cells};
+use lbk_notation::{Form, Mark, Outcome, mark_text, read_line, replay_line, write_line};
+use lbk_rules::{Kind, Profile, Rule, Verdict};
+use std::test::Fail;
+
+#[test]
+fn test_lines(rt: HostRuntime) -> Result<(), Fail> {
+    let cells = read_cells(rt.alloc(), SAMPLE_FILES)?;
+
+    // The line of a text.
+    let line = mark_text(rt.alloc(), &cells, "b d", Profile::First)?;
+    let bytes = write_line(rt.alloc(), &line, Form::Kinds)?;
+    assert_eq!(&rt; bytes.as_slice(), "× 0062 × 0020 ÷ 0064 !".as_bytes());
+
+    // A line of a test file, which breaks within a word.
+    let read = read_line(
+        rt.alloc(),
+        "× 0061 ÷ 0062 ÷ # comment".as_bytes(),
+        Form::Plain,
+    )?;
+    let line = read.ok_or("a blank line")?;
+    let differ = Outcome::Differ {
+        position: 1,
+        file: Mark::May,
+        rules: Verdict {
+            kind: Kind::No,
+            rule: Rule::Lb28,
+        },
+    };
+    assert_eq!(&rt;
+        replay_line(&cells, &line, Form::Plain, Profile::First),
+        differ
+    );
+    Ok(())
+}
