@@ -1,4 +1,4 @@
-"""Each call of the library for C in a thread with little stack: lbk_read in 32 KiB, lbk_breaks and the others in 16 KiB.
+"""Each call of the library for C in a thread with little stack: lbk_read and lbk_read_published in 32 KiB, the others in 16 KiB.
 
 The files are those of the stored runs, the published ones where they are there, and made ones that need most work: rows and
 default lines out of order, as many as a file may have.

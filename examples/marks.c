@@ -54,10 +54,36 @@ static unsigned char *breaks_of(const char *text, size_t size, lbk_state state)
     return wanted;
 }
 
+/* Where the scalars of a text begin from a byte on, and where it ends: a byte for each place. */
+static unsigned char *scalars_of(const char *text, size_t size, size_t start)
+{
+    unsigned char *begins = calloc(size + 1, 1);
+    lbk_state state = {0};
+    lbk_break block[256];
+    size_t count;
+    if (begins == NULL)
+        abort();
+    state.at = start;
+    do {
+        count = lbk_positions(&real, &state, text, size, block, 256);
+        for (size_t k = 0; k < count; k++)
+            begins[block[k].at] = 1;
+    } while (count == 256);
+    return begins;
+}
+
+/* Where the first scalar begins at or behind a byte, or the end. */
+static size_t next_scalar(const unsigned char *begins, size_t size, size_t at)
+{
+    while (at < size && !begins[at])
+        at++;
+    return at;
+}
+
 /* Asks for the bits of a text from a state on, by words of these numbers or of random ones where it is 0. */
 static int has_its_breaks(const char *text, size_t size, lbk_state start, size_t many)
 {
-    unsigned char *wanted = breaks_of(text, size, start);
+    unsigned char *wanted = breaks_of(text, size, start), *begins = scalars_of(text, size, start.at);
     lbk_state *state = place(states, sizeof *state);
     size_t count, told_of, from;
     int same = 1, ended = 0;
@@ -72,12 +98,13 @@ static int has_its_breaks(const char *text, size_t size, lbk_state start, size_t
         same = same && told_of == (64 * count < left ? 64 * count : left)
                && agree(words, count, from, ended ? NULL : wanted, size)
                && (told_of == left ? state->at == size && state->ended
-                                   : state->at >= from + told_of && state->at < from + told_of + 4 && !state->ended);
+                                   : state->at == next_scalar(begins, size, from + told_of) && !state->ended);
         ended = state->ended;
     } while (same && told_of == 64 * count);
     uint64_t word = UINT64_MAX;
     same = same && lbk_marks(&real, state, text, size, &word, 1) == 0 && word == 0;
     free(wanted);
+    free(begins);
     return same;
 }
 

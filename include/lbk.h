@@ -118,7 +118,7 @@ enum {
 enum {
     LBK_FIRST = 0,  /* rule 15 of Unicode 15.0 */
     LBK_SECOND = 1, /* rules 15a and 15b in its place, which look at both sides of a quotation mark */
-    LBK_GOES_ON = 2 /* added to one of the two, for lbk_breaks and lbk_feed: the text goes on after the end of what is given */
+    LBK_GOES_ON = 2 /* added to one of the two, for lbk_breaks, lbk_marks and lbk_feed: the text goes on after what is given */
 };
 
 /* lbk_fault.file: the files of the Unicode Character Database, in the order in which lbk_read takes them. */

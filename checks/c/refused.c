@@ -116,17 +116,22 @@ static void try_others(void)
     static const uint16_t units[] = {'a', ' ', 0xD83D, 0xDE00};
     static const uint32_t scalars[] = {'a', ' ', 0x1F600};
     size_t size = sizeof text - 1;
-    lbk_state state = {0}, of_positions = {0}, of_units = {0}, of_scalars = {0};
+    lbk_state state = {0}, of_positions = {0}, of_units = {0}, of_scalars = {0}, of_marks = {0};
+    lbk_state of_unit_positions = {0}, of_scalar_positions = {0};
     lbk_stream stream = {0};
     lbk_word_state of_words = {0};
     lbk_break block[4], others[4];
     lbk_word words[4];
+    uint64_t bits[1];
     allocations = 0, refused_number = 1, refuses_later = 1, is_counting = 1;
     size_t count = lbk_breaks(&table, &state, text, size, block, 4);
     lbk_fed fed = lbk_feed(&table, &stream, text, size, true, others, 4);
     size_t positions = lbk_positions(&table, &of_positions, text, size, others, 4);
     size_t in_units = lbk_breaks_utf16(&table, &of_units, units, 4, others, 4);
     size_t in_scalars = lbk_breaks_utf32(&table, &of_scalars, scalars, 3, others, 4);
+    size_t at_units = lbk_positions_utf16(&table, &of_unit_positions, units, 4, others, 4);
+    size_t at_scalars = lbk_positions_utf32(&table, &of_scalar_positions, scalars, 3, others, 4);
+    size_t places = lbk_marks(&table, &of_marks, text, size, bits, 1);
     size_t of_text = lbk_words(&of_words, text, size, words, 4);
     size_t cut = lbk_cut(&table, text, size, 1), cut_before = lbk_cut_before(&table, text, size, size - 1);
     lbk_rule_label label = lbk_label(block[0].rule);
@@ -136,7 +141,8 @@ static void try_others(void)
     is_counting = 0;
     told("the other calls take no memory", 0, allocations == 0);
     told("they give what they give", 0,
-         count == 4 && fed.count == 4 && positions == 4 && in_units == 2 && in_scalars == 2 && of_text == 4 && cut == 6 && cut_before == 6
+         count == 4 && fed.count == 4 && positions == 4 && in_units == 2 && in_scalars == 2 && at_units == 4 && at_scalars == 4 && places == size + 1
+             && of_text == 4 && cut == 6 && cut_before == 6
              && label.text[0] != 0 && class.text[0] != 0 && cause.text[0] != 0 && file.text[0] != 0 && version.text[0] != 0 && whole);
 }
 

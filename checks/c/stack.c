@@ -22,6 +22,7 @@ static bytes files[4], text;
 static lbk_table table;
 static lbk_break block[ROOM];
 static lbk_word words[ROOM];
+static uint64_t bits[ROOM];
 static lbk_fault fault;
 static size_t total;
 static uint8_t profile;
@@ -45,6 +46,26 @@ static void *do_read(void *none)
 {
     fault = lbk_read(&table, files[0].at, files[0].size, files[1].at, files[1].size, files[2].at, files[2].size, files[3].at,
                      files[3].size);
+    return none;
+}
+
+static void *do_read_published(void *none)
+{
+    fault = lbk_read_published(&table, files[0].at, files[0].size, files[1].at, files[1].size, files[2].at, files[2].size,
+                               files[3].at, files[3].size);
+    return none;
+}
+
+/* The names of all rules, classes, causes and files, as far as there are some. */
+static void *do_names(void *none)
+{
+    for (uint32_t k = 0; k < 256; k++)
+        total += lbk_label((uint8_t)k).text[0] != 0;
+    for (uint32_t scalar = 0; scalar < LBK_CODES; scalar += 7)
+        total += lbk_class(&table, scalar).text[0] != 0;
+    for (uint32_t k = 0; k < 256; k++)
+        total += (lbk_cause_text(k).text[0] != 0) + (lbk_file_name(k).text[0] != 0);
+    total += lbk_version().text[0] != 0;
     return none;
 }
 
@@ -75,6 +96,20 @@ static void *do_positions(void *none)
         count = lbk_positions(&table, &state, text.at, text.size, block, ROOM);
         total += count;
     } while (count == ROOM);
+    return none;
+}
+
+/* Each bit that is set counts as a break. */
+static void *do_marks(void *none)
+{
+    lbk_state state = {0};
+    size_t told_of;
+    state.profile = profile;
+    do {
+        told_of = lbk_marks(&table, &state, text.at, text.size, bits, ROOM);
+        for (size_t k = 0; k < 64 * ROOM; k++)
+            total += bits[k / 64] >> (k % 64) & 1;
+    } while (told_of == 64 * ROOM);
     return none;
 }
 
@@ -182,6 +217,8 @@ static void try_text(void)
         told("lbk_breaks gives breaks", breaks > 0 || text.size == 0);
         run_in_thread("lbk_feed", do_feed);
         told("lbk_feed gives as many breaks as lbk_breaks", total == breaks);
+        run_in_thread("lbk_marks", do_marks);
+        told("lbk_marks sets as many bits as lbk_breaks gives breaks", total == breaks);
         run_in_thread("lbk_positions", do_positions);
         told("lbk_positions gives positions", total > breaks);
         run_in_thread("UTF-16, UTF-32", do_units);
@@ -205,9 +242,13 @@ int main(int count, char **word)
     used_idle = used_by(do_nothing);
     run_in_thread("lbk_read", do_read);
     told("lbk_read takes the files", fault.cause == LBK_CAUSE_NONE);
+    run_in_thread("lbk_read_published", do_read_published);
+    told("lbk_read_published takes them too, or not", fault.cause == LBK_CAUSE_NONE || fault.cause == LBK_CAUSE_NOT_PUBLISHED);
     stack_size = strtoul(word[2], NULL, 10);
     run_in_thread("lbk_check", do_check);
     told("lbk_check holds of the table", total == 1);
+    run_in_thread("names", do_names);
+    told("there are names", total > 38 + LBK_CODES / 8);
     for (int k = 7; k < count; k++) {
         text = load(word[k]);
         try_text();

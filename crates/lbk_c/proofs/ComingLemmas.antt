@@ -1,5 +1,5 @@
 -- The breaks of a text from its start on, and some of them given.
-use Rattle.std.proofs.Common.{Bool, false, ◌≡◌, ℕ, ◌+◌, ◌<◌, ◌≤◌, min, true, ◌⊎◌, inl, inr, ⊎_elim, Some, List, [], ◌∷◌, ◌++◌, length, map, drop, take, refl, sym, ap, subst, ◌∙◌, arith}
+use Rattle.std.proofs.Common.{Bool, false, ◌≡◌, ℕ, zero, suc, ◌+◌, ◌<◌, ◌≤◌, min, true, ◌⊎◌, inl, inr, ⊎_elim, Some, None, List, [], ◌∷◌, ◌++◌, length, map, drop, take, refl, sym, ap, subst, ◌∙◌, arith}
 use Rattle.std.specs.Char.{encode_utf8}
 use Rattle.std.specs.Str.{IsUtf8, chars, encode_utf8_all}
 use Rattle.std.proofs.lemmas.List.{append-nil, length-append, take_at}
@@ -26,7 +26,7 @@ use Rattle.lbk_bytes.specs.Bytes.{AtEnd, breaks_after, breaks_of_bytes, end_in, 
 use Rattle.lbk_bytes.specs.Reached.{Onward, ReachedBy, onward, onward_to, scalars_of}
 use Rattle.lbk_c.specs.Coming.{Comes, ComesBy, GoesBy, IsGoing, IsSpent, from_state}
 use Rattle.lbk_bytes.specs.Shown.{given_in}
-use Rattle.lbk_c.specs.State.{part_start, profile_numbered, profile_number, start_in}
+use Rattle.lbk_c.specs.State.{part_start, plain, plain_number, profile_numbered, profile_number, start_in}
 use Rattle.lbk_bytes.proofs.ReachedLemmas.{given-many, onward-start, profile-same}
 
 -- From the start on
@@ -180,6 +180,29 @@ pub spent-none : (from : Onward) (cell : ℕ → Cell) (table : FlatTable) (text
 spent-none from cell table text state to_come (inl unnamed) c = absurd (let no : ⊥ = (let named = c.named in cc) in no)
 spent-none from cell table text state to_come (inr (inl ended)) c = c.onto.none_come ended
 spent-none from cell table text state to_come (inr (inr past)) c = absurd (let within = c.onto.within in omega arith)
+
+-- a state that names a profile and is within the text is spent only where it has given all
+named-few : (n : ℕ) → n ≤ 3 → profile_numbered (plain_number n) ≡ None → ⊥
+named-few zero few none = (let no : ⊥ = cc in no)
+named-few (suc zero) few none = (let no : ⊥ = cc in no)
+named-few (suc (suc zero)) few none = (let no : ⊥ = cc in no)
+named-few (suc (suc (suc zero))) few none = (let no : ⊥ = cc in no)
+named-few (suc (suc (suc (suc n)))) few none = absurd (omega (arith, few))
+
+pub spent-ended : (state : State) (len : ℕ) → IsSpent (plain state) len → state.profile ≤ 3 → state.at ≤ len → 0 < state.ended
+spent-ended state len (inl unnamed) few within = absurd (named-few state.profile few unnamed)
+spent-ended state len (inr (inl ended)) few within = ended
+spent-ended state len (inr (inr past)) few within = absurd (omega arith)
+
+named-plain : (n : ℕ) → n ≤ 1 → profile_numbered n ≡ None → ⊥
+named-plain zero few none = (let no : ⊥ = cc in no)
+named-plain (suc zero) few none = (let no : ⊥ = cc in no)
+named-plain (suc (suc n)) few none = absurd (omega (arith, few))
+
+pub spent-plain : (state : State) (len : ℕ) → IsSpent state len → state.profile ≤ 1 → state.at ≤ len → 0 < state.ended
+spent-plain state len (inl unnamed) few within = absurd (named-plain state.profile few unnamed)
+spent-plain state len (inr (inl ended)) few within = ended
+spent-plain state len (inr (inr past)) few within = absurd (omega arith)
 
 -- what a call gives of the breaks to come
 pub Comes-goes : (from : Onward) (profile : Profile) (cell : ℕ → Cell) (table : FlatTable) (text : List ℕ) (old new : State) (to_come given : List Break) (count room : ℕ)

@@ -1,5 +1,5 @@
 -- The bits of the breaks to come.
-use Rattle.std.proofs.Common.{◌≡◌, ℕ, zero, suc, ◌+◌, ◌*◌, ◌<◌, ◌≤◌, ◌||◌, Bool, None, List, [], inl, inr, ◌++◌, length, drop, sym, ap, subst, ◌∙◌, arith}
+use Rattle.std.proofs.Common.{◌≡◌, ℕ, ◌+◌, ◌*◌, ◌<◌, ◌≤◌, ◌||◌, Bool, List, [], ◌++◌, length, drop, sym, ap, subst, ◌∙◌, arith}
 use Rattle.std.proofs.Math.Seq.{drop-length}
 use Rattle.bstr.specs.Utf8.{pieces}
 use Rattle.bstr.proofs.lemmas.PieceLemmas.{pieces-nil}
@@ -18,8 +18,8 @@ use Rattle.lbk_bytes.proofs.MarkLemmas.{among-append, below-wider, or-false}
 use Rattle.lbk_bytes.proofs.MarkPlaceLemmas.{end-below, from-none, from-wider, left-behind, left-from, left-past, onward-from}
 use Rattle.lbk_c.specs.declared.interface.State.{State}
 use Rattle.lbk_c.specs.Coming.{ComesBy, IsGoing, IsSpent, MarksBy, from_state}
-use Rattle.lbk_c.specs.State.{plain, plain_number, profile_numbered}
-use Rattle.lbk_c.proofs.ComingLemmas.{same-profile}
+use Rattle.lbk_c.specs.State.{plain, profile_numbered}
+use Rattle.lbk_c.proofs.ComingLemmas.{same-profile, spent-ended}
 
 -- the words are told before the text's end
 pub Marks-full : (goes_on : Bool) (profile : Profile) (cell : ℕ → Cell) (lefts : List Left) (text : List ℕ) (to_come : List Break) (place stop : ℕ) (here : FillState) (state : State) (words : List ℕ)
@@ -112,15 +112,5 @@ Comes-behind from profile cell table text place old new to_come words going kept
   onto = marks.onto;
 }
 
--- each number up to 3 names a profile
-named-few : (n : ℕ) → n ≤ 3 → profile_numbered (plain_number n) ≡ None → ⊥
-named-few zero few none = (let no : ⊥ = cc in no)
-named-few (suc zero) few none = (let no : ⊥ = cc in no)
-named-few (suc (suc zero)) few none = (let no : ⊥ = cc in no)
-named-few (suc (suc (suc zero))) few none = (let no : ⊥ = cc in no)
-named-few (suc (suc (suc (suc n)))) few none = absurd (omega (arith, few))
-
 pub never-spent : (state : State) (len : ℕ) → IsSpent (plain state) len → state.profile ≤ 3 → state.ended ≡ 0 → state.at ≤ len → ⊥
-never-spent state len (inl unnamed) few unended within = named-few state.profile few unnamed
-never-spent state len (inr (inl ended)) few unended within = omega arith
-never-spent state len (inr (inr past)) few unended within = omega arith
+never-spent state len spent few unended within = (let ended = spent-ended state len spent few within in omega arith)

@@ -43,6 +43,7 @@ pub extern "C" fn lbk_breaks(
     ensures onward { state.old.at ≤ state.new.at }
     ensures inside { state.old.at ≤ length text.now → state.new.at ≤ length text.now }
     ensures at_end { state.old.ended ≡ 0 → 0 < state.new.ended → state.new.at ≡ length text.now }
+    ensures all { state.old.profile ≤ 3 → state.old.at ≤ length text.now → result < length out.old → 0 < state.new.ended }
     ensures start { (cell : ℕ → Cell) (profile : Profile) → IsFlatOf table.now cell → state.old ≡ start_in profile
         → Comes cell table.now text.now state.old (breaks_of_bytes profile cell text.now) }
     // A part of the text that begins at any of its bytes, and after which the text may go on. Cut where lbk_cut says, the breaks of
@@ -108,6 +109,7 @@ fn go_on(
     ensures forward { 0 < result → (state.old.at < state.new.at) ⊎ (0 < state.new.ended) }
     ensures onward { (state.old.at ≤ state.new.at) × (state.new.at ≤ length text.now) }
     ensures at_end { 0 < state.new.ended → state.new.at ≡ length text.now }
+    ensures all { result < length out.old → 0 < state.new.ended }
     ensures goes { (cell : ℕ → Cell) (lefts : List Left) (to_come : List Break) → IsFlatBy lefts table.now cell
         → ReachedBy (onward_in state.old.profile) profile cell lefts text.now to_come (from_state (plain state.old)) []
         → GoesBy (onward_in state.old.profile) profile cell lefts text.now to_come (plain state.new) (given_in out.new result) result (length out.old) }

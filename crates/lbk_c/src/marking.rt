@@ -43,6 +43,11 @@ pub extern "C" fn lbk_marks(
     ensures onward { state.old.at ≤ state.new.at }
     ensures inside { state.old.at ≤ length text.now → state.new.at ≤ length text.now }
     ensures at_end { state.old.ended ≡ 0 → 0 < state.new.ended → state.new.at ≡ length text.now }
+    // Where the end was told of, nothing is left. Else the state stands behind the places that were told of.
+    ensures all { state.old.profile ≤ 3 → state.old.ended ≡ 0 → state.old.at ≤ length text.now
+        → length text.now < state.old.at + 64 * length words.old → 0 < state.new.ended }
+    ensures more { state.old.profile ≤ 3 → state.old.ended ≡ 0 → state.old.at + 64 * length words.old ≤ length text.now
+        → (state.new.ended ≡ 0) × (state.old.at + 64 * length words.old ≤ state.new.at) }
     ensures start { (cell : ℕ → Cell) (profile : Profile) → IsFlatOf table.now cell → state.old ≡ start_in profile
         → Comes cell table.now text.now state.old (breaks_of_bytes profile cell text.now) }
     ensures part { (cell : ℕ → Cell) (profile : Profile) (goes_on : Bool) (at : ℕ) → IsFlatOf table.now cell → at ≤ length text.now
@@ -80,6 +85,9 @@ fn go_on(
     ensures forward { 0 < result → (state.old.at < state.new.at) ⊎ (0 < state.new.ended) }
     ensures onward { (state.old.at ≤ state.new.at) × (state.new.at ≤ length text.now) }
     ensures at_end { 0 < state.new.ended → state.new.at ≡ length text.now }
+    ensures all { length text.now < state.old.at + 64 * length words.old → 0 < state.new.ended }
+    ensures more { state.old.at + 64 * length words.old ≤ length text.now
+        → (state.new.ended ≡ 0) × (state.old.at + 64 * length words.old ≤ state.new.at) }
     ensures marks { (cell : ℕ → Cell) (lefts : List Left) (to_come : List Break) → IsFlatBy lefts table.now cell
         → ReachedBy (onward_in state.old.profile) profile cell lefts text.now to_come (from_state (plain state.old)) []
         → MarksBy (onward_in state.old.profile) profile cell lefts text.now to_come state.old.at (plain state.new) words.new }

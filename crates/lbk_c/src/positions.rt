@@ -53,6 +53,7 @@ pub extern "C" fn lbk_positions(
     ensures onward { state.old.at ≤ state.new.at }
     ensures inside { state.old.at ≤ length text.now → state.new.at ≤ length text.now }
     ensures at_end { state.old.ended ≡ 0 → 0 < state.new.ended → state.new.at ≡ length text.now }
+    ensures all { state.old.profile ≤ 1 → state.old.at ≤ length text.now → result < length out.old → 0 < state.new.ended }
     ensures start { (cell : ℕ → Cell) (profile : Profile) → IsFlatOf table.now cell → state.old ≡ start_in profile
         → PositionsCome pieces cell table.now text.now state.old (positions_of_bytes profile cell text.now) }
     ensures count { (cell : ℕ → Cell) (to_come : List Break) → PositionsCome pieces cell table.now text.now state.old to_come
@@ -96,6 +97,7 @@ pub extern "C" fn lbk_positions_utf16(
     ensures onward { state.old.at ≤ state.new.at }
     ensures inside { state.old.at ≤ length text.now → state.new.at ≤ length text.now }
     ensures at_end { state.old.ended ≡ 0 → 0 < state.new.ended → state.new.at ≡ length text.now }
+    ensures all { state.old.profile ≤ 1 → state.old.at ≤ length text.now → result < length out.old → 0 < state.new.ended }
     ensures start { (cell : ℕ → Cell) (profile : Profile) → IsFlatOf table.now cell → state.old ≡ start_in profile
         → PositionsCome pieces_of_utf16 cell table.now text.now state.old (positions_of_utf16 profile cell text.now) }
     ensures count { (cell : ℕ → Cell) (to_come : List Break) → PositionsCome pieces_of_utf16 cell table.now text.now state.old to_come
@@ -139,6 +141,7 @@ pub extern "C" fn lbk_positions_utf32(
     ensures onward { state.old.at ≤ state.new.at }
     ensures inside { state.old.at ≤ length text.now → state.new.at ≤ length text.now }
     ensures at_end { state.old.ended ≡ 0 → 0 < state.new.ended → state.new.at ≡ length text.now }
+    ensures all { state.old.profile ≤ 1 → state.old.at ≤ length text.now → result < length out.old → 0 < state.new.ended }
     ensures start { (cell : ℕ → Cell) (profile : Profile) → IsFlatOf table.now cell → state.old ≡ start_in profile
         → PositionsCome pieces_of_utf32 cell table.now text.now state.old (positions_of_utf32 profile cell text.now) }
     ensures count { (cell : ℕ → Cell) (to_come : List Break) → PositionsCome pieces_of_utf32 cell table.now text.now state.old to_come
@@ -173,6 +176,7 @@ fn next_positions<U: Unit>(
     ensures onward { state.old.at ≤ state.new.at }
     ensures inside { state.old.at ≤ length text.now → state.new.at ≤ length text.now }
     ensures at_end { state.old.ended ≡ 0 → 0 < state.new.ended → state.new.at ≡ length text.now }
+    ensures all { state.old.profile ≤ 1 → state.old.at ≤ length text.now → result < length out.old → 0 < state.new.ended }
     ensures start { (cell : ℕ → Cell) (profile : Profile) → IsFlatOf table.now cell → state.old ≡ start_in profile
         → PositionsCome U.pieces_of cell table.now text.now state.old (positions_of_pieces profile cell (U.pieces_of text.now)) }
     ensures count { (cell : ℕ → Cell) (to_come : List Break) → PositionsCome U.pieces_of cell table.now text.now state.old to_come
@@ -208,6 +212,7 @@ fn go_on<U: Unit>(
     ensures forward { 0 < result → (state.old.at < state.new.at) ⊎ (0 < state.new.ended) }
     ensures onward { (state.old.at ≤ state.new.at) × (state.new.at ≤ length text.now) }
     ensures at_end { 0 < state.new.ended → state.new.at ≡ length text.now }
+    ensures all { result < length out.old → 0 < state.new.ended }
     ensures goes { (cell : ℕ → Cell) (lefts : List Left) (to_come : List Break) → IsFlatBy lefts table.now cell
         → UnitsReachedBy onward_all profile cell lefts (on_from U.pieces_of text.now) to_come (from_state state.old) []
         → UnitsGo onward_all U.pieces_of profile cell lefts text.now to_come state.new (given_in out.new result) result (length out.old) }

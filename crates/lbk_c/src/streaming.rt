@@ -54,8 +54,11 @@ pub extern "C" fn lbk_feed(
         → last ≡ false → stream.old.ended ≡ 0 → result.count < length out.old
         → AreUnsettled cell stream.new more (drop result.count to_come) }
     ensures seen { (cell : ℕ → Cell) (more : List ℕ) (to_come : List Break) → Streams cell table.now stream.old (piece.now ++ more) to_come
-        → last ≡ false → stream.old.ended ≡ 0
+        → (last ≡ true → more ≡ []) → stream.old.ended ≡ 0
         → stream.new.at + length (cut_bytes stream.new) ≡ stream.old.at + length (cut_bytes stream.old) + result.taken }
+    ensures cut { stream.old.cut_size ≤ 4 → stream.new.cut_size ≤ 4 }
+    ensures closed { last ≡ true → stream.old.ended ≡ 0 → stream.old.profile ≤ 3 → result.count < length out.old
+        → (stream.new.cut_size ≡ 0) × (stream.new.held_code ≡ 0) }
     ensures end { (cell : ℕ → Cell) (to_come : List Break) → Streams cell table.now stream.old piece.now to_come
         → last ≡ true → result.count < length out.old → result.count ≡ length to_come }
     ensures ended { last ≡ true → result.count < length out.old → 0 < stream.new.ended ⊎ (3 < stream.old.profile) }

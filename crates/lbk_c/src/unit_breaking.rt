@@ -47,6 +47,7 @@ pub extern "C" fn lbk_breaks_utf16(
     ensures onward { state.old.at ≤ state.new.at }
     ensures inside { state.old.at ≤ length text.now → state.new.at ≤ length text.now }
     ensures at_end { state.old.ended ≡ 0 → 0 < state.new.ended → state.new.at ≡ length text.now }
+    ensures all { state.old.profile ≤ 1 → state.old.at ≤ length text.now → result < length out.old → 0 < state.new.ended }
     ensures start { (cell : ℕ → Cell) (profile : Profile) → IsFlatOf table.now cell → state.old ≡ start_in profile
         → UnitsCome pieces_of_utf16 cell table.now text.now state.old (breaks_of_utf16 profile cell text.now) }
     ensures count { (cell : ℕ → Cell) (to_come : List Break) → UnitsCome pieces_of_utf16 cell table.now text.now state.old to_come
@@ -88,6 +89,7 @@ pub extern "C" fn lbk_breaks_utf32(
     ensures onward { state.old.at ≤ state.new.at }
     ensures inside { state.old.at ≤ length text.now → state.new.at ≤ length text.now }
     ensures at_end { state.old.ended ≡ 0 → 0 < state.new.ended → state.new.at ≡ length text.now }
+    ensures all { state.old.profile ≤ 1 → state.old.at ≤ length text.now → result < length out.old → 0 < state.new.ended }
     ensures start { (cell : ℕ → Cell) (profile : Profile) → IsFlatOf table.now cell → state.old ≡ start_in profile
         → UnitsCome pieces_of_utf32 cell table.now text.now state.old (breaks_of_utf32 profile cell text.now) }
     ensures count { (cell : ℕ → Cell) (to_come : List Break) → UnitsCome pieces_of_utf32 cell table.now text.now state.old to_come
@@ -122,6 +124,7 @@ fn next_breaks<U: Unit>(
     ensures onward { state.old.at ≤ state.new.at }
     ensures inside { state.old.at ≤ length text.now → state.new.at ≤ length text.now }
     ensures at_end { state.old.ended ≡ 0 → 0 < state.new.ended → state.new.at ≡ length text.now }
+    ensures all { state.old.profile ≤ 1 → state.old.at ≤ length text.now → result < length out.old → 0 < state.new.ended }
     ensures start { (cell : ℕ → Cell) (profile : Profile) → IsFlatOf table.now cell → state.old ≡ start_in profile
         → UnitsCome U.pieces_of cell table.now text.now state.old (breaks_of_pieces profile cell (U.pieces_of text.now)) }
     ensures count { (cell : ℕ → Cell) (to_come : List Break) → UnitsCome U.pieces_of cell table.now text.now state.old to_come
@@ -157,6 +160,7 @@ fn go_on<U: Unit>(
     ensures forward { 0 < result → (state.old.at < state.new.at) ⊎ (0 < state.new.ended) }
     ensures onward { (state.old.at ≤ state.new.at) × (state.new.at ≤ length text.now) }
     ensures at_end { 0 < state.new.ended → state.new.at ≡ length text.now }
+    ensures all { result < length out.old → 0 < state.new.ended }
     ensures goes { (cell : ℕ → Cell) (lefts : List Left) (to_come : List Break) → IsFlatBy lefts table.now cell
         → UnitsReached profile cell lefts (on_from U.pieces_of text.now) to_come (from_state state.old) []
         → UnitsGo onward U.pieces_of profile cell lefts text.now to_come state.new (given_in out.new result) result (length out.old) }

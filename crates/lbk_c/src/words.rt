@@ -1,7 +1,7 @@
 //! The words of a text, a block at a time.
 
 ghost use Rattle.std.specs.Prelude.{◌≡◌, ◌≤◌, drop, length, min, take};
-ghost use Rattle.lbk_words.specs.Words.{AreRising, words_on};
+ghost use Rattle.lbk_words.specs.Words.{AreRising, IsBoundary, words_on};
 
 use lbk_words::{Word, fill};
 
@@ -26,6 +26,7 @@ pub extern "C" fn lbk_words(state: &mut WordState, text: &[u8], out: &mut [Word]
     ensures front { take result out.new ≡ take result (words_on text.now state.old.at) }
     ensures rest { words_on text.now state.new.at ≡ drop result (words_on text.now state.old.at) }
     ensures onward { state.old.at ≤ state.new.at }
+    ensures boundary { IsBoundary text.now state.old.at state.new.at }
     ensures rising { AreRising state.old.at state.new.at (take result out.new) }
     ensures within { state.old.at ≤ length text.now → state.new.at ≤ length text.now }
     ensures ended { length text.now ≤ state.old.at → (result ≡ 0) × (state.new ≡ state.old) }

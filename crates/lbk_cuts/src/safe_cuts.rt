@@ -23,6 +23,7 @@ pub fn cut(table: &FlatTable, text: &[u8], at: usize) -> usize
     ensures within { result ≤ length text.now }
     ensures past { length text.now ≤ at → result ≡ length text.now }
     ensures behind { at ≤ length text.now → at ≤ result }
+    ensures start { at ≡ 0 → result ≡ 0 }
     ensures first { (cell : ℕ → Cell) → IsFlatOf table.now cell → IsCutAfter cell text.now at result }
     ensures joined { (cell : ℕ → Cell) (profile : Profile) → IsFlatOf table.now cell → 0 < result → result < length text.now
         → JoinsAt profile cell text.now result }

@@ -188,6 +188,7 @@ Stands-join profile cell lefts place next bytes all given c size some is_char is
       waits = λ _. record {
         second = w.second;
         coded = subst IsCode (sym code_same) w.coded;
+        breaks = ap (λ n. is_no (verdict_coded n).kind) code_same ∙ w.breaks;
         before = (let before = w.before in omega arith);
         front = s.taken;
         last = c;
@@ -342,10 +343,11 @@ pub waits-now : (cell : ℕ → Cell) (lefts : List Left) (table : FlatTable) (t
     → IsFlatBy lefts table cell → KnowsTaken cell lefts place.row taken → IsScalar c
     → one ≡ get_or table.first (place.row + get_or table.kinds c 0) no_flat_step
     → other ≡ get_or table.second (place.row + get_or table.kinds c 0) no_flat_step
-    → other.code ≡ HELD → next.held_at ≡ place.at → next.held_code ≡ one.code → place.at < next.at
+    → other.code ≡ HELD → is_no (verdict_coded one.code).kind ≡ false → next.held_at ≡ place.at → next.held_code ≡ one.code → place.at < next.at
     → Waits Second cell (taken ++ c ∷ []) next
-waits-now cell lefts table taken place next c one other flat known scalar is_one is_other held held_same code_same onward = record {
+waits-now cell lefts table taken place next c one other flat known scalar is_one is_other held is_break held_same code_same onward = record {
   second = refl;
+  breaks = ap (λ n. is_no (verdict_coded n).kind) code_same ∙ is_break;
   coded = subst IsCode (sym code_same) (steps-here lefts table cell place.row c one other flat scalar known.0 is_one is_other).coded.0;
   before = omega arith;
   front = taken;

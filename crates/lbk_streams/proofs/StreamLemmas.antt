@@ -230,6 +230,11 @@ Feeds-unsettled number profile cell lefts base new piece more to_come given here
       later = later;
       onward = onward-onward (ahead number to_come) profile cell s.taken new.at here.place.at (pieces bytes) (omega arith);
       joined = s.joined ∙ ap (λ p. late_break cell p bytes ++ later) (sym place_same) ∙ ap (λ l. late_break cell (place_of new) l ++ later) same;
+      waits = λ held.
+          let code : new.held_code ≡ here.place.held_code = ap (λ (p : Place). p.held_code) place_same in
+          let held_same : new.held_at ≡ here.place.held_at = ap (λ (p : Place). p.held_at) place_same in
+          let w = s.waits (omega arith) in
+          (omega (arith, w.before), ap (λ n. is_no (verdict_coded n).kind) code ∙ w.breaks);
     }
 
 -- after the last piece, all were given

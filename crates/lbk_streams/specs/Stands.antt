@@ -7,7 +7,8 @@ use Rattle.lbk_rules.specs.declared.facts.Left.{Left}
 use Rattle.lbk_values.specs.declared.profile.Profile.{Profile}
 use Rattle.lbk_values.specs.declared.profile.Profile.TheVariants.{Second}
 use Rattle.lbk_rules.specs.Classes.{hard}
-use Rattle.lbk_rules.specs.Codes.{IsCode}
+use Rattle.lbk_rules.specs.Breaks.{is_no}
+use Rattle.lbk_rules.specs.Codes.{IsCode, verdict_coded}
 use Rattle.lbk_rules.specs.Normal.{normal}
 use Rattle.lbk_steps.specs.declared.flat_table.FlatTable.{FlatTable}
 use Rattle.lbk_steps.specs.FlatTable.{IsFlatBy, KnowsTaken}
@@ -28,6 +29,7 @@ front_of cut = take cut.size cut.bytes
 pub record Waits (profile : Profile) (cell : ℕ → Cell) (taken : List ℕ) (place : Place) : Type 0 where
   pub second : profile ≡ Second
   pub coded : IsCode place.held_code
+  pub breaks : is_no (verdict_coded place.held_code).kind ≡ false
   pub before : place.held_at < place.at
   pub front : List ℕ
   pub last : ℕ
@@ -85,5 +87,5 @@ pub record Gives (cell : ℕ → Cell) (table : FlatTable) (old new : Stream) (p
   pub front : given ≡ take fed.count to_come
   pub rest : Streams cell table new (drop fed.taken piece ++ more) (drop fed.count to_come)
   pub settled : last ≡ false → fed.count < room → AreUnsettled cell new more (drop fed.count to_come)
-  pub seen : last ≡ false → new.at + length (cut_bytes new) ≡ old.at + length (cut_bytes old) + fed.taken
+  pub seen : new.at + length (cut_bytes new) ≡ old.at + length (cut_bytes old) + fed.taken
   pub end : last ≡ true → fed.count < room → fed.count ≡ length to_come

@@ -1,10 +1,11 @@
 -- A text that comes in pieces: what a stream holds of its bytes, and which breaks these do not settle.
-use Rattle.std.specs.Prelude.{◌≡◌, ℕ, ◌+◌, ◌-◌, ◌≤◌, min, length, ◌==◌, ◌||◌, Bool, true, false, ◌⊎◌, List, [], ◌∷◌, ◌++◌, map, take, if◌then◌else◌}
+use Rattle.std.specs.Prelude.{◌≡◌, ℕ, ◌+◌, ◌-◌, ◌<◌, ◌≤◌, min, length, ◌==◌, ◌||◌, Bool, true, false, ◌⊎◌, List, [], ◌∷◌, ◌++◌, map, take, if◌then◌else◌}
 use Rattle.std.specs.List.{AllByRecursion}
 use Rattle.bstr.specs.Utf8.{lossy_chars}
 use Rattle.lbk_rules.specs.declared.breaks.Break.{Break}
 use Rattle.lbk_rules.specs.declared.cells.Cell.{Cell}
 use Rattle.lbk_values.specs.declared.profile.Profile.{Profile}
+use Rattle.lbk_rules.specs.Breaks.{is_no}
 use Rattle.lbk_rules.specs.Codes.{verdict_coded}
 use Rattle.lbk_rules.specs.Normal.{normal}
 use Rattle.lbk_rules.specs.Sides.{leaves_closed}
@@ -63,3 +64,4 @@ pub record AreUnsettled (cell : ℕ → Cell) (stream : Stream) (more : List ℕ
   pub later : List Break
   pub onward : AllByRecursion (λ found. stream.at ≤ found.at) later
   pub joined : to_come ≡ late_break cell (place_of stream) (cut_bytes stream ++ more) ++ later
+  pub waits : 0 < stream.held_code → (stream.held_at < stream.at) × (is_no (verdict_coded stream.held_code).kind ≡ false)

@@ -58,8 +58,11 @@ pub fn feed(
         → last ≡ false → stream.old.ended ≡ 0 → result.count < length out.old
         → AreUnsettled cell stream.new more (drop result.count to_come) }
     ensures seen { (cell : ℕ → Cell) (more : List ℕ) (to_come : List Break) → Streams cell table.now stream.old (piece.now ++ more) to_come
-        → last ≡ false → stream.old.ended ≡ 0
+        → (last ≡ true → more ≡ []) → stream.old.ended ≡ 0
         → stream.new.at + length (cut_bytes stream.new) ≡ stream.old.at + length (cut_bytes stream.old) + result.taken }
+    ensures cut { stream.old.cut_size ≤ 4 → stream.new.cut_size ≤ 4 }
+    ensures closed { last ≡ true → stream.old.ended ≡ 0 → stream.old.profile ≤ 3 → result.count < length out.old
+        → (stream.new.cut_size ≡ 0) × (stream.new.held_code ≡ 0) }
     ensures end { (cell : ℕ → Cell) (to_come : List Break) → Streams cell table.now stream.old piece.now to_come
         → last ≡ true → result.count < length out.old → result.count ≡ length to_come }
     ensures ended { last ≡ true → result.count < length out.old → 0 < stream.new.ended ⊎ (3 < stream.old.profile) }
@@ -94,6 +97,8 @@ fn go_with(
     ensures breaks { AreBreaks out.new result.count }
     ensures few { result.count + most_left stream.new + (length piece.now - result.taken) ≤ most_left stream.old + length piece.now }
     ensures ended { last ≡ true → result.count < length out.old → 0 < stream.new.ended }
+    ensures cut { stream.new.cut_size ≤ 4 }
+    ensures closed { last ≡ true → result.count < length out.old → (stream.new.cut_size ≡ 0) × (stream.new.held_code ≡ 0) }
     ensures gives { (cell : ℕ → Cell) (more : List ℕ) (to_come : List Break) → Streams cell table.now stream.old (piece.now ++ more) to_come
         → (last ≡ true → more ≡ [])
         → Gives cell table.now stream.old stream.new piece.now more last to_come result (given_in out.new result.count) (length out.old) }
@@ -145,7 +150,7 @@ fn start_of(stream: &Stream) -> Feeding
 fn keep(stream: &mut Stream, here: Feeding)
     requires { here.cut.size ≤ 4 }
     ensures place { place_of stream.new ≡ here.place }
-    ensures cut { (cut_bytes stream.new ≡ front_of here.cut) × (length (cut_bytes stream.new) ≡ here.cut.size) }
+    ensures cut { (cut_bytes stream.new ≡ front_of here.cut) × (length (cut_bytes stream.new) ≡ here.cut.size) × (stream.new.cut_size ≡ here.cut.size) }
     ensures same { (stream.new.profile ≡ stream.old.profile) × (stream.new.ended ≡ stream.old.ended) }
 {
     let cut = here.cut.bytes;
@@ -186,7 +191,8 @@ fn close(table: &FlatTable, stream: &mut Stream, here: Feeding, out: &mut [RawBr
     ensures profile_same { stream.new.profile ≡ stream.old.profile }
     ensures full { here.count ≡ length out.old → (result.count ≡ here.count) × (out.new ≡ out.old) × (place_of stream.new ≡ here.place)
         × (cut_bytes stream.new ≡ front_of here.cut) × (stream.new.ended ≡ stream.old.ended) }
-    ensures ended { here.count < length out.old → stream.new.ended ≡ 1 }
+    ensures ended { here.count < length out.old → (stream.new.ended ≡ 1) × (stream.new.held_code ≡ 0) }
+    ensures seen { (stream.new.at ≡ here.place.at) × (length (cut_bytes stream.new) ≡ here.cut.size) × (stream.new.cut_size ≡ here.cut.size) }
     ensures end { here.count < length out.old → (profile : Profile) (cell : ℕ → Cell) (lefts : List Left) (taken : List ℕ) → IsFlatBy lefts table.now cell
         → KnowsTaken cell lefts here.place.row taken → (0 < here.place.row → 0 < length taken)
         → given_in out.new result.count ≡ given_in out.old here.count ++ end_in (goes_on stream.old.profile) profile cell taken here.place.at }

@@ -1,5 +1,5 @@
 -- The words from a byte on, and some of them given.
-use Rattle.std.proofs.Common.{◌≡◌, ◌⊎◌, ⊎_elim, ℕ, ◌+◌, ◌<◌, ◌≤◌, min, Bool, true, false, cond, List, [], ◌∷◌, ◌++◌, drop, length, take, refl, sym, ap, ap₂, subst, ◌∙◌, arith}
+use Rattle.std.proofs.Common.{◌≡◌, ◌⊎◌, ⊎_elim, append_assoc, ℕ, ◌+◌, ◌<◌, ◌≤◌, min, Bool, true, false, cond, List, [], ◌∷◌, ◌++◌, drop, length, take, refl, sym, ap, ap₂, subst, ◌∙◌, arith}
 use Rattle.std.specs.Int.{from_bool}
 use Rattle.std.proofs.Math.ListN.{set, drop_of_length-le}
 use Rattle.std.proofs.Math.Seq.{drop-append_seam}
@@ -9,7 +9,8 @@ use Rattle.bstr.proofs.lemmas.PieceLemmas.{pieces-nil}
 use Rattle.lbk_words.specs.declared.word.Word.{Word}
 use Rattle.lbk_words.specs.Letters.{has_letter}
 use Rattle.lbk_words.specs.Places.{IsFirstPiece}
-use Rattle.lbk_words.specs.Words.{AreRising, bytes_of, parts_of, scalars_of, scalars_on, words_among, words_on}
+use Rattle.lbk_words.specs.Words.{AreRising, IsBoundary, bytes_of, parts_of, scalars_of, scalars_on, words_among, words_on}
+use Rattle.lbk_words.proofs.WalkLemmas.{bytes-append}
 use Rattle.unicode_segmentation.specs.Segments.{cut}
 
 -- the word that a part is, if it is one
@@ -38,6 +39,25 @@ words-next text at end is_word first =
     ∙ among-part at first.part (pieces (drop end text)) (parts_of (scalars_on text end))
     ∙ ap (λ n. one_word (has_letter (scalars_of first.part)) at n ++ words_among n (pieces (drop end text)) (parts_of (scalars_on text end))) (sym first.place)
     ∙ ap (λ b. one_word b at end ++ words_on text end) (sym first.word)
+
+-- a boundary stands at the start, and behind the part that begins at one
+pub boundary-here : (text : List ℕ) (at : ℕ) → IsBoundary text at at
+boundary-here text at = record {
+  reads = [];
+  read = refl;
+  place = omega arith;
+  parts = [];
+  cut = refl;
+}
+
+pub boundary-next : (text : List ℕ) (start at end : ℕ) (is_word : Bool) → IsBoundary text start at → IsFirstPiece text at end is_word → IsBoundary text start end
+boundary-next text start at end is_word b first = record {
+  reads = b.reads ++ first.part;
+  read = b.read ∙ ap (λ ps. b.reads ++ ps) first.reads ∙ sym (append_assoc b.reads first.part (pieces (drop end text)));
+  place = (let sum = bytes-append b.reads first.part in let before = b.place in let here = first.place in omega arith);
+  parts = b.parts ++ scalars_of first.part ∷ [];
+  cut = b.cut ∙ ap (λ ps. b.parts ++ ps) first.first ∙ sym (append_assoc b.parts (scalars_of first.part ∷ []) (parts_of (scalars_on text end)));
+}
 
 -- behind the text there are none
 pub words-end : (text : List ℕ) (at : ℕ) → length text ≤ at → words_on text at ≡ []

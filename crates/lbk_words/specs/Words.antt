@@ -1,7 +1,7 @@
 -- The words of any bytes, read as UTF-8: the parts between neighbouring word boundaries (UAX #29, section 4) that have a letter
 -- or a number. Each longest piece of the bytes that begins no scalar is read as U+FFFD (Unicode Standard, section 3.9, table 3-7)
 -- and keeps its own bytes.
-use Rattle.std.specs.Prelude.{ℕ, ◌+◌, ◌<◌, ◌≤◌, List, [], ◌∷◌, drop, length, map, take, if◌then◌else◌}
+use Rattle.std.specs.Prelude.{◌≡◌, ℕ, ◌+◌, ◌<◌, ◌≤◌, List, [], ◌∷◌, ◌++◌, drop, length, map, take, if◌then◌else◌}
 use Rattle.std.specs.Str.{chars}
 use Rattle.bstr.specs.Utf8.{Decoded, or_replacement, pieces}
 use Rattle.unicode_segmentation.specs.Segments.{cut}
@@ -46,6 +46,15 @@ words_of text = words_on text 0
 -- the scalars from a byte on
 abbrev pub scalars_on : List ℕ → ℕ → List ℕ
 scalars_on text at = scalars_of (pieces (drop at text))
+
+-- of a text that is taken alone from the byte `from` on, word boundaries stand at its start and its end, and at the byte `to`: some of
+-- its parts are before it, and the others are those from there on
+pub record IsBoundary (text : List ℕ) (from to : ℕ) : Type 0 where
+  pub reads : List Decoded
+  pub read : pieces (drop from text) ≡ reads ++ pieces (drop to text)
+  pub place : to ≡ from + bytes_of reads
+  pub parts : List (List ℕ)
+  pub cut : parts_of (scalars_on text from) ≡ parts ++ parts_of (scalars_on text to)
 
 -- the words among pieces of well-formed text, each as its bytes, of which the first begins at byte `at`
 abbrev pub words_in : ℕ → List (List ℕ) → List Word

@@ -1,7 +1,7 @@
 //! A block that is filled with words.
 
 ghost use Rattle.std.specs.Prelude.{◌≡◌, ◌≤◌, drop, length, min, take};
-ghost use Rattle.lbk_words.specs.Words.{AreRising, words_on};
+ghost use Rattle.lbk_words.specs.Words.{AreRising, IsBoundary, words_on};
 
 use crate::pieces::first_piece;
 use crate::word::{Filled, Word};
@@ -15,6 +15,7 @@ pub fn fill(text: &[u8], start: usize, out: &mut [Word]) -> Filled
     ensures front { take result.count out.new ≡ take result.count (words_on text.now start) }
     ensures rest { words_on text.now result.at ≡ drop result.count (words_on text.now start) }
     ensures onward { start ≤ result.at }
+    ensures boundary { IsBoundary text.now start result.at }
     ensures rising { AreRising start result.at (take result.count out.new) }
     ensures within { start ≤ length text.now → result.at ≤ length text.now }
     ensures past { length text.now ≤ start → result.at ≡ start }

@@ -2,7 +2,7 @@ use Rattle.std.proofs.Common.{length, drop, ap, subst, sym, arith, refl}
 use Rattle.lbk_c.specs.Coming.{ComesBy, IsGoing, IsSpent, onward_in}
 use Rattle.lbk_c.specs.State.{plain, plain_number}
 use Rattle.lbk_bytes.specs.Shown.{given_in}
-use Rattle.lbk_c.proofs.ComingLemmas.{Comes-goes, Comes-next, Comes-part, Comes-start, breaks-utf8, spent-none}
+use Rattle.lbk_c.proofs.ComingLemmas.{Comes-goes, Comes-next, Comes-part, Comes-start, breaks-utf8, spent-ended, spent-none}
 use Rattle.lbk_bytes.proofs.PartLemmas.{part-onward}
 use Rattle.lbk_bytes.proofs.OrderLemmas.{AreInOrder-none}
 use Rattle.lbk_c.proofs.breaking.lbk_breaks.Goals as goal
@@ -69,3 +69,7 @@ returns-in_default-clause-in_order c = AreInOrder-none _ _ _
 
 pub returns-in_default-clause-before_state : goal.returns-in_default-clause-before_state
 returns-in_default-clause-before_state c = λ _. AreInOrder-none _ _ _
+
+pub returns-in_default-clause-all : goal.returns-in_default-clause-all
+returns-in_default-clause-all c = λ few within free.
+    spent-ended c.args.state.now (length c.args.text.now) (subst (λ s. IsSpent s (length c.args.text.now)) c.plain.ensures c.in_default.ensures) few within

@@ -12,3 +12,7 @@ returns-in-Some-clause-class c = λ cell flat scalar.
     ∙ ap filled (c.as_bytes.ensures.value ∙ c.class_label.ensures.name)
     ∙ ap (λ (x : Cell). filled (class_label x.class)) (c.cell.ensures cell flat.1.kinds)
     ∙ ap (λ x. filled (class_label (cell x).class)) c.in-Some.ensures.value.1
+
+pub returns-in-Some-clause-named : goal.returns-in-Some-clause-named
+returns-in-Some-clause-named c = λ scalar.
+    (c.cell.result.class, c.filled.ensures ∙ ap filled (c.as_bytes.ensures.value ∙ c.class_label.ensures.name))

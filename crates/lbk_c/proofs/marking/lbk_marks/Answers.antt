@@ -64,3 +64,11 @@ returns-clause-rest c = λ cell to_come comes.
     let same : length words ≡ length c.args.words.now = omega arith in
     subst (λ n. ComesBy (onward_in new.profile) cell c.args.table.now c.args.text.now (plain new) (from_on (old.at + 64 * n) to_come)) same
     (subst (λ n. ComesBy (onward_in n) cell c.args.table.now c.args.text.now (plain new) (from_on (old.at + 64 * length words) to_come)) (sym kept) next)
+
+pub returns-in_default-clause-all : goal.returns-in_default-clause-all
+returns-in_default-clause-all c = λ few unended within inside.
+    absurd (never-spent c.args.state.now (length c.args.text.now) (subst (λ s. IsSpent s (length c.args.text.now)) c.plain.ensures c.in_default.ensures) few unended within)
+
+pub returns-in_default-clause-more : goal.returns-in_default-clause-more
+returns-in_default-clause-more c = λ few unended room.
+    absurd (never-spent c.args.state.now (length c.args.text.now) (subst (λ s. IsSpent s (length c.args.text.now)) c.plain.ensures c.in_default.ensures) few unended (omega (arith, room)))

@@ -3,6 +3,7 @@ use Rattle.lbk_bytes.specs.Reached.{onward}
 use Rattle.lbk_bytes.specs.Shown.{given_in}
 use Rattle.lbk_bytes.proofs.OrderLemmas.{AreInOrder-none}
 use Rattle.lbk_bytes.proofs.ReachedLemmas.{onward-start}
+use Rattle.lbk_c.proofs.ComingLemmas.{spent-plain}
 use Rattle.lbk_c.proofs.UnitsComingLemmas.{units-go, units-next, units-none, units-start}
 use Rattle.lbk_c.proofs.unit_breaking.next_breaks.Goals as goal
 
@@ -47,3 +48,6 @@ returns-in_default-clause-in_order g c = AreInOrder-none _ _ _
 
 pub returns-in_default-clause-before_state : goal.returns-in_default-clause-before_state
 returns-in_default-clause-before_state g c = λ _. AreInOrder-none _ _ _
+
+pub returns-in_default-clause-all : goal.returns-in_default-clause-all
+returns-in_default-clause-all g c = λ few within free. spent-plain c.args.state.now (length c.args.text.now) c.in_default.ensures few within

@@ -45,8 +45,7 @@ returns-clause-settled c = λ cell more to_come s unfinished unended free.
     (c.go_with.ensures.gives cell more to_come s (λ is_last. absurd (false≢true (sym unfinished ∙ is_last)))).settled unfinished free
 
 pub returns-clause-seen : goal.returns-clause-seen
-returns-clause-seen c = λ cell more to_come s unfinished unended.
-    (c.go_with.ensures.gives cell more to_come s (λ is_last. absurd (false≢true (sym unfinished ∙ is_last)))).seen unfinished
+returns-clause-seen c = λ cell more to_come s lasts unended. (c.go_with.ensures.gives cell more to_come s lasts).seen
 
 pub returns-clause-end : goal.returns-clause-end
 returns-clause-end c = λ cell to_come s is_last free.

@@ -36,7 +36,7 @@ returns-clause-gives c = λ cell more to_come s lasts.
       settled = λ _ free.
           Feeds-unsettled old.profile profile cell s.lefts base new piece more to_come given here here.count kept.place kept.cut.0 (take.ensures.unfinished free)
           (take.ensures.all free) many feeds;
-      seen = λ _. (let seen = feeds.seen in let size = kept.cut.1 in omega arith);
+      seen = (let seen = feeds.seen in let size = kept.cut.1 in omega arith);
       end = λ is_last free. absurd (false≢true (sym c.if-last.false ∙ is_last));
     }
 
@@ -80,7 +80,7 @@ returns-then-last-clause-gives c = λ cell more to_come s lasts.
           let same = ap (λ (h : Feeding). h.count) (finish.ensures.same (omega (arith, take.ensures.within.1))).0 in absurd (omega arith))
           (cases_lt here.count room);
       cut = λ free. finish.ensures.done (omega arith);
-      ended = λ free. close.ensures.ended (omega arith);
+      ended = λ free. (close.ensures.ended (omega arith)).0;
       end = λ free taken. close.ensures.end (omega arith) profile cell whole.lefts taken whole.flat;
     }) ends in
     record {
@@ -89,7 +89,7 @@ returns-then-last-clause-gives c = λ cell more to_come s lasts.
           subst (λ m. Streams cell table new (drop close.result.taken piece ++ m) (drop close.result.count to_come)) (sym none)
           (subst (λ n. Streams cell table new (drop n piece ++ []) (drop close.result.count to_come)) (sym taken) closed.rest);
       settled = λ unfinished. absurd (false≢true (sym unfinished ∙ c.if-last.true));
-      seen = λ unfinished. absurd (false≢true (sym unfinished ∙ c.if-last.true));
+      seen = (let seen = ends.seen in let put = close.ensures.seen in omega (arith, put.0, put.1));
       end = λ _ free. closed.end (omega arith);
     }
 

@@ -47,7 +47,7 @@ returns-then-waits-clause-stands c = λ cell lefts bytes all flat some is_char i
     ∙ ap (λ p. with_break place.at (verdict_between_in p (map cell taken) (cell x ∷ map cell (lossy_chars rest))) []) (sym second))
     (λ taken known onward _.
     subst (λ p. Waits p cell (taken ++ x ∷ []) next) (sym second)
-    (waits-now cell lefts table taken place next x first step flat known scalar is_first is_step held refl refl onward))
+    (waits-now cell lefts table taken place next x first step flat known scalar is_first is_step held told.2 refl refl onward))
     (sym (append-nil given)) stands
 
 pub returns-clause-stands : goal.returns-clause-stands

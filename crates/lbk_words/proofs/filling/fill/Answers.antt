@@ -1,10 +1,10 @@
-use Rattle.std.proofs.Common.{◌≡◌, ◌+◌, ◌++◌, append_assoc, inr, length, take, sym, ap, subst, ◌∙◌, arith}
+use Rattle.std.proofs.Common.{◌≡◌, ◌+◌, ◌++◌, append_assoc, inr, length, take, refl, sym, ap, subst, ◌∙◌, arith}
 use Rattle.std.specs.Int.{from_bool}
 use Rattle.std.proofs.Math.ListN.{length-set, set}
 use Rattle.std.proofs.lemmas.List.{length-take-le}
 use Rattle.lbk_words.specs.declared.word.Word.{Word}
 use Rattle.lbk_words.specs.Words.{AreRising, words_on}
-use Rattle.lbk_words.proofs.FillLemmas.{from_bool-few, gives, one_word, rising-word, words-end, words-next, written-more}
+use Rattle.lbk_words.proofs.FillLemmas.{boundary-here, boundary-next, from_bool-few, gives, one_word, rising-word, words-end, words-next, written-more}
 use Rattle.lbk_words.proofs.filling.fill.Goals as goal
 
 pub loop-count-preserved : goal.loop-count-preserved
@@ -20,6 +20,7 @@ loop-count-preserved c =
     record {
       room = omega arith;
       onward = omega (arith, l.invariant.onward);
+      boundary = boundary-next text c.args.start l.at piece.end piece.is_word l.invariant.boundary c.first_piece-piece.ensures;
       within = λ inside. c.first_piece-piece.ensures.within;
       rising =
           subst (AreRising c.args.start piece.end)
@@ -43,3 +44,15 @@ returns-else-at-text-clause-count c =
     let full = l.invariant.room in
     (gives (words_on text c.args.start) (take l.count l.out) (words_on text l.at) l.count (length c.args.out.now) l.invariant.joined
     (length-take-le l.count l.out full) (omega arith) (inr (words-end text l.at c.if-at-text.false))).counted
+
+pub loop-count-init : goal.loop-count-init
+loop-count-init c = record {
+  room = omega arith;
+  onward = omega arith;
+  boundary = boundary-here c.args.text.now c.args.start;
+  within = λ inside. inside;
+  rising = omega arith;
+  stays = λ past. refl;
+  no_room = λ none. refl;
+  joined = refl;
+}
