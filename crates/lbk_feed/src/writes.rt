@@ -1,6 +1,6 @@
 //! Writing as much as there is.
 
-ghost use Rattle.std.specs.Prelude.{◌≡◌, ℕ, take, OnOk, OnErr};
+ghost use Rattle.std.specs.Prelude.{◌≡◌, ℕ, [], take, IsOk, OnOk, OnErr};
 ghost use Rattle.std.specs.Io.KnownBytes.{Appends};
 ghost use Rattle.lbk_feed.specs.Devices.{failures_after};
 ghost use Rattle.lbk_feed.specs.Runs.{HasFailed};
@@ -15,6 +15,7 @@ pub fn write_all<W: Sink>(writer: &mut W, bytes: &[u8]) -> Result<(), Failed>
     ensures front { (n : ℕ) × Appends (W.written writer.old) (W.written writer.new) (take n bytes.now) }
     ensures failures { W.failure_count writer.new ≡ failures_after (W.failure_count writer.old) result }
     ensures failed { OnErr result (HasFailed (W.failure_count writer.old) (W.failure_count writer.new)) }
+    ensures nothing { bytes.now ≡ [] → IsOk result × (writer.new ≡ writer.old) }
     ensures none_failed { OnOk result (W.failure_count writer.new ≡ W.failure_count writer.old) }
 {
     let mut done = 0;

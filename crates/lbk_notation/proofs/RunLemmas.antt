@@ -229,13 +229,15 @@ IsReplay-ended cell form profile ended Write read out is = stopped-ended cell fo
 IsReplay-ended cell form profile ended Memory read out is = stopped-ended cell form profile ⊥ ended _ out (λ never. absurd never) is
 
 -- before a read, all was written of the lines ended
-keeps_up : (cell : ℕ → Cell) (form : Form) (profile : Profile) (progress : ReplayState) (to : Reads) (before last read out later all : List ℕ)
-    → Stands cell form profile progress before out → read ≡ before ++ last → all ≡ out ++ later → length last ≡ to.gave → KeepsUp cell form profile to read all
-keeps_up cell form profile progress to before last read out later all stands split is gave = record {
+keeps_up : (cell : ℕ → Cell) (form : Form) (profile : Profile) (progress : ReplayState) (from to : Reads) (before last read out later all : List ℕ)
+    → Stands cell form profile progress before out → read ≡ before ++ last → all ≡ out ++ later → length last ≡ to.gave
+    → to.count ≤ from.count + (length before + 1) → KeepsUp cell form profile from to read all
+keeps_up cell form profile progress from to before last read out later all stands split is gave each = record {
   before = before;
   last = last;
   split = split;
   is_last = gave;
+  each_gave = each;
   written = out;
   later = later;
   is = is;
@@ -274,32 +276,32 @@ Took-failed (Some all) (Some rest) (Some left) read consumed kept = ((rest, cons
 
 -- a read failed
 pub Ran-failed : (cell : ℕ → Cell) (form : Form) (profile : Profile) (progress : ReplayState) (unread between unread' written written' : Option (List ℕ))
-    (to : Reads) → ReadsSoFar cell form profile progress unread between written written' → KeepsIfTold between unread' → progress.taken ≤ longest_stream
-    → to.gave ≡ 0 → Ran true unread unread' written written' (HasRead cell form profile to (Err Read))
-Ran-failed cell form profile progress unread between unread' written written' to reads kept few gave = record {
+    (from to : Reads) → ReadsSoFar cell form profile progress unread between written written' → KeepsIfTold between unread' → progress.taken ≤ longest_stream
+    → to.gave ≡ 0 → to.count ≤ from.count + (progress.taken + 1) → Ran true unread unread' written written' (HasRead cell form profile from to (Err Read))
+Ran-failed cell form profile progress unread between unread' written written' from to reads kept few gave each = record {
   read = reads.read;
   out = reads.out;
   took = Took-failed unread between unread' reads.read reads.took kept;
   put = reads.put;
   so = record {
     comes = (omega (arith, reads.stands.taken), Stands-text cell form profile progress reads.read reads.out reads.stands);
-    keeps_up = keeps_up cell form profile progress to reads.read [] reads.read reads.out [] reads.out reads.stands
-        (sym (append-nil reads.read)) (sym (append-nil reads.out)) (sym gave);
+    keeps_up = keeps_up cell form profile progress from to reads.read [] reads.read reads.out [] reads.out reads.stands
+        (sym (append-nil reads.read)) (sym (append-nil reads.out)) (sym gave) (omega (arith, reads.stands.taken));
   };
 }
 
 -- a read gave no byte
 pub Ran-ended : (cell : ℕ → Cell) (form : Form) (profile : Profile) (progress : ReplayState) (none : List ℕ) (unread between unread' written written' : Option (List ℕ))
-    (to : Reads) → ReadsSoFar cell form profile progress unread between written written' → Consumes between unread' none → none ≡ [] → to.gave ≡ 0
-    → Ran false unread unread' written written' (HasRead cell form profile to (Ok progress))
-Ran-ended cell form profile progress none unread between unread' written written' to reads consumed empty gave = record {
+    (from to : Reads) → ReadsSoFar cell form profile progress unread between written written' → Consumes between unread' none → none ≡ [] → to.gave ≡ 0
+    → to.count ≤ from.count + (progress.taken + 1) → Ran false unread unread' written written' (HasRead cell form profile from to (Ok progress))
+Ran-ended cell form profile progress none unread between unread' written written' from to reads consumed empty gave each = record {
   read = reads.read;
   out = reads.out;
   took =
       subst (λ (r : List ℕ). Consumes unread unread' r) (ap (λ l. reads.read ++ l) empty ∙ append-nil reads.read)
       (Consumes-trans unread between unread' reads.read none reads.took consumed);
   put = reads.put;
-  so = (gave, reads.stands);
+  so = (gave, omega (arith, reads.stands.taken), reads.stands);
 }
 
 -- the front of what was read that counts
@@ -309,12 +311,12 @@ take-past n xs ys within =
 
 -- more bytes were read than a file may have
 pub Ran-long : (cell : ℕ → Cell) (form : Form) (profile : Profile) (middle new : ReplayState) (bytes counted rest : List ℕ)
-    (unread between unread' written between' written' : Option (List ℕ)) (done : Unit {0}) (to : Reads)
+    (unread between unread' written between' written' : Option (List ℕ)) (done : Unit {0}) (from to : Reads)
     → ReadsSoFar cell form profile middle unread between written between' → Consumes between unread' bytes
     → Uses cell form profile middle new counted between' written' (Ok done) → bytes ≡ counted ++ rest → 0 < length rest
-    → middle.taken + length counted ≡ longest_stream → length bytes ≡ to.gave
-    → Ran false unread unread' written written' (HasRead cell form profile to (Err StreamTooLong))
-Ran-long cell form profile middle new bytes counted rest unread between unread' written between' written' done to reads consumed uses split some full gave =
+    → middle.taken + length counted ≡ longest_stream → length bytes ≡ to.gave → to.count ≤ from.count + (middle.taken + 1)
+    → Ran false unread unread' written written' (HasRead cell form profile from to (Err StreamTooLong))
+Ran-long cell form profile middle new bytes counted rest unread between unread' written between' written' done from to reads consumed uses split some full gave each =
     let taken = reads.stands.taken in
     let size : length (reads.read ++ counted) ≡ longest_stream = omega (arith, length-append reads.read counted) in
     let whole : reads.read ++ bytes ≡ (reads.read ++ counted) ++ rest = ap (λ b. reads.read ++ b) split ∙ sym (append_assoc reads.read counted rest) in
@@ -332,7 +334,8 @@ Ran-long cell form profile middle new bytes counted rest unread between unread' 
           subst (λ (r : List ℕ). IsEndedText cell form profile r (reads.out ++ uses.text)) (sym front)
               (Stands-text cell form profile new (reads.read ++ counted) (reads.out ++ uses.text) (uses.so reads.read reads.out reads.stands)),
         );
-        keeps_up = keeps_up cell form profile middle to reads.read bytes (reads.read ++ bytes) reads.out uses.text (reads.out ++ uses.text) reads.stands refl refl gave;
+        keeps_up = keeps_up cell form profile middle from to reads.read bytes (reads.read ++ bytes) reads.out uses.text (reads.out ++ uses.text) reads.stands refl refl gave
+            (omega (arith, taken));
       };
     }
 
@@ -347,17 +350,18 @@ no_read fault (inr write) = ap (λ f. is_read_fault_of (Err f)) write
 
 -- memory or the writer stopped the run
 pub Ran-stopped : (cell : ℕ → Cell) (form : Form) (profile : Profile) (middle new : ReplayState) (bytes counted rest : List ℕ)
-    (unread between unread' written between' written' : Option (List ℕ)) (fault : ReplayFault) (to : Reads)
+    (unread between unread' written between' written' : Option (List ℕ)) (fault : ReplayFault) (from to : Reads)
     → ReadsSoFar cell form profile middle unread between written between' → Consumes between unread' bytes
     → Uses cell form profile middle new counted between' written' (Err fault) → bytes ≡ counted ++ rest
     → middle.taken + length counted ≤ longest_stream → (fault ≡ Memory) ⊎ (fault ≡ Write) → length bytes ≡ to.gave
-    → Ran (is_read_fault_of (Err fault)) unread unread' written written' (HasRead cell form profile to (Err fault))
-Ran-stopped cell form profile middle new bytes counted rest unread between unread' written between' written' fault to reads consumed uses split few only gave =
+    → to.count ≤ from.count + (middle.taken + 1)
+    → Ran (is_read_fault_of (Err fault)) unread unread' written written' (HasRead cell form profile from to (Err fault))
+Ran-stopped cell form profile middle new bytes counted rest unread between unread' written between' written' fault from to reads consumed uses split few only gave each =
     let taken = reads.stands.taken in
     let size : length (reads.read ++ counted) ≤ longest_stream = omega (arith, length-append reads.read counted) in
     let whole : reads.read ++ bytes ≡ (reads.read ++ counted) ++ rest = ap (λ b. reads.read ++ b) split ∙ sym (append_assoc reads.read counted rest) in
     let front = ap (take longest_stream) whole ∙ take-past longest_stream (reads.read ++ counted) rest size in
-    subst (λ (failed : Bool). Ran failed unread unread' written written' (HasRead cell form profile to (Err fault))) (sym (no_read fault only)) (record {
+    subst (λ (failed : Bool). Ran failed unread unread' written written' (HasRead cell form profile from to (Err fault))) (sym (no_read fault only)) (record {
       read = reads.read ++ bytes;
       out = reads.out ++ uses.text;
       took = Consumes-trans unread between unread' reads.read bytes reads.took consumed;
@@ -367,7 +371,8 @@ Ran-stopped cell form profile middle new bytes counted rest unread between unrea
             (subst (λ (r : List ℕ). IsStoppedReplay cell form profile ⊥ r (reads.out ++ uses.text)) (sym front)
             (stopped-longer cell form profile ⊥ (reads.read ++ counted) (take (longest_stream - length (reads.read ++ counted)) rest) (reads.out ++ uses.text)
             (uses.so reads.read reads.out reads.stands)));
-        keeps_up = keeps_up cell form profile middle to reads.read bytes (reads.read ++ bytes) reads.out uses.text (reads.out ++ uses.text) reads.stands refl refl gave;
+        keeps_up = keeps_up cell form profile middle from to reads.read bytes (reads.read ++ bytes) reads.out uses.text (reads.out ++ uses.text) reads.stands refl refl gave
+            (omega (arith, taken));
       };
     })
 
@@ -381,9 +386,9 @@ same_fault StreamTooLong = refl
 
 -- a fault while the file was read
 pub Ran-fault : (cell : ℕ → Cell) (form : Form) (profile : Profile) (ended : Type 0) (fault : ReplayFault) (unread unread' written written' : Option (List ℕ))
-    (to : Reads) → Ran (is_read_fault_of (Err fault)) unread unread' written written' (HasRead cell form profile to (Err fault))
-    → Ran (is_read_fault (Err fault)) unread unread' written written' (IsReplayRun cell form profile to ended (Err fault))
-Ran-fault cell form profile ended fault unread unread' written written' to ran = record {
+    (from to : Reads) → Ran (is_read_fault_of (Err fault)) unread unread' written written' (HasRead cell form profile from to (Err fault))
+    → Ran (is_read_fault (Err fault)) unread unread' written written' (IsReplayRun cell form profile from to ended (Err fault))
+Ran-fault cell form profile ended fault unread unread' written written' from to ran = record {
   read = ran.read;
   out = ran.out;
   took = subst (λ (failed : Bool). Took failed unread unread' ran.read) (same_fault fault) ran.took;
@@ -405,40 +410,40 @@ end_of cell form profile ended progress (Err fault) read out is few only stopped
 
 -- the file was read to its end
 pub Ran-finished : (cell : ℕ → Cell) (form : Form) (profile : Profile) (ended : Type 0) (progress : ReplayState) (result : Result Report ReplayFault)
-    (unread unread' written between written' : Option (List ℕ)) (to : Reads) → ended → progress.taken ≤ longest_stream
+    (unread unread' written between written' : Option (List ℕ)) (from to : Reads) → ended → progress.taken ≤ longest_stream
     → IfErr result (λ fault. (fault ≡ Memory) ⊎ (fault ≡ Write))
-    → Ran false unread unread' written between (HasRead cell form profile to (Ok progress)) → Ends cell form profile progress between written' result
-    → Ran (is_read_fault result) unread unread' written written' (IsReplayRun cell form profile to ended result)
-Ran-finished cell form profile ended progress result unread unread' written between written' to is few only ran ends =
-    let stands = ran.so.1 in
+    → Ran false unread unread' written between (HasRead cell form profile from to (Ok progress)) → Ends cell form profile progress between written' result
+    → Ran (is_read_fault result) unread unread' written written' (IsReplayRun cell form profile from to ended result)
+Ran-finished cell form profile ended progress result unread unread' written between written' from to is few only ran ends =
+    let stands = ran.so.2 in
     let short : length ran.read ≤ longest_stream = omega (arith, stands.taken) in
     let end = end_of cell form profile ended progress result ran.read (ran.out ++ ends.text) is short only (ends.so ran.read ran.out stands) in
-    subst (λ (failed : Bool). Ran failed unread unread' written written' (IsReplayRun cell form profile to ended result)) (sym end.0) (record {
+    subst (λ (failed : Bool). Ran failed unread unread' written written' (IsReplayRun cell form profile from to ended result)) (sym end.0) (record {
       read = ran.read;
       out = ran.out ++ ends.text;
       took = ran.took;
       put = Appends-trans written between written' ran.out ends.text ran.put ends.put;
       so = record {
         comes = end.1;
-        keeps_up = keeps_up cell form profile progress to ran.read [] ran.read ran.out ends.text (ran.out ++ ends.text) stands (sym (append-nil ran.read)) refl
-            (sym ran.so.0);
+        keeps_up = keeps_up cell form profile progress from to ran.read [] ran.read ran.out ends.text (ran.out ++ ends.text) stands (sym (append-nil ran.read)) refl
+            (sym ran.so.0) ran.so.1;
       };
     })
 
 -- what it says of an input that the reader tells
 pub IsReplayed-ran : (cell : ℕ → Cell) (form : Form) (profile : Profile) (ended : Type 0) (report : Report) (unread unread' written written' : Option (List ℕ))
-    (to : Reads) → IsAtEnd unread' → Ran false unread unread' written written' (IsReplayRun cell form profile to ended (Ok report))
+    (from to : Reads) → IsAtEnd unread' → Ran false unread unread' written written' (IsReplayRun cell form profile from to ended (Ok report))
     → IfSome unread (λ input. IsReplayed cell form profile input report written written')
-IsReplayed-ran cell form profile ended report unread unread' written written' to at ran =
+IsReplayed-ran cell form profile ended report unread unread' written written' from to at ran =
     Consumes-whole unread unread' ran.read (λ input. IsReplayed cell form profile input report written written') ran.took at
     (record { fits = ran.so.comes.0; out = ran.out; text = ran.so.comes.1; put = ran.put })
 
 pub IfOk-replayed : (cell : ℕ → Cell) (form : Form) (profile : Profile) (ended : Type 0) (result : Result Report ReplayFault) (unread unread' written written' : Option (List ℕ))
-    (to : Reads) → IsAtEnd unread' → Ran (is_read_fault result) unread unread' written written' (IsReplayRun cell form profile to ended result)
+    (from to : Reads) → IsAtEnd unread' → Ran (is_read_fault result) unread unread' written written' (IsReplayRun cell form profile from to ended result)
     → IfOk result (λ report. IfSome unread (λ input. IsReplayed cell form profile input report written written'))
-IfOk-replayed cell form profile ended (Ok report) unread unread' written written' to at ran =
-    IsReplayed-ran cell form profile ended report unread unread' written written' to at ran
-IfOk-replayed cell form profile ended (Err fault) unread unread' written written' to at ran = tt
+IfOk-replayed cell form profile ended (Ok report) unread unread' written written' from to at ran =
+    IsReplayed-ran cell form profile ended report unread unread' written written' from to at ran
+IfOk-replayed cell form profile ended (Err fault) unread unread' written written' from to at ran = tt
 
 -- the bytes of a block that count, and those that do not
 pub front-split : (counted count : ℕ) (block : List ℕ) → counted ≤ count

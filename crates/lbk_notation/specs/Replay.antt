@@ -1,5 +1,5 @@
 -- What a replay writes and answers, by what it read.
-use Rattle.std.specs.Prelude.{◌≡◌, ℕ, ◌<◌, ◌≤◌, Bool, true, false, List, ◌++◌, length, take, Option, Result, Ok, Err}
+use Rattle.std.specs.Prelude.{◌≡◌, ℕ, ◌+◌, ◌<◌, ◌≤◌, Bool, true, false, List, ◌++◌, length, take, Option, None, Some, Result, Ok, Err}
 use Rattle.std.specs.Io.KnownBytes.{Appends}
 use Rattle.lbk_rules.specs.declared.cells.Cell.{Cell}
 use Rattle.lbk_values.specs.declared.profile.Profile.{Profile}
@@ -10,7 +10,7 @@ use Rattle.lbk_notation.specs.declared.findings.ReplayFault.TheVariants.{Read, W
 use Rattle.lbk_notation.specs.declared.marks.Form.{Form}
 use Rattle.lbk_notation.specs.Findings.{AreFindings}
 use Rattle.lbk_notation.specs.ReplayText.{text_from, report_of, total_text}
-use Rattle.lbk_feed.specs.Devices.{Reads}
+use Rattle.lbk_feed.specs.Devices.{Reads, count_up}
 use Rattle.lbk_feed.specs.Runs.{IsStopped}
 use Rattle.lbk_notation.specs.Stream.{ended_lines, lines_of, longest_stream}
 
@@ -38,6 +38,20 @@ abbrev pub is_read_fault : Result Report ReplayFault → Bool
 is_read_fault (Err Read) = true
 is_read_fault _ = false
 
+-- the fault of an answer
+abbrev pub fault_in : {X : Type 0} → Result X ReplayFault → Option ReplayFault
+fault_in (Ok x) = None
+fault_in (Err fault) = Some fault
+
+-- the counts of a reader's and of a writer's failures after a call: one more exactly where the call answered so
+abbrev pub failed_reads_with : ℕ → Option ReplayFault → ℕ
+failed_reads_with n (Some Read) = count_up n
+failed_reads_with n _ = n
+
+abbrev pub failed_writes_with : ℕ → Option ReplayFault → ℕ
+failed_writes_with n (Some Write) = count_up n
+failed_writes_with n _ = n
+
 -- stopped at some place: what went out is a front of what the lines ended before that place write, or, once the end
 -- was met, of the replay text
 abbrev pub IsStoppedReplay : (ℕ → Cell) → Form → Profile → Type 0 → List ℕ → List ℕ → Type 0
@@ -56,20 +70,21 @@ IsReplay cell form profile ended (Err StreamTooLong) read out =
 IsReplay cell form profile ended (Err Write) read out = IsStoppedReplay cell form profile ended (take longest_stream read) out
 IsReplay cell form profile ended (Err Memory) read out = IsStoppedReplay cell form profile ended (take longest_stream read) out
 
--- nothing is kept back: of the bytes that all reads but the last gave, what the lines write that they end was written; `reads`
--- are those made in the end
-pub record KeepsUp (cell : ℕ → Cell) (form : Form) (profile : Profile) (reads : Reads) (read out : List ℕ) : Type 0 where
+-- nothing is kept back: of the bytes that all reads but the last gave, at least one each, what the lines write that they end
+-- was written; `from` and `to` are the reads before the run and after it
+pub record KeepsUp (cell : ℕ → Cell) (form : Form) (profile : Profile) (from to : Reads) (read out : List ℕ) : Type 0 where
   pub before : List ℕ
   pub last : List ℕ
   pub split : read ≡ before ++ last
-  pub is_last : length last ≡ reads.gave
+  pub is_last : length last ≡ to.gave
+  pub each_gave : to.count ≤ from.count + (length before + 1)
   pub written : List ℕ
   pub later : List ℕ
   pub is : out ≡ written ++ later
   pub settled : IsEndedText cell form profile before written
 
 -- what a replay reads and writes, whatever the answer
-pub record IsReplayRun (cell : ℕ → Cell) (form : Form) (profile : Profile) (reads : Reads) (ended : Type 0)
+pub record IsReplayRun (cell : ℕ → Cell) (form : Form) (profile : Profile) (from to : Reads) (ended : Type 0)
     (answer : Result Report ReplayFault) (read out : List ℕ) : Type 0 where
   pub comes : IsReplay cell form profile ended answer read out
-  pub keeps_up : KeepsUp cell form profile reads read out
+  pub keeps_up : KeepsUp cell form profile from to read out

@@ -72,7 +72,9 @@ abbrev pub is_read_fault_of : Result ReplayState ReplayFault → Bool
 is_read_fault_of (Err Read) = true
 is_read_fault_of _ = false
 
--- what was read to the end of the stream, or to a fault, and written of it; at the end the last of the reads gave no byte
-abbrev pub HasRead : (ℕ → Cell) → Form → Profile → Reads → Result ReplayState ReplayFault → List ℕ → List ℕ → Type 0
-HasRead cell form profile reads (Ok progress) read out = (reads.gave ≡ 0) × Stands cell form profile progress read out
-HasRead cell form profile reads (Err fault) read out = IsReplayRun cell form profile reads ⊥ (Err fault) read out
+-- what was read to the end of the stream, or to a fault, and written of it; at the end the last of the reads gave no byte, and
+-- each of the others gave one at least
+abbrev pub HasRead : (ℕ → Cell) → Form → Profile → Reads → Reads → Result ReplayState ReplayFault → List ℕ → List ℕ → Type 0
+HasRead cell form profile from to (Ok progress) read out =
+    (to.gave ≡ 0) × (to.count ≤ from.count + (length read + 1)) × Stands cell form profile progress read out
+HasRead cell form profile from to (Err fault) read out = IsReplayRun cell form profile from to ⊥ (Err fault) read out

@@ -3,7 +3,7 @@
 ghost use Rattle.std.specs.Prelude.{◌≡◌, ◌+◌, ◌<◌, ◌≤◌, ◌⊎◌, ℕ, List, [], ◌∷◌, length, take, IsTrue, IfSome, IfOk, IfErr, OnOk, IsErrOf};
 ghost use Rattle.std.specs.Io.KnownBytes.{Appends, IsAtEnd};
 ghost use Rattle.lbk_notation.specs.ReplayState.{Ends, HasRead, Uses, is_read_fault_of};
-ghost use Rattle.lbk_notation.specs.Replay.{IsReplayRun, IsReplayed, is_read_fault};
+ghost use Rattle.lbk_notation.specs.Replay.{IsReplayRun, IsReplayed, failed_reads_with, failed_writes_with, fault_in, is_read_fault};
 ghost use Rattle.lbk_notation.specs.Stream.{longest_stream};
 ghost use Rattle.lbk_feed.specs.Runs.{HasFailed, Ran};
 
@@ -52,15 +52,17 @@ pub fn replay<R: Source, W: Sink, C: CellSource>(
 
     // What is written of what was read, whatever the result.
     ensures run { Ran (is_read_fault result) (R.unread reader.old) (R.unread reader.new) (W.written writer.old) (W.written writer.new)
-        (IsReplayRun (C.cell_of cells.now) form profile (R.reads_made reader.new)
+        (IsReplayRun (C.cell_of cells.now) form profile (R.reads_made reader.old) (R.reads_made reader.new)
         (IsTrue (R.has_ended reader.new) × IsAtEnd (R.unread reader.new)) result) }
     ensures ended { OnOk result (IsTrue (R.has_ended reader.new) × IsAtEnd (R.unread reader.new)) }
 
     // When a device's fault comes, and how much is read.
     ensures read { IsErrOf result ReplayFault.Read → HasFailed (R.failure_count reader.old) (R.failure_count reader.new) }
     ensures read_failed { R.failure_count reader.old < R.failure_count reader.new → result ≡ Err ReplayFault.Read }
+    ensures failed_reads { R.failure_count reader.new ≡ failed_reads_with (R.failure_count reader.old) (fault_in result) }
     ensures write { IsErrOf result ReplayFault.Write → HasFailed (W.failure_count writer.old) (W.failure_count writer.new) }
     ensures write_failed { W.failure_count writer.old < W.failure_count writer.new → result ≡ Err ReplayFault.Write }
+    ensures failed_writes { W.failure_count writer.new ≡ failed_writes_with (W.failure_count writer.old) (fault_in result) }
     ensures reads { (R.reads_made reader.new).count ≤ (R.reads_made reader.old).count + (longest_stream + 1) }
 {
     let replayer = Replayer {
@@ -80,12 +82,15 @@ fn read_all<R: Source, W: Sink, C: CellSource>(
     replayer: &Replayer<C>,
 ) -> Result<ReplayState, ReplayFault>
     ensures run { Ran (is_read_fault_of result) (R.unread reader.old) (R.unread reader.new) (W.written writer.old) (W.written writer.new)
-        (HasRead (C.cell_of replayer.now.cells.now) replayer.now.form replayer.now.profile (R.reads_made reader.new) result) }
+        (HasRead (C.cell_of replayer.now.cells.now) replayer.now.form replayer.now.profile
+        (R.reads_made reader.old) (R.reads_made reader.new) result) }
     ensures ended { OnOk result (IsTrue (R.has_ended reader.new) × IsAtEnd (R.unread reader.new)) }
     ensures read { IsErrOf result ReplayFault.Read → HasFailed (R.failure_count reader.old) (R.failure_count reader.new) }
     ensures read_failed { R.failure_count reader.old < R.failure_count reader.new → result ≡ Err ReplayFault.Read }
+    ensures failed_reads { R.failure_count reader.new ≡ failed_reads_with (R.failure_count reader.old) (fault_in result) }
     ensures write { IsErrOf result ReplayFault.Write → HasFailed (W.failure_count writer.old) (W.failure_count writer.new) }
     ensures write_failed { W.failure_count writer.old < W.failure_count writer.new → result ≡ Err ReplayFault.Write }
+    ensures failed_writes { W.failure_count writer.new ≡ failed_writes_with (W.failure_count writer.old) (fault_in result) }
     ensures none_failed { OnOk result (W.failure_count writer.new ≡ W.failure_count writer.old) }
     ensures reads { (R.reads_made reader.new).count ≤ (R.reads_made reader.old).count + (longest_stream + 1) }
 {
@@ -121,6 +126,7 @@ fn take_all<W: Sink, C: CellSource>(
     ensures only { IfErr result (λ fault. (fault ≡ ReplayFault.Memory) ⊎ (fault ≡ ReplayFault.Write)) }
     ensures write { IsErrOf result ReplayFault.Write → HasFailed (W.failure_count writer.old) (W.failure_count writer.new) }
     ensures write_failed { W.failure_count writer.old < W.failure_count writer.new → result ≡ Err ReplayFault.Write }
+    ensures failed_writes { W.failure_count writer.new ≡ failed_writes_with (W.failure_count writer.old) (fault_in result) }
     ensures none_failed { OnOk result (W.failure_count writer.new ≡ W.failure_count writer.old) }
 {
     for byte in bytes {
@@ -144,6 +150,7 @@ fn take<W: Sink, C: CellSource>(
     ensures only { IfErr result (λ fault. (fault ≡ ReplayFault.Memory) ⊎ (fault ≡ ReplayFault.Write)) }
     ensures write { IsErrOf result ReplayFault.Write → HasFailed (W.failure_count writer.old) (W.failure_count writer.new) }
     ensures write_failed { W.failure_count writer.old < W.failure_count writer.new → result ≡ Err ReplayFault.Write }
+    ensures failed_writes { W.failure_count writer.new ≡ failed_writes_with (W.failure_count writer.old) (fault_in result) }
     ensures none_failed { OnOk result (W.failure_count writer.new ≡ W.failure_count writer.old) }
 {
     if byte != b'\n' {
@@ -166,6 +173,7 @@ fn finish<W: Sink, C: CellSource>(
     ensures only { IfErr result (λ fault. (fault ≡ ReplayFault.Memory) ⊎ (fault ≡ ReplayFault.Write)) }
     ensures write { IsErrOf result ReplayFault.Write → HasFailed (W.failure_count writer.old) (W.failure_count writer.new) }
     ensures write_failed { W.failure_count writer.old < W.failure_count writer.new → result ≡ Err ReplayFault.Write }
+    ensures failed_writes { W.failure_count writer.new ≡ failed_writes_with (W.failure_count writer.old) (fault_in result) }
     ensures none_failed { OnOk result (W.failure_count writer.new ≡ W.failure_count writer.old) }
 {
     let mut progress = progress;
@@ -183,6 +191,7 @@ fn put<W: Sink>(writer: &mut W, bytes: &[u8]) -> Result<(), ReplayFault>
     ensures only { IfErr result (λ fault. fault ≡ ReplayFault.Write) }
     ensures write { IsErrOf result ReplayFault.Write → HasFailed (W.failure_count writer.old) (W.failure_count writer.new) }
     ensures write_failed { W.failure_count writer.old < W.failure_count writer.new → result ≡ Err ReplayFault.Write }
+    ensures failed_writes { W.failure_count writer.new ≡ failed_writes_with (W.failure_count writer.old) (fault_in result) }
     ensures none_failed { OnOk result (W.failure_count writer.new ≡ W.failure_count writer.old) }
 {
     match write_all(writer, bytes) {

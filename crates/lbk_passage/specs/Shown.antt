@@ -13,3 +13,8 @@ pub record HasRoom {C : Type 0} {bound : _} (s : Segmenter C bound) (limit : ℕ
   pub text : string_capacity s.paragraph.text ≡ limit
   pub segments : vec_capacity s.segments ≡ 0
   pub pieces : vec_capacity s.pieces ≡ 0
+
+-- the lists of segments and of pieces stay as they were, and so does the memory that they have
+pub record KeepsLists {C : Type 0} {bound : _} (old new : Segmenter C bound) : Type 0 where
+  pub segments : new.segments ≡ old.segments
+  pub pieces : new.pieces ≡ old.pieces

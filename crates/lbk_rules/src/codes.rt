@@ -66,6 +66,7 @@ impl Rule {
 /// The number of a verdict among all verdicts: 38 times the number of its kind, and the place of its rule among the rules.
 pub fn code_of(verdict: Verdict) -> u16
     ensures verdict { verdict_coded result ≡ verdict }
+    ensures few { result < VERDICTS }
     ensures coded { IsCode result }
 {
     RULES * number_of_kind(verdict.kind) + place_of_rule(verdict.rule)

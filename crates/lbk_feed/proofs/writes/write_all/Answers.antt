@@ -8,5 +8,6 @@ loop-done-preserved g c =
     record {
       within = omega arith;
       written = appended_more _ _ _ c.args.bytes.now c.loop-done.done c.in_ok-done.field-0 within c.loop-done.invariant.written c.in_ok-done.ensures.bytes;
+      nothing = λ none. absurd (omega (arith, c.loop-done-test.true));
       none_failed = c.in_ok-done.ensures.failures ∙ c.loop-done.invariant.none_failed;
     }

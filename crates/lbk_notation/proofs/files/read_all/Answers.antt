@@ -23,9 +23,9 @@ returns-in_err-take_all-clause-run g c =
     let size : length (take counted buf) ≡ counted = length-take-le counted buf (omega arith) in
     rw (p.1, p.2)
     (Ran-stopped _ _ _ c.loop-count.progress c.take_all.new.progress (take count buf) (take counted buf) (drop counted (take count buf))
-    _ _ _ _ _ _ c.in_err-take_all.field-0.0 _ c.loop-count.invariant.reads c.in-Ok.ensures.bytes.0 c.in_err-take_all.ensures.uses
+    _ _ _ _ _ _ c.in_err-take_all.field-0.0 _ _ c.loop-count.invariant.reads c.in-Ok.ensures.bytes.0 c.in_err-take_all.ensures.uses
     (front-split counted count buf below) (omega (arith, c.min-counted.ensures, c.room.ensures)) c.in_err-take_all.ensures.only
-    (length-take-le count buf within ∙ sym c.in-Ok.ensures.gave))
+    (length-take-le count buf within ∙ sym c.in-Ok.ensures.gave) (omega (arith, c.in-Ok.ensures.reads, c.loop-count.invariant.few)))
 
 pub returns-then-counted-count-clause-run : goal.returns-then-counted-count-clause-run
 returns-then-counted-count-clause-run g c =
@@ -36,9 +36,10 @@ returns-then-counted-count-clause-run g c =
     let past : counted < count = c.if-counted-count.true in
     let size : length (take counted buf) ≡ counted = length-take-le counted buf (omega arith) in
     Ran-long _ _ _ c.loop-count.progress c.take_all.new.progress (take count buf) (take counted buf) (drop counted (take count buf))
-    _ _ _ _ _ _ c.in_ok-take_all.field-0 _ c.loop-count.invariant.reads c.in-Ok.ensures.bytes.0 c.in_ok-take_all.ensures.uses
+    _ _ _ _ _ _ c.in_ok-take_all.field-0 _ _ c.loop-count.invariant.reads c.in-Ok.ensures.bytes.0 c.in_ok-take_all.ensures.uses
     (front-split counted count buf (omega arith)) (length-past counted count buf past within)
     (omega (arith, c.min-counted.ensures, c.room.ensures)) (length-take-le count buf within ∙ sym c.in-Ok.ensures.gave)
+    (omega (arith, c.in-Ok.ensures.reads, c.loop-count.invariant.few))
 
 pub loop-count-preserved : goal.loop-count-preserved
 loop-count-preserved g c =
@@ -59,4 +60,5 @@ loop-count-preserved g c =
 
 pub returns-in_default-clause-run : goal.returns-in_default-clause-run
 returns-in_default-clause-run g c =
-    Ran-failed _ _ _ c.loop-count.progress _ _ _ _ _ _ c.loop-count.invariant.reads c.in_default.ensures.bytes c.loop-count.progress.within c.in_default.ensures.gave
+    Ran-failed _ _ _ c.loop-count.progress _ _ _ _ _ _ _ c.loop-count.invariant.reads c.in_default.ensures.bytes c.loop-count.progress.within
+    c.in_default.ensures.gave (omega (arith, c.in_default.ensures.reads, c.loop-count.invariant.few))
