@@ -42,14 +42,14 @@ took_fault X s t u v e1 e2 r1 r2 fault.TextTooLong a = kept_took _ _ _ a.grown u
 took_fault X s t u v e1 e2 r1 r2 (fault.ParagraphTooLong start) a = kept_took _ _ _ a.grown u v a.ahead_kept
 took_fault X s t u v e1 e2 r1 r2 fault.Spent a = kept_took _ _ _ a.grown u v a.ahead_kept
 
--- what a run comes to that ends with an answer, where `unread` is left: over the whole text, or over a range up to a byte where
--- it may end so
-pub record Ends {X : Type 0} (e : Engine) (from to : Reads) (has_ended : Bool) (unread : Option (List ℕ)) (May : ℕ → Type 0) (answer : Result X CmdFault)
+-- what a run comes to that ends with an answer, where `unread` is left: over the whole text, or over a range from one byte up to
+-- another where it may end so
+pub record Ends {X : Type 0} (e : Engine) (from to : Reads) (has_ended : Bool) (unread : Option (List ℕ)) (May : ℕ → ℕ → Type 0) (answer : Result X CmdFault)
     (bytes out : List ℕ) : Type 0 where
   pub comes : ComesTo e has_ended answer bytes out
-  pub in_range : (end : ℕ) → May end → RangeComesTo e end has_ended (IsTrue has_ended × IsAtEnd unread) answer bytes out
+  pub in_range : (begin end : ℕ) → May begin end → RangeComesTo e begin end has_ended (IsTrue has_ended × IsAtEnd unread) answer bytes out
   pub keeps_up : KeepsUp e from to bytes out
-  pub before : (end : ℕ) → May end → ReadsBefore end keeps_up
+  pub before : (begin end : ℕ) → May begin end → ReadsBefore end keeps_up
 
 module _ (e : Engine) (u0 w0 : Option (List ℕ)) (reads0 : Reads) where
   -- what the calls so far took from the reader, and what was written
@@ -125,6 +125,10 @@ module _ (e : Engine) (u0 w0 : Option (List ℕ)) (reads0 : Reads) where
     abbrev pub MayEnd : ℕ → Type 0
     MayEnd to = (s.start < to) × ReadsBefore to g.keeps_up
 
+    -- and from byte `from` on, where it may begin so
+    abbrev pub MayStop : (ℕ → Type 0) → ℕ → ℕ → Type 0
+    MayStop Late from to = MayEnd to × Late from
+
     module _ (p : Passage) (a : AfterNext s t u v e1 e2 r1 r2 (Ok (Some p))) where
       took_now : Consumes u0 v (g.bytes ++ a.got)
       took_now = Consumes-trans u0 u v g.bytes a.got g.took (kept_took _ _ _ a.grown u v a.ahead_kept)
@@ -180,9 +184,9 @@ module _ (e : Engine) (u0 w0 : Option (List ℕ)) (reads0 : Reads) where
         unfolding Going-next
         before-next w' wrote = before-given w' (subst (Appends w w') line_is wrote)
 
-        pub ran_write : (X : Type 0) (w' : Option (List ℕ)) (n : ℕ) → Appends w w' (take n line)
-            → Ran false u0 v w0 w' (Ends {X = X} e reads0 r2 e2 v MayEnd (Err cmd.Write))
-        ran_write X w' n wrote =
+        pub ran_write : (X : Type 0) (Late : ℕ → Type 0) (w' : Option (List ℕ)) (n : ℕ) → Appends w w' (take n line)
+            → Ran false u0 v w0 w' (Ends {X = X} e reads0 r2 e2 v (MayStop Late) (Err cmd.Write))
+        ran_write X Late w' n wrote =
             let put = take n line in
             let kept = keeps_now (Ok (Some p)) a in
             let comes = stopped e t (g.bytes ++ a.got) (g.out ++ line) standing_now e2 (notices (Ok (Some p)) a) (g.out ++ put) (length g.out + n)
@@ -194,15 +198,15 @@ module _ (e : Engine) (u0 w0 : Option (List ℕ)) (reads0 : Reads) where
               put = Appends-trans w0 w w' g.out put g.put wrote;
               so = record {
                 comes = comes;
-                in_range = λ to may. comes;
+                in_range = λ from to may. comes;
                 keeps_up = keeps_written e reads0 r2 (g.bytes ++ a.got) g.out put kept;
-                before = λ to may. before_written e reads0 r2 (g.bytes ++ a.got) g.out put kept to (before_now (Ok (Some p)) a to may.0 may.1);
+                before = λ from to may. before_written e reads0 r2 (g.bytes ++ a.got) g.out put kept to (before_now (Ok (Some p)) a to may.0.0 may.0.1);
               };
             }
 
       -- memory could not grow for its lines
-      pub ran_memory : (X : Type 0) → Ran false u0 v w0 w (Ends {X = X} e reads0 r2 e2 v MayEnd (Err cmd.Memory))
-      ran_memory X =
+      pub ran_memory : (X : Type 0) (Late : ℕ → Type 0) → Ran false u0 v w0 w (Ends {X = X} e reads0 r2 e2 v (MayStop Late) (Err cmd.Memory))
+      ran_memory X Late =
           let line = e.lines s.start (given_now e s g.bytes g.out g.standing t u v e1 e2 r1 r2 p a) in
           let comes = stopped e t (g.bytes ++ a.got) (g.out ++ line) (Standing-next e s g.bytes g.out g.standing t u v e1 e2 r1 r2 p a) e2 (notices (Ok (Some p)) a)
           g.out (length g.out) (sym (take-append_seam g.out line)) in
@@ -213,9 +217,9 @@ module _ (e : Engine) (u0 w0 : Option (List ℕ)) (reads0 : Reads) where
             put = g.put;
             so = record {
               comes = comes;
-              in_range = λ to may. comes;
+              in_range = λ from to may. comes;
               keeps_up = keeps_now (Ok (Some p)) a;
-              before = λ to may. before_now (Ok (Some p)) a to may.0 may.1;
+              before = λ from to may. before_now (Ok (Some p)) a to may.0.0 may.0.1;
             };
           }
 
@@ -223,8 +227,8 @@ module _ (e : Engine) (u0 w0 : Option (List ℕ)) (reads0 : Reads) where
     at_the_end a = let done : IsDone t = a.answer in a.agrees g.agrees done.at_end
 
     -- the text was read to its end
-    pub ran_whole : {X : Type 0} (x : X) → AfterNext s t u v e1 e2 r1 r2 (Ok None) → Ran false u0 v w0 w (Ends e reads0 r2 e2 v MayEnd (Ok x))
-    ran_whole x a =
+    pub ran_whole : {X : Type 0} (Late : ℕ → Type 0) (x : X) → AfterNext s t u v e1 e2 r1 r2 (Ok None) → Ran false u0 v w0 w (Ends e reads0 r2 e2 v (MayStop Late) (Ok x))
+    ran_whole Late x a =
         let whole = run_whole e s g.bytes g.out g.standing t u v e1 e2 r1 r2 a in
         record {
           read = g.bytes ++ a.got;
@@ -233,30 +237,32 @@ module _ (e : Engine) (u0 w0 : Option (List ℕ)) (reads0 : Reads) where
           put = g.put;
           so = record {
             comes = whole;
-            in_range = λ to may. inl (at_the_end a, whole);
+            in_range = λ from to may. inl (at_the_end a, whole);
             keeps_up = keeps_now (Ok None) a;
-            before = λ to may. before_now (Ok None) a to may.0 may.1;
+            before = λ from to may. before_now (Ok None) a to may.0.0 may.0.1;
           };
         }
 
     -- the segmenter answered a fault
-    pub ran_fault : (X : Type 0) (why : PassageFault) → AfterNext s t u v e1 e2 r1 r2 (Err why)
-        → Ran (is_failed_read {X = X} (Err (cmd.Passage why))) u0 v w0 w (Ends {X = X} e reads0 r2 e2 v MayEnd (Err (cmd.Passage why)))
-    ran_fault X why a = record {
+    pub ran_fault : (X : Type 0) (Late : ℕ → Type 0) (why : PassageFault) → ((from : ℕ) → Late from → why ≡ fault.Memory → from ≤ s.start)
+        → AfterNext s t u v e1 e2 r1 r2 (Err why)
+        → Ran (is_failed_read {X = X} (Err (cmd.Passage why))) u0 v w0 w (Ends {X = X} e reads0 r2 e2 v (MayStop Late) (Err (cmd.Passage why)))
+    ran_fault X Late why is_late a = record {
       read = g.bytes ++ a.got;
       out = g.out;
       took = Took-then (is_failed_read {X = X} (Err (cmd.Passage why))) u0 u v g.bytes a.got g.took (took_fault X s t u v e1 e2 r1 r2 why a);
       put = g.put;
       so = record {
         comes = run_fault e s g.bytes g.out g.standing t u v e1 e2 r1 r2 X why a (notices (Err why) a);
-        in_range = λ to may. range_fault e s g.bytes g.out g.standing t u v e1 e2 r1 r2 X to (IsTrue e2 × IsAtEnd v) why a (notices (Err why) a) may.0;
+        in_range = λ from to may. range_fault e s g.bytes g.out g.standing t u v e1 e2 r1 r2 X from to (IsTrue e2 × IsAtEnd v) why a (notices (Err why) a)
+            (is_late from may.1) may.0.0;
         keeps_up = keeps_now (Err why) a;
-        before = λ to may. before_now (Err why) a to may.0 may.1;
+        before = λ from to may. before_now (Err why) a to may.0.0 may.0.1;
       };
     }
 
   -- nothing was read, where the segmenter could not be made
-  ran_none : (X : Type 0) (has_ended : Bool) → Ran false u0 u0 w0 w0 (Ends {X = X} e reads0 reads0 has_ended u0 (λ end. Unit {0}) (Err (cmd.Passage fault.Memory)))
+  ran_none : (X : Type 0) (has_ended : Bool) → Ran false u0 u0 w0 w0 (Ends {X = X} e reads0 reads0 has_ended u0 (λ begin end. Unit {0}) (Err (cmd.Passage fault.Memory)))
   ran_none X has_ended = record {
     read = [];
     out = [];
@@ -264,13 +270,13 @@ module _ (e : Engine) (u0 w0 : Option (List ℕ)) (reads0 : Reads) where
     put = Appends-nil w0;
     so = record {
       comes = inl (refl, refl);
-      in_range = λ end may. inl (refl, refl);
+      in_range = λ begin end may. inl (refl, refl);
       keeps_up = keeps_none e reads0;
-      before = λ end may. before_none e reads0 end;
+      before = λ begin end may. before_none e reads0 end;
     };
   }
 
-  ran_limit : (X : Type 0) (has_ended : Bool) → Ran false u0 u0 w0 w0 (Ends {X = X} e reads0 reads0 has_ended u0 (λ end. Unit {0}) (Err (cmd.Passage fault.Limit)))
+  ran_limit : (X : Type 0) (has_ended : Bool) → Ran false u0 u0 w0 w0 (Ends {X = X} e reads0 reads0 has_ended u0 (λ begin end. Unit {0}) (Err (cmd.Passage fault.Limit)))
   ran_limit X has_ended = record {
     read = [];
     out = [];
@@ -278,9 +284,9 @@ module _ (e : Engine) (u0 w0 : Option (List ℕ)) (reads0 : Reads) where
     put = Appends-nil w0;
     so = record {
       comes = (refl, refl);
-      in_range = λ end may. (refl, refl);
+      in_range = λ begin end may. (refl, refl);
       keeps_up = keeps_none e reads0;
-      before = λ end may. before_none e reads0 end;
+      before = λ begin end may. before_none e reads0 end;
     };
   }
 
@@ -289,47 +295,52 @@ module _ (e : Engine) (u0 w0 : Option (List ℕ)) (reads0 : Reads) where
 module _ (e : Engine) (u0 w0 : Option (List ℕ)) (reads0 : Reads) (X : Type 0) (answer : Result X CmdFault) where
   -- the segmenter could not be made
   pub run_none : (why : PassageFault) (has_ended : Bool) → answer ≡ Err (cmd.Passage why) → (why ≡ fault.Limit) ⊎ (why ≡ fault.Memory)
-      → Ran (is_failed_read answer) u0 u0 w0 w0 (Ends e reads0 reads0 has_ended u0 (λ end. Unit {0}) answer)
+      → Ran (is_failed_read answer) u0 u0 w0 w0 (Ends e reads0 reads0 has_ended u0 (λ begin end. Unit {0}) answer)
   run_none why has_ended is one =
-      subst (λ r. Ran (is_failed_read r) u0 u0 w0 w0 (Ends e reads0 reads0 has_ended u0 (λ end. Unit {0}) r)) (sym is)
+      subst (λ r. Ran (is_failed_read r) u0 u0 w0 w0 (Ends e reads0 reads0 has_ended u0 (λ begin end. Unit {0}) r)) (sym is)
       (⊎_elim (λ limit. none limit (ran_limit e u0 w0 reads0 X has_ended)) (λ memory. none memory (ran_none e u0 w0 reads0 X has_ended)) one)
     where
       none : {known : PassageFault} → why ≡ known
-          → Ran (is_failed_read {X = X} (Err (cmd.Passage known))) u0 u0 w0 w0 (Ends {X = X} e reads0 reads0 has_ended u0 (λ end. Unit {0}) (Err (cmd.Passage known)))
-          → Ran (is_failed_read {X = X} (Err (cmd.Passage why))) u0 u0 w0 w0 (Ends {X = X} e reads0 reads0 has_ended u0 (λ end. Unit {0}) (Err (cmd.Passage why)))
+          → Ran (is_failed_read {X = X} (Err (cmd.Passage known))) u0 u0 w0 w0 (Ends {X = X} e reads0 reads0 has_ended u0 (λ begin end. Unit {0}) (Err (cmd.Passage known)))
+          → Ran (is_failed_read {X = X} (Err (cmd.Passage why))) u0 u0 w0 w0 (Ends {X = X} e reads0 reads0 has_ended u0 (λ begin end. Unit {0}) (Err (cmd.Passage why)))
       none same ran =
-          subst (λ f. Ran (is_failed_read {X = X} (Err (cmd.Passage f))) u0 u0 w0 w0 (Ends {X = X} e reads0 reads0 has_ended u0 (λ end. Unit {0}) (Err (cmd.Passage f)))) (sym same) ran
+          subst (λ f. Ran (is_failed_read {X = X} (Err (cmd.Passage f))) u0 u0 w0 w0 (Ends {X = X} e reads0 reads0 has_ended u0 (λ begin end. Unit {0}) (Err (cmd.Passage f)))) (sym same) ran
 
   module _ (s t : State) (u v w : Option (List ℕ)) (e1 e2 : Bool) (r1 r2 : Reads) (r : Result (Option Passage) PassageFault)
       (g : Going e u0 w0 reads0 s u w e1 r1) (a : AfterNext s t u v e1 e2 r1 r2 r) where
+    -- where memory could not grow for a passage, this one begins in the range
+    abbrev pub IsLate : ℕ → Type 0
+    IsLate from = r ≡ Err fault.Memory → from ≤ s.start
+
     -- a run that ends after the call
     abbrev pub EndsSo : Option (List ℕ) → Type 0
-    EndsSo w' = Ran (is_failed_read answer) u0 v w0 w' (Ends e reads0 r2 e2 v (MayEnd e u0 w0 reads0 s t u v w e1 e2 r1 r2 g) answer)
+    EndsSo w' = Ran (is_failed_read answer) u0 v w0 w' (Ends e reads0 r2 e2 v (MayStop e u0 w0 reads0 s t u v w e1 e2 r1 r2 g IsLate) answer)
 
     ended_so : (w' : Option (List ℕ)) (known : Result X CmdFault) → answer ≡ known
-        → Ran (is_failed_read known) u0 v w0 w' (Ends e reads0 r2 e2 v (MayEnd e u0 w0 reads0 s t u v w e1 e2 r1 r2 g) known) → EndsSo w'
+        → Ran (is_failed_read known) u0 v w0 w' (Ends e reads0 r2 e2 v (MayStop e u0 w0 reads0 s t u v w e1 e2 r1 r2 g IsLate) known) → EndsSo w'
     ended_so w' known is =
-        subst (λ x. Ran (is_failed_read x) u0 v w0 w' (Ends e reads0 r2 e2 v (MayEnd e u0 w0 reads0 s t u v w e1 e2 r1 r2 g) x)) (sym is)
+        subst (λ x. Ran (is_failed_read x) u0 v w0 w' (Ends e reads0 r2 e2 v (MayStop e u0 w0 reads0 s t u v w e1 e2 r1 r2 g IsLate) x)) (sym is)
 
     pub run_stopped : (why : PassageFault) → r ≡ Err why → answer ≡ Err (cmd.Passage why) → EndsSo w
     run_stopped why was is =
-        ended_so w (Err (cmd.Passage why)) is (ran_fault e u0 w0 reads0 s t u v w e1 e2 r1 r2 g X why (subst (AfterNext s t u v e1 e2 r1 r2) was a))
+        ended_so w (Err (cmd.Passage why)) is (ran_fault e u0 w0 reads0 s t u v w e1 e2 r1 r2 g X IsLate why (λ from late same. late (was ∙ ap (λ f. Err f) same))
+        (subst (AfterNext s t u v e1 e2 r1 r2) was a))
 
     pub run_ended : (x : X) → r ≡ Ok None → answer ≡ Ok x → EndsSo w
-    run_ended x was is = ended_so w (Ok x) is (ran_whole e u0 w0 reads0 s t u v w e1 e2 r1 r2 g x (subst (AfterNext s t u v e1 e2 r1 r2) was a))
+    run_ended x was is = ended_so w (Ok x) is (ran_whole e u0 w0 reads0 s t u v w e1 e2 r1 r2 g IsLate x (subst (AfterNext s t u v e1 e2 r1 r2) was a))
 
     module _ (p : Passage) (was : r ≡ Ok (Some p)) where
       given : AfterNext s t u v e1 e2 r1 r2 (Ok (Some p))
       given = subst (AfterNext s t u v e1 e2 r1 r2) was a
 
       pub run_out_of_memory : answer ≡ Err cmd.Memory → EndsSo w
-      run_out_of_memory is = ended_so w (Err cmd.Memory) is (ran_memory e u0 w0 reads0 s t u v w e1 e2 r1 r2 g p given X)
+      run_out_of_memory is = ended_so w (Err cmd.Memory) is (ran_memory e u0 w0 reads0 s t u v w e1 e2 r1 r2 g p given X IsLate)
 
       module _ (line : List ℕ) (lines : (ms : List Marked) → s.cell ≡ e.cell → s.profile ≡ e.profile → IsPassage s ms p → line ≡ e.lines p.start ms)
           (w' : Option (List ℕ)) where
         pub run_unwritten : answer ≡ Err cmd.Write → (n : ℕ) → Appends w w' (take n line) → EndsSo w'
         run_unwritten is n wrote =
-            ended_so w' (Err cmd.Write) is (ran_write e u0 w0 reads0 s t u v w e1 e2 r1 r2 g p given line lines X w' n wrote)
+            ended_so w' (Err cmd.Write) is (ran_write e u0 w0 reads0 s t u v w e1 e2 r1 r2 g p given line lines X IsLate w' n wrote)
 
         pub run_goes_on : Appends w w' line → Going e u0 w0 reads0 t v w' e2 r2
         run_goes_on wrote = Going-next e u0 w0 reads0 s t u v w e1 e2 r1 r2 g p given line lines w' wrote
@@ -342,7 +353,7 @@ module _ (e : Engine) (u0 w0 : Option (List ℕ)) (reads0 : Reads) (X : Type 0) 
         )
 
 -- over the whole text
-pub whole_run : {X : Type 0} {failed : Bool} {u v w w' : Option (List ℕ)} {e : Engine} {from to : Reads} {has_ended : Bool} {unread : Option (List ℕ)} {May : ℕ → Type 0}
+pub whole_run : {X : Type 0} {failed : Bool} {u v w w' : Option (List ℕ)} {e : Engine} {from to : Reads} {has_ended : Bool} {unread : Option (List ℕ)} {May : ℕ → ℕ → Type 0}
     {answer : Result X CmdFault} → Ran failed u v w w' (Ends e from to has_ended unread May answer) → Ran failed u v w w' (IsRun e from to has_ended answer)
 whole_run ran = record {
   read = ran.read;
@@ -353,13 +364,13 @@ whole_run ran = record {
 }
 
 -- over a range
-pub range_run : {X : Type 0} {failed : Bool} {u v w w' : Option (List ℕ)} {e : Engine} {from to : Reads} {has_ended : Bool} {unread : Option (List ℕ)} {May : ℕ → Type 0}
-    {answer : Result X CmdFault} → Ran failed u v w w' (Ends e from to has_ended unread May answer) → (end : ℕ) → May end
-    → Ran failed u v w w' (IsRangeRun e end from to has_ended (IsTrue has_ended × IsAtEnd unread) answer)
-range_run ran end may = record {
+pub range_run : {X : Type 0} {failed : Bool} {u v w w' : Option (List ℕ)} {e : Engine} {from to : Reads} {has_ended : Bool} {unread : Option (List ℕ)} {May : ℕ → ℕ → Type 0}
+    {answer : Result X CmdFault} → Ran failed u v w w' (Ends e from to has_ended unread May answer) → (begin end : ℕ) → May begin end
+    → Ran failed u v w w' (IsRangeRun e begin end from to has_ended (IsTrue has_ended × IsAtEnd unread) answer)
+range_run ran begin end may = record {
   read = ran.read;
   out = ran.out;
   took = ran.took;
   put = ran.put;
-  so = record { comes = ran.so.in_range end may; keeps_up = ran.so.keeps_up; no_further = ran.so.before end may };
+  so = record { comes = ran.so.in_range begin end may; keeps_up = ran.so.keeps_up; no_further = ran.so.before begin end may };
 }

@@ -170,7 +170,7 @@ module _ (part : Part) (e : Engine) (bytes out : List ℕ) (passed : HasPassed (
 
 -- what is known of a run over a reader that tells its bytes
 pub known_range : (part : Part) (e : Engine) (reads reads' : Reads) (has_ended : Bool) (answer : Result (Unit {0}) CmdFault) (u u' w w' : Option (List ℕ))
-    → Ran (is_failed_read answer) u u' w w' (IsRangeRun (within part e) part.to reads reads' has_ended (IsTrue has_ended × IsAtEnd u') answer)
+    → Ran (is_failed_read answer) u u' w w' (IsRangeRun (within part e) part.from part.to reads reads' has_ended (IsTrue has_ended × IsAtEnd u') answer)
     → OnOk answer (IfSome u (λ input. IsUtf8 input → Appends w w' (text_within e.lines part.from part.to (passages_by e (chars input)))))
 known_range part e reads reads' has_ended (Err why) u u' w w' ran = tt
 known_range part e reads reads' has_ended (Ok x) None u' w w' ran = tt
@@ -191,10 +191,10 @@ abbrev pub engine_in : Part → Lines → (ℕ → Cell) → Profile → ℕ →
 engine_in part lines cell profile limit = within part (engine_of lines cell profile limit)
 
 -- a run that stops where the passages given reach the end of its range
-pub range_passed : (e : Engine) (u0 w0 : Option (List ℕ)) (reads0 : Reads) (s : State) (u w : Option (List ℕ)) (has_ended : Bool) (reads : Reads) (to : ℕ)
+pub range_passed : (e : Engine) (u0 w0 : Option (List ℕ)) (reads0 : Reads) (s : State) (u w : Option (List ℕ)) (has_ended : Bool) (reads : Reads) (from to : ℕ)
     → (g : Going e u0 w0 reads0 s u w has_ended reads) → ReadsBefore to g.keeps_up → to ≤ s.start
-    → Ran false u0 u w0 w (IsRangeRun {X = Unit {0}} e to reads0 reads has_ended (IsTrue has_ended × IsAtEnd u) (Ok (tt {0})))
-range_passed e u0 w0 reads0 s u w has_ended reads to g before past = record {
+    → Ran false u0 u w0 w (IsRangeRun {X = Unit {0}} e from to reads0 reads has_ended (IsTrue has_ended × IsAtEnd u) (Ok (tt {0})))
+range_passed e u0 w0 reads0 s u w has_ended reads from to g before past = record {
   read = g.bytes;
   out = g.out;
   took = g.took;

@@ -2,6 +2,7 @@
 use Rattle.std.proofs.Common.{◌≡◌, ℕ, true, false, suc, List, [], ◌∷◌, Option, Result, Err, map, length, inr, subst, refl, true≢false, eqb-true, arith}
 use Rattle.std.specs.Prelude.{◌==◌}
 use Rattle.std.specs.Borrow.{Bor}
+use Rattle.lbk_feed.specs.declared.traits.Source.{Ghosts as SourceMembers}
 use Rattle.lbk_steps.specs.CellPages.{page_cell}
 use Rattle.lbk_values.specs.declared.profile.Profile.{Profile}
 use Rattle.lbk_args.specs.declared.order.Engine.{Engine}
@@ -15,17 +16,17 @@ use Rattle.lbk_cmd.specs.Operands.{Reads, Standing}
 use Rattle.lbk_cmd.specs.Acts.{RunsOver, Performs}
 
 -- an engine that runs on what is ready for a task performs it
-pub ready_performs : (file text : List ℕ → Option (Option (List ℕ))) (task : Task) (counts counts' : LoadCounts) (ready : Ready)
+pub ready_performs : {F : Type 0} (source : SourceMembers F) (file text : List ℕ → Option (Option (List ℕ))) (task : Task) (counts counts' : LoadCounts) (ready : Ready)
     (before after : Standing) → IsReadyFor file task ready
-    → Reads text (RunsOver ready.part ready.engine ready.profile (page_cell ready.cells)) (map (λ name. name.now) ready.texts.items) before after
-    → Performs file text task counts counts' before after
-ready_performs file text task counts counts' ready before after is reads = inr (
+    → Reads source text (RunsOver ready.part ready.engine ready.profile (page_cell ready.cells)) (map (λ name. name.now) ready.texts.items) before after
+    → Performs source file text task counts counts' before after
+ready_performs source file text task counts counts' ready before after is reads = inr (
   page_cell ready.cells,
   is.cells,
-  subst (λ (part : Option Part). Reads text (RunsOver part task.engine task.profile (page_cell ready.cells)) task.texts before after) is.part
-      (subst (λ (engine : Engine). Reads text (RunsOver ready.part engine task.profile (page_cell ready.cells)) task.texts before after) is.engine
-      (subst (λ (profile : Profile). Reads text (RunsOver ready.part ready.engine profile (page_cell ready.cells)) task.texts before after) is.profile
-      (subst (λ (names : List (List ℕ)). Reads text (RunsOver ready.part ready.engine ready.profile (page_cell ready.cells)) names before after) is.texts
+  subst (λ (part : Option Part). Reads source text (RunsOver part task.engine task.profile (page_cell ready.cells)) task.texts before after) is.part
+      (subst (λ (engine : Engine). Reads source text (RunsOver ready.part engine task.profile (page_cell ready.cells)) task.texts before after) is.engine
+      (subst (λ (profile : Profile). Reads source text (RunsOver ready.part ready.engine profile (page_cell ready.cells)) task.texts before after) is.profile
+      (subst (λ (names : List (List ℕ)). Reads source text (RunsOver ready.part ready.engine ready.profile (page_cell ready.cells)) names before after) is.texts
       reads))),
 )
 

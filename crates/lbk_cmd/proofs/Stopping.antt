@@ -433,16 +433,16 @@ module _ (e : Engine) where
       run_fault X fault.Spent a notices = absurd (false≢true (sym st.unspent ∙ a.answer))
 
       -- in a run over a range: it is one of the passage that begins where the segmenter stands
-      pub range_fault : (X : Type 0) (to : ℕ) (AtEnd : Type 0) (why : PassageFault) (a : AfterNext s t u v e1 e2 r1 r2 (Err why)) → (t.is_ended ≡ true → e2 ≡ true)
-          → s.start < to → RangeComesTo {X = X} e to e2 AtEnd (Err (Passage why)) (bytes ++ a.got) out
+      pub range_fault : (X : Type 0) (from to : ℕ) (AtEnd : Type 0) (why : PassageFault) (a : AfterNext s t u v e1 e2 r1 r2 (Err why)) → (t.is_ended ≡ true → e2 ≡ true)
+          → (why ≡ fault.Memory → from ≤ s.start) → s.start < to → RangeComesTo {X = X} e from to e2 AtEnd (Err (Passage why)) (bytes ++ a.got) out
       unfolding run_fault settled settled_by
-      range_fault X to AtEnd fault.Limit a notices early = absurd a.answer.lies
-      range_fault X to AtEnd fault.Memory a notices early =
-          let held = run_memory a notices in inr (record { held_up = held.0; begins = omega (arith, held.1, early) })
-      range_fault X to AtEnd fault.Read a notices early = record { refused = run_fault X fault.Read a notices; begins = omega (arith, behind_given, early) }
-      range_fault X to AtEnd (fault.NotUtf8 at) a notices early =
+      range_fault X from to AtEnd fault.Limit a notices late early = absurd a.answer.lies
+      range_fault X from to AtEnd fault.Memory a notices late early =
+          let held = run_memory a notices in inr (record { held_up = held.0; late = omega (arith, held.1, late refl); begins = omega (arith, held.1, early) })
+      range_fault X from to AtEnd fault.Read a notices late early = record { refused = run_fault X fault.Read a notices; begins = omega (arith, behind_given, early) }
+      range_fault X from to AtEnd (fault.NotUtf8 at) a notices late early =
           record { refused = run_fault X (fault.NotUtf8 at) a notices; begins = omega (arith, behind_given, early) }
-      range_fault X to AtEnd fault.TextTooLong a notices early = record { refused = run_fault X fault.TextTooLong a notices; begins = omega (arith, behind_given, early) }
-      range_fault X to AtEnd (fault.ParagraphTooLong start) a notices early =
+      range_fault X from to AtEnd fault.TextTooLong a notices late early = record { refused = run_fault X fault.TextTooLong a notices; begins = omega (arith, behind_given, early) }
+      range_fault X from to AtEnd (fault.ParagraphTooLong start) a notices late early =
           record { refused = run_fault X (fault.ParagraphTooLong start) a notices; begins = omega (arith, behind_given, early) }
-      range_fault X to AtEnd fault.Spent a notices early = absurd (false≢true (sym st.unspent ∙ a.answer))
+      range_fault X from to AtEnd fault.Spent a notices late early = absurd (false≢true (sym st.unspent ∙ a.answer))

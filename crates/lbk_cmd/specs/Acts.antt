@@ -3,11 +3,12 @@ use Rattle.std.specs.Prelude.{◌≡◌, ◌⊎◌, ◌+◌, ◌<◌, ◌≤◌,
 use Rattle.std.specs.Str.{chars}
 use Rattle.std.specs.Io.KnownBytes.{Appends, IsAtEnd}
 use Rattle.lbk_feed.specs.Runs.{HasFailed, Ran}
+use Rattle.lbk_feed.specs.declared.traits.Source.{Ghosts as SourceMembers}
 use Rattle.lbk_feed.specs.Text.{longest_text}
 use Rattle.lbk_passage.specs.Passages.{passages}
 use Rattle.lbk_passage.specs.State.{IsLimit}
 use Rattle.lbk_passage.specs.declared.faults.PassageFault.{PassageFault}
-use Rattle.lbk_notation.specs.Replay.{IsReplayRun, IsReplayed, is_read_fault}
+use Rattle.lbk_notation.specs.Replay.{IsReplayRun, IsReplayed, failed_reads_with, failed_writes_with, fault_in, is_read_fault}
 use Rattle.lbk_cmd.specs.Engines.{engine_of, lines_of, marking, segmenting, showing}
 use Rattle.lbk_cmd.specs.Run.{Engine as TextEngine, IsRun, is_failed_read}
 use Rattle.lbk_cmd.specs.Ranges.{RangeRuns}
@@ -68,12 +69,14 @@ pub record Replays (cell : ℕ → Cell) (form : Form) (profile : Profile) (befo
   pub replayed : IfOk answer (λ report. IfSome before.unread (λ input.
       IsReplayed cell form profile input report before.written after.written))
   pub run : Ran (is_read_fault answer) before.unread after.unread before.written after.written
-      (IsReplayRun cell form profile after.reads (IsTrue after.has_ended × IsAtEnd after.unread) answer)
+      (IsReplayRun cell form profile before.reads after.reads (IsTrue after.has_ended × IsAtEnd after.unread) answer)
   pub ended : OnOk answer (IsTrue after.has_ended × IsAtEnd after.unread)
   pub read : IsErrOf answer ReplayFault.Read → HasFailed before.failed_reads after.failed_reads
   pub read_failed : before.failed_reads < after.failed_reads → answer ≡ Err ReplayFault.Read
   pub write : IsErrOf answer ReplayFault.Write → HasFailed before.failed_writes after.failed_writes
   pub write_failed : before.failed_writes < after.failed_writes → answer ≡ Err ReplayFault.Write
+  pub failed_reads : after.failed_reads ≡ failed_reads_with before.failed_reads (fault_in answer)
+  pub failed_writes : after.failed_writes ≡ failed_writes_with before.failed_writes (fault_in answer)
   pub reads : after.reads.count ≤ before.reads.count + (longest_text + 1)
 
 -- `--kinds`
@@ -117,8 +120,9 @@ RunsOver (Some part) (Replay kinds) profile cell = EngineRuns (Replay kinds) pro
 
 -- a task: its files stop the run and no text is opened, or its engine runs with its option and profile on the cells of the
 -- files, over its texts, or over its range of each
-abbrev pub Performs : (List ℕ → Option (Option (List ℕ))) → (List ℕ → Option (Option (List ℕ))) → Task → LoadCounts → LoadCounts → Standing → Standing → Type 0
-Performs file text task counts counts' before after =
+abbrev pub Performs : {F : Type 0} → SourceMembers F → (List ℕ → Option (Option (List ℕ))) → (List ℕ → Option (Option (List ℕ))) → Task
+    → LoadCounts → LoadCounts → Standing → Standing → Type 0
+Performs source file text task counts counts' before after =
     (StopsBefore (IsStoppedAt file task counts counts') before.devices after.devices after.ending × (after.refused ≡ before.refused))
     ⊎ ((cell : ℕ → Cell) × AreCellsFrom (files_of file task.files) cell
-    × Reads text (RunsOver task.part task.engine task.profile cell) task.texts before after)
+    × Reads source text (RunsOver task.part task.engine task.profile cell) task.texts before after)

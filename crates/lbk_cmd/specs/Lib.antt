@@ -14,6 +14,7 @@ pub mod Headline
 pub mod Broken
 pub mod Owned
 pub mod Parts
+pub mod Message
 -- What only carries proofs.
 pub mod Deciding
 pub mod Signing

@@ -62,28 +62,29 @@ pub record IsRefusedBefore (e : Engine) (to : ℕ) (why : PassageFault) (ended :
   pub refused : IsRefused e why ended bytes out
   pub begins : next_start refused.settled < to
 
--- so does want of memory for one
-pub record IsHeldUpBefore (e : Engine) (to : ℕ) (ended : Bool) (bytes out : List ℕ) : Type 0 where
+-- want of memory comes of a passage that begins in the range: those before it are passed over, for which nothing grows
+pub record IsHeldUpWithin (e : Engine) (from to : ℕ) (ended : Bool) (bytes out : List ℕ) : Type 0 where
   pub held_up : IsHeldUp e ended bytes out
+  pub late : from ≤ next_start held_up.settled
   pub begins : next_start held_up.settled < to
 
 -- what was read and what was written, by the answer: as in a run over the whole text, except that no more has to be read once
 -- the range was passed, and that no passage behind it is refused. `ended`: a read has given no byte; `AtEnd`: the text was
 -- read to its end
-abbrev pub RangeComesTo : {X : Type 0} → Engine → ℕ → Bool → Type 0 → Result X CmdFault → List ℕ → List ℕ → Type 0
-RangeComesTo e to ended AtEnd (Ok x) bytes out = (AtEnd × IsWhole e bytes out) ⊎ HasPassed e to bytes out
-RangeComesTo e to ended AtEnd (Err (Passage passage.Limit)) bytes out = (bytes ≡ []) × (out ≡ [])
-RangeComesTo e to ended AtEnd (Err (Passage passage.Memory)) bytes out = ((bytes ≡ []) × (out ≡ [])) ⊎ IsHeldUpBefore e to ended bytes out
-RangeComesTo e to ended AtEnd (Err (Passage why)) bytes out = IsRefusedBefore e to why ended bytes out
-RangeComesTo {X} e to ended AtEnd (Err fault) bytes out = ComesTo {X = X} e ended (Err fault) bytes out
+abbrev pub RangeComesTo : {X : Type 0} → Engine → ℕ → ℕ → Bool → Type 0 → Result X CmdFault → List ℕ → List ℕ → Type 0
+RangeComesTo e from to ended AtEnd (Ok x) bytes out = (AtEnd × IsWhole e bytes out) ⊎ HasPassed e to bytes out
+RangeComesTo e from to ended AtEnd (Err (Passage passage.Limit)) bytes out = (bytes ≡ []) × (out ≡ [])
+RangeComesTo e from to ended AtEnd (Err (Passage passage.Memory)) bytes out = ((bytes ≡ []) × (out ≡ [])) ⊎ IsHeldUpWithin e from to ended bytes out
+RangeComesTo e from to ended AtEnd (Err (Passage why)) bytes out = IsRefusedBefore e to why ended bytes out
+RangeComesTo {X} e from to ended AtEnd (Err fault) bytes out = ComesTo {X = X} e ended (Err fault) bytes out
 
 -- no read was made, or the last one, like those before it, for a passage that begins before byte `end`: what the bytes of all
 -- reads but the last settle ends before it
 abbrev pub ReadsBefore : {e : Engine} {from to : Reads} {bytes out : List ℕ} → ℕ → KeepsUp e from to bytes out → Type 0
 ReadsBefore {e} {from} {to} {bytes} {out} end keeps_up = IsStill [] bytes from to ⊎ (next_start keeps_up.settled < end)
 
-pub record IsRangeRun {X : Type 0} (e : Engine) (to : ℕ) (reads reads' : Reads) (ended : Bool) (AtEnd : Type 0) (answer : Result X CmdFault) (bytes out : List ℕ) : Type 0 where
-  pub comes : RangeComesTo e to ended AtEnd answer bytes out
+pub record IsRangeRun {X : Type 0} (e : Engine) (from to : ℕ) (reads reads' : Reads) (ended : Bool) (AtEnd : Type 0) (answer : Result X CmdFault) (bytes out : List ℕ) : Type 0 where
+  pub comes : RangeComesTo e from to ended AtEnd answer bytes out
   pub keeps_up : KeepsUp e reads reads' bytes out
   pub no_further : ReadsBefore to keeps_up
 
@@ -92,7 +93,7 @@ pub record RangeRuns (part : Part) (engine : Engine) (before after : Devices) (a
   pub shown : OnOk answer (IfSome before.unread (λ input. IsUtf8 input
       → Appends before.written after.written (text_within engine.lines part.from part.to (passages_by engine (chars input)))))
   pub run : Ran (is_failed_read answer) before.unread after.unread before.written after.written
-      (IsRangeRun (within part engine) part.to before.reads after.reads after.has_ended (IsTrue after.has_ended × IsAtEnd after.unread) answer)
+      (IsRangeRun (within part engine) part.from part.to before.reads after.reads after.has_ended (IsTrue after.has_ended × IsAtEnd after.unread) answer)
   pub reads : after.reads.count ≤ before.reads.count + (longest_text + 1)
   pub limit : IsErrOf answer (CmdFault.Passage PassageFault.Limit) ↔ (¬ (IsLimit engine.limit))
   pub read : IsErrOf answer (CmdFault.Passage PassageFault.Read) → HasFailed before.failed_reads after.failed_reads

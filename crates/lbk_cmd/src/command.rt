@@ -46,13 +46,13 @@ pub fn run<'a, S: Store, T: Texts, R: Source, W: Sink>(
     ensures samples { words.entry.now ≡ [] → ShowsSamples
         (devices_of R.Source W.Sink reader.old writer.old) (devices_of R.Source W.Sink reader.new writer.new) result }
     ensures plain { (task : Task) → IsPlainFor task (map (λ w. w.now) words.entry.now)
-        → Performs (S.file store.old) (T.contents texts.old) task
+        → Performs T.File.Source (S.file store.old) (T.contents texts.old) task
         (counts_of (S.load_count store.old) (S.refusal_count store.old)) (counts_of (S.load_count store.new) (S.refusal_count store.new))
         (standing (devices_of R.Source W.Sink reader.old writer.old) (T.refused texts.old) Done)
         (standing (devices_of R.Source W.Sink reader.new writer.new) (T.refused texts.new) result) }
     ensures accepted { (task : Task) → words.entry.now ≢ [] → AreAccepted (map (λ w. w.now) words.entry.now)
         → task_by (map (λ w. w.now) words.entry.now) ≡ Some task
-        → Performs (S.file store.old) (T.contents texts.old) task
+        → Performs T.File.Source (S.file store.old) (T.contents texts.old) task
         (counts_of (S.load_count store.old) (S.refusal_count store.old)) (counts_of (S.load_count store.new) (S.refusal_count store.new))
         (standing (devices_of R.Source W.Sink reader.old writer.old) (T.refused texts.old) Done)
         (standing (devices_of R.Source W.Sink reader.new writer.new) (T.refused texts.new) result) }

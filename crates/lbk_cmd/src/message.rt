@@ -1,5 +1,9 @@
 //! What a person reads where a run is refused.
 
+ghost use Rattle.std.specs.Prelude.{◌≡◌, Some};
+ghost use Rattle.std.specs.Fmt.{DisplaysOnOk, WritesOnOk};
+ghost use Rattle.lbk_cmd.specs.Message.{at_byte, file_text, input_text, invalid_text, limit_of, message_text, name_in, not_utf8_text, one_line, one_scalar, option_of, output_text, paragraph_text, passage_text, text_of_input, text_of_name, than_limit, too_long_text, unloaded_text, unpublished_text, unread_text, unwritten_text, why_text};
+
 use super::ending::RunFault;
 use super::faults::CmdFault;
 use lbk_args::{DEFAULT_LIMIT, Engine, FileName, FileNames};
@@ -41,6 +45,8 @@ pub struct Message<'a> {
 }
 
 impl<'a> fmt::Display for Message<'a> {
+    ghost output = { λ m. message_text m };
+
     fn fmt<W: fmt::Write>(&self, f: &mut fmt::Formatter<W>) -> fmt::Result {
         match self.fault {
             RunFault::Open | RunFault::Replay(ReplayFault::Read) => self.unread(f),
@@ -59,8 +65,6 @@ impl<'a> fmt::Display for Message<'a> {
     }
 }
 
-const UTF_16_HINT: &str = "; it begins as UTF-16 does: iconv -f UTF-16 -t UTF-8 makes UTF-8 of it";
-
 impl<'a> Message<'a> {
     /// The message of a call of a library.
     pub(crate) fn of_call(fault: RunFault) -> Message<'a> {
@@ -74,7 +78,10 @@ impl<'a> Message<'a> {
     }
 
     /// A fault of the files after the name that the caller has for its file.
-    fn named(&self, fault: CellsFault, which: Which) -> NamedFault<Name<'a>> {
+    fn named(&self, fault: CellsFault, which: Which) -> NamedFault<Name<'a>>
+        ensures fault { result.fault ≡ fault }
+        ensures name { text_of_name result.name ≡ file_text self.now.caller which }
+    {
         let name = match self.caller {
             Caller::Call => Name::Plain(which),
             Caller::NoWords => Name::Sample(which),
@@ -86,7 +93,9 @@ impl<'a> Message<'a> {
         NamedFault { fault, name }
     }
 
-    fn input(&self) -> Input<'a> {
+    fn input(&self) -> Input<'a>
+        ensures { text_of_input result ≡ input_text self.now.caller self.now.text }
+    {
         match (self.text, self.caller) {
             (None, Caller::Call) => Input::OfCall,
             (None | Some("-"), _) => Input::Standard,
@@ -94,14 +103,18 @@ impl<'a> Message<'a> {
         }
     }
 
-    fn output(&self) -> &'static str {
+    fn output(&self) -> &'static str
+        ensures { result.now ≡ output_text self.now.caller }
+    {
         match self.caller {
             Caller::Call => "the output",
             Caller::NoWords | Caller::Words { .. } => "standard output",
         }
     }
 
-    fn unloaded<W: fmt::Write>(&self, f: &mut fmt::Formatter<W>, which: Which) -> fmt::Result {
+    fn unloaded<W: fmt::Write>(&self, f: &mut fmt::Formatter<W>, which: Which) -> fmt::Result
+        ensures { DisplaysOnOk W.write_str_gives f.old result (unloaded_text self.now which) f.new }
+    {
         let fault = self.named(CellsFault::Load(which), which);
         write!(f, "{fault}{}", Why(self.reason))
     }
@@ -111,7 +124,9 @@ impl<'a> Message<'a> {
         f: &mut fmt::Formatter<W>,
         which: Which,
         cause: ClaimCause,
-    ) -> fmt::Result {
+    ) -> fmt::Result
+        ensures { DisplaysOnOk W.write_str_gives f.old result (Some (unpublished_text self.now which cause)) f.new }
+    {
         let fault = self.named(CellsFault::Claim(which, cause), which);
         write!(f, "{fault}")?;
         match self.caller {
@@ -123,15 +138,21 @@ impl<'a> Message<'a> {
         }
     }
 
-    fn unwritten<W: fmt::Write>(&self, f: &mut fmt::Formatter<W>) -> fmt::Result {
+    fn unwritten<W: fmt::Write>(&self, f: &mut fmt::Formatter<W>) -> fmt::Result
+        ensures { DisplaysOnOk W.write_str_gives f.old result (unwritten_text self.now) f.new }
+    {
         write!(f, "{} cannot be written{}", self.output(), Why(self.reason))
     }
 
-    fn unread<W: fmt::Write>(&self, f: &mut fmt::Formatter<W>) -> fmt::Result {
+    fn unread<W: fmt::Write>(&self, f: &mut fmt::Formatter<W>) -> fmt::Result
+        ensures { DisplaysOnOk W.write_str_gives f.old result (unread_text self.now) f.new }
+    {
         write!(f, "{} cannot be read{}", self.input(), Why(self.reason))
     }
 
-    fn too_long<W: fmt::Write>(&self, f: &mut fmt::Formatter<W>) -> fmt::Result {
+    fn too_long<W: fmt::Write>(&self, f: &mut fmt::Formatter<W>) -> fmt::Result
+        ensures { DisplaysOnOk W.write_str_gives f.old result (Some (too_long_text self.now)) f.new }
+    {
         write!(f, "{} has more than {TEXT_MAX} bytes", self.input())
     }
 
@@ -139,7 +160,9 @@ impl<'a> Message<'a> {
         &self,
         f: &mut fmt::Formatter<W>,
         fault: PassageFault,
-    ) -> fmt::Result {
+    ) -> fmt::Result
+        ensures { DisplaysOnOk W.write_str_gives f.old result (passage_text self.now fault) f.new }
+    {
         match fault {
             PassageFault::Limit => {
                 write!(f, "the limit of a paragraph is 1 to {LIMIT_MAX} bytes")
@@ -153,32 +176,35 @@ impl<'a> Message<'a> {
         }
     }
 
-    fn not_utf8<W: fmt::Write>(&self, f: &mut fmt::Formatter<W>, at: u64) -> fmt::Result {
-        let hint = if self.is_utf16 { UTF_16_HINT } else { "" };
-        write!(f, "{}: byte {at}: invalid UTF-8{hint}", self.input())
+    fn not_utf8<W: fmt::Write>(&self, f: &mut fmt::Formatter<W>, at: u64) -> fmt::Result
+        ensures { DisplaysOnOk W.write_str_gives f.old result (Some (not_utf8_text self.now at)) f.new }
+    {
+        self.at_byte(f, at)?;
+        invalid_utf8(f, self.is_utf16)
     }
 
     fn paragraph_too_long<W: fmt::Write>(
         &self,
         f: &mut fmt::Formatter<W>,
         start: u64,
-    ) -> fmt::Result {
-        let input = self.input();
-        write!(
-            f,
-            "{input}: byte {start}: the paragraph from here on has more "
-        )?;
-        match self.limit() {
-            Some(limit) => write!(
-                f,
-                "than {limit} bytes; --limit raises the limit, up to {LIMIT_MAX}"
-            ),
-            None => f.write_str("bytes than the limit"),
-        }
+    ) -> fmt::Result
+        ensures { DisplaysOnOk W.write_str_gives f.old result (Some (paragraph_text self.now start)) f.new }
+    {
+        self.at_byte(f, start)?;
+        f.write_str("the paragraph from here on has more ")?;
+        than_limit(f, self.limit())
+    }
+
+    fn at_byte<W: fmt::Write>(&self, f: &mut fmt::Formatter<W>, at: u64) -> fmt::Result
+        ensures { DisplaysOnOk W.write_str_gives f.old result (Some (at_byte self.now at)) f.new }
+    {
+        write!(f, "{}: byte {at}: ", self.input())
     }
 
     /// The most bytes of a paragraph, where the caller is the program.
-    fn limit(&self) -> Option<u32> {
+    fn limit(&self) -> Option<u32>
+        ensures { result ≡ limit_of self.now.caller }
+    {
         match self.caller {
             Caller::Call => None,
             Caller::NoWords => Some(DEFAULT_LIMIT),
@@ -192,8 +218,36 @@ impl<'a> Message<'a> {
     }
 }
 
+/// What is said of ill-formed bytes, and where the text begins as UTF-16 does.
+fn invalid_utf8<W: fmt::Write>(f: &mut fmt::Formatter<W>, is_utf16: bool) -> fmt::Result
+    ensures { DisplaysOnOk W.write_str_gives f.old result (Some (invalid_text is_utf16)) f.new }
+{
+    if is_utf16 {
+        f.write_str(
+            "invalid UTF-8; it begins as UTF-16 does: iconv -f UTF-16 -t UTF-8 makes UTF-8 of it",
+        )
+    } else {
+        f.write_str("invalid UTF-8")
+    }
+}
+
+/// The limit of a paragraph that is too long.
+fn than_limit<W: fmt::Write>(f: &mut fmt::Formatter<W>, limit: Option<u32>) -> fmt::Result
+    ensures { DisplaysOnOk W.write_str_gives f.old result (Some (than_limit limit)) f.new }
+{
+    match limit {
+        Some(limit) => write!(
+            f,
+            "than {limit} bytes; --limit raises the limit, up to {LIMIT_MAX}"
+        ),
+        None => f.write_str("bytes than the limit"),
+    }
+}
+
 /// The option that names a file of one's own.
-fn option_of(which: Which) -> &'static str {
+fn option_of(which: Which) -> &'static str
+    ensures { result.now ≡ option_of which }
+{
     match which {
         Which::LineBreak => "--line-break",
         Which::EastAsianWidth => "--east-asian",
@@ -202,7 +256,9 @@ fn option_of(which: Which) -> &'static str {
     }
 }
 
-fn name_in<'a>(files: FileNames<'a>, which: Which) -> FileName<'a> {
+fn name_in<'a>(files: FileNames<'a>, which: Which) -> FileName<'a>
+    ensures { result ≡ name_in files.entry which }
+{
     match which {
         Which::LineBreak => files.line_break,
         Which::EastAsianWidth => files.east_asian,
@@ -216,6 +272,8 @@ fn name_in<'a>(files: FileNames<'a>, which: Which) -> FileName<'a> {
 struct Why(Option<ErrorKind>);
 
 impl fmt::Display for Why {
+    ghost output = { λ why. why_text why.0 };
+
     fn fmt<W: fmt::Write>(&self, f: &mut fmt::Formatter<W>) -> fmt::Result {
         match self.0 {
             None | Some(ErrorKind::Other | ErrorKind::Uncategorized) => Ok(()),
@@ -239,6 +297,8 @@ enum Name<'a> {
 }
 
 impl<'a> fmt::Display for Name<'a> {
+    ghost output = { λ name. Some (text_of_name name) };
+
     fn fmt<W: fmt::Write>(&self, f: &mut fmt::Formatter<W>) -> fmt::Result {
         match *self {
             Name::Plain(which) => f.write_str(file_name(which)),
@@ -260,6 +320,8 @@ enum Input<'a> {
 }
 
 impl<'a> fmt::Display for Input<'a> {
+    ghost output = { λ input. Some (text_of_input input) };
+
     fn fmt<W: fmt::Write>(&self, f: &mut fmt::Formatter<W>) -> fmt::Result {
         match *self {
             Input::OfCall => f.write_str("the input"),
@@ -274,14 +336,28 @@ impl<'a> fmt::Display for Input<'a> {
 struct OneLine<'a>(&'a str);
 
 impl<'a> fmt::Display for OneLine<'a> {
+    ghost output = { λ name. Some (one_line name.0.now) };
+
     fn fmt<W: fmt::Write>(&self, f: &mut fmt::Formatter<W>) -> fmt::Result {
-        for c in self.0.chars() {
-            if c.is_control() {
-                write!(f, "\\u{{{:x}}}", u32::from(c))?;
-            } else {
-                f.write_char(c)?;
-            }
-        }
-        Ok(())
+        write_name(f, self.0)
+    }
+}
+
+fn write_name<W: fmt::Write>(f: &mut fmt::Formatter<W>, name: &str) -> fmt::Result
+    ensures { WritesOnOk W.write_str_gives f.old result (one_line name.now) f.new }
+{
+    for scalar in name.chars() {
+        write_scalar(f, scalar)?;
+    }
+    Ok(())
+}
+
+fn write_scalar<W: fmt::Write>(f: &mut fmt::Formatter<W>, scalar: char) -> fmt::Result
+    ensures { WritesOnOk W.write_str_gives f.old result (one_scalar scalar) f.new }
+{
+    if scalar.is_control() {
+        write!(f, "\\u{{{:x}}}", u32::from(scalar))
+    } else {
+        f.write_char(scalar)
     }
 }

@@ -30,7 +30,8 @@ pub struct MemoryTexts<'a> {
 impl<'a> MemoryTexts<'a> {
     /// The texts of these files. Any other name cannot be opened.
     pub fn new(alloc: Global, files: MemoryStore<'a>) -> MemoryTexts<'a>
-        ensures { result.files ≡ files.entry }
+        ensures files { result.files ≡ files.entry }
+        ensures none { result.refused.items ≡ [] }
     {
         MemoryTexts {
             files,
@@ -39,7 +40,9 @@ impl<'a> MemoryTexts<'a> {
     }
 
     /// Why texts were refused, in order, as long as memory could grow for it.
-    pub fn refused(&self) -> &[RunFault] {
+    pub fn refused(&self) -> &[RunFault]
+        ensures { result.now ≡ self.now.refused.items }
+    {
         &self.refused
     }
 }

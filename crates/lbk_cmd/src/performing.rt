@@ -27,7 +27,7 @@ pub(crate) fn perform<T: Texts, R: Source, W: Sink>(
     reader: &mut R,
     writer: &mut W,
 ) -> Ending
-    ensures reads { Reads (T.contents texts.old) (RunsOver ready.now.part ready.now.engine ready.now.profile (page_cell ready.now.cells))
+    ensures reads { Reads T.File.Source (T.contents texts.old) (RunsOver ready.now.part ready.now.engine ready.now.profile (page_cell ready.now.cells))
         (map (λ name. name.now) ready.now.texts.items)
         (standing (devices_of R.Source W.Sink reader.old writer.old) (T.refused texts.old) Done)
         (standing (devices_of R.Source W.Sink reader.new writer.new) (T.refused texts.new) result) }
@@ -50,7 +50,7 @@ fn perform_all<T: Texts, R: Source, W: Sink>(
     reader: &mut R,
     writer: &mut W,
 ) -> Ending
-    ensures reads { ReadsTexts (T.contents texts.old) (RunsOver ready.now.part ready.now.engine ready.now.profile (page_cell ready.now.cells))
+    ensures reads { ReadsTexts T.File.Source (T.contents texts.old) (RunsOver ready.now.part ready.now.engine ready.now.profile (page_cell ready.now.cells))
         (map (λ name. name.now) names.now)
         (standing (devices_of R.Source W.Sink reader.old writer.old) (T.refused texts.old) Done)
         (standing (devices_of R.Source W.Sink reader.new writer.new) (T.refused texts.new) result) }
@@ -88,7 +88,7 @@ fn perform_named<T: Texts, R: Source, W: Sink>(
     reader: &mut R,
     writer: &mut W,
 ) -> Ending
-    ensures { ReadsText (T.contents texts.now) (RunsOver ready.now.part ready.now.engine ready.now.profile (page_cell ready.now.cells)) name.now
+    ensures { ReadsText T.File.Source (T.contents texts.now) (RunsOver ready.now.part ready.now.engine ready.now.profile (page_cell ready.now.cells)) name.now
         (devices_of R.Source W.Sink reader.old writer.old) (devices_of R.Source W.Sink reader.new writer.new) result }
 {
     if name == "-" {

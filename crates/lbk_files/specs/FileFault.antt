@@ -1,5 +1,6 @@
 -- The four files of a task, loaded in order, then read: what they come to.
 use Rattle.std.specs.Prelude.{◌≡◌, ◌⊎◌, ℕ, Bool, List, Option, IsTrue}
+use Rattle.lbk_feed.specs.Devices.{count_up}
 use Rattle.lbk_feed.specs.Runs.{HasFailed}
 use Rattle.lbk_ucd.specs.declared.tables.Files.{Files}
 use Rattle.lbk_ucd.specs.declared.which.Which.{Which}
@@ -78,14 +79,25 @@ pub record LoadCounts : Type 0 where
 abbrev pub counts_of : ℕ → ℕ → LoadCounts
 counts_of made refused = record { made = made; refused = refused }
 
+-- how many loads were made up to that of a file, after so many: one for each
+abbrev pub loads_to : Which → ℕ → ℕ
+loads_to LineBreak made = count_up made
+loads_to EastAsianWidth made = count_up (count_up made)
+loads_to Category made = count_up (count_up (count_up made))
+loads_to Emoji made = count_up (count_up (count_up (count_up made)))
+
+-- the load of this file is the last
+abbrev pub LoadsTo : Which → LoadCounts → LoadCounts → Type 0
+LoadsTo which before after = after.made ≡ loads_to which before.made
+
 -- out of memory comes before any load, in a load, or once all four files are loaded and lawful
 abbrev pub IsOutOfMemory : FourFiles → LoadCounts → LoadCounts → Type 0
 IsOutOfMemory four before after =
     (after.made ≡ before.made) ⊎ (HasFailed before.refused after.refused ⊎ ((files : Files) × AreLoaded four files × AreLawful files))
 
--- a file cannot be read or is not the published one, or all are loaded and refused; or out of memory
+-- a file cannot be read or is not the published one, and no more is loaded; or all are loaded and refused; or out of memory
 abbrev pub IsFileFault : FourFiles → LoadCounts → LoadCounts → CellsFault → Type 0
-IsFileFault four before after (Load which) = IsFirst four which (λ file. IsUnreadable file.contents)
-IsFileFault four before after (Claim which cause) = IsFirst four which (IsUnlikeItsClaim which cause)
+IsFileFault four before after (Load which) = IsFirst four which (λ file. IsUnreadable file.contents) × LoadsTo which before after
+IsFileFault four before after (Claim which cause) = IsFirst four which (IsUnlikeItsClaim which cause) × LoadsTo which before after
 IsFileFault four before after (Tables fault) = (files : Files) × AreLoaded four files × IsRefused files fault
 IsFileFault four before after Memory = IsOutOfMemory four before after

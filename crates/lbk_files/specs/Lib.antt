@@ -1,5 +1,6 @@
 -- What a reader has to believe.
 pub use Rattle.lbk_steps.specs.Cells
+pub use Rattle.lbk_database.specs.Names
 pub mod CellsRefusal
 pub mod Store
 pub mod MemoryStore
@@ -9,5 +10,6 @@ pub mod FileFault
 pub mod Named
 pub mod SampleFiles
 pub mod Ready
+pub mod FaultText
 -- What only carries proofs.
 pub mod Places

@@ -1,6 +1,7 @@
 //! The four files that words name, loaded in order and read.
 
 ghost use Rattle.std.specs.Prelude.{◌≡◌, ◌+◌, ◌<◌, ◌≤◌, Err, MatchResult, true};
+ghost use Rattle.lbk_feed.specs.Devices.{count_up};
 ghost use Rattle.lbk_steps.specs.CellPages.{page_cell};
 ghost use Rattle.lbk_files.specs.FileFault.{AreCellsFrom, IsFileFault, IsLoaded, counts_of};
 ghost use Rattle.lbk_files.specs.Named.{IsOneFault, files_of, told_of};
@@ -82,7 +83,7 @@ fn load_file<S: Store>(
         (IsOneFault which (told_at (S.file store.old) place.now)) }
     ensures refusals { S.refusal_count store.new ≡ refusals_by (S.refusal_count store.old) result }
     ensures files { S.file store.new ≡ S.file store.old }
-    ensures loads { S.load_count store.new ≤ S.load_count store.old + 1 }
+    ensures loads { S.load_count store.new ≡ count_up (S.load_count store.old) }
 {
     match place {
         Place::Given(name) => load_named(alloc, name, store, which),
@@ -101,7 +102,7 @@ fn load_claimed<S: Store>(
         (IsOneFault which (record { contents = S.file store.old name.now; is_claimed = true })) }
     ensures refusals { S.refusal_count store.new ≡ refusals_by (S.refusal_count store.old) result }
     ensures files { S.file store.new ≡ S.file store.old }
-    ensures loads { S.load_count store.new ≤ S.load_count store.old + 1 }
+    ensures loads { S.load_count store.new ≡ count_up (S.load_count store.old) }
 {
     let bytes = load_named(alloc, name, store, which)?;
     match check_claim(which, &bytes) {
@@ -122,7 +123,7 @@ fn load_named<S: Store>(
         (IsOneFault which (told_of (S.file store.old) which (given name.now))) }
     ensures refusals { S.refusal_count store.new ≡ refusals_by (S.refusal_count store.old) result }
     ensures files { S.file store.new ≡ S.file store.old }
-    ensures loads { S.load_count store.new ≤ S.load_count store.old + 1 }
+    ensures loads { S.load_count store.new ≡ count_up (S.load_count store.old) }
 {
     // One byte more is loaded, so that a longer file is refused as too long.
     match store.load(alloc, name, LONGEST_FILE) {

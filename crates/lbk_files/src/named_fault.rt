@@ -1,7 +1,11 @@
 //! A fault of the property files, as a person reads it.
 
+ghost use Rattle.std.specs.Prelude.{Some, option_map};
+ghost use Rattle.std.specs.Fmt.{DisplaysOnOk};
+ghost use Rattle.lbk_files.specs.FaultText.{claim_fault, fault_text, version_fault};
+
 use super::faults::CellsFault;
-use super::published::ClaimCause;
+use super::published::{ClaimCause, Version};
 use lbk_database::{cause_text, file_name};
 use lbk_ucd::{UcdFault, Which};
 use std::fmt;
@@ -15,6 +19,8 @@ pub struct NamedFault<N> {
 }
 
 impl<N: fmt::Display> fmt::Display for NamedFault<N> {
+    ghost output = { λ f. option_map (fault_text f.fault) (N.output f.name) };
+
     fn fmt<W: fmt::Write>(&self, f: &mut fmt::Formatter<W>) -> fmt::Result {
         let name = &self.name;
         match self.fault {
@@ -41,30 +47,47 @@ fn claim_fault<W: fmt::Write>(
     f: &mut fmt::Formatter<W>,
     which: Which,
     cause: ClaimCause,
-) -> fmt::Result {
+) -> fmt::Result
+    ensures { DisplaysOnOk W.write_str_gives f.old result (Some (claim_fault which cause)) f.new }
+{
     let name = file_name(which);
     match cause {
         ClaimCause::Title => write!(f, "this is not {name} as Unicode 15.0 published it"),
-        ClaimCause::Version(version) if which == Which::Emoji && version.update == 0 => write!(
-            f,
-            "this is of Emoji {}.{}, and lbk goes by 15.0",
-            version.major, version.minor
-        ),
-        ClaimCause::Version(version) => {
-            let of = if which == Which::Emoji {
-                "Emoji"
-            } else {
-                "Unicode"
-            };
-            write!(
-                f,
-                "this is of {of} {}.{}.{}, and lbk goes by 15.0.0",
-                version.major, version.minor, version.update
-            )
-        }
+        ClaimCause::Version(version) => version_fault(f, which, version),
         ClaimCause::Changed => write!(
             f,
             "the file was changed or cut: it is not {name} as Unicode 15.0.0 published it"
+        ),
+    }
+}
+
+/// Of which version a file is, where this is another.
+fn version_fault<W: fmt::Write>(
+    f: &mut fmt::Formatter<W>,
+    which: Which,
+    version: Version,
+) -> fmt::Result
+    ensures { DisplaysOnOk W.write_str_gives f.old result (Some (version_fault which version)) f.new }
+{
+    let Version {
+        major,
+        minor,
+        update,
+    } = version;
+    match which {
+        Which::Emoji => {
+            if update == 0 {
+                write!(f, "this is of Emoji {major}.{minor}, and lbk goes by 15.0")
+            } else {
+                write!(
+                    f,
+                    "this is of Emoji {major}.{minor}.{update}, and lbk goes by 15.0.0"
+                )
+            }
+        }
+        _ => write!(
+            f,
+            "this is of Unicode {major}.{minor}.{update}, and lbk goes by 15.0.0"
         ),
     }
 }

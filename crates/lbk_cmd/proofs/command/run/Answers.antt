@@ -28,12 +28,12 @@ returns-in-Ok-clause-samples g c none =
 
 pub returns-in-Ok-clause-plain : goal.returns-in-Ok-clause-plain
 returns-in-Ok-clause-plain g c task plain =
-    ready_performs (g.S.Store.file c.args.store.now) _ task _ _ c.in-Ok.ready _ _
+    ready_performs g.T.File.Source (g.S.Store.file c.args.store.now) _ task _ _ c.in-Ok.ready _ _
     (c.in-Ok.ensures.plain task plain) c.perform.ensures.reads
 
 pub returns-in-Ok-clause-accepted : goal.returns-in-Ok-clause-accepted
 returns-in-Ok-clause-accepted g c task some accepted asks =
-    ready_performs (g.S.Store.file c.args.store.now) _ task _ _ c.in-Ok.ready _ _
+    ready_performs g.T.File.Source (g.S.Store.file c.args.store.now) _ task _ _ c.in-Ok.ready _ _
     (c.in-Ok.ensures.accepted task accepted asks) c.perform.ensures.reads
 
 pub returns-in-Ok-clause-others : goal.returns-in-Ok-clause-others

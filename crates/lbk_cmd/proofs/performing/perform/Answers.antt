@@ -5,7 +5,7 @@ use Rattle.lbk_cmd.proofs.performing.perform.Goals as goal
 pub returns-then-is_empty-clause-reads : goal.returns-then-is_empty-clause-reads
 returns-then-is_empty-clause-reads g c =
     let same : c.as_slice-names.result.now ≡ c.args.ready.now.texts.items = search rules in
-    reader_read _ _ c.as_slice-names.result.now c.args.ready.now.texts.items _ _ same (sym c.is_empty.ensures ∙ c.if-is_empty.true)
+    reader_read g.T.File.Source _ _ c.as_slice-names.result.now c.args.ready.now.texts.items _ _ same (sym c.is_empty.ensures ∙ c.if-is_empty.true)
     c.perform_one.ensures refl
 
 pub returns-then-is_empty-clause-contents : goal.returns-then-is_empty-clause-contents
@@ -14,7 +14,7 @@ returns-then-is_empty-clause-contents g c = refl
 pub returns-else-is_empty-clause-reads : goal.returns-else-is_empty-clause-reads
 returns-else-is_empty-clause-reads g c =
     let same : c.as_slice-names.result.now ≡ c.args.ready.now.texts.items = search rules in
-    texts_read _ _ c.as_slice-names.result.now c.args.ready.now.texts.items _ _ same (sym c.is_empty.ensures ∙ c.if-is_empty.false)
+    texts_read g.T.File.Source _ _ c.as_slice-names.result.now c.args.ready.now.texts.items _ _ same (sym c.is_empty.ensures ∙ c.if-is_empty.false)
     c.perform_all.ensures.reads
 
 pub returns-else-is_empty-clause-contents : goal.returns-else-is_empty-clause-contents

@@ -11,7 +11,7 @@ loop-name-init g c = record { reads = λ after reads. reads; contents = refl }
 
 pub returns-then-is_last-clause-reads : goal.returns-then-is_last-clause-reads
 returns-then-is_last-clause-reads g c =
-    c.loop-name.invariant.reads _ (last_read (g.T.Opens.contents c.args.texts.now)
+    c.loop-name.invariant.reads _ (last_read g.T.File.Source (g.T.Opens.contents c.args.texts.now)
     (RunsOver c.args.ready.now.part c.args.ready.now.engine c.args.ready.now.profile (page_cell c.args.ready.now.cells))
     c.args.names.now c.loop-name.name-index _ c.loop-name-test.true
     (standing (devices_of g.R.Source g.W.Sink c.loop-name.reader c.loop-name.writer) (g.T.Texts.refused c.loop-name.texts) c.loop-name.so_far)
@@ -25,7 +25,7 @@ returns-then-is_last-clause-contents g c = c.loop-name.invariant.contents
 pub loop-name-preserved : goal.loop-name-preserved
 loop-name-preserved g c = record {
   reads = λ after further.
-      c.loop-name.invariant.reads after (next_read (g.T.Opens.contents c.args.texts.now)
+      c.loop-name.invariant.reads after (next_read g.T.File.Source (g.T.Opens.contents c.args.texts.now)
       (RunsOver c.args.ready.now.part c.args.ready.now.engine c.args.ready.now.profile (page_cell c.args.ready.now.cells))
       c.args.names.now c.loop-name.name-index _ c.loop-name-test.true
       (standing (devices_of g.R.Source g.W.Sink c.loop-name.reader c.loop-name.writer) (g.T.Texts.refused c.loop-name.texts) c.loop-name.so_far)
@@ -38,7 +38,7 @@ loop-name-preserved g c = record {
 
 pub returns-clause-reads : goal.returns-clause-reads
 returns-clause-reads g c =
-    c.loop-name.invariant.reads _ (all_read (g.T.Opens.contents c.args.texts.now)
+    c.loop-name.invariant.reads _ (all_read g.T.File.Source (g.T.Opens.contents c.args.texts.now)
     (RunsOver c.args.ready.now.part c.args.ready.now.engine c.args.ready.now.profile (page_cell c.args.ready.now.cells))
     c.args.names.now c.loop-name.name-index _ (omega arith))
 

@@ -2,7 +2,6 @@ use Rattle.std.proofs.Common.{◌≡◌, ◌∙◌, ◌≢◌, ℕ, false, List,
 use Rattle.std.specs.Str.{bytes_eq}
 use Rattle.std.proofs.lemmas.Slice.Eq.{bytes_eq-Decides}
 use Rattle.lbk_files.specs.Store.{IsLoadFault}
-use Rattle.lbk_cmd.specs.Devices.{devices_of}
 use Rattle.lbk_cmd.proofs.performing.perform_named.Goals as goal
 
 other : (name : List ℕ) → bytes_eq name (codes "-") ≡ false → name ≢ codes "-"
@@ -15,12 +14,10 @@ pub returns-in-Ok : goal.returns-in-Ok
 returns-in-Ok g c = inr (
   other c.args.name.now (sym c.eq.ensures ∙ c.if-eq.false),
   inr (record {
-    from = devices_of g.T.File.Source g.W.Sink c.in-Ok.file c.args.writer.now;
-    to = devices_of g.T.File.Source g.W.Sink c.perform_one-in-Ok.new.reader c.perform_one-in-Ok.new.writer;
-    opened = c.in-Ok.ensures.opened;
+    opened = c.in-Ok.file;
+    left = c.perform_one-in-Ok.new.reader;
+    whole = c.in-Ok.ensures.opened;
     runs = c.perform_one-in-Ok.ensures;
-    written = refl;
-    failed_writes = refl;
     is = refl;
   }),
 )

@@ -32,6 +32,8 @@ returns-in-Replay g c = rw (c.in-Replay.is, ← c.form.ensures) (
     read_failed = c.replay.ensures.read_failed;
     write = c.replay.ensures.write;
     write_failed = c.replay.ensures.write_failed;
+    failed_reads = c.replay.ensures.failed_reads;
+    failed_writes = c.replay.ensures.failed_writes;
     reads = c.replay.ensures.reads;
   },
   c.of_replay.ensures,

@@ -2,6 +2,7 @@ use Rattle.std.proofs.Common.{rules, Ok, Err, ◌++◌, refl, sym, ap, subst, �
 use Rattle.std.specs.Io.KnownBytes.{Appends}
 use Rattle.std.proofs.lemmas.Result.{err_from_is_err_and}
 use Rattle.lbk_passage.specs.Next.{failures_with, fault_in}
+use Rattle.lbk_passage.specs.Passing.{end_of}
 use Rattle.lbk_passage.specs.Shown.{state_of}
 use Rattle.lbk_passage.specs.State.{State}
 use Rattle.lbk_cmd.specs.Engines.{lines_of}
@@ -17,7 +18,7 @@ returns-in_err-segmenter g c =
       shown = search rules;
       run = range_run (run_none (engine_in c.args.part c.args.lines (g.C.CellSource.cell_of c.args.cells.now) c.args.profile c.args.limit)
           _ _ (g.R.Source.reads_made c.args.reader.now) _ c.from_residual.result c.in_err-segmenter.field-0.0 _ (exit.1 ∙ ap Err exit.2)
-          c.in_err-segmenter.ensures.only) c.args.part.to tt;
+          c.in_err-segmenter.ensures.only) c.args.part.from c.args.part.to tt;
       reads = search rules;
       limit = search rules;
       read = search rules;
@@ -44,8 +45,8 @@ returns-in_err-passage g c =
       shown = search rules;
       run = range_run (run_stopped (engine_in c.args.part c.args.lines (g.C.CellSource.cell_of c.args.cells.now) c.args.profile c.args.limit) _ _ _ _
           c.from_residual-in_err-passage.result _ _ _ _ _ _ _ _ _ c.next.result c.loop-at.invariant.going c.next.follows.holds-at-none
-          c.in_err-passage.field-0.0 c.in_err-passage.was (exit.1 ∙ ap Err exit.2)) c.args.part.to
-          (omega (arith, c.loop-at.invariant.at, c.loop-at-test.true, c.from.ensures), c.loop-at.invariant.before);
+          c.in_err-passage.field-0.0 c.in_err-passage.was (exit.1 ∙ ap Err exit.2)) c.args.part.from c.args.part.to
+          ((omega (arith, c.loop-at.invariant.at, c.loop-at-test.true, c.from.ensures), c.loop-at.invariant.before), λ _. omega (arith, c.loop-at.invariant.at, c.if-at-from.false, c.from-in-loop-at.ensures));
       reads = most_reads (engine_in c.args.part c.args.lines (g.C.CellSource.cell_of c.args.cells.now) c.args.profile c.args.limit) _ _ _ _ _ _ _ _ _ _ _ _
           c.loop-at.invariant.going c.next.result c.next.follows.holds-at-none;
       limit = search rules;
@@ -66,8 +67,8 @@ returns-in_err-push_lines g c =
       shown = search rules;
       run = range_run (run_out_of_memory (engine_in c.args.part c.args.lines (g.C.CellSource.cell_of c.args.cells.now) c.args.profile c.args.limit) _ _ _ _
           c.from_residual-in_err-push_lines.result _ _ _ _ _ _ _ _ _ c.next.result c.loop-at.invariant.going c.next.follows.holds-at-none
-          c.in-Some-2.passage (c.in_ok-passage.was ∙ ap Ok c.in-Some-2.is) (exit.1 ∙ ap Err exit.2)) c.args.part.to
-          (omega (arith, c.loop-at.invariant.at, c.loop-at-test.true, c.from.ensures), c.loop-at.invariant.before);
+          c.in-Some-2.passage (c.in_ok-passage.was ∙ ap Ok c.in-Some-2.is) (exit.1 ∙ ap Err exit.2)) c.args.part.from c.args.part.to
+          ((omega (arith, c.loop-at.invariant.at, c.loop-at-test.true, c.from.ensures), c.loop-at.invariant.before), λ _. omega (arith, c.loop-at.invariant.at, c.if-at-from.false, c.from-in-loop-at.ensures));
       reads = most_reads (engine_in c.args.part c.args.lines (g.C.CellSource.cell_of c.args.cells.now) c.args.profile c.args.limit) _ _ _ _ _ _ _ _ _ _ _ _
           c.loop-at.invariant.going c.next.result c.next.follows.holds-at-none;
       limit = search rules;
@@ -116,8 +117,8 @@ returns-in_err-write_all g c =
           ∙ ap (λ l. l ++ lines_of c.args.lines cell c.in-Some-2.passage.start ms) c.clear.ensures.items
           ∙ lines-here c.args.part (lines_of c.args.lines cell) c.in-Some-2.passage.start ms (omega (arith, begins, c.loop-at.invariant.at, c.if-at-from.false, c.from-in-loop-at.ensures))
           (omega (arith, begins, c.loop-at.invariant.at, c.loop-at-test.true, c.from.ensures)))
-          _ (exit.1 ∙ ap Err exit.2) front.0 front.1) c.args.part.to
-          (omega (arith, c.loop-at.invariant.at, c.loop-at-test.true, c.from.ensures), c.loop-at.invariant.before);
+          _ (exit.1 ∙ ap Err exit.2) front.0 front.1) c.args.part.from c.args.part.to
+          ((omega (arith, c.loop-at.invariant.at, c.loop-at-test.true, c.from.ensures), c.loop-at.invariant.before), λ _. omega (arith, c.loop-at.invariant.at, c.if-at-from.false, c.from-in-loop-at.ensures));
       reads = most_reads (engine_in c.args.part c.args.lines (g.C.CellSource.cell_of c.args.cells.now) c.args.profile c.args.limit) _ _ _ _ _ _ _ _ _ _ _ _
           c.loop-at.invariant.going c.next.result c.next.follows.holds-at-none;
       limit = search rules;
@@ -135,8 +136,8 @@ returns-in_err-end g c =
     record {
       shown = search rules;
       run = range_run (run_stopped e _ _ _ _ c.from_residual-in_err-end.result _ _ _ _ _ _ _ _ _ passes.lent c.loop-at.invariant.going passes.after
-          c.in_err-end.field-0.0 (lent_fault passes.lent c.in_err-end.field-0.0 (sym c.in_err-end.was ∙ passes.is)) (exit.1 ∙ ap Err exit.2)) c.args.part.to
-          (omega (arith, c.loop-at.invariant.at, c.loop-at-test.true, c.from.ensures), c.loop-at.invariant.before);
+          c.in_err-end.field-0.0 (lent_fault passes.lent c.in_err-end.field-0.0 (sym c.in_err-end.was ∙ passes.is)) (exit.1 ∙ ap Err exit.2)) c.args.part.from c.args.part.to
+          ((omega (arith, c.loop-at.invariant.at, c.loop-at-test.true, c.from.ensures), c.loop-at.invariant.before), λ same. absurd (c.pass.ensures.memory (passes.is ∙ ap end_of same)));
       reads = most_reads e _ _ _ _ _ _ _ _ _ _ _ _ c.loop-at.invariant.going passes.lent passes.after;
       limit = search rules;
       read = search rules;
@@ -151,7 +152,7 @@ returns-in_default g c =
     let passes = c.pass.ensures.passes in
     let none = lent_none passes.lent (sym (c.in_ok-end.was ∙ ap Ok c.in_default.is) ∙ passes.is) in
     let run = range_run (run_ended e _ _ _ (Unit {0}) (Ok (tt {0})) _ _ _ _ _ _ _ _ _ passes.lent c.loop-at.invariant.going passes.after (tt {0}) none refl)
-    c.args.part.to (omega (arith, c.loop-at.invariant.at, c.loop-at-test.true, c.from.ensures), c.loop-at.invariant.before) in
+    c.args.part.from c.args.part.to ((omega (arith, c.loop-at.invariant.at, c.loop-at-test.true, c.from.ensures), c.loop-at.invariant.before), λ same. absurd (c.pass.ensures.memory (passes.is ∙ ap end_of same))) in
     record {
       shown = known_range c.args.part _ _ _ _ (Ok (tt {0})) _ _ _ _ run;
       run = run;
@@ -196,7 +197,7 @@ returns-in_default-2 g c =
     let e = engine_in c.args.part c.args.lines (g.C.CellSource.cell_of c.args.cells.now) c.args.profile c.args.limit in
     let was = c.in_ok-passage.was ∙ ap Ok c.in_default-2.is in
     let run = range_run (run_ended e _ _ _ (Unit {0}) (Ok (tt {0})) _ _ _ _ _ _ _ _ _ c.next.result c.loop-at.invariant.going c.next.follows.holds-at-none (tt {0}) was refl)
-    c.args.part.to (omega (arith, c.loop-at.invariant.at, c.loop-at-test.true, c.from.ensures), c.loop-at.invariant.before) in
+    c.args.part.from c.args.part.to ((omega (arith, c.loop-at.invariant.at, c.loop-at-test.true, c.from.ensures), c.loop-at.invariant.before), λ _. omega (arith, c.loop-at.invariant.at, c.if-at-from.false, c.from-in-loop-at.ensures)) in
     record {
       shown = known_range c.args.part _ _ _ _ (Ok (tt {0})) _ _ _ _ run;
       run = run;
@@ -211,7 +212,7 @@ returns-in_default-2 g c =
 pub returns : goal.returns
 returns g c =
     let e = engine_in c.args.part c.args.lines (g.C.CellSource.cell_of c.args.cells.now) c.args.profile c.args.limit in
-    let run = range_passed e _ _ _ _ _ _ _ _ c.args.part.to c.loop-at.invariant.going c.loop-at.invariant.before
+    let run = range_passed e _ _ _ _ _ _ _ _ c.args.part.from c.args.part.to c.loop-at.invariant.going c.loop-at.invariant.before
     (omega (arith, c.loop-at.invariant.at, c.loop-at-test.false, c.from.ensures)) in
     record {
       shown = known_range c.args.part _ _ _ _ (Ok (tt {0})) _ _ _ _ run;

@@ -1,4 +1,5 @@
 use Rattle.std.proofs.Common.{◌∙◌, ap}
+use Rattle.lbk_feed.specs.Devices.{count_up}
 use Rattle.lbk_files.proofs.LastFile.{handed_on, last_fault, third_fault}
 use Rattle.lbk_files.specs.FileFault.{counts_of}
 use Rattle.lbk_files.specs.Places.{refused_by}
@@ -14,7 +15,8 @@ returns-in_err-category-clause-loaded g c =
     c.in_ok-line_break.ensures.files c.in_ok-east_asian.ensures.files
     c.in_ok-line_break.ensures.loaded c.in_ok-east_asian.ensures.loaded c.in_err-category.ensures.loaded
     (c.in_err-category.ensures.refusals ∙ ap (λ n. refused_by n c.in_err-category.field-0.0)
-    (c.in_ok-east_asian.ensures.refusals ∙ c.in_ok-line_break.ensures.refusals)))
+    (c.in_ok-east_asian.ensures.refusals ∙ c.in_ok-line_break.ensures.refusals))
+    (c.in_err-category.ensures.loads ∙ ap count_up (c.in_ok-east_asian.ensures.loads ∙ ap count_up c.in_ok-line_break.ensures.loads)))
 
 pub returns-in_err-emoji-clause-loaded : goal.returns-in_err-emoji-clause-loaded
 returns-in_err-emoji-clause-loaded g c =
@@ -26,4 +28,5 @@ returns-in_err-emoji-clause-loaded g c =
     c.in_ok-line_break.ensures.files c.in_ok-east_asian.ensures.files c.in_ok-category.ensures.files
     c.in_ok-line_break.ensures.loaded c.in_ok-east_asian.ensures.loaded c.in_ok-category.ensures.loaded c.in_err-emoji.ensures.loaded
     (c.in_err-emoji.ensures.refusals ∙ ap (λ n. refused_by n c.in_err-emoji.field-0.0)
-    (c.in_ok-category.ensures.refusals ∙ c.in_ok-east_asian.ensures.refusals ∙ c.in_ok-line_break.ensures.refusals)))
+    (c.in_ok-category.ensures.refusals ∙ c.in_ok-east_asian.ensures.refusals ∙ c.in_ok-line_break.ensures.refusals))
+    (c.in_err-emoji.ensures.loads ∙ ap count_up (c.in_ok-category.ensures.loads ∙ ap count_up (c.in_ok-east_asian.ensures.loads ∙ ap count_up c.in_ok-line_break.ensures.loads))))

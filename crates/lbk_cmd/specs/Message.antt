@@ -1,0 +1,180 @@
+-- Why a run is refused, as a person reads it in one line.
+use Rattle.std.specs.Prelude.{ℕ, Bool, false, List, [], ◌∷◌, ◌++◌, Option, Some, None, codes, decimal, encode_utf8, if◌then◌else◌}
+use Rattle.std.specs.Borrow.{Bor}
+use Rattle.std.specs.Char.{is_control}
+use Rattle.std.specs.Fmt.{◌++?◌, digits}
+use Rattle.std.specs.List.{flat_map}
+use Rattle.std.specs.Str.{bytes_eq, chars}
+use Rattle.std.specs.declared.io.ErrorKind.{ErrorKind}
+use Rattle.std.specs.declared.io.ErrorKind.TheVariants.{NotFound, Other, Uncategorized}
+use Rattle.lbk_feed.specs.Text.{greatest_limit, longest_text}
+use Rattle.lbk_ucd.specs.declared.which.Which.{Which}
+use Rattle.lbk_ucd.specs.declared.which.Which.TheVariants.{LineBreak, EastAsianWidth, Category, Emoji}
+use Rattle.lbk_files.specs.Names.{file_name}
+use Rattle.lbk_passage.specs.declared.faults.PassageFault.{PassageFault}
+use Rattle.lbk_passage.specs.declared.faults.PassageFault.TheVariants as passage
+use Rattle.lbk_notation.specs.declared.findings.ReplayFault.TheVariants as replay
+use Rattle.lbk_args.specs.Command.{default_limit}
+use Rattle.lbk_args.specs.declared.order.Engine.{Engine}
+use Rattle.lbk_args.specs.declared.order.Engine.TheVariants.{Mark, Show, Segment, Replay}
+use Rattle.lbk_args.specs.declared.order.FileName.{FileName}
+use Rattle.lbk_args.specs.declared.order.FileName.TheVariants.{Given, InFolder}
+use Rattle.lbk_args.specs.declared.order.FileNames.{FileNames}
+use Rattle.lbk_files.specs.declared.faults.CellsFault.TheVariants as cells
+use Rattle.lbk_files.specs.declared.published.ClaimCause.{ClaimCause}
+use Rattle.lbk_files.specs.declared.published.ClaimCause.TheVariants.{Changed}
+use Rattle.lbk_files.specs.FaultText.{fault_text}
+use Rattle.lbk_files.specs.Named.{name_in_database}
+use Rattle.lbk_cmd.specs.declared.ending.RunFault.{RunFault}
+use Rattle.lbk_cmd.specs.declared.ending.RunFault.TheVariants as run
+use Rattle.lbk_cmd.specs.declared.faults.CmdFault.TheVariants as cmd
+use Rattle.lbk_cmd.specs.declared.message.Caller.{Caller}
+use Rattle.lbk_cmd.specs.declared.message.Caller.TheVariants.{Call, NoWords, Words}
+use Rattle.lbk_cmd.specs.declared.message.Message.{Message}
+use Rattle.lbk_cmd.specs.declared.message.Input.{Input}
+use Rattle.lbk_cmd.specs.declared.message.Input.TheVariants as of_input
+use Rattle.lbk_cmd.specs.declared.message.Name.{Name}
+use Rattle.lbk_cmd.specs.declared.message.Name.TheVariants as of_file
+
+-- a control character is \u and its code in braces, any other character itself
+abbrev pub one_scalar : ℕ → List ℕ
+one_scalar c = if is_control c then 92 ∷ 117 ∷ 123 ∷ (digits 16 false c ++ 125 ∷ []) else encode_utf8 c
+
+-- a name in one line
+abbrev pub one_line : List ℕ → List ℕ
+one_line name = flat_map one_scalar (chars name)
+
+-- the system's reason behind a colon, where the program words it; the kit says nothing of its own words
+abbrev pub why_text : Option ErrorKind → Option (List ℕ)
+why_text None = Some []
+why_text (Some Other) = Some []
+why_text (Some Uncategorized) = Some []
+why_text (Some NotFound) = Some (codes ": no such file")
+why_text (Some kind) = None
+
+-- the file of a kind, as the words name it
+abbrev pub name_in : FileNames → Which → FileName
+name_in files LineBreak = files.line_break
+name_in files EastAsianWidth = files.east_asian
+name_in files Category = files.category
+name_in files Emoji = files.emoji
+
+abbrev pub word_text : FileName → Which → List ℕ
+word_text (Given name) which = one_line name.now
+word_text (InFolder folder) which = one_line folder.now ++ (47 ∷ name_in_database which)
+
+abbrev pub file_text : Caller → Which → List ℕ
+file_text Call which = file_name which
+file_text NoWords which = codes "sample " ++ file_name which
+file_text (Words engine files) which = word_text (name_in files which) which
+
+-- the option that names a file of one's own
+abbrev pub option_of : Which → List ℕ
+option_of LineBreak = codes "--line-break"
+option_of EastAsianWidth = codes "--east-asian"
+option_of Category = codes "--category"
+option_of Emoji = codes "--emoji"
+
+abbrev pub advice : Caller → Which → ClaimCause → List ℕ
+advice (Words engine files) which Changed = codes "; get it anew, or name a file of your own by " ++ option_of which
+advice _ which cause = []
+
+-- the input, and the output
+abbrev pub input_text : Caller → Option (Bor (List ℕ)) → List ℕ
+input_text Call None = codes "the input"
+input_text _ None = codes "standard input"
+input_text _ (Some name) = if bytes_eq name.now (codes "-") then codes "standard input" else one_line name.now
+
+abbrev pub output_text : Caller → List ℕ
+output_text Call = codes "the output"
+output_text _ = codes "standard output"
+
+abbrev pub input_of : Message → List ℕ
+input_of m = input_text m.caller m.text
+
+-- the most bytes of a paragraph, where the caller is the program
+abbrev pub limit_of_engine : Engine → Option ℕ
+limit_of_engine (Mark limit) = Some limit
+limit_of_engine (Show limit) = Some limit
+limit_of_engine (Segment limit) = Some limit
+limit_of_engine (Replay kinds) = None
+
+abbrev pub limit_of : Caller → Option ℕ
+limit_of Call = None
+limit_of NoWords = Some default_limit
+limit_of (Words engine files) = limit_of_engine engine
+
+abbrev pub than_limit : Option ℕ → List ℕ
+than_limit None = codes "bytes than the limit"
+than_limit (Some limit) = codes "than " ++ (decimal limit ++ (codes " bytes; --limit raises the limit, up to " ++ decimal greatest_limit))
+
+abbrev pub invalid_text : Bool → List ℕ
+invalid_text is_utf16 =
+    if is_utf16 then codes "invalid UTF-8; it begins as UTF-16 does: iconv -f UTF-16 -t UTF-8 makes UTF-8 of it" else codes "invalid UTF-8"
+
+-- what failed, behind it that it did, and why
+abbrev pub failed_text : List ℕ → List ℕ → Option ErrorKind → Option (List ℕ)
+failed_text what did reason = Some what ++? (Some did ++? why_text reason)
+
+abbrev pub unread_text : Message → Option (List ℕ)
+unread_text m = failed_text (input_of m) (codes " cannot be read") m.reason
+
+abbrev pub too_long_text : Message → List ℕ
+too_long_text m = input_of m ++ (codes " has more than " ++ (decimal longest_text ++ codes " bytes"))
+
+abbrev pub at_byte : Message → ℕ → List ℕ
+at_byte m at = input_of m ++ (codes ": byte " ++ (decimal at ++ codes ": "))
+
+abbrev pub not_utf8_text : Message → ℕ → List ℕ
+not_utf8_text m at = at_byte m at ++ invalid_text m.is_utf16
+
+abbrev pub paragraph_text : Message → ℕ → List ℕ
+paragraph_text m start = at_byte m start ++ (codes "the paragraph from here on has more " ++ than_limit (limit_of m.caller))
+
+abbrev pub passage_text : Message → PassageFault → Option (List ℕ)
+passage_text m passage.Limit = Some (codes "the limit of a paragraph is 1 to " ++ (decimal greatest_limit ++ codes " bytes"))
+passage_text m passage.Memory = Some (codes "out of memory")
+passage_text m passage.Read = unread_text m
+passage_text m (passage.NotUtf8 at) = Some (not_utf8_text m at)
+passage_text m passage.TextTooLong = Some (too_long_text m)
+passage_text m (passage.ParagraphTooLong start) = Some (paragraph_text m start)
+passage_text m passage.Spent = Some (codes "an earlier call was refused")
+
+abbrev pub unwritten_text : Message → Option (List ℕ)
+unwritten_text m = failed_text (output_text m.caller) (codes " cannot be written") m.reason
+
+abbrev pub unloaded_text : Message → Which → Option (List ℕ)
+unloaded_text m which = Some (fault_text (cells.Load which) (file_text m.caller which)) ++? why_text m.reason
+
+abbrev pub unpublished_text : Message → Which → ClaimCause → List ℕ
+unpublished_text m which cause = fault_text (cells.Claim which cause) (file_text m.caller which) ++ advice m.caller which cause
+
+-- the line of a fault
+abbrev pub text_of_fault : Message → RunFault → Option (List ℕ)
+text_of_fault m run.Open = unread_text m
+text_of_fault m (run.Load which) = unloaded_text m which
+text_of_fault m (run.Claim which cause) = Some (unpublished_text m which cause)
+text_of_fault m (run.Tables fault) = Some (fault_text (cells.Tables fault) (file_text m.caller fault.file))
+text_of_fault m (run.Cmd (cmd.Passage fault)) = passage_text m fault
+text_of_fault m (run.Cmd cmd.Write) = unwritten_text m
+text_of_fault m (run.Cmd cmd.Memory) = Some (codes "out of memory")
+text_of_fault m (run.Replay replay.Read) = unread_text m
+text_of_fault m (run.Replay replay.Write) = unwritten_text m
+text_of_fault m (run.Replay replay.StreamTooLong) = Some (too_long_text m)
+text_of_fault m (run.Replay replay.Memory) = Some (codes "out of memory")
+text_of_fault m run.Memory = Some (codes "out of memory")
+
+abbrev pub message_text : Message → Option (List ℕ)
+message_text m = text_of_fault m m.fault
+
+-- what the parts of a message say
+abbrev pub text_of_name : Name → List ℕ
+text_of_name (of_file.Plain which) = file_name which
+text_of_name (of_file.Sample which) = codes "sample " ++ file_name which
+text_of_name (of_file.Given given) = one_line given.now
+text_of_name (of_file.InFolder folder which) = one_line folder.now ++ (47 ∷ name_in_database which)
+
+abbrev pub text_of_input : Input → List ℕ
+text_of_input of_input.OfCall = codes "the input"
+text_of_input of_input.Standard = codes "standard input"
+text_of_input (of_input.Named named) = one_line named.now
