@@ -28,6 +28,19 @@ def run(place):
         ended, read, wrote = counted_calls(place, words_of(task, ("long", "E", "C", "M")))
         fault = f"status {ended}, {read} reads, at most {most}, and {wrote} writes, not {writes}"
         place.tally.tell(f"{task}: calls", None if ended == status and read <= most and wrote == writes else fault)
+    each_size(place)
+
+
+def each_size(place):
+    """One write for each paragraph, of each size up to more than two reads take."""
+    for task, most in (("mark", 8_200), ("segment", 8_200), ("show", 700)):
+        text = b"".join(b"a" * size + b"\n" for size in range(most))
+        place.write("text", text)
+        ended, _, wrote = counted_calls(place, words_of(task))
+        fault = None if (ended, wrote) == (0, most) else f"status {ended}, and {wrote} writes, not {most}"
+        place.tally.tell(f"{task}: paragraphs of each size up to {most} bytes, one write each", fault)
+        if task == "mark":
+            place.row(f"mark: paragraphs of each size up to {most} bytes", words_of(task), text, 0, text)
 
 
 def counted_calls(place, words):

@@ -1,13 +1,19 @@
-"""Texts that operands name: their order, and those that are missing, may not be read, are no files or shrink."""
+"""Texts that operands name: their order, their names, and those that are missing, may not be read, are no files or shrink."""
 
 import os
 import subprocess
 
-from checks.files_and_pipes.files import NOBODY
+from checks.files_and_pipes.files import NAMED, NOBODY
 from checks.files_and_pipes.pipes import over_pipes
 from checks.files_and_pipes.place import words_of
 
 MISSING = "lbk: {} cannot be read: no such file\n"
+NOT_UTF_8 = "lbk: {}: byte {}: invalid UTF-8"
+UTF_16 = NOT_UTF_8 + "; it begins as UTF-16 does: iconv -f UTF-16 -t UTF-8 makes UTF-8 of it\n"
+KINDS = "lbk: lines with ! for a break that must be are read with --kinds\n"
+LONGEST_NAME = 4_095
+# How many bytes of names one run is given at most: less than a system hands over.
+TOGETHER = 1_000_000
 
 
 def run(place):
@@ -32,6 +38,7 @@ def run(place):
         ("a folder", ["folder", "one"], b"a b\n", "lbk: folder cannot be read: is a directory\n"),
         ("ill-formed text", ["bad", "two"], b"cd\n", "lbk: bad: byte 3: invalid UTF-8\n"),
         ("a thousand", ["two"] * 1000, b"cd\n" * 1000, ""),
+        ("a thousand missing ones", ["none"] * 1000, b"", MISSING.format("none") * 1000),
     ):
         row = f"texts: {what}"
         place.row(row, words_of("mark", more=names), b"in", 1 if err else 0, out.replace(b"a b", "a ÷b".encode()), err.encode())
@@ -44,6 +51,73 @@ def run(place):
     pipes = {place.folder / "pipe": (b"ab\ncd", 1)}
     over_pipes(place, "texts: one from a pipe", words_of("mark", more=["pipe", "one"]), pipes, b"", "ab\ncd\na ÷b\n".encode())
     shrunk(place)
+    whole_names(place)
+    each_length(place)
+    over_edges(place)
+    hints(place)
+
+
+def whole_names(place):
+    """A text by its whole name, beside near ones, and such a name that is not there."""
+    for kind, name, others in NAMED:
+        for other in others:
+            place.write(other, b"another\n")
+        place.write(name, b"ab")
+        place.row(f"texts: {kind}", words_of("mark", more=[name]), b"", 0, b"ab\n")
+        os.remove(place.folder / name)
+        err = MISSING.format(name).replace("\n ", "\\u{a} ").encode()
+        place.row(f"texts: {kind}, which is not there", words_of("mark", more=[name]), b"", 1, b"", err)
+        for other in others:
+            os.remove(place.folder / other)
+    name = "a\x1b\x7f\x85\t\r"
+    err = MISSING.format("a\\u{1b}\\u{7f}\\u{85}\\u{9}\\u{d}").encode()
+    place.row("texts: a name with control characters", words_of("mark", more=[name]), b"", 1, b"", err)
+    err = b"lbk: a\\u{a}b/LineBreak.txt: the file cannot be read: no such file\n"
+    place.row("a folder with a line end in its name", ["mark", "--ucd", "a\nb"], b"", 1, b"", err)
+
+
+def each_length(place):
+    """Names of each length that a system takes, of a text that is there and of one that is not."""
+    place.write("t", b"t\n")
+    place.write("tt", b"t\n")
+    lengths = iter(range(1, LONGEST_NAME + 1))
+    given, total = [], 0
+    for length in lengths:
+        given.append(length)
+        total += length
+        if total > TOGETHER or length == LONGEST_NAME:
+            there = ["./" * ((length - 1) // 2) + "t" * (2 - length % 2) for length in given]
+            missing = [name.replace("t", "u") for name in there]
+            what = f"texts: names of {given[0]} to {given[-1]} bytes"
+            place.row(what, words_of("mark", more=there), b"", 0, b"t\n" * len(given))
+            err = "".join(map(MISSING.format, missing)).encode()
+            place.row(f"{what}, none of which is there", words_of("mark", more=missing), b"", 1, b"", err)
+            given, total = [], 0
+
+
+def over_edges(place):
+    """Characters of each length over the edge of each read, at each place in them."""
+    for character in ("é", "の", "😀"):
+        for front in range(4):
+            text = ("a" * front + character * 5_000 + "\n").encode()
+            place.write("edges", text)
+            place.row(f"texts: {character} behind {front} bytes", words_of("mark", more=["edges"]), b"", 0, text)
+
+
+def hints(place):
+    """What is said beside a fault is of that text, and not of one before it."""
+    place.write("little", b"\xff\xfea\0")
+    place.write("big", b"\xfe\xff\0a")
+    err = "".join(
+        UTF_16.format(name, 0) if name in ("little", "big") else NOT_UTF_8.format(name, 3) + "\n"
+        for name in ("bad", "little", "bad", "big", "bad")
+    )
+    place.row("texts: UTF-16 between others", words_of("mark", more=["bad", "little", "bad", "big", "bad"]), b"", 1, b"", err.encode())
+    place.write("tests", "× 0061 × 0062 !\n".encode())
+    told = b"R 1 16\nT 1 0 0 1\n"
+    place.row("texts: test lines with !", words_of("replay", more=["tests"]), b"", 3, told, KINDS.encode())
+    place.write("plain", b"x\n")
+    place.row("texts: refused test lines without !", words_of("replay", more=["plain"]), b"", 3, b"R 1 0\nT 1 0 0 1\n")
 
 
 def shrunk(place):
