@@ -2,12 +2,12 @@
 
 Each row compares the status and all that is written, and those of the part calls how often the system was asked to read and to
 write. It needs no files but its own. Arguments name the parts to be run: files, pipes, faults, arguments, paragraphs, calls,
-kept, terminal, texts.
+empty-calls, kept, terminal, texts.
 """
 
 import tempfile
 
-from checks.files_and_pipes import arguments, calls, faults, files, kept, paragraphs, pipes, terminal, texts
+from checks.files_and_pipes import arguments, calls, empty_calls, faults, files, kept, paragraphs, pipes, terminal, texts
 from checks.files_and_pipes.place import Place
 from checks.harness import CannotRun, built_program
 
@@ -18,6 +18,7 @@ PARTS = {
     "arguments": arguments.run,
     "paragraphs": paragraphs.run,
     "calls": calls.run,
+    "empty-calls": empty_calls.run,
     "kept": kept.run,
     "terminal": terminal.run,
     "texts": texts.run,
