@@ -27,7 +27,7 @@ use Rattle.lbk_steps.specs.Kinds.{kind_cell}
 use Rattle.lbk_steps.specs.Steps.{left_at}
 use Rattle.lbk_steps.proofs.AheadLemmas.{ahead-normal}
 use Rattle.lbk_bytes.specs.Bytes.{closed_end, open_end, with_break}
-use Rattle.lbk_bytes.proofs.StepLemmas.{flat_step_at}
+use Rattle.lbk_bytes.proofs.StepLemmas.{code-known, flat_step_at}
 
 -- The end of a text
 
@@ -100,7 +100,7 @@ unfolding kind_cell normal is
 letter-verdict cell lefts table row taken step flat known is_step =
     let there = flat_step_at lefts table.first table.second row 0 flat.steps known.0 (lit< tt) in
     let here = subst (λ (s : FlatStep). IsFlatStep lefts (left_at lefts row) (kind_cell 0) s (get_or table.second (row + 0) no_flat_step)) (sym is_step) there in (
-      here.coded.0,
+      code-known _ here.coded.0,
       here.decides (reverse (normals cell taken)) [] (sym known.1) ∙ ahead-normal First cell taken (kind_cell 0 ∷ []),
     )
 

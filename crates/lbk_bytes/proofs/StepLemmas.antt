@@ -1,5 +1,5 @@
 -- What a step of a flat table says of the text.
-use Rattle.std.proofs.Common.{◌≡◌, ℕ, ◌+◌, ◌*◌, ◌/◌, ◌%◌, ◌<◌, true, false, List, [], ◌∷◌, ◌++◌, length, get_or, map, reverse, refl, sym, ap, subst, ◌∙◌, arith}
+use Rattle.std.proofs.Common.{◌≡◌, ℕ, ◌+◌, ◌*◌, ◌/◌, ◌%◌, ◌<◌, true, false, List, [], ◌∷◌, ◌++◌, length, get_or, map, reverse, refl, sym, ap, subst, ◌∙◌, ⊎_elim, arith}
 use Rattle.std.specs.Char.{IsScalar}
 use Rattle.lbk_rules.specs.declared.cells.Cell.{Cell}
 use Rattle.lbk_rules.specs.declared.facts.Left.{Left}
@@ -12,7 +12,7 @@ use Rattle.lbk_rules.specs.Chain.{from_cells}
 use Rattle.lbk_rules.specs.Classes.{hard}
 use Rattle.lbk_rules.specs.Codes.{IsCode, verdict_coded}
 use Rattle.lbk_rules.specs.Facts.{facts}
-use Rattle.lbk_steps.specs.FlatTable.{AreFlatSteps, IsFlatBy, IsFlatStep, KnowsTaken, no_flat_step}
+use Rattle.lbk_steps.specs.FlatTable.{AreFlatSteps, IsFlatBy, IsFlatStep, IsStepCode, KnowsTaken, no_flat_step}
 use Rattle.lbk_rules.specs.Held.{is_15b}
 use Rattle.lbk_steps.specs.Kinds.{kind_cell}
 use Rattle.lbk_rules.specs.Normal.{normal}
@@ -26,6 +26,10 @@ use Rattle.lbk_steps.proofs.RowMachineLemmas.{normals-back}
 use Rattle.lbk_steps.specs.declared.flat_table.TheConstants.{HELD}
 use Rattle.lbk_steps.specs.Neighbours.{AreTold}
 use Rattle.lbk_bytes.specs.Reached.{AreSwift, pairs_in, steps_in}
+
+-- the number of a verdict in a table is one
+pub code-known : (code : ℕ) → IsStepCode code → IsCode code
+code-known code = ⊎_elim (λ (few : code < 114). omega (arith, few)) (λ (held : code ≡ 130). omega (arith, held))
 
 -- the row that a step leads to knows of the scalar too
 pub knows-more : (cell : ℕ → Cell) (lefts : List Left) (row next c kind : ℕ) → kind_cell kind ≡ normal (cell c) → IsStart lefts next
@@ -74,12 +78,12 @@ pub flat-swift : (profile : Profile) (lefts : List Left) (table : FlatTable) (ce
     → AreSwift profile lefts (steps_in table profile)
 flat-swift First lefts table cell flat = λ row kind starts few.
     let step = flat_step_at lefts table.first table.second row kind flat.steps starts few in
-    record { starts = step.starts; coded = step.coded.0; leads = step.leads; decides = λ _ side more known. step.decides side more known }
+    record { starts = step.starts; coded = code-known _ step.coded.0; leads = step.leads; decides = λ _ side more known. step.decides side more known }
 flat-swift Second lefts table cell flat = λ row kind starts few.
     let step = flat_step_at lefts table.first table.second row kind flat.steps starts few in
     record {
       starts = subst (IsStart lefts) (sym step.same) step.starts;
-      coded = step.coded.1;
+      coded = code-known _ step.coded.1;
       leads = λ side known. step.leads side known ∙ ap (left_at lefts) (sym step.same);
       decides = decides-second lefts (left_at lefts row) (kind_cell kind) (get_or table.first (row + kind) no_flat_step) (get_or table.second (row + kind) no_flat_step) step;
     }
@@ -122,7 +126,7 @@ pub decides-first : (lefts : List Left) (table : FlatTable) (cell : ℕ → Cell
 decides-first lefts table cell taken row c one right flat known scalar is_one =
     let kind = get_or table.kinds c 0 in
     let step = steps-here lefts table cell row c one (get_or table.second (row + kind) no_flat_step) flat scalar known.0 is_one refl in (
-      step.coded.0,
+      code-known _ step.coded.0,
       decides-text First cell taken c kind one.code right (flat.kinds c scalar).1
           (step.decides (reverse (normals cell taken)) (map normal right) (sym known.1)),
     )
@@ -136,7 +140,7 @@ decides-apart lefts table cell taken row c other right flat known scalar is_othe
     let kind = get_or table.kinds c 0 in
     let one = get_or table.first (row + kind) no_flat_step in
     let step = steps-here lefts table cell row c one other flat scalar known.0 refl is_other in (
-      step.coded.1,
+      code-known _ step.coded.1,
       decides-text Second cell taken c kind other.code right (flat.kinds c scalar).1
           (decides-second lefts (left_at lefts row) (kind_cell kind) one other step apart (reverse (normals cell taken)) (map normal right) (sym known.1)),
     )
@@ -151,7 +155,7 @@ decides-closed lefts table cell taken row c other right flat known scalar is_oth
     let one = get_or table.first (row + kind) no_flat_step in
     let same = (flat.kinds c scalar).1 in
     let step = steps-here lefts table cell row c one other flat scalar known.0 refl is_other in (
-      step.coded.1,
+      code-known _ step.coded.1,
       decides-text Second cell taken c kind other.code right same
           (step.closes (reverse (normals cell taken)) (map normal right) (sym known.1)
           (ap (λ (x : Cell). leaves_closed (units_after (hard x.class) (map normal right))) same ∙ closed)),
@@ -167,7 +171,7 @@ decides-open lefts table cell taken row c one other right flat known scalar is_o
     let kind = get_or table.kinds c 0 in
     let same = (flat.kinds c scalar).1 in
     let step = steps-here lefts table cell row c one other flat scalar known.0 is_one is_other in (
-      step.coded.0,
+      code-known _ step.coded.0,
       decides-text Second cell taken c kind one.code right same
           (step.opens (ap (λ n. is_15b (verdict_coded n).rule) held ∙ held-15b) (reverse (normals cell taken)) (map normal right) (sym known.1)
           (ap (λ (x : Cell). leaves_closed (units_after (hard x.class) (map normal right))) same ∙ stays)),

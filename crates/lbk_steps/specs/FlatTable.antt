@@ -1,7 +1,8 @@
 -- The table of steps as plain numbers: the kinds of all codes, and what happens at a cell of each kind in both profiles.
-use Rattle.std.specs.Prelude.{◌≡◌, ℕ, ◌+◌, ◌*◌, ◌<◌, ◌%◌, true, false, List, [], ◌∷◌, fold, length, slice_index, slice_index_or, reverse}
+use Rattle.std.specs.Prelude.{◌≡◌, ◌⊎◌, ℕ, ◌+◌, ◌*◌, ◌<◌, ◌%◌, true, false, List, [], ◌∷◌, fold, length, slice_index, slice_index_or, reverse}
 use Rattle.std.specs.Char.{IsScalar}
 use Rattle.lbk_rules.specs.declared.cells.Cell.{Cell}
+use Rattle.lbk_rules.specs.declared.codes.TheConstants.{VERDICTS}
 use Rattle.lbk_rules.specs.declared.facts.Left.{Left}
 use Rattle.lbk_steps.specs.declared.flat_table.FlatStep.{FlatStep}
 use Rattle.lbk_steps.specs.declared.flat_table.FlatTable.{FlatTable}
@@ -11,7 +12,7 @@ use Rattle.lbk_steps.specs.declared.step_rows.Step.{Step}
 use Rattle.lbk_values.specs.declared.profile.Profile.TheVariants.{First, Second}
 use Rattle.lbk_rules.specs.Chain.{from_cells}
 use Rattle.lbk_rules.specs.Classes.{hard}
-use Rattle.lbk_rules.specs.Codes.{IsCode, verdict_coded}
+use Rattle.lbk_rules.specs.Codes.{verdict_coded}
 use Rattle.lbk_rules.specs.Facts.{facts}
 use Rattle.lbk_rules.specs.Held.{is_15b}
 pub use Rattle.lbk_steps.specs.FlatStep.{digest_with, no_flat_step}
@@ -22,6 +23,10 @@ use Rattle.lbk_rules.specs.Sides.{Side, leaves_closed}
 use Rattle.lbk_steps.specs.Steps.{IsStart, left_at, no_step}
 use Rattle.lbk_rules.specs.Units.{units_after}
 
+-- a number that a table of steps has for a verdict: the first that it has, and `HELD` by rule 15b
+abbrev pub IsStepCode : ℕ → Type 0
+IsStepCode code = (code < VERDICTS) ⊎ (code ≡ HELD)
+
 -- The step from what is known, by a cell, in the first profile and in the other: the place of the row that knows of the
 -- cell too, and the number of the verdict before the cell. In the other profile the verdict is that where what follows
 -- leaves a closing quotation mark closed. By any rule but 15b it is so whatever follows; by rule 15b it is that of the
@@ -29,7 +34,7 @@ use Rattle.lbk_rules.specs.Units.{units_after}
 pub record IsFlatStep (lefts : List Left) (left : Left) (cell : Cell) (one other : FlatStep) : Type 0 where
   pub starts : IsStart lefts one.next
   pub same : other.next ≡ one.next
-  pub coded : IsCode one.code × IsCode other.code
+  pub coded : IsStepCode one.code × IsStepCode other.code
   pub leads : (side : Side) → facts side ≡ left → facts (cell ∷ side) ≡ left_at lefts one.next
   pub decides : (side more : Side) → facts side ≡ left → verdict_coded one.code ≡ from_cells First side (cell ∷ more)
   pub closes : (side more : Side) → facts side ≡ left → leaves_closed (units_after (hard cell.class) more) ≡ true
@@ -41,9 +46,9 @@ pub record IsFlatStep (lefts : List Left) (left : Left) (cell : Cell) (one other
       → verdict_coded one.code ≡ from_cells Second side (cell ∷ more)
   pub held : is_15b (verdict_coded other.code).rule ≡ true → other.code ≡ HELD
 
--- the step by number is the other; a verdict by rule 15b has but one number
+-- the step by number is the other, and each verdict has but one number
 pub record IsNumbered (step : Step) (flat : FlatStep) : Type 0 where
-  pub coded : IsCode flat.code
+  pub coded : IsStepCode flat.code
   pub same : flat.next ≡ step.next
   pub held : is_15b step.verdict.rule ≡ true → flat.code ≡ HELD
   pub told : is_15b step.verdict.rule ≡ false → verdict_coded flat.code ≡ step.verdict

@@ -37,7 +37,7 @@ use Rattle.lbk_streams.specs.Stands.{Ahead, Stands, Waits, onward_of}
 use Rattle.lbk_streams.specs.Streams.{cells_of, late_break}
 use Rattle.lbk_bytes.proofs.AheadLemmas.{heads-tells, joins-leaves, told_by}
 use Rattle.lbk_bytes.proofs.ReachedLemmas.{with_break-more}
-use Rattle.lbk_bytes.proofs.StepLemmas.{decides-apart, decides-closed, decides-first, decides-open, held-15b, knows-more, steps-here}
+use Rattle.lbk_bytes.proofs.StepLemmas.{code-known, decides-apart, decides-closed, decides-first, decides-open, held-15b, knows-more, steps-here}
 
 -- What stands before a position that waits
 
@@ -302,7 +302,7 @@ decides-now Second cell lefts table taken at row c one other right flat known sc
             | false ↦ λ stays.
                 let decided = decides-open lefts table cell taken row c one other right flat known scalar is_one is_other held stays in
                 let step = steps-here lefts table cell row c one other flat scalar known.0 is_one is_other in
-                (step.coded.1, none ∙ sym (silent-code at one.code (quiet refl held)) ∙ ap (λ (v : Verdict). with_break at v []) decided.1)
+                (code-known _ step.coded.1, none ∙ sym (silent-code at one.code (quiet refl held)) ∙ ap (λ (v : Verdict). with_break at v []) decided.1)
           ]) refl
       | false ↦ λ apart.
           let unheld : ¬ (other.code ≡ HELD) = λ held. absurd (false≢true (sym apart ∙ same-test other.code HELD held)) in
@@ -348,7 +348,7 @@ pub waits-now : (cell : ℕ → Cell) (lefts : List Left) (table : FlatTable) (t
 waits-now cell lefts table taken place next c one other flat known scalar is_one is_other held is_break held_same code_same onward = record {
   second = refl;
   breaks = ap (λ n. is_no (verdict_coded n).kind) code_same ∙ is_break;
-  coded = subst IsCode (sym code_same) (steps-here lefts table cell place.row c one other flat scalar known.0 is_one is_other).coded.0;
+  coded = subst IsCode (sym code_same) (code-known _ (steps-here lefts table cell place.row c one other flat scalar known.0 is_one is_other).coded.0);
   before = omega arith;
   front = taken;
   last = c;
