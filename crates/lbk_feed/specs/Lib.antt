@@ -3,6 +3,7 @@ pub mod Text
 pub mod Devices
 pub mod View
 pub mod Runs
+pub mod Writes
 pub mod Tally
 pub mod Device
 pub mod MemorySource
