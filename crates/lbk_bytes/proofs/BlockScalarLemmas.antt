@@ -33,7 +33,7 @@ first-of : (text : List ℕ) (at : ℕ) → get_or (drop at text) 0 0 ≡ byte_a
 first-of text at = get_or-drop at text 0 0 ∙ ap (λ n. get_or text n 0) (let e : at + 0 ≡ at = omega arith in e)
 
 -- a byte below 128 is a scalar of its own
-ascii-reads : (text : List ℕ) (at : ℕ) → at < length text → byte_at text at < 128 → Reads text at (byte_at text at) 1
+pub ascii-reads : (text : List ℕ) (at : ℕ) → at < length text → byte_at text at < 128 → Reads text at (byte_at text at) 1
 ascii-reads text at inside low =
     let rest = drop at text in
     let same = first-of text at in
@@ -46,7 +46,7 @@ second-of-two : (b c : ℕ) → 0xC2 ≤ b → b < 0xE0 → 128 ≤ c → c < 19
 second-of-two b c low high least most = grind (arith, nat_tests)
 
 -- a first byte of two and the second are a scalar
-two-reads : (text : List ℕ) (at : ℕ) → at < length text → 0xC2 ≤ byte_at text at → byte_at text at < 0xE0 → GoesOn text (at + 1)
+pub two-reads : (text : List ℕ) (at : ℕ) → at < length text → 0xC2 ≤ byte_at text at → byte_at text at < 0xE0 → GoesOn text (at + 1)
     → Reads text at (code_of_2 (byte_at text at) (byte_at text (at + 1))) 2
 two-reads text at inside low high more =
     let rest = drop at text in

@@ -13,6 +13,7 @@ pub mod BlockScalarLemmas
 pub mod BlockBeginLemmas
 pub mod BlockLemmas
 pub mod BlockOrderLemmas
+pub mod BoundaryLemmas
 pub mod MarkLemmas
 pub mod MarkPlaceLemmas
 pub mod MarkBitLemmas

@@ -19,7 +19,7 @@ use Rattle.lbk_bytes.specs.declared.fill_state.FillState.{FillState}
 use Rattle.lbk_bytes.specs.declared.raw_break.RawBreak.{RawBreak}
 use Rattle.lbk_bytes.specs.Bytes.{with_break}
 use Rattle.lbk_bytes.specs.Marking.{AreBelow, Marked, uncounted}
-use Rattle.lbk_bytes.specs.Marks.{is_marked, stands_among}
+use Rattle.lbk_bytes.specs.Marks.{boundary_from, is_marked, stands_among}
 use Rattle.lbk_bytes.specs.Order.{AreInOrder, no_break}
 use Rattle.lbk_bytes.specs.Reached.{Ahead, Reached, onward_to}
 use Rattle.lbk_bytes.specs.Shown.{given_in, shown}
@@ -111,15 +111,16 @@ later : (profile : Profile) (cell : ℕ → Cell) (lefts : List Left) (text : Li
 later profile cell lefts text all here given r = record { taken = r.taken; knows = r.knows; some = r.some; joined = refl }
 
 -- some breaks more
-pub record Adds (profile : Profile) (cell : ℕ → Cell) (lefts : List Left) (text : List ℕ) (all : Ahead) (from stop : ℕ) (there : FillState) (old new : List ℕ) : Type 0 where
+pub record Adds (profile : Profile) (cell : ℕ → Cell) (lefts : List Left) (text : List ℕ) (all : Ahead) (from stop : ℕ) (here there : FillState) (old new : List ℕ) : Type 0 where
   pub given : List Break
   pub reached : Reached profile cell lefts text all (uncounted there) given
   pub below : AreBelow stop given
   pub marked : (i : ℕ) → is_marked new i ≡ (is_marked old i || stands_among (from + i) given)
+  pub boundary : boundary_from text there.at stop ≡ boundary_from text here.at stop
 
 pub Marked-more : (profile : Profile) (cell : ℕ → Cell) (lefts : List Left) (text : List ℕ) (all : Ahead) (from stop : ℕ) (here there : FillState) (old new : List ℕ)
     → length new ≡ length old
-    → ((rest : Ahead) → Reached profile cell lefts text rest (uncounted here) [] → Adds profile cell lefts text rest from stop there old new)
+    → ((rest : Ahead) → Reached profile cell lefts text rest (uncounted here) [] → Adds profile cell lefts text rest from stop here there old new)
     → Marked profile cell lefts text all from stop here old → Marked profile cell lefts text all from stop there new
 Marked-more profile cell lefts text all from stop here there old new same adds m =
     let r = m.reached in
@@ -139,6 +140,7 @@ Marked-more profile cell lefts text all from stop here there old new same adds m
           more.marked i
           ∙ ap (λ s. s || stands_among (from + i) more.given) (m.marked i (omega arith))
           ∙ sym (among-append (from + i) m.given more.given);
+      boundary = more.boundary ∙ m.boundary;
     }
 
 -- The ways of going on
@@ -199,7 +201,7 @@ Marked-whole profile cell lefts text all from stop here words within m =
     (subst (λ n. Marked profile cell lefts (take stop text ++ drop stop text) all from n here words) (length-take-le stop text within) m)
 
 -- where nothing was given yet
-pub Marked-none : (profile : Profile) (cell : ℕ → Cell) (lefts : List Left) (text : List ℕ) (all : Ahead) (from stop : ℕ) (here : FillState) (words : List ℕ)
+pub Marked-none : (profile : Profile) (cell : ℕ → Cell) (lefts : List Left) (text : List ℕ) (all : Ahead) (stop : ℕ) (here : FillState) (words : List ℕ)
     → ((i : ℕ) → is_marked words i ≡ false) → Reached profile cell lefts text all (uncounted here) []
-    → Marked profile cell lefts text all from stop here words
-Marked-none profile cell lefts text all from stop here words none r = record { given = []; reached = r; below = tt; marked = λ i h. none i }
+    → Marked profile cell lefts text all here.at stop here words
+Marked-none profile cell lefts text all stop here words none r = record { given = []; reached = r; below = tt; marked = λ i h. none i; boundary = refl }

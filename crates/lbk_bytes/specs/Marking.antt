@@ -5,7 +5,7 @@ use Rattle.lbk_rules.specs.declared.cells.Cell.{Cell}
 use Rattle.lbk_rules.specs.declared.facts.Left.{Left}
 use Rattle.lbk_values.specs.declared.profile.Profile.{Profile}
 use Rattle.lbk_bytes.specs.declared.fill_state.FillState.{FillState}
-use Rattle.lbk_bytes.specs.Marks.{is_marked, stands_among}
+use Rattle.lbk_bytes.specs.Marks.{boundary_from, is_marked, stands_among}
 use Rattle.lbk_bytes.specs.Reached.{Ahead, Reached}
 
 -- all breaks stand before a byte
@@ -22,9 +22,11 @@ AreFrom place (b ∷ bs) = (place ≤ b.at) × AreFrom place bs
 abbrev pub uncounted : FillState → FillState
 uncounted here = record { count = 0; row = here.row; at = here.at }
 
--- some breaks were given, all before byte `stop`: their bits are set, counted from byte `from` on, and no others
+-- some breaks were given, all before byte `stop`: their bits are set, counted from byte `from` on, and no others; the call stands
+-- between two scalars, of which the one before began before that byte
 pub record Marked (profile : Profile) (cell : ℕ → Cell) (lefts : List Left) (text : List ℕ) (all : Ahead) (from stop : ℕ) (here : FillState) (words : List ℕ) : Type 0 where
   pub given : List Break
   pub reached : Reached profile cell lefts text all (uncounted here) given
   pub below : AreBelow stop given
   pub marked : (i : ℕ) → i < 64 * length words → is_marked words i ≡ stands_among (from + i) given
+  pub boundary : boundary_from text here.at stop ≡ boundary_from text from stop

@@ -1,6 +1,7 @@
 -- Breaks as bits: one for each byte of a text from a place on.
-use Rattle.std.specs.Prelude.{ℕ, ◌/◌, ◌%◌, ◌==◌, ◌||◌, Bool, false, List, [], ◌∷◌, nat_le, slice_index, if◌then◌else◌}
+use Rattle.std.specs.Prelude.{ℕ, ◌+◌, ◌/◌, ◌%◌, ◌==◌, ◌||◌, Bool, false, List, [], ◌∷◌, drop, nat_le, slice_index, if◌then◌else◌}
 use Rattle.std.specs.Int.{bit_at}
+use Rattle.bstr.specs.Utf8.{Decoded, pieces}
 use Rattle.lbk_rules.specs.declared.breaks.Break.{Break}
 
 -- bit i of some words: the lowest of the first word comes first
@@ -16,3 +17,12 @@ stands_among place (b ∷ bs) = (b.at == place) || stands_among place bs
 abbrev pub from_on : ℕ → List Break → List Break
 from_on place [] = []
 from_on place (b ∷ bs) = if nat_le place b.at then b ∷ from_on place bs else from_on place bs
+
+-- the first byte from `place` on at which a piece begins, or else the end of all, where the first of them begins at byte `at`
+abbrev pub boundary_among : ℕ → ℕ → List Decoded → ℕ
+boundary_among place at [] = at
+boundary_among place at (p ∷ ps) = if nat_le place at then at else boundary_among place (at + p.size) ps
+
+-- the same of the scalars of a text, which are read from byte `at` on
+abbrev pub boundary_from : List ℕ → ℕ → ℕ → ℕ
+boundary_from text at place = boundary_among place at (pieces (drop at text))

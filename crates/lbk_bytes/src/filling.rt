@@ -9,6 +9,7 @@ ghost use Rattle.lbk_rules.specs.Codes.{IsCode, verdict_coded};
 ghost use Rattle.lbk_steps.specs.FlatTable.{AreFlatKinds, IsFlatBy};
 ghost use Rattle.lbk_steps.specs.Neighbours.{AreTold};
 ghost use Rattle.lbk_bytes.specs.Bytes.{with_break};
+ghost use Rattle.lbk_bytes.specs.Marks.{boundary_from};
 ghost use Rattle.lbk_bytes.specs.Order.{AreBreaks, AreInOrder};
 ghost use Rattle.lbk_bytes.specs.Reached.{Ahead, AreSwift, IsInOrder, Reached, steps_in};
 ghost use Rattle.lbk_bytes.specs.Shown.{given_in};
@@ -228,6 +229,8 @@ pub(crate) fn quick(
     ensures within { (result.count ≤ length out.old) × (result.row < 65536) × (result.at ≤ length text.now) }
     ensures onward { (start.at ≤ result.at) × (start.count ≤ result.count) }
     ensures in_order { (from : ℕ) → IsInOrder out.old start.count from start.at → IsInOrder out.new result.count from result.at }
+    ensures boundary { (more : List ℕ) (place : ℕ) → stop ≤ place
+        → boundary_from (text.now ++ more) result.at place ≡ boundary_from (text.now ++ more) start.at place }
     ensures reached { (profile : Profile) (cell : ℕ → Cell) (lefts : List Left) (more : List ℕ) (all : Ahead) → AreSwift profile lefts steps.now → AreFlatKinds kinds.now cell
         → Reached profile cell lefts (text.now ++ more) all start (given_in out.old start.count)
         → Reached profile cell lefts (text.now ++ more) all result (given_in out.new result.count) }
@@ -249,6 +252,8 @@ fn scalars(
     ensures within { (result.count ≤ length out.old) × (result.row < 65536) × (result.at ≤ length text.now) }
     ensures onward { (start.at ≤ result.at) × (start.count ≤ result.count) }
     ensures in_order { (from : ℕ) → IsInOrder out.old start.count from start.at → IsInOrder out.new result.count from result.at }
+    ensures boundary { (more : List ℕ) (place : ℕ) → stop ≤ place
+        → boundary_from (text.now ++ more) result.at place ≡ boundary_from (text.now ++ more) start.at place }
     ensures reached { (profile : Profile) (cell : ℕ → Cell) (lefts : List Left) (more : List ℕ) (all : Ahead) → AreSwift profile lefts steps.now → AreFlatKinds kinds.now cell
         → Reached profile cell lefts (text.now ++ more) all start (given_in out.old start.count)
         → Reached profile cell lefts (text.now ++ more) all result (given_in out.new result.count) }
@@ -278,6 +283,8 @@ pub(crate) fn runs(
     ensures within { (result.count ≤ length out.old) × (result.row < 65536) × (result.at ≤ length text.now) }
     ensures onward { (start.at ≤ result.at) × (start.count ≤ result.count) }
     ensures in_order { (from : ℕ) → IsInOrder out.old start.count from start.at → IsInOrder out.new result.count from result.at }
+    ensures boundary { (more : List ℕ) (place : ℕ) → stop ≤ place
+        → boundary_from (text.now ++ more) result.at place ≡ boundary_from (text.now ++ more) start.at place }
     ensures reached { (profile : Profile) (cell : ℕ → Cell) (lefts : List Left) (more : List ℕ) (all : Ahead) → AreSwift profile lefts steps.now → AreFlatKinds kinds.now cell
         → Reached profile cell lefts (text.now ++ more) all start (given_in out.old start.count)
         → Reached profile cell lefts (text.now ++ more) all result (given_in out.new result.count) }
@@ -308,6 +315,8 @@ fn run(
     ensures within { (result.count ≤ length out.old) × (result.row < 65536) × (result.at ≤ length text.now) }
     ensures onward { (start.at ≤ result.at) × (start.count ≤ result.count) }
     ensures in_order { (from : ℕ) → IsInOrder out.old start.count from start.at → IsInOrder out.new result.count from result.at }
+    ensures boundary { (more : List ℕ) (place : ℕ) → stop ≤ place
+        → boundary_from (text.now ++ more) result.at place ≡ boundary_from (text.now ++ more) start.at place }
     ensures reached { (profile : Profile) (cell : ℕ → Cell) (lefts : List Left) (more : List ℕ) (all : Ahead) → AreSwift profile lefts steps.now → AreFlatKinds kinds.now cell
         → Reached profile cell lefts (text.now ++ more) all start (given_in out.old start.count)
         → Reached profile cell lefts (text.now ++ more) all result (given_in out.new result.count) }

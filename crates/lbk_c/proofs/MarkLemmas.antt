@@ -1,5 +1,5 @@
 -- The bits of the breaks to come.
-use Rattle.std.proofs.Common.{◌≡◌, ℕ, ◌+◌, ◌*◌, ◌<◌, ◌≤◌, ◌||◌, Bool, List, [], ◌++◌, length, drop, sym, ap, subst, ◌∙◌, arith}
+use Rattle.std.proofs.Common.{◌≡◌, ℕ, ◌+◌, ◌*◌, ◌<◌, ◌≤◌, ◌||◌, Bool, List, [], ◌++◌, length, drop, sym, ap, subst, ◌∙◌, inl, inr, arith}
 use Rattle.std.proofs.Math.Seq.{drop-length}
 use Rattle.bstr.specs.Utf8.{pieces}
 use Rattle.bstr.proofs.lemmas.PieceLemmas.{pieces-nil}
@@ -12,8 +12,9 @@ use Rattle.lbk_steps.specs.FlatTable.{IsFlatBy, KnowsTaken}
 use Rattle.lbk_bytes.specs.declared.fill_state.FillState.{FillState}
 use Rattle.lbk_bytes.specs.Bytes.{end_in}
 use Rattle.lbk_bytes.specs.Marking.{Marked}
-use Rattle.lbk_bytes.specs.Marks.{from_on, is_marked, stands_among}
+use Rattle.lbk_bytes.specs.Marks.{boundary_from, from_on, is_marked, stands_among}
 use Rattle.lbk_bytes.specs.Reached.{Onward, ReachedBy, onward_to}
+use Rattle.lbk_bytes.proofs.BoundaryLemmas.{boundary-end, boundary-here}
 use Rattle.lbk_bytes.proofs.MarkLemmas.{among-append, below-wider, or-false}
 use Rattle.lbk_bytes.proofs.MarkPlaceLemmas.{end-below, from-none, from-wider, left-behind, left-from, left-past, onward-from}
 use Rattle.lbk_c.specs.declared.interface.State.{State}
@@ -24,10 +25,10 @@ use Rattle.lbk_c.proofs.ComingLemmas.{same-profile, spent-ended}
 -- the words are told before the text's end
 pub Marks-full : (goes_on : Bool) (profile : Profile) (cell : ℕ → Cell) (lefts : List Left) (text : List ℕ) (to_come : List Break) (place stop : ℕ) (here : FillState) (state : State) (words : List ℕ)
     → Marked profile cell lefts text (record { breaks = to_come; end = end_in goes_on }) place stop here words
-    → stop ≤ place + 64 * length words → place + 64 * length words ≤ here.at → here.at ≤ length text
+    → stop ≡ place + 64 * length words → place + 64 * length words ≤ here.at → here.at ≤ length text
     → state.at ≡ here.at → state.row ≡ here.row → state.ended ≡ 0
     → MarksBy (onward_to (end_in goes_on)) profile cell lefts text to_come place state words
-Marks-full goes_on profile cell lefts text to_come place stop here state words m few past within at_same row_same unended =
+Marks-full goes_on profile cell lefts text to_come place stop here state words m is_stop past within at_same row_same unended =
     let end = end_in goes_on in
     let r = m.reached in
     let room = place + 64 * length words in
@@ -47,23 +48,24 @@ Marks-full goes_on profile cell lefts text to_come place stop here state words m
           some = λ more. r.some (omega arith);
           joined =
               ap (from_on room) r.joined
-              ∙ left-behind room m.given rest (below-wider stop room m.given few m.below)
+              ∙ left-behind room m.given rest (below-wider stop room m.given (omega arith) m.below)
               ∙ left-from room rest (from-wider room here.at rest past from)
               ∙ ap (λ n. onward_to end profile cell r.taken n (pieces (drop n text))) (sym at_same);
         };
         none_come = λ ended. absurd (omega arith);
       };
+      boundary = at_same ∙ sym (boundary-here text here.at room past) ∙ ap (boundary_from text here.at) (sym is_stop) ∙ m.boundary ∙ ap (boundary_from text place) is_stop;
     }
 
 -- they are told up to the end, and it too
 pub Marks-ended : (goes_on : Bool) (profile : Profile) (cell : ℕ → Cell) (lefts : List Left) (text : List ℕ) (to_come : List Break) (place stop : ℕ) (here : FillState) (state : State) (old new : List ℕ)
     → Marked profile cell lefts text (record { breaks = to_come; end = end_in goes_on }) place stop here old
-    → length new ≡ length old → stop ≤ place + 64 * length new → here.at ≡ length text → length text < place + 64 * length new
+    → length new ≡ length old → stop ≤ place + 64 * length new → here.at ≡ length text → place ≤ length text → length text < place + 64 * length new
     → ((taken : List ℕ) → KnowsTaken cell lefts here.row taken → (0 < here.row → 0 < length taken)
     → (i : ℕ) → is_marked new i ≡ (is_marked old i || stands_among (place + i) (end_in goes_on profile cell taken (length text))))
     → state.at ≡ here.at → state.ended ≡ 1
     → MarksBy (onward_to (end_in goes_on)) profile cell lefts text to_come place state new
-Marks-ended goes_on profile cell lefts text to_come place stop here state old new m same few ends inside put at_same ended =
+Marks-ended goes_on profile cell lefts text to_come place stop here state old new m same few ends within inside put at_same ended =
     let end = end_in goes_on in
     let r = m.reached in
     let room = place + 64 * length new in
@@ -85,6 +87,7 @@ Marks-ended goes_on profile cell lefts text to_come place stop here state old ne
             ∙ left-behind room m.given last (below-wider stop room m.given few m.below)
             ∙ left-past room last (end-below goes_on profile cell r.taken (length text) room inside);
       };
+      boundary = at_same ∙ ends ∙ sym (boundary-end text place room (omega arith) (omega arith));
     }
 
 -- what a call tells of the breaks to come
@@ -114,3 +117,10 @@ Comes-behind from profile cell table text place old new to_come words going kept
 
 pub never-spent : (state : State) (len : ℕ) → IsSpent (plain state) len → state.profile ≤ 3 → state.ended ≡ 0 → state.at ≤ len → ⊥
 never-spent state len spent few unended within = (let ended = spent-ended state len spent few within in omega arith)
+
+-- where something is to come, or nothing, a state that is spent has ended
+pub Comes-unspent : (from : Onward) (cell : ℕ → Cell) (table : FlatTable) (text : List ℕ) (state : State) (to_come : List Break)
+    → IsSpent state (length text) → ComesBy from cell table text state to_come → state.ended ≡ 0 → ⊥
+Comes-unspent from cell table text state to_come (inl unnamed) c unended = (let named = c.named in cc)
+Comes-unspent from cell table text state to_come (inr (inl ended)) c unended = omega arith
+Comes-unspent from cell table text state to_come (inr (inr past)) c unended = (let within = c.onto.within in omega arith)

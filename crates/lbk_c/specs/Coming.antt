@@ -10,7 +10,7 @@ use Rattle.lbk_bytes.specs.declared.fill_state.FillState.{FillState}
 use Rattle.lbk_c.specs.declared.interface.State.{State}
 use Rattle.lbk_c.specs.State.{goes_on, plain, profile_numbered}
 use Rattle.lbk_bytes.specs.Bytes.{end_in}
-use Rattle.lbk_bytes.specs.Marks.{from_on, is_marked, stands_among}
+use Rattle.lbk_bytes.specs.Marks.{boundary_from, from_on, is_marked, stands_among}
 use Rattle.lbk_bytes.specs.Reached.{Onward, ReachedBy, onward_to}
 
 -- where a state stands in a text
@@ -47,10 +47,12 @@ pub record GoesBy (from : Onward) (profile : Profile) (cell : ℕ → Cell) (lef
   pub front : given ≡ take count to_come
   pub onto : OntoBy from profile cell lefts text state (drop count to_come)
 
--- of the places from a byte on the bits tell at which those to come stand, and those behind come from the state on
+-- of the places from a byte on the bits tell at which those to come stand, and those behind come from the state on, which stands
+-- at the first scalar behind the places, or at the text's end
 pub record MarksBy (from : Onward) (profile : Profile) (cell : ℕ → Cell) (lefts : List Left) (text : List ℕ) (to_come : List Break) (place : ℕ) (state : State) (words : List ℕ) : Type 0 where
   pub bits : (i : ℕ) → i < 64 * length words → is_marked words i ≡ stands_among (place + i) to_come
   pub onto : OntoBy from profile cell lefts text state (from_on (place + 64 * length words) to_come)
+  pub boundary : state.at ≡ boundary_from text place (place + 64 * length words)
 
 -- the breaks from a byte on, by what the number of a profile says of the text's end
 abbrev pub onward_in : ℕ → Onward

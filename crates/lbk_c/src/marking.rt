@@ -8,7 +8,7 @@ ghost use Rattle.lbk_values.specs.declared.profile.Profile.{Profile};
 ghost use Rattle.lbk_rules.specs.Joins.{moved};
 ghost use Rattle.lbk_steps.specs.FlatTable.{IsFlatBy, IsFlatOf};
 ghost use Rattle.lbk_bytes.specs.Bytes.{breaks_of_bytes, breaks_of_part};
-ghost use Rattle.lbk_bytes.specs.Marks.{from_on, is_marked, stands_among};
+ghost use Rattle.lbk_bytes.specs.Marks.{boundary_from, from_on, is_marked, stands_among};
 ghost use Rattle.lbk_bytes.specs.Reached.{ReachedBy};
 ghost use Rattle.lbk_c.specs.Coming.{Comes, IsGoing, MarksBy, from_state, onward_in};
 ghost use Rattle.lbk_c.specs.State.{part_start, plain, start_in};
@@ -24,7 +24,7 @@ const BITS: usize = 64;
 
 /// Sets a bit for each of the next places of a text, from the state's on, at which `lbk_breaks` gives a break: the lowest bit of
 /// the first word for the state's place, and all other bits are cleared. Returns of how many places the words tell, the text's end
-/// being one: of as many as they have bits, or of all that are left. The state goes on behind those, at the next scalar.
+/// being one: of as many as they have bits, or of all that are left. The state goes on at the first scalar behind those.
 ///
 /// Where there are no words, or the state is past the text or at its end, or names no profile, the state stays and all bits are
 /// cleared. Whatever the table and the state hold, no bit is set of a place that is not told of.
@@ -58,6 +58,9 @@ pub extern "C" fn lbk_marks(
         → (i : ℕ) → i < 64 * length words.old → is_marked words.new i ≡ stands_among (state.old.at + i) to_come }
     ensures rest { (cell : ℕ → Cell) (to_come : List Break) → Comes cell table.now text.now state.old to_come
         → Comes cell table.now text.now state.new (from_on (state.old.at + 64 * length words.old) to_come) }
+    // The state stands at the first scalar behind the places told of, of those that are read from its place on, or at the end.
+    ensures boundary { (cell : ℕ → Cell) (to_come : List Break) → Comes cell table.now text.now state.old to_come → state.old.ended ≡ 0
+        → state.new.at ≡ boundary_from text.now state.old.at (state.old.at + 64 * length words.old) }
     ensures ended { 0 < state.old.ended → (result ≡ 0) × (state.new ≡ state.old) }
     ensures past { length text.now < state.old.at → (result ≡ 0) × (state.new ≡ state.old) }
     ensures unknown { 3 < state.old.profile → (result ≡ 0) × (state.new ≡ state.old) }

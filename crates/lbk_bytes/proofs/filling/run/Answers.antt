@@ -1,5 +1,6 @@
-use Rattle.std.proofs.Common.{◌≡◌, ◌+◌, ◌<◌, ◌++◌, length, length-append, arith}
+use Rattle.std.proofs.Common.{◌≡◌, ◌+◌, ◌<◌, ◌++◌, ◌∙◌, length, length-append, arith}
 use Rattle.lbk_steps.specs.declared.flat_table.TheConstants.{HELD}
+use Rattle.lbk_bytes.proofs.BoundaryLemmas.{boundary-read}
 use Rattle.lbk_bytes.proofs.CutLemmas.{reads-more}
 use Rattle.lbk_bytes.proofs.LoopLemmas.{Reached-swift}
 use Rattle.lbk_bytes.proofs.PieceLemmas.{reads}
@@ -36,6 +37,10 @@ loop-count-preserved c =
       in_order = λ from order.
           let here = l.invariant.in_order from order in
           (omega (arith, here.0), put.ensures.in_order from (l.at + s.size) (omega (arith, r.some)) here);
+      boundary = λ more place before.
+          boundary-read (c.args.text.now ++ more) l.at s.code s.size place (omega (arith, length-append c.args.text.now more)) (omega arith)
+          (reads-more c.args.text.now more l.at s.code s.size inside r)
+          ∙ l.invariant.boundary more place before;
       reached = λ profile cell lefts more all swift are_kinds start.
           let text = c.args.text.now in
           let apart : ¬ (step.code ≡ HELD) = λ held. absurd (omega (arith, held, c.if-step-ge-VERDICTS.false)) in

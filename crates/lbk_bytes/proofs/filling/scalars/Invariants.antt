@@ -1,8 +1,9 @@
-use Rattle.std.proofs.Common.{◌-◌, ◌<◌, ◌≤◌, ◌++◌, ℕ, List, length}
+use Rattle.std.proofs.Common.{◌≡◌, ◌-◌, ◌<◌, ◌≤◌, ◌++◌, ℕ, List, length}
 use Rattle.lbk_rules.specs.declared.cells.Cell.{Cell}
 use Rattle.lbk_rules.specs.declared.facts.Left.{Left}
 use Rattle.lbk_values.specs.declared.profile.Profile.{Profile}
 use Rattle.lbk_steps.specs.FlatTable.{AreFlatKinds}
+use Rattle.lbk_bytes.specs.Marks.{boundary_from}
 use Rattle.lbk_bytes.specs.Reached.{Ahead, AreSwift, IsInOrder, Reached}
 use Rattle.lbk_bytes.specs.Shown.{given_in}
 use Rattle.lbk_bytes.proofs.filling.scalars.Given as goal
@@ -15,6 +16,8 @@ invariant-loop-here l = record {
   onward : l.fn.start.at ≤ l.here.at;
   more : l.fn.start.count ≤ l.here.count;
   in_order : (from : ℕ) → IsInOrder l.fn.out l.fn.start.count from l.fn.start.at → IsInOrder l.out l.here.count from l.here.at;
+  boundary : (more : List ℕ) (place : ℕ) → l.stop ≤ place
+      → boundary_from (l.text ++ more) l.here.at place ≡ boundary_from (l.text ++ more) l.fn.start.at place;
   reached : (profile : Profile) (cell : ℕ → Cell) (lefts : List Left) (more : List ℕ) (all : Ahead) → AreSwift profile lefts l.steps → AreFlatKinds l.kinds cell
       → Reached profile cell lefts (l.text ++ more) all l.fn.start (given_in l.fn.out l.fn.start.count)
       → Reached profile cell lefts (l.text ++ more) all l.here (given_in l.out l.here.count);

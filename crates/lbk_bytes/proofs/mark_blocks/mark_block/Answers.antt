@@ -1,11 +1,13 @@
-use Rattle.std.proofs.Common.{◌≡◌, ◌<◌, ◌≤◌, ◌^◌, ◌+◌, ◌-◌, ◌&&◌, ◌||◌, ◌++◌, false, leb, length, refl, ap, ◌∙◌, ⊎_elim, arith, w64}
+use Rattle.std.proofs.Common.{◌≡◌, ◌<◌, ◌≤◌, ◌^◌, ◌+◌, ◌-◌, ◌&&◌, ◌||◌, ◌++◌, false, leb, length, refl, sym, ap, ◌∙◌, ⊎_elim, arith, w64}
 use Rattle.std.specs.Int.{trailing_zeros}
 use Rattle.std.proofs.lemmas.Bool.{and_right, cases_lt}
 use Rattle.lbk_masks.specs.Sets.{is_set}
 use Rattle.lbk_bytes.specs.Marking.{uncounted}
-use Rattle.lbk_bytes.specs.Marks.{is_marked}
+use Rattle.lbk_bytes.specs.Marks.{boundary_from, is_marked}
 use Rattle.lbk_bytes.proofs.BitLemmas.{zeros-below, zeros-end, zeros-few}
 use Rattle.lbk_bytes.proofs.BlockBeginLemmas.{is-block}
+use Rattle.lbk_bytes.proofs.BlockScalarLemmas.{end-low}
+use Rattle.lbk_bytes.proofs.BoundaryLemmas.{block-boundary}
 use Rattle.lbk_bytes.proofs.MarkBitLemmas.{none-past}
 use Rattle.lbk_bytes.proofs.MarkBlockLemmas.{block-taken, recount}
 use Rattle.lbk_bytes.proofs.MarkLemmas.{Marked-more, below-wider, or-false}
@@ -53,4 +55,7 @@ returns-clause-marked c = λ profile cell lefts steps kinds more all swift are_k
           (c.behind_byte.ensures.row) place refl all_taken.reached;
       below = below-wider (here.at + taken) (length text) all_taken.given (omega arith) all_taken.below;
       marked = λ i. c.mark_bits.ensures i ∙ ap (λ b. is_marked c.args.words.now i || b) (all_taken.bits c.args.from i (omega arith) (omega arith));
+      boundary =
+          ap (λ n. boundary_from (text ++ more) n (length text)) (place ∙ sym (end-low text (here.at + taken) block.ends))
+          ∙ block-boundary profile cell lefts text more steps kinds pairs here.at taken taken (length text) room block rests.below room (omega arith);
     }) m

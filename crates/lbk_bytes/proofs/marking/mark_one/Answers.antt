@@ -6,6 +6,7 @@ use Rattle.lbk_bytes.specs.declared.fill_state.FillState.{FillState}
 use Rattle.lbk_bytes.specs.Bytes.{with_break}
 use Rattle.lbk_bytes.specs.Marking.{uncounted}
 use Rattle.lbk_bytes.specs.Marks.{is_marked}
+use Rattle.lbk_bytes.proofs.BoundaryLemmas.{boundary-step}
 use Rattle.lbk_bytes.proofs.MarkLemmas.{Marked-more, break-among, break-below, or-false}
 use Rattle.lbk_bytes.proofs.ReachedLemmas.{Reached-step}
 use Rattle.lbk_bytes.proofs.marking.mark_one.Goals as goal
@@ -36,4 +37,5 @@ returns-clause-marked c = λ cell lefts all stop flat below m.
           (λ taken known. (c.decide_one-decided.ensures.decided cell lefts taken flat known).decides) refl start;
       below = break-below stop here.at verdict below;
       marked = λ i. c.mark.ensures i ∙ ap (λ b. is_marked a.words.now i || b) (break-among c.is_break.result a.from here.at i verdict c.is_break.ensures (omega arith));
+      boundary = boundary-step text here.at found.at stop inside below d.moved;
     }) m

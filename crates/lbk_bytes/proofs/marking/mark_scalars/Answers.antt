@@ -45,4 +45,5 @@ returns-clause-marked c = λ cell lefts more all flat m.
           (fill.ensures.reached c.args.profile cell lefts more rest (swift-as c.args.profile lefts c.args.table.now cell c.steps_of-steps.result.now flat c.steps_of-steps.ensures) flat.kinds start);
       below = below-wider there.at (length front) (given_in fill.new.out there.count) fill.ensures.within.2 below;
       marked = c.mark_breaks.ensures;
+      boundary = fill.ensures.boundary more (length front) (omega arith);
     }) m

@@ -1,4 +1,4 @@
-use Rattle.std.proofs.Common.{◌+◌, ◌-◌, ◌*◌, ◌≡◌, ◌≤◌, ◌||◌, ℕ, length, min, refl, ap, ◌∙◌, arith}
+use Rattle.std.proofs.Common.{◌+◌, ◌-◌, ◌*◌, ◌≡◌, ◌||◌, length, min, refl, ap, ◌∙◌, arith}
 use Rattle.lbk_bytes.specs.Bytes.{end_in}
 use Rattle.lbk_bytes.specs.Marks.{is_marked, stands_among}
 use Rattle.lbk_c.specs.State.{goes_on, plain}
@@ -34,7 +34,7 @@ returns-clause-marks c = λ cell lefts to_come flat start.
     let ends : here.at ≡ length text = omega (arith, fill.ensures.stops, fill.ensures.within.2) in
     Marks-ended (goes_on old.profile) c.args.profile cell lefts text to_come old.at stop here (plain state) fill.new.words put.new.words
     (fill.ensures.marked cell lefts (record { breaks = to_come; end = end }) flat start)
-    (omega arith) (omega arith) ends (omega arith)
+    (omega arith) (omega arith) ends c.requires.within (omega arith)
     (λ taken knows some i.
     put.ensures.marked c.args.profile cell lefts taken old.at flat knows some i
     ∙ ap (λ g. is_marked fill.new.words i || stands_among (old.at + i) (end_in g c.args.profile cell taken (old.at + (length text - old.at)))) c.goes_on.ensures

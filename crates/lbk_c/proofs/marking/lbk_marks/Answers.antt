@@ -1,10 +1,10 @@
-use Rattle.std.proofs.Common.{◌+◌, ◌*◌, ◌≡◌, [], length, drop, ap, subst, sym, ◌∙◌, arith}
-use Rattle.lbk_bytes.specs.Marks.{from_on, stands_among}
+use Rattle.std.proofs.Common.{◌+◌, ◌*◌, ◌≡◌, length, drop, ap, subst, sym, ◌∙◌, arith}
+use Rattle.lbk_bytes.specs.Marks.{boundary_from, from_on, stands_among}
 use Rattle.lbk_c.specs.Coming.{Comes, ComesBy, IsGoing, IsSpent, onward_in}
 use Rattle.lbk_c.specs.State.{plain, plain_number}
 use Rattle.lbk_bytes.proofs.PartLemmas.{part-onward}
 use Rattle.lbk_c.proofs.ComingLemmas.{Comes-part, Comes-start, spent-none}
-use Rattle.lbk_c.proofs.MarkLemmas.{Comes-behind, Comes-marks, never-spent}
+use Rattle.lbk_c.proofs.MarkLemmas.{Comes-behind, Comes-marks, Comes-unspent, never-spent}
 use Rattle.lbk_c.proofs.marking.lbk_marks.Goals as goal
 
 pub returns-in_default-clause-start : goal.returns-in_default-clause-start
@@ -72,3 +72,17 @@ returns-in_default-clause-all c = λ few unended within inside.
 pub returns-in_default-clause-more : goal.returns-in_default-clause-more
 returns-in_default-clause-more c = λ few unended room.
     absurd (never-spent c.args.state.now (length c.args.text.now) (subst (λ s. IsSpent s (length c.args.text.now)) c.plain.ensures c.in_default.ensures) few unended (omega (arith, room)))
+
+pub returns-in_default-clause-boundary : goal.returns-in_default-clause-boundary
+returns-in_default-clause-boundary c = λ cell to_come comes unended.
+    absurd (Comes-unspent (onward_in c.args.state.now.profile) cell c.args.table.now c.args.text.now (plain c.args.state.now) to_come
+    (subst (λ s. IsSpent s (length c.args.text.now)) c.plain.ensures c.in_default.ensures) comes unended)
+
+pub returns-clause-boundary : goal.returns-clause-boundary
+returns-clause-boundary c = λ cell to_come comes unended.
+    let old = c.args.state.now in
+    let text = c.args.text.now in
+    let marks = Comes-marks (onward_in old.profile) c.in-Some.profile cell c.args.table.now text old.at (plain old) (plain c.go_on.new.state) to_come
+    c.go_on.new.words c.go_on.ensures.marks (subst (λ s. IsGoing c.in-Some.profile s (length text)) c.plain.ensures c.in-Some.ensures) comes in
+    let same : length c.go_on.new.words ≡ length c.args.words.now = omega arith in
+    marks.boundary ∙ ap (λ n. boundary_from text old.at (old.at + 64 * n)) same
