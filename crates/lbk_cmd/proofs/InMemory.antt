@@ -1,5 +1,5 @@
 -- What `show` does over a writer in memory.
-use Rattle.std.proofs.Common.{◌≡◌, ℕ, ◌<◌, List, length, None, Result, Ok, Err, sym, subst, arith}
+use Rattle.std.proofs.Common.{◌≡◌, ℕ, List, length, None, Result, Ok, Err, refl, sym, subst}
 use Rattle.std.proofs.Math.Seq.{take-length}
 use Rattle.lbk_feed.specs.Runs.{at_end}
 use Rattle.lbk_cmd.specs.Acts.{TextRuns}
@@ -15,9 +15,6 @@ untold d = record d { written = None; failed_writes = 0 }
 abbrev Answer : Type 0
 Answer = Result (Unit {0}) CmdFault
 
-none_fails : 0 < 0 → ⊥
-none_fails low = omega (arith, low)
-
 -- want of memory in the place of a write that failed
 unwritten : (text : List ℕ → List ℕ) (e : Engine) (before after : Devices)
     → TextRuns text e before after (Err cmd.Write) → TextRuns text e (untold before) (untold after) (Err cmd.Memory)
@@ -27,10 +24,8 @@ unwritten text e before after t = record {
   run = record { read = t.run.read; out = t.run.out; took = t.run.took; put = tt; so = record { comes = t.run.so.comes; keeps_up = t.run.so.keeps_up } };
   reads = t.reads;
   limit = (λ is. absurd (let no : ⊥ = cc in no), λ other. absurd (let was = t.limit.1 other in let no : ⊥ = cc in no));
-  read = λ is. absurd (let no : ⊥ = cc in no);
-  read_failed = λ low. absurd (let was = t.read_failed low in let no : ⊥ = cc in no);
-  write = λ is. absurd (let no : ⊥ = cc in no);
-  write_failed = λ low. absurd (none_fails low);
+  failed_reads = t.failed_reads;
+  failed_writes = refl;
 }
 
 pub untold_unwritten : (text : List ℕ → List ℕ) (e : Engine) (before after : Devices) (answer : Answer) → answer ≡ Err cmd.Write
@@ -52,8 +47,6 @@ untold_done text e before after t = record {
   };
   reads = t.reads;
   limit = (λ is. absurd (let no : ⊥ = cc in no), λ other. absurd (let was = t.limit.1 other in let no : ⊥ = cc in no));
-  read = λ is. absurd (let no : ⊥ = cc in no);
-  read_failed = λ low. absurd (let was = t.read_failed low in let no : ⊥ = cc in no);
-  write = λ is. absurd (let no : ⊥ = cc in no);
-  write_failed = λ low. absurd (none_fails low);
+  failed_reads = t.failed_reads;
+  failed_writes = refl;
 }

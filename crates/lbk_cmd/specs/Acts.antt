@@ -1,16 +1,17 @@
 -- What a run of the program does, by its words.
-use Rattle.std.specs.Prelude.{◌≡◌, ◌⊎◌, ◌+◌, ◌<◌, ◌≤◌, ◌↔◌, ℕ, Bool, List, Option, None, Some, Result, Err, IfOk, IfSome, IsErrOf, IsTrue, IsUtf8, OnOk, if◌then◌else◌}
+use Rattle.std.specs.Prelude.{◌≡◌, ◌⊎◌, ◌+◌, ◌≤◌, ◌↔◌, ℕ, Bool, List, Option, None, Some, Result, IfOk, IfSome, IsErrOf, IsTrue, IsUtf8, OnOk, if◌then◌else◌}
 use Rattle.std.specs.Str.{chars}
 use Rattle.std.specs.Io.KnownBytes.{Appends, IsAtEnd}
-use Rattle.lbk_feed.specs.Runs.{HasFailed, Ran}
+use Rattle.lbk_feed.specs.Runs.{Ran}
 use Rattle.lbk_feed.specs.declared.traits.Source.{Ghosts as SourceMembers}
 use Rattle.lbk_feed.specs.Text.{longest_text}
 use Rattle.lbk_passage.specs.Passages.{passages}
 use Rattle.lbk_passage.specs.State.{IsLimit}
 use Rattle.lbk_passage.specs.declared.faults.PassageFault.{PassageFault}
-use Rattle.lbk_notation.specs.Replay.{IsReplayRun, IsReplayed, failed_reads_with, failed_writes_with, fault_in, is_read_fault}
+use Rattle.lbk_notation.specs.Replay.{IsReplayRun, IsReplayed, fault_in, is_read_fault}
+use Rattle.lbk_notation.specs.Replay as replay
 use Rattle.lbk_cmd.specs.Engines.{engine_of, lines_of, marking, segmenting, showing}
-use Rattle.lbk_cmd.specs.Run.{Engine as TextEngine, IsRun, is_failed_read}
+use Rattle.lbk_cmd.specs.Run.{Engine as TextEngine, IsRun, failed_reads_with, failed_writes_with, is_failed_read}
 use Rattle.lbk_cmd.specs.Ranges.{RangeRuns}
 use Rattle.lbk_cmd.specs.Texts.{lines_from, segment_text, show_text, signed_text}
 use Rattle.lbk_rules.specs.declared.cells.Cell.{Cell}
@@ -45,10 +46,8 @@ pub record TextRuns (text : List ℕ → List ℕ) (engine : TextEngine) (before
   pub run : Ran (is_failed_read answer) before.unread after.unread before.written after.written (IsRun engine before.reads after.reads after.has_ended answer)
   pub reads : after.reads.count ≤ before.reads.count + (longest_text + 1)
   pub limit : IsErrOf answer (CmdFault.Passage PassageFault.Limit) ↔ (¬ (IsLimit engine.limit))
-  pub read : IsErrOf answer (CmdFault.Passage PassageFault.Read) → HasFailed before.failed_reads after.failed_reads
-  pub read_failed : before.failed_reads < after.failed_reads → answer ≡ Err (CmdFault.Passage PassageFault.Read)
-  pub write : IsErrOf answer CmdFault.Write → HasFailed before.failed_writes after.failed_writes
-  pub write_failed : before.failed_writes < after.failed_writes → answer ≡ Err CmdFault.Write
+  pub failed_reads : after.failed_reads ≡ failed_reads_with before.failed_reads answer
+  pub failed_writes : after.failed_writes ≡ failed_writes_with before.failed_writes answer
 
 -- the same, by the lines that are written of each passage
 abbrev pub Writes : Lines → (ℕ → Cell) → ℕ → Profile → Devices → Devices → Result (Unit {0}) CmdFault → Type 0
@@ -71,12 +70,8 @@ pub record Replays (cell : ℕ → Cell) (form : Form) (profile : Profile) (befo
   pub run : Ran (is_read_fault answer) before.unread after.unread before.written after.written
       (IsReplayRun cell form profile before.reads after.reads (IsTrue after.has_ended × IsAtEnd after.unread) answer)
   pub ended : OnOk answer (IsTrue after.has_ended × IsAtEnd after.unread)
-  pub read : IsErrOf answer ReplayFault.Read → HasFailed before.failed_reads after.failed_reads
-  pub read_failed : before.failed_reads < after.failed_reads → answer ≡ Err ReplayFault.Read
-  pub write : IsErrOf answer ReplayFault.Write → HasFailed before.failed_writes after.failed_writes
-  pub write_failed : before.failed_writes < after.failed_writes → answer ≡ Err ReplayFault.Write
-  pub failed_reads : after.failed_reads ≡ failed_reads_with before.failed_reads (fault_in answer)
-  pub failed_writes : after.failed_writes ≡ failed_writes_with before.failed_writes (fault_in answer)
+  pub failed_reads : after.failed_reads ≡ replay.failed_reads_with before.failed_reads (fault_in answer)
+  pub failed_writes : after.failed_writes ≡ replay.failed_writes_with before.failed_writes (fault_in answer)
   pub reads : after.reads.count ≤ before.reads.count + (longest_text + 1)
 
 -- `--kinds`

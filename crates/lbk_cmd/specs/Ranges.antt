@@ -4,7 +4,7 @@ use Rattle.std.specs.List.{flat_map}
 use Rattle.std.specs.Str.{chars}
 use Rattle.std.specs.Io.KnownBytes.{Appends, IsAtEnd}
 use Rattle.lbk_feed.specs.Devices.{Reads}
-use Rattle.lbk_feed.specs.Runs.{HasFailed, Ran}
+use Rattle.lbk_feed.specs.Runs.{Ran}
 use Rattle.lbk_feed.specs.Text.{longest_text}
 use Rattle.lbk_feed.specs.View.{IsStill}
 use Rattle.lbk_passage.specs.Marks.{Marked, scalars_of}
@@ -13,7 +13,7 @@ use Rattle.lbk_passage.specs.declared.faults.PassageFault.{PassageFault}
 use Rattle.lbk_passage.specs.declared.faults.PassageFault.TheVariants as passage
 use Rattle.lbk_args.specs.declared.order.Part.{Part}
 use Rattle.lbk_cmd.specs.Devices.{Devices}
-use Rattle.lbk_cmd.specs.Run.{ComesTo, Engine, IsHeldUp, IsRefused, IsSettled, IsWhole, KeepsUp, is_failed_read, passages_by}
+use Rattle.lbk_cmd.specs.Run.{ComesTo, Engine, IsHeldUp, IsRefused, IsSettled, IsWhole, KeepsUp, failed_reads_with, failed_writes_with, is_failed_read, passages_by}
 use Rattle.lbk_cmd.specs.Texts.{lines_from}
 use Rattle.lbk_cmd.specs.declared.faults.CmdFault.{CmdFault}
 use Rattle.lbk_cmd.specs.declared.faults.CmdFault.TheVariants.{Passage}
@@ -96,7 +96,5 @@ pub record RangeRuns (part : Part) (engine : Engine) (before after : Devices) (a
       (IsRangeRun (within part engine) part.from part.to before.reads after.reads after.has_ended (IsTrue after.has_ended × IsAtEnd after.unread) answer)
   pub reads : after.reads.count ≤ before.reads.count + (longest_text + 1)
   pub limit : IsErrOf answer (CmdFault.Passage PassageFault.Limit) ↔ (¬ (IsLimit engine.limit))
-  pub read : IsErrOf answer (CmdFault.Passage PassageFault.Read) → HasFailed before.failed_reads after.failed_reads
-  pub read_failed : before.failed_reads < after.failed_reads → answer ≡ Err (CmdFault.Passage PassageFault.Read)
-  pub write : IsErrOf answer CmdFault.Write → HasFailed before.failed_writes after.failed_writes
-  pub write_failed : before.failed_writes < after.failed_writes → answer ≡ Err CmdFault.Write
+  pub failed_reads : after.failed_reads ≡ failed_reads_with before.failed_reads answer
+  pub failed_writes : after.failed_writes ≡ failed_writes_with before.failed_writes answer

@@ -2,7 +2,7 @@
 use Rattle.std.specs.Prelude.{◌≡◌, ◌⊎◌, ℕ, ◌+◌, ◌<◌, ◌≤◌, Bool, true, false, List, [], ◌∷◌, ◌++◌, length, Result, Ok, Err, IsUtf8, encode_utf8_all}
 use Rattle.std.specs.List.{AllByRecursion, flat_map}
 use Rattle.std.specs.Str.{chars}
-use Rattle.lbk_feed.specs.Devices.{Reads}
+use Rattle.lbk_feed.specs.Devices.{Reads, count_up}
 use Rattle.lbk_feed.specs.Runs.{IsStopped}
 use Rattle.lbk_feed.specs.Text.{longest_text, well_formed_prefix, counted, IsNotUtf8At, IsTooLong}
 use Rattle.lbk_feed.specs.View.{CanGoOn, IsStill}
@@ -134,3 +134,12 @@ pub record IsRun {X : Type 0} (e : Engine) (from to : Reads) (ended : Bool) (ans
 abbrev pub is_failed_read : {X : Type 0} → Result X CmdFault → Bool
 is_failed_read (Err (Passage fault.Read)) = true
 is_failed_read _ = false
+
+-- the counts of a reader's and of a writer's failures after a run: one more exactly where the run answered so
+abbrev pub failed_reads_with : {X : Type 0} → ℕ → Result X CmdFault → ℕ
+failed_reads_with n (Err (Passage fault.Read)) = count_up n
+failed_reads_with n _ = n
+
+abbrev pub failed_writes_with : {X : Type 0} → ℕ → Result X CmdFault → ℕ
+failed_writes_with n (Err Write) = count_up n
+failed_writes_with n _ = n

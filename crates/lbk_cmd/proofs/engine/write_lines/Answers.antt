@@ -20,10 +20,8 @@ returns-in_err-segmenter g c =
           c.in_err-segmenter.ensures.only);
       reads = search rules;
       limit = search rules;
-      read = search rules;
-      read_failed = search rules;
-      write = search rules;
-      write_failed = search rules;
+      failed_reads = search rules;
+      failed_writes = search rules;
     }
 
 pub loop-text-init : goal.loop-text-init
@@ -46,10 +44,8 @@ returns-in_err-passage g c =
       reads = most_reads (engine_of c.args.lines (g.C.CellSource.cell_of c.args.cells.now) c.args.profile c.args.limit) _ _ _ _ _ _ _ _ _ _ _ _
           c.loop-text.invariant.going c.next.result c.next.follows.holds-at-none;
       limit = search rules;
-      read = search rules;
-      read_failed = search rules;
-      write = search rules;
-      write_failed = search rules;
+      failed_reads = search rules;
+      failed_writes = search rules;
     }
 
 pub push_lines-requires-clause-cut : goal.push_lines-requires-clause-cut
@@ -68,10 +64,8 @@ returns-in_err-push_lines g c =
       reads = most_reads (engine_of c.args.lines (g.C.CellSource.cell_of c.args.cells.now) c.args.profile c.args.limit) _ _ _ _ _ _ _ _ _ _ _ _
           c.loop-text.invariant.going c.next.result c.next.follows.holds-at-none;
       limit = search rules;
-      read = search rules;
-      read_failed = search rules;
-      write = search rules;
-      write_failed = search rules;
+      failed_reads = search rules;
+      failed_writes = search rules;
     }
 
 pub loop-text-preserved : goal.loop-text-preserved
@@ -108,10 +102,8 @@ returns-in_err-write_all g c =
       reads = most_reads (engine_of c.args.lines (g.C.CellSource.cell_of c.args.cells.now) c.args.profile c.args.limit) _ _ _ _ _ _ _ _ _ _ _ _
           c.loop-text.invariant.going c.next.result c.next.follows.holds-at-none;
       limit = search rules;
-      read = search rules;
-      read_failed = search rules;
-      write = search rules;
-      write_failed = search rules;
+      failed_reads = search rules;
+      failed_writes = search rules;
     }
 
 pub returns : goal.returns
@@ -129,8 +121,6 @@ returns g c =
       reads = most_reads (engine_of c.args.lines (g.C.CellSource.cell_of c.args.cells.now) c.args.profile c.args.limit) _ _ _ _ _ _ _ _ _ _ _ _
           c.loop-text.invariant.going c.next.result c.next.follows.holds-at-none;
       limit = search rules;
-      read = search rules;
-      read_failed = search rules;
-      write = search rules;
-      write_failed = search rules;
+      failed_reads = search rules;
+      failed_writes = search rules;
     }

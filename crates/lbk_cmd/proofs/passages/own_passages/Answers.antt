@@ -20,10 +20,8 @@ returns-in_err-segmenter-clause-refused g c =
           c.in_err-segmenter.ensures.only);
       reads = search rules;
       limit = search rules;
-      read = search rules;
-      read_failed = search rules;
-      write = search rules;
-      write_failed = search rules;
+      failed_reads = search rules;
+      failed_writes = search rules;
     })
 
 pub loop-segmenter-init : goal.loop-segmenter-init
@@ -45,10 +43,8 @@ returns-in_err-passage-clause-refused g c =
       reads = most_reads (showing (page_cell c.args.cells.now) c.args.profile c.args.limit) _ _ _ _ _ _ _ _ _ _ _ _
           c.loop-segmenter.invariant.owning.going c.next.result c.next.follows.holds-at-none;
       limit = search rules;
-      read = search rules;
-      read_failed = search rules;
-      write = search rules;
-      write_failed = search rules;
+      failed_reads = search rules;
+      failed_writes = search rules;
     })
 
 pub returns-in_err-owned-clause-refused : goal.returns-in_err-owned-clause-refused
@@ -63,10 +59,8 @@ returns-in_err-owned-clause-refused g c =
       reads = most_reads (showing (page_cell c.args.cells.now) c.args.profile c.args.limit) _ _ _ _ _ _ _ _ _ _ _ _
           c.loop-segmenter.invariant.owning.going c.next.result c.next.follows.holds-at-none;
       limit = search rules;
-      read = search rules;
-      read_failed = search rules;
-      write = search rules;
-      write_failed = search rules;
+      failed_reads = search rules;
+      failed_writes = search rules;
     })
 
 pub returns-in_err-push-clause-refused : goal.returns-in_err-push-clause-refused
@@ -81,10 +75,8 @@ returns-in_err-push-clause-refused g c =
       reads = most_reads (showing (page_cell c.args.cells.now) c.args.profile c.args.limit) _ _ _ _ _ _ _ _ _ _ _ _
           c.loop-segmenter.invariant.owning.going c.next.result c.next.follows.holds-at-none;
       limit = search rules;
-      read = search rules;
-      read_failed = search rules;
-      write = search rules;
-      write_failed = search rules;
+      failed_reads = search rules;
+      failed_writes = search rules;
     })
 
 pub loop-segmenter-preserved : goal.loop-segmenter-preserved
@@ -118,8 +110,6 @@ returns-clause-done g c =
       reads = most_reads (showing (page_cell c.args.cells.now) c.args.profile c.args.limit) _ _ _ _ _ _ _ _ _ _ _ _
           c.loop-segmenter.invariant.owning.going c.next.result c.next.follows.holds-at-none;
       limit = search rules;
-      read = search rules;
-      read_failed = search rules;
-      write = search rules;
-      write_failed = search rules;
+      failed_reads = search rules;
+      failed_writes = search rules;
     }

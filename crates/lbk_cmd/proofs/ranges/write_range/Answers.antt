@@ -21,10 +21,8 @@ returns-in_err-segmenter g c =
           c.in_err-segmenter.ensures.only) c.args.part.from c.args.part.to tt;
       reads = search rules;
       limit = search rules;
-      read = search rules;
-      read_failed = search rules;
-      write = search rules;
-      write_failed = search rules;
+      failed_reads = search rules;
+      failed_writes = search rules;
     }
 
 pub loop-at-init : goal.loop-at-init
@@ -50,10 +48,8 @@ returns-in_err-passage g c =
       reads = most_reads (engine_in c.args.part c.args.lines (g.C.CellSource.cell_of c.args.cells.now) c.args.profile c.args.limit) _ _ _ _ _ _ _ _ _ _ _ _
           c.loop-at.invariant.going c.next.result c.next.follows.holds-at-none;
       limit = search rules;
-      read = search rules;
-      read_failed = search rules;
-      write = search rules;
-      write_failed = search rules;
+      failed_reads = search rules;
+      failed_writes = search rules;
     }
 
 pub push_lines-requires-clause-cut : goal.push_lines-requires-clause-cut
@@ -72,10 +68,8 @@ returns-in_err-push_lines g c =
       reads = most_reads (engine_in c.args.part c.args.lines (g.C.CellSource.cell_of c.args.cells.now) c.args.profile c.args.limit) _ _ _ _ _ _ _ _ _ _ _ _
           c.loop-at.invariant.going c.next.result c.next.follows.holds-at-none;
       limit = search rules;
-      read = search rules;
-      read_failed = search rules;
-      write = search rules;
-      write_failed = search rules;
+      failed_reads = search rules;
+      failed_writes = search rules;
     }
 
 pub loop-at-preserved : goal.loop-at-preserved
@@ -122,10 +116,8 @@ returns-in_err-write_all g c =
       reads = most_reads (engine_in c.args.part c.args.lines (g.C.CellSource.cell_of c.args.cells.now) c.args.profile c.args.limit) _ _ _ _ _ _ _ _ _ _ _ _
           c.loop-at.invariant.going c.next.result c.next.follows.holds-at-none;
       limit = search rules;
-      read = search rules;
-      read_failed = search rules;
-      write = search rules;
-      write_failed = search rules;
+      failed_reads = search rules;
+      failed_writes = search rules;
     }
 
 pub returns-in_err-end : goal.returns-in_err-end
@@ -140,10 +132,8 @@ returns-in_err-end g c =
           ((omega (arith, c.loop-at.invariant.at, c.loop-at-test.true, c.from.ensures), c.loop-at.invariant.before), λ same. absurd (c.pass.ensures.memory (passes.is ∙ ap end_of same)));
       reads = most_reads e _ _ _ _ _ _ _ _ _ _ _ _ c.loop-at.invariant.going passes.lent passes.after;
       limit = search rules;
-      read = search rules;
-      read_failed = search rules;
-      write = search rules;
-      write_failed = search rules;
+      failed_reads = search rules;
+      failed_writes = search rules;
     }
 
 pub returns-in_default : goal.returns-in_default
@@ -158,10 +148,8 @@ returns-in_default g c =
       run = run;
       reads = most_reads e _ _ _ _ _ _ _ _ _ _ _ _ c.loop-at.invariant.going passes.lent passes.after;
       limit = search rules;
-      read = search rules;
-      read_failed = search rules;
-      write = search rules;
-      write_failed = search rules;
+      failed_reads = search rules;
+      failed_writes = search rules;
     }
 
 pub loop-at-preserved-then-at-from : goal.loop-at-preserved-then-at-from
@@ -203,10 +191,8 @@ returns-in_default-2 g c =
       run = run;
       reads = most_reads e _ _ _ _ _ _ _ _ _ _ _ _ c.loop-at.invariant.going c.next.result c.next.follows.holds-at-none;
       limit = search rules;
-      read = search rules;
-      read_failed = search rules;
-      write = search rules;
-      write_failed = search rules;
+      failed_reads = search rules;
+      failed_writes = search rules;
     }
 
 pub returns : goal.returns
@@ -219,8 +205,6 @@ returns g c =
       run = run;
       reads = c.loop-at.invariant.going.most;
       limit = search rules;
-      read = search rules;
-      read_failed = search rules;
-      write = search rules;
-      write_failed = search rules;
+      failed_reads = search rules;
+      failed_writes = search rules;
     }
