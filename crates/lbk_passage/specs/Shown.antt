@@ -1,6 +1,8 @@
 -- The state of a segmenter.
-use Rattle.std.specs.Prelude.{ℕ, ◌≡◌, string_capacity, vec_capacity}
+use Rattle.std.specs.Prelude.{ℕ, ◌≡◌, List, string_capacity, vec_capacity}
 use Rattle.lbk_rules.specs.declared.cells.Cell.{Cell}
+use Rattle.lbk_passage.specs.declared.passage.Piece.{Piece}
+use Rattle.lbk_passage.specs.declared.passage.Segment.{Segment}
 use Rattle.lbk_passage.specs.declared.segmenter.Segmenter.{Segmenter}
 use Rattle.lbk_passage.specs.State.{State, state_with}
 
@@ -14,7 +16,18 @@ pub record HasRoom {C : Type 0} {bound : _} (s : Segmenter C bound) (limit : ℕ
   pub segments : vec_capacity s.segments ≡ 0
   pub pieces : vec_capacity s.pieces ≡ 0
 
--- the lists of segments and of pieces stay as they were, and so does the memory that they have
-pub record KeepsLists {C : Type 0} {bound : _} (old new : Segmenter C bound) : Type 0 where
-  pub segments : new.segments ≡ old.segments
-  pub pieces : new.pieces ≡ old.pieces
+-- the segments and the pieces that were found last, and for how many there is room
+pub record Found : Type 0 where
+  pub segments : List Segment
+  pub room_for_segments : ℕ
+  pub pieces : List Piece
+  pub room_for_pieces : ℕ
+
+-- what a segmenter has found
+abbrev pub found_by : {C : Type 0} {bound : _} → Segmenter C bound → Found
+found_by s = record {
+  segments = s.segments.items;
+  room_for_segments = vec_capacity s.segments;
+  pieces = s.pieces.items;
+  room_for_pieces = vec_capacity s.pieces;
+}

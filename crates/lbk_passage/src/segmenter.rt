@@ -48,7 +48,7 @@ pub struct Segmenter<'a, C: CellSource> {
 
 impl<'a, C: CellSource> Segmenter<'a, C> {
     ghost use Rattle.lbk_passage.specs.State.{IsLimit, new_state};
-    ghost use Rattle.lbk_passage.specs.Shown.{HasRoom, KeepsLists, state_of};
+    ghost use Rattle.lbk_passage.specs.Shown.{HasRoom, found_by, state_of};
     ghost use Rattle.lbk_passage.specs.Next.{AfterNext, IsDone, IsPlaced, fault_in, failures_with};
     ghost use Rattle.lbk_passage.specs.Passing.{PassesOver};
     ghost use Rattle.lbk_passage.specs.contracts.segmenter.Segmenter.{the_row};
@@ -138,7 +138,7 @@ impl<'a, C: CellSource> Segmenter<'a, C> {
         ensures reads { (R.reads_made reader.new).count ≤ (R.reads_made reader.old).count + ((state_of C.cell_of self.old).limit + 8) }
         // Nothing grows, so it is never out of memory.
         ensures memory { ¬ (result ≡ Err PassageFault.Memory) }
-        ensures lists { KeepsLists self.old self.new }
+        ensures found { found_by self.new ≡ found_by self.old }
         ensures failures { R.failure_count reader.new ≡ failures_with (R.failure_count reader.old) (fault_in result) }
     {
         let Some(_) = self.paragraph.fill(reader, self.cells, &self.flags)? else {

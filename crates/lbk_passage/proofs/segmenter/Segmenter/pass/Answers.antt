@@ -46,7 +46,7 @@ returns-in_err-fill g c =
       ended = λ h. c.fill.ensures.ended h;
       reads = omega (arith, c.fill.ensures.reads);
       memory = λ is. never_memory (state_with cell profile p) p old.is_spent exit.0 fills.answer (let same : exit.0 ≡ Memory = cc in same);
-      lists = record { segments = refl; pieces = refl };
+      found = refl;
       failures = c.fill.ensures.failures ∙ ap (λ r. failures_with (g.R.Source.failure_count c.args.reader.now) (fault_in r)) was;
     })
 
@@ -66,7 +66,7 @@ returns-in_default g c =
       ended = λ h. c.fill.ensures.ended h;
       reads = omega (arith, c.fill.ensures.reads);
       memory = λ is. cc;
-      lists = record { segments = refl; pieces = refl };
+      found = refl;
       failures = c.fill.ensures.failures ∙ ap (λ r. failures_with (g.R.Source.failure_count c.args.reader.now) (fault_in r)) was;
     }
 
@@ -96,6 +96,6 @@ returns g c =
       ended = λ h. c.fill.ensures.ended h;
       reads = omega (arith, c.fill.ensures.reads);
       memory = λ is. absurd (ok_err (Ok (Some c.given.result)) (Some c.given.result) Memory refl is);
-      lists = record { segments = refl; pieces = refl };
+      found = refl;
       failures = c.fill.ensures.failures ∙ ap (λ r. failures_with (g.R.Source.failure_count c.args.reader.now) (fault_in r)) was;
     }
