@@ -2,7 +2,7 @@
 
 ghost use Rattle.std.specs.Prelude.{◌≡◌, ℕ, ◌+◌, ◌-◌, ◌^◌, ◌<◌, ◌≤◌, List, Option, vec_len, IfErr, IfOk, MatchResult};
 ghost use Rattle.lbk_feed.specs.Devices.{count_up};
-ghost use Rattle.lbk_files.specs.FileStore.{AreLeft, loads_of, opener_of, refusals_of, tells};
+ghost use Rattle.lbk_files.specs.FileStore.{AreLeft, IsRefusalOf, loads_of, opener_of, refusals_of, tells};
 ghost use Rattle.lbk_files.specs.Store.{IsFront, IsLoadFault, refusals_after};
 
 use super::front::read_front;
@@ -60,6 +60,7 @@ impl<'a, O: Opens> Store for FileStore<'a, O> {
     fn load(&mut self, alloc: Global, name: &str, most: usize) -> Result<Vec<u8>, LoadFault>
         requires { most < 2 ^ 64 - 1 }
         ensures front { IfOk result (λ bytes. IsFront (O.contents (opener_of self.old) name.now) most bytes.items) }
+        ensures fault { IfErr result (IsRefusalOf O.File.Source (O.contents (opener_of self.old) name.now)) }
         ensures opener { opener_of self.new ≡ opener_of self.old }
         ensures loaded { MatchResult result (λ bytes. IsFront (tells self.old name.now) most bytes.items) (IsLoadFault (tells self.old name.now)) }
         ensures within { IfOk result (λ bytes. vec_len bytes ≤ most + 1) }
@@ -93,6 +94,7 @@ fn front_of<O: Opens>(
 ) -> Result<Vec<u8>, LoadFault>
     requires { most < 2 ^ 64 - 1 }
     ensures front { IfOk result (λ bytes. IsFront (O.contents opener.now name.now) most bytes.items) }
+    ensures fault { IfErr result (IsRefusalOf O.File.Source (O.contents opener.now name.now)) }
     ensures within { IfOk result (λ bytes. vec_len bytes ≤ most + 1) }
 {
     let mut file = opener.open(name)?;

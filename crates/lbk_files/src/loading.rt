@@ -1,9 +1,9 @@
 //! The four files that words name, loaded in order and read.
 
-ghost use Rattle.std.specs.Prelude.{◌≡◌, ◌+◌, ◌<◌, ◌≤◌, Err, MatchResult, true};
+ghost use Rattle.std.specs.Prelude.{◌≡◌, ◌+◌, ◌<◌, ◌≤◌, Err, MatchResult, OnOk, true};
 ghost use Rattle.lbk_feed.specs.Devices.{count_up};
 ghost use Rattle.lbk_steps.specs.CellPages.{page_cell};
-ghost use Rattle.lbk_files.specs.FileFault.{AreCellsFrom, IsFileFault, IsLoaded, counts_of};
+ghost use Rattle.lbk_files.specs.FileFault.{AreCellsFrom, IsFileFault, IsLoaded, counts_of, loads_to};
 ghost use Rattle.lbk_files.specs.Named.{IsOneFault, files_of, told_of};
 ghost use Rattle.lbk_files.specs.Places.{files_at, refusals_by, told_at};
 ghost use Rattle.lbk_args.specs.Task.{files_of_names, given};
@@ -36,6 +36,7 @@ pub fn load_cells<S: Store>(
     ensures refused { S.refusal_count store.old < S.refusal_count store.new → result ≡ Err CellsFault.Memory }
     ensures files { S.file store.new ≡ S.file store.old }
     ensures loads { S.load_count store.new ≤ S.load_count store.old + 4 }
+    ensures all { OnOk result (S.load_count store.new ≡ loads_to Which.Emoji (S.load_count store.old)) }
 {
     // All names are made before the first load.
     match places_of(alloc, names) {
@@ -56,6 +57,7 @@ fn load_places<S: Store>(
     ensures refused { S.refusal_count store.old < S.refusal_count store.new → result ≡ Err CellsFault.Memory }
     ensures files { S.file store.new ≡ S.file store.old }
     ensures loads { S.load_count store.new ≤ S.load_count store.old + 4 }
+    ensures all { OnOk result (S.load_count store.new ≡ loads_to Which.Emoji (S.load_count store.old)) }
 {
     let line_break = load_file(alloc, &places.line_break, store, Which::LineBreak)?;
     let east_asian = load_file(alloc, &places.east_asian, store, Which::EastAsianWidth)?;

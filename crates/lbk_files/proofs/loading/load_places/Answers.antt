@@ -1,9 +1,13 @@
-use Rattle.std.proofs.Common.{◌∙◌, ap}
+use Rattle.std.proofs.Common.{◌∙◌, Result, Ok, Err, OnOk, ap}
 use Rattle.lbk_feed.specs.Devices.{count_up}
 use Rattle.lbk_files.proofs.LastFile.{handed_on, last_fault, third_fault}
 use Rattle.lbk_files.specs.FileFault.{counts_of}
 use Rattle.lbk_files.specs.Places.{refused_by}
 use Rattle.lbk_files.proofs.loading.load_places.Goals as goal
+
+each_ok : {X E : Type 0} (answer : Result X E) (So : Type 0) → So → OnOk answer So
+each_ok (Ok x) So so = so
+each_ok (Err e) So so = tt
 
 pub returns-in_err-category-clause-loaded : goal.returns-in_err-category-clause-loaded
 returns-in_err-category-clause-loaded g c =
@@ -30,3 +34,8 @@ returns-in_err-emoji-clause-loaded g c =
     (c.in_err-emoji.ensures.refusals ∙ ap (λ n. refused_by n c.in_err-emoji.field-0.0)
     (c.in_ok-category.ensures.refusals ∙ c.in_ok-east_asian.ensures.refusals ∙ c.in_ok-line_break.ensures.refusals))
     (c.in_err-emoji.ensures.loads ∙ ap count_up (c.in_ok-category.ensures.loads ∙ ap count_up (c.in_ok-east_asian.ensures.loads ∙ ap count_up c.in_ok-line_break.ensures.loads))))
+
+pub returns-clause-all : goal.returns-clause-all
+returns-clause-all g c =
+    each_ok c.read_cells.result _ (c.in_ok-emoji.ensures.loads ∙ ap count_up (c.in_ok-category.ensures.loads
+    ∙ ap count_up (c.in_ok-east_asian.ensures.loads ∙ ap count_up c.in_ok-line_break.ensures.loads)))
