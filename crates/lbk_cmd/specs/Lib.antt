@@ -8,6 +8,7 @@ pub mod Engines
 pub mod Ending
 pub mod Devices
 pub mod Operands
+pub mod MemoryTexts
 pub mod Ranges
 pub mod Acts
 pub mod Headline

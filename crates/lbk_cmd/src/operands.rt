@@ -1,8 +1,8 @@
 //! The texts that operands name.
 
-ghost use Rattle.std.specs.Prelude.{◌≡◌, ◌++◌, ◌∷◌, ℕ, List, [], None, Option, Some, option_map};
+ghost use Rattle.std.specs.Prelude.{◌≡◌, ◌++◌, ◌∷◌, ℕ, List, [], Option, option_map};
 ghost use Rattle.lbk_cmd.specs.declared.ending.RunFault.{RunFault};
-ghost use Rattle.lbk_files.specs.MemoryStore.{contents_of, named_files};
+ghost use Rattle.lbk_cmd.specs.MemoryTexts.{Notes, refusals_told_by, told_by};
 
 use super::ending::RunFault;
 use lbk_feed::devices::MemorySource;
@@ -50,7 +50,7 @@ impl<'a> MemoryTexts<'a> {
 impl<'a> Opens for MemoryTexts<'a> {
     type File = MemorySource<'a>;
 
-    ghost contents = { λ texts name. Some (contents_of (named_files texts.files) name) };
+    ghost contents = { λ texts. told_by texts };
 
     fn open(&self, name: &str) -> Result<MemorySource<'a>, LoadFault> {
         match self.files.contents(name) {
@@ -61,10 +61,14 @@ impl<'a> Opens for MemoryTexts<'a> {
 }
 
 impl<'a> Texts for MemoryTexts<'a> {
-    // A list may not grow.
-    ghost refused = { λ texts. None };
+    ghost refused = { λ texts. refusals_told_by texts };
 
-    fn refuse(&mut self, _name: &str, fault: RunFault) {
+    /// Notes the fault, as long as memory can grow for it.
+    fn refuse(&mut self, _name: &str, fault: RunFault)
+        ensures noted { Notes fault self.old self.new }
+        ensures refused { refusals_told_by self.new ≡ option_map (λ before. before ++ (_name.now, fault) ∷ []) (refusals_told_by self.old) }
+        ensures contents { told_by self.new ≡ told_by self.old }
+    {
         let _ = self.refused.push(fault);
     }
 }

@@ -1,0 +1,19 @@
+-- What texts in memory tell, and what they note of those that are refused.
+use Rattle.std.specs.Prelude.{◌≡◌, ◌⊎◌, ◌≤◌, ◌++◌, ◌∷◌, ℕ, List, [], None, Option, Some, vec_capacity, vec_len}
+use Rattle.lbk_files.specs.MemoryStore.{contents_of, named_files}
+use Rattle.lbk_cmd.specs.Operands.{Refusals}
+use Rattle.lbk_cmd.specs.declared.ending.RunFault.{RunFault}
+use Rattle.lbk_cmd.specs.declared.operands.MemoryTexts.{MemoryTexts}
+
+-- what the file of a name holds
+abbrev pub told_by : MemoryTexts → List ℕ → Option (Option (List ℕ))
+told_by texts name = Some (contents_of (named_files texts.files) name)
+
+-- what was refused is not told, since a list may not grow
+abbrev pub refusals_told_by : MemoryTexts → Refusals
+refusals_told_by texts = None
+
+-- a fault is noted behind those before it, unless the list is full, and then it stays
+abbrev pub Notes : RunFault → MemoryTexts → MemoryTexts → Type 0
+Notes fault old new = (new.refused.items ≡ old.refused.items ++ fault ∷ [])
+    ⊎ ((new.refused.items ≡ old.refused.items) × (vec_capacity old.refused ≤ vec_len old.refused))
