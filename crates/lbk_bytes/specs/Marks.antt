@@ -18,7 +18,7 @@ abbrev pub from_on : ℕ → List Break → List Break
 from_on place [] = []
 from_on place (b ∷ bs) = if nat_le place b.at then b ∷ from_on place bs else from_on place bs
 
--- the first byte from `place` on at which a piece begins, or else the end of all, where the first of them begins at byte `at`
+-- pieces stand one after another from byte `at` on: the first byte from `place` on at which one begins, or else the end of all
 abbrev pub boundary_among : ℕ → ℕ → List Decoded → ℕ
 boundary_among place at [] = at
 boundary_among place at (p ∷ ps) = if nat_le place at then at else boundary_among place (at + p.size) ps
