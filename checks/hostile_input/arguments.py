@@ -1,17 +1,16 @@
 """Arguments, as many as a system hands over."""
 
-from checks.hostile_input.bounds import LEAST_SECONDS, MOST_TIMES, quickest
+from checks.hostile_input.bounds import TOO_SLOW, side_by_side
 from checks.program import Long
 
-FEW, MANY = 20_000, 80_000
+FEW = 20_000
 
 
 def run(hostile):
     for word in ("x", "--kinds", "--kindx"):
-        small = Long([hostile.program, "replay"] + [word] * FEW, [])
-        most = MOST_TIMES * max(small.seconds, LEAST_SECONDS)
-        great, much = quickest(lambda word=word: Long([hostile.program, "replay"] + [word] * MANY, []), most)
+        words = [hostile.program, "replay"]
+        small, great, is_slow = side_by_side(lambda count, word=word, words=words: Long([*words, *[word] * count], []), FEW)
         fault = None if (small.status, great.status) == (2, 2) else f"status {small.status} and {great.status}, not 2"
-        if fault is None and much > most:
-            fault = f"more than {MOST_TIMES:.0f} times the time"
-        hostile.tally.tell(f"replay, arguments {word}: {small.seconds:.2f} s of {FEW}, {much:.2f} s of {MANY}", fault)
+        if fault is None and is_slow:
+            fault = TOO_SLOW
+        hostile.tally.tell(f"replay, arguments {word}: {small.seconds:.2f} s of {FEW}, {great.seconds:.2f} s of {4 * FEW}", fault)

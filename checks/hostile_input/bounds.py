@@ -7,6 +7,7 @@ from checks.unicode_files import options
 
 # Four times the input takes at most so many times the time. Linear work comes to 4, quadratic work to 16.
 MOST_TIMES = 8.0
+TOO_SLOW = f"more than {MOST_TIMES:.0f} times the time"
 # A shorter time than this, in seconds, is taken as this.
 LEAST_SECONDS = 0.05
 # What a run over a stream may take of memory, the program's own included: less than each longer stream has bytes, or
@@ -63,17 +64,26 @@ class Hostile:
     def grows(self, what, words, parts_of, length, fits, memory=ANY):
         """Runs over an input of some length and of four times that, in so much memory, and compares the times and, where it
         is bounded, the memory. `fits` says what is wrong with a run over a length, if anything is."""
-        small = Long(words, parts_of(length), memory)
-        most = MOST_TIMES * max(small.seconds, LEAST_SECONDS)
-        great, much = quickest(lambda: Long(words, parts_of(4 * length), memory), most)
+        small, great, is_slow = side_by_side(lambda size: Long(words, parts_of(size), memory), length)
         fault = fits(small, length) or fits(great, 4 * length)
-        if fault is None and much > most:
-            fault = f"more than {MOST_TIMES:.0f} times the time"
+        if fault is None and is_slow:
+            fault = TOO_SLOW
         more = great.peak - small.peak
         if fault is None and memory != ANY and more > MOST_MORE:
             fault = f"{more} bytes of memory more for the longer stream"
         within = "" if memory == ANY else f", in {memory // MIB} MiB"
-        self.tally.tell(f"{what}: {small.seconds:.2f} s of {length} bytes, {much:.2f} s of {4 * length}{within}", fault)
+        self.tally.tell(f"{what}: {small.seconds:.2f} s of {length} bytes, {great.seconds:.2f} s of {4 * length}{within}", fault)
+
+
+def side_by_side(run, size):
+    """Runs of a size and of four times that, and whether the greater took too many times the time. Where it did, both are made
+    again, twice at most: the machine may have become slower between them."""
+    for _ in range(3):
+        small, great = run(size), run(4 * size)
+        is_slow = great.seconds > MOST_TIMES * max(small.seconds, LEAST_SECONDS)
+        if not is_slow:
+            break
+    return small, great, is_slow
 
 
 def quickest(run, enough):
