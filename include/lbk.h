@@ -377,8 +377,8 @@ size_t lbk_positions_utf32(const lbk_table *table, lbk_state *state, const uint3
                            size_t room);
 
 /* Puts the next words of a text, in the order of the text, into the front of a block with room for
- * `room` words, and returns how many. Fewer than `room` says that these were all; later calls with
- * the state then return 0. No table is needed:
+ * `room` words, and returns how many. Fewer than `room` says that these were all: the state is at
+ * `size` then, and later calls with it return 0. No table is needed:
  *
  *     lbk_word_state state = {0};                    the start of a text
  *     lbk_word block[64];
