@@ -413,9 +413,9 @@ size_t lbk_words(lbk_word_state *state, const char *text, size_t size, lbk_word 
  *
  * The parts can be broken in any order, by other threads or processes: their breaks, one after another, are those of the text,
  * and places count from its start. A part whose bytes stand elsewhere begins at 0; then add the bytes before it to each `at`.
- * The table decides where lines end, so no part begins between CR and LF, within a scalar, or within
- * ill-formed bytes that are read as one U+FFFD. Of a table of property files, what is returned depends only on the bytes from four
- * before `at` to four after the cut: some bytes of a text that have these, or all that are there, are
+ * The table decides where lines end, so no part begins between CR and LF. Whatever it has, none begins within a scalar, or
+ * within ill-formed bytes that are read as one U+FFFD. Of a table of property files, what is returned depends only on the bytes
+ * from four before `at` to four after the cut: some bytes of a text that have these, or all that are there, are
  * cut where the text is. The call reads no others. Takes no memory from the heap. */
 size_t lbk_cut(const lbk_table *table, const char *text, size_t size, size_t at);
 
