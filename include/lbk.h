@@ -328,7 +328,7 @@ size_t lbk_breaks_utf32(const lbk_table *table, lbk_state *state, const uint32_t
  * quotation mark, the second profile may also need the next scalar that is no combining mark; at most one place waits so.
  *
  * Whatever the table and the stream have, each break is LBK_MAY or LBK_MUST by one of the rules, and calls with room while a
- * block comes back full come to an end.
+ * block comes back full come to an end. Whatever the table has, the places of a stream rise from its start on.
  *
  * Takes nothing and leaves the stream unchanged where `room` is 0. Gives no break and takes all where the stream's profile is
  * none of the two. A stream has fewer than 2^64 bytes. Entries of the block past `count` are unspecified. Takes no memory from
