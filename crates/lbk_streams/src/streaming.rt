@@ -48,6 +48,9 @@ pub fn feed(
     ensures before_stream { IsSound stream.old (length piece.now) → stream.new.ended ≡ 0 → (next_place (place_of stream.old) ≤ next_place (place_of stream.new))
         × AreInOrder out.new result.count (next_place (place_of stream.old)) (next_place (place_of stream.new)) }
     ensures sound { IsSound stream.old (length piece.now) → IsSound stream.new (length piece.now - result.taken) }
+    ensures place { IsSound stream.old (length piece.now) → stream.old.ended ≡ 0 → stream.old.profile ≤ 3
+        → stream.new.at + length (cut_bytes stream.new) ≡ stream.old.at + length (cut_bytes stream.old) + result.taken }
+    ensures only_last { last ≡ false → stream.new.ended ≡ stream.old.ended }
     ensures start { (cell : ℕ → Cell) (profile : Profile) (text : List ℕ) → IsFlatOf table.now cell → length text < 2 ^ 64
         → stream.old ≡ stream_start profile → Streams cell table.now stream.old text (breaks_of_bytes profile cell text) }
     // A part of a text: places count from the text's start, if the part's place is given, and the text may go on after it.
@@ -106,6 +109,9 @@ fn go_with(
     ensures before_stream { IsSound stream.old (length piece.now) → stream.new.ended ≡ 0 → (next_place (place_of stream.old) ≤ next_place (place_of stream.new))
         × AreInOrder out.new result.count (next_place (place_of stream.old)) (next_place (place_of stream.new)) }
     ensures sound { IsSound stream.old (length piece.now) → IsSound stream.new (length piece.now - result.taken) }
+    ensures place { IsSound stream.old (length piece.now)
+        → stream.new.at + length (cut_bytes stream.new) ≡ stream.old.at + length (cut_bytes stream.old) + result.taken }
+    ensures only_last { last ≡ false → stream.new.ended ≡ stream.old.ended }
     ensures ended { last ≡ true → result.count < length out.old → 0 < stream.new.ended }
     ensures cut { stream.new.cut_size ≤ 4 }
     ensures closed { last ≡ true → result.count < length out.old → (stream.new.cut_size ≡ 0) × (stream.new.held_code ≡ 0) }

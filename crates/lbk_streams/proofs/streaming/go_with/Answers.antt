@@ -185,3 +185,35 @@ returns-then-last-clause-sound c = λ sound.
       waits = c.close.ensures.waits base from done;
       fits = omega (arith, put.0, put.1, c.close.ensures.within.1, c.finish-done.ensures.within.2, take.ensures.within.2);
     }
+
+pub returns-clause-place : goal.returns-clause-place
+returns-clause-place c = λ sound.
+    let old = c.args.stream.now in
+    let start = c.start_of-start in
+    let take = c.take_piece-here in
+    let base = old.at + length (cut_bytes old) in
+    let from = next_place (place_of old) in
+    let fits = sound.fits in
+    let o = take.ensures.ordered base from (omega arith)
+    (IsOrdered-start c.args.out.now old start.result start.ensures.place start.ensures.cut.2 start.ensures.fresh.0 start.ensures.fresh.1 sound.waits) in
+    let at = ap (λ (p : Place). p.at) c.keep.ensures.place in
+    let seen = o.seen in
+    omega (arith, at, c.keep.ensures.cut.1)
+
+pub returns-then-last-clause-place : goal.returns-then-last-clause-place
+returns-then-last-clause-place c = λ sound.
+    let old = c.args.stream.now in
+    let start = c.start_of-start in
+    let take = c.take_piece-here in
+    let base = old.at + length (cut_bytes old) in
+    let from = next_place (place_of old) in
+    let fits = sound.fits in
+    let o = take.ensures.ordered base from (omega arith)
+    (IsOrdered-start c.args.out.now old start.result start.ensures.place start.ensures.cut.2 start.ensures.fresh.0 start.ensures.fresh.1 sound.waits) in
+    let done = c.finish-done.ensures.ordered base from (omega (arith, take.ensures.within.2)) o in
+    let seen = done.seen in
+    let put = c.close.ensures.seen in
+    omega (arith, put.0, put.1, c.close.ensures.within.1)
+
+pub returns-then-last-clause-only_last : goal.returns-then-last-clause-only_last
+returns-then-last-clause-only_last c = λ unfinished. absurd (false≢true (sym unfinished ∙ c.if-last.true))
