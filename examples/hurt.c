@@ -58,6 +58,12 @@ static void go_over_positions(const lbk_table *table, const char *text, size_t s
     }
 }
 
+/* The first place at which a stream may give a break yet. */
+static size_t next_place(const lbk_stream *stream)
+{
+    return stream->held_code == 0 ? stream->at : stream->held_at;
+}
+
 /* The text as a stream in pieces, from a stream of random bytes or from the start. */
 static void go_over_pieces(const lbk_table *table, const char *text, size_t size, fenced blocks, size_t most_room)
 {
@@ -65,9 +71,10 @@ static void go_over_pieces(const lbk_table *table, const char *text, size_t size
     if (below(2) == 0)
         fill_random(&stream, sizeof stream);
     uint8_t profile = stream.profile;
+    int is_sound = (stream.held_code == 0 || stream.held_at < stream.at) && stream.at < SIZE_MAX / 2;
     size_t from = 0;
     for (unsigned calls = 0; from < size && calls < 4 * MOST_LONG_TEXT; calls++) {
-        size_t room = 1 + below(most_room), piece = below(size - from) + 1;
+        size_t room = 1 + below(most_room), piece = below(size - from) + 1, next = next_place(&stream);
         lbk_break *block = place(blocks, room * sizeof *block);
         lbk_fed fed = lbk_feed(table, &stream, text + from, piece, from + piece == size, block, room);
         told("no more of a piece is taken than it has, and no more breaks given than there is room for",
@@ -76,6 +83,8 @@ static void go_over_pieces(const lbk_table *table, const char *text, size_t size
         for (size_t k = 0; k < fed.count; k++)
             told("pieces: each break is a kind by a rule",
                  (block[k].kind == LBK_MAY || block[k].kind == LBK_MUST) && lbk_label(block[k].rule).text[0] != 0);
+        told("pieces: breaks in order, between the places",
+             !is_sound || are_in_order(block, fed.count, next, stream.ended ? stream.at + 1 : next_place(&stream)));
         from += fed.taken;
     }
 }

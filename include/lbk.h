@@ -328,7 +328,7 @@ size_t lbk_breaks_utf32(const lbk_table *table, lbk_state *state, const uint32_t
  * quotation mark, the second profile may also need the next scalar that is no combining mark; at most one place waits so.
  *
  * Whatever the table and the stream have, each break is LBK_MAY or LBK_MUST by one of the rules, and calls with room while a
- * block comes back full come to an end.
+ * block comes back full come to an end. Whatever the table has, the places of a stream rise from its start on.
  *
  * Takes nothing and leaves the stream unchanged where `room` is 0. Gives no break and takes all where the stream's profile is
  * none of the two. A stream has fewer than 2^64 bytes. Entries of the block past `count` are unspecified. Takes no memory from
@@ -377,8 +377,8 @@ size_t lbk_positions_utf32(const lbk_table *table, lbk_state *state, const uint3
                            size_t room);
 
 /* Puts the next words of a text, in the order of the text, into the front of a block with room for
- * `room` words, and returns how many. Fewer than `room` says that these were all; later calls with
- * the state then return 0. No table is needed:
+ * `room` words, and returns how many. Fewer than `room` says that these were all: the state is at
+ * `size` then, and later calls with it return 0. No table is needed:
  *
  *     lbk_word_state state = {0};                    the start of a text
  *     lbk_word block[64];
@@ -413,9 +413,9 @@ size_t lbk_words(lbk_word_state *state, const char *text, size_t size, lbk_word 
  *
  * The parts can be broken in any order, by other threads or processes: their breaks, one after another, are those of the text,
  * and places count from its start. A part whose bytes stand elsewhere begins at 0; then add the bytes before it to each `at`.
- * The table decides where lines end, so no part begins between CR and LF, within a scalar, or within
- * ill-formed bytes that are read as one U+FFFD. Of a table of property files, what is returned depends only on the bytes from four
- * before `at` to four after the cut: some bytes of a text that have these, or all that are there, are
+ * The table decides where lines end, so no part begins between CR and LF. Whatever it has, none begins within a scalar, or
+ * within ill-formed bytes that are read as one U+FFFD. Of a table of property files, what is returned depends only on the bytes
+ * from four before `at` to four after the cut: some bytes of a text that have these, or all that are there, are
  * cut where the text is. The call reads no others. Takes no memory from the heap. */
 size_t lbk_cut(const lbk_table *table, const char *text, size_t size, size_t at);
 

@@ -1,4 +1,5 @@
-/* Calls lbk_read with files of sizes that are drawn at random, with ample memory: it must take them all.
+/* Calls lbk_read with files of sizes that are drawn at random, with ample memory: it must take them all, and say of those that
+ * have a row twice at which line.
  *
  *     sizes SECONDS SEED
  *
@@ -37,22 +38,31 @@ static size_t drawn(void)
     return size < MOST_FILE ? size : MOST_FILE;
 }
 
-/* A file of so many bytes, or of its row where that has more: comments, and the row last. */
-static bytes file_of(const char *row, size_t size)
+/* A file of so many bytes, or of its rows where these have more: comments, and the row last, so many times. */
+static bytes file_of(const char *row, size_t times, size_t size)
 {
-    size_t length = strlen(row);
-    bytes file = {NULL, size < length ? length : size};
+    size_t length = strlen(row), least = times * length;
+    bytes file = {NULL, size < least ? least : size};
     file.at = malloc(file.size);
     if (file.at == NULL)
         abort();
     memset(file.at, '#', file.size);
-    size_t end = file.size - length;
+    size_t end = file.size - least;
     for (size_t at = COMMENT; at < end; at += COMMENT)
         file.at[at - 1] = '\n';
     if (end > 0)
         file.at[end - 1] = '\n';
-    memcpy(file.at + end, row, length);
+    for (size_t k = 0; k < times; k++)
+        memcpy(file.at + end + k * length, row, length);
     return file;
+}
+
+static uint32_t lines_of(bytes file)
+{
+    uint32_t lines = 0;
+    for (size_t k = 0; k < file.size; k++)
+        lines += file.at[k] == '\n';
+    return lines;
 }
 
 int main(int count, char **word)
@@ -66,14 +76,21 @@ int main(int count, char **word)
     seed = strtoul(word[2], NULL, 10) * 2 + 1;
     while (now() < end) {
         bytes files[4];
+        int twice = below(3) == 0 ? (int)below(4) : -1;
+        uint32_t file = (uint32_t)twice + 1;
         for (int k = 0; k < 4; k++)
-            files[k] = file_of(rows[k], below(3) == 0 ? 0 : drawn());
+            files[k] = file_of(rows[k], k == twice ? 2 : 1, below(3) == 0 ? 0 : drawn());
         lbk_fault fault = lbk_read(&table, files[0].at, files[0].size, files[1].at, files[1].size, files[2].at, files[2].size,
                                    files[3].at, files[3].size);
-        if (fault.cause != LBK_CAUSE_NONE)
-            printf("files of %zu, %zu, %zu and %zu bytes: %s\n", files[0].size, files[1].size, files[2].size, files[3].size,
-                   lbk_cause_text(fault.cause).text);
-        told("files of drawn sizes are taken", fault.cause == LBK_CAUSE_NONE && lbk_check(&table));
+        int is_right;
+        if (twice < 0)
+            is_right = fault.cause == LBK_CAUSE_NONE && lbk_check(&table);
+        else
+            is_right = fault.cause == LBK_CAUSE_OVERLAP && fault.file == file && fault.line == lines_of(files[twice]);
+        if (!is_right)
+            printf("files of %zu, %zu, %zu and %zu bytes, of which file %u has a row twice: file %u, line %u: %s\n", files[0].size,
+                   files[1].size, files[2].size, files[3].size, file, fault.file, fault.line, lbk_cause_text(fault.cause).text);
+        told("files of drawn sizes are taken, and a row that comes twice is refused at its line", is_right);
         for (int k = 0; k < 4; k++)
             free(files[k].at);
     }

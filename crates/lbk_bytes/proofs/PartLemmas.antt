@@ -34,7 +34,7 @@ end-moved true profile cell (c ∷ []) by at =
     [ true ↦ refl | false ↦ refl ]
 end-moved true profile cell (c ∷ d ∷ ds) by at = end-moved true profile cell (d ∷ ds) by at
 
-onward-moved : (goes_on : Bool) (profile : Profile) (cell : ℕ → Cell) (taken : List ℕ) (by at : ℕ) (ps : List Decoded)
+pub onward-moved : (goes_on : Bool) (profile : Profile) (cell : ℕ → Cell) (taken : List ℕ) (by at : ℕ) (ps : List Decoded)
     → map (moved by) (onward_to (end_in goes_on) profile cell taken at ps) ≡ onward_to (end_in goes_on) profile cell taken (by + at) ps
 onward-moved goes_on profile cell taken by at [] = end-moved goes_on profile cell taken by at
 onward-moved goes_on profile cell taken by at (p ∷ ps) =

@@ -1,6 +1,6 @@
 //! The position before one scalar, whatever it is.
 
-ghost use Rattle.std.specs.Prelude.{ℕ, ◌<◌, ◌≤◌, List, length};
+ghost use Rattle.std.specs.Prelude.{ℕ, ◌+◌, ◌<◌, ◌≤◌, List, length};
 ghost use Rattle.lbk_rules.specs.declared.cells.Cell.{Cell};
 ghost use Rattle.lbk_rules.specs.declared.facts.Left.{Left};
 ghost use Rattle.lbk_steps.specs.FlatTable.{IsFlatBy, KnowsTaken};
@@ -33,6 +33,7 @@ pub fn decide_one(
 ) -> Decided
     requires { (row < 65536) × (at < length text.now) }
     ensures within { (result.row < 65536) × (at < result.at) × (result.at ≤ length text.now) }
+    ensures near { result.at ≤ at + 4 }
     ensures decided { (cell : ℕ → Cell) (lefts : List Left) (taken : List ℕ) → IsFlatBy lefts table.now cell → KnowsTaken cell lefts row taken
         → IsDecided profile cell lefts text.now at taken result }
 {

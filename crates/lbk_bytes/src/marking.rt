@@ -43,6 +43,7 @@ pub fn fill_marks(
 ) -> FillState
     requires { (start.row < 65536) × (start.at ≤ length text.now) }
     ensures within { (result.row < 65536) × (start.at ≤ result.at) × (result.at ≤ length text.now) }
+    ensures near { result.at ≤ start.at + 64 * length words.old + 3 }
     ensures stops { min (length text.now) (start.at + 64 * length words.old) ≤ result.at }
     ensures no_room { length words.old ≡ 0 → result ≡ start }
     ensures after { (i : ℕ) → result.at ≤ start.at + i → is_marked words.new i ≡ false }
@@ -86,6 +87,7 @@ fn mark_further(
 ) -> FillState
     requires { (here.row < 65536) × (from ≤ here.at) × (here.at < stop) × (stop ≤ length text.now) × (stop ≤ from + 64 * length words.old) }
     ensures within { (result.row < 65536) × (here.at < result.at) × (result.at ≤ length text.now) }
+    ensures near { result.at ≤ stop + 3 }
     ensures after { (i : ℕ) → result.at ≤ from + i → is_marked words.new i ≡ is_marked words.old i }
     ensures marked { (cell : ℕ → Cell) (lefts : List Left) (all : Ahead) → IsFlatBy lefts table.now cell
         → Marked profile cell lefts text.now all from stop here words.old
@@ -159,6 +161,7 @@ fn mark_one(
 ) -> FillState
     requires { (here.row < 65536) × (from ≤ here.at) × (here.at < length text.now) × (here.at < from + 64 * length words.old) }
     ensures within { (result.row < 65536) × (here.at < result.at) × (result.at ≤ length text.now) }
+    ensures near { result.at ≤ here.at + 4 }
     ensures after { (i : ℕ) → result.at ≤ from + i → is_marked words.new i ≡ is_marked words.old i }
     ensures marked { (cell : ℕ → Cell) (lefts : List Left) (all : Ahead) (stop : ℕ) → IsFlatBy lefts table.now cell → here.at < stop
         → Marked profile cell lefts text.now all from stop here words.old

@@ -14,6 +14,7 @@ use Rattle.lbk_values.specs.declared.profile.Profile.{Profile}
 use Rattle.lbk_rules.specs.Breaks.{break_by}
 use Rattle.lbk_rules.specs.Codes.{IsCode, verdict_coded}
 use Rattle.lbk_rules.specs.Ends.{end_of_text}
+use Rattle.lbk_rules.specs.Joins.{moved}
 use Rattle.lbk_rules.specs.Marks.{marks_behind}
 use Rattle.lbk_rules.specs.Verdict.{verdict_between_in}
 use Rattle.lbk_rules.proofs.EndLemmas.{must_at_length, start_of_text}
@@ -36,6 +37,21 @@ pub all-start : (profile : Profile) (cell : ℕ → Cell) (ps : List Decoded) �
 all-start profile cell [] = refl
 all-start profile cell (p ∷ ps) =
     ap (λ l. break_by 0 (verdict_between_in profile [] (map cell (scalars_of (p ∷ ps)))) ∷ l) (all-marks profile cell [] 0 p ps)
+
+all-moved : (profile : Profile) (cell : ℕ → Cell) (taken : List ℕ) (by at : ℕ) (ps : List Decoded)
+    → map (moved by) (onward_all profile cell taken at ps) ≡ onward_all profile cell taken (by + at) ps
+all-moved profile cell taken by at [] = refl
+all-moved profile cell taken by at (p ∷ ps) =
+    let on = taken ++ or_replacement p.char ∷ [] in
+    let verdict = verdict_between_in profile (map cell taken) (map cell (scalars_of (p ∷ ps))) in
+    let place : by + (at + p.size) ≡ by + at + p.size = omega arith in
+    ap (λ l. break_by (by + at) verdict ∷ l) (all-moved profile cell on by (at + p.size) ps ∙ ap (λ n. onward_all profile cell on n ps) place)
+
+-- the positions of a part, at their places in the text
+pub all-part : (profile : Profile) (cell : ℕ → Cell) (at : ℕ) (ps : List Decoded) → map (moved at) (positions_of_pieces profile cell ps) ≡ onward_all profile cell [] at ps
+all-part profile cell at ps =
+    let place : at + 0 ≡ at = omega arith in
+    ap (map (moved at)) (all-start profile cell ps) ∙ all-moved profile cell [] at 0 ps ∙ ap (λ n. onward_all profile cell [] n ps) place
 
 -- the verdict at the start of a text
 abbrev start_verdict : Verdict

@@ -1,5 +1,5 @@
 -- The breaks or the positions of a text of units from its start on, and some of them given.
-use Rattle.std.proofs.Common.{◌≡◌, ℕ, ◌<◌, ◌≤◌, true, inl, inr, List, [], ◌++◌, length, map, drop, refl, sym, ap, subst, ◌∙◌, arith}
+use Rattle.std.proofs.Common.{◌≡◌, ℕ, ◌+◌, ◌<◌, ◌≤◌, false, true, inl, inr, List, [], ◌++◌, length, map, drop, refl, sym, ap, subst, ◌∙◌, arith}
 use Rattle.std.specs.Str.{encode_utf8_all}
 use Rattle.std.proofs.lemmas.List.{append-nil}
 use Rattle.std.proofs.lemmas.Str.{chars-encodes}
@@ -12,34 +12,36 @@ use Rattle.lbk_rules.specs.declared.facts.Left.{Left}
 use Rattle.lbk_steps.specs.declared.flat_table.FlatTable.{FlatTable}
 use Rattle.lbk_values.specs.declared.profile.Profile.{Profile}
 use Rattle.lbk_rules.specs.Breaks.{breaks}
+use Rattle.lbk_rules.specs.Joins.{moved}
 use Rattle.lbk_steps.specs.FlatTable.{IsFlatBy, IsFlatOf, KnowsTaken}
 use Rattle.lbk_bytes.specs.declared.fill_state.FillState.{FillState}
 use Rattle.lbk_bytes.specs.declared.raw_break.RawBreak.{RawBreak}
-use Rattle.lbk_bytes.specs.Reached.{Onward}
+use Rattle.lbk_bytes.specs.Reached.{Onward, onward}
 use Rattle.lbk_bytes.specs.Shown.{given_in}
 use Rattle.lbk_units.specs.Encodings.{placed_in}
 use Rattle.lbk_units.specs.Reached.{UnitsReachedBy, on_from}
-use Rattle.lbk_units.specs.Units.{breaks_of_utf32}
+use Rattle.lbk_units.specs.Units.{breaks_of_pieces, breaks_of_utf32}
 use Rattle.lbk_units.proofs.EncodingLemmas as encoding
 use Rattle.lbk_c.specs.declared.interface.State.{State}
 use Rattle.lbk_c.specs.Coming.{IsGoing, IsSpent, from_state}
-use Rattle.lbk_c.specs.State.{profile_numbered, start_in}
+use Rattle.lbk_c.specs.State.{part_start, profile_numbered, start_in}
 use Rattle.lbk_c.specs.UnitsComing.{UnitsComeBy, UnitsGo}
 use Rattle.lbk_c.proofs.ComingLemmas.{breaks-utf8, gives, same-profile}
-use Rattle.lbk_bytes.proofs.ReachedLemmas.{given-many, profile-same}
+use Rattle.lbk_bytes.proofs.PartLemmas.{onward-moved}
+use Rattle.lbk_bytes.proofs.ReachedLemmas.{given-many, onward-start, profile-same}
 
 module _ {A : Type 0} (from : Onward) (pieces_of : List A → List Decoded) where
-  pub units-start : (cell : ℕ → Cell) (table : FlatTable) (text : List A) (profile : Profile) (state : State) (to_come : List Break) → IsFlatOf table cell → state ≡ start_in profile
-      → to_come ≡ from profile cell [] 0 (pieces_of text)
+  pub units-part : (cell : ℕ → Cell) (table : FlatTable) (text : List A) (profile : Profile) (at : ℕ) (state : State) (to_come : List Break) → IsFlatOf table cell → at ≤ length text
+      → state ≡ part_start false profile at → to_come ≡ from profile cell [] at (pieces_of (drop at text))
       → UnitsComeBy from pieces_of cell table text state to_come
-  units-start cell table text profile state to_come flat starts whole =
+  units-part cell table text profile at state to_come flat within starts whole =
       subst (λ s. UnitsComeBy from pieces_of cell table text s to_come) (sym starts) (record {
         profile = profile;
         named = profile-same profile;
         lefts = flat.0;
         flat = flat.1;
         onto = record {
-          within = omega arith;
+          within = within;
           goes_on = λ _. record {
             taken = [];
             knows = (flat.1.begins, flat.1.start);
@@ -49,6 +51,34 @@ module _ {A : Type 0} (from : Onward) (pieces_of : List A → List Decoded) wher
           none_come = λ more. absurd (omega arith);
         };
       })
+
+  pub units-start : (cell : ℕ → Cell) (table : FlatTable) (text : List A) (profile : Profile) (state : State) (to_come : List Break) → IsFlatOf table cell → state ≡ start_in profile
+      → to_come ≡ from profile cell [] 0 (pieces_of text)
+      → UnitsComeBy from pieces_of cell table text state to_come
+  units-start cell table text profile state to_come flat starts whole = units-part cell table text profile 0 state to_come flat (omega arith) starts whole
+
+  -- whatever stands before the state's place
+  pub units-other : (cell : ℕ → Cell) (table : FlatTable) (text other : List A) (state : State) (to_come : List Break)
+      → UnitsComeBy from pieces_of cell table text state to_come → state.at ≤ length other → drop state.at other ≡ drop state.at text
+      → UnitsComeBy from pieces_of cell table other state to_come
+  units-other cell table text other state to_come comes within same = record {
+    profile = comes.profile;
+    named = comes.named;
+    lefts = comes.lefts;
+    flat = comes.flat;
+    onto = record {
+      within = within;
+      goes_on = λ goes.
+          let r = comes.onto.goes_on goes in
+          record {
+            taken = r.taken;
+            knows = r.knows;
+            some = r.some;
+            joined = r.joined ∙ ap (λ units. from comes.profile cell r.taken state.at (pieces_of units)) (sym same);
+          };
+      none_come = comes.onto.none_come;
+    };
+  }
 
   -- the block is full
   pub units-full : (profile : Profile) (cell : ℕ → Cell) (lefts : List Left) (text : List A) (to_come : List Break) (here : FillState) (state : State) (block : List RawBreak) (room : ℕ)
@@ -130,6 +160,12 @@ module _ {A : Type 0} (from : Onward) (pieces_of : List A → List Decoded) wher
     flat = c.flat;
     onto = goes.onto;
   }
+
+-- the breaks of a part, at their places in the text
+pub pieces-part : (profile : Profile) (cell : ℕ → Cell) (at : ℕ) (ps : List Decoded) → map (moved at) (breaks_of_pieces profile cell ps) ≡ onward profile cell [] at ps
+pieces-part profile cell at ps =
+    let place : at + 0 ≡ at = omega arith in
+    ap (map (moved at)) (onward-start profile cell ps) ∙ onward-moved false profile cell [] at 0 ps ∙ ap (λ n. onward profile cell [] n ps) place
 
 -- the breaks of scalars, by their places in UTF-8
 pub breaks-scalars : (profile : Profile) (cell : ℕ → Cell) (cs : List ℕ) → scalars cs ≡ true

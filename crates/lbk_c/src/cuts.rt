@@ -4,7 +4,7 @@ ghost use Rattle.std.specs.Prelude.{◌≡◌, ℕ, ◌<◌, ◌≤◌, length};
 ghost use Rattle.lbk_rules.specs.declared.cells.Cell.{Cell};
 ghost use Rattle.lbk_values.specs.declared.profile.Profile.{Profile};
 ghost use Rattle.lbk_steps.specs.FlatTable.{IsFlatOf};
-ghost use Rattle.lbk_cuts.specs.Cuts.{IsCutAfter, IsCutBefore, JoinsAt};
+ghost use Rattle.lbk_cuts.specs.Cuts.{IsCutAfter, IsCutBefore, IsPieceStart, JoinsAt};
 
 use lbk_cuts::{cut, cut_before};
 use lbk_steps::FlatTable;
@@ -21,6 +21,8 @@ pub extern "C" fn lbk_cut(table: &FlatTable, text: &[u8], at: usize) -> usize
     ensures past { length text.now ≤ at → result ≡ length text.now }
     ensures behind { at ≤ length text.now → at ≤ result }
     ensures start { at ≡ 0 → result ≡ 0 }
+    // Whatever the table, no part begins within a scalar, nor within bytes that are read as one U+FFFD.
+    ensures begins { IsPieceStart text.now result }
     ensures first { (cell : ℕ → Cell) → IsFlatOf table.now cell → IsCutAfter cell text.now at result }
     ensures joined { (cell : ℕ → Cell) (profile : Profile) → IsFlatOf table.now cell → 0 < result → result < length text.now
         → JoinsAt profile cell text.now result }
@@ -34,6 +36,7 @@ pub extern "C" fn lbk_cut_before(table: &FlatTable, text: &[u8], at: usize) -> u
     ensures within { result ≤ length text.now }
     ensures past { length text.now ≤ at → result ≡ length text.now }
     ensures before { result ≤ at }
+    ensures begins { IsPieceStart text.now result }
     ensures last { (cell : ℕ → Cell) → IsFlatOf table.now cell → IsCutBefore cell text.now at result }
     ensures joined { (cell : ℕ → Cell) (profile : Profile) → IsFlatOf table.now cell → 0 < result → result < length text.now
         → JoinsAt profile cell text.now result }

@@ -5,12 +5,25 @@ ghost use Rattle.lbk_rules.specs.declared.breaks.Break.{Break};
 ghost use Rattle.lbk_rules.specs.declared.cells.Cell.{Cell};
 ghost use Rattle.lbk_steps.specs.declared.flat_table.FlatTable.{FlatTable};
 ghost use Rattle.lbk_c.specs.declared.interface.State.{State};
+ghost use Rattle.bstr.specs.Utf8.{Decoded};
+ghost use Rattle.lbk_units.specs.Units.{pieces_of_utf16, pieces_of_utf32};
 ghost use Rattle.lbk_c.specs.Coming.{Comes};
+ghost use Rattle.lbk_c.specs.UnitsComing.{PositionsCome, UnitsCome};
 
 /// What comes from a state on hangs on the state and on the bytes of the text from its place on. Whatever stands before the
-/// place, as many bytes as there were: the same breaks come.
+/// place, as many bytes as there were: the same breaks come. So it is of units, and of positions.
 pub fn only_bytes_from_a_state_on()
-    ensures { (cell : ℕ → Cell) (table : FlatTable) (text other : List ℕ) (state : State) (to_come : List Break)
+    ensures breaks { (cell : ℕ → Cell) (table : FlatTable) (text other : List ℕ) (state : State) (to_come : List Break)
         → Comes cell table text state to_come → state.at ≤ length other → drop state.at other ≡ drop state.at text
         → Comes cell table other state to_come }
+    ensures utf16 { (cell : ℕ → Cell) (table : FlatTable) (text other : List ℕ) (state : State) (to_come : List Break)
+        → UnitsCome pieces_of_utf16 cell table text state to_come → state.at ≤ length other → drop state.at other ≡ drop state.at text
+        → UnitsCome pieces_of_utf16 cell table other state to_come }
+    ensures utf32 { (cell : ℕ → Cell) (table : FlatTable) (text other : List ℕ) (state : State) (to_come : List Break)
+        → UnitsCome pieces_of_utf32 cell table text state to_come → state.at ≤ length other → drop state.at other ≡ drop state.at text
+        → UnitsCome pieces_of_utf32 cell table other state to_come }
+    // Of positions, by what the encoding reads of some units.
+    ensures positions { (pieces_of : List ℕ → List Decoded) (cell : ℕ → Cell) (table : FlatTable) (text other : List ℕ) (state : State) (to_come : List Break)
+        → PositionsCome pieces_of cell table text state to_come → state.at ≤ length other → drop state.at other ≡ drop state.at text
+        → PositionsCome pieces_of cell table other state to_come }
 {}

@@ -27,7 +27,8 @@ const BITS: usize = 64;
 /// being one: of as many as they have bits, or of all that are left. The state goes on at the first scalar behind those.
 ///
 /// Where there are no words, or the state is past the text or at its end, or names no profile, the state stays and all bits are
-/// cleared. Whatever the table and the state hold, no bit is set of a place that is not told of.
+/// cleared. Whatever the table and the state hold, no bit is set of a place that is not told of, and the state goes on at most
+/// three bytes after the last that is.
 #[unsafe(no_mangle)]
 pub extern "C" fn lbk_marks(
     table: &FlatTable,
@@ -42,6 +43,7 @@ pub extern "C" fn lbk_marks(
     ensures forward { 0 < result → (state.old.at < state.new.at) ⊎ (0 < state.new.ended) }
     ensures onward { state.old.at ≤ state.new.at }
     ensures inside { state.old.at ≤ length text.now → state.new.at ≤ length text.now }
+    ensures near { state.new.at ≤ state.old.at + 64 * length words.old + 3 }
     ensures at_end { state.old.ended ≡ 0 → 0 < state.new.ended → state.new.at ≡ length text.now }
     // Where the end was told of, nothing is left. Else the state stands behind the places that were told of.
     ensures all { state.old.profile ≤ 3 → state.old.ended ≡ 0 → state.old.at ≤ length text.now
@@ -87,6 +89,7 @@ fn go_on(
     ensures profile_same { state.new.profile ≡ state.old.profile }
     ensures forward { 0 < result → (state.old.at < state.new.at) ⊎ (0 < state.new.ended) }
     ensures onward { (state.old.at ≤ state.new.at) × (state.new.at ≤ length text.now) }
+    ensures near { state.new.at ≤ state.old.at + 64 * length words.old + 3 }
     ensures at_end { 0 < state.new.ended → state.new.at ≡ length text.now }
     ensures all { length text.now < state.old.at + 64 * length words.old → 0 < state.new.ended }
     ensures more { state.old.at + 64 * length words.old ≤ length text.now

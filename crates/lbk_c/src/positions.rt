@@ -1,12 +1,13 @@
 //! The positions of a text with the verdict of each, a block at a time.
 
-ghost use Rattle.std.specs.Prelude.{◌≡◌, ◌⊎◌, ℕ, suc, ◌<◌, ◌≤◌, true, [], List, drop, length, map, min, take};
+ghost use Rattle.std.specs.Prelude.{◌≡◌, ◌⊎◌, ℕ, suc, ◌<◌, ◌≤◌, false, true, [], List, drop, length, map, min, take};
 ghost use Rattle.std.specs.Str.{all_scalars, encode_utf8_all};
 ghost use Rattle.bstr.specs.Utf8.{pieces};
 ghost use Rattle.lbk_rules.specs.declared.breaks.Break.{Break};
 ghost use Rattle.lbk_rules.specs.declared.cells.Cell.{Cell};
 ghost use Rattle.lbk_rules.specs.declared.facts.Left.{Left};
 ghost use Rattle.lbk_values.specs.declared.profile.Profile.{Profile};
+ghost use Rattle.lbk_rules.specs.Joins.{moved};
 ghost use Rattle.lbk_steps.specs.FlatTable.{IsFlatBy, IsFlatOf};
 ghost use Rattle.lbk_bytes.specs.Bytes.{breaks_of_bytes};
 ghost use Rattle.lbk_bytes.specs.Order.{ArePositionsInOrder};
@@ -17,7 +18,7 @@ ghost use Rattle.lbk_units.specs.Positions.{breaks_among, positions_of_bytes, po
 ghost use Rattle.lbk_units.specs.Reached.{UnitsReachedBy, on_from};
 ghost use Rattle.lbk_units.specs.Units.{breaks_of_utf16, breaks_of_utf32, pieces_of_utf16, pieces_of_utf32};
 ghost use Rattle.lbk_c.specs.Coming.{IsGoing, from_state};
-ghost use Rattle.lbk_c.specs.State.{start_in};
+ghost use Rattle.lbk_c.specs.State.{part_start, start_in};
 ghost use Rattle.lbk_c.specs.UnitsComing.{PositionsCome, UnitsGo};
 
 use crate::breaking::going_profile;
@@ -56,6 +57,10 @@ pub extern "C" fn lbk_positions(
     ensures all { state.old.profile ≤ 1 → state.old.at ≤ length text.now → result < length out.old → 0 < state.new.ended }
     ensures start { (cell : ℕ → Cell) (profile : Profile) → IsFlatOf table.now cell → state.old ≡ start_in profile
         → PositionsCome pieces cell table.now text.now state.old (positions_of_bytes profile cell text.now) }
+    // Of a part of the text that begins at any of its bytes.
+    ensures part { (cell : ℕ → Cell) (profile : Profile) (at : ℕ) → IsFlatOf table.now cell → at ≤ length text.now
+        → state.old ≡ part_start false profile at
+        → PositionsCome pieces cell table.now text.now state.old (map (moved at) (positions_of_bytes profile cell (drop at text.now))) }
     ensures count { (cell : ℕ → Cell) (to_come : List Break) → PositionsCome pieces cell table.now text.now state.old to_come
         → result ≡ min (length out.old) (length to_come) }
     ensures front { (cell : ℕ → Cell) (to_come : List Break) → PositionsCome pieces cell table.now text.now state.old to_come
@@ -100,6 +105,9 @@ pub extern "C" fn lbk_positions_utf16(
     ensures all { state.old.profile ≤ 1 → state.old.at ≤ length text.now → result < length out.old → 0 < state.new.ended }
     ensures start { (cell : ℕ → Cell) (profile : Profile) → IsFlatOf table.now cell → state.old ≡ start_in profile
         → PositionsCome pieces_of_utf16 cell table.now text.now state.old (positions_of_utf16 profile cell text.now) }
+    ensures part { (cell : ℕ → Cell) (profile : Profile) (at : ℕ) → IsFlatOf table.now cell → at ≤ length text.now
+        → state.old ≡ part_start false profile at
+        → PositionsCome pieces_of_utf16 cell table.now text.now state.old (map (moved at) (positions_of_utf16 profile cell (drop at text.now))) }
     ensures count { (cell : ℕ → Cell) (to_come : List Break) → PositionsCome pieces_of_utf16 cell table.now text.now state.old to_come
         → result ≡ min (length out.old) (length to_come) }
     ensures front { (cell : ℕ → Cell) (to_come : List Break) → PositionsCome pieces_of_utf16 cell table.now text.now state.old to_come
@@ -144,6 +152,9 @@ pub extern "C" fn lbk_positions_utf32(
     ensures all { state.old.profile ≤ 1 → state.old.at ≤ length text.now → result < length out.old → 0 < state.new.ended }
     ensures start { (cell : ℕ → Cell) (profile : Profile) → IsFlatOf table.now cell → state.old ≡ start_in profile
         → PositionsCome pieces_of_utf32 cell table.now text.now state.old (positions_of_utf32 profile cell text.now) }
+    ensures part { (cell : ℕ → Cell) (profile : Profile) (at : ℕ) → IsFlatOf table.now cell → at ≤ length text.now
+        → state.old ≡ part_start false profile at
+        → PositionsCome pieces_of_utf32 cell table.now text.now state.old (map (moved at) (positions_of_utf32 profile cell (drop at text.now))) }
     ensures count { (cell : ℕ → Cell) (to_come : List Break) → PositionsCome pieces_of_utf32 cell table.now text.now state.old to_come
         → result ≡ min (length out.old) (length to_come) }
     ensures front { (cell : ℕ → Cell) (to_come : List Break) → PositionsCome pieces_of_utf32 cell table.now text.now state.old to_come
@@ -179,6 +190,9 @@ fn next_positions<U: Unit>(
     ensures all { state.old.profile ≤ 1 → state.old.at ≤ length text.now → result < length out.old → 0 < state.new.ended }
     ensures start { (cell : ℕ → Cell) (profile : Profile) → IsFlatOf table.now cell → state.old ≡ start_in profile
         → PositionsCome U.pieces_of cell table.now text.now state.old (positions_of_pieces profile cell (U.pieces_of text.now)) }
+    ensures part { (cell : ℕ → Cell) (profile : Profile) (at : ℕ) → IsFlatOf table.now cell → at ≤ length text.now
+        → state.old ≡ part_start false profile at
+        → PositionsCome U.pieces_of cell table.now text.now state.old (map (moved at) (positions_of_pieces profile cell (U.pieces_of (drop at text.now)))) }
     ensures count { (cell : ℕ → Cell) (to_come : List Break) → PositionsCome U.pieces_of cell table.now text.now state.old to_come
         → result ≡ min (length out.old) (length to_come) }
     ensures front { (cell : ℕ → Cell) (to_come : List Break) → PositionsCome U.pieces_of cell table.now text.now state.old to_come

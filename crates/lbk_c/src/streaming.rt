@@ -1,16 +1,16 @@
 //! A text that comes in pieces.
 
-ghost use Rattle.std.specs.Prelude.{◌≡◌, ◌⊎◌, ℕ, Bool, ◌+◌, ◌-◌, ◌^◌, ◌<◌, ◌≤◌, ◌++◌, true, false, [], List, drop, length, map, take};
+ghost use Rattle.std.specs.Prelude.{◌≡◌, ◌⊎◌, ℕ, Bool, suc, ◌+◌, ◌-◌, ◌^◌, ◌<◌, ◌≤◌, ◌++◌, true, false, [], List, drop, length, map, take};
 ghost use Rattle.lbk_rules.specs.declared.breaks.Break.{Break};
 ghost use Rattle.lbk_rules.specs.declared.cells.Cell.{Cell};
 ghost use Rattle.lbk_values.specs.declared.profile.Profile.{Profile};
 ghost use Rattle.lbk_rules.specs.Joins.{moved};
 ghost use Rattle.lbk_steps.specs.FlatTable.{IsFlatOf};
 ghost use Rattle.lbk_bytes.specs.Bytes.{breaks_of_bytes, breaks_of_part};
-ghost use Rattle.lbk_bytes.specs.Order.{AreBreaks};
+ghost use Rattle.lbk_bytes.specs.Order.{AreBreaks, AreInOrder};
 ghost use Rattle.lbk_bytes.specs.Shown.{given_in};
 ghost use Rattle.lbk_streams.specs.Stands.{Streams};
-ghost use Rattle.lbk_streams.specs.Streams.{AreUnsettled, cut_bytes, most_left, part_stream, stream_start};
+ghost use Rattle.lbk_streams.specs.Streams.{AreUnsettled, IsSound, cut_bytes, most_left, next_place, part_stream, place_of, stream_start};
 
 use lbk_bytes::RawBreak;
 use lbk_steps::FlatTable;
@@ -23,7 +23,8 @@ use lbk_streams::{Fed, Stream, feed};
 /// The bytes may be any: over all calls the breaks are those of the joined pieces, as `lbk_breaks` has them, at places from the
 /// start of the stream, or of the text of which it is a part. Where the block has no room, nothing is taken and the stream
 /// stays. Where the stream has ended or names no profile, all is taken and no break comes.
-/// Whatever the table and the stream hold, the breaks are breaks of rules, and calls while the block comes back full come to an end.
+/// Whatever the table and the stream hold, the breaks are breaks of rules, and calls while the block comes back full come to an
+/// end. Whatever the table holds, the places of a stream rise from its start on.
 #[unsafe(no_mangle)]
 pub extern "C" fn lbk_feed(
     table: &FlatTable,
@@ -38,6 +39,14 @@ pub extern "C" fn lbk_feed(
     // Of any table and stream: at most one break for each byte, one that waited and the end.
     ensures breaks { AreBreaks out.new result.count }
     ensures few { result.count + most_left stream.new + (length piece.now - result.taken) ≤ most_left stream.old + length piece.now }
+    // And of any table, from a stream's start on: their places rise, in a call and from one call to the next.
+    ensures in_order { IsSound stream.old (length piece.now) → AreInOrder out.new result.count (next_place (place_of stream.old)) (suc stream.new.at) }
+    ensures before_stream { IsSound stream.old (length piece.now) → stream.new.ended ≡ 0 → (next_place (place_of stream.old) ≤ next_place (place_of stream.new))
+        × AreInOrder out.new result.count (next_place (place_of stream.old)) (next_place (place_of stream.new)) }
+    ensures sound { IsSound stream.old (length piece.now) → IsSound stream.new (length piece.now - result.taken) }
+    ensures place { IsSound stream.old (length piece.now) → stream.old.ended ≡ 0 → stream.old.profile ≤ 3
+        → stream.new.at + length (cut_bytes stream.new) ≡ stream.old.at + length (cut_bytes stream.old) + result.taken }
+    ensures only_last { last ≡ false → stream.new.ended ≡ stream.old.ended }
     ensures start { (cell : ℕ → Cell) (profile : Profile) (text : List ℕ) → IsFlatOf table.now cell → length text < 2 ^ 64
         → stream.old ≡ stream_start profile → Streams cell table.now stream.old text (breaks_of_bytes profile cell text) }
     // A part of a text: places count from the text's start, if the part's place is given, and the text may go on after it.

@@ -1,12 +1,13 @@
 //! The breaks of a text in UTF-16 or UTF-32, a block at a time.
 
-ghost use Rattle.std.specs.Prelude.{◌≡◌, ℕ, suc, ◌<◌, ◌≤◌, ◌⊎◌, true, [], List, drop, length, map, min, take};
+ghost use Rattle.std.specs.Prelude.{◌≡◌, ℕ, suc, ◌<◌, ◌≤◌, ◌⊎◌, false, true, [], List, drop, length, map, min, take};
 ghost use Rattle.std.specs.Str.{all_scalars, encode_utf8_all};
 ghost use Rattle.lbk_rules.specs.declared.breaks.Break.{Break};
 ghost use Rattle.lbk_rules.specs.declared.cells.Cell.{Cell};
 ghost use Rattle.lbk_rules.specs.declared.facts.Left.{Left};
 ghost use Rattle.lbk_values.specs.declared.profile.Profile.{Profile};
 ghost use Rattle.lbk_rules.specs.Breaks.{breaks};
+ghost use Rattle.lbk_rules.specs.Joins.{moved};
 ghost use Rattle.lbk_steps.specs.FlatTable.{IsFlatBy, IsFlatOf};
 ghost use Rattle.lbk_bytes.specs.Order.{AreInOrder};
 ghost use Rattle.lbk_bytes.specs.Reached.{onward};
@@ -15,7 +16,7 @@ ghost use Rattle.lbk_units.specs.Encodings.{encode_utf16_all, placed_in};
 ghost use Rattle.lbk_units.specs.Reached.{UnitsReached, on_from};
 ghost use Rattle.lbk_units.specs.Units.{breaks_of_pieces, breaks_of_utf16, breaks_of_utf32, pieces_of_utf16, pieces_of_utf32};
 ghost use Rattle.lbk_c.specs.Coming.{IsGoing, from_state};
-ghost use Rattle.lbk_c.specs.State.{start_in};
+ghost use Rattle.lbk_c.specs.State.{part_start, start_in};
 ghost use Rattle.lbk_c.specs.UnitsComing.{UnitsCome, UnitsGo};
 
 use crate::breaking::going_profile;
@@ -50,6 +51,10 @@ pub extern "C" fn lbk_breaks_utf16(
     ensures all { state.old.profile ≤ 1 → state.old.at ≤ length text.now → result < length out.old → 0 < state.new.ended }
     ensures start { (cell : ℕ → Cell) (profile : Profile) → IsFlatOf table.now cell → state.old ≡ start_in profile
         → UnitsCome pieces_of_utf16 cell table.now text.now state.old (breaks_of_utf16 profile cell text.now) }
+    // Of a part of the text that begins at any of its units.
+    ensures part { (cell : ℕ → Cell) (profile : Profile) (at : ℕ) → IsFlatOf table.now cell → at ≤ length text.now
+        → state.old ≡ part_start false profile at
+        → UnitsCome pieces_of_utf16 cell table.now text.now state.old (map (moved at) (breaks_of_utf16 profile cell (drop at text.now))) }
     ensures count { (cell : ℕ → Cell) (to_come : List Break) → UnitsCome pieces_of_utf16 cell table.now text.now state.old to_come
         → result ≡ min (length out.old) (length to_come) }
     ensures front { (cell : ℕ → Cell) (to_come : List Break) → UnitsCome pieces_of_utf16 cell table.now text.now state.old to_come
@@ -92,6 +97,9 @@ pub extern "C" fn lbk_breaks_utf32(
     ensures all { state.old.profile ≤ 1 → state.old.at ≤ length text.now → result < length out.old → 0 < state.new.ended }
     ensures start { (cell : ℕ → Cell) (profile : Profile) → IsFlatOf table.now cell → state.old ≡ start_in profile
         → UnitsCome pieces_of_utf32 cell table.now text.now state.old (breaks_of_utf32 profile cell text.now) }
+    ensures part { (cell : ℕ → Cell) (profile : Profile) (at : ℕ) → IsFlatOf table.now cell → at ≤ length text.now
+        → state.old ≡ part_start false profile at
+        → UnitsCome pieces_of_utf32 cell table.now text.now state.old (map (moved at) (breaks_of_utf32 profile cell (drop at text.now))) }
     ensures count { (cell : ℕ → Cell) (to_come : List Break) → UnitsCome pieces_of_utf32 cell table.now text.now state.old to_come
         → result ≡ min (length out.old) (length to_come) }
     ensures front { (cell : ℕ → Cell) (to_come : List Break) → UnitsCome pieces_of_utf32 cell table.now text.now state.old to_come
@@ -127,6 +135,9 @@ fn next_breaks<U: Unit>(
     ensures all { state.old.profile ≤ 1 → state.old.at ≤ length text.now → result < length out.old → 0 < state.new.ended }
     ensures start { (cell : ℕ → Cell) (profile : Profile) → IsFlatOf table.now cell → state.old ≡ start_in profile
         → UnitsCome U.pieces_of cell table.now text.now state.old (breaks_of_pieces profile cell (U.pieces_of text.now)) }
+    ensures part { (cell : ℕ → Cell) (profile : Profile) (at : ℕ) → IsFlatOf table.now cell → at ≤ length text.now
+        → state.old ≡ part_start false profile at
+        → UnitsCome U.pieces_of cell table.now text.now state.old (map (moved at) (breaks_of_pieces profile cell (U.pieces_of (drop at text.now)))) }
     ensures count { (cell : ℕ → Cell) (to_come : List Break) → UnitsCome U.pieces_of cell table.now text.now state.old to_come
         → result ≡ min (length out.old) (length to_come) }
     ensures front { (cell : ℕ → Cell) (to_come : List Break) → UnitsCome U.pieces_of cell table.now text.now state.old to_come

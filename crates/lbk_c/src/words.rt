@@ -1,6 +1,6 @@
 //! The words of a text, a block at a time.
 
-ghost use Rattle.std.specs.Prelude.{◌≡◌, ◌≤◌, drop, length, min, take};
+ghost use Rattle.std.specs.Prelude.{◌≡◌, ◌<◌, ◌≤◌, drop, length, min, take};
 ghost use Rattle.lbk_words.specs.Words.{AreRising, IsBoundary, words_on};
 
 use lbk_words::{Word, fill};
@@ -29,6 +29,7 @@ pub extern "C" fn lbk_words(state: &mut WordState, text: &[u8], out: &mut [Word]
     ensures boundary { IsBoundary text.now state.old.at state.new.at }
     ensures rising { AreRising state.old.at state.new.at (take result out.new) }
     ensures within { state.old.at ≤ length text.now → state.new.at ≤ length text.now }
+    ensures all { result < length out.old → state.old.at ≤ length text.now → state.new.at ≡ length text.now }
     ensures ended { length text.now ≤ state.old.at → (result ≡ 0) × (state.new ≡ state.old) }
     ensures no_room { length out.old ≡ 0 → (result ≡ 0) × (state.new ≡ state.old) }
 {

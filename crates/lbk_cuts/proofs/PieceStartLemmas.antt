@@ -1,7 +1,8 @@
 -- Where the pieces of a text begin.
 use Rattle.std.proofs.Common.{◌≡◌, ℕ, ◌+◌, ◌-◌, ◌<◌, ◌≤◌, true, List, [], ◌∷◌, ◌++◌, length, take, drop, slice_index, refl, sym, ap, subst, ◌∙◌, ⊎_elim, append_assoc, arith, length-drop, length-take-le, get_or-take}
 use Rattle.std.proofs.lemmas.Bool.{cases_lt, false≢true}
-use Rattle.std.proofs.lemmas.List.{drop-drop, drop-take, take-take}
+use Rattle.std.proofs.lemmas.List.{append-nil, drop-drop, drop-take, take-take}
+use Rattle.std.proofs.Math.Seq.{drop-length, take-length}
 use Rattle.bstr.specs.Utf8.{Decoded, IsLastPiece, continues, decoded, decoded_by, pieces, second}
 use Rattle.bstr.proofs.lemmas.PieceLemmas.{by-shape, decoded_by-cut, pieces-nil, pieces-sizes, pieces-step, size-bounds, size-within, sizes}
 use Rattle.bstr.proofs.lemmas.SoundLemmas.{IsLastPiece-decoded}
@@ -283,3 +284,14 @@ last-whole text end r within starts last =
     let left = length-drop start text in
     let least = none-within text start end (omega arith) within (last-begins text end r within last) starts (omega arith) in
     last-cut text end r within last ∙ decoded-take (drop start text) r.size some (omega arith) (omega arith)
+
+-- a piece begins at the start of a text, and its end counts as such a place
+pub starts_first : (text : List ℕ) → IsPieceStart text 0
+starts_first text = sym (ap (λ l. l ++ pieces text) pieces-nil)
+
+pub starts_last : (text : List ℕ) → IsPieceStart text (length text)
+starts_last text =
+    sym (ap (λ l. pieces l ++ pieces (drop (length text) text)) (take-length text)
+    ∙ ap (λ l. pieces text ++ pieces l) (drop-length text)
+    ∙ ap (λ l. pieces text ++ l) pieces-nil
+    ∙ append-nil (pieces text))

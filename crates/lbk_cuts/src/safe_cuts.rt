@@ -24,6 +24,8 @@ pub fn cut(table: &FlatTable, text: &[u8], at: usize) -> usize
     ensures past { length text.now ≤ at → result ≡ length text.now }
     ensures behind { at ≤ length text.now → at ≤ result }
     ensures start { at ≡ 0 → result ≡ 0 }
+    // Whatever the table, no part begins within a scalar, nor within bytes that are read as one U+FFFD.
+    ensures begins { IsPieceStart text.now result }
     ensures first { (cell : ℕ → Cell) → IsFlatOf table.now cell → IsCutAfter cell text.now at result }
     ensures joined { (cell : ℕ → Cell) (profile : Profile) → IsFlatOf table.now cell → 0 < result → result < length text.now
         → JoinsAt profile cell text.now result }
@@ -42,6 +44,7 @@ pub fn cut_before(table: &FlatTable, text: &[u8], at: usize) -> usize
     ensures within { result ≤ length text.now }
     ensures past { length text.now ≤ at → result ≡ length text.now }
     ensures before { result ≤ at }
+    ensures begins { IsPieceStart text.now result }
     ensures last { (cell : ℕ → Cell) → IsFlatOf table.now cell → IsCutBefore cell text.now at result }
     ensures joined { (cell : ℕ → Cell) (profile : Profile) → IsFlatOf table.now cell → 0 < result → result < length text.now
         → JoinsAt profile cell text.now result }
@@ -58,6 +61,7 @@ fn first_cut(table: &FlatTable, text: &[u8], start: usize) -> usize
     requires begins { IsPieceStart text.now start }
     ensures within { result ≤ length text.now }
     ensures behind { start + (decoded (drop start text.now)).size ≤ result }
+    ensures begins { IsPieceStart text.now result }
     ensures safe { (cell : ℕ → Cell) → AreFlatKinds table.now.kinds cell → IsSafeCut cell text.now result }
     ensures least { (cell : ℕ → Cell) (place : ℕ) → AreFlatKinds table.now.kinds cell → start < place → place < result → ¬ IsSafeCut cell text.now place }
 {
@@ -79,6 +83,7 @@ fn last_cut(table: &FlatTable, text: &[u8], start: usize) -> usize
     requires within { start < length text.now }
     requires begins { IsPieceStart text.now start }
     ensures before { result ≤ start }
+    ensures begins { IsPieceStart text.now result }
     ensures safe { (cell : ℕ → Cell) → AreFlatKinds table.now.kinds cell → IsSafeCut cell text.now result }
     ensures greatest { (cell : ℕ → Cell) (place : ℕ) → AreFlatKinds table.now.kinds cell → result < place → place ≤ start → ¬ IsSafeCut cell text.now place }
 {

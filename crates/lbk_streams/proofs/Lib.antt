@@ -1,4 +1,5 @@
 pub mod BreakLemmas
+pub mod PlaceLemmas
 pub mod FeedLemmas
 pub mod OpenLemmas
 pub mod StandsLemmas

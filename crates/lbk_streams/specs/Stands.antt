@@ -18,9 +18,10 @@ use Rattle.lbk_streams.specs.declared.stream.Feeding.{Feeding}
 use Rattle.lbk_streams.specs.declared.stream.Place.{Place}
 use Rattle.lbk_streams.specs.declared.stream.Stream.{Stream}
 use Rattle.lbk_bytes.specs.Bytes.{end_in}
-use Rattle.lbk_bytes.specs.Reached.{Onward, onward_to}
+use Rattle.lbk_bytes.specs.declared.raw_break.RawBreak.{RawBreak}
+use Rattle.lbk_bytes.specs.Reached.{IsInOrder, Onward, onward_to}
 use Rattle.lbk_bytes.specs.Profiles.{goes_on, plain_number, profile_numbered}
-use Rattle.lbk_streams.specs.Streams.{AreUnsettled, cut_bytes, late_break, place_of}
+use Rattle.lbk_streams.specs.Streams.{AreUnsettled, cut_bytes, late_break, next_place, place_of}
 
 abbrev pub front_of : Cut → List ℕ
 front_of cut = take cut.size cut.bytes
@@ -64,6 +65,16 @@ abbrev pub AreFew : Feeding → Feeding → Type 0
 AreFew start here =
     here.count + min here.place.held_code 1 + here.cut.size + start.taken
     ≤ start.count + min start.place.held_code 1 + start.cut.size + here.taken
+
+-- Whatever the table: the breaks given are in order, from a place on and up to the one that comes next
+pub record IsPlaced (block : List RawBreak) (count from : ℕ) (place : Place) : Type 0 where
+  pub waits : 0 < place.held_code → place.held_at < place.at
+  pub order : IsInOrder block count from (next_place place)
+
+-- the same of a call that has come so far with a piece; base: the place of the piece in the stream
+pub record IsOrdered (block : List RawBreak) (base from : ℕ) (here : Feeding) : Type 0 where
+  pub seen : here.place.at + here.cut.size ≡ base + here.taken
+  pub placed : IsPlaced block here.count from here.place
 
 -- the break so many bytes further on, as a number of 64 bits
 abbrev pub moved : ℕ → Break → Break

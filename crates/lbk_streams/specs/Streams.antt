@@ -1,5 +1,5 @@
 -- A text that comes in pieces: what a stream holds of its bytes, and which breaks these do not settle.
-use Rattle.std.specs.Prelude.{◌≡◌, ℕ, ◌+◌, ◌-◌, ◌<◌, ◌≤◌, min, length, ◌==◌, ◌||◌, Bool, true, false, ◌⊎◌, List, [], ◌∷◌, ◌++◌, map, take, if◌then◌else◌}
+use Rattle.std.specs.Prelude.{◌≡◌, ℕ, ◌+◌, ◌-◌, ◌^◌, ◌<◌, ◌≤◌, min, length, ◌==◌, ◌||◌, Bool, true, false, ◌⊎◌, List, [], ◌∷◌, ◌++◌, map, take, if◌then◌else◌}
 use Rattle.std.specs.List.{AllByRecursion}
 use Rattle.bstr.specs.Utf8.{lossy_chars}
 use Rattle.lbk_rules.specs.declared.breaks.Break.{Break}
@@ -45,6 +45,16 @@ stream_start profile = part_stream false profile 0
 -- where it stands between two scalars
 abbrev pub place_of : Stream → Place
 place_of stream = record { at = stream.at; held_at = stream.held_at; row = stream.row; held_code = stream.held_code }
+
+-- the first place at which a break may come yet: the one that waits, or else the one where the stream stands
+abbrev pub next_place : Place → ℕ
+next_place place = if place.held_code == 0 then place.at else place.held_at
+
+-- A stream whose places can be counted on, where so many bytes follow: the place that waits is an earlier one, and the stream has fewer
+-- than 2^64 bytes. So it is of each stream at its start
+pub record IsSound (stream : Stream) (more : ℕ) : Type 0 where
+  pub waits : 0 < stream.held_code → stream.held_at < stream.at
+  pub fits : stream.at + length (cut_bytes stream) + more < 2 ^ 64
 
 -- the cells of some bytes, without what no rule asks of them
 abbrev pub cells_of : (ℕ → Cell) → List ℕ → List Cell

@@ -1,13 +1,13 @@
 //! The breaks of a piece of a text.
 
-ghost use Rattle.std.specs.Prelude.{◌≡◌, ◌⊎◌, ℕ, ◌+◌, ◌-◌, ◌<◌, ◌≤◌, ◌++◌, true, false, List, drop, length};
+ghost use Rattle.std.specs.Prelude.{◌≡◌, ◌⊎◌, ℕ, ◌+◌, ◌-◌, ◌^◌, ◌<◌, ◌≤◌, ◌++◌, true, false, List, drop, length};
 ghost use Rattle.bstr.specs.Utf8.{decoded};
 ghost use Rattle.lbk_rules.specs.declared.cells.Cell.{Cell};
 ghost use Rattle.lbk_rules.specs.declared.facts.Left.{Left};
 ghost use Rattle.lbk_steps.specs.FlatTable.{IsFlatBy};
 ghost use Rattle.lbk_bytes.specs.Order.{AreBreaks};
 ghost use Rattle.lbk_bytes.specs.Shown.{given_in};
-ghost use Rattle.lbk_streams.specs.Stands.{Ahead, AreFew, Feeds, front_of};
+ghost use Rattle.lbk_streams.specs.Stands.{Ahead, AreFew, Feeds, IsOrdered, front_of};
 ghost use Rattle.lbk_bytes.specs.Open.{could_go_on};
 
 use crate::cutting::{behind, could_go_on, front_of, kept, with_byte};
@@ -34,6 +34,7 @@ pub(crate) fn take_piece(
     ensures few { result.count < length out.old → result.cut.size < 4 }
     ensures breaks { AreBreaks out.old start.count → AreBreaks out.new result.count }
     ensures counted { AreFew start result }
+    ensures ordered { (base from : ℕ) → base + length piece.now < 2 ^ 64 → IsOrdered out.old base from start → IsOrdered out.new base from result }
     ensures feeds { (cell : ℕ → Cell) (lefts : List Left) (base : ℕ) (more : List ℕ) (all : Ahead) → IsFlatBy lefts table.now cell
         → Feeds profile cell lefts base piece.now more start all (given_in out.old start.count)
         → Feeds profile cell lefts base piece.now more result all (given_in out.new result.count) }
@@ -53,6 +54,7 @@ fn drain(table: &FlatTable, profile: Profile, start: Feeding, out: &mut [RawBrea
     ensures few { result.count < length out.old → result.cut.size < 4 }
     ensures breaks { AreBreaks out.old start.count → AreBreaks out.new result.count }
     ensures counted { AreFew start result }
+    ensures ordered { (base from : ℕ) → base + start.taken < 2 ^ 64 → IsOrdered out.old base from start → IsOrdered out.new base from result }
     ensures feeds { (cell : ℕ → Cell) (lefts : List Left) (base : ℕ) (piece more : List ℕ) (all : Ahead) → IsFlatBy lefts table.now cell
         → Feeds profile cell lefts base piece more start all (given_in out.old start.count)
         → Feeds profile cell lefts base piece more result all (given_in out.new result.count) }
@@ -89,6 +91,7 @@ pub(crate) fn take_cut(
     ensures onward { result.cut.size + (length out.old - result.count) < here.cut.size + (length out.old - here.count) }
     ensures breaks { AreBreaks out.old here.count → AreBreaks out.new result.count }
     ensures counted { AreFew here result }
+    ensures ordered { (base from : ℕ) → base + here.taken < 2 ^ 64 → IsOrdered out.old base from here → IsOrdered out.new base from result }
     ensures feeds { (cell : ℕ → Cell) (lefts : List Left) (base : ℕ) (piece more : List ℕ) (all : Ahead) → IsFlatBy lefts table.now cell
         → decoded (front_of here.cut ++ (drop here.taken piece ++ more)) ≡ decoded (front_of here.cut)
         → Feeds profile cell lefts base piece more here all (given_in out.old here.count)
@@ -128,6 +131,7 @@ fn take_more(
     ensures few { result.count < length out.old → result.cut.size < 4 }
     ensures breaks { AreBreaks out.old here.count → AreBreaks out.new result.count }
     ensures counted { AreFew here result }
+    ensures ordered { (base from : ℕ) → base + length piece.now < 2 ^ 64 → IsOrdered out.old base from here → IsOrdered out.new base from result }
     ensures feeds { (cell : ℕ → Cell) (lefts : List Left) (base : ℕ) (more : List ℕ) (all : Ahead) → IsFlatBy lefts table.now cell
         → Feeds profile cell lefts base piece.now more here all (given_in out.old here.count)
         → Feeds profile cell lefts base piece.now more result all (given_in out.new result.count) }
@@ -160,6 +164,7 @@ fn take_run(
     ensures unfinished { result.count < length out.old → result.cut.size ≡ 0 }
     ensures breaks { AreBreaks out.old here.count → AreBreaks out.new result.count }
     ensures counted { AreFew here result }
+    ensures ordered { (base from : ℕ) → base + length piece.now < 2 ^ 64 → IsOrdered out.old base from here → IsOrdered out.new base from result }
     ensures feeds { (cell : ℕ → Cell) (lefts : List Left) (base : ℕ) (more : List ℕ) (all : Ahead) → IsFlatBy lefts table.now cell
         → Feeds profile cell lefts base piece.now more here all (given_in out.old here.count)
         → Feeds profile cell lefts base piece.now more result all (given_in out.new result.count) }

@@ -1,6 +1,6 @@
 //! A text that comes in pieces.
 
-ghost use Rattle.std.specs.Prelude.{◌≡◌, ◌⊎◌, ℕ, Bool, min, ◌+◌, ◌-◌, ◌^◌, ◌<◌, ◌≤◌, ◌++◌, true, false, [], List, MatchOption, None, Some, drop, length, map, take};
+ghost use Rattle.std.specs.Prelude.{◌≡◌, ◌⊎◌, ℕ, Bool, suc, min, ◌+◌, ◌-◌, ◌^◌, ◌<◌, ◌≤◌, ◌++◌, true, false, [], List, MatchOption, None, Some, drop, length, map, take};
 ghost use Rattle.lbk_rules.specs.declared.breaks.Break.{Break};
 ghost use Rattle.lbk_rules.specs.declared.cells.Cell.{Cell};
 ghost use Rattle.lbk_rules.specs.declared.facts.Left.{Left};
@@ -8,11 +8,11 @@ ghost use Rattle.lbk_values.specs.declared.profile.Profile.{Profile};
 ghost use Rattle.lbk_rules.specs.Joins.{moved};
 ghost use Rattle.lbk_steps.specs.FlatTable.{IsFlatBy, IsFlatOf, KnowsTaken};
 ghost use Rattle.lbk_bytes.specs.Bytes.{breaks_of_bytes, breaks_of_part, end_in};
-ghost use Rattle.lbk_bytes.specs.Order.{AreBreaks};
+ghost use Rattle.lbk_bytes.specs.Order.{AreBreaks, AreInOrder};
 ghost use Rattle.lbk_bytes.specs.Shown.{given_in};
 ghost use Rattle.lbk_bytes.specs.Profiles.{goes_on, plain_number, profile_numbered};
-ghost use Rattle.lbk_streams.specs.Stands.{Ahead, AreFew, Feeds, Gives, Streams, front_of};
-ghost use Rattle.lbk_streams.specs.Streams.{AreUnsettled, cut_bytes, most_left, part_stream, place_of, stream_start};
+ghost use Rattle.lbk_streams.specs.Stands.{Ahead, AreFew, Feeds, Gives, IsOrdered, IsPlaced, Streams, front_of};
+ghost use Rattle.lbk_streams.specs.Streams.{AreUnsettled, IsSound, cut_bytes, most_left, next_place, part_stream, place_of, stream_start};
 
 use crate::cutting::cut_of;
 use crate::feeding::{take_cut, take_piece};
@@ -28,7 +28,8 @@ use lbk_steps::FlatTable;
 /// The bytes may be any: over all calls the breaks are those of the joined pieces, as `lbk_breaks` has them, at places from the
 /// start of the stream, or of the text of which it is a part. Where the block has no room, nothing is taken and the stream
 /// stays. Where the stream has ended or names no profile, all is taken and no break comes.
-/// Whatever the table and the stream hold, the breaks are breaks of rules, and calls while the block comes back full come to an end.
+/// Whatever the table and the stream hold, the breaks are breaks of rules, and calls while the block comes back full come to an
+/// end. Whatever the table holds, the places of a stream rise from its start on.
 pub fn feed(
     table: &FlatTable,
     stream: &mut Stream,
@@ -42,6 +43,14 @@ pub fn feed(
     // Of any table and stream: at most one break for each byte, one that waited and the end.
     ensures breaks { AreBreaks out.new result.count }
     ensures few { result.count + most_left stream.new + (length piece.now - result.taken) ≤ most_left stream.old + length piece.now }
+    // And of any table, from a stream's start on: their places rise, in a call and from one call to the next.
+    ensures in_order { IsSound stream.old (length piece.now) → AreInOrder out.new result.count (next_place (place_of stream.old)) (suc stream.new.at) }
+    ensures before_stream { IsSound stream.old (length piece.now) → stream.new.ended ≡ 0 → (next_place (place_of stream.old) ≤ next_place (place_of stream.new))
+        × AreInOrder out.new result.count (next_place (place_of stream.old)) (next_place (place_of stream.new)) }
+    ensures sound { IsSound stream.old (length piece.now) → IsSound stream.new (length piece.now - result.taken) }
+    ensures place { IsSound stream.old (length piece.now) → stream.old.ended ≡ 0 → stream.old.profile ≤ 3
+        → stream.new.at + length (cut_bytes stream.new) ≡ stream.old.at + length (cut_bytes stream.old) + result.taken }
+    ensures only_last { last ≡ false → stream.new.ended ≡ stream.old.ended }
     ensures start { (cell : ℕ → Cell) (profile : Profile) (text : List ℕ) → IsFlatOf table.now cell → length text < 2 ^ 64
         → stream.old ≡ stream_start profile → Streams cell table.now stream.old text (breaks_of_bytes profile cell text) }
     // A part of a text: places count from the text's start, if the part's place is given, and the text may go on after it.
@@ -96,6 +105,13 @@ fn go_with(
     ensures profile_same { stream.new.profile ≡ stream.old.profile }
     ensures breaks { AreBreaks out.new result.count }
     ensures few { result.count + most_left stream.new + (length piece.now - result.taken) ≤ most_left stream.old + length piece.now }
+    ensures in_order { IsSound stream.old (length piece.now) → AreInOrder out.new result.count (next_place (place_of stream.old)) (suc stream.new.at) }
+    ensures before_stream { IsSound stream.old (length piece.now) → stream.new.ended ≡ 0 → (next_place (place_of stream.old) ≤ next_place (place_of stream.new))
+        × AreInOrder out.new result.count (next_place (place_of stream.old)) (next_place (place_of stream.new)) }
+    ensures sound { IsSound stream.old (length piece.now) → IsSound stream.new (length piece.now - result.taken) }
+    ensures place { IsSound stream.old (length piece.now)
+        → stream.new.at + length (cut_bytes stream.new) ≡ stream.old.at + length (cut_bytes stream.old) + result.taken }
+    ensures only_last { last ≡ false → stream.new.ended ≡ stream.old.ended }
     ensures ended { last ≡ true → result.count < length out.old → 0 < stream.new.ended }
     ensures cut { stream.new.cut_size ≤ 4 }
     ensures closed { last ≡ true → result.count < length out.old → (stream.new.cut_size ≡ 0) × (stream.new.held_code ≡ 0) }
@@ -170,6 +186,7 @@ fn finish(table: &FlatTable, profile: Profile, start: Feeding, out: &mut [RawBre
     ensures same { start.count ≡ length out.old → (result ≡ start) × (out.new ≡ out.old) }
     ensures breaks { AreBreaks out.old start.count → AreBreaks out.new result.count }
     ensures counted { AreFew start result }
+    ensures ordered { (base from : ℕ) → base + start.taken < 2 ^ 64 → IsOrdered out.old base from start → IsOrdered out.new base from result }
     ensures feeds { (cell : ℕ → Cell) (lefts : List Left) (base : ℕ) (piece : List ℕ) (all : Ahead) → IsFlatBy lefts table.now cell
         → (start.count < length out.old → start.taken ≡ length piece)
         → Feeds profile cell lefts base piece [] start all (given_in out.old start.count)
@@ -188,6 +205,9 @@ fn close(table: &FlatTable, stream: &mut Stream, here: Feeding, out: &mut [RawBr
     ensures within { (result.count ≤ length out.old) × (result.taken ≡ here.taken) }
     ensures breaks { AreBreaks out.old here.count → AreBreaks out.new result.count }
     ensures few { result.count + most_left stream.new ≤ here.count + min here.place.held_code 1 + here.cut.size + 1 }
+    ensures in_order { (base from : ℕ) → IsOrdered out.old base from here → AreInOrder out.new result.count from (suc here.place.at) }
+    ensures placed { (base from : ℕ) → IsOrdered out.old base from here → stream.new.ended ≡ 0 → IsPlaced out.new result.count from (place_of stream.new) }
+    ensures waits { (base from : ℕ) → IsOrdered out.old base from here → 0 < stream.new.held_code → stream.new.held_at < stream.new.at }
     ensures profile_same { stream.new.profile ≡ stream.old.profile }
     ensures full { here.count ≡ length out.old → (result.count ≡ here.count) × (out.new ≡ out.old) × (place_of stream.new ≡ here.place)
         × (cut_bytes stream.new ≡ front_of here.cut) × (stream.new.ended ≡ stream.old.ended) }

@@ -13,7 +13,7 @@ ghost use Rattle.lbk_rules.specs.Normal.{normal};
 ghost use Rattle.lbk_steps.specs.FlatTable.{AreFlatKinds, IsFlatBy};
 ghost use Rattle.lbk_bytes.specs.Order.{AreBreaks};
 ghost use Rattle.lbk_bytes.specs.Shown.{given_in};
-ghost use Rattle.lbk_streams.specs.Stands.{Ahead, Stands};
+ghost use Rattle.lbk_streams.specs.Stands.{Ahead, IsPlaced, Stands};
 
 use crate::stream::Place;
 use lbk_bytes::{RawBreak, put, step_at, steps_of};
@@ -46,6 +46,7 @@ pub(crate) fn take_scalar(
     ensures few { result.count + min result.place.held_code 1 ≤ count + min place.held_code 1 + 1 }
     ensures met { result.passed ≡ false → result.count + min result.place.held_code 1 ≤ count + min place.held_code 1 }
     ensures at { result.place.at ≡ (if result.passed then (place.at + size) % 2 ^ 64 else place.at) }
+    ensures placed { (from : ℕ) → 0 < size → place.at + size < 2 ^ 64 → IsPlaced out.old count from place → IsPlaced out.new result.count from result.place }
     ensures stands { (cell : ℕ → Cell) (lefts : List Left) (bytes : List ℕ) (all : Ahead) → IsFlatBy lefts table.now cell
         → 0 < length bytes → c ≡ or_replacement (decoded bytes).char → size ≡ (decoded bytes).size
         → Stands profile cell lefts place bytes all (given_in out.old count)
@@ -66,6 +67,7 @@ fn meet(table: &FlatTable, place: Place, c: char, out: &mut [RawBreak], count: u
     ensures breaks { AreBreaks out.old count → AreBreaks out.new result.count }
     ensures few { result.count + min result.place.held_code 1 ≤ count + min place.held_code 1 }
     ensures at { result.place.at ≡ place.at }
+    ensures placed { (from : ℕ) → IsPlaced out.old count from place → IsPlaced out.new result.count from result.place }
     ensures joins { (cell : ℕ → Cell) → AreFlatKinds table.now.kinds cell → 0 < result.place.held_code → mark (normal (cell c)).class ≡ true }
     ensures stands { (profile : Profile) (cell : ℕ → Cell) (lefts : List Left) (bytes : List ℕ) (all : Ahead) → IsFlatBy lefts table.now cell
         → 0 < length bytes → c ≡ or_replacement (decoded bytes).char
@@ -124,6 +126,7 @@ fn pass(
     ensures breaks { AreBreaks out.old count → AreBreaks out.new result.count }
     ensures few { result.count + min result.place.held_code 1 ≤ count + min place.held_code 1 + 1 }
     ensures at { result.place.at ≡ (place.at + size) % 2 ^ 64 }
+    ensures placed { (from : ℕ) → 0 < size → place.at + size < 2 ^ 64 → IsPlaced out.old count from place → IsPlaced out.new result.count from result.place }
     ensures stands { (cell : ℕ → Cell) (lefts : List Left) (bytes : List ℕ) (all : Ahead) → IsFlatBy lefts table.now cell
         → 0 < length bytes → c ≡ or_replacement (decoded bytes).char → size ≡ (decoded bytes).size
         → (0 < place.held_code → mark (normal (cell c)).class ≡ true)

@@ -1,13 +1,13 @@
 //! A block that is filled with words.
 
-ghost use Rattle.std.specs.Prelude.{◌≡◌, ◌≤◌, drop, length, min, take};
+ghost use Rattle.std.specs.Prelude.{◌≡◌, ◌<◌, ◌≤◌, drop, length, min, take};
 ghost use Rattle.lbk_words.specs.Words.{AreRising, IsBoundary, words_on};
 
 use crate::pieces::first_piece;
 use crate::word::{Filled, Word};
 
 /// Puts the first words of what a text has from the byte `start` on, as a text of its own, into the front of a block: as many as
-/// it holds, or all. The others come from the byte on that is returned.
+/// it holds, or all. The others come from the byte on that is returned, which is the text's end where the block has more room.
 ///
 /// The text may be any bytes: each longest piece that begins no scalar is read as U+FFFD (Unicode Standard, section 3.9).
 pub fn fill(text: &[u8], start: usize, out: &mut [Word]) -> Filled
@@ -18,6 +18,7 @@ pub fn fill(text: &[u8], start: usize, out: &mut [Word]) -> Filled
     ensures boundary { IsBoundary text.now start result.at }
     ensures rising { AreRising start result.at (take result.count out.new) }
     ensures within { start ≤ length text.now → result.at ≤ length text.now }
+    ensures all { result.count < length out.old → start ≤ length text.now → result.at ≡ length text.now }
     ensures past { length text.now ≤ start → result.at ≡ start }
     ensures no_room { length out.old ≡ 0 → result.at ≡ start }
 {

@@ -2,6 +2,7 @@ use Rattle.std.proofs.Common.{◌≡◌, ◌-◌, length, drop, take, ap, sym, s
 use Rattle.std.specs.Char.{IsScalar}
 use Rattle.std.proofs.lemmas.List.{length-drop}
 use Rattle.bstr.specs.Utf8.{decoded, or_replacement}
+use Rattle.bstr.proofs.lemmas.PieceLemmas.{piece-bounds}
 use Rattle.lbk_bytes.proofs.LoopLemmas.{Decided-one}
 use Rattle.lbk_bytes.proofs.PieceLemmas.{piece-within, read-scalar, rest-behind, rest-of}
 use Rattle.lbk_bytes.proofs.deciding.decide_one.Goals as goal
@@ -56,3 +57,11 @@ returns-clause-decided c = λ cell lefts taken flat known.
     Decided-one c.args.profile cell lefts text taken c.args.table.now c.args.row at x size
     c.code_ahead-code.result rest c.step_at-step.result.now flat scalar is_char is_size (rest-behind text at size c.requires.1 is_size)
     c.step_at-step.ensures (c.code_ahead-code.ensures cell lefts taken flat known) known
+
+pub returns-clause-near : goal.returns-clause-near
+returns-clause-near c =
+    let text = c.args.text.now in
+    let at = c.args.at in
+    let is_size = c.decode_lossy-c.ensures.size ∙ ap (λ bs. (decoded bs).size) (rest-of text at) in
+    let bounds = piece-bounds (drop at text) (omega (arith, length-drop at text)) in
+    omega (arith, bounds.1, is_size)

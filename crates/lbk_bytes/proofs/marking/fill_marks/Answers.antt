@@ -9,6 +9,7 @@ loop-here-preserved c =
       row = more.within.0;
       onward = omega (arith, more.within.1);
       within = more.within.2;
+      near = more.near;
       no_room = λ none. absurd (omega arith);
       after = λ i past. more.after i past ∙ l.invariant.after i (omega (arith, more.within.1));
       marked = λ cell lefts all flat start. more.marked cell lefts all flat (l.invariant.marked cell lefts all flat start);

@@ -12,6 +12,7 @@ invariant-loop-here l = record {
   row : l.here.row < 65536;
   onward : l.fn.start.at ≤ l.here.at;
   within : l.here.at ≤ length l.text;
+  near : l.here.at ≤ l.stop + 3;
   no_room : length l.words ≡ 0 → l.here ≡ l.fn.start;
   after : (i : ℕ) → l.here.at ≤ l.fn.start.at + i → is_marked l.words i ≡ false;
   marked : (cell : ℕ → Cell) (lefts : List Left) (all : Ahead) → IsFlatBy lefts l.fn.table cell

@@ -1,10 +1,13 @@
 use Rattle.std.proofs.Common.{sym, ap, ◌∙◌}
 use Rattle.bstr.specs.Utf8.{pieces}
 use Rattle.lbk_c.specs.Coming.{onward_in}
+use Rattle.lbk_bytes.specs.Reached.{onward, onward_all}
+use Rattle.lbk_units.specs.Units.{pieces_of_utf16, pieces_of_utf32}
+use Rattle.lbk_c.proofs.UnitsComingLemmas.{units-other}
 use Rattle.lbk_c.proofs.laws.only_bytes_from_a_state_on.Goals as goal
 
-pub returns : goal.returns
-returns c = λ cell table text other state to_come comes within same. record {
+pub returns-clause-breaks : goal.returns-clause-breaks
+returns-clause-breaks c = λ cell table text other state to_come comes within same. record {
   profile = comes.profile;
   named = comes.named;
   lefts = comes.lefts;
@@ -22,3 +25,12 @@ returns c = λ cell table text other state to_come comes within same. record {
     none_come = comes.onto.none_come;
   };
 }
+
+pub returns-clause-utf16 : goal.returns-clause-utf16
+returns-clause-utf16 c = units-other onward pieces_of_utf16
+
+pub returns-clause-utf32 : goal.returns-clause-utf32
+returns-clause-utf32 c = units-other onward pieces_of_utf32
+
+pub returns-clause-positions : goal.returns-clause-positions
+returns-clause-positions c = λ pieces_of. units-other onward_all pieces_of

@@ -1,10 +1,10 @@
-use Rattle.std.proofs.Common.{length, ap, arith, refl}
+use Rattle.std.proofs.Common.{drop, length, ap, arith, refl}
 use Rattle.lbk_bytes.specs.Reached.{onward}
 use Rattle.lbk_bytes.specs.Shown.{given_in}
 use Rattle.lbk_bytes.proofs.OrderLemmas.{AreInOrder-none}
 use Rattle.lbk_bytes.proofs.ReachedLemmas.{onward-start}
 use Rattle.lbk_c.proofs.ComingLemmas.{spent-plain}
-use Rattle.lbk_c.proofs.UnitsComingLemmas.{units-go, units-next, units-none, units-start}
+use Rattle.lbk_c.proofs.UnitsComingLemmas.{pieces-part, units-go, units-next, units-none, units-part, units-start}
 use Rattle.lbk_c.proofs.unit_breaking.next_breaks.Goals as goal
 
 pub returns-in_default-clause-start : goal.returns-in_default-clause-start
@@ -12,6 +12,10 @@ returns-in_default-clause-start g c = λ cell profile flat starts. units-start o
 
 pub returns-clause-start : goal.returns-clause-start
 returns-clause-start g c = λ cell profile flat starts. units-start onward g.U.Unit.pieces_of cell c.args.table.now c.args.text.now profile c.args.state.now _ flat starts (onward-start profile cell (g.U.Unit.pieces_of c.args.text.now))
+
+pub returns-in_default-clause-part : goal.returns-in_default-clause-part
+returns-in_default-clause-part g c = λ cell profile at flat within starts.
+    units-part onward g.U.Unit.pieces_of cell c.args.table.now c.args.text.now profile at c.args.state.now _ flat within starts (pieces-part profile cell at (g.U.Unit.pieces_of (drop at c.args.text.now)))
 
 pub returns-in_default-clause-count : goal.returns-in_default-clause-count
 returns-in_default-clause-count g c = λ cell to_come comes.
@@ -23,6 +27,10 @@ returns-in_default-clause-front g c = λ cell to_come comes. refl
 
 pub returns-in_default-clause-rest : goal.returns-in_default-clause-rest
 returns-in_default-clause-rest g c = λ cell to_come comes. comes
+
+pub returns-clause-part : goal.returns-clause-part
+returns-clause-part g c = λ cell profile at flat within starts.
+    units-part onward g.U.Unit.pieces_of cell c.args.table.now c.args.text.now profile at c.args.state.now _ flat within starts (pieces-part profile cell at (g.U.Unit.pieces_of (drop at c.args.text.now)))
 
 pub returns-clause-count : goal.returns-clause-count
 returns-clause-count g c = λ cell to_come comes.

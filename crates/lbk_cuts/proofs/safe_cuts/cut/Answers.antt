@@ -1,4 +1,5 @@
 use Rattle.std.proofs.Common.{arith}
+use Rattle.lbk_cuts.proofs.PieceStartLemmas.{starts_first, starts_last}
 use Rattle.lbk_cuts.proofs.SafeLemmas.{joins-safe}
 use Rattle.lbk_cuts.proofs.safe_cuts.cut.Goals as goal
 
@@ -19,3 +20,9 @@ returns-clause-first c = λ cell flat.
 pub returns-clause-joined : goal.returns-clause-joined
 returns-clause-joined c = λ cell profile flat some inside.
     joins-safe profile cell c.args.text.now c.first_cut.result some inside (c.first_cut.ensures.safe cell flat.1.kinds)
+
+pub returns-then-text-at-clause-begins : goal.returns-then-text-at-clause-begins
+returns-then-text-at-clause-begins c = starts_last c.args.text.now
+
+pub returns-then-at-eq0-clause-begins : goal.returns-then-at-eq0-clause-begins
+returns-then-at-eq0-clause-begins c = starts_first c.args.text.now

@@ -1,5 +1,6 @@
 use Rattle.std.proofs.Common.{⊎_elim, arith}
 use Rattle.std.proofs.lemmas.Bool.{cases_lt}
+use Rattle.lbk_cuts.proofs.PieceStartLemmas.{starts_last}
 use Rattle.lbk_cuts.proofs.SafeLemmas.{joins-safe, unsafe-within}
 use Rattle.lbk_cuts.proofs.safe_cuts.cut_before.Goals as goal
 
@@ -23,3 +24,6 @@ returns-clause-last c = λ cell flat.
 pub returns-clause-joined : goal.returns-clause-joined
 returns-clause-joined c = λ cell profile flat some inside.
     joins-safe profile cell c.args.text.now c.last_cut.result some inside (c.last_cut.ensures.safe cell flat.1.kinds)
+
+pub returns-then-text-at-clause-begins : goal.returns-then-text-at-clause-begins
+returns-then-text-at-clause-begins c = starts_last c.args.text.now

@@ -1,6 +1,7 @@
 use Rattle.std.proofs.Common.{◌≡◌, ◌-◌, ℕ, subst, sym, ◌∙◌, ⊎_elim, arith}
 use Rattle.std.proofs.lemmas.Bool.{cases_lt}
 use Rattle.lbk_cuts.specs.Cuts.{IsSafeCut}
+use Rattle.lbk_cuts.proofs.PieceStartLemmas.{starts_first}
 use Rattle.lbk_cuts.proofs.SafeLemmas.{safe, unsafe-between, unsafe-within}
 use Rattle.lbk_cuts.proofs.safe_cuts.last_cut.Goals as goal
 
@@ -38,3 +39,6 @@ loop-place-preserved c =
           (cases_lt place at))
           (cases_lt at place);
     }
+
+pub returns-clause-begins : goal.returns-clause-begins
+returns-clause-begins c = starts_first c.args.text.now

@@ -1,10 +1,10 @@
-use Rattle.std.proofs.Common.{◌≡◌, ◌+◌, ◌-◌, ◌≤◌, ℕ, List, length}
+use Rattle.std.proofs.Common.{◌≡◌, ◌+◌, ◌-◌, ◌^◌, ◌<◌, ◌≤◌, ℕ, List, length}
 use Rattle.lbk_rules.specs.declared.cells.Cell.{Cell}
 use Rattle.lbk_rules.specs.declared.facts.Left.{Left}
 use Rattle.lbk_steps.specs.FlatTable.{IsFlatBy}
 use Rattle.lbk_bytes.specs.Order.{AreBreaks}
 use Rattle.lbk_bytes.specs.Shown.{given_in}
-use Rattle.lbk_streams.specs.Stands.{Ahead, AreFew, Feeds}
+use Rattle.lbk_streams.specs.Stands.{Ahead, AreFew, Feeds, IsOrdered}
 use Rattle.lbk_streams.proofs.feeding.drain.Given as goal
 
 abbrev pub invariant-loop-here : goal.invariant-loop-here
@@ -14,6 +14,7 @@ invariant-loop-here l = record {
   taken : l.here.taken ≡ l.fn.start.taken;
   breaks : AreBreaks l.fn.out l.fn.start.count → AreBreaks l.out l.here.count;
   counted : AreFew l.fn.start l.here;
+  ordered : (base from : ℕ) → base + l.fn.start.taken < 2 ^ 64 → IsOrdered l.fn.out base from l.fn.start → IsOrdered l.out base from l.here;
   feeds : (cell : ℕ → Cell) (lefts : List Left) (base : ℕ) (piece more : List ℕ) (all : Ahead) → IsFlatBy lefts l.fn.table cell
       → Feeds l.fn.profile cell lefts base piece more l.fn.start all (given_in l.fn.out l.fn.start.count)
       → Feeds l.fn.profile cell lefts base piece more l.here all (given_in l.out l.here.count);

@@ -1,4 +1,4 @@
-use Rattle.std.proofs.Common.{◌++◌, length, drop, sym, ap, ◌∙◌, length-append, arith}
+use Rattle.std.proofs.Common.{◌≡◌, ◌+◌, ◌%◌, ◌^◌, ◌<◌, ◌++◌, cond, length, drop, sym, ap, ◌∙◌, length-append, arith}
 use Rattle.bstr.specs.Utf8.{decoded, or_replacement}
 use Rattle.bstr.proofs.lemmas.PieceLemmas.{piece-bounds}
 use Rattle.lbk_bytes.specs.Shown.{given_in}
@@ -73,3 +73,36 @@ returns-then-step-clause-counted c =
 
 pub returns-clause-counted : goal.returns-clause-counted
 returns-clause-counted c = omega (arith, c.take_scalar-step.ensures.met c.if-step.false)
+
+pub returns-then-step-clause-ordered : goal.returns-then-step-clause-ordered
+returns-then-step-clause-ordered c = λ base from fits o.
+    let here = c.args.here in
+    let front = c.front_of-front.result.now in
+    let long = c.front_of-front.ensures.length in
+    let bounds = piece-bounds front (omega arith) in
+    let size = c.decode_lossy-c.result.1 in
+    let size_same = c.decode_lossy-c.ensures.size in
+    let step = c.take_scalar-step in
+    let seen = o.seen in
+    let at : step.result.place.at ≡ (here.place.at + size) % 2 ^ 64 = step.ensures.at ∙ ap (λ b. cond b ((here.place.at + size) % 2 ^ 64) here.place.at) c.if-step.true in
+    let below : here.place.at + size < 2 ^ 64 = omega (arith, bounds.2) in
+    record {
+      seen = omega (arith, c.behind-cut.ensures.size);
+      placed = step.ensures.placed from (omega (arith, bounds.0)) below o.placed;
+    }
+
+pub returns-clause-ordered : goal.returns-clause-ordered
+returns-clause-ordered c = λ base from fits o.
+    let here = c.args.here in
+    let front = c.front_of-front.result.now in
+    let long = c.front_of-front.ensures.length in
+    let bounds = piece-bounds front (omega arith) in
+    let size = c.decode_lossy-c.result.1 in
+    let size_same = c.decode_lossy-c.ensures.size in
+    let step = c.take_scalar-step in
+    let seen = o.seen in
+    let at : step.result.place.at ≡ here.place.at = step.ensures.at ∙ ap (λ b. cond b ((here.place.at + size) % 2 ^ 64) here.place.at) c.if-step.false in
+    record {
+      seen = omega arith;
+      placed = step.ensures.placed from (omega (arith, bounds.0)) (omega (arith, bounds.2)) o.placed;
+    }

@@ -13,6 +13,7 @@ loop-here-init c =
       few = λ free. drain.ensures.few (omega arith);
       breaks = drain.ensures.breaks;
       counted = drain.ensures.counted;
+      ordered = λ base from fits o. drain.ensures.ordered base from (omega (arith, c.requires.2)) o;
       feeds = λ cell lefts base more all flat start. drain.ensures.feeds cell lefts base c.args.piece.now more all flat start;
     }
 
@@ -32,5 +33,6 @@ loop-here-preserved c =
       few = λ free. take.ensures.few (omega arith);
       breaks = λ all. take.ensures.breaks (l.invariant.breaks all);
       counted = omega (arith, take.ensures.counted, l.invariant.counted);
+      ordered = λ base from fits o. take.ensures.ordered base from fits (l.invariant.ordered base from fits o);
       feeds = λ cell lefts base more all flat start. take.ensures.feeds cell lefts base more all flat (l.invariant.feeds cell lefts base more all flat start);
     }

@@ -1,10 +1,10 @@
-use Rattle.std.proofs.Common.{◌≡◌, ◌⊎◌, ◌-◌, ◌<◌, ◌≤◌, ℕ, true, List, length}
+use Rattle.std.proofs.Common.{◌≡◌, ◌⊎◌, ◌+◌, ◌-◌, ◌^◌, ◌<◌, ◌≤◌, ℕ, true, List, length}
 use Rattle.lbk_rules.specs.declared.cells.Cell.{Cell}
 use Rattle.lbk_rules.specs.declared.facts.Left.{Left}
 use Rattle.lbk_steps.specs.FlatTable.{IsFlatBy}
 use Rattle.lbk_bytes.specs.Order.{AreBreaks}
 use Rattle.lbk_bytes.specs.Shown.{given_in}
-use Rattle.lbk_streams.specs.Stands.{Ahead, AreFew, Feeds, front_of}
+use Rattle.lbk_streams.specs.Stands.{Ahead, AreFew, Feeds, IsOrdered, front_of}
 use Rattle.lbk_bytes.specs.Open.{could_go_on}
 use Rattle.lbk_streams.proofs.feeding.take_piece.Given as goal
 
@@ -17,6 +17,7 @@ invariant-loop-here l = record {
   few : l.here.count < length l.out → l.here.cut.size < 4;
   breaks : AreBreaks l.fn.out l.fn.start.count → AreBreaks l.out l.here.count;
   counted : AreFew l.fn.start l.here;
+  ordered : (base from : ℕ) → base + length l.piece < 2 ^ 64 → IsOrdered l.fn.out base from l.fn.start → IsOrdered l.out base from l.here;
   feeds : (cell : ℕ → Cell) (lefts : List Left) (base : ℕ) (more : List ℕ) (all : Ahead) → IsFlatBy lefts l.fn.table cell
       → Feeds l.fn.profile cell lefts base l.piece more l.fn.start all (given_in l.fn.out l.fn.start.count)
       → Feeds l.fn.profile cell lefts base l.piece more l.here all (given_in l.out l.here.count);

@@ -1,6 +1,7 @@
-use Rattle.std.proofs.Common.{◌≡◌, ◌-◌, ◌++◌, [], drop, length, take, sym, ap, subst, ◌∙◌, length-drop, length-take-le, arith}
+use Rattle.std.proofs.Common.{◌≡◌, ◌+◌, ◌-◌, ◌%◌, ◌^◌, ◌<◌, ◌++◌, cond, [], drop, length, take, sym, ap, subst, ◌∙◌, length-drop, length-take-le, arith}
 use Rattle.lbk_bytes.specs.Shown.{given_in}
-use Rattle.lbk_streams.specs.Stands.{Stands}
+use Rattle.lbk_streams.specs.declared.stream.Feeding.{Feeding}
+use Rattle.lbk_streams.specs.Stands.{IsOrdered, Stands}
 use Rattle.lbk_streams.proofs.FeedLemmas.{Feeds-kept, Feeds-run, is-read, none-cut, not-false, not-true}
 use Rattle.lbk_bytes.proofs.PieceLemmas.{rest-of}
 use Rattle.lbk_streams.proofs.feeding.take_run.Goals as goal
@@ -123,3 +124,59 @@ pub returns-clause-counted : goal.returns-clause-counted
 returns-clause-counted c =
     let read = is-read c.args.piece.now [] c.args.here.taken c.decode_lossy-c.result.0 c.decode_lossy-c.result.1 c.requires.2 c.decode_lossy-c.ensures.char c.decode_lossy-c.ensures.size in
     omega (arith, read.some, c.take_scalar-step.ensures.few, c.skim.ensures.counted)
+
+pub returns-then-not-step-clause-ordered : goal.returns-then-not-step-clause-ordered
+returns-then-not-step-clause-ordered c = λ base from fits o.
+    let piece = c.args.piece.now in
+    let here = c.args.here in
+    let size = c.decode_lossy-c.result.1 in
+    let step = c.take_scalar-step in
+    let read = is-read piece [] here.taken c.decode_lossy-c.result.0 size c.requires.2 c.decode_lossy-c.ensures.char c.decode_lossy-c.ensures.size in
+    let some = read.some in
+    let few = read.few in
+    let four = c.requires.2 in
+    let none = c.requires.0 in
+    let seen = o.seen in
+    let below : here.place.at + size < 2 ^ 64 = omega arith in
+    let left : length (take (length piece - here.taken) (drop here.taken piece)) ≡ length piece - here.taken = ap length (rest-of piece here.taken) ∙ length-drop here.taken piece in
+    let long = length-take-le size (take (length piece - here.taken) (drop here.taken piece)) (omega arith) in
+    let kept = c.kept-cut.ensures.within in
+    let at : step.result.place.at ≡ here.place.at =
+    step.ensures.at ∙ ap (λ b. cond b ((here.place.at + size) % 2 ^ 64) here.place.at) (not-true step.result.passed c.if-not-step.true) in
+    record { seen = omega arith; placed = step.ensures.placed from some below o.placed }
+
+pub returns-then-past-ne0-clause-ordered : goal.returns-then-past-ne0-clause-ordered
+returns-then-past-ne0-clause-ordered c = λ base from fits o.
+    let piece = c.args.piece.now in
+    let here = c.args.here in
+    let size = c.decode_lossy-c.result.1 in
+    let step = c.take_scalar-step in
+    let read = is-read piece [] here.taken c.decode_lossy-c.result.0 size c.requires.2 c.decode_lossy-c.ensures.char c.decode_lossy-c.ensures.size in
+    let some = read.some in
+    let few = read.few in
+    let four = c.requires.2 in
+    let none = c.requires.0 in
+    let seen = o.seen in
+    let below : here.place.at + size < 2 ^ 64 = omega arith in
+    let at : step.result.place.at ≡ (here.place.at + size) % 2 ^ 64 =
+    step.ensures.at ∙ ap (λ b. cond b ((here.place.at + size) % 2 ^ 64) here.place.at) (not-false step.result.passed c.if-not-step.false) in
+    record { seen = omega arith; placed = step.ensures.placed from some below o.placed }
+
+pub returns-clause-ordered : goal.returns-clause-ordered
+returns-clause-ordered c = λ base from fits o.
+    let piece = c.args.piece.now in
+    let here = c.args.here in
+    let size = c.decode_lossy-c.result.1 in
+    let step = c.take_scalar-step in
+    let read = is-read piece [] here.taken c.decode_lossy-c.result.0 size c.requires.2 c.decode_lossy-c.ensures.char c.decode_lossy-c.ensures.size in
+    let some = read.some in
+    let few = read.few in
+    let four = c.requires.2 in
+    let none = c.requires.0 in
+    let seen = o.seen in
+    let below : here.place.at + size < 2 ^ 64 = omega arith in
+    let at : step.result.place.at ≡ (here.place.at + size) % 2 ^ 64 =
+    step.ensures.at ∙ ap (λ b. cond b ((here.place.at + size) % 2 ^ 64) here.place.at) (not-false step.result.passed c.if-not-step.false) in
+    let past : Feeding = record { place = step.result.place; cut = here.cut; taken = here.taken + size; count = step.result.count } in
+    let ordered : IsOrdered step.new.out base from past = record { seen = omega arith; placed = step.ensures.placed from some below o.placed } in
+    c.skim.ensures.ordered base from fits ordered

@@ -1,9 +1,11 @@
-use Rattle.std.proofs.Common.{◌≡◌, ◌+◌, ◌%◌, ◌^◌, ◌<◌, ◌++◌, [], ◌∷◌, get_or, length, map, drop, take, sym, ap, ◌∙◌, arith}
+use Rattle.std.proofs.Common.{◌≡◌, ◌+◌, ◌%◌, ◌^◌, ◌<◌, ◌++◌, [], ◌∷◌, get_or, set, below_more, get_or-set_other, get_or-set_same, length, map, drop, take, sym, ap, ◌∙◌, arith}
 use Rattle.std.proofs.lemmas.List.{drop-drop, drop-set-lt, get_or-drop, length-set, map-append, take_more, take_more_set}
 use Rattle.lbk_bytes.specs.declared.raw_break.RawBreak.{RawBreak}
 use Rattle.lbk_bytes.specs.Shown.{given_in, shown}
 use Rattle.lbk_streams.specs.Stands.{moved}
+use Rattle.lbk_bytes.specs.Order.{no_break}
 use Rattle.lbk_streams.proofs.BreakLemmas.{AreBreaks-moved}
+use Rattle.lbk_streams.proofs.PlaceLemmas.{AreInOrder-moved, moved_raw}
 use Rattle.lbk_streams.proofs.skimming.move_by.Goals as goal
 
 pub loop-k-preserved : goal.loop-k-preserved
@@ -32,6 +34,14 @@ loop-k-preserved c =
           ∙ ap (map (moved by)) (sym (map-append shown (take k start) (get_or start k none ∷ [])))
           ∙ ap (λ xs. map (moved by) (map shown xs)) (sym (take_more start k none inside_start));
       breaks = λ all. AreBreaks-moved out k new.at c.args.count inside (omega arith) (l.invariant.breaks all);
+      each =
+          below_more (λ n. get_or (set out k new) n no_break ≡ moved_raw by (get_or start n no_break)) k
+          (λ j few. get_or-set_other out k j new no_break (λ even. omega arith) ∙ l.invariant.each j few)
+          (get_or-set_same out k new no_break inside ∙ ap (moved_raw by) same);
       rest =
           drop-set-lt (k + 1) out k new (omega arith) ∙ sym (drop-drop 1 k out) ∙ ap (drop 1) l.invariant.rest ∙ drop-drop 1 k start;
     }
+
+pub returns-clause-in_order : goal.returns-clause-in_order
+returns-clause-in_order c = λ from to fits o.
+    AreInOrder-moved c.args.out.now c.loop-k.out c.args.count c.args.by from to (λ k few. c.loop-k.invariant.each k (omega arith)) fits o

@@ -1,7 +1,8 @@
-use Rattle.std.proofs.Common.{◌-◌, ◌≡◌, ◌≤◌, drop, length, map}
-use Rattle.lbk_bytes.specs.Order.{AreBreaks}
+use Rattle.std.proofs.Common.{◌-◌, ◌≡◌, ◌<◌, ◌≤◌, ℕ, get_or, drop, length, map}
+use Rattle.lbk_bytes.specs.Order.{AreBreaks, no_break}
 use Rattle.lbk_bytes.specs.Shown.{given_in}
 use Rattle.lbk_streams.specs.Stands.{moved}
+use Rattle.lbk_streams.proofs.PlaceLemmas.{moved_raw}
 use Rattle.lbk_streams.proofs.skimming.move_by.Given as goal
 
 abbrev pub invariant-loop-k : goal.invariant-loop-k
@@ -10,6 +11,7 @@ invariant-loop-k l = record {
   room : l.count ≤ length l.out;
   front : given_in l.out l.k ≡ map (moved l.by) (given_in l.fn.out l.k);
   breaks : AreBreaks l.fn.out l.count → AreBreaks l.out l.count;
+  each : (j : ℕ) → j < l.k → get_or l.out j no_break ≡ moved_raw l.by (get_or l.fn.out j no_break);
   rest : drop l.k l.out ≡ drop l.k l.fn.out;
 }
 

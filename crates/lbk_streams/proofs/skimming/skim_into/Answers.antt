@@ -1,7 +1,8 @@
-use Rattle.std.proofs.Common.{◌≡◌, ◌+◌, ◌-◌, ◌%◌, ◌^◌, ◌++◌, [], List, map, ap, ◌∙◌, arith}
+use Rattle.std.proofs.Common.{◌≡◌, ◌+◌, ◌-◌, ◌%◌, ◌^◌, ◌++◌, [], List, map, ap, subst, ◌∙◌, arith}
 use Rattle.lbk_rules.specs.declared.breaks.Break.{Break}
 use Rattle.lbk_bytes.specs.Bytes.{end_in}
 use Rattle.lbk_bytes.specs.declared.fill_state.FillState.{FillState}
+use Rattle.lbk_bytes.specs.Order.{AreInOrder}
 use Rattle.lbk_bytes.specs.Reached.{ReachedBy}
 use Rattle.lbk_bytes.specs.Shown.{given_in}
 use Rattle.lbk_streams.specs.Stands.{moved, onward_of}
@@ -39,3 +40,18 @@ returns-clause-few c =
     let end = c.fill_common-end in
     let order = end.ensures.in_order c.args.from (omega arith, AreInOrder-none c.args.room.now c.args.from c.args.from) in
     few-between end.new.out end.result.count c.args.from end.result.at order.0 order.1
+
+pub returns-clause-in_order : goal.returns-clause-in_order
+returns-clause-in_order c = λ behind fits.
+    let from = c.args.from in
+    let place = c.args.place in
+    let end = c.fill_common-end in
+    let count = end.result.count in
+    let by = (place.at + (2 ^ 64 - from)) % 2 ^ 64 in
+    let by_same : by ≡ place.at - from = omega arith in
+    let order = end.ensures.in_order from (omega arith, AreInOrder-none c.args.room.now from from) in
+    let low : from + by ≡ place.at = omega arith in
+    let high : end.result.at + by ≡ place.at + (end.result.at - from) = omega (arith, order.0) in
+    let moved_on = c.move_by.ensures.in_order from end.result.at (omega (arith, high)) order.1 in
+    subst (λ n. AreInOrder c.move_by.new.out count n (place.at + (end.result.at - from))) low
+    (subst (λ n. AreInOrder c.move_by.new.out count (from + by) n) high moved_on)

@@ -1,6 +1,7 @@
 use Rattle.std.proofs.Common.{◌++◌, [], refl, sym, subst, ◌∙◌, arith}
 use Rattle.std.proofs.lemmas.Bool.{false≢true}
 use Rattle.std.proofs.lemmas.List.{append-nil}
+use Rattle.lbk_bytes.proofs.OrderLemmas.{AreInOrder-none}
 use Rattle.lbk_streams.specs.Stands.{Streams}
 use Rattle.lbk_streams.proofs.StreamLemmas.{Streams-part, Streams-start, ended-none}
 use Rattle.lbk_bytes.proofs.PartLemmas.{part-onward}
@@ -51,3 +52,21 @@ pub returns-clause-end : goal.returns-clause-end
 returns-clause-end c = λ cell to_come s is_last free.
     let whole = subst (λ bytes. Streams cell c.args.table.now c.args.stream.now bytes to_come) (sym (append-nil c.args.piece.now)) s in
     (c.go_with.ensures.gives cell [] to_come whole (λ _. refl)).end is_last free
+
+pub returns-then-is_empty-clause-in_order : goal.returns-then-is_empty-clause-in_order
+returns-then-is_empty-clause-in_order c = λ sound. AreInOrder-none _ _ _
+
+pub returns-then-is_empty-clause-before_stream : goal.returns-then-is_empty-clause-before_stream
+returns-then-is_empty-clause-before_stream c = λ sound unended. (omega arith, AreInOrder-none _ _ _)
+
+pub returns-then-is_empty-clause-sound : goal.returns-then-is_empty-clause-sound
+returns-then-is_empty-clause-sound c = λ sound. record { waits = sound.waits; fits = omega (arith, sound.fits) }
+
+pub returns-in_default-clause-in_order : goal.returns-in_default-clause-in_order
+returns-in_default-clause-in_order c = λ sound. AreInOrder-none _ _ _
+
+pub returns-in_default-clause-before_stream : goal.returns-in_default-clause-before_stream
+returns-in_default-clause-before_stream c = λ sound unended. (omega arith, AreInOrder-none _ _ _)
+
+pub returns-in_default-clause-sound : goal.returns-in_default-clause-sound
+returns-in_default-clause-sound c = λ sound. record { waits = sound.waits; fits = omega (arith, sound.fits) }

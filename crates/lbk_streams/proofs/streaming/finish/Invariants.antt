@@ -1,10 +1,10 @@
-use Rattle.std.proofs.Common.{◌≡◌, ◌+◌, ◌-◌, ◌<◌, ◌≤◌, ℕ, List, [], length}
+use Rattle.std.proofs.Common.{◌≡◌, ◌+◌, ◌-◌, ◌^◌, ◌<◌, ◌≤◌, ℕ, List, [], length}
 use Rattle.lbk_rules.specs.declared.cells.Cell.{Cell}
 use Rattle.lbk_rules.specs.declared.facts.Left.{Left}
 use Rattle.lbk_steps.specs.FlatTable.{IsFlatBy}
 use Rattle.lbk_bytes.specs.Order.{AreBreaks}
 use Rattle.lbk_bytes.specs.Shown.{given_in}
-use Rattle.lbk_streams.specs.Stands.{Ahead, AreFew, Feeds}
+use Rattle.lbk_streams.specs.Stands.{Ahead, AreFew, Feeds, IsOrdered}
 use Rattle.lbk_streams.proofs.streaming.finish.Given as goal
 
 abbrev pub invariant-loop-here : goal.invariant-loop-here
@@ -15,6 +15,7 @@ invariant-loop-here l = record {
   same : l.fn.start.count ≡ length l.fn.out → (l.here ≡ l.fn.start) × (l.out ≡ l.fn.out);
   breaks : AreBreaks l.fn.out l.fn.start.count → AreBreaks l.out l.here.count;
   counted : AreFew l.fn.start l.here;
+  ordered : (base from : ℕ) → base + l.fn.start.taken < 2 ^ 64 → IsOrdered l.fn.out base from l.fn.start → IsOrdered l.out base from l.here;
   feeds : (cell : ℕ → Cell) (lefts : List Left) (base : ℕ) (piece : List ℕ) (all : Ahead) → IsFlatBy lefts l.fn.table cell
       → (l.fn.start.count < length l.fn.out → l.fn.start.taken ≡ length piece)
       → Feeds l.fn.profile cell lefts base piece [] l.fn.start all (given_in l.fn.out l.fn.start.count)

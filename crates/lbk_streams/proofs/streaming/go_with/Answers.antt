@@ -1,11 +1,14 @@
-use Rattle.std.proofs.Common.{◌≡◌, ◌+◌, ◌<◌, ◌≤◌, ◌++◌, [], drop, length, sym, ap, subst, ◌∙◌, ⊎_elim, arith}
+use Rattle.std.proofs.Common.{◌≡◌, suc, ◌+◌, ◌<◌, ◌≤◌, ◌++◌, [], drop, length, sym, ap, subst, ◌∙◌, ⊎_elim, arith}
 use Rattle.std.proofs.lemmas.Bool.{cases_lt, false≢true}
 use Rattle.lbk_bytes.specs.Shown.{given_in}
 use Rattle.lbk_streams.specs.Stands.{Streams, ahead}
-use Rattle.lbk_streams.specs.Streams.{cut_bytes}
+use Rattle.lbk_streams.specs.Streams.{cut_bytes, next_place, place_of}
 use Rattle.lbk_streams.specs.declared.stream.Feeding.{Feeding}
 use Rattle.lbk_streams.specs.declared.stream.Place.{Place}
+use Rattle.lbk_bytes.specs.Order.{AreInOrder}
+use Rattle.lbk_bytes.proofs.OrderLemmas.{AreInOrder-wider}
 use Rattle.lbk_bytes.proofs.ReachedLemmas.{given-many}
+use Rattle.lbk_streams.proofs.PlaceLemmas.{IsOrdered-start, next-within}
 use Rattle.lbk_streams.proofs.StreamLemmas.{Feeds-closed, Feeds-front, Feeds-streams, Feeds-unsettled, Streams-next}
 use Rattle.lbk_streams.proofs.streaming.go_with.Goals as goal
 
@@ -96,3 +99,121 @@ returns-then-last-clause-gives c = λ cell more to_come s lasts.
 pub returns-then-last-clause-breaks : goal.returns-then-last-clause-breaks
 returns-then-last-clause-breaks c =
     c.close.ensures.breaks (c.finish-done.ensures.breaks (c.take_piece-here.ensures.breaks (λ k few. absurd (omega (arith, c.start_of-start.ensures.fresh.1)))))
+
+pub returns-clause-in_order : goal.returns-clause-in_order
+returns-clause-in_order c = λ sound.
+    let old = c.args.stream.now in
+    let start = c.start_of-start in
+    let take = c.take_piece-here in
+    let base = old.at + length (cut_bytes old) in
+    let from = next_place (place_of old) in
+    let fits = sound.fits in
+    let o = take.ensures.ordered base from (omega arith)
+    (IsOrdered-start c.args.out.now old start.result start.ensures.place start.ensures.cut.2 start.ensures.fresh.0 start.ensures.fresh.1 sound.waits) in
+    let at = ap (λ (p : Place). p.at) c.keep.ensures.place in
+    AreInOrder-wider take.new.out take.result.count from (next_place take.result.place) (suc c.keep.new.stream.at) (omega (arith, at, next-within take.result.place o.placed.waits)) o.placed.order.1
+
+pub returns-clause-before_stream : goal.returns-clause-before_stream
+returns-clause-before_stream c = λ sound unended.
+    let old = c.args.stream.now in
+    let start = c.start_of-start in
+    let take = c.take_piece-here in
+    let base = old.at + length (cut_bytes old) in
+    let from = next_place (place_of old) in
+    let fits = sound.fits in
+    let o = take.ensures.ordered base from (omega arith)
+    (IsOrdered-start c.args.out.now old start.result start.ensures.place start.ensures.cut.2 start.ensures.fresh.0 start.ensures.fresh.1 sound.waits) in
+    subst (λ (p : Place). (from ≤ next_place p) × AreInOrder take.new.out take.result.count from (next_place p)) (sym c.keep.ensures.place) o.placed.order
+
+pub returns-clause-sound : goal.returns-clause-sound
+returns-clause-sound c = λ sound.
+    let old = c.args.stream.now in
+    let start = c.start_of-start in
+    let take = c.take_piece-here in
+    let base = old.at + length (cut_bytes old) in
+    let from = next_place (place_of old) in
+    let fits = sound.fits in
+    let o = take.ensures.ordered base from (omega arith)
+    (IsOrdered-start c.args.out.now old start.result start.ensures.place start.ensures.cut.2 start.ensures.fresh.0 start.ensures.fresh.1 sound.waits) in
+    let at = ap (λ (p : Place). p.at) c.keep.ensures.place in
+    let seen = o.seen in
+    record {
+      waits = subst (λ (p : Place). 0 < p.held_code → p.held_at < p.at) (sym c.keep.ensures.place) o.placed.waits;
+      fits = omega (arith, at, c.keep.ensures.cut.1, take.ensures.within.2);
+    }
+
+pub returns-then-last-clause-in_order : goal.returns-then-last-clause-in_order
+returns-then-last-clause-in_order c = λ sound.
+    let old = c.args.stream.now in
+    let start = c.start_of-start in
+    let take = c.take_piece-here in
+    let base = old.at + length (cut_bytes old) in
+    let from = next_place (place_of old) in
+    let fits = sound.fits in
+    let o = take.ensures.ordered base from (omega arith)
+    (IsOrdered-start c.args.out.now old start.result start.ensures.place start.ensures.cut.2 start.ensures.fresh.0 start.ensures.fresh.1 sound.waits) in
+    let done = c.finish-done.ensures.ordered base from (omega (arith, take.ensures.within.2)) o in
+    subst (λ n. AreInOrder c.close.new.out c.close.result.count from (suc n)) (sym c.close.ensures.seen.0) (c.close.ensures.in_order base from done)
+
+pub returns-then-last-clause-before_stream : goal.returns-then-last-clause-before_stream
+returns-then-last-clause-before_stream c = λ sound unended.
+    let old = c.args.stream.now in
+    let start = c.start_of-start in
+    let take = c.take_piece-here in
+    let base = old.at + length (cut_bytes old) in
+    let from = next_place (place_of old) in
+    let fits = sound.fits in
+    let o = take.ensures.ordered base from (omega arith)
+    (IsOrdered-start c.args.out.now old start.result start.ensures.place start.ensures.cut.2 start.ensures.fresh.0 start.ensures.fresh.1 sound.waits) in
+    let done = c.finish-done.ensures.ordered base from (omega (arith, take.ensures.within.2)) o in
+    (c.close.ensures.placed base from done unended).order
+
+pub returns-then-last-clause-sound : goal.returns-then-last-clause-sound
+returns-then-last-clause-sound c = λ sound.
+    let old = c.args.stream.now in
+    let start = c.start_of-start in
+    let take = c.take_piece-here in
+    let base = old.at + length (cut_bytes old) in
+    let from = next_place (place_of old) in
+    let fits = sound.fits in
+    let o = take.ensures.ordered base from (omega arith)
+    (IsOrdered-start c.args.out.now old start.result start.ensures.place start.ensures.cut.2 start.ensures.fresh.0 start.ensures.fresh.1 sound.waits) in
+    let done = c.finish-done.ensures.ordered base from (omega (arith, take.ensures.within.2)) o in
+    let seen = done.seen in
+    let put = c.close.ensures.seen in
+    record {
+      waits = c.close.ensures.waits base from done;
+      fits = omega (arith, put.0, put.1, c.close.ensures.within.1, c.finish-done.ensures.within.2, take.ensures.within.2);
+    }
+
+pub returns-clause-place : goal.returns-clause-place
+returns-clause-place c = λ sound.
+    let old = c.args.stream.now in
+    let start = c.start_of-start in
+    let take = c.take_piece-here in
+    let base = old.at + length (cut_bytes old) in
+    let from = next_place (place_of old) in
+    let fits = sound.fits in
+    let o = take.ensures.ordered base from (omega arith)
+    (IsOrdered-start c.args.out.now old start.result start.ensures.place start.ensures.cut.2 start.ensures.fresh.0 start.ensures.fresh.1 sound.waits) in
+    let at = ap (λ (p : Place). p.at) c.keep.ensures.place in
+    let seen = o.seen in
+    omega (arith, at, c.keep.ensures.cut.1)
+
+pub returns-then-last-clause-place : goal.returns-then-last-clause-place
+returns-then-last-clause-place c = λ sound.
+    let old = c.args.stream.now in
+    let start = c.start_of-start in
+    let take = c.take_piece-here in
+    let base = old.at + length (cut_bytes old) in
+    let from = next_place (place_of old) in
+    let fits = sound.fits in
+    let o = take.ensures.ordered base from (omega arith)
+    (IsOrdered-start c.args.out.now old start.result start.ensures.place start.ensures.cut.2 start.ensures.fresh.0 start.ensures.fresh.1 sound.waits) in
+    let done = c.finish-done.ensures.ordered base from (omega (arith, take.ensures.within.2)) o in
+    let seen = done.seen in
+    let put = c.close.ensures.seen in
+    omega (arith, put.0, put.1, c.close.ensures.within.1)
+
+pub returns-then-last-clause-only_last : goal.returns-then-last-clause-only_last
+returns-then-last-clause-only_last c = λ unfinished. absurd (false≢true (sym unfinished ∙ c.if-last.true))

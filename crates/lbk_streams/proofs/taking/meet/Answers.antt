@@ -1,9 +1,12 @@
-use Rattle.std.proofs.Common.{◌≡◌, ◌<◌, ◌==◌, true, false, Some, sym, ap, ◌∙◌, arith}
+use Rattle.std.proofs.Common.{◌≡◌, ◌<◌, ◌==◌, true, false, Some, refl, sym, ap, subst, ◌∙◌, arith}
 use Rattle.std.proofs.lemmas.Bool.Decides.{nat_tests}
 use Rattle.std.proofs.lemmas.List.{append-nil}
 use Rattle.lbk_rules.specs.Normal.{normal}
 use Rattle.lbk_bytes.specs.Shown.{given_in}
 use Rattle.lbk_bytes.proofs.AheadLemmas.{told_by}
+use Rattle.lbk_bytes.specs.Reached.{IsInOrder}
+use Rattle.lbk_streams.specs.declared.stream.Place.{Place}
+use Rattle.lbk_streams.proofs.PlaceLemmas.{IsInOrder-at, IsPlaced-free, next-held}
 use Rattle.lbk_streams.proofs.StandsLemmas.{Stands-settle}
 use Rattle.lbk_streams.proofs.taking.meet.Goals as goal
 
@@ -26,3 +29,19 @@ returns-clause-stands c = λ profile cell lefts bytes all flat some is_char stan
     ap (told_by false) (sym (c.cell-cell.ensures cell flat.kinds)) ∙ sym c.unit_closes.ensures ∙ c.in-Some.is ∙ ap Some c.if-closes.false in
     Stands-settle profile cell lefts place bytes all given (given_in c.put-more.new.out c.put-more.result) c.args.c false some is_char held told
     (c.put-more.ensures.front (stands.waits waits).coded) stands
+
+pub returns-then-closes-clause-placed : goal.returns-then-closes-clause-placed
+returns-then-closes-clause-placed c = λ from p.
+    let place = c.args.place in
+    let free : Place = record { at = place.at; held_at = place.held_at; row = place.row; held_code = 0 } in
+    IsPlaced-free c.args.out.now c.args.count from place.at free refl (omega arith) (IsInOrder-at c.args.out.now c.args.count from place p)
+
+pub returns-clause-placed : goal.returns-clause-placed
+returns-clause-placed c = λ from p.
+    let place = c.args.place in
+    let put = c.put-more in
+    let held : 0 < place.held_code = omega arith in
+    let free : Place = record { at = place.at; held_at = place.held_at; row = place.row; held_code = 0 } in
+    let order = subst (λ n. IsInOrder c.args.out.now c.args.count from n) (next-held place held) p.order in
+    IsPlaced-free put.new.out put.result from place.at free refl (omega arith)
+    (omega (arith, order.0, p.waits held), put.ensures.in_order from place.at (p.waits held) order)

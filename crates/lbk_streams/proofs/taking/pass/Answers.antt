@@ -6,9 +6,10 @@ use Rattle.lbk_rules.specs.Verdict.{verdict_between_in}
 use Rattle.lbk_steps.specs.FlatTable.{no_flat_step}
 use Rattle.lbk_streams.specs.declared.stream.Place.{Place}
 use Rattle.lbk_bytes.specs.Bytes.{with_break}
-use Rattle.lbk_bytes.specs.Reached.{steps_in}
+use Rattle.lbk_bytes.specs.Reached.{IsInOrder, steps_in}
 use Rattle.lbk_bytes.specs.Shown.{given_in}
 use Rattle.lbk_streams.specs.Stands.{Waits}
+use Rattle.lbk_streams.proofs.PlaceLemmas.{IsInOrder-at, IsPlaced-free, IsPlaced-held, next-held}
 use Rattle.lbk_streams.proofs.StandsLemmas.{Stands-join, Stands-on, decides-late, decides-now, knows-next, late-none, waits-now}
 use Rattle.lbk_streams.proofs.taking.pass.Goals as goal
 
@@ -77,3 +78,28 @@ returns-clause-stands c = λ cell lefts bytes all flat some is_char is_size join
     (λ taken known onward waits. absurd (omega arith))
     (c.put-more.ensures.front (decides-now profile cell lefts table stands.taken place.at place.row x first step right flat stands.knows scalar is_first is_step quiet).0)
     stands
+
+pub returns-then-place-ne0-clause-placed : goal.returns-then-place-ne0-clause-placed
+returns-then-place-ne0-clause-placed c = λ from some fits p.
+    let place = c.args.place in
+    let held : 0 < place.held_code = omega arith in
+    let next : Place = record { at = (place.at + c.args.size) % 2 ^ 64; held_at = place.held_at; row = c.step_at-first.result.now.next; held_code = place.held_code } in
+    IsPlaced-held c.args.out.now c.args.count from next (omega (arith, p.waits held))
+    (subst (λ n. IsInOrder c.args.out.now c.args.count from n) (next-held place held) p.order)
+
+pub returns-then-waits-clause-placed : goal.returns-then-waits-clause-placed
+returns-then-waits-clause-placed c = λ from some fits p.
+    let place = c.args.place in
+    let first = c.step_at-first.result.now in
+    let next : Place = record { at = (place.at + c.args.size) % 2 ^ 64; held_at = place.at; row = first.next; held_code = first.code } in
+    IsPlaced-held c.args.out.now c.args.count from next (omega arith) (IsInOrder-at c.args.out.now c.args.count from place p)
+
+pub returns-clause-placed : goal.returns-clause-placed
+returns-clause-placed c = λ from some fits p.
+    let place = c.args.place in
+    let put = c.put-more in
+    let next : Place = record { at = (place.at + c.args.size) % 2 ^ 64; held_at = place.held_at; row = c.step_at-first.result.now.next; held_code = place.held_code } in
+    let later : place.at < next.at = omega arith in
+    let order = IsInOrder-at c.args.out.now c.args.count from place p in
+    IsPlaced-free put.new.out put.result from next.at next c.if-place-ne0.false (omega arith)
+    (omega (arith, order.0, later), put.ensures.in_order from next.at later order)

@@ -1,4 +1,4 @@
-use Rattle.std.proofs.Common.{cond, drop, sym, subst}
+use Rattle.std.proofs.Common.{cond, drop, sym, subst, arith}
 use Rattle.lbk_bytes.specs.Shown.{given_in}
 use Rattle.lbk_streams.specs.Stands.{Stands}
 use Rattle.lbk_streams.proofs.taking.take_scalar.Goals as goal
@@ -11,3 +11,6 @@ returns-clause-stands c = λ cell lefts bytes all flat some is_char is_size stan
     (sym pass.ensures.passed)
     (pass.ensures.stands cell lefts bytes all flat some is_char is_size (c.meet-met.ensures.joins cell flat.kinds)
     (c.meet-met.ensures.stands c.args.profile cell lefts bytes all flat some is_char stands))
+
+pub returns-clause-placed : goal.returns-clause-placed
+returns-clause-placed c = λ from some fits p. c.pass.ensures.placed from some (omega (arith, c.meet-met.ensures.at)) (c.meet-met.ensures.placed from p)
