@@ -33,6 +33,13 @@ TASKS = {
     ],
 }
 
+# The same of a range from the second paragraph on: the first is passed over, and nothing is written of it.
+OF_A_RANGE = {
+    "mark": [(b"ab\ncd\ne", 1), *PARAGRAPHS[2:]],
+    "show": [(b"ab\ncd\ne", 1), *PARAGRAPHS[2:]],
+    "segment": [(b"ab\ncd\ne", 3), *TASKS["segment"][2:]],
+}
+
 
 def lines_of(out, count, seen):
     """Waits until `count` more lines stand in what the program wrote, and returns whether they do."""
@@ -66,8 +73,21 @@ def one_task(tally, name, steps, words):
     rest = program.stdout.read()
     wanted = 3 if name == "replay" else 0
     # (a text that ends without a line end gets one from `mark`)
-    good = program.wait() == wanted and rest.endswith(b"j\n" if name == "mark" else b"\n")
+    good = program.wait() == wanted and rest.endswith(b"j\n" if name.startswith("mark") else b"\n")
     tally.tell(f"{name}, the end", None if good else f"status {program.returncode}, and it wrote {rest[:80]!r}")
+
+
+def passed(tally, task, words):
+    """A run ends once the scalar after its range was seen, while its input goes on."""
+    with subprocess.Popen(words, stdin=subprocess.PIPE, stdout=subprocess.PIPE, stderr=subprocess.DEVNULL, bufsize=0) as program:
+        program.stdin.write(b"ab\ncd\ne")
+        try:
+            status = program.wait(WAIT)
+            fault = None if status == 0 else f"status {status}"
+        except subprocess.TimeoutExpired:
+            fault = "it waits for more"
+            program.kill()
+        tally.tell(f"{task}: a range that was passed", fault)
 
 
 def run(tally, _arguments):
@@ -80,3 +100,6 @@ def run(tally, _arguments):
             words += [option, name]
         for task, steps in TASKS.items():
             one_task(tally, task or "no arguments", steps, [program, task, *words] if task else [program])
+        for task, steps in OF_A_RANGE.items():
+            one_task(tally, f"{task} --from 3", steps, [program, task, *words, "--from", "3"])
+            passed(tally, task, [program, task, *words, "--to", "6"])

@@ -16,18 +16,23 @@ def run(place):
     lines, length = 20_000, 6_000_000
     place.write("long", long_file(LINE_BREAK, b"", length))
     shown, replayed = b"ab cd\n" * lines, "× 0061 ÷ 0062 ÷\n".encode() * lines
-    for task, text, status, writes in (
-        ("mark", shown, 0, lines),
-        ("show", shown, 0, lines),
-        ("segment", shown, 0, lines),
-        ("replay", replayed, 3, lines + 1),
+    ranged = ["--from", "1", "--to", str(len(shown) - 1)]
+    for task, more, text, status, writes in (
+        ("mark", [], shown, 0, lines),
+        ("show", [], shown, 0, lines),
+        ("segment", [], shown, 0, lines),
+        ("mark", ranged, shown, 0, lines - 1),
+        ("show", ranged, shown, 0, lines - 1),
+        ("segment", ranged, shown, 0, lines - 1),
+        ("replay", [], replayed, 3, lines + 1),
     ):
         place.write("text", text)
         # At least a thousand bytes of text a read, and eight thousand of a file, and some reads to start and to meet the ends.
         most = len(text) // 1000 + length // 8000 + 50
-        ended, read, wrote = counted_calls(place, words_of(task, ("long", "E", "C", "M")))
+        ended, read, wrote = counted_calls(place, words_of(task, ("long", "E", "C", "M"), more))
         fault = f"status {ended}, {read} reads, at most {most}, and {wrote} writes, not {writes}"
-        place.tally.tell(f"{task}: calls", None if ended == status and read <= most and wrote == writes else fault)
+        what = f"{task} of a range" if more else task
+        place.tally.tell(f"{what}: calls", None if ended == status and read <= most and wrote == writes else fault)
     each_size(place)
 
 

@@ -34,6 +34,9 @@ def run(place):
             place.write("text", text)
             try_each(place, env, f"{task}: {what}", words_of(task), text)
             try_each(place, env, f"{task}: {what}, as a file between others", words_of(task, more=["none", "text", "-"]), text)
+            if task != "replay":
+                words = words_of(task, more=["--from", "1", "--to", "9000"])
+                try_each(place, env, f"{task}: a range of {what}", words, text)
 
 
 def try_each(place, env, what, words, text):

@@ -1,5 +1,5 @@
 -- A text broken in one call: what is known of the lines that were written of it.
-use Rattle.std.proofs.Common.{◌≡◌, ℕ, ◌≤◌, true, List, [], ◌∷◌, length, Option, Result, Ok, Err, IfErr, IsUtf8, chars, sym, ap, subst, ◌∙◌, inl, inr, arith}
+use Rattle.std.proofs.Common.{◌≡◌, ℕ, ◌≤◌, true, List, [], ◌∷◌, length, Option, Result, Ok, Err, IfErr, IsUtf8, chars, refl, sym, ap, subst, ◌∙◌, inl, inr, arith}
 use Rattle.std.specs.Char.{IsScalar}
 use Rattle.std.specs.List.{AllByRecursion, flat_map}
 use Rattle.std.proofs.Math.Utf8.{scalar, scalars}
@@ -15,16 +15,15 @@ use Rattle.lbk_feed.specs.Text.{greatest_limit}
 use Rattle.lbk_notation.specs.TestLine.{Line}
 use Rattle.lbk_files.specs.Cells.{AreCellsOf}
 use Rattle.lbk_cmd.specs.Acts.{Shows}
-use Rattle.lbk_cmd.specs.Broken.{IsBreakFault, IsBroken}
+use Rattle.lbk_cmd.specs.Broken.{IsBroken, IsLinesFault, ShowStops}
 use Rattle.lbk_cmd.specs.Devices.{Devices}
 use Rattle.lbk_cmd.specs.Engines.{showing}
 use Rattle.lbk_cmd.specs.ReadBack.{AreReadable, AreShown, IsReadable, IsShown, Say}
-use Rattle.lbk_cmd.specs.Texts.{show_text}
 use Rattle.lbk_cmd.specs.declared.broken.BreakFault.{BreakFault}
 use Rattle.lbk_cmd.specs.declared.broken.BreakFault.TheVariants.{Text as text_fault}
+use Rattle.lbk_cmd.specs.declared.faults.CmdFault.{CmdFault}
 use Rattle.lbk_cmd.specs.declared.faults.CmdFault.TheVariants as cmd
 use Rattle.lbk_cmd.proofs.Headlines.{both, headline}
-use Rattle.lbk_cmd.proofs.InMemory.{untold, untold_done}
 use Rattle.lbk_cmd.proofs.ReadingBack.{lines-joined}
 
 abbrev AllScalars : List ℕ → Type 0
@@ -55,14 +54,19 @@ all_readable limit (ms ∷ given) low all within =
       all_readable limit given low parts.1 within.1,
     )
 
+-- `show` stopped
+pub show_stopped : {X : Type 0} (files : Files) (cell : ℕ → Cell) (limit : ℕ) (profile : Profile) (before after : Devices)
+    (answer : Result X BreakFault) (why : BreakFault) (fault : CmdFault) → answer ≡ Err why → why ≡ text_fault fault → AreCellsOf files cell
+    → ShowStops cell limit profile before after fault → IfErr answer (IsLinesFault files limit profile before after)
+show_stopped files cell limit profile before after answer why fault is same cells stops =
+    subst (λ r. IfErr r (IsLinesFault files limit profile before after)) (sym (is ∙ ap Err same)) (cell, cells, inl stops)
+
 -- memory could not grow for what is read back
 pub out_of_memory : {X : Type 0} (files : Files) (cell : ℕ → Cell) (limit : ℕ) (profile : Profile) (before after : Devices)
     (answer : Result X BreakFault) (why : BreakFault) → answer ≡ Err why → why ≡ text_fault cmd.Memory → AreCellsOf files cell
-    → Shows cell limit profile (untold before) (untold after) (Ok tt)
-    → IfErr answer (IsBreakFault files limit profile (untold before) (untold after))
+    → Shows cell limit profile before after (Ok tt) → IfErr answer (IsLinesFault files limit profile before after)
 out_of_memory files cell limit profile before after answer why is memory cells shows =
-    subst (λ r. IfErr r (IsBreakFault files limit profile (untold before) (untold after))) (sym (is ∙ ap Err memory))
-    (cell, cells, untold_done (λ input. show_text (passages profile cell (chars input))) (showing cell profile limit) (untold before) (untold after) shows)
+    subst (λ r. IfErr r (IsLinesFault files limit profile before after)) (sym (is ∙ ap Err memory)) (cell, cells, inr (refl, shows))
 
 module _ (cell : ℕ → Cell) (limit : ℕ) (profile : Profile) (before after : Devices) (shows : Shows cell limit profile before after (Ok tt))
     (unread : Option (List ℕ)) (text : List ℕ) (shown : IsShown (showing cell profile limit) unread text) where

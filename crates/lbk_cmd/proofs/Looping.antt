@@ -1,6 +1,6 @@
 -- The loop of an engine: what was read and what was written, from passage to passage.
 use Rattle.std.proofs.Common.{◌≡◌, ℕ, ◌+◌, ◌<◌, ◌≤◌, Bool, true, false, ◌||◌, ◌⊎◌, List, [], ◌∷◌, ◌++◌, length, take, Option, None, Some, Result, Ok, Err, refl, IsTrue, sym, ap, subst, ◌∙◌, arith, inl, ⊎_elim, length-append, append_assoc, append-nil}
-use Rattle.std.proofs.Math.Seq.{take-append-add, take-append_seam}
+use Rattle.std.proofs.Math.Seq.{take-append-add}
 use Rattle.std.proofs.lemmas.Bool.{cases_lt, false≢true}
 use Rattle.std.specs.Io.KnownBytes.{Appends, Consumes, IsAtEnd}
 use Rattle.lbk_feed.specs.Devices.{Reads}
@@ -9,7 +9,7 @@ use Rattle.lbk_feed.specs.Text.{longest_text}
 use Rattle.lbk_feed.proofs.Taking.{Consumes-nil, Consumes-trans, Took-then, kept_took, begun_took, told_took}
 use Rattle.lbk_passage.specs.Marks.{Marked}
 use Rattle.lbk_passage.specs.State.{State, new_state}
-use Rattle.lbk_passage.specs.Next.{AfterNext, Agrees, IsDone, IsPassage, ends_run, fault_in, lent_text}
+use Rattle.lbk_passage.specs.Next.{AfterNext, Agrees, IsDone, IsPassage, Lends, ends_run, fault_in, lent_text}
 use Rattle.lbk_passage.specs.declared.faults.PassageFault.{PassageFault}
 use Rattle.lbk_passage.specs.declared.faults.PassageFault.TheVariants as fault
 use Rattle.lbk_passage.specs.declared.passage.Passage.{Passage}
@@ -19,7 +19,7 @@ use Rattle.lbk_cmd.specs.declared.faults.CmdFault.{CmdFault}
 use Rattle.lbk_cmd.specs.declared.faults.CmdFault.TheVariants as cmd
 use Rattle.lbk_cmd.proofs.Running.{Standing, Standing-new, Standing-new-given, Standing-next, Standing-next-given, given_now, passage_now, start_now}
 use Rattle.lbk_cmd.proofs.KeepingUp.{before_next, before_none, before_written, keeps_none, keeps_written, keeps_next}
-use Rattle.lbk_cmd.proofs.Stopping.{range_fault, stopped, run_whole, run_fault}
+use Rattle.lbk_cmd.proofs.Stopping.{range_fault, stopped, run_memory, run_whole, run_fault}
 
 pub Appends-nil : (a : Option (List ℕ)) → Appends a a []
 Appends-nil None = tt
@@ -205,19 +205,19 @@ module _ (e : Engine) (u0 w0 : Option (List ℕ)) (reads0 : Reads) where
             }
 
       -- memory could not grow for its lines
-      pub ran_memory : (X : Type 0) (Late : ℕ → Type 0) → Ran false u0 v w0 w (Ends {X = X} e reads0 r2 e2 v (MayStop Late) (Err cmd.Memory))
-      ran_memory X Late =
-          let line = e.lines s.start (given_now e s g.bytes g.out g.standing t u v e1 e2 r1 r2 p a) in
-          let comes = stopped e t (g.bytes ++ a.got) (g.out ++ line) (Standing-next e s g.bytes g.out g.standing t u v e1 e2 r1 r2 p a) e2 (notices (Ok (Some p)) a)
-          g.out (length g.out) (sym (take-append_seam g.out line)) in
+      pub ran_memory : (X : Type 0) → Ran false u0 v w0 w (Ends {X = X} e reads0 r2 e2 v (MayStop (λ from. from ≤ s.start)) (Err cmd.Memory))
+      ran_memory X =
+          let lends : Lends s t p = a.answer in
+          let held = run_memory e s g.bytes g.out g.standing t u v e1 e2 r1 r2 (Ok (Some p)) a (notices (Ok (Some p)) a) lends.marks t.held lends.passage.some
+          (ap (λ l. l ++ t.held) lends.passage.text) lends.comes in
           record {
             read = g.bytes ++ a.got;
             out = g.out;
             took = took_now;
             put = g.put;
             so = record {
-              comes = comes;
-              in_range = λ from to may. comes;
+              comes = held.0;
+              in_range = λ from to may. record { held_up = held.0; late = omega (arith, held.1, may.1); begins = omega (arith, held.1, may.0.0) };
               keeps_up = keeps_now (Ok (Some p)) a;
               before = λ from to may. before_now (Ok (Some p)) a to may.0.0 may.0.1;
             };
@@ -312,35 +312,35 @@ module _ (e : Engine) (u0 w0 : Option (List ℕ)) (reads0 : Reads) (X : Type 0) 
     abbrev pub IsLate : ℕ → Type 0
     IsLate from = r ≡ Err fault.Memory → from ≤ s.start
 
-    -- a run that ends after the call
-    abbrev pub EndsSo : Option (List ℕ) → Type 0
-    EndsSo w' = Ran (is_failed_read answer) u0 v w0 w' (Ends e reads0 r2 e2 v (MayStop e u0 w0 reads0 s t u v w e1 e2 r1 r2 g IsLate) answer)
+    -- a run that ends after the call, over a range where it may begin so
+    abbrev pub EndsSo : (ℕ → Type 0) → Option (List ℕ) → Type 0
+    EndsSo Late w' = Ran (is_failed_read answer) u0 v w0 w' (Ends e reads0 r2 e2 v (MayStop e u0 w0 reads0 s t u v w e1 e2 r1 r2 g Late) answer)
 
-    ended_so : (w' : Option (List ℕ)) (known : Result X CmdFault) → answer ≡ known
-        → Ran (is_failed_read known) u0 v w0 w' (Ends e reads0 r2 e2 v (MayStop e u0 w0 reads0 s t u v w e1 e2 r1 r2 g IsLate) known) → EndsSo w'
-    ended_so w' known is =
-        subst (λ x. Ran (is_failed_read x) u0 v w0 w' (Ends e reads0 r2 e2 v (MayStop e u0 w0 reads0 s t u v w e1 e2 r1 r2 g IsLate) x)) (sym is)
+    ended_so : (Late : ℕ → Type 0) (w' : Option (List ℕ)) (known : Result X CmdFault) → answer ≡ known
+        → Ran (is_failed_read known) u0 v w0 w' (Ends e reads0 r2 e2 v (MayStop e u0 w0 reads0 s t u v w e1 e2 r1 r2 g Late) known) → EndsSo Late w'
+    ended_so Late w' known is =
+        subst (λ x. Ran (is_failed_read x) u0 v w0 w' (Ends e reads0 r2 e2 v (MayStop e u0 w0 reads0 s t u v w e1 e2 r1 r2 g Late) x)) (sym is)
 
-    pub run_stopped : (why : PassageFault) → r ≡ Err why → answer ≡ Err (cmd.Passage why) → EndsSo w
+    pub run_stopped : (why : PassageFault) → r ≡ Err why → answer ≡ Err (cmd.Passage why) → EndsSo IsLate w
     run_stopped why was is =
-        ended_so w (Err (cmd.Passage why)) is (ran_fault e u0 w0 reads0 s t u v w e1 e2 r1 r2 g X IsLate why (λ from late same. late (was ∙ ap (λ f. Err f) same))
+        ended_so IsLate w (Err (cmd.Passage why)) is (ran_fault e u0 w0 reads0 s t u v w e1 e2 r1 r2 g X IsLate why (λ from late same. late (was ∙ ap (λ f. Err f) same))
         (subst (AfterNext s t u v e1 e2 r1 r2) was a))
 
-    pub run_ended : (x : X) → r ≡ Ok None → answer ≡ Ok x → EndsSo w
-    run_ended x was is = ended_so w (Ok x) is (ran_whole e u0 w0 reads0 s t u v w e1 e2 r1 r2 g IsLate x (subst (AfterNext s t u v e1 e2 r1 r2) was a))
+    pub run_ended : (x : X) → r ≡ Ok None → answer ≡ Ok x → EndsSo IsLate w
+    run_ended x was is = ended_so IsLate w (Ok x) is (ran_whole e u0 w0 reads0 s t u v w e1 e2 r1 r2 g IsLate x (subst (AfterNext s t u v e1 e2 r1 r2) was a))
 
     module _ (p : Passage) (was : r ≡ Ok (Some p)) where
       given : AfterNext s t u v e1 e2 r1 r2 (Ok (Some p))
       given = subst (AfterNext s t u v e1 e2 r1 r2) was a
 
-      pub run_out_of_memory : answer ≡ Err cmd.Memory → EndsSo w
-      run_out_of_memory is = ended_so w (Err cmd.Memory) is (ran_memory e u0 w0 reads0 s t u v w e1 e2 r1 r2 g p given X IsLate)
+      pub run_out_of_memory : answer ≡ Err cmd.Memory → EndsSo (λ from. from ≤ s.start) w
+      run_out_of_memory is = ended_so (λ from. from ≤ s.start) w (Err cmd.Memory) is (ran_memory e u0 w0 reads0 s t u v w e1 e2 r1 r2 g p given X)
 
       module _ (line : List ℕ) (lines : (ms : List Marked) → s.cell ≡ e.cell → s.profile ≡ e.profile → IsPassage s ms p → line ≡ e.lines p.start ms)
           (w' : Option (List ℕ)) where
-        pub run_unwritten : answer ≡ Err cmd.Write → (n : ℕ) → Appends w w' (take n line) → EndsSo w'
+        pub run_unwritten : answer ≡ Err cmd.Write → (n : ℕ) → Appends w w' (take n line) → EndsSo IsLate w'
         run_unwritten is n wrote =
-            ended_so w' (Err cmd.Write) is (ran_write e u0 w0 reads0 s t u v w e1 e2 r1 r2 g p given line lines X IsLate w' n wrote)
+            ended_so IsLate w' (Err cmd.Write) is (ran_write e u0 w0 reads0 s t u v w e1 e2 r1 r2 g p given line lines X IsLate w' n wrote)
 
         pub run_goes_on : Appends w w' line → Going e u0 w0 reads0 t v w' e2 r2
         run_goes_on wrote = Going-next e u0 w0 reads0 s t u v w e1 e2 r1 r2 g p given line lines w' wrote

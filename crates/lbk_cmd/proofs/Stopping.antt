@@ -1,5 +1,5 @@
 -- Where a run of an engine ends.
-use Rattle.std.proofs.Common.{◌≡◌, ℕ, ◌+◌, ◌-◌, ◌<◌, ◌≤◌, Bool, true, ◌⊎◌, List, [], ◌∷◌, ◌++◌, length, take, None, Option, Ok, Err, IsUtf8, encode_utf8, encode_utf8_all, chars, refl, sym, ap, subst, ◌∙◌, arith, inl, inr, ⊎_elim, length-append, length-take, append_assoc, append-nil}
+use Rattle.std.proofs.Common.{◌≡◌, ℕ, ◌+◌, ◌-◌, ◌<◌, ◌≤◌, Bool, true, ◌⊎◌, List, [], ◌∷◌, ◌++◌, length, take, None, Option, Result, Ok, Err, IsUtf8, encode_utf8, encode_utf8_all, chars, refl, sym, ap, subst, ◌∙◌, arith, inl, inr, ⊎_elim, length-append, length-take, append_assoc, append-nil}
 use Rattle.std.specs.List.{flat_map}
 use Rattle.std.proofs.Math.Seq.{take-append-add}
 use Rattle.std.proofs.lemmas.Bool.{false≢true}
@@ -12,9 +12,10 @@ use Rattle.lbk_feed.proofs.Judged.{prefix-after}
 use Rattle.lbk_passage.specs.Marks.{Marked, scalars_of, text_of}
 use Rattle.lbk_passage.specs.Passages.{passages}
 use Rattle.lbk_passage.specs.State.{State}
-use Rattle.lbk_passage.specs.Next.{AfterNext, BeginsWithAll, ComesFirst, GoesOn, IsLast, IsDone, Stops, Waits}
+use Rattle.lbk_passage.specs.Next.{AfterNext, BeginsWithAll, ComesFirst, GoesOn, IsLast, IsDone, Stops, Waits, lent_text}
 use Rattle.lbk_passage.specs.declared.faults.PassageFault.{PassageFault}
 use Rattle.lbk_passage.specs.declared.faults.PassageFault.TheVariants as fault
+use Rattle.lbk_passage.specs.declared.passage.Passage.{Passage as LentPassage}
 use Rattle.lbk_passage.proofs.Marking.{begins_with_all}
 use Rattle.lbk_cmd.specs.Ranges.{HasPassed, RangeComesTo, next_start}
 use Rattle.lbk_cmd.specs.Run.{Engine, passages_by, written_by, AreWithin, IsWhole, AreGiven, IsSettled, IsHeldUp, AreAll, ComesTo, segmenter_of}
@@ -190,30 +191,23 @@ module _ (e : Engine) where
             sym (chars_from_encodes st.scalars (bytes ++ a.got) (subst IsUtf8 (sym all_read) st.utf8) (sym all_read)) in
             sym (ap (passages_by e) scalars_are ∙ all_given)
 
-      -- memory could not grow for a passage
-      module _ (a : AfterNext s t u v e1 e2 r1 r2 (Err fault.Memory)) (notices : t.is_ended ≡ true → e2 ≡ true) where
-        waits : Waits t
-        waits = a.answer
-
-        waiting : List Marked
-        unfolding waits
-        waiting = waits.marks
-
+      -- memory could not grow for a passage that was read whole, or for its lines: its marks, and the bytes behind it
+      module _ (r : Result (Option LentPassage) PassageFault) (a : AfterNext s t u v e1 e2 r1 r2 r) (notices : t.is_ended ≡ true → e2 ≡ true)
+          (ms : List Marked) (behind : List ℕ) (some : 0 < length ms) (whole : lent_text r ++ t.held ≡ text_of ms ++ behind) (comes : ComesFirst t ms behind) where
         -- the engine decides as the segmenter does
-        comes_in : ComesFirst (segmenter_of e e2) waits.marks waits.behind
-        unfolding waits
+        comes_in : ComesFirst (segmenter_of e e2) ms behind
         comes_in = record {
-          within = let short = waits.comes.within in omega (arith, short, a.alike.limit, st.limit);
+          within = let short = comes.within in omega (arith, short, a.alike.limit, st.limit);
           follows = ⊎_elim
-              (λ (h : GoesOn t waits.marks waits.behind).
+              (λ (h : GoesOn t ms behind).
               inl (record { next = h.next; rest = h.rest; bytes = h.bytes; scalar = h.scalar; first = λ more. by_engine (λ f. FirstBefore f h.next more) (h.first more) }))
-              (λ (h : IsLast t waits.marks waits.behind).
-              inr (record { none = h.none; at_end = notices h.at_end; first = by_engine (λ f. f (scalars_of waits.marks) ≡ waits.marks ∷ []) h.first }))
-              waits.comes.follows;
+              (λ (h : IsLast t ms behind).
+              inr (record { none = h.none; at_end = notices h.at_end; first = by_engine (λ f. f (scalars_of ms) ≡ ms ∷ []) h.first }))
+              comes.follows;
         }
           where
             FirstBefore : (List ℕ → List (List Marked)) → ℕ → List ℕ → Type 0
-            FirstBefore f next more = f (scalars_of waits.marks ++ next ∷ more) ≡ waits.marks ∷ f (next ∷ more)
+            FirstBefore f next more = f (scalars_of ms ++ next ∷ more) ≡ ms ∷ f (next ∷ more)
 
             by_engine : (P : (List ℕ → List (List Marked)) → Type 0) → P (passages t.profile t.cell) → P (passages e.profile e.cell)
             by_engine P is =
@@ -221,25 +215,23 @@ module _ (e : Engine) where
                 (subst (λ cell. P (passages t.profile cell)) (a.alike.cell ∙ st.cell) is)
 
         -- where it stands behind those given
-        place : bytes ++ a.got ≡ encode_utf8_all st.scalars ++ (text_of waits.marks ++ waits.behind)
-        unfolding waits
+        place : bytes ++ a.got ≡ encode_utf8_all st.scalars ++ (text_of ms ++ behind)
         place = ap (λ l. l ++ a.got) st.bytes_are ∙ append_assoc (encode_utf8_all st.scalars) s.held a.got
-            ∙ ap (λ l. encode_utf8_all st.scalars ++ l) (sym a.grown ∙ waits.bytes)
+            ∙ ap (λ l. encode_utf8_all st.scalars ++ l) (sym a.grown ∙ whole)
 
         -- for the passage that begins where the segmenter stands
         abbrev pub HeldUp : Type 0
         HeldUp = (h : IsHeldUp e e2 (bytes ++ a.got) out) × (next_start h.settled ≡ s.start)
 
         held_up : (given : List (List Marked)) → flat_map scalars_of given ≡ st.scalars → (is : IsSettled e (bytes ++ a.got) out) → is.given ≡ given → HeldUp
-        unfolding waits
         held_up given joined is same =
             let all = ap (flat_map scalars_of) same ∙ joined in (
               record {
                 settled = is;
-                passage = waits.marks;
-                some = waits.some;
-                behind = waits.behind;
-                next = place ∙ ap (λ l. encode_utf8_all l ++ (text_of waits.marks ++ waits.behind)) (sym all);
+                passage = ms;
+                some = some;
+                behind = behind;
+                next = place ∙ ap (λ l. encode_utf8_all l ++ (text_of ms ++ behind)) (sym all);
                 comes = comes_in;
               },
               ap (λ l. length (encode_utf8_all l)) all ∙ sym st.start,
@@ -258,21 +250,27 @@ module _ (e : Engine) where
         }
 
         pub run_memory : HeldUp
-        unfolding waits settled_more settled_fresh settled_on
+        unfolding settled_more settled_fresh settled_on
         run_memory = by st.stands
           where
             by : Stands e s st.scalars st.given → HeldUp
             by (fresh none no_given) = held_up [] (sym none) (settled_more (settled_fresh no_given)) refl
             by (goes_on next rest held utf8 near first) = held_up st.given st.joined (settled_more (settled_on next rest held utf8 near first)) refl
             by (ended held is_at_end given) =
-                let none = ap length (sym waits.bytes ∙ (a.quiet is_at_end).0 ∙ held) in
-                absurd (some_text waits.marks waits.some (omega (arith, none, length-append (text_of waits.marks) waits.behind)))
+                let none = ap length (sym whole ∙ (a.quiet is_at_end).0 ∙ held) in
+                absurd (some_text ms some (omega (arith, none, length-append (text_of ms) behind)))
               where
                 some_text : (ms : List Marked) → 0 < length ms → length (text_of ms) ≡ 0 → ⊥
                 some_text [] some none = omega (arith, some)
                 some_text (m ∷ ms) some none =
                     let bytes_of = some_bytes m.scalar in
                     omega (arith, bytes_of, none, length-append (encode_utf8 m.scalar) (text_of ms))
+
+      -- the segmenter waits with a passage that it holds whole
+      waits_memory : (a : AfterNext s t u v e1 e2 r1 r2 (Err fault.Memory)) → (t.is_ended ≡ true → e2 ≡ true) → (h : IsHeldUp e e2 (bytes ++ a.got) out) × (next_start h.settled ≡ s.start)
+      waits_memory a notices =
+          let waits : Waits t = a.answer in
+          run_memory (Err fault.Memory) a notices waits.marks waits.behind waits.some waits.bytes waits.comes
 
       -- the reader or the text stopped it
       module _ (why : PassageFault) (a : AfterNext s t u v e1 e2 r1 r2 (Err why)) (stops : Stops t why) where
@@ -363,7 +361,7 @@ module _ (e : Engine) where
           → ComesTo {X = X} e e2 (Err (Passage why)) (bytes ++ a.got) out
       unfolding used settled settled_by
       run_fault X fault.Limit a notices = absurd a.answer.lies
-      run_fault X fault.Memory a notices = inr (run_memory a notices).0
+      run_fault X fault.Memory a notices = inr (waits_memory a notices).0
       run_fault X fault.Read a notices =
           let stops : Stops t fault.Read = a.answer in
           let covered = stops.all_seen (used fault.Read a stops) st.utf8 (begin_now fault.Read a stops) in
@@ -438,7 +436,7 @@ module _ (e : Engine) where
       unfolding run_fault settled settled_by
       range_fault X from to AtEnd fault.Limit a notices late early = absurd a.answer.lies
       range_fault X from to AtEnd fault.Memory a notices late early =
-          let held = run_memory a notices in inr (record { held_up = held.0; late = omega (arith, held.1, late refl); begins = omega (arith, held.1, early) })
+          let held = waits_memory a notices in inr (record { held_up = held.0; late = omega (arith, held.1, late refl); begins = omega (arith, held.1, early) })
       range_fault X from to AtEnd fault.Read a notices late early = record { refused = run_fault X fault.Read a notices; begins = omega (arith, behind_given, early) }
       range_fault X from to AtEnd (fault.NotUtf8 at) a notices late early =
           record { refused = run_fault X (fault.NotUtf8 at) a notices; begins = omega (arith, behind_given, early) }

@@ -1,5 +1,5 @@
 -- What `break_text` answers, by the files and by what it read.
-use Rattle.std.specs.Prelude.{◌≡◌, ℕ, List, map, Option, Result, Err, IfSome, IsUtf8}
+use Rattle.std.specs.Prelude.{◌≡◌, ◌⊎◌, ℕ, List, map, Option, Result, Ok, Err, IfSome, IsUtf8}
 use Rattle.std.specs.Str.{chars}
 use Rattle.lbk_ucd.specs.declared.tables.Files.{Files}
 use Rattle.lbk_rules.specs.declared.cells.Cell.{Cell}
@@ -16,6 +16,8 @@ use Rattle.lbk_cmd.specs.Show.{verdicts_of}
 use Rattle.lbk_cmd.specs.declared.broken.BreakFault.{BreakFault}
 use Rattle.lbk_cmd.specs.declared.broken.BreakFault.TheVariants.{Files as files_fault, Text as text_fault}
 use Rattle.lbk_cmd.specs.declared.faults.CmdFault.{CmdFault}
+use Rattle.lbk_cmd.specs.declared.faults.CmdFault.TheVariants.{Memory, Write}
+use Rattle.lbk_feed.specs.Devices.{count_up}
 
 -- what the line of a passage says: its scalars, and the marks of its positions
 abbrev pub said : List Marked → Line
@@ -42,3 +44,18 @@ ShowsBy files limit profile before after answer = (cell : ℕ → Cell) × AreCe
 abbrev pub IsBreakFault : Files → ℕ → Profile → Devices → Devices → BreakFault → Type 0
 IsBreakFault files limit profile before after (files_fault fault) = IsCellsRefusal files fault × (after ≡ before)
 IsBreakFault files limit profile before after (text_fault fault) = ShowsBy files limit profile before after (Err fault)
+
+-- a write failed beside
+abbrev pub with_failed_write : Devices → Devices
+with_failed_write d = record d { failed_writes = count_up d.failed_writes }
+
+-- `show` stops so; or memory could not grow for its lines in memory, which is a failed write there
+abbrev pub ShowStops : (ℕ → Cell) → ℕ → Profile → Devices → Devices → CmdFault → Type 0
+ShowStops cell limit profile before after fault = Shows cell limit profile before after (Err fault)
+    ⊎ ((fault ≡ Memory) × Shows cell limit profile before (with_failed_write after) (Err Write))
+
+-- the same of lines that are read back; or all of them were written, and memory could not grow for what they say
+abbrev pub IsLinesFault : Files → ℕ → Profile → Devices → Devices → BreakFault → Type 0
+IsLinesFault files limit profile before after (files_fault fault) = IsCellsRefusal files fault × (after ≡ before)
+IsLinesFault files limit profile before after (text_fault fault) = (cell : ℕ → Cell) × AreCellsOf files cell
+    × (ShowStops cell limit profile before after fault ⊎ ((fault ≡ Memory) × Shows cell limit profile before after (Ok tt)))

@@ -167,6 +167,10 @@ text_of_fault m run.Memory = Some (codes "out of memory")
 abbrev pub message_text : Message → Option (List ℕ)
 message_text m = text_of_fault m m.fault
 
+-- the message of a call of a library
+abbrev pub of_call : RunFault → Message
+of_call fault = record { fault = fault; caller = Call; text = None; reason = None; is_utf16 = false }
+
 -- what the parts of a message say
 abbrev pub text_of_name : Name → List ℕ
 text_of_name (of_file.Plain which) = file_name which

@@ -16,7 +16,7 @@ use Rattle.lbk_cmd.specs.Devices.{Devices}
 use Rattle.lbk_cmd.specs.Run.{ComesTo, Engine, IsHeldUp, IsRefused, IsSettled, IsWhole, KeepsUp, failed_reads_with, failed_writes_with, is_failed_read, passages_by}
 use Rattle.lbk_cmd.specs.Texts.{lines_from}
 use Rattle.lbk_cmd.specs.declared.faults.CmdFault.{CmdFault}
-use Rattle.lbk_cmd.specs.declared.faults.CmdFault.TheVariants.{Passage}
+use Rattle.lbk_cmd.specs.declared.faults.CmdFault.TheVariants.{Memory, Passage, Write}
 
 -- a passage that begins at this byte of the text begins in the range
 abbrev pub begins_in : Part → ℕ → Bool
@@ -76,7 +76,8 @@ RangeComesTo e from to ended AtEnd (Ok x) bytes out = (AtEnd × IsWhole e bytes 
 RangeComesTo e from to ended AtEnd (Err (Passage passage.Limit)) bytes out = (bytes ≡ []) × (out ≡ [])
 RangeComesTo e from to ended AtEnd (Err (Passage passage.Memory)) bytes out = ((bytes ≡ []) × (out ≡ [])) ⊎ IsHeldUpWithin e from to ended bytes out
 RangeComesTo e from to ended AtEnd (Err (Passage why)) bytes out = IsRefusedBefore e to why ended bytes out
-RangeComesTo {X} e from to ended AtEnd (Err fault) bytes out = ComesTo {X = X} e ended (Err fault) bytes out
+RangeComesTo {X} e from to ended AtEnd (Err Write) bytes out = ComesTo {X = X} e ended (Err Write) bytes out
+RangeComesTo e from to ended AtEnd (Err Memory) bytes out = IsHeldUpWithin e from to ended bytes out
 
 -- no read was made, or the last one, like those before it, for a passage that begins before byte `end`: what the bytes of all
 -- reads but the last settle ends before it

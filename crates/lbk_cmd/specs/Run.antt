@@ -92,7 +92,7 @@ pub record IsRefused (e : Engine) (why : PassageFault) (ended : Bool) (bytes out
 abbrev pub segmenter_of : Engine → Bool → State
 segmenter_of e ended = record (new_state e.cell e.profile e.limit) { is_ended = ended }
 
--- memory could not grow for a passage that was read whole: `out` is written of all passages before it
+-- memory could not grow for a passage that was read whole, or for its lines: `out` is written of all passages before it
 pub record IsHeldUp (e : Engine) (ended : Bool) (bytes out : List ℕ) : Type 0 where
   pub settled : IsSettled e bytes out
   pub passage : List Marked
@@ -105,7 +105,7 @@ pub record IsHeldUp (e : Engine) (ended : Bool) (bytes out : List ℕ) : Type 0 
 abbrev pub ComesTo : {X : Type 0} → Engine → Bool → Result X CmdFault → List ℕ → List ℕ → Type 0
 ComesTo e ended (Ok x) bytes out = IsWhole e bytes out
 ComesTo e ended (Err Write) bytes out = IsStopped (IsSettled e) (IsWhole e) (ended ≡ true) bytes out
-ComesTo e ended (Err Memory) bytes out = IsStopped (IsSettled e) (IsWhole e) (ended ≡ true) bytes out
+ComesTo e ended (Err Memory) bytes out = IsHeldUp e ended bytes out
 ComesTo e ended (Err (Passage fault.Limit)) bytes out = (bytes ≡ []) × (out ≡ [])
 ComesTo e ended (Err (Passage fault.Memory)) bytes out = ((bytes ≡ []) × (out ≡ [])) ⊎ IsHeldUp e ended bytes out
 ComesTo e ended (Err (Passage why)) bytes out = IsRefused e why ended bytes out

@@ -6,7 +6,7 @@ ghost use Rattle.lbk_steps.specs.CellPages.{page_cell};
 ghost use Rattle.lbk_notation.specs.Stream.{HasNoLineEnd};
 ghost use Rattle.lbk_passage.specs.Marks.{Marked};
 ghost use Rattle.lbk_cmd.specs.Acts.{Shows};
-ghost use Rattle.lbk_cmd.specs.Broken.{IsBroken, IsBreakFault, ShowsBy};
+ghost use Rattle.lbk_cmd.specs.Broken.{IsBroken, IsLinesFault, ShowStops, ShowsBy};
 ghost use Rattle.lbk_cmd.specs.declared.broken.BreakFault.TheVariants.{Files as files_fault, Text as text_fault};
 ghost use Rattle.lbk_cmd.specs.Devices.{reader_alone};
 ghost use Rattle.lbk_cmd.specs.Engines.{showing};
@@ -73,7 +73,7 @@ pub fn break_text<R: Source>(
     // What was read, and why a text is refused.
     ensures done { OnOk result (ShowsBy files.entry limit profile
         (reader_alone R.Source reader.old) (reader_alone R.Source reader.new) (Ok (tt {0}))) }
-    ensures refused { IfErr result (IsBreakFault files.entry limit profile
+    ensures refused { IfErr result (IsLinesFault files.entry limit profile
         (reader_alone R.Source reader.old) (reader_alone R.Source reader.new)) }
 {
     let cells = read_cells(alloc, files)?;
@@ -93,8 +93,8 @@ fn shown_text<R: Source>(
     ensures whole { IfOk result (λ text. IsShown (showing (page_cell cells.now) profile limit) (R.unread reader.old) text.items) }
     ensures done { OnOk result (Shows (page_cell cells.now) limit profile
         (reader_alone R.Source reader.old) (reader_alone R.Source reader.new) (Ok (tt {0}))) }
-    ensures refused { IfErr result (λ fault. Shows (page_cell cells.now) limit profile
-        (reader_alone R.Source reader.old) (reader_alone R.Source reader.new) (Err fault)) }
+    ensures refused { IfErr result (ShowStops (page_cell cells.now) limit profile
+        (reader_alone R.Source reader.old) (reader_alone R.Source reader.new)) }
 {
     let mut writer = Device::new(Vec::new(alloc));
     match show(alloc, reader, &mut writer, cells, limit, profile) {

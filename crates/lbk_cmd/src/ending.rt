@@ -2,6 +2,7 @@
 
 ghost use Rattle.std.specs.Prelude.{◌≡◌};
 ghost use Rattle.lbk_cmd.specs.Ending.{ending_after, ending_of_files, ending_of_replay, ending_of_text, is_last, status_of};
+ghost use Rattle.lbk_cmd.specs.Message.{message_text, of_call};
 
 use super::faults::CmdFault;
 use super::message::Message;
@@ -9,11 +10,11 @@ use lbk_files::{CellsFault, ClaimCause, Stop};
 use lbk_notation::{ReplayFault, Report};
 use lbk_passage::PassageFault;
 use lbk_ucd::{UcdFault, Which};
-use thiserror::Error;
+use std::error::Error;
+use std::fmt;
 
 /// Why a run is refused.
-#[derive(Clone, Copy, Debug, PartialEq, Eq, Error)]
-#[error("{}", Message::of_call(*self))]
+#[derive(Clone, Copy, Debug, PartialEq, Eq)]
 pub enum RunFault {
     /// A file of text cannot be opened.
     Open,
@@ -30,6 +31,17 @@ pub enum RunFault {
     /// Any other allocation was refused.
     Memory,
 }
+
+/// The message of a call of a library that ended so.
+impl fmt::Display for RunFault {
+    ghost output = { λ fault. message_text (of_call fault) };
+
+    fn fmt<W: fmt::Write>(&self, f: &mut fmt::Formatter<W>) -> fmt::Result {
+        Message::of_call(*self).fmt(f)
+    }
+}
+
+impl Error for RunFault {}
 
 /// How a run of the program ends.
 #[derive(Debug, Drop)]

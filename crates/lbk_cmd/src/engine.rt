@@ -42,7 +42,7 @@ pub fn mark<R: Source, W: Sink, C: CellSource>(
 ///
 /// A passage's line is written as a whole, once the scalar after the passage was seen, or the end of the text.
 /// `limit` is the most bytes of a paragraph, 1 to 16,777,216. `Passage` says why no more passages come, `Write` that
-/// the writer failed, `Memory` that memory could not grow for a line.
+/// the writer failed, `Memory` that memory could not grow for a line, of which nothing was written.
 pub fn show<R: Source, W: Sink, C: CellSource>(
     alloc: Global,
     reader: &mut R,

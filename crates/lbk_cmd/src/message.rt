@@ -2,7 +2,7 @@
 
 ghost use Rattle.std.specs.Prelude.{◌≡◌, Some};
 ghost use Rattle.std.specs.Fmt.{DisplaysOnOk, WritesOnOk};
-ghost use Rattle.lbk_cmd.specs.Message.{at_byte, file_text, input_text, invalid_text, limit_of, message_text, name_in, not_utf8_text, one_line, one_scalar, option_of, output_text, paragraph_text, passage_text, text_of_input, text_of_name, than_limit, too_long_text, unloaded_text, unpublished_text, unread_text, unwritten_text, why_text};
+ghost use Rattle.lbk_cmd.specs.Message.{at_byte, file_text, input_text, invalid_text, limit_of, message_text, name_in, not_utf8_text, of_call, one_line, one_scalar, option_of, output_text, paragraph_text, passage_text, text_of_input, text_of_name, than_limit, too_long_text, unloaded_text, unpublished_text, unread_text, unwritten_text, why_text};
 
 use super::ending::RunFault;
 use super::faults::CmdFault;
@@ -67,7 +67,9 @@ impl<'a> fmt::Display for Message<'a> {
 
 impl<'a> Message<'a> {
     /// The message of a call of a library.
-    pub(crate) fn of_call(fault: RunFault) -> Message<'a> {
+    pub(crate) fn of_call(fault: RunFault) -> Message<'a>
+        ensures { result ≡ of_call fault }
+    {
         Message {
             fault,
             caller: Caller::Call,

@@ -4,7 +4,7 @@ use Rattle.lbk_steps.specs.CellPages.{page_cell}
 use Rattle.lbk_cmd.specs.Devices.{reader_alone}
 use Rattle.lbk_cmd.specs.ReadBack.{AreReadable, Say}
 use Rattle.lbk_cmd.specs.declared.broken.BreakFault.TheVariants.{Text as text_fault}
-use Rattle.lbk_cmd.proofs.Breaking.{broken, out_of_memory, readable}
+use Rattle.lbk_cmd.proofs.Breaking.{broken, out_of_memory, readable, show_stopped}
 use Rattle.lbk_cmd.proofs.broken.break_text.Goals as goal
 
 pub read_lines-requires : goal.read_lines-requires
@@ -12,6 +12,13 @@ read_lines-requires g c =
     subst AreReadable (sym c.deref.ensures.value)
     (readable (page_cell c.in_ok-cells.cells) c.args.limit c.args.profile _ _ c.in_ok-text.ensures.done (g.R.Source.unread c.args.reader.now)
     c.in_ok-text.text.items c.in_ok-text.ensures.whole)
+
+pub returns-in_err-text-clause-refused : goal.returns-in_err-text-clause-refused
+returns-in_err-text-clause-refused g c =
+    let exit = err_from_is_err_and c.from_residual-in_err-text.result c.from_residual-in_err-text.ensures.1 in
+    show_stopped c.args.files (page_cell c.in_ok-cells.cells) c.args.limit c.args.profile
+    (reader_alone g.R.Source c.args.reader.now) (reader_alone g.R.Source c.shown_text.new.reader)
+    c.from_residual-in_err-text.result exit.0 c.in_err-text.field-0.0 exit.1 exit.2 c.in_ok-cells.ensures.cells c.in_err-text.ensures.refused
 
 pub returns-in_err-lines-clause-refused : goal.returns-in_err-lines-clause-refused
 returns-in_err-lines-clause-refused g c =

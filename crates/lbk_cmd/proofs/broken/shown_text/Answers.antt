@@ -1,4 +1,4 @@
-use Rattle.std.proofs.Common.{Err, ap, ◌∙◌}
+use Rattle.std.proofs.Common.{rules, Err, refl, ap, ◌∙◌, inl, inr}
 use Rattle.lbk_steps.specs.CellPages.{page_cell}
 use Rattle.lbk_cmd.specs.Engines.{showing}
 use Rattle.lbk_cmd.proofs.InMemory.{untold_unwritten}
@@ -6,5 +6,11 @@ use Rattle.lbk_cmd.proofs.broken.shown_text.Goals as goal
 
 pub returns-in-Err-Write-clause-refused : goal.returns-in-Err-Write-clause-refused
 returns-in-Err-Write-clause-refused g c =
-    untold_unwritten _ (showing (page_cell c.args.cells.now) c.args.profile c.args.limit) _ _ c.show.result (c.in-Err-Write.is ∙ ap Err c.in-Err-Write.field-0-is)
-    c.show.ensures
+    inr (
+      refl,
+      untold_unwritten _ (showing (page_cell c.args.cells.now) c.args.profile c.args.limit) _ _ c.show.result (c.in-Err-Write.is ∙ ap Err c.in-Err-Write.field-0-is)
+          c.show.ensures,
+    )
+
+pub returns : goal.returns
+returns g c = record { whole = tt; done = tt; refused = inl (search rules) }

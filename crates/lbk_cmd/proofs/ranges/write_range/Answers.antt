@@ -64,7 +64,7 @@ returns-in_err-push_lines g c =
       run = range_run (run_out_of_memory (engine_in c.args.part c.args.lines (g.C.CellSource.cell_of c.args.cells.now) c.args.profile c.args.limit) _ _ _ _
           c.from_residual-in_err-push_lines.result _ _ _ _ _ _ _ _ _ c.next.result c.loop-at.invariant.going c.next.follows.holds-at-none
           c.in-Some-2.passage (c.in_ok-passage.was ∙ ap Ok c.in-Some-2.is) (exit.1 ∙ ap Err exit.2)) c.args.part.from c.args.part.to
-          ((omega (arith, c.loop-at.invariant.at, c.loop-at-test.true, c.from.ensures), c.loop-at.invariant.before), λ _. omega (arith, c.loop-at.invariant.at, c.if-at-from.false, c.from-in-loop-at.ensures));
+          ((omega (arith, c.loop-at.invariant.at, c.loop-at-test.true, c.from.ensures), c.loop-at.invariant.before), omega (arith, c.loop-at.invariant.at, c.if-at-from.false, c.from-in-loop-at.ensures));
       reads = most_reads (engine_in c.args.part c.args.lines (g.C.CellSource.cell_of c.args.cells.now) c.args.profile c.args.limit) _ _ _ _ _ _ _ _ _ _ _ _
           c.loop-at.invariant.going c.next.result c.next.follows.holds-at-none;
       limit = search rules;
