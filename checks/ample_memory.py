@@ -1,12 +1,13 @@
 """Thousands of sizes drawn at random, with ample memory: a run that says that it is out of memory fails, as any other fault.
 
-Sizes of files, limits, paragraphs, segments, arguments, names and lines of tests: each a power of two or a neighbour of one,
-or one between two powers, up to the greatest that is taken. The seed is printed; given as the argument it draws the same
-sizes again.
+Sizes of files, limits, paragraphs, segments, arguments, names and lines of tests, and numbers of rows: each a power of two or a
+neighbour of one, or one between two powers, up to the greatest that is taken. Rows of each code, of each value and of each
+length are read once. The seed is printed; given as the argument it draws the same sizes again.
 """
 
 import os
 import random
+import re
 import tempfile
 import time
 from pathlib import Path
@@ -14,7 +15,7 @@ from pathlib import Path
 from checks import c_programs
 from checks.files_and_pipes.files import DECIDES
 from checks.files_and_pipes.place import LIMIT, Place, long_file, with_name, words_of
-from checks.harness import built_program, shown
+from checks.harness import TOP, built_program, shown
 from checks.program import run as run_program
 
 SECONDS, SECONDS_OF_C = 45, 10
@@ -24,6 +25,15 @@ MOST_ARGUMENTS = 30_000
 # How many bytes one run is given at most, where it is given many sizes.
 TOGETHER = 20_000_000
 GREATEST = ["--limit", str(LIMIT)]
+LONGEST_LINE, MOST_ROWS = 1_024, 65_536
+# The names of the values of each property, as the definitions have them, and which files have default lines.
+DEFINED = (TOP / "crates/lbk_ucd/specs/Names.antt").read_text(encoding="utf-8")
+VALUES = [re.findall(r'\(codes "(\w+)"', part) for part in re.findall(r"^\w+_names =$(.*?)\[\]$", DEFINED, re.DOTALL | re.MULTILINE)]
+WITH_DEFAULTS = (0, 1)
+# The codes of which no row of `DECIDES` says anything.
+FREE = [code for code in range(0x80, 0x110000) if code not in (0xE31, 0x1F3FB, 0x1FAFF)]
+# The letters of names, by how many bytes each has.
+LETTERS = ("n", "é", "の", "😀")
 
 
 class Drawn:
@@ -59,14 +69,63 @@ class Drawn:
             self.faults.setdefault(kind, fault)
 
 
+    def shows(self, kind, sizes, k, contents):
+        """Shows a text that the last row of this file decides."""
+        _, _, text, decided, _ = DECIDES[k]
+        self.place.write("file", contents)
+        words = words_of("show", with_name(k, "file"))
+        self.run(kind, sizes, words, text.encode(), 0, lambda ran: ran.out == decided.encode())
+
+
 def files(drawn):
     """A file in whose last row what is shown is decided."""
     k = drawn.chance.randrange(4)
-    front, last, text, decided, _ = DECIDES[k]
+    front, last, *_ = DECIDES[k]
     size = drawn.size(FILE_BYTES, len(front) + len(last) + 2)
-    drawn.place.write("file", long_file(front, last, size))
-    words = words_of("show", with_name(k, "file"))
-    drawn.run("sizes of files", [size], words, text.encode(), 0, lambda ran: ran.out == decided.encode())
+    drawn.shows("sizes of files", [size], k, long_file(front, last, size))
+
+
+def row(code, value):
+    return f"{code:04X};{value}"
+
+
+def default(first, last, value):
+    return f"# @missing: {first:04X}..{last:04X}; {value}"
+
+
+def shows_lines(drawn, kind, sizes, k, lines):
+    front, last, *_ = DECIDES[k]
+    drawn.shows(kind, sizes, k, front + "".join(line + "\n" for line in lines).encode() + last)
+
+
+def rows(drawn):
+    """Rows, default lines or both, in some order, before the row that decides."""
+    k = drawn.chance.randrange(4)
+    number = drawn.size(MOST_ROWS - DECIDES[k][0].count(b"\n") - 1)
+    defaults = drawn.chance.choice((0, number, drawn.size(number))) if k in WITH_DEFAULTS else 0
+    codes = drawn.chance.sample(FREE, number - defaults)
+    order = drawn.chance.randrange(3)
+    if order > 0:
+        codes.sort(reverse=order == 2)
+    lines = [row(code, drawn.chance.choice(VALUES[k])) for code in codes]
+    for _ in range(defaults):
+        lines.append(default(*sorted(drawn.chance.choices(FREE, k=2)), drawn.chance.choice(VALUES[k])))
+    shows_lines(drawn, "numbers of rows and default lines", [number], k, lines)
+
+
+def each_row(drawn, k):
+    """A row of each code, and rows and default lines of each value and of each length."""
+    most = 60_000
+    for at in range(0, len(FREE), most):
+        codes = FREE[at : at + most]
+        lines = [row(code, VALUES[k][code % len(VALUES[k])]) for code in codes]
+        shows_lines(drawn, f"rows of each code, file {k + 1}", [len(codes)], k, lines)
+    lines = [row(code, value) for code, value in enumerate(VALUES[k], 0x100)]
+    lines += [row(0x1000 + size, VALUES[k][0]).ljust(size) for size in range(30, LONGEST_LINE + 1)]
+    if k in WITH_DEFAULTS:
+        lines += [default(code, code, value) for code, value in enumerate(VALUES[k], 0x2000)]
+        lines += [default(0x2000, 0x2000 + size, VALUES[k][0]).ljust(size, "#") for size in range(50, LONGEST_LINE + 1)]
+    shows_lines(drawn, f"rows of each value and length, file {k + 1}", [LONGEST_LINE], k, lines)
 
 
 def limits(drawn):
@@ -110,9 +169,11 @@ def arguments(drawn):
 
 
 def named(drawn, size):
-    """A path of so many bytes whose last part is a name."""
+    """A path of so many bytes whose last part is a name, of letters of one length."""
     dots = (size - min(size, drawn.size(254))) // 2
-    return "./" * dots + "n" * (size - 2 * dots)
+    letter = drawn.chance.choice(LETTERS)
+    letters, rest = divmod(size - 2 * dots, len(letter.encode()))
+    return "./" * dots + letter * letters + "n" * rest
 
 
 def names(drawn):
@@ -123,18 +184,18 @@ def names(drawn):
     words = words_of("show", with_name(k, name))
     if drawn.chance.randrange(2):
         drawn.place.write(name, front + last)
-        drawn.run("names of files", [len(name)], words, text.encode(), 0, lambda ran: ran.out == decided.encode())
+        drawn.run("names of files", [len(name.encode())], words, text.encode(), 0, lambda ran: ran.out == decided.encode())
         os.remove(drawn.place.folder / name)
     else:
         err = f"lbk: {name}: the file cannot be read: no such file\n".encode()
-        drawn.run("names of missing files", [len(name)], words, text.encode(), 1, lambda ran: ran.err == err)
+        drawn.run("names of missing files", [len(name.encode())], words, text.encode(), 1, lambda ran: ran.err == err)
 
 
 def folders(drawn, size=None):
     """A folder of a name of some size that is not there: the line names its first file."""
     name = named(drawn, size or drawn.size(LONGEST_NAME - 20))
     err = f"lbk: {name}/LineBreak.txt: the file cannot be read: no such file".encode()
-    drawn.run("names of folders", [len(name)], ["mark", "--ucd", name], b"a", 1, lambda ran: ran.err.startswith(err))
+    drawn.run("names of folders", [len(name.encode())], ["mark", "--ucd", name], b"a", 1, lambda ran: ran.err.startswith(err))
 
 
 def lines(drawn):
@@ -148,11 +209,11 @@ def lines(drawn):
     drawn.run("lines of tests", sizes, words_of("replay"), text, 0, lambda ran: ran.out == right)
 
 
-KINDS = [files, limits, paragraphs, segments, arguments, names, folders, lines]
+KINDS = [files, rows, limits, paragraphs, segments, arguments, names, folders, lines]
 # How often each is run in a round: those of one size a run, which are quick, more often.
-TIMES = {files: 4, limits: 4, arguments: 8, names: 24, folders: 16}
-# What each run tries first: sizes that are seldom drawn, of paragraphs without their line end.
-ALWAYS = [(paragraphs, [5_000_002]), (segments, [60_000]), (folders, 1_023)]
+TIMES = {files: 4, rows: 4, limits: 4, arguments: 8, names: 24, folders: 16}
+# What each run tries first: all rows, and sizes that are seldom drawn, of paragraphs without their line end.
+ALWAYS = [*((each_row, k) for k in range(4)), (paragraphs, [5_000_002]), (segments, [60_000]), (folders, 1_023)]
 
 
 def run(tally, given):

@@ -1,10 +1,57 @@
-"""Arguments of each number, and each option by what it decides."""
+"""Arguments of each number, each option by what it decides, and what is said of mistakes."""
 
 from checks.files_and_pipes.place import CATEGORY, LIMIT, LINE_BREAK, words_of
 from checks.program import run as run_program
 from checks.unicode_files import OPTIONS
 
 AB = "× 0061 × 0062 !\t# 2 28 3\n".encode()
+
+
+TWICE = "the argument '{}' cannot be used multiple times"
+INVALID = "invalid value '{}' for '{}': {}"
+VALUE = "a value is required for '{}' but none was supplied"
+UNEXPECTED = "unexpected argument '{0}' found\n\n  tip: to pass '{0}' as a value, use '-- {0}'"
+LIMIT_OPTION, FROM_OPTION = "--limit <NUMBER>", "--from <BYTE>"
+
+# Arguments behind those that name the files, and what is said of them, as the library clap words it for Rust; whether the usage
+# follows.
+MISTAKES = [
+    ("show", "--limit 9 --limit 9", TWICE.format(LIMIT_OPTION), True),
+    ("mark", "--profile 1 --profile=2", TWICE.format("--profile <NUMBER>"), True),
+    ("segment", "--emoji M", TWICE.format("--emoji <FILE>"), True),
+    ("replay", "--kinds --kinds", TWICE.format("--kinds"), True),
+    ("mark", "--limit 16777217", INVALID.format("16777217", LIMIT_OPTION, "16777217 is not in 1..=16777216"), False),
+    ("show", "--limit=0", INVALID.format("0", LIMIT_OPTION, "0 is not in 1..=16777216"), False),
+    ("show", "--limit=", INVALID.format("", LIMIT_OPTION, "cannot parse integer from empty string"), False),
+    ("show", "--limit １", INVALID.format("１", LIMIT_OPTION, "invalid digit found in string"), False),
+    ("mark", "--from 4294967296", INVALID.format("4294967296", FROM_OPTION, "4294967296 is not in 0..=4294967295"), False),
+    ("segment", "--limit", VALUE.format(LIMIT_OPTION), False),
+    ("replay", "--ucd", VALUE.format("--ucd <FOLDER>"), False),
+    ("replay", "--kinds=1", "unexpected value '1' for '--kinds' found; no more were expected", True),
+    ("replay", "--from 1", UNEXPECTED.format("--from"), True),
+    ("mark", "--from -1", UNEXPECTED.format("-1"), True),
+    ("mark", "--version", UNEXPECTED.format("--version"), True),
+    ("segment", "-é", UNEXPECTED.format("-é"), True),
+    ("show", "--from 5 --to 4", "--from <BYTE> is greater than --to <BYTE>", True),
+]
+
+
+def mistakes(place):
+    """Each kind of mistake, and operands that look like options, which are none behind `--`."""
+    for task, more, told, has_usage in MISTAKES:
+        usage = f"\nUsage: lbk {task} --ucd <FOLDER> [OPTIONS] [FILE]...\n" if has_usage else ""
+        err = f"error: {told}\n{usage}\nFor more information, try '--help'.\n".encode()
+        place.row(f"{task} {more}", words_of(task, more=more.split()), b"ab", 2, b"", err)
+    place.write("--limit", b"a a")
+    err = "lbk: --help cannot be read: no such file\nlbk: -é cannot be read: no such file\n".encode()
+    operands = ["--", "--limit", "--help", "-é", "-"]
+    place.row("mark: operands behind --", words_of("mark", more=operands), b"in", 1, "a ÷a\nin\n".encode(), err)
+    for task in ((), ("mark",), ("show",), ("segment",), ("replay",)):
+        text = run_program([place.program, *task, "--help"]).out
+        for words in ([*task, "-h"], ["help", *task]):
+            place.row(" ".join(words), words, b"ab", 0, text)
+    version = run_program([place.program, "--version"]).out
+    place.row("-V", ["-V"], b"ab", 0, version)
 
 
 def accepted(task, number):
@@ -70,3 +117,4 @@ def all_at_once(place):
 def run(place):
     each_number(place)
     all_at_once(place)
+    mistakes(place)

@@ -83,23 +83,36 @@ def substituted(place):
 OPENED, CLOSED = 0x20, 0x10
 
 
+# Names of the four files, and which of them and of the text behind them are opened.
+OPENED_OF = [
+    ("each file", NAMES, [*NAMES, "text"]),
+    ("a file of four names", ("E", "E", "E", "E"), ["E", "E", "E", "E", "text"]),
+    ("a missing file", ("L", "E", "none", "M"), ["L", "E"]),
+    ("a file that cannot be read", ("L", "folder", "C", "M"), ["L", "folder"]),
+    ("a file with a bad row", ("bad", "E", "C", "M"), ["bad", "E", "C", "M"]),
+]
+
+
 def opened_once(place):
-    """Each file and text is opened once, as the system tells whoever watches the folder."""
+    """Each file and text is opened once, and none after one that is refused, as the system tells whoever watches the folder."""
     libc = ctypes.CDLL(None)
     watch = libc.inotify_init1(os.O_NONBLOCK) if hasattr(libc, "inotify_init1") else -1
     if watch < 0:
         place.tally.leave_out("how often files are opened, which this system does not tell")
         return
     place.write("text", b"a a")
+    place.write("bad", b"0061;AK\n")
+    (place.folder / "folder").mkdir()
     libc.inotify_add_watch(watch, os.fsencode(place.folder), OPENED | CLOSED)
-    run_program([place.program, *words_of("mark", more=["text"])], cwd=place.folder)
-    told, opens = os.read(watch, 1 << 16), []
+    for what, names, wanted in OPENED_OF:
+        run_program([place.program, *words_of("mark", names, ["text"])], cwd=place.folder)
+        told, opens = os.read(watch, 1 << 16), []
+        while told:
+            _, kind, _, length = struct.unpack_from("iIII", told)
+            name, told = told[16 : 16 + length].rstrip(b"\0").decode(), told[16 + length :]
+            opens += [name] if kind & OPENED and name != "lbk" else []
+        place.tally.equal(f"mark, {what}: what is opened", opens, wanted)
     os.close(watch)
-    while told:
-        _, kind, _, length = struct.unpack_from("iIII", told)
-        name, told = told[16 : 16 + length].rstrip(b"\0").decode(), told[16 + length :]
-        opens += [name] if kind & OPENED and name != "lbk" else []
-    place.tally.equal("mark: each file is opened once", opens, [*NAMES, "text"])
 
 
 def run(place):
