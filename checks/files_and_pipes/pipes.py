@@ -79,27 +79,41 @@ def substituted(place):
         place.tally.equal(f"{task}: files from commands of a shell", tuple(ran), (0, out.encode(), b""))
 
 
-# Of Linux's inotify: a file was opened, and a file that nobody writes to was closed.
-OPENED, CLOSED = 0x20, 0x10
+# Of Linux's inotify: a file was opened, and a file that nobody writes to was closed; it is a folder.
+OPENED, CLOSED, IS_FOLDER = 0x20, 0x10, 0x40000000
 
 
 def opened_once(place):
-    """Each file and text is opened once, as the system tells whoever watches the folder."""
-    libc = ctypes.CDLL(None)
-    watch = libc.inotify_init1(os.O_NONBLOCK) if hasattr(libc, "inotify_init1") else -1
-    if watch < 0:
+    """Each file and text is opened once, as the system tells whoever watches their folders."""
+    if not hasattr(ctypes.CDLL(None), "inotify_init1"):
         place.tally.leave_out("how often files are opened, which this system does not tell")
         return
     place.write("text", b"a a")
-    libc.inotify_add_watch(watch, os.fsencode(place.folder), OPENED | CLOSED)
-    run_program([place.program, *words_of("mark", more=["text"])], cwd=place.folder)
+    for task in ("mark", "show", "segment", "replay"):
+        opens = opened(place, words_of(task, more=["text"]), ["."])
+        place.tally.equal(f"{task}: each file is opened once", opens, [*NAMES, "text"])
+    folder = place.folder / "made-up"
+    for name in OF_FOLDER:
+        (folder / name).parent.mkdir(parents=True, exist_ok=True)
+        (folder / name).write_bytes(b"")
+    opens = opened(place, ["mark", "--ucd", "made-up", "text"], ["made-up", "made-up/extracted", "made-up/emoji", "."])
+    place.tally.equal("mark: no file of a folder is opened after one that is refused", opens, [OF_FOLDER[0]])
+
+
+def opened(place, words, folders):
+    """The names of the files in these folders that a run opens, in order."""
+    libc = ctypes.CDLL(None)
+    watch = libc.inotify_init1(os.O_NONBLOCK)
+    for folder in folders:
+        libc.inotify_add_watch(watch, os.fsencode(place.folder / folder), OPENED | CLOSED)
+    run_program([place.program, *words], cwd=place.folder)
     told, opens = os.read(watch, 1 << 16), []
     os.close(watch)
     while told:
         _, kind, _, length = struct.unpack_from("iIII", told)
         name, told = told[16 : 16 + length].rstrip(b"\0").decode(), told[16 + length :]
-        opens += [name] if kind & OPENED and name != "lbk" else []
-    place.tally.equal("mark: each file is opened once", opens, [*NAMES, "text"])
+        opens += [name] if kind & OPENED and not kind & IS_FOLDER and name != "lbk" else []
+    return opens
 
 
 def run(place):
