@@ -1,8 +1,8 @@
 """Thousands of sizes drawn at random, with ample memory: a run that says that it is out of memory fails, as any other fault.
 
-Sizes of files, limits, paragraphs, segments, arguments, names and lines of tests, and numbers of rows: each a power of two or a
-neighbour of one, or one between two powers, up to the greatest that is taken. Rows of each code, of each value and of each
-length are read once. The seed is printed; given as the argument it draws the same sizes again.
+Sizes of files, numbers of rows, limits, paragraphs, segments, ranges, arguments, texts, names and lines of tests: each a power of
+two or a neighbour of one, or one between two powers, up to the greatest that is taken. The profile is drawn, too. Rows of each
+code, of each value and of each length are read once. The seed is printed; given as the argument it draws the same sizes again.
 """
 
 import os
@@ -20,12 +20,13 @@ from checks.program import run as run_program
 
 SECONDS, SECONDS_OF_C = 45, 10
 FILE_BYTES = 8_388_608
+LONGEST_LINE, MOST_ROWS = 1_024, 65_536
 LONGEST_NAME = 4_095
 MOST_ARGUMENTS = 30_000
+MOST_TEXTS = 10_000
 # How many bytes one run is given at most, where it is given many sizes.
 TOGETHER = 20_000_000
 GREATEST = ["--limit", str(LIMIT)]
-LONGEST_LINE, MOST_ROWS = 1_024, 65_536
 # The names of the values of each property, as the definitions have them, and which files have default lines.
 DEFINED = (TOP / "crates/lbk_ucd/specs/Names.antt").read_text(encoding="utf-8")
 VALUES = [re.findall(r'\(codes "(\w+)"', part) for part in re.findall(r"^\w+_names =$(.*?)\[\]$", DEFINED, re.DOTALL | re.MULTILINE)]
@@ -41,12 +42,17 @@ class Drawn:
 
     def __init__(self, place, seed):
         self.place, self.chance = place, random.Random(seed)
+        self.powers = {}
         self.sizes = {}
         self.faults = {}
 
     def size(self, most, least=1):
-        """A size from `least` up to `most`."""
-        power = 1 << self.chance.randrange(most.bit_length())
+        """A size from `least` up to `most`, at or above each power of two as often as another."""
+        bits = most.bit_length()
+        left = self.powers.setdefault(bits, [])
+        if not left:
+            left += self.chance.sample(range(bits), bits)
+        power = 1 << left.pop()
         between = self.chance.randrange(power, 2 * power)
         size = self.chance.choice((power, power + self.chance.choice((-1, 1)), between, between))
         return max(least, min(size, most))
@@ -60,6 +66,10 @@ class Drawn:
                 found.append(size)
         return found
 
+    def words(self, task, *more):
+        """The words of a run in either profile, which say the same of the texts here."""
+        return words_of(task, more=["--profile", self.chance.choice("12"), *more])
+
     def run(self, kind, sizes, words, given, status, is_right):
         """Runs the program over sizes of a kind, and keeps the first fault of that kind."""
         ran = run_program([self.place.program, *words], given, cwd=self.place.folder)
@@ -67,7 +77,6 @@ class Drawn:
         if ran.status != status or b"out of memory" in ran.err or not is_right(ran):
             fault = f"sizes {sizes}: status {ran.status}; standard error: {shown(ran.err)}; it wrote {shown(ran.out)}"
             self.faults.setdefault(kind, fault)
-
 
     def shows(self, kind, sizes, k, contents):
         """Shows a text that the last row of this file decides."""
@@ -131,7 +140,7 @@ def each_row(drawn, k):
 def limits(drawn):
     """A paragraph of the limit's bytes, of fewer, or of one more."""
     limit = drawn.size(LIMIT)
-    words = words_of("mark", more=["--limit", str(limit)])
+    words = drawn.words("mark", "--limit", str(limit))
     if drawn.chance.randrange(3) == 0:
         line = f"byte 0: the paragraph from here on has more than {limit} bytes".encode()
         drawn.run("limits", [limit], words, b"a" * (limit + 1), 1, lambda ran: line in ran.err)
@@ -145,7 +154,18 @@ def paragraphs(drawn, sizes=None):
     text = b"".join(b"a" * size + b"\n" for size in sizes)
     task = drawn.chance.choice(("mark", "segment"))
     right = {"mark": lambda ran: ran.out == text, "segment": lambda ran: ran.out.count(b"\n") == 3 * len(sizes)}
-    drawn.run(f"sizes of paragraphs, {task}", sizes, words_of(task, more=GREATEST), text, 0, right[task])
+    drawn.run(f"sizes of paragraphs, {task}", sizes, drawn.words(task, *GREATEST), text, 0, right[task])
+
+
+def ranges(drawn):
+    """The paragraphs that begin in a range of a text."""
+    sizes = drawn.sizes_together(LIMIT - 1)
+    text = b"".join(b"a" * size + b"\n" for size in sizes)
+    first, end = sorted(drawn.chance.choice((drawn.size(len(text)), drawn.chance.randrange(len(text)))) for _ in range(2))
+    starts = [sum(sizes[:k]) + k for k in range(len(sizes))]
+    out = b"".join(text[at : at + size + 1] for at, size in zip(starts, sizes) if first <= at < end)
+    words = drawn.words("mark", *GREATEST, "--from", str(first), "--to", str(end))
+    drawn.run("ranges", [first, end], words, text, 0, lambda ran: ran.out == out)
 
 
 def segments(drawn, sizes=None):
@@ -158,7 +178,7 @@ def segments(drawn, sizes=None):
         "show": lambda ran: ran.out.count("÷".encode()) == sum(sizes) - len(sizes),
         "segment": lambda ran: ran.out.count(b"\n") == len(sizes) + 2 * sum(sizes),
     }
-    drawn.run(f"numbers of segments, {task}", sizes, words_of(task, more=GREATEST), text, 0, right[task])
+    drawn.run(f"numbers of segments, {task}", sizes, drawn.words(task, *GREATEST), text, 0, right[task])
 
 
 def arguments(drawn):
@@ -166,6 +186,14 @@ def arguments(drawn):
     number = drawn.size(MOST_ARGUMENTS)
     word = drawn.chance.choice(("x", "--kinds", "-", "--limit=9"))
     drawn.run("numbers of arguments", [number], ["replay", *[word] * number, "x"], b"", 2, lambda ran: b"Usage: " in ran.err)
+
+
+def texts(drawn):
+    """A text that is named some number of times."""
+    number = drawn.size(MOST_TEXTS)
+    drawn.place.write("t", b"t\n")
+    words = drawn.words("mark", *["t"] * number)
+    drawn.run("numbers of texts", [number], words, b"", 0, lambda ran: ran.out == b"t\n" * number)
 
 
 def named(drawn, size):
@@ -201,17 +229,18 @@ def folders(drawn, size=None):
 def lines(drawn):
     """Lines of a test file: comments of some bytes, and lines of some numbers of scalars that agree."""
     sizes = drawn.sizes_together(LIMIT)
-    one, end = "× 0061 ".encode(), "÷".encode()
+    end, more = drawn.chance.choice([("÷", []), ("!", ["--kinds"])])
+    one, end = "× 0061 ".encode(), end.encode()
     chosen = [(size, drawn.chance.randrange(2)) for size in sizes]
     text = b"".join((one * max(size // 8, 1) + end if is_test else b"#" * size) + b"\n" for size, is_test in chosen)
     tests = sum(is_test for _, is_test in chosen)
     right = b"T %d %d 0 0\n" % (tests, tests)
-    drawn.run("lines of tests", sizes, words_of("replay"), text, 0, lambda ran: ran.out == right)
+    drawn.run("lines of tests", sizes, drawn.words("replay", *more), text, 0, lambda ran: ran.out == right)
 
 
-KINDS = [files, rows, limits, paragraphs, segments, arguments, names, folders, lines]
+KINDS = [files, rows, limits, paragraphs, ranges, segments, arguments, texts, names, folders, lines]
 # How often each is run in a round: those of one size a run, which are quick, more often.
-TIMES = {files: 4, rows: 4, limits: 4, arguments: 8, names: 24, folders: 16}
+TIMES = {files: 4, rows: 4, limits: 4, ranges: 2, arguments: 8, texts: 4, names: 24, folders: 16}
 # What each run tries first: all rows, and sizes that are seldom drawn, of paragraphs without their line end.
 ALWAYS = [*((each_row, k) for k in range(4)), (paragraphs, [5_000_002]), (segments, [60_000]), (folders, 1_023)]
 

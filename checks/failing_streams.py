@@ -26,6 +26,7 @@ TOO_LONG = (
 )
 NOT_TEXT = "lbk: the words are not UTF-8"
 SECONDS = 30  # until a run counts as one that waits
+GREATEST = 16_777_216  # bytes of a paragraph
 HAS_FULL = os.access("/dev/full", os.W_OK)
 
 
@@ -36,7 +37,15 @@ class Runs:
         self.tally, self.room = tally, Path(room)
         self.program = built_program()
         self.many = b"ab cd\n" * 20_000
-        for name, contents in (("line-break", LINE_BREAK), ("none", b""), ("two", b"ab cd\n"), ("many", self.many)):
+        long = (b"ab " * 3_000 + b"\n") * 2_000
+        for name, contents in (
+            ("line-break", LINE_BREAK),
+            ("none", b""),
+            ("two", b"ab cd\n"),
+            ("many", self.many),
+            ("long", long[:GREATEST]),
+            ("greatest", b"a" * GREATEST),
+        ):
             (self.room / name).write_bytes(contents)
         (self.room / "folder").mkdir()
         os.symlink("loop", self.room / "loop")
@@ -71,9 +80,22 @@ def outputs(runs, name, words, first):
     runs.ends(f"{name}: an output that is not ready", full, 1, f"{OUT_FAULT}: {NOT_READY}", first)
 
 
-def closed_early(runs, words):
+def long_paragraphs(runs, task, words):
+    """The same of paragraphs that are longer than a read, and of one that is as long as one may be."""
+    for text in ("long", "greatest"):
+        name = f"{task}, the text {text}"
+        if task == "segment" and text == "greatest":
+            # (its three lines are less than a pipe holds)
+            continue
+        if HAS_FULL:
+            runs.ends(f"{name}: a full output", runs.redirected(f"< {text} > /dev/full", words), 1, NO_SPACE)
+        runs.ends(f"{name}: a reader that closes early", closed_early(runs, words, text), 1)
+        runs.ends(f"{name}: an output that is not ready", not_ready_output(runs, words, text), 1, f"{OUT_FAULT}: {NOT_READY}")
+
+
+def closed_early(runs, words, text="many"):
     """A run of more than a pipe holds, so that the writer meets its end, over a reader that reads one byte."""
-    with open(runs.room / "many", "rb") as many, open(runs.room / "err", "w+b") as err:
+    with open(runs.room / text, "rb") as many, open(runs.room / "err", "w+b") as err:
         with subprocess.Popen([runs.program, *words], stdin=many, stdout=subprocess.PIPE, stderr=err) as process:
             process.stdout.read(1)
             process.stdout.close()
@@ -90,11 +112,11 @@ def not_ready_pipe():
     return ends
 
 
-def not_ready_output(runs, words):
+def not_ready_output(runs, words, text="many"):
     """A run that writes more than a pipe holds which is not read."""
     end, out = not_ready_pipe()
     try:
-        with open(runs.room / "many", "rb") as many:
+        with open(runs.room / text, "rb") as many:
             return bounded([runs.program, *words], stdin=many, stdout=out, stderr=subprocess.PIPE)
     finally:
         os.close(end)
@@ -196,5 +218,7 @@ def run(tally, _arguments):
             outputs(runs, name, words, first)
             inputs(runs, name, words, first)
             ends_of_input(runs, name, words, first)
+            if task in ("mark", "show", "segment"):
+                long_paragraphs(runs, task, [*words, "--limit", str(GREATEST)])
         property_files(runs)
         arguments(runs)

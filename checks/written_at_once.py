@@ -17,15 +17,24 @@ WAIT = 20  # seconds until a line counts as kept back
 LINE_BREAK = "000A;LF\n0020;SP\n0061..007A;AL\n"
 CATEGORY = "0061..007A;Ll\n"
 LONG = b"a " * 30_000 + b"\n"  # more than a read takes
+LIMIT = 16_777_216
+GREATEST = b"a" * (LIMIT - 1) + b"\n"
 
 # What is sent in turn, and how many lines it makes known.
-PARAGRAPHS = [(b"ab\nc", 1), (b"d\ne", 1), (b"f g\nh", 1), (b"\n" + LONG + b"i", 2), (b"\nj", 1)]
+PARAGRAPHS = [(b"ab\nc", 1), (b"d\ne", 1), (b"f g\nh", 1), (b"\n" + LONG + b"i", 2), (b"\n" + GREATEST + b"k", 2), (b"\nj", 1)]
 TASKS = {
     "": PARAGRAPHS[:3],
     "mark": PARAGRAPHS,
     "show": PARAGRAPHS,
     # A line for the passage, one for each segment and one for each word: `ef g` has two of both.
-    "segment": [(b"ab\nc", 3), (b"d\ne", 3), (b"f g\nh", 5), (b"\n" + LONG + b"i", 3 + 1 + 2 * 30_000), (b"\nj", 3)],
+    "segment": [
+        (b"ab\nc", 3),
+        (b"d\ne", 3),
+        (b"f g\nh", 5),
+        (b"\n" + LONG + b"i", 3 + 1 + 2 * 30_000),
+        (b"\n" + GREATEST + b"k", 3 + 3),
+        (b"\nj", 3),
+    ],
     "replay": [
         ("× 0061 ÷ 0062 ÷\n".encode(), 1),
         ("× 0061 × 0062 ÷\n× 0061 ÷ 0062 ÷\n".encode(), 1),
@@ -43,14 +52,14 @@ OF_A_RANGE = {
 
 def lines_of(out, count, seen):
     """Waits until `count` more lines stand in what the program wrote, and returns whether they do."""
-    target = seen.count(b"\n") + count
-    while seen.count(b"\n") < target:
+    while count > 0:
         ready, _, _ = select.select([out], [], [], WAIT)
         if not ready:
             return False
         part = os.read(out, 65536)
         if not part:
             return False
+        count -= part.count(b"\n")
         seen += part
     return True
 
@@ -99,7 +108,8 @@ def run(tally, _arguments):
             name.write_text(text, encoding="ascii")
             words += [option, name]
         for task, steps in TASKS.items():
-            one_task(tally, task or "no arguments", steps, [program, task, *words] if task else [program])
+            more = [] if task == "replay" else ["--limit", str(LIMIT)]
+            one_task(tally, task or "no arguments", steps, [program, task, *words, *more] if task else [program])
         for task, steps in OF_A_RANGE.items():
-            one_task(tally, f"{task} --from 3", steps, [program, task, *words, "--from", "3"])
+            one_task(tally, f"{task} --from 3", steps, [program, task, *words, "--limit", str(LIMIT), "--from", "3"])
             passed(tally, task, [program, task, *words, "--to", "6"])

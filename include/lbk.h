@@ -342,21 +342,22 @@ lbk_fed lbk_feed(const lbk_table *table, lbk_stream *stream, const char *piece, 
  *
  *     lbk_state state = {0};
  *     uint64_t words[64];
- *     size_t told;
+ *     size_t places;
  *     do {
  *         size_t from = state.at;
- *         told = lbk_marks(&table, &state, text, size, words, 64);
+ *         places = lbk_marks(&table, &state, text, size, words, 64);
  *         for (size_t k = 0; k < 64; k++)
  *             for (uint64_t bits = words[k]; bits != 0; bits &= bits - 1)
  *                 .. from + 64 * k + the number of the lowest bit ..
- *     } while (told == 64 * 64);
+ *     } while (places == 64 * 64);
  *
- * Returns of how many places the words tell: of 64 * count, or of fewer if no more were left. Once the end's bit was told of, later
- * calls return 0. Before, the state goes on at the first scalar behind the places told of, so up to three bytes behind.
+ * Returns how many places the words cover: 64 * count, or fewer if no more were left. Once they covered the end, later calls
+ * return 0. Before that, the state goes on at the first scalar after these places, so up to three bytes after them.
  *
  * The rule at one place is given by lbk_breaks or lbk_positions from a state on whose `at` is lbk_cut_before of the byte before that
  * place. All else is as lbk_breaks has it: ill-formed bytes, LBK_GOES_ON, and calls from which nothing comes, which clear the
- * words, too. Whatever the table and the state have, no bit is set of a place that is not told of. Takes no memory from the heap. */
+ * words, too. Whatever the table and the state have, no bit is set after the places that are covered. Takes no memory from the
+ * heap. */
 size_t lbk_marks(const lbk_table *table, lbk_state *state, const char *text, size_t size, uint64_t *words, size_t count);
 
 /* Puts the next positions of a text into the front of a block, as lbk_breaks puts its breaks, and returns how many. A text has one

@@ -29,6 +29,7 @@ NAMED = [
     ("a name that ends in a space", "name ", ["name"]),
     ("a name that begins with a space", " name", ["name"]),
     ("a name that ends in a line end", "name\n", ["name"]),
+    ("a name of scalars of each size", "né-の-😀", ["ne-の-😀", "né-の-", "NÉ-の-😀", "ne\u0301-の-😀", "n--"]),
     ("a name without an ending", "name", ["name.txt", "NAME", "name.gz", "name~", ".name", "name-15.0.0.txt"]),
     ("a name of 200 bytes", "n" * 200, ["n" * length for length in (1, 63, 64, 99, 100, 127, 128, 199)]),
     ("a name of 1,201 bytes", "./" * 500 + "m" * 201, ["m" * length for length in (1, 64, 100, 200)]),

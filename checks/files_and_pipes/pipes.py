@@ -94,25 +94,38 @@ OPENED_OF = [
 
 
 def opened_once(place):
-    """Each file and text is opened once, and none after one that is refused, as the system tells whoever watches the folder."""
-    libc = ctypes.CDLL(None)
-    watch = libc.inotify_init1(os.O_NONBLOCK) if hasattr(libc, "inotify_init1") else -1
-    if watch < 0:
+    """Each file and text is opened once, and none after one that is refused, as the system tells whoever watches their folders."""
+    if not hasattr(ctypes.CDLL(None), "inotify_init1"):
         place.tally.leave_out("how often files are opened, which this system does not tell")
         return
     place.write("text", b"a a")
     place.write("bad", b"0061;AK\n")
     (place.folder / "folder").mkdir()
-    libc.inotify_add_watch(watch, os.fsencode(place.folder), OPENED | CLOSED)
-    for what, names, wanted in OPENED_OF:
-        run_program([place.program, *words_of("mark", names, ["text"])], cwd=place.folder)
-        told, opens = os.read(watch, 1 << 16), []
-        while told:
-            _, kind, _, length = struct.unpack_from("iIII", told)
-            name, told = told[16 : 16 + length].rstrip(b"\0").decode(), told[16 + length :]
-            opens += [name] if kind & OPENED and name != "lbk" else []
-        place.tally.equal(f"mark, {what}: what is opened", opens, wanted)
+    for task in ("mark", "show", "segment", "replay"):
+        for what, names, wanted in OPENED_OF:
+            place.tally.equal(f"{task}, {what}: what is opened", opened(place, words_of(task, names, ["text"]), ["."]), wanted)
+    folder = place.folder / "made-up"
+    for name in OF_FOLDER:
+        (folder / name).parent.mkdir(parents=True, exist_ok=True)
+        (folder / name).write_bytes(b"")
+    opens = opened(place, ["mark", "--ucd", "made-up", "text"], ["made-up", "made-up/extracted", "made-up/emoji", "."])
+    place.tally.equal("mark: no file of a folder is opened after one that is refused", opens, [OF_FOLDER[0]])
+
+
+def opened(place, words, folders):
+    """The names of what a run opens in these folders, in order."""
+    libc = ctypes.CDLL(None)
+    watch = libc.inotify_init1(os.O_NONBLOCK)
+    for folder in folders:
+        libc.inotify_add_watch(watch, os.fsencode(place.folder / folder), OPENED | CLOSED)
+    run_program([place.program, *words], cwd=place.folder)
+    told, opens = os.read(watch, 1 << 16), []
     os.close(watch)
+    while told:
+        _, kind, _, length = struct.unpack_from("iIII", told)
+        name, told = told[16 : 16 + length].rstrip(b"\0").decode(), told[16 + length :]
+        opens += [name] if kind & OPENED and name not in ("", "lbk") else []
+    return opens
 
 
 def run(place):

@@ -11,6 +11,7 @@ WAITS = b"lbk: text is read from the terminal, to the end of input (Ctrl-D at th
 ROWS = [
     ("mark", words_of("mark"), b"ab cd\nef\n\x04", 0, b"ab \xc3\xb7cd\nef\n", WAITS),
     ("replay", words_of("replay"), b"\x04", 0, b"T 0 0 0 0\n", WAITS),
+    ("a text that is named", words_of("mark", more=["text"]), b"ab\n\x04", 0, b"cd\n", b""),
     (
         "a file that is missing",
         words_of("mark", ("L", "E", "C", "none")),
@@ -23,6 +24,7 @@ ROWS = [
 
 
 def run(place):
+    place.write("text", b"cd\n")
     for what, words, typed, status, out, err in ROWS:
         master, slave = os.openpty()
         modes = termios.tcgetattr(slave)

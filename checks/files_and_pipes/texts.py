@@ -1,11 +1,13 @@
 """Texts that operands name: their order, their names, and those that are missing, may not be read, are no files or shrink."""
 
 import os
+import resource
 import subprocess
 
 from checks.files_and_pipes.files import NAMED, NOBODY
 from checks.files_and_pipes.pipes import over_pipes
 from checks.files_and_pipes.place import words_of
+from checks.program import run as run_program
 
 MISSING = "lbk: {} cannot be read: no such file\n"
 NOT_UTF_8 = "lbk: {}: byte {}: invalid UTF-8"
@@ -14,6 +16,8 @@ KINDS = "lbk: lines with ! for a break that must be are read with --kinds\n"
 LONGEST_NAME = 4_095
 # How many bytes of names one run is given at most: less than a system hands over.
 TOGETHER = 1_000_000
+# How many files a run may have open at a time that reads many, one after another.
+OPEN = 16
 
 
 def run(place):
@@ -51,6 +55,8 @@ def run(place):
     pipes = {place.folder / "pipe": (b"ab\ncd", 1)}
     over_pipes(place, "texts: one from a pipe", words_of("mark", more=["pipe", "one"]), pipes, b"", "ab\ncd\na ÷b\n".encode())
     shrunk(place)
+    closed(place)
+    begun(place)
     whole_names(place)
     each_length(place)
     over_edges(place)
@@ -118,6 +124,28 @@ def hints(place):
     place.row("texts: test lines with !", words_of("replay", more=["tests"]), b"", 3, told, KINDS.encode())
     place.write("plain", b"x\n")
     place.row("texts: refused test lines without !", words_of("replay", more=["plain"]), b"", 3, b"R 1 0\nT 1 0 0 1\n")
+    place.write("refused", "× D800 !\n".encode())
+    told = b"R 1 7\nT 1 0 0 1\n"
+    place.row("texts: refused test lines with !, by --kinds", words_of("replay", more=["--kinds", "refused"]), b"", 3, told)
+    place.write("differs", "× 0061 ÷ 0062 ÷ # !\n".encode())
+    told = "D 1 1 ÷ × 28\nT 1 0 1 0\n".encode()
+    place.row("texts: test lines with ! that are not refused", words_of("replay", more=["differs"]), b"", 3, told)
+
+
+def closed(place):
+    """Each text is closed once it is read."""
+    words = [place.program, *words_of("mark", more=["two"] * 1000)]
+    few = lambda: resource.setrlimit(resource.RLIMIT_NOFILE, (OPEN, OPEN))
+    ran = run_program(words, cwd=place.folder, preexec_fn=few)
+    place.tally.equal(f"texts: a thousand, with {OPEN} open files at most", tuple(ran), (0, b"cd\n" * 1000, b""))
+
+
+def begun(place):
+    """A file as standard input is read from where whoever had it before stopped."""
+    command = f"{{ head -c 2 > taken; exec ./lbk {' '.join(words_of('mark'))}; }} < begun"
+    place.write("begun", b"a\n" + b"b b\n" * 5_000)
+    ran = run_program(["bash", "-c", command], cwd=place.folder)
+    place.tally.equal("texts: the rest of standard input", tuple(ran), (0, "b ÷b\n".encode() * 5_000, b""))
 
 
 def shrunk(place):

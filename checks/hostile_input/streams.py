@@ -1,11 +1,14 @@
 """Streams, of which the program holds one line or one paragraph at a time."""
 
 from checks.hostile_input.bounds import STREAM_MEMORY
+from checks.hostile_input.sizes import nothing
 
 SCALARS = "× 0061 ÷ 0061 ÷\n".encode()
 WORDS = b"aaaaaaaaa " * 100 + b"\n"
 LONG_WORDS = b"aaaaaaaaa " * 6_500 + b"\n"  # more than a read takes, and less than the limit
 MARK = len("÷".encode())
+# A range begins here, after all of a stream.
+FROM = "1000000000"
 
 STREAMS = [
     # task, name, line or paragraph, how often it comes at first, status, end of the output by how often it comes
@@ -30,7 +33,17 @@ def marked_bytes(line, count):
     return count * (len(line) + MARK * max(words - 1, 0))
 
 
+def passed_over(hostile):
+    """Paragraphs before a range, of which nothing is written."""
+    for name, line, often in (("empty paragraphs", b"\n", 4_000_000), ("paragraphs of 65,001 bytes", LONG_WORDS, 300)):
+        of = lambda length, line=line: [(line, length)]
+        words = hostile.words("mark", "--from", FROM)
+        fits = lambda ran, _length: ran.fault(0) or nothing(ran)
+        hostile.grows(f"mark, {name} before a range", words, of, often * len(line), fits, STREAM_MEMORY)
+
+
 def run(hostile):
+    passed_over(hostile)
     for task, name, line, often, status, last in STREAMS:
         for more in ([], ["--profile", "2"]):
             if task == "replay" and more and line != SCALARS:
