@@ -3,3 +3,4 @@ pub mod ComingLemmas
 pub mod UnitsComingLemmas
 pub mod PositionLemmas
 pub mod MarkLemmas
+pub mod DigestLemmas

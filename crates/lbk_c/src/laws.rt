@@ -1,11 +1,12 @@
-//! What holds of states, over definitions only: the contract of a function that does nothing.
+//! What holds of states and of digests, over definitions only. Each law is the contract of a function that does nothing.
 
-ghost use Rattle.std.specs.Prelude.{◌≡◌, ℕ, ◌≤◌, List, drop, length};
+ghost use Rattle.std.specs.Prelude.{◌≡◌, ℕ, ◌^◌, ◌<◌, ◌≤◌, List, drop, length};
 ghost use Rattle.lbk_rules.specs.declared.breaks.Break.{Break};
 ghost use Rattle.lbk_rules.specs.declared.cells.Cell.{Cell};
 ghost use Rattle.lbk_steps.specs.declared.flat_table.FlatTable.{FlatTable};
 ghost use Rattle.lbk_c.specs.declared.interface.State.{State};
 ghost use Rattle.bstr.specs.Utf8.{Decoded};
+ghost use Rattle.lbk_steps.specs.FlatTable.{digest_with};
 ghost use Rattle.lbk_units.specs.Units.{pieces_of_utf16, pieces_of_utf32};
 ghost use Rattle.lbk_c.specs.Coming.{Comes};
 ghost use Rattle.lbk_c.specs.UnitsComing.{PositionsCome, UnitsCome};
@@ -26,4 +27,13 @@ pub fn only_bytes_from_a_state_on()
     ensures positions { (pieces_of : List ℕ → List Decoded) (cell : ℕ → Cell) (table : FlatTable) (text other : List ℕ) (state : State) (to_come : List Break)
         → PositionsCome pieces_of cell table text state to_come → state.at ≤ length other → drop state.at other ≡ drop state.at text
         → PositionsCome pieces_of cell table other state to_come }
+{}
+
+/// No step of a table's digest (FNV-1a) leads two numbers from one digest to the same, nor two digests by one number. So a whole
+/// table of which one number is given another value is no longer whole.
+pub fn no_step_leads_two_to_one()
+    ensures numbers { (digest one other : ℕ) → digest < 2 ^ 64 → one < 2 ^ 64 → other < 2 ^ 64
+        → digest_with digest one ≡ digest_with digest other → one ≡ other }
+    ensures digests { (one other number : ℕ) → one < 2 ^ 64 → other < 2 ^ 64 → number < 2 ^ 64
+        → digest_with one number ≡ digest_with other number → one ≡ other }
 {}

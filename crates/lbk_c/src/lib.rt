@@ -27,7 +27,7 @@ pub use class_labels::lbk_class;
 pub use cuts::{lbk_cut, lbk_cut_before};
 pub use interface::{ClassLabel, Fault, RuleLabel, State, Text};
 pub use labels::lbk_label;
-pub use laws::only_bytes_from_a_state_on;
+pub use laws::{no_step_leads_two_to_one, only_bytes_from_a_state_on};
 pub use lbk_bytes::RawBreak;
 pub use lbk_cuts::{joined_parts, only_bytes_near_a_cut};
 pub use lbk_streams::{Fed, Stream, bytes_that_could_go_on};
