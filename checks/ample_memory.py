@@ -1,8 +1,8 @@
 """Thousands of sizes drawn at random, with ample memory: a run that says that it is out of memory fails, as any other fault.
 
-Sizes of files, limits, paragraphs, segments, arguments, names and lines of tests: each a power of two or a neighbour of one,
-or one between two powers, up to the greatest that is taken. The seed is printed; given as the argument it draws the same
-sizes again.
+Sizes of files, limits, paragraphs, segments, ranges, arguments, names and lines of tests: each a power of two or a neighbour
+of one, or one between two powers, up to the greatest that is taken. The seed is printed; given as the argument it draws the
+same sizes again.
 """
 
 import os
@@ -102,6 +102,15 @@ def segments(drawn, sizes=None):
     drawn.run(f"numbers of segments, {task}", sizes, words_of(task, more=GREATEST), text, 0, right[task])
 
 
+def ranges(drawn):
+    """A range of a text, of which the lines that begin in it are written."""
+    lines = drawn.size(500_000)
+    first, end = sorted(drawn.size(2 * lines + 2) - 1 for _ in range(2))
+    out = b"a\n" * len(range(first + first % 2, min(end, 2 * lines), 2))
+    words = words_of("mark", more=["--from", str(first), "--to", str(end)])
+    drawn.run("ranges", [first, end], words, b"a\n" * lines, 0, lambda ran: ran.out == out)
+
+
 def arguments(drawn):
     """More arguments than are taken, which is said by status 2 and the usage."""
     number = drawn.size(MOST_ARGUMENTS)
@@ -148,9 +157,9 @@ def lines(drawn):
     drawn.run("lines of tests", sizes, words_of("replay"), text, 0, lambda ran: ran.out == right)
 
 
-KINDS = [files, limits, paragraphs, segments, arguments, names, folders, lines]
+KINDS = [files, limits, paragraphs, segments, ranges, arguments, names, folders, lines]
 # How often each is run in a round: those of one size a run, which are quick, more often.
-TIMES = {files: 4, limits: 4, arguments: 8, names: 24, folders: 16}
+TIMES = {files: 4, limits: 4, ranges: 4, arguments: 8, names: 24, folders: 16}
 # What each run tries first: sizes that are seldom drawn, of paragraphs without their line end.
 ALWAYS = [(paragraphs, [5_000_002]), (segments, [60_000]), (folders, 1_023)]
 
