@@ -1,6 +1,6 @@
 //! How the faults of a run are reported to a caller of the library, who knows no words of the program.
 
-use lbk_cmd::{CellsFault, ClaimCause, CmdFault, RunFault, Version};
+use lbk_cmd::{BreakFault, CellsFault, ClaimCause, CmdFault, RunFault, Version};
 use lbk_notation::ReplayFault;
 use lbk_passage::PassageFault;
 use lbk_ucd::{UcdCause, UcdFault, Which};
@@ -119,6 +119,63 @@ static OF_RUNS: [(RunFault, &str); 9] = [
 #[test]
 fn faults_of_runs(rt: HostRuntime) -> Result<(), Fail> {
     for (fault, want) in &OF_RUNS {
+        check(&rt, rt.alloc(), fault, want)?;
+    }
+    Ok(())
+}
+
+static OF_ENGINES: [(CmdFault, &str); 9] = [
+    (
+        CmdFault::Passage(PassageFault::Limit),
+        "the limit of a paragraph is 1 to 16777216 bytes",
+    ),
+    (CmdFault::Passage(PassageFault::Memory), "out of memory"),
+    (
+        CmdFault::Passage(PassageFault::Read),
+        "the input cannot be read",
+    ),
+    (
+        CmdFault::Passage(PassageFault::NotUtf8 { at: 9 }),
+        "the input: byte 9: invalid UTF-8",
+    ),
+    (
+        CmdFault::Passage(PassageFault::TextTooLong),
+        "the input has more than 1073741824 bytes",
+    ),
+    (
+        CmdFault::Passage(PassageFault::ParagraphTooLong { start: 9 }),
+        "the input: byte 9: the paragraph from here on has more bytes than the limit",
+    ),
+    (
+        CmdFault::Passage(PassageFault::Spent),
+        "an earlier call was refused",
+    ),
+    (CmdFault::Write, "the output cannot be written"),
+    (CmdFault::Memory, "out of memory"),
+];
+
+static OF_TEXTS: [(BreakFault, &str); 4] = [
+    (
+        BreakFault::Files(CellsFault::Load(Which::LineBreak)),
+        "LineBreak.txt: the file cannot be read",
+    ),
+    (
+        BreakFault::Files(CellsFault::Tables(ROW)),
+        "DerivedGeneralCategory.txt:7: a row before this one holds a code of this row",
+    ),
+    (
+        BreakFault::Text(CmdFault::Passage(PassageFault::NotUtf8 { at: 9 })),
+        "the input: byte 9: invalid UTF-8",
+    ),
+    (BreakFault::Text(CmdFault::Memory), "out of memory"),
+];
+
+#[test]
+fn faults_of_calls(rt: HostRuntime) -> Result<(), Fail> {
+    for (fault, want) in &OF_ENGINES {
+        check(&rt, rt.alloc(), fault, want)?;
+    }
+    for (fault, want) in &OF_TEXTS {
         check(&rt, rt.alloc(), fault, want)?;
     }
     Ok(())

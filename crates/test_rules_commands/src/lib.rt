@@ -51,7 +51,11 @@ mod property_calls;
 #[cfg(test)]
 mod property_laws;
 #[cfg(test)]
+mod reasons_told;
+#[cfg(test)]
 mod sample_ranges;
+#[cfg(test)]
+mod sizes_of_passages;
 #[cfg(test)]
 mod step_tables;
 #[cfg(test)]

@@ -1,0 +1,146 @@
+//! Messages with the system's reason, of which a contract says no more than that they come: what failed, and then the reason
+//! as std words it.
+
+use lbk_args::{Engine, FileName, FileNames};
+use lbk_cmd::{Caller, CmdFault, Message, RunFault};
+use lbk_notation::ReplayFault;
+use lbk_passage::PassageFault;
+use lbk_ucd::Which;
+use std::alloc::Global;
+use std::io::ErrorKind;
+use std::process::Abort;
+use std::test::Fail;
+
+static KINDS: [ErrorKind; 18] = [
+    ErrorKind::PermissionDenied,
+    ErrorKind::BrokenPipe,
+    ErrorKind::WouldBlock,
+    ErrorKind::NotADirectory,
+    ErrorKind::IsADirectory,
+    ErrorKind::ReadOnlyFilesystem,
+    ErrorKind::StaleNetworkFileHandle,
+    ErrorKind::InvalidInput,
+    ErrorKind::InvalidData,
+    ErrorKind::TimedOut,
+    ErrorKind::WriteZero,
+    ErrorKind::StorageFull,
+    ErrorKind::FileTooLarge,
+    ErrorKind::ResourceBusy,
+    ErrorKind::InvalidFilename,
+    ErrorKind::Interrupted,
+    ErrorKind::Unsupported,
+    ErrorKind::UnexpectedEof,
+];
+
+const ENGINE: Engine = Engine::Mark { limit: 9 };
+
+const GIVEN: Caller<'static> = Caller::Words {
+    engine: ENGINE,
+    files: FileNames {
+        line_break: FileName::Given("L"),
+        east_asian: FileName::Given("E"),
+        category: FileName::Given("C"),
+        emoji: FileName::Given("M"),
+    },
+};
+
+const IN_FOLDER: Caller<'static> = Caller::Words {
+    engine: ENGINE,
+    files: FileNames {
+        line_break: FileName::InFolder("U"),
+        east_asian: FileName::InFolder("U"),
+        category: FileName::InFolder("U"),
+        emoji: FileName::InFolder("U"),
+    },
+};
+
+const READ: RunFault = RunFault::Cmd(CmdFault::Passage(PassageFault::Read));
+
+/// A fault, who is told of it, the operand that names the text, and what is said in front of the reason.
+type Row = (
+    RunFault,
+    Caller<'static>,
+    Option<&'static str>,
+    &'static str,
+);
+
+static ROWS: [Row; 13] = [
+    (RunFault::Open, GIVEN, Some("x"), "x cannot be read"),
+    (READ, GIVEN, Some("x"), "x cannot be read"),
+    (READ, GIVEN, None, "standard input cannot be read"),
+    (READ, Caller::NoWords, None, "standard input cannot be read"),
+    (READ, Caller::Call, None, "the input cannot be read"),
+    (
+        RunFault::Replay(ReplayFault::Read),
+        GIVEN,
+        Some("-"),
+        "standard input cannot be read",
+    ),
+    (
+        RunFault::Cmd(CmdFault::Write),
+        GIVEN,
+        None,
+        "standard output cannot be written",
+    ),
+    (
+        RunFault::Replay(ReplayFault::Write),
+        IN_FOLDER,
+        None,
+        "standard output cannot be written",
+    ),
+    (
+        RunFault::Cmd(CmdFault::Write),
+        Caller::Call,
+        None,
+        "the output cannot be written",
+    ),
+    (
+        RunFault::Load(Which::LineBreak),
+        GIVEN,
+        None,
+        "L: the file cannot be read",
+    ),
+    (
+        RunFault::Load(Which::Category),
+        GIVEN,
+        None,
+        "C: the file cannot be read",
+    ),
+    (
+        RunFault::Load(Which::Emoji),
+        IN_FOLDER,
+        None,
+        "U/emoji/emoji-data.txt: the file cannot be read",
+    ),
+    (
+        RunFault::Load(Which::EastAsianWidth),
+        Caller::Call,
+        None,
+        "EastAsianWidth.txt: the file cannot be read",
+    ),
+];
+
+fn check(rt: &impl Abort, alloc: Global, row: &Row, kind: ErrorKind) -> Result<(), Fail> {
+    let (fault, caller, text, front) = *row;
+    let message = Message {
+        fault,
+        caller,
+        text,
+        reason: Some(kind),
+        is_utf16: false,
+    };
+    let told = format!(in alloc; "{message}")?;
+    let want = format!(in alloc; "{front}: {kind}")?;
+    assert_eq!(rt; told.as_str(), want.as_str());
+    Ok(())
+}
+
+#[test]
+fn reasons(rt: HostRuntime) -> Result<(), Fail> {
+    for row in &ROWS {
+        for kind in &KINDS {
+            check(&rt, rt.alloc(), row, *kind)?;
+        }
+    }
+    Ok(())
+}

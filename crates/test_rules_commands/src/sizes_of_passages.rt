@@ -1,0 +1,122 @@
+//! Passages of many sizes in one call, with ample memory: each comes with all of its bytes, breaks and words, and no call
+//! runs out of memory.
+
+use lbk_cmd::{BreakFault, OwnedPassage, SAMPLE_FILES, break_text, read_passages};
+use lbk_feed::devices::MemorySource;
+use lbk_notation::TestLine;
+use lbk_passage::LIMIT_MAX;
+use lbk_rules::Profile;
+use std::alloc::{AllocError, Global};
+use std::process::Abort;
+use std::test::Fail;
+
+/// How many passages of one letter come after the others.
+const SHORT: usize = 70_000;
+
+/// `read_passages` without its contract.
+fn owned(alloc: Global, text: &str, limit: u32) -> Result<Vec<OwnedPassage>, BreakFault> {
+    let mut source = MemorySource::new(text.as_bytes());
+    read_passages(alloc, SAMPLE_FILES, &mut source, limit, Profile::First)
+}
+
+/// `break_text` without its contract.
+fn broken(alloc: Global, text: &str, limit: u32) -> Result<Vec<TestLine>, BreakFault> {
+    let mut source = MemorySource::new(text.as_bytes());
+    break_text(alloc, SAMPLE_FILES, &mut source, limit, Profile::First)
+}
+
+/// Two sizes between each power of two up to so many and the next, as a linear congruence draws them.
+fn drawn(alloc: Global, powers: u32) -> Result<Vec<u32>, AllocError> {
+    let mut sizes = Vec::new(alloc);
+    let mut chance: u32 = 14;
+    for power in 0..powers.min(24) {
+        for _ in 0..2 {
+            chance = chance.wrapping_mul(1_664_525).wrapping_add(1_013_904_223);
+            let least = 1u32 << power;
+            sizes.push(least + (chance >> 8) % least)?;
+        }
+    }
+    Ok(sizes)
+}
+
+/// Each size up to the 1,030th, and those that are drawn.
+fn sizes(alloc: Global) -> Result<Vec<u32>, AllocError> {
+    let mut sizes = drawn(alloc, 17)?;
+    for size in 1..1_031 {
+        sizes.push(size)?;
+    }
+    Ok(sizes)
+}
+
+/// For each size a paragraph of so many letters and one of so many words, and then the short ones.
+fn text_of(alloc: Global, sizes: &[u32]) -> Result<String, AllocError> {
+    let mut text = String::new(alloc);
+    for size in sizes {
+        text.push_str(&"a".repeat(alloc, *size as usize)?)?;
+        text.push('\n')?;
+        text.push_str(&"a ".repeat(alloc, *size as usize)?)?;
+        text.push('\n')?;
+    }
+    text.push_str(&"a\n".repeat(alloc, SHORT)?)?;
+    Ok(text)
+}
+
+/// How many bytes, breaks and words the passage of this place has.
+fn counts(place: usize, sizes: &[u32]) -> (usize, usize, usize) {
+    match sizes.get(place / 2) {
+        Some(size) if place % 2 == 0 => (*size as usize + 1, 1, 1),
+        Some(size) => (2 * *size as usize + 1, *size as usize, *size as usize),
+        None => (2, 1, 1),
+    }
+}
+
+fn check_passages(rt: &impl Abort, passages: &[OwnedPassage], sizes: &[u32]) {
+    for (place, passage) in passages.iter().enumerate() {
+        let found = (
+            passage.text().len(),
+            passage.breaks().len(),
+            passage.words().len(),
+        );
+        assert!(rt;
+            found == counts(place, sizes),
+            "passage {place} has {found:?}"
+        );
+    }
+}
+
+fn check_lines(rt: &impl Abort, lines: &[TestLine], sizes: &[u32]) {
+    for (place, line) in lines.iter().enumerate() {
+        let found = (line.scalars().len(), line.marks().len());
+        let (bytes, _, _) = counts(place, sizes);
+        assert!(rt;
+            found == (bytes, bytes.saturating_add(1)),
+            "line {place} has {found:?}"
+        );
+    }
+}
+
+#[test]
+fn passages_of_each_size(rt: HostRuntime) -> Result<(), Fail> {
+    let sizes = sizes(rt.alloc())?;
+    let text = text_of(rt.alloc(), &sizes)?;
+    let passages = owned(rt.alloc(), &text, LIMIT_MAX)?;
+    assert_eq!(&rt;
+        passages.len(),
+        sizes.len().saturating_mul(2).saturating_add(SHORT)
+    );
+    check_passages(&rt, &passages, &sizes);
+    let lines = broken(rt.alloc(), &text, LIMIT_MAX)?;
+    assert_eq!(&rt; lines.len(), passages.len());
+    check_lines(&rt, &lines, &sizes);
+    Ok(())
+}
+
+#[test]
+fn limits_of_each_size(rt: HostRuntime) -> Result<(), Fail> {
+    for limit in &drawn(rt.alloc(), 24)? {
+        let passages = owned(rt.alloc(), "a", *limit)?.len();
+        let lines = broken(rt.alloc(), "a", *limit)?.len();
+        assert!(&rt; (passages, lines) == (1, 1), "the limit {limit}");
+    }
+    Ok(())
+}
