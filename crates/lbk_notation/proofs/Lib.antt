@@ -8,6 +8,7 @@ pub mod Answered
 pub mod JudgeLemmas
 pub mod Tokens
 pub mod Writes
+pub mod Fronts
 pub mod Markings
 pub mod Lengths
 pub mod FindingLemmas

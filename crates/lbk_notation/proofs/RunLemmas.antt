@@ -3,7 +3,7 @@ use Rattle.std.proofs.Common.{◌≡◌, ℕ, ◌+◌, ◌-◌, ◌<◌, ◌≤�
 use Rattle.std.specs.Io.KnownBytes.{Appends, Consumes, IsAtEnd}
 use Rattle.std.proofs.KnownBytes.{Appends-nil, Appends-trans, Consumes-nil, Consumes-trans, Consumes-whole}
 use Rattle.std.proofs.lemmas.List.{length-drop, length-take-le, take-take, take_all}
-use Rattle.std.proofs.Math.Seq.{take-append-add, take-append_seam, take-length}
+use Rattle.std.proofs.Math.Seq.{take-append-add, take-append_seam}
 use Rattle.lbk_feed.specs.Devices.{KeepsIfTold, Reads}
 use Rattle.lbk_feed.specs.Runs.{Ran, Took}
 use Rattle.lbk_feed.specs.Runs.IsStopped.{midway, at_end}
@@ -14,8 +14,9 @@ use Rattle.lbk_notation.specs.declared.findings.ReplayFault.{ReplayFault}
 use Rattle.lbk_notation.specs.declared.findings.ReplayFault.TheVariants.{Read, Write, Memory, StreamTooLong}
 use Rattle.lbk_notation.specs.declared.marks.Form.{Form}
 use Rattle.lbk_notation.specs.declared.replay_state.ReplayState.{ReplayState}
-use Rattle.lbk_notation.specs.ReplayState.{Ends, HasRead, Stands, StandsAtEnd, Uses, is_read_fault_of}
-use Rattle.lbk_notation.specs.Replay.{IsEndedText, IsReplay, IsReplayRun, IsReplayText, IsReplayed, IsStoppedReplay, KeepsUp, is_read_fault}
+use Rattle.lbk_notation.specs.ReplayState.{Ends, HasRead, IsStoppedBy, Stands, StandsAtEnd, Uses, is_read_fault_of}
+use Rattle.lbk_notation.specs.Replay.{IsEndedText, IsOutOfMemory, IsReplay, IsReplayRun, IsReplayText, IsReplayed, IsStoppedReplay, KeepsUp, is_read_fault}
+use Rattle.lbk_notation.specs.Replay.IsOutOfMemory.{between_lines, uncounted}
 use Rattle.lbk_notation.specs.ReplayText.{total_text}
 use Rattle.lbk_notation.specs.Stream.{longest_stream}
 
@@ -23,11 +24,6 @@ use Rattle.lbk_notation.specs.Stream.{longest_stream}
 pub Stands-text : (cell : ℕ → Cell) (form : Form) (profile : Profile) (progress : ReplayState) (used out : List ℕ)
     → Stands cell form profile progress used out → IsEndedText cell form profile used out
 Stands-text cell form profile progress used out stands = record { findings = stands.findings; are = stands.are; text = stands.text }
-
--- stopped where all that was settled is written
-pub stopped-settled : (cell : ℕ → Cell) (form : Form) (profile : Profile) (ended : Type 0) (first later read out : List ℕ)
-    → read ≡ first ++ later → IsEndedText cell form profile first out → IsStoppedReplay cell form profile ended read out
-stopped-settled cell form profile ended first later read out split text = midway first later out (length out) split text (sym (take-length out))
 
 -- stopped within a line that is written
 pub stopped-writing : (cell : ℕ → Cell) (form : Form) (profile : Profile) (ended : Type 0) (first later read out line : List ℕ) (n : ℕ)
@@ -41,6 +37,19 @@ stopped-longer : (cell : ℕ → Cell) (form : Form) (profile : Profile) (ended 
 stopped-longer cell form profile ended read more out (midway first later all n split text put) =
     midway first (later ++ more) all n (ap (λ r. r ++ more) split ∙ append_assoc first later more) text put
 stopped-longer cell form profile ended read more out (at_end all n never text put) = absurd never
+
+unwritten-longer : (cell : ℕ → Cell) (form : Form) (profile : Profile) (ended : Type 0) (read more out : List ℕ)
+    → IsOutOfMemory cell form profile ⊥ read out → IsOutOfMemory cell form profile ended (read ++ more) out
+unwritten-longer cell form profile ended read more out (between_lines first later split text) =
+    between_lines first (later ++ more) (ap (λ r. r ++ more) split ∙ append_assoc first later more) text
+unwritten-longer cell form profile ended read more out (uncounted report never text) = absurd never
+
+stopped_by-longer : (cell : ℕ → Cell) (form : Form) (profile : Profile) (ended : Type 0) (fault : ReplayFault) (read more out : List ℕ)
+    → IsStoppedBy cell form profile ⊥ fault read out → IsStoppedBy cell form profile ended fault (read ++ more) out
+stopped_by-longer cell form profile ended Memory read more out is = unwritten-longer cell form profile ended read more out is
+stopped_by-longer cell form profile ended Write read more out is = stopped-longer cell form profile ended read more out is
+stopped_by-longer cell form profile ended Read read more out is = stopped-longer cell form profile ended read more out is
+stopped_by-longer cell form profile ended StreamTooLong read more out is = stopped-longer cell form profile ended read more out is
 
 -- Bytes used one after another
 
@@ -90,25 +99,26 @@ Uses-stopped cell form profile old middle new bytes later all byte written betwe
   text = uses.text ++ last.text;
   put = Appends-trans written between written' uses.text last.text uses.put last.put;
   so = λ used out stands.
-      (let there = stopped-longer cell form profile ⊥ ((used ++ bytes) ++ byte ∷ []) later ((out ++ uses.text) ++ last.text)
+      (let there = stopped_by-longer cell form profile ⊥ fault ((used ++ bytes) ++ byte ∷ []) later ((out ++ uses.text) ++ last.text)
       (last.so (used ++ bytes) (out ++ uses.text) (uses.so used out stands)) in
       let joined : ((used ++ bytes) ++ byte ∷ []) ++ later ≡ used ++ all =
       ap (λ u. u ++ later) (append_assoc used bytes (byte ∷ [])) ∙ append_assoc used (bytes ++ byte ∷ []) later ∙ ap (λ b. used ++ b) (sym split) in
-      subst (λ (u : List ℕ). IsStoppedReplay cell form profile ⊥ u (out ++ (uses.text ++ last.text))) joined
-      (subst (λ (o : List ℕ). IsStoppedReplay cell form profile ⊥ (((used ++ bytes) ++ byte ∷ []) ++ later) o) (append_assoc out uses.text last.text) there));
+      subst (λ (u : List ℕ). IsStoppedBy cell form profile ⊥ fault u (out ++ (uses.text ++ last.text))) joined
+      (subst (λ (o : List ℕ). IsStoppedBy cell form profile ⊥ fault (((used ++ bytes) ++ byte ∷ []) ++ later) o) (append_assoc out uses.text last.text) there));
 }
 
 -- One byte
 
 -- a refused growth: nothing was written
 pub Uses-refused : (cell : ℕ → Cell) (form : Form) (profile : Profile) (old new : ReplayState) (bytes : List ℕ) (written : Option (List ℕ)) (fault : ReplayFault)
-    → Uses cell form profile old new bytes written written (Err fault)
-Uses-refused cell form profile old new bytes written fault = record {
+    → fault ≡ Memory → Uses cell form profile old new bytes written written (Err fault)
+Uses-refused cell form profile old new bytes written fault memory = record {
   text = [];
   put = Appends-nil written;
   so = λ used out stands.
-      stopped-settled cell form profile ⊥ used bytes (used ++ bytes) (out ++ []) refl
-      (subst (λ (o : List ℕ). IsEndedText cell form profile used o) (sym (append-nil out)) (Stands-text cell form profile old used out stands));
+      subst (λ (f : ReplayFault). IsStoppedBy cell form profile ⊥ f (used ++ bytes) (out ++ [])) (sym memory)
+      (between_lines used bytes refl
+      (subst (λ (o : List ℕ). IsEndedText cell form profile used o) (sym (append-nil out)) (Stands-text cell form profile old used out stands)));
 }
 
 -- a byte that ends no line
@@ -125,28 +135,30 @@ Uses-silent cell form profile old new byte written done step = record {
 pub Uses-put : (cell : ℕ → Cell) (form : Form) (profile : Profile) (old new : ReplayState) (byte : ℕ) (line : List ℕ) (written written' : Option (List ℕ))
     (result : Result (Unit {0}) ReplayFault)
     → ((used out : List ℕ) → Stands cell form profile old used out → Stands cell form profile new (used ++ byte ∷ []) (out ++ line))
-    → OnOk result (Appends written written' line) → (n : ℕ) × Appends written written' (take n line)
+    → OnOk result (Appends written written' line) → (n : ℕ) × Appends written written' (take n line) → IfErr result (λ fault. fault ≡ Write)
     → Uses cell form profile old new (byte ∷ []) written written' result
-Uses-put cell form profile old new byte line written written' (Ok done) step put front = record { text = line; put = put; so = step }
-Uses-put cell form profile old new byte line written written' (Err fault) step put front = record {
+Uses-put cell form profile old new byte line written written' (Ok done) step put front only = record { text = line; put = put; so = step }
+Uses-put cell form profile old new byte line written written' (Err fault) step put front only = record {
   text = take front.0 line;
   put = front.1;
   so = λ used out stands.
-      stopped-writing cell form profile ⊥ (used ++ byte ∷ []) [] (used ++ byte ∷ []) out line front.0 (sym (append-nil (used ++ byte ∷ [])))
-      (Stands-text cell form profile new (used ++ byte ∷ []) (out ++ line) (step used out stands));
+      subst (λ (f : ReplayFault). IsStoppedBy cell form profile ⊥ f (used ++ byte ∷ []) (out ++ take front.0 line)) (sym only)
+      (stopped-writing cell form profile ⊥ (used ++ byte ∷ []) [] (used ++ byte ∷ []) out line front.0 (sym (append-nil (used ++ byte ∷ [])))
+      (Stands-text cell form profile new (used ++ byte ∷ []) (out ++ line) (step used out stands)));
 }
 
 -- The end of the file
 
 -- nothing was written of the last line
 pub Ends-refused : (cell : ℕ → Cell) (form : Form) (profile : Profile) (old : ReplayState) (written : Option (List ℕ)) (fault : ReplayFault)
-    → Ends cell form profile old written written (Err fault)
-Ends-refused cell form profile old written fault = record {
+    → fault ≡ Memory → Ends cell form profile old written written (Err fault)
+Ends-refused cell form profile old written fault memory = record {
   text = [];
   put = Appends-nil written;
   so = λ used out stands.
-      stopped-settled cell form profile (Unit {0}) used [] used (out ++ []) (sym (append-nil used))
-      (subst (λ (o : List ℕ). IsEndedText cell form profile used o) (sym (append-nil out)) (Stands-text cell form profile old used out stands));
+      subst (λ (f : ReplayFault). IsStoppedBy cell form profile (Unit {0}) f used (out ++ [])) (sym memory)
+      (between_lines used [] (sym (append-nil used))
+      (subst (λ (o : List ℕ). IsEndedText cell form profile used o) (sym (append-nil out)) (Stands-text cell form profile old used out stands)));
 }
 
 -- what is told at the end, with the line of the counts
@@ -174,30 +186,45 @@ take-front n xs ys =
     ap (λ l. take (length (take n xs)) (l ++ ys)) (sym (take-append-drop n xs))
     ∙ ap (take (length (take n xs))) (append_assoc (take n xs) (drop n xs) ys) ∙ take-append_seam (take n xs) (drop n xs ++ ys)
 
--- a write of the last line failed, or the growth after it was refused: n bytes of it went out
+-- a write of the last line failed: n bytes of it went out
 pub Ends-at_line : (cell : ℕ → Cell) (form : Form) (profile : Profile) (old new : ReplayState) (text : List ℕ) (n : ℕ) (written written' : Option (List ℕ))
-    (fault : ReplayFault) → Appends written written' (take n text)
+    (fault : ReplayFault) → fault ≡ Write → Appends written written' (take n text)
     → ((used out : List ℕ) → Stands cell form profile old used out → StandsAtEnd cell form profile new used (out ++ text))
     → Ends cell form profile old written written' (Err fault)
-Ends-at_line cell form profile old new text n written written' fault put step = record {
+Ends-at_line cell form profile old new text n written written' fault write put step = record {
   text = take n text;
   put = put;
   so = λ used out stands.
-      subst (λ (t : List ℕ). IsStoppedReplay cell form profile (Unit {0}) used (out ++ t)) (take-front n text (total_text new.report))
-      (stopped-at_end cell form profile new used out text (length (take n text)) (step used out stands));
+      subst (λ (f : ReplayFault). IsStoppedBy cell form profile (Unit {0}) f used (out ++ take n text)) (sym write)
+      (subst (λ (t : List ℕ). IsStoppedReplay cell form profile (Unit {0}) used (out ++ t)) (take-front n text (total_text new.report))
+      (stopped-at_end cell form profile new used out text (length (take n text)) (step used out stands)));
+}
+
+-- the last line was written, and the growth for the counts was refused
+pub Ends-uncounted : (cell : ℕ → Cell) (form : Form) (profile : Profile) (old new : ReplayState) (text : List ℕ) (written written' : Option (List ℕ))
+    (fault : ReplayFault) → fault ≡ Memory → Appends written written' text
+    → ((used out : List ℕ) → Stands cell form profile old used out → StandsAtEnd cell form profile new used (out ++ text))
+    → Ends cell form profile old written written' (Err fault)
+Ends-uncounted cell form profile old new text written written' fault memory put step = record {
+  text = text;
+  put = put;
+  so = λ used out stands.
+      subst (λ (f : ReplayFault). IsStoppedBy cell form profile (Unit {0}) f used (out ++ text)) (sym memory)
+      (uncounted new.report tt (told cell form profile new used (out ++ text) (step used out stands)));
 }
 
 -- a write of the counts failed: n bytes of it went out
 pub Ends-at_counts : (cell : ℕ → Cell) (form : Form) (profile : Profile) (old new : ReplayState) (text : List ℕ) (n : ℕ) (written between written' : Option (List ℕ))
-    (fault : ReplayFault) → Appends written between text → Appends between written' (take n (total_text new.report))
+    (fault : ReplayFault) → fault ≡ Write → Appends written between text → Appends between written' (take n (total_text new.report))
     → ((used out : List ℕ) → Stands cell form profile old used out → StandsAtEnd cell form profile new used (out ++ text))
     → Ends cell form profile old written written' (Err fault)
-Ends-at_counts cell form profile old new text n written between written' fault first put step = record {
+Ends-at_counts cell form profile old new text n written between written' fault write first put step = record {
   text = text ++ take n (total_text new.report);
   put = Appends-trans written between written' text (take n (total_text new.report)) first put;
   so = λ used out stands.
-      subst (λ (t : List ℕ). IsStoppedReplay cell form profile (Unit {0}) used (out ++ t)) (take-append-add text (total_text new.report) n)
-      (stopped-at_end cell form profile new used out text (length text + n) (step used out stands));
+      subst (λ (f : ReplayFault). IsStoppedBy cell form profile (Unit {0}) f used (out ++ (text ++ take n (total_text new.report)))) (sym write)
+      (subst (λ (t : List ℕ). IsStoppedReplay cell form profile (Unit {0}) used (out ++ t)) (take-append-add text (total_text new.report) n)
+      (stopped-at_end cell form profile new used out text (length text + n) (step used out stands)));
 }
 
 -- all went out
@@ -221,12 +248,24 @@ stopped-ended : (cell : ℕ → Cell) (form : Form) (profile : Profile) (before 
 stopped-ended cell form profile before after read out then (midway first later all n split text put) = midway first later all n split text put
 stopped-ended cell form profile before after read out then (at_end all n ended text put) = at_end all n (then ended) text put
 
+unwritten-ended : (cell : ℕ → Cell) (form : Form) (profile : Profile) (before after : Type 0) (read out : List ℕ) → (before → after)
+    → IsOutOfMemory cell form profile before read out → IsOutOfMemory cell form profile after read out
+unwritten-ended cell form profile before after read out then (between_lines first later split text) = between_lines first later split text
+unwritten-ended cell form profile before after read out then (uncounted report ended text) = uncounted report (then ended) text
+
+stopped_by-ended : (cell : ℕ → Cell) (form : Form) (profile : Profile) (before after : Type 0) (fault : ReplayFault) (read out : List ℕ) → (before → after)
+    → IsStoppedBy cell form profile before fault read out → IsStoppedBy cell form profile after fault read out
+stopped_by-ended cell form profile before after Memory read out then is = unwritten-ended cell form profile before after read out then is
+stopped_by-ended cell form profile before after Write read out then is = stopped-ended cell form profile before after read out then is
+stopped_by-ended cell form profile before after Read read out then is = stopped-ended cell form profile before after read out then is
+stopped_by-ended cell form profile before after StreamTooLong read out then is = stopped-ended cell form profile before after read out then is
+
 pub IsReplay-ended : (cell : ℕ → Cell) (form : Form) (profile : Profile) (ended : Type 0) (fault : ReplayFault) (read out : List ℕ)
     → IsReplay cell form profile ⊥ (Err fault) read out → IsReplay cell form profile ended (Err fault) read out
 IsReplay-ended cell form profile ended Read read out is = is
 IsReplay-ended cell form profile ended StreamTooLong read out is = is
 IsReplay-ended cell form profile ended Write read out is = stopped-ended cell form profile ⊥ ended _ out (λ never. absurd never) is
-IsReplay-ended cell form profile ended Memory read out is = stopped-ended cell form profile ⊥ ended _ out (λ never. absurd never) is
+IsReplay-ended cell form profile ended Memory read out is = unwritten-ended cell form profile ⊥ ended _ out (λ never. absurd never) is
 
 -- before a read, all was written of the lines ended
 keeps_up : (cell : ℕ → Cell) (form : Form) (profile : Profile) (progress : ReplayState) (from to : Reads) (before last read out later all : List ℕ)
@@ -340,9 +379,13 @@ Ran-long cell form profile middle new bytes counted rest unread between unread' 
     }
 
 stopped-fault : (cell : ℕ → Cell) (form : Form) (profile : Profile) (ended : Type 0) (fault : ReplayFault) (read out : List ℕ) → (fault ≡ Memory) ⊎ (fault ≡ Write)
-    → IsStoppedReplay cell form profile ended (take longest_stream read) out → IsReplay cell form profile ended (Err fault) read out
-stopped-fault cell form profile ended fault read out (inl memory) is = subst (λ (f : ReplayFault). IsReplay cell form profile ended (Err f) read out) (sym memory) is
-stopped-fault cell form profile ended fault read out (inr write) is = subst (λ (f : ReplayFault). IsReplay cell form profile ended (Err f) read out) (sym write) is
+    → IsStoppedBy cell form profile ended fault (take longest_stream read) out → IsReplay cell form profile ended (Err fault) read out
+stopped-fault cell form profile ended fault read out (inl memory) is =
+    subst (λ (f : ReplayFault). IsReplay cell form profile ended (Err f) read out) (sym memory)
+    (subst (λ (f : ReplayFault). IsStoppedBy cell form profile ended f (take longest_stream read) out) memory is)
+stopped-fault cell form profile ended fault read out (inr write) is =
+    subst (λ (f : ReplayFault). IsReplay cell form profile ended (Err f) read out) (sym write)
+    (subst (λ (f : ReplayFault). IsStoppedBy cell form profile ended f (take longest_stream read) out) write is)
 
 no_read : (fault : ReplayFault) → (fault ≡ Memory) ⊎ (fault ≡ Write) → is_read_fault_of (Err fault) ≡ false
 no_read fault (inl memory) = ap (λ f. is_read_fault_of (Err f)) memory
@@ -368,8 +411,8 @@ Ran-stopped cell form profile middle new bytes counted rest unread between unrea
       put = Appends-trans written between' written' reads.out uses.text reads.put uses.put;
       so = record {
         comes = stopped-fault cell form profile ⊥ fault (reads.read ++ bytes) (reads.out ++ uses.text) only
-            (subst (λ (r : List ℕ). IsStoppedReplay cell form profile ⊥ r (reads.out ++ uses.text)) (sym front)
-            (stopped-longer cell form profile ⊥ (reads.read ++ counted) (take (longest_stream - length (reads.read ++ counted)) rest) (reads.out ++ uses.text)
+            (subst (λ (r : List ℕ). IsStoppedBy cell form profile ⊥ fault r (reads.out ++ uses.text)) (sym front)
+            (stopped_by-longer cell form profile ⊥ fault (reads.read ++ counted) (take (longest_stream - length (reads.read ++ counted)) rest) (reads.out ++ uses.text)
             (uses.so reads.read reads.out reads.stands)));
         keeps_up = keeps_up cell form profile middle from to reads.read bytes (reads.read ++ bytes) reads.out uses.text (reads.out ++ uses.text) reads.stands refl refl gave
             (omega (arith, taken));
@@ -398,14 +441,15 @@ Ran-fault cell form profile ended fault unread unread' written written' from to 
 
 end_of : (cell : ℕ → Cell) (form : Form) (profile : Profile) (ended : Type 0) (progress : ReplayState) (result : Result Report ReplayFault) (read out : List ℕ)
     → ended → length read ≤ longest_stream → IfErr result (λ fault. (fault ≡ Memory) ⊎ (fault ≡ Write))
-    → MatchResult result (λ report. IsReplayText cell form profile read report out) (λ _. IsStoppedReplay cell form profile (Unit {0}) read out)
+    → MatchResult result (λ report. IsReplayText cell form profile read report out) (λ fault. IsStoppedBy cell form profile (Unit {0}) fault read out)
     → (is_read_fault result ≡ false) × IsReplay cell form profile ended result read out
 end_of cell form profile ended progress (Ok report) read out is few only text = (refl, (few, text))
 end_of cell form profile ended progress (Err fault) read out is few only stopped =
     let whole : take longest_stream read ≡ read = take_all longest_stream read few in (
       sym (same_fault fault) ∙ no_read fault only,
       stopped-fault cell form profile ended fault read out only
-          (subst (λ (r : List ℕ). IsStoppedReplay cell form profile ended r out) (sym whole) (stopped-ended cell form profile (Unit {0}) ended read out (λ _. is) stopped)),
+          (subst (λ (r : List ℕ). IsStoppedBy cell form profile ended fault r out) (sym whole)
+          (stopped_by-ended cell form profile (Unit {0}) ended fault read out (λ _. is) stopped)),
     )
 
 -- the file was read to its end

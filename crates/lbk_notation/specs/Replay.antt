@@ -59,6 +59,14 @@ IsStoppedReplay cell form profile ended read out =
     IsStopped (IsEndedText cell form profile) (λ bytes all. (report : Report) × IsReplayText cell form profile bytes report all)
     ended read out
 
+-- out of memory at some place: what went out is what the lines ended before that place write, or, once the end was met, what
+-- all lines write, without the counts
+pub data IsOutOfMemory (cell : ℕ → Cell) (form : Form) (profile : Profile) (ended : Type 0) (read out : List ℕ) : Type 0 where
+  between_lines : (first later : List ℕ) → read ≡ first ++ later → IsEndedText cell form profile first out
+      → IsOutOfMemory cell form profile ended read out
+  uncounted : (report : Report) → ended → IsReplayText cell form profile read report (out ++ total_text report)
+      → IsOutOfMemory cell form profile ended read out
+
 -- what was written, by what was read and by the answer; `ended`: the end was met
 abbrev pub IsReplay : (ℕ → Cell) → Form → Profile → Type 0 → Result Report ReplayFault → List ℕ → List ℕ → Type 0
 IsReplay cell form profile ended (Ok report) read out =
@@ -68,7 +76,7 @@ IsReplay cell form profile ended (Err Read) read out =
 IsReplay cell form profile ended (Err StreamTooLong) read out =
     (longest_stream < length read) × IsEndedText cell form profile (take longest_stream read) out
 IsReplay cell form profile ended (Err Write) read out = IsStoppedReplay cell form profile ended (take longest_stream read) out
-IsReplay cell form profile ended (Err Memory) read out = IsStoppedReplay cell form profile ended (take longest_stream read) out
+IsReplay cell form profile ended (Err Memory) read out = IsOutOfMemory cell form profile ended (take longest_stream read) out
 
 -- nothing is kept back: of the bytes that all reads but the last gave, at least one each, what the lines write that they end
 -- was written; `from` and `to` are the reads before the run and after it

@@ -7,13 +7,13 @@ use Rattle.lbk_values.specs.declared.profile.Profile.{Profile}
 use Rattle.lbk_notation.specs.declared.findings.Finding.{Finding}
 use Rattle.lbk_notation.specs.declared.findings.Report.{Report}
 use Rattle.lbk_notation.specs.declared.findings.ReplayFault.{ReplayFault}
-use Rattle.lbk_notation.specs.declared.findings.ReplayFault.TheVariants.{Read}
+use Rattle.lbk_notation.specs.declared.findings.ReplayFault.TheVariants.{Read, Memory}
 use Rattle.lbk_notation.specs.declared.replay_state.ReplayState.{ReplayState}
 use Rattle.lbk_notation.specs.declared.marks.Form.{Form}
 use Rattle.lbk_notation.specs.Fault.{longest}
 use Rattle.lbk_notation.specs.Counted.{counted}
 use Rattle.lbk_notation.specs.Findings.{IsFinding, AreFindings}
-use Rattle.lbk_notation.specs.Replay.{IsReplayRun, IsReplayText, IsStoppedReplay}
+use Rattle.lbk_notation.specs.Replay.{IsOutOfMemory, IsReplayRun, IsReplayText, IsStoppedReplay}
 use Rattle.lbk_notation.specs.ReplayText.{finding_text, text_from, report_of}
 use Rattle.lbk_notation.specs.Stream.{cut_of, ended_lines, lines_of}
 
@@ -50,6 +50,11 @@ pub record Settles (cell : ℕ → Cell) (form : Form) (profile : Profile) (old 
   pub counts : new.report ≡ counted old.report finding
   pub text : new.text.items ≡ finding_text form (old.number + 1) finding
 
+-- stopped by a fault of memory, or of the writer
+abbrev pub IsStoppedBy : (ℕ → Cell) → Form → Profile → Type 0 → ReplayFault → List ℕ → List ℕ → Type 0
+IsStoppedBy cell form profile ended Memory read out = IsOutOfMemory cell form profile ended read out
+IsStoppedBy cell form profile ended fault read out = IsStoppedReplay cell form profile ended read out
+
 -- what a call that uses some bytes writes
 pub record Uses (cell : ℕ → Cell) (form : Form) (profile : Profile) (old new : ReplayState) (bytes : List ℕ)
     (written written' : Option (List ℕ)) (result : Result Unit ReplayFault) : Type 0 where
@@ -57,7 +62,7 @@ pub record Uses (cell : ℕ → Cell) (form : Form) (profile : Profile) (old new
   pub put : Appends written written' text
   pub so : (used out : List ℕ) → Stands cell form profile old used out
       → MatchResult result (λ _. Stands cell form profile new (used ++ bytes) (out ++ text))
-      (λ _. IsStoppedReplay cell form profile ⊥ (used ++ bytes) (out ++ text))
+      (λ fault. IsStoppedBy cell form profile ⊥ fault (used ++ bytes) (out ++ text))
 
 -- what the call that ends the file writes
 pub record Ends (cell : ℕ → Cell) (form : Form) (profile : Profile) (old : ReplayState) (written written' : Option (List ℕ))
@@ -66,7 +71,7 @@ pub record Ends (cell : ℕ → Cell) (form : Form) (profile : Profile) (old : R
   pub put : Appends written written' text
   pub so : (used out : List ℕ) → Stands cell form profile old used out
       → MatchResult result (λ report. IsReplayText cell form profile used report (out ++ text))
-      (λ _. IsStoppedReplay cell form profile (Unit {0}) used (out ++ text))
+      (λ fault. IsStoppedBy cell form profile (Unit {0}) fault used (out ++ text))
 
 abbrev pub is_read_fault_of : Result ReplayState ReplayFault → Bool
 is_read_fault_of (Err Read) = true

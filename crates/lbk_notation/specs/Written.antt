@@ -1,6 +1,6 @@
 -- The line that is written: marks and scalars with one space between each two and no other white space, each scalar as its
 -- one token.
-use Rattle.std.specs.Prelude.{ℕ, ◌/◌, ◌%◌, ltb, if◌then◌else◌, List, [], ◌∷◌, ◌++◌, map}
+use Rattle.std.specs.Prelude.{◌≡◌, ℕ, ◌/◌, ◌%◌, ltb, if◌then◌else◌, List, [], ◌∷◌, ◌++◌, map, take}
 use Rattle.lbk_notation.specs.declared.marks.Form.{Form}
 use Rattle.lbk_notation.specs.declared.marks.Form.TheVariants.{Plain}
 use Rattle.lbk_notation.specs.declared.marks.Mark.{Mark}
@@ -39,3 +39,8 @@ written_marks form scalars (mark ∷ marks) = mark_bytes (shown form mark) ++ wr
 
 abbrev pub written_line : Form → Line → List ℕ
 written_line form line = written_marks form line.scalars line.marks
+
+-- of these bytes the first ones were put after those that were there, and of these none is lost
+pub record HasPut (old new bytes : List ℕ) : Type 0 where
+  pub count : ℕ
+  pub is : new ≡ old ++ take count bytes

@@ -31,8 +31,8 @@ const BLOCK: usize = 4096;
 /// order mark at the front of the file is passed over. One line is held at a time, and none that is too long.
 ///
 /// After `Read` what went out is that of the lines whose LF was read, and no counts; after `StreamTooLong` that of
-/// the lines ended among the first 1,073,741,824 bytes; after `Write` and `Memory` a prefix of the output, in which is
-/// what the lines write that the bytes of all reads but the last end.
+/// the lines ended among the first 1,073,741,824 bytes; after `Write` a prefix of the output, and after `Memory` a prefix of
+/// whole lines. In both is what the lines write that the bytes of all reads but the last end.
 ///
 /// ```rust
 /// let mut sink = MemorySink::new(alloc, ROOM)?;

@@ -1,10 +1,10 @@
 //! The line that is written of a passage.
 
-ghost use Rattle.std.specs.Prelude.{◌≡◌, ◌+◌, ◌++◌, length, map, OnOk};
+ghost use Rattle.std.specs.Prelude.{◌≡◌, ◌+◌, ◌++◌, length, map, OnOk, OnErr};
 ghost use Rattle.lbk_notation.specs.declared.marks.Form.TheVariants.{Kinds};
 ghost use Rattle.lbk_notation.specs.Marked.{mark_of};
 ghost use Rattle.lbk_notation.specs.Shown.{passage_line, written_labels};
-ghost use Rattle.lbk_notation.specs.Written.{written_marks};
+ghost use Rattle.lbk_notation.specs.Written.{HasPut, written_marks};
 ghost use Rattle.lbk_rules.specs.declared.verdicts.Verdict.{Verdict};
 
 use super::marking::mark_of;
@@ -15,7 +15,7 @@ use std::alloc::AllocError;
 
 /// Puts the line of a passage at the end of the text, without a line end: its marks and scalars in form
 /// Kinds, a tab, `#`, and the numbers of the rules that decided, each after a space. The verdicts are those
-/// of all its positions, one more than its scalars. An error comes where memory could not grow; some of the line may
+/// of all its positions, one more than its scalars. An error comes where memory could not grow; a front of the line may
 /// stand there then.
 pub fn push_passage_line(
     text: &mut Vec<u8>,
@@ -23,7 +23,8 @@ pub fn push_passage_line(
     verdicts: &[Verdict],
 ) -> Result<(), AllocError>
     requires { length verdicts.now ≡ length scalars.now + 1 }
-    ensures { OnOk result (text.new.items ≡ text.old.items ++ passage_line scalars.now verdicts.now) }
+    ensures text { OnOk result (text.new.items ≡ text.old.items ++ passage_line scalars.now verdicts.now) }
+    ensures refused { OnErr result (HasPut text.old.items text.new.items (passage_line scalars.now verdicts.now)) }
 {
     push_kinds(text, scalars, verdicts)?;
     text.extend_from_slice(b"\t#")?;
@@ -32,8 +33,10 @@ pub fn push_passage_line(
 
 fn push_kinds(text: &mut Vec<u8>, scalars: &[char], verdicts: &[Verdict]) -> Result<(), AllocError>
     requires { length verdicts.now ≡ length scalars.now + 1 }
-    ensures { OnOk result (text.new.items ≡ text.old.items
+    ensures text { OnOk result (text.new.items ≡ text.old.items
         ++ written_marks Kinds scalars.now (map (λ (v : Verdict). mark_of v.kind) verdicts.now)) }
+    ensures refused { OnErr result (HasPut text.old.items text.new.items
+        (written_marks Kinds scalars.now (map (λ (v : Verdict). mark_of v.kind) verdicts.now))) }
 {
     push_mark(text, mark_of(verdicts[0].kind), Form::Kinds)?;
     for k in 0..scalars.len() {
@@ -43,7 +46,8 @@ fn push_kinds(text: &mut Vec<u8>, scalars: &[char], verdicts: &[Verdict]) -> Res
 }
 
 fn push_labels(text: &mut Vec<u8>, verdicts: &[Verdict]) -> Result<(), AllocError>
-    ensures { OnOk result (text.new.items ≡ text.old.items ++ written_labels verdicts.now) }
+    ensures text { OnOk result (text.new.items ≡ text.old.items ++ written_labels verdicts.now) }
+    ensures refused { OnErr result (HasPut text.old.items text.new.items (written_labels verdicts.now)) }
 {
     for verdict in verdicts {
         text.push(b' ')?;

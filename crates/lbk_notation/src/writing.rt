@@ -1,10 +1,10 @@
 //! Writing a line of the notation.
 
-ghost use Rattle.std.specs.Prelude.{◌≡◌, ◌+◌, ◌/◌, ◌%◌, ◌<◌, ◌≤◌, ◌++◌, ◌∷◌, [], Option, Some, length, IfOk, OnOk, EachIndex, slice_index};
+ghost use Rattle.std.specs.Prelude.{◌≡◌, ◌+◌, ◌/◌, ◌%◌, ◌<◌, ◌≤◌, ◌++◌, ◌∷◌, [], Option, Some, length, IfOk, OnOk, OnErr, EachIndex, slice_index};
 ghost use Rattle.std.specs.Char.{IsScalar};
 ghost use Rattle.lbk_notation.specs.Grammar.{IsLine, digit_byte, mark_bytes};
 ghost use Rattle.lbk_notation.specs.TestLine.{Line};
-ghost use Rattle.lbk_notation.specs.Written.{shown, token, written_marks, written_line, shown_line};
+ghost use Rattle.lbk_notation.specs.Written.{HasPut, shown, token, written_marks, written_line, shown_line};
 
 use super::marks::{Form, Mark};
 use super::test_line::TestLine;
@@ -26,7 +26,7 @@ pub fn write_line(alloc: Global, line: &TestLine, form: Form) -> Result<Vec<u8>,
 }
 
 /// Puts the written line of these, the marks being one more than the scalars, at the end of the text. An error comes
-/// where memory could not grow; some of the line may stand there then.
+/// where memory could not grow; a front of the line may stand there then.
 pub fn push_line(
     text: &mut Vec<u8>,
     scalars: &[char],
@@ -35,6 +35,7 @@ pub fn push_line(
 ) -> Result<(), AllocError>
     requires { length marks.now ≡ length scalars.now + 1 }
     ensures text { OnOk result (text.new.items ≡ text.old.items ++ written_marks form scalars.now marks.now) }
+    ensures refused { OnErr result (HasPut text.old.items text.new.items (written_marks form scalars.now marks.now)) }
     ensures chars { OnOk result (EachIndex scalars.now (λ k. IsScalar (slice_index scalars.now k))) }
 {
     push_mark(text, marks[0], form)?;
@@ -45,31 +46,27 @@ pub fn push_line(
 }
 
 /// Puts a space, a scalar's token, a space and the mark after it at the end of the text. An error comes where memory
-/// could not grow; some of these may stand there then.
+/// could not grow; a front of these may stand there then.
 pub fn push_scalar(
     text: &mut Vec<u8>,
     scalar: char,
     mark: Mark,
     form: Form,
 ) -> Result<(), AllocError>
-    ensures { OnOk result (text.new.items
+    ensures text { OnOk result (text.new.items
         ≡ text.old.items ++ (32 ∷ (token scalar ++ (32 ∷ mark_bytes (shown form mark))))) }
+    ensures refused { OnErr result (HasPut text.old.items text.new.items
+        (32 ∷ (token scalar ++ (32 ∷ mark_bytes (shown form mark))))) }
 {
-    let code = u32::from(scalar);
-    if code < 0x1_0000 {
-        let [first, second, third, last] = four_digits(code);
-        text.extend_from_slice(&[b' ', first, second, third, last, b' '])?;
-    } else {
-        text.push(b' ')?;
-        push_long_token(text, code)?;
-        text.push(b' ')?;
-    }
+    push_token(text, u32::from(scalar))?;
     push_mark(text, mark, form)
 }
 
-/// Puts a mark at the end of the text, in the form's writing. An error comes where memory could not grow.
+/// Puts a mark at the end of the text, in the form's writing. An error comes where memory could not grow; the text is as
+/// before then.
 pub fn push_mark(text: &mut Vec<u8>, mark: Mark, form: Form) -> Result<(), AllocError>
-    ensures { OnOk result (text.new.items ≡ text.old.items ++ mark_bytes (shown form mark)) }
+    ensures text { OnOk result (text.new.items ≡ text.old.items ++ mark_bytes (shown form mark)) }
+    ensures refused { OnErr result (text.new.items ≡ text.old.items) }
 {
     // Each has a call of its own, which knows how many bytes it puts.
     match (form, mark) {
@@ -79,16 +76,23 @@ pub fn push_mark(text: &mut Vec<u8>, mark: Mark, form: Form) -> Result<(), Alloc
     }
 }
 
-/// Puts the token of a scalar that four hex digits do not tell at the end of the text: five, or six where it needs them.
-fn push_long_token(text: &mut Vec<u8>, code: u32) -> Result<(), AllocError>
-    requires { (0x1_0000 ≤ code) × (code < 0x11_0000) }
-    ensures { OnOk result (text.new.items ≡ text.old.items ++ token code) }
+/// Puts the token of a scalar, with a space before it and one after it, at the end of the text: four hex digits, or five or
+/// six where it needs them.
+fn push_token(text: &mut Vec<u8>, code: u32) -> Result<(), AllocError>
+    requires { code < 0x11_0000 }
+    ensures text { OnOk result (text.new.items ≡ text.old.items ++ (32 ∷ (token code ++ 32 ∷ []))) }
+    ensures refused { OnErr result (text.new.items ≡ text.old.items) }
 {
-    if code >= 0x10_0000 {
-        text.push(digit_byte(code / 0x10_0000))?;
+    let [third, second, first, last] = four_digits(code);
+    if code < 0x1_0000 {
+        return text.extend_from_slice(&[b' ', third, second, first, last, b' ']);
     }
-    text.push(digit_byte(code / 0x1_0000 % 16))?;
-    text.extend_from_slice(&four_digits(code))
+    let fourth = digit_byte(code / 0x1_0000 % 16);
+    if code < 0x10_0000 {
+        return text.extend_from_slice(&[b' ', fourth, third, second, first, last, b' ']);
+    }
+    let fifth = digit_byte(code / 0x10_0000);
+    text.extend_from_slice(&[b' ', fifth, fourth, third, second, first, last, b' '])
 }
 
 /// The last four hex digits of a number.

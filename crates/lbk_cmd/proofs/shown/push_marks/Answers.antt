@@ -15,7 +15,7 @@ loop-c-preserved c =
     let l = c.loop-c in
     Writes-step c.args.verdicts.now l.k c.in-Some.c (get_or c.args.verdicts.now l.k none) none (chars_rest l.c-iterator) (chars_rest c.next.new.self)
     l.out.items c.push_scalar.new.text.items _ c.in-Some.ensures.steps.0 refl
-    (c.in_ok-push_scalar.ensures
+    (c.in_ok-push_scalar.ensures.text
     ∙ ap (λ m. l.out.items ++ (32 ∷ (token c.in-Some.c ++ (32 ∷ mark_bytes (shown Kinds m))))) c.mark_of-in-loop-c.ensures)
     l.invariant
 
