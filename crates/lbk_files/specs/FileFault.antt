@@ -1,7 +1,6 @@
 -- The four files of a task, loaded in order, then read: what they come to.
-use Rattle.std.specs.Prelude.{◌≡◌, ◌⊎◌, ℕ, Bool, List, Option, IsTrue}
+use Rattle.std.specs.Prelude.{◌≡◌, ◌⊎◌, ℕ, Bool, List, Option, IsTrue, ⊤}
 use Rattle.lbk_feed.specs.Devices.{count_up}
-use Rattle.lbk_feed.specs.Runs.{HasFailed}
 use Rattle.lbk_ucd.specs.declared.tables.Files.{Files}
 use Rattle.lbk_ucd.specs.declared.which.Which.{Which}
 use Rattle.lbk_ucd.specs.declared.which.Which.TheVariants.{LineBreak, EastAsianWidth, Category, Emoji}
@@ -90,14 +89,28 @@ loads_to Emoji made = count_up (count_up (count_up (count_up made)))
 abbrev pub LoadsTo : Which → LoadCounts → LoadCounts → Type 0
 LoadsTo which before after = after.made ≡ loads_to which before.made
 
--- out of memory comes before any load, in a load, or once all four files are loaded and lawful
+-- a file has to be the published one, since it is of a folder, for whose name memory is taken
+abbrev pub IsAnyClaimed : FourFiles → Type 0
+IsAnyClaimed four = IsTrue four.line_break.is_claimed ⊎ (IsTrue four.east_asian.is_claimed
+    ⊎ (IsTrue four.category.is_claimed ⊎ IsTrue four.emoji.is_claimed))
+
+-- the load of a file was refused memory: those before it can be loaded, and no more is
+abbrev pub IsLoadRefused : FourFiles → LoadCounts → LoadCounts → Type 0
+IsLoadRefused four before after = (which : Which) × IsFirst four which (λ file. ⊤) × LoadsTo which before after
+    × (after.refused ≡ count_up before.refused)
+
+-- all four are loaded, and this is what they come to
+abbrev pub AllLoaded : FourFiles → LoadCounts → LoadCounts → (Files → Type 0) → Type 0
+AllLoaded four before after Are = ((files : Files) × AreLoaded four files × Are files) × LoadsTo Emoji before after
+
+-- out of memory comes before any load, where a name has to be made; in a load; or once all four files are loaded and lawful
 abbrev pub IsOutOfMemory : FourFiles → LoadCounts → LoadCounts → Type 0
 IsOutOfMemory four before after =
-    (after.made ≡ before.made) ⊎ (HasFailed before.refused after.refused ⊎ ((files : Files) × AreLoaded four files × AreLawful files))
+    (IsAnyClaimed four × (after ≡ before)) ⊎ (IsLoadRefused four before after ⊎ AllLoaded four before after AreLawful)
 
 -- a file cannot be read or is not the published one, and no more is loaded; or all are loaded and refused; or out of memory
 abbrev pub IsFileFault : FourFiles → LoadCounts → LoadCounts → CellsFault → Type 0
 IsFileFault four before after (Load which) = IsFirst four which (λ file. IsUnreadable file.contents) × LoadsTo which before after
 IsFileFault four before after (Claim which cause) = IsFirst four which (IsUnlikeItsClaim which cause) × LoadsTo which before after
-IsFileFault four before after (Tables fault) = (files : Files) × AreLoaded four files × IsRefused files fault
+IsFileFault four before after (Tables fault) = AllLoaded four before after (λ files. IsRefused files fault)
 IsFileFault four before after Memory = IsOutOfMemory four before after

@@ -1,5 +1,5 @@
 -- What the words of the program come to before an engine runs.
-use Rattle.std.specs.Prelude.{◌≡◌, ℕ, List, Option, map}
+use Rattle.std.specs.Prelude.{◌≡◌, ◌⊎◌, ℕ, List, Option, map}
 use Rattle.lbk_steps.specs.CellPages.{page_cell}
 use Rattle.lbk_args.specs.Accepted.{faults_of}
 use Rattle.lbk_args.specs.Refusal.{HasFault, IsCallForHelp, IsMistake}
@@ -19,11 +19,12 @@ pub record IsReadyFor (file : List ℕ → Option (Option (List ℕ))) (task : T
   pub cells : AreCellsFrom (files_of file task.files) (page_cell ready.cells)
   pub texts : map (λ name. name.now) ready.texts.items ≡ task.texts
 
--- a task stops at its files alone
+-- a task stops at its files, or before any load, where memory could not grow for what its words come to
 abbrev pub IsStoppedAt : (List ℕ → Option (Option (List ℕ))) → Task → LoadCounts → LoadCounts → Stop → Type 0
 IsStoppedAt file task before after (Help text) = ⊥
 IsStoppedAt file task before after (Usage text) = ⊥
-IsStoppedAt file task before after (Refused fault) = IsFileFault (files_of file task.files) before after fault
+IsStoppedAt file task before after (Refused fault) =
+    ((fault ≡ Memory) × (after ≡ before)) ⊎ IsFileFault (files_of file task.files) before after fault
 
 -- words that are not accepted: help for a call for it, usage for a mistake, or want of memory
 abbrev pub IsStoppedByWords : List (List ℕ) → Stop → Type 0

@@ -1,6 +1,7 @@
 //! The front of a reader's bytes.
 
 ghost use Rattle.std.specs.Prelude.{◌≡◌, ◌+◌, ◌-◌, ◌^◌, ◌<◌, ◌≤◌, take, vec_len, Err, IfOk, IfSome, IsErrOf, IsTrue};
+ghost use Rattle.std.specs.Io.KnownBytes.{Consumes};
 ghost use Rattle.lbk_feed.specs.Devices.{count_up};
 
 use super::store::LoadFault;
@@ -20,6 +21,7 @@ pub fn read_front<R: Source>(
 ) -> Result<Vec<u8>, LoadFault>
     requires { most < 2 ^ 64 - 1 }
     ensures front { IfOk result (λ bytes. IfSome (R.unread reader.old) (λ all. bytes.items ≡ take (most + 1) all)) }
+    ensures taken { IfOk result (λ bytes. Consumes (R.unread reader.old) (R.unread reader.new) bytes.items) }
     ensures within { IfOk result (λ bytes. vec_len bytes ≤ most + 1) }
     ensures ended { IfOk result (λ bytes. vec_len bytes < most + 1 → IsTrue (R.has_ended reader.new)) }
     ensures reads { (R.reads_made reader.new).count ≤ (R.reads_made reader.old).count + (most + 1) }

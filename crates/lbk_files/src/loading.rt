@@ -24,7 +24,7 @@ use std::alloc::Global;
 ///
 /// `Load` names the first file that cannot be read, and `Claim` the first of a folder that is not the published one. `Tables` comes as
 /// in `read_cells`. `Memory` comes before any load, for the names of the files of a folder; where a load was refused
-/// memory; or for well-formed files, once all four are loaded.
+/// memory, after which none is made; or for well-formed files, once all four are loaded.
 pub fn load_cells<S: Store>(
     alloc: Global,
     names: &FileNames<'_>,

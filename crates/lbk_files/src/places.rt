@@ -1,7 +1,8 @@
 //! The names by which the four files are loaded.
 
-ghost use Rattle.std.specs.Prelude.{◌≡◌, ℕ, List, Option, IfOk};
+ghost use Rattle.std.specs.Prelude.{◌≡◌, ℕ, List, Option, IfOk, IsTrue, OnErr};
 ghost use Rattle.lbk_args.specs.Task.{files_of_names, named_of};
+ghost use Rattle.lbk_files.specs.FileFault.{IsAnyClaimed};
 ghost use Rattle.lbk_files.specs.Named.{files_of, told_of};
 ghost use Rattle.lbk_files.specs.Places.{files_at, told_at};
 
@@ -30,8 +31,9 @@ pub(crate) struct Places<'a> {
 
 /// The names by which the files are loaded. An error comes where memory could not grow for the name of a file of a folder.
 pub(crate) fn places_of<'a>(alloc: Global, names: &FileNames<'a>) -> Result<Places<'a>, AllocError>
-    ensures { IfOk result (λ places. (file : List ℕ → Option (Option (List ℕ)))
+    ensures places { IfOk result (λ places. (file : List ℕ → Option (Option (List ℕ)))
         → files_at file places ≡ files_of file (files_of_names names.now)) }
+    ensures refused { OnErr result ((file : List ℕ → Option (Option (List ℕ))) → IsAnyClaimed (files_of file (files_of_names names.now))) }
 {
     Ok(Places {
         line_break: place_of(alloc, names.line_break, Which::LineBreak)?,
@@ -42,8 +44,9 @@ pub(crate) fn places_of<'a>(alloc: Global, names: &FileNames<'a>) -> Result<Plac
 }
 
 fn place_of<'a>(alloc: Global, file: FileName<'a>, which: Which) -> Result<Place<'a>, AllocError>
-    ensures { IfOk result (λ place. (told : List ℕ → Option (Option (List ℕ)))
+    ensures place { IfOk result (λ place. (told : List ℕ → Option (Option (List ℕ)))
         → told_at told place ≡ told_of told which (named_of file.entry)) }
+    ensures refused { OnErr result ((told : List ℕ → Option (Option (List ℕ))) → IsTrue (told_of told which (named_of file.entry)).is_claimed) }
 {
     match file {
         FileName::Given(name) => Ok(Place::Given(name)),
