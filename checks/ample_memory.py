@@ -168,10 +168,18 @@ def ranges(drawn):
     drawn.run("ranges", [first, end], words, text, 0, lambda ran: ran.out == out)
 
 
+def pieces(drawn, sizes=None):
+    """Paragraphs of some numbers of pieces between word boundaries, none of which is a word, in one segment."""
+    sizes = sizes or drawn.sizes_together(LIMIT - 1)
+    text = b"".join(b"!" * size + b"\n" for size in sizes)
+    drawn.run("numbers of pieces", sizes, drawn.words("segment", *GREATEST), text, 0, lambda ran: ran.out.count(b"\n") == 2 * len(sizes))
+
+
 def segments(drawn, sizes=None):
-    """Paragraphs of some numbers of segments, each with a word."""
+    """Paragraphs of some numbers of segments, each with a word. `mark`, which writes least of them, takes the most."""
     task = drawn.chance.choice(("mark", "show", "segment"))
-    sizes = sizes or [size // 8 + 1 for size in drawn.sizes_together(LIMIT // 2 - 1)]
+    of_each = 1 if task == "mark" else 8
+    sizes = sizes or [size // of_each + 1 for size in drawn.sizes_together(LIMIT // 2 - 2)]
     text = b"".join(b"a " * size + b"\n" for size in sizes)
     right = {
         "mark": lambda ran: ran.out.count("÷".encode()) == sum(sizes) - len(sizes),
@@ -238,11 +246,12 @@ def lines(drawn):
     drawn.run("lines of tests", sizes, drawn.words("replay", *more), text, 0, lambda ran: ran.out == right)
 
 
-KINDS = [files, rows, limits, paragraphs, ranges, segments, arguments, texts, names, folders, lines]
+KINDS = [files, rows, limits, paragraphs, ranges, pieces, segments, arguments, texts, names, folders, lines]
 # How often each is run in a round: those of one size a run, which are quick, more often.
 TIMES = {files: 4, rows: 4, limits: 4, ranges: 2, arguments: 8, texts: 4, names: 24, folders: 16}
 # What each run tries first: all rows, and sizes that are seldom drawn, of paragraphs without their line end.
-ALWAYS = [*((each_row, k) for k in range(4)), (paragraphs, [5_000_002]), (segments, [60_000]), (folders, 1_023)]
+SELDOM = [(paragraphs, [5_000_002]), (pieces, [5_000_001]), (segments, [60_000]), (folders, 1_023)]
+ALWAYS = [*((each_row, k) for k in range(4)), *SELDOM]
 
 
 def run(tally, given):

@@ -40,6 +40,7 @@ def run(place):
         ("a missing one", ["one", "none", "two"], b"a b\ncd\n", MISSING.format("none")),
         ("none but missing ones", ["none", ""], b"", MISSING.format("none") + MISSING.format("")),
         ("a folder", ["folder", "one"], b"a b\n", "lbk: folder cannot be read: is a directory\n"),
+        ("a missing one and a folder", ["none", "folder"], b"", MISSING.format("none") + "lbk: folder cannot be read: is a directory\n"),
         ("ill-formed text", ["bad", "two"], b"cd\n", "lbk: bad: byte 3: invalid UTF-8\n"),
         ("a thousand", ["two"] * 1000, b"cd\n" * 1000, ""),
         ("a thousand missing ones", ["none"] * 1000, b"", MISSING.format("none") * 1000),
@@ -122,6 +123,10 @@ def hints(place):
     place.write("tests", "× 0061 × 0062 !\n".encode())
     told = b"R 1 16\nT 1 0 0 1\n"
     place.row("texts: test lines with !", words_of("replay", more=["tests"]), b"", 3, told, KINDS.encode())
+    # (a read takes at most 4,096 bytes)
+    place.write("tests", b"#\n" * 3_000 + "× 0061 × 0062 !\n".encode() + b"#\n" * 3_000)
+    told = b"R 3001 16\nT 1 0 0 1\n"
+    place.row("texts: test lines with ! in one read of some", words_of("replay", more=["tests"]), b"", 3, told, KINDS.encode())
     place.write("plain", b"x\n")
     place.row("texts: refused test lines without !", words_of("replay", more=["plain"]), b"", 3, b"R 1 0\nT 1 0 0 1\n")
     place.write("refused", "× D800 !\n".encode())

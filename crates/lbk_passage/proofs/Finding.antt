@@ -65,6 +65,7 @@ module _ (s : State) (p : Paragraph) (shows : Shows s p) where
         → (is_nil p.feed.held && p.feed.is_ended) ≡ true → IsFirst s p end_of_text
     last c cs is none found = record {
       some = omega (arith, ap length is);
+      broken = refl;
       comes = record {
         within = within end_of_text;
         follows = inr (record {
@@ -92,6 +93,7 @@ module _ (s : State) (p : Paragraph) (shows : Shows s p) where
         let behind = drop (length p.feed.ready) p.feed.held in
         record {
           some = omega (arith, ap length is);
+          broken = refl;
           comes = record {
             within = within end;
             follows = inl (record {

@@ -1,5 +1,5 @@
 -- What a call of `next` leaves, by the answer of the call that fills a paragraph.
-use Rattle.std.proofs.Common.{◌≡◌, ◌⊎◌, ℕ, ◌-◌, ◌<◌, Bool, true, false, ◌||◌, List, [], ◌∷◌, ◌++◌, length, Option, None, Some, Result, Ok, Err, is_ok, OnOk, string_bytes, string_len, encode_utf8_all, chars, IsUtf8, if◌then◌else◌, refl, sym, ap, subst, ◌∙◌, arith, inl, inr, ⊎_elim}
+use Rattle.std.proofs.Common.{◌≡◌, ◌⊎◌, ℕ, ◌-◌, ◌<◌, Bool, true, false, ◌||◌, List, [], ◌∷◌, ◌++◌, length, Option, None, Some, Result, Ok, Err, is_ok, OnOk, OnErr, string_bytes, string_len, encode_utf8_all, chars, IsUtf8, if◌then◌else◌, refl, sym, ap, subst, ◌∙◌, arith, inl, inr, ⊎_elim}
 use Rattle.std.proofs.lemmas.Str.{chars-nil, encodes-chars, IsUtf8-string_bytes}
 use Rattle.std.specs.Io.KnownBytes.{prepend_known}
 use Rattle.lbk_feed.specs.Devices.{Reads}
@@ -10,6 +10,7 @@ use Rattle.lbk_rules.specs.declared.verdicts.Verdict.{Verdict}
 use Rattle.lbk_passage.specs.Marks.{Marked, marks, ended, scalars_of, text_of}
 use Rattle.lbk_passage.specs.Segments.{segments_of}
 use Rattle.lbk_passage.specs.Pieces.{pieces_of}
+use Rattle.lbk_passage.specs.Shown.{Found, LacksRoom}
 use Rattle.lbk_passage.specs.State.{State, state_with, text_held}
 use Rattle.lbk_passage.specs.Next.{Answers, AfterNext, IsPlaced, Lends, ComesFirst, GoesOn, IsLast, Stops, KeepsAhead, WereDue}
 use Rattle.lbk_passage.specs.Gathering.{Fills, FillAnswers, IsFirst, IsSame}
@@ -35,10 +36,19 @@ pub on_ok : {T E : Type 0} (P : Type 0) (r : Result T E) → is_ok r ≡ true �
 on_ok P (Ok x) is h = h
 on_ok P (Err e) is h = cc
 
+-- what an `Err` says
+pub on_err : {T E : Type 0} (P : Type 0) (r : Result T E) → is_ok r ≡ false → OnErr r P → P
+on_err P (Ok x) is h = cc
+on_err P (Err e) is h = h
+
 -- a fault is `Spent` only where one was answered before
 pub spent_by : (s : State) (p : Paragraph) (was : Bool) (fault : PassageFault) → FillAnswers s p was (Err fault) → fault ≡ Spent → was ≡ true
 spent_by s p was fault answer is =
     ⊎_elim (λ a. a.1) (λ stops. absurd (let at_spent : Stops s Spent = subst (Stops s) is stops in at_spent.lies)) answer
+
+-- no fault is none of memory
+pub no_fault : (P : Type 0) → None ≡ Some Memory → P
+no_fault P is = cc
 
 -- a paragraph is gathered in memory that is there
 pub never_memory : (s : State) (p : Paragraph) (was : Bool) (fault : PassageFault) → FillAnswers s p was (Err fault) → ¬ (fault ≡ Memory)
@@ -154,6 +164,16 @@ module _ (cell : ℕ → Cell) (profile : Profile) (old p : Paragraph) (u v : Op
       agrees = f.agrees;
       notices = f.notices;
       quiet = λ h. ((f.quiet h).0, (f.quiet h).1, (f.quiet h).2, λ e. cc);
+    }
+
+    pub lacks_room : (found : Found) → (found.room_for_segments < length (segments_of ms)) ⊎ (found.room_for_pieces < length (pieces_of cell text))
+        → LacksRoom found (state_with cell profile p)
+    lacks_room found full = record {
+      marks = ms;
+      behind = p.feed.held;
+      bytes = shows.held ∙ ap (λ l. l ++ p.feed.held) (sym text_is);
+      comes = comes;
+      full = subst (λ l. (found.room_for_segments < length (segments_of ms)) ⊎ (found.room_for_pieces < length (pieces_of cell l))) (sym text_is) full;
     }
 
     -- what a passage says of the paragraph

@@ -5,6 +5,7 @@ use Rattle.std.specs.Str.{IsUtf8, chars}
 use Rattle.std.proofs.lemmas.List.{append_cancel_left, length-append, length_push, map-append, take_at}
 use Rattle.std.proofs.lemmas.List.Elements.{All-cons, All-nil}
 use Rattle.std.proofs.lemmas.Str.{encodes-chars}
+use Rattle.lbk_rules.specs.declared.breaks.Break.{Break}
 use Rattle.lbk_rules.specs.declared.cells.Cell.{Cell}
 use Rattle.lbk_values.specs.declared.profile.Profile.{Profile}
 use Rattle.lbk_rules.specs.declared.verdicts.Verdict.{Verdict}
@@ -18,6 +19,10 @@ use Rattle.lbk_passage.specs.Segments.{segment_by, segments_from, segments_of}
 use Rattle.lbk_rules.proofs.MarkLemmas.{scalars-behind}
 
 -- The segments of some marks end at their breaks
+
+pub length-cut : (start : ℕ) (bs : List Break) → length (cut_at start bs) ≡ length bs
+length-cut start [] = refl
+length-cut start (b ∷ bs) = let rest = length-cut b.at bs in omega (arith, rest)
 
 segments-cut : (start at : ℕ) (ms : List Marked) → segments_from start at ms ≡ cut_at start (breaks_from at ms)
 segments-cut start at [] = refl
@@ -112,6 +117,18 @@ segments-replaced profile cell (c ∷ cs) end front x cut =
     let l : Last 0 0 all = segments-last 0 0 _ _ (marks-end profile cell [] c cs) in
     let same = same_ends front l.front x l.last (cut ∙ sym (segments-cut 0 0 all) ∙ l.is) in
     ap (λ f. f ++ ending_by end x) same.front ∙ ap (λ s. l.front ++ ending_by end s) same.last ∙ sym (l.other end)
+
+-- as many as the breaks of the text, where a line may break behind the last
+pub segments-many : (profile : Profile) (cell : ℕ → Cell) (cs : List ℕ) (end : Verdict) → is_no end.kind ≡ false
+    → length (segments_of (ended end (marks profile cell cs))) ≡ length (breaks profile cell cs)
+unfolding segments_of
+segments-many profile cell [] end broken = refl
+segments-many profile cell (c ∷ cs) end broken =
+    let all = marks_behind profile cell [] (c ∷ cs) in
+    let l : Last 0 0 all = segments-last 0 0 _ _ (marks-end profile cell [] c cs) in
+    ap length (l.other end ∙ ap (λ k. l.front ++ cond k [] (segment_by l.last.start l.last.end end ∷ [])) broken)
+    ∙ length_push l.front (segment_by l.last.start l.last.end end) ∙ sym (length_push l.front l.last)
+    ∙ ap length (sym l.is ∙ segments-cut 0 0 all) ∙ length-cut 0 (breaks profile cell (c ∷ cs))
 
 -- none of none
 pub segments-none : (profile : Profile) (cell : ℕ → Cell) (cs : List ℕ) (end : Verdict) (segments : List Segment) → length segments ≡ 0

@@ -14,6 +14,7 @@ use Rattle.lbk_rules.specs.declared.cells.Cell.{Cell}
 use Rattle.lbk_values.specs.declared.profile.Profile.{Profile}
 use Rattle.lbk_rules.specs.declared.verdicts.Verdict.{Verdict}
 use Rattle.lbk_passage.specs.Faults.{passage_fault}
+use Rattle.lbk_rules.specs.Breaks.{is_no}
 use Rattle.lbk_rules.specs.Marks.{marks, ended}
 use Rattle.lbk_passage.specs.Stays.{ends_at, stays, last_class, IsWholeText}
 use Rattle.lbk_passage.specs.State.{State, state_with}
@@ -151,6 +152,7 @@ pub record Gathers (cell : ℕ → Cell) (old new : Paragraph) (unread unread' :
 -- a paragraph that is held whole, with the verdict at its end, comes first in the text still to come
 pub record IsFirst (s : State) (p : Paragraph) (end : Verdict) : Type 0 where
   pub some : 0 < length (chars (string_bytes p.text))
+  pub broken : is_no end.kind ≡ false
   pub comes : ComesFirst s (ended end (marks s.profile s.cell (chars (string_bytes p.text)))) p.feed.held
   pub counted : s.start + length (string_bytes p.text) ≤ longest_text
   pub near : (next : ℕ) (rest : List ℕ) → p.feed.held ≡ encode_utf8 next ++ rest → p.feed.given + length (encode_utf8 next) ≤ longest_text

@@ -1,6 +1,12 @@
 -- The state of a segmenter.
-use Rattle.std.specs.Prelude.{ℕ, ◌≡◌, List, string_capacity, vec_capacity}
+use Rattle.std.specs.Prelude.{ℕ, ◌≡◌, ◌⊎◌, ◌<◌, ◌≤◌, List, Option, Some, ◌++◌, length, string_capacity, vec_capacity}
 use Rattle.lbk_rules.specs.declared.cells.Cell.{Cell}
+use Rattle.lbk_rules.specs.Marks.{Marked, text_of}
+use Rattle.lbk_passage.specs.Next.{ComesFirst}
+use Rattle.lbk_passage.specs.Pieces.{pieces_of}
+use Rattle.lbk_passage.specs.Segments.{segments_of}
+use Rattle.lbk_passage.specs.declared.faults.PassageFault.{PassageFault}
+use Rattle.lbk_passage.specs.declared.faults.PassageFault.TheVariants.{Memory}
 use Rattle.lbk_passage.specs.declared.passage.Piece.{Piece}
 use Rattle.lbk_passage.specs.declared.passage.Segment.{Segment}
 use Rattle.lbk_passage.specs.declared.segmenter.Segmenter.{Segmenter}
@@ -31,3 +37,17 @@ found_by s = record {
   pieces = s.pieces.items;
   room_for_pieces = vec_capacity s.pieces;
 }
+
+-- the passage that is held has more segments, or more pieces, than there was room for
+pub record LacksRoom (found : Found) (s : State) : Type 0 where
+  pub marks : List Marked
+  pub behind : List ℕ
+  pub bytes : s.held ≡ text_of marks ++ behind
+  pub comes : ComesFirst s marks behind
+  pub full : (found.room_for_segments < length (segments_of marks)) ⊎ (found.room_for_pieces < length (pieces_of s.cell (text_of marks)))
+
+-- room that was there stays, and a call is out of memory only where it lacked some; `s` is the state after it
+pub record KeepsRoom (old new : Found) (s : State) (fault : Option PassageFault) : Type 0 where
+  pub for_segments : old.room_for_segments ≤ new.room_for_segments
+  pub for_pieces : old.room_for_pieces ≤ new.room_for_pieces
+  pub memory : fault ≡ Some Memory → LacksRoom old s

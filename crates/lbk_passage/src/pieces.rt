@@ -1,6 +1,6 @@
 //! The pieces of a passage.
 
-ghost use Rattle.std.specs.Prelude.{◌≡◌, ◌<◌, ◌^◌, length, OnOk};
+ghost use Rattle.std.specs.Prelude.{◌≡◌, ◌<◌, ◌≤◌, ◌^◌, length, vec_capacity, OnOk, OnErr};
 ghost use Rattle.lbk_passage.specs.Flags.{AreLetters};
 ghost use Rattle.lbk_passage.specs.Pieces.{is_word, pieces_of};
 
@@ -20,7 +20,9 @@ pub fn cut_words<C: CellSource>(
 ) -> Result<(), AllocError>
     requires letters { AreLetters (C.cell_of cells.now) flags.now.is_letter }
     requires few { length text.now < 2 ^ 32 }
-    ensures { OnOk result (pieces.new.items ≡ pieces_of (C.cell_of cells.now) text.now) }
+    ensures cut { OnOk result (pieces.new.items ≡ pieces_of (C.cell_of cells.now) text.now) }
+    ensures room { vec_capacity pieces.old ≤ vec_capacity pieces.new }
+    ensures full { OnErr result (vec_capacity pieces.old < length (pieces_of (C.cell_of cells.now) text.now)) }
 {
     pieces.clear();
     let mut start = 0;

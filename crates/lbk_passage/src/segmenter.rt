@@ -48,7 +48,7 @@ pub struct Segmenter<'a, C: CellSource> {
 
 impl<'a, C: CellSource> Segmenter<'a, C> {
     ghost use Rattle.lbk_passage.specs.State.{IsLimit, new_state};
-    ghost use Rattle.lbk_passage.specs.Shown.{HasRoom, found_by, state_of};
+    ghost use Rattle.lbk_passage.specs.Shown.{HasRoom, KeepsRoom, found_by, state_of};
     ghost use Rattle.lbk_passage.specs.Next.{AfterNext, IsDone, IsPlaced, fault_in, failures_with};
     ghost use Rattle.lbk_passage.specs.Passing.{PassesOver};
     ghost use Rattle.lbk_passage.specs.contracts.segmenter.Segmenter.{the_row};
@@ -89,13 +89,14 @@ impl<'a, C: CellSource> Segmenter<'a, C> {
     ///
     /// It is given once the scalar after it, or the end of the text, was seen, after at most `limit + 8` reads. A
     /// fault of the reader or of the text (`Read`, `NotUtf8`, `TextTooLong`, `ParagraphTooLong`) comes at its place, once
-    /// the passages before it were given, and `Spent` from then on. After `Memory`, which comes where segments or pieces
-    /// could not grow, the passage stays, and the same call made again reads nothing.
+    /// the passages before it were given, and `Spent` from then on. `Memory` comes where the passage has more segments or
+    /// pieces than there was room for, and memory could not grow; it stays, and the same call made again reads nothing.
     pub fn next<R: Source>(&mut self, reader: &mut R) -> Result<Option<Passage<'_>>, PassageFault>
         ensures* after_borrow { sem 𝓛 (Rests (the_row (record { mir = named 1; lft = [] }) C.row C.CellSource) self.entry (λ new.
             AfterNext (state_of C.cell_of self.old) (state_of C.cell_of new) (R.unread reader.old) (R.unread reader.new)
             (R.has_ended reader.old) (R.has_ended reader.new)
-            (R.reads_made reader.old) (R.reads_made reader.new) result)) }
+            (R.reads_made reader.old) (R.reads_made reader.new) result
+            × KeepsRoom (found_by self.old) (found_by new) (state_of C.cell_of new) (fault_in result))) }
 
         ensures lent { IfOk result (λ o. IfSome o IsPlaced) }
         ensures spent { (state_of C.cell_of self.old).is_spent ≡ true → result ≡ Err PassageFault.Spent }

@@ -1,9 +1,9 @@
 //! The segments of a passage.
 
-ghost use Rattle.std.specs.Prelude.{◌≡◌, ◌<◌, ◌^◌, ◌++◌, List, length, All, IfOk, OnOk};
+ghost use Rattle.std.specs.Prelude.{◌≡◌, ◌+◌, ◌<◌, ◌≤◌, ◌^◌, ◌++◌, List, false, length, vec_capacity, vec_len, All, IfOk, OnOk, OnErr};
 ghost use Rattle.std.specs.Str.{chars};
 ghost use Rattle.lbk_rules.specs.declared.breaks.Break.{Break};
-ghost use Rattle.lbk_passage.specs.Breaks.{breaks};
+ghost use Rattle.lbk_passage.specs.Breaks.{breaks, is_no};
 ghost use Rattle.lbk_passage.specs.Cuts.{cut_at, ending_by};
 ghost use Rattle.lbk_passage.specs.Marks.{marks, ended};
 ghost use Rattle.lbk_passage.specs.Segments.{segments_of};
@@ -36,8 +36,11 @@ pub fn cut_lines<C: CellSource>(
     segments: &mut Vec<Segment>,
 ) -> Result<(), AllocError>
     requires { length text.now < 2 ^ 32 }
-    ensures { OnOk result (segments.new.items
+    ensures cut { OnOk result (segments.new.items
         ≡ segments_of (ended end (marks profile (C.cell_of cells.now) (chars text.now)))) }
+    ensures room { vec_capacity segments.old ≤ vec_capacity segments.new }
+    ensures full { is_no end.kind ≡ false → OnErr result (vec_capacity segments.old
+        < length (segments_of (ended end (marks profile (C.cell_of cells.now) (chars text.now))))) }
 {
     segments.clear();
     cut_alone(cells, profile, text, block, segments)?;
@@ -49,7 +52,9 @@ pub fn cut_lines<C: CellSource>(
 
 /// Puts a segment after those in the list, with this verdict at its end, if a line may break there.
 fn push_ended(segments: &mut Vec<Segment>, segment: Segment, end: Verdict) -> Result<(), AllocError>
-    ensures { OnOk result (segments.new.items ≡ segments.old.items ++ ending_by end segment) }
+    ensures put { OnOk result (segments.new.items ≡ segments.old.items ++ ending_by end segment) }
+    ensures room { vec_capacity segments.old ≤ vec_capacity segments.new }
+    ensures full { OnErr result (vec_capacity segments.old ≤ vec_len segments.old) }
 {
     if !matches!(end.kind, Kind::No) {
         segments.push(Segment {
@@ -70,8 +75,13 @@ fn cut_alone<C: CellSource>(
     segments: &mut Vec<Segment>,
 ) -> Result<(), AllocError>
     requires { length text.now < 2 ^ 32 }
-    ensures { OnOk result (segments.new.items
+    ensures cut { OnOk result (segments.new.items
         ≡ segments.old.items ++ cut_at 0 (breaks profile (C.cell_of cells.now) (chars text.now))) }
+    ensures count { OnOk result (vec_len segments.new
+        ≡ vec_len segments.old + length (breaks profile (C.cell_of cells.now) (chars text.now))) }
+    ensures room { vec_capacity segments.old ≤ vec_capacity segments.new }
+    ensures full { OnErr result (vec_capacity segments.old
+        < vec_len segments.old + length (breaks profile (C.cell_of cells.now) (chars text.now))) }
 {
     let mut breaks = Breaks::new(cells, text, profile);
     let mut start = 0;
@@ -88,8 +98,11 @@ fn cut_alone<C: CellSource>(
 /// the next begins.
 fn cut_block(block: &[Break], start: u32, segments: &mut Vec<Segment>) -> Result<u32, AllocError>
     requires { All (λ one. one.at < 2 ^ 32) block.now }
-    ensures { IfOk result (λ next. (more : List Break)
+    ensures cut { IfOk result (λ next. (more : List Break)
         → segments.new.items ++ cut_at next more ≡ segments.old.items ++ cut_at start (block.now ++ more)) }
+    ensures count { OnOk result (vec_len segments.new ≡ vec_len segments.old + length block.now) }
+    ensures room { vec_capacity segments.old ≤ vec_capacity segments.new }
+    ensures full { OnErr result (vec_capacity segments.old < vec_len segments.old + length block.now) }
 {
     let mut start = start;
     for one in block {

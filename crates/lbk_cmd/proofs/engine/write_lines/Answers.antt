@@ -39,10 +39,10 @@ returns-in_err-passage g c =
       shown = search rules;
       ended = search rules;
       run = whole_run (run_stopped (engine_of c.args.lines (g.C.CellSource.cell_of c.args.cells.now) c.args.profile c.args.limit) _ _ _ _
-          c.from_residual-in_err-passage.result _ _ _ _ _ _ _ _ _ c.next.result c.loop-text.invariant.going c.next.follows.holds-at-none
+          c.from_residual-in_err-passage.result _ _ _ _ _ _ _ _ _ c.next.result c.loop-text.invariant.going c.next.follows.holds-at-none.0
           c.in_err-passage.field-0.0 c.in_err-passage.was (exit.1 ∙ ap Err exit.2));
       reads = most_reads (engine_of c.args.lines (g.C.CellSource.cell_of c.args.cells.now) c.args.profile c.args.limit) _ _ _ _ _ _ _ _ _ _ _ _
-          c.loop-text.invariant.going c.next.result c.next.follows.holds-at-none;
+          c.loop-text.invariant.going c.next.result c.next.follows.holds-at-none.0;
       limit = search rules;
       failed_reads = search rules;
       failed_writes = search rules;
@@ -50,7 +50,7 @@ returns-in_err-passage g c =
 
 pub push_lines-requires-clause-cut : goal.push_lines-requires-clause-cut
 push_lines-requires-clause-cut g c =
-    lent_cut _ _ _ _ _ _ _ _ c.next.result c.in-Some.passage (c.in_ok-passage.was ∙ ap Ok c.in-Some.is) c.next.follows.holds-at-none
+    lent_cut _ _ _ _ _ _ _ _ c.next.result c.in-Some.passage (c.in_ok-passage.was ∙ ap Ok c.in-Some.is) c.next.follows.holds-at-none.0
 
 pub returns-in_err-push_lines : goal.returns-in_err-push_lines
 returns-in_err-push_lines g c =
@@ -59,10 +59,10 @@ returns-in_err-push_lines g c =
       shown = search rules;
       ended = search rules;
       run = whole_run (run_out_of_memory (engine_of c.args.lines (g.C.CellSource.cell_of c.args.cells.now) c.args.profile c.args.limit) _ _ _ _
-          c.from_residual-in_err-push_lines.result _ _ _ _ _ _ _ _ _ c.next.result c.loop-text.invariant.going c.next.follows.holds-at-none
+          c.from_residual-in_err-push_lines.result _ _ _ _ _ _ _ _ _ c.next.result c.loop-text.invariant.going c.next.follows.holds-at-none.0
           c.in-Some.passage (c.in_ok-passage.was ∙ ap Ok c.in-Some.is) (exit.1 ∙ ap Err exit.2));
       reads = most_reads (engine_of c.args.lines (g.C.CellSource.cell_of c.args.cells.now) c.args.profile c.args.limit) _ _ _ _ _ _ _ _ _ _ _ _
-          c.loop-text.invariant.going c.next.result c.next.follows.holds-at-none;
+          c.loop-text.invariant.going c.next.result c.next.follows.holds-at-none.0;
       limit = search rules;
       failed_reads = search rules;
       failed_writes = search rules;
@@ -74,7 +74,7 @@ loop-text-preserved g c =
     let was = c.in_ok-passage.was ∙ ap Ok c.in-Some.is in
     record {
       going = run_goes_on (engine_of c.args.lines cell c.args.profile c.args.limit) _ _ _ (Unit {0}) (Ok (tt {0})) _ _ _ _ _ _ _ _ _ c.next.result
-          c.loop-text.invariant.going c.next.follows.holds-at-none c.in-Some.passage was c.push_lines.new.text.items
+          c.loop-text.invariant.going c.next.follows.holds-at-none.0 c.in-Some.passage was c.push_lines.new.text.items
           (λ ms cell_is profile_is of.
           c.in_ok-push_lines.ensures _ ms cell_is profile_is of
           ∙ ap (λ l. l ++ lines_of c.args.lines cell c.in-Some.passage.start ms) c.clear.ensures.items)
@@ -93,14 +93,14 @@ returns-in_err-write_all g c =
       shown = search rules;
       ended = search rules;
       run = whole_run (run_unwritten (engine_of c.args.lines cell c.args.profile c.args.limit) _ _ _ _
-          c.from_residual-in_err-write_all.result _ _ _ _ _ _ _ _ _ c.next.result c.loop-text.invariant.going c.next.follows.holds-at-none
+          c.from_residual-in_err-write_all.result _ _ _ _ _ _ _ _ _ c.next.result c.loop-text.invariant.going c.next.follows.holds-at-none.0
           c.in-Some.passage (c.in_ok-passage.was ∙ ap Ok c.in-Some.is) c.deref.result.now
           (λ ms cell_is profile_is of.
           c.deref.ensures.value ∙ c.in_ok-push_lines.ensures _ ms cell_is profile_is of
           ∙ ap (λ l. l ++ lines_of c.args.lines cell c.in-Some.passage.start ms) c.clear.ensures.items)
           _ (exit.1 ∙ ap Err exit.2) front.0 front.1);
       reads = most_reads (engine_of c.args.lines (g.C.CellSource.cell_of c.args.cells.now) c.args.profile c.args.limit) _ _ _ _ _ _ _ _ _ _ _ _
-          c.loop-text.invariant.going c.next.result c.next.follows.holds-at-none;
+          c.loop-text.invariant.going c.next.result c.next.follows.holds-at-none.0;
       limit = search rules;
       failed_reads = search rules;
       failed_writes = search rules;
@@ -110,7 +110,7 @@ pub returns : goal.returns
 returns g c =
     let run =
     whole_run (run_ended (engine_of c.args.lines (g.C.CellSource.cell_of c.args.cells.now) c.args.profile c.args.limit) _ _ _ (Unit {0})
-    (Ok (tt {0})) _ _ _ _ _ _ _ _ _ c.next.result c.loop-text.invariant.going c.next.follows.holds-at-none (tt {0})
+    (Ok (tt {0})) _ _ _ _ _ _ _ _ _ c.next.result c.loop-text.invariant.going c.next.follows.holds-at-none.0 (tt {0})
     (c.in_ok-passage.was ∙ ap Ok c.in_default.is) refl)
     in
     record {
@@ -119,7 +119,7 @@ returns g c =
       ended = search rules;
       run = run;
       reads = most_reads (engine_of c.args.lines (g.C.CellSource.cell_of c.args.cells.now) c.args.profile c.args.limit) _ _ _ _ _ _ _ _ _ _ _ _
-          c.loop-text.invariant.going c.next.result c.next.follows.holds-at-none;
+          c.loop-text.invariant.going c.next.result c.next.follows.holds-at-none.0;
       limit = search rules;
       failed_reads = search rules;
       failed_writes = search rules;

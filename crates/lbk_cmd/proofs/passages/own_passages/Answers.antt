@@ -38,10 +38,10 @@ returns-in_err-passage-clause-refused g c =
       shown = search rules;
       ended = search rules;
       run = whole_run (run_stopped (showing (page_cell c.args.cells.now) c.args.profile c.args.limit) _ _ _ _
-          c.from_residual-in_err-passage.result _ _ _ _ _ _ _ _ _ c.next.result c.loop-segmenter.invariant.owning.going c.next.follows.holds-at-none
+          c.from_residual-in_err-passage.result _ _ _ _ _ _ _ _ _ c.next.result c.loop-segmenter.invariant.owning.going c.next.follows.holds-at-none.0
           c.in_err-passage.field-0.0 c.in_err-passage.was (exit.1 ∙ ap Err exit.2));
       reads = most_reads (showing (page_cell c.args.cells.now) c.args.profile c.args.limit) _ _ _ _ _ _ _ _ _ _ _ _
-          c.loop-segmenter.invariant.owning.going c.next.result c.next.follows.holds-at-none;
+          c.loop-segmenter.invariant.owning.going c.next.result c.next.follows.holds-at-none.0;
       limit = search rules;
       failed_reads = search rules;
       failed_writes = search rules;
@@ -54,10 +54,10 @@ returns-in_err-owned-clause-refused g c =
       shown = search rules;
       ended = search rules;
       run = whole_run (run_out_of_memory (showing (page_cell c.args.cells.now) c.args.profile c.args.limit) _ _ _ _
-          c.from_residual-in_err-owned.result _ _ _ _ _ _ _ _ _ c.next.result c.loop-segmenter.invariant.owning.going c.next.follows.holds-at-none
+          c.from_residual-in_err-owned.result _ _ _ _ _ _ _ _ _ c.next.result c.loop-segmenter.invariant.owning.going c.next.follows.holds-at-none.0
           c.in-Some.passage (c.in_ok-passage.was ∙ ap Ok c.in-Some.is) (exit.1 ∙ ap Err exit.2));
       reads = most_reads (showing (page_cell c.args.cells.now) c.args.profile c.args.limit) _ _ _ _ _ _ _ _ _ _ _ _
-          c.loop-segmenter.invariant.owning.going c.next.result c.next.follows.holds-at-none;
+          c.loop-segmenter.invariant.owning.going c.next.result c.next.follows.holds-at-none.0;
       limit = search rules;
       failed_reads = search rules;
       failed_writes = search rules;
@@ -70,10 +70,10 @@ returns-in_err-push-clause-refused g c =
       shown = search rules;
       ended = search rules;
       run = whole_run (run_out_of_memory (showing (page_cell c.args.cells.now) c.args.profile c.args.limit) _ _ _ _
-          c.from_residual-in_err-push.result _ _ _ _ _ _ _ _ _ c.next.result c.loop-segmenter.invariant.owning.going c.next.follows.holds-at-none
+          c.from_residual-in_err-push.result _ _ _ _ _ _ _ _ _ c.next.result c.loop-segmenter.invariant.owning.going c.next.follows.holds-at-none.0
           c.in-Some.passage (c.in_ok-passage.was ∙ ap Ok c.in-Some.is) (exit.1 ∙ ap Err exit.2));
       reads = most_reads (showing (page_cell c.args.cells.now) c.args.profile c.args.limit) _ _ _ _ _ _ _ _ _ _ _ _
-          c.loop-segmenter.invariant.owning.going c.next.result c.next.follows.holds-at-none;
+          c.loop-segmenter.invariant.owning.going c.next.result c.next.follows.holds-at-none.0;
       limit = search rules;
       failed_reads = search rules;
       failed_writes = search rules;
@@ -84,7 +84,7 @@ loop-segmenter-preserved g c =
     let was = c.in_ok-passage.was ∙ ap Ok c.in-Some.is in
     record {
       owning = Owning-next (showing (page_cell c.args.cells.now) c.args.profile c.args.limit) _ _ _ _ _ _ _ _ _ _ c.next.result
-          c.loop-segmenter.passages.items c.loop-segmenter.invariant.owning c.next.follows.holds-at-none c.in-Some.passage was _
+          c.loop-segmenter.passages.items c.loop-segmenter.invariant.owning c.next.follows.holds-at-none.0 c.in-Some.passage was _
           (c.in_ok-push.ensures.items ∙ ap (λ x. c.loop-segmenter.passages.items ++ x ∷ []) c.in_ok-owned.ensures);
       read_failures = c.next.ensures.failures ∙ ap (λ r. failures_with (g.R.Source.failure_count c.loop-segmenter.reader) (fault_in r)) was
           ∙ c.loop-segmenter.invariant.read_failures;
@@ -93,13 +93,13 @@ loop-segmenter-preserved g c =
 pub returns-clause-owned : goal.returns-clause-owned
 returns-clause-owned g c =
     all_owned (showing (page_cell c.args.cells.now) c.args.profile c.args.limit) _ _ _ _ _ _ _ _ _ _ c.next.result
-    c.loop-segmenter.passages.items c.loop-segmenter.invariant.owning c.next.follows.holds-at-none (c.in_ok-passage.was ∙ ap Ok c.in_default.is)
+    c.loop-segmenter.passages.items c.loop-segmenter.invariant.owning c.next.follows.holds-at-none.0 (c.in_ok-passage.was ∙ ap Ok c.in_default.is)
 
 pub returns-clause-done : goal.returns-clause-done
 returns-clause-done g c =
     let run =
     whole_run (run_ended (showing (page_cell c.args.cells.now) c.args.profile c.args.limit) _ _ _ (Unit {0})
-    (Ok (tt {0})) _ _ _ _ _ _ _ _ _ c.next.result c.loop-segmenter.invariant.owning.going c.next.follows.holds-at-none (tt {0})
+    (Ok (tt {0})) _ _ _ _ _ _ _ _ _ c.next.result c.loop-segmenter.invariant.owning.going c.next.follows.holds-at-none.0 (tt {0})
     (c.in_ok-passage.was ∙ ap Ok c.in_default.is) refl)
     in
     record {
@@ -108,7 +108,7 @@ returns-clause-done g c =
       ended = search rules;
       run = run;
       reads = most_reads (showing (page_cell c.args.cells.now) c.args.profile c.args.limit) _ _ _ _ _ _ _ _ _ _ _ _
-          c.loop-segmenter.invariant.owning.going c.next.result c.next.follows.holds-at-none;
+          c.loop-segmenter.invariant.owning.going c.next.result c.next.follows.holds-at-none.0;
       limit = search rules;
       failed_reads = search rules;
       failed_writes = search rules;

@@ -42,11 +42,11 @@ returns-in_err-passage g c =
     record {
       shown = search rules;
       run = range_run (run_stopped (engine_in c.args.part c.args.lines (g.C.CellSource.cell_of c.args.cells.now) c.args.profile c.args.limit) _ _ _ _
-          c.from_residual-in_err-passage.result _ _ _ _ _ _ _ _ _ c.next.result c.loop-at.invariant.going c.next.follows.holds-at-none
+          c.from_residual-in_err-passage.result _ _ _ _ _ _ _ _ _ c.next.result c.loop-at.invariant.going c.next.follows.holds-at-none.0
           c.in_err-passage.field-0.0 c.in_err-passage.was (exit.1 ∙ ap Err exit.2)) c.args.part.from c.args.part.to
           ((omega (arith, c.loop-at.invariant.at, c.loop-at-test.true, c.from.ensures), c.loop-at.invariant.before), λ _. omega (arith, c.loop-at.invariant.at, c.if-at-from.false, c.from-in-loop-at.ensures));
       reads = most_reads (engine_in c.args.part c.args.lines (g.C.CellSource.cell_of c.args.cells.now) c.args.profile c.args.limit) _ _ _ _ _ _ _ _ _ _ _ _
-          c.loop-at.invariant.going c.next.result c.next.follows.holds-at-none;
+          c.loop-at.invariant.going c.next.result c.next.follows.holds-at-none.0;
       limit = search rules;
       failed_reads = search rules;
       failed_writes = search rules;
@@ -54,7 +54,7 @@ returns-in_err-passage g c =
 
 pub push_lines-requires-clause-cut : goal.push_lines-requires-clause-cut
 push_lines-requires-clause-cut g c =
-    lent_cut _ _ _ _ _ _ _ _ c.next.result c.in-Some-2.passage (c.in_ok-passage.was ∙ ap Ok c.in-Some-2.is) c.next.follows.holds-at-none
+    lent_cut _ _ _ _ _ _ _ _ c.next.result c.in-Some-2.passage (c.in_ok-passage.was ∙ ap Ok c.in-Some-2.is) c.next.follows.holds-at-none.0
 
 pub returns-in_err-push_lines : goal.returns-in_err-push_lines
 returns-in_err-push_lines g c =
@@ -62,11 +62,11 @@ returns-in_err-push_lines g c =
     record {
       shown = search rules;
       run = range_run (run_out_of_memory (engine_in c.args.part c.args.lines (g.C.CellSource.cell_of c.args.cells.now) c.args.profile c.args.limit) _ _ _ _
-          c.from_residual-in_err-push_lines.result _ _ _ _ _ _ _ _ _ c.next.result c.loop-at.invariant.going c.next.follows.holds-at-none
+          c.from_residual-in_err-push_lines.result _ _ _ _ _ _ _ _ _ c.next.result c.loop-at.invariant.going c.next.follows.holds-at-none.0
           c.in-Some-2.passage (c.in_ok-passage.was ∙ ap Ok c.in-Some-2.is) (exit.1 ∙ ap Err exit.2)) c.args.part.from c.args.part.to
           ((omega (arith, c.loop-at.invariant.at, c.loop-at-test.true, c.from.ensures), c.loop-at.invariant.before), omega (arith, c.loop-at.invariant.at, c.if-at-from.false, c.from-in-loop-at.ensures));
       reads = most_reads (engine_in c.args.part c.args.lines (g.C.CellSource.cell_of c.args.cells.now) c.args.profile c.args.limit) _ _ _ _ _ _ _ _ _ _ _ _
-          c.loop-at.invariant.going c.next.result c.next.follows.holds-at-none;
+          c.loop-at.invariant.going c.next.result c.next.follows.holds-at-none.0;
       limit = search rules;
       failed_reads = search rules;
       failed_writes = search rules;
@@ -74,11 +74,11 @@ returns-in_err-push_lines g c =
 
 pub loop-at-preserved : goal.loop-at-preserved
 loop-at-preserved g c =
-    let begins = lent_from _ _ _ _ _ _ _ _ c.next.result c.in-Some-2.passage (c.in_ok-passage.was ∙ ap Ok c.in-Some-2.is) c.next.follows.holds-at-none in
+    let begins = lent_from _ _ _ _ _ _ _ _ c.next.result c.in-Some-2.passage (c.in_ok-passage.was ∙ ap Ok c.in-Some-2.is) c.next.follows.holds-at-none.0 in
     let cell = g.C.CellSource.cell_of c.args.cells.now in
     let was = c.in_ok-passage.was ∙ ap Ok c.in-Some-2.is in
     let on = range_goes_on (engine_in c.args.part c.args.lines cell c.args.profile c.args.limit) _ _ _ (Unit {0}) (Ok (tt {0})) _ _ _ _ _ _ _ _ _ c.next.result
-    c.loop-at.invariant.going c.next.follows.holds-at-none c.in-Some-2.passage was c.push_lines.new.text.items
+    c.loop-at.invariant.going c.next.follows.holds-at-none.0 c.in-Some-2.passage was c.push_lines.new.text.items
     (λ ms cell_is profile_is of.
     c.in_ok-push_lines.ensures _ ms cell_is profile_is of
     ∙ ap (λ l. l ++ lines_of c.args.lines cell c.in-Some-2.passage.start ms) c.clear.ensures.items
@@ -92,19 +92,19 @@ loop-at-preserved g c =
       read_failures = c.next.ensures.failures ∙ ap (λ r. failures_with (g.R.Source.failure_count c.loop-at.reader) (fault_in r)) was
           ∙ c.loop-at.invariant.read_failures;
       write_failures = c.in_ok-write_all.ensures.none_failed ∙ c.loop-at.invariant.write_failures;
-      at = lent_to _ _ _ _ _ _ _ _ c.next.result c.in-Some-2.passage was c.next.follows.holds-at-none;
+      at = lent_to _ _ _ _ _ _ _ _ c.next.result c.in-Some-2.passage was c.next.follows.holds-at-none.0;
     }
 
 pub returns-in_err-write_all : goal.returns-in_err-write_all
 returns-in_err-write_all g c =
-    let begins = lent_from _ _ _ _ _ _ _ _ c.next.result c.in-Some-2.passage (c.in_ok-passage.was ∙ ap Ok c.in-Some-2.is) c.next.follows.holds-at-none in
+    let begins = lent_from _ _ _ _ _ _ _ _ c.next.result c.in-Some-2.passage (c.in_ok-passage.was ∙ ap Ok c.in-Some-2.is) c.next.follows.holds-at-none.0 in
     let cell = g.C.CellSource.cell_of c.args.cells.now in
     let exit = err_from_is_err_and c.from_residual-in_err-write_all.result c.from_residual-in_err-write_all.ensures.1 in
     let front = c.write_all.ensures.front in
     record {
       shown = search rules;
       run = range_run (run_unwritten (engine_in c.args.part c.args.lines cell c.args.profile c.args.limit) _ _ _ _
-          c.from_residual-in_err-write_all.result _ _ _ _ _ _ _ _ _ c.next.result c.loop-at.invariant.going c.next.follows.holds-at-none
+          c.from_residual-in_err-write_all.result _ _ _ _ _ _ _ _ _ c.next.result c.loop-at.invariant.going c.next.follows.holds-at-none.0
           c.in-Some-2.passage (c.in_ok-passage.was ∙ ap Ok c.in-Some-2.is) c.deref.result.now
           (λ ms cell_is profile_is of.
           c.deref.ensures.value ∙ c.in_ok-push_lines.ensures _ ms cell_is profile_is of
@@ -114,7 +114,7 @@ returns-in_err-write_all g c =
           _ (exit.1 ∙ ap Err exit.2) front.0 front.1) c.args.part.from c.args.part.to
           ((omega (arith, c.loop-at.invariant.at, c.loop-at-test.true, c.from.ensures), c.loop-at.invariant.before), λ _. omega (arith, c.loop-at.invariant.at, c.if-at-from.false, c.from-in-loop-at.ensures));
       reads = most_reads (engine_in c.args.part c.args.lines (g.C.CellSource.cell_of c.args.cells.now) c.args.profile c.args.limit) _ _ _ _ _ _ _ _ _ _ _ _
-          c.loop-at.invariant.going c.next.result c.next.follows.holds-at-none;
+          c.loop-at.invariant.going c.next.result c.next.follows.holds-at-none.0;
       limit = search rules;
       failed_reads = search rules;
       failed_writes = search rules;
@@ -184,12 +184,12 @@ pub returns-in_default-2 : goal.returns-in_default-2
 returns-in_default-2 g c =
     let e = engine_in c.args.part c.args.lines (g.C.CellSource.cell_of c.args.cells.now) c.args.profile c.args.limit in
     let was = c.in_ok-passage.was ∙ ap Ok c.in_default-2.is in
-    let run = range_run (run_ended e _ _ _ (Unit {0}) (Ok (tt {0})) _ _ _ _ _ _ _ _ _ c.next.result c.loop-at.invariant.going c.next.follows.holds-at-none (tt {0}) was refl)
+    let run = range_run (run_ended e _ _ _ (Unit {0}) (Ok (tt {0})) _ _ _ _ _ _ _ _ _ c.next.result c.loop-at.invariant.going c.next.follows.holds-at-none.0 (tt {0}) was refl)
     c.args.part.from c.args.part.to ((omega (arith, c.loop-at.invariant.at, c.loop-at-test.true, c.from.ensures), c.loop-at.invariant.before), λ _. omega (arith, c.loop-at.invariant.at, c.if-at-from.false, c.from-in-loop-at.ensures)) in
     record {
       shown = known_range c.args.part _ _ _ _ (Ok (tt {0})) _ _ _ _ run;
       run = run;
-      reads = most_reads e _ _ _ _ _ _ _ _ _ _ _ _ c.loop-at.invariant.going c.next.result c.next.follows.holds-at-none;
+      reads = most_reads e _ _ _ _ _ _ _ _ _ _ _ _ c.loop-at.invariant.going c.next.result c.next.follows.holds-at-none.0;
       limit = search rules;
       failed_reads = search rules;
       failed_writes = search rules;

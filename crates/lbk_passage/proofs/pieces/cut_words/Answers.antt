@@ -14,6 +14,8 @@ loop-piece-init g c =
     let left = ap word_bounds_left c.into_iter-piece-iterator.ensures.into_iter_gives ∙ c.split_word_bounds-piece-items.ensures.left in
     record {
       cut = ap (λ pieces. pieces ++ pieces_from cell 0 (word_bounds_left items)) c.clear.ensures.items ∙ ap (pieces_from cell 0) left;
+      count = omega (arith, c.clear.ensures.len, ap (λ pieces. length (pieces_from cell 0 pieces)) left);
+      room = omega (arith, c.clear.ensures.capacity);
       within =
           let joined : length (concat (word_bounds_left items)) ≡ length c.args.text.now =
           ap (λ pieces. length (concat pieces)) left ∙ ap length (concat-segments is_word_break c.args.text.now c.utf8.text) in

@@ -1,4 +1,4 @@
-use Rattle.std.proofs.Common.{◌<◌, ◌≤◌, [], ◌++◌, All, length, take, append-nil, sym, ap, subst, ◌∙◌, arith}
+use Rattle.std.proofs.Common.{◌<◌, ◌≤◌, [], ◌+◌, ◌++◌, All, length, vec_len, take, append-nil, sym, ap, subst, ◌∙◌, arith}
 use Rattle.std.proofs.lemmas.List.{take_all}
 use Rattle.lbk_rules.specs.declared.breaks.Break.{Break}
 use Rattle.lbk_passage.specs.Cuts.{cut_at}
@@ -8,18 +8,20 @@ use Rattle.lbk_passage.proofs.segments.cut_alone.Goals as goal
 pub loop-start-init : goal.loop-start-init
 loop-start-init g c =
     let cell = g.C.CellSource.cell_of c.args.cells.now in
-    let same = c.new-breaks.ensures in (
-      ap (λ to_come. c.args.segments.now.items ++ cut_at 0 to_come) same,
-      subst (All (λ (one : Break). one.at < 4294967296)) (sym same) (breaks-within 4294967296 c.args.profile cell c.args.text.now c.utf8.text c.requires),
-    )
+    let same = c.new-breaks.ensures in record {
+      cut = ap (λ to_come. c.args.segments.now.items ++ cut_at 0 to_come) same;
+      within = subst (All (λ (one : Break). one.at < 4294967296)) (sym same) (breaks-within 4294967296 c.args.profile cell c.args.text.now c.utf8.text c.requires);
+      count = ap (λ to_come. vec_len c.args.segments.now + length to_come) same;
+      room = omega arith;
+    }
 
-pub returns-then-count-lt-BLOCK : goal.returns-then-count-lt-BLOCK
-returns-then-count-lt-BLOCK g c =
+pub returns-then-count-lt-BLOCK-clause-cut : goal.returns-then-count-lt-BLOCK-clause-cut
+returns-then-count-lt-BLOCK-clause-cut g c =
     let to_come = c.loop-start.breaks in
     let count = c.fill-count.result in
     let all : length to_come ≤ count = omega (arith, c.fill-count.ensures.count, c.if-count-lt-BLOCK.true) in
     let held = c.loop-start.segments.items in
     sym (append-nil c.cut_block.new.segments.items)
-    ∙ c.in_ok-start.ensures []
+    ∙ c.in_ok-start.ensures.cut []
     ∙ ap (λ bs. held ++ cut_at c.loop-start.start bs) (append-nil (take count c.fill-count.new.block) ∙ c.fill-count.ensures.front ∙ take_all count to_come all)
-    ∙ c.loop-start.invariant.0
+    ∙ c.loop-start.invariant.cut

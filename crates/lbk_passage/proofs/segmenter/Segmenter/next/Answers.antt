@@ -1,13 +1,15 @@
-use Rattle.std.proofs.Common.{◌≡◌, not, length, chars, Ok, Err, None, Some, refl, sym, ap, ◌∙◌, ⊎_elim, arith}
+use Rattle.std.proofs.Common.{◌≡◌, ℕ, ◌<◌, not, List, length, chars, Ok, Err, None, Some, string_bytes, vec_capacity, inl, inr, refl, sym, ap, subst, ◌∙◌, ⊎_elim, arith}
 use Rattle.std.proofs.lemmas.Result.{err_from_is_err_and}
 use Rattle.lbk_passage.specs.Marks.{marks, ended}
 use Rattle.lbk_passage.specs.Segments.{segments_of}
 use Rattle.lbk_passage.specs.Pieces.{pieces_of}
 use Rattle.lbk_passage.specs.declared.faults.PassageFault.{PassageFault}
-use Rattle.lbk_passage.specs.declared.faults.PassageFault.TheVariants.{Spent}
+use Rattle.lbk_passage.specs.declared.faults.PassageFault.TheVariants.{Memory, Spent}
 use Rattle.lbk_passage.specs.Next.{failures_with, fault_in}
+use Rattle.lbk_passage.specs.Shown.{found_by}
 use Rattle.lbk_passage.specs.State.{state_with}
-use Rattle.lbk_passage.proofs.Giving.{or-cases, spent_by, After-fault, After-none, After-memory, After-lent, on_ok}
+use Rattle.lbk_passage.specs.Gathering.{IsFirst}
+use Rattle.lbk_passage.proofs.Giving.{or-cases, spent_by, never_memory, no_fault, After-fault, After-none, After-memory, After-lent, lacks_room, on_err, on_ok}
 use Rattle.lbk_passage.proofs.Settling.{ok_err, some_none}
 use Rattle.lbk_passage.proofs.Taking.{string_len-is}
 use Rattle.lbk_passage.proofs.segmenter.Segmenter.next.Goals as goal
@@ -22,7 +24,18 @@ returns-in_err-end g c =
     let was = c.in_err-end.was ∙ ap Err (sym exit.2) in
     let fills = rw was at (c.fill.ensures.fills profile) in
     rw exit.1 (
-      (refl, (λ _. tt), After-fault cell profile old p _ _ _ _ _ _ exit.0 fills),
+      (
+        refl,
+        (λ _. tt),
+        (
+          After-fault cell profile old p _ _ _ _ _ _ exit.0 fills,
+          record {
+            for_segments = omega arith;
+            for_pieces = omega arith;
+            memory = λ is. absurd (never_memory (state_with cell profile p) p old.is_spent exit.0 fills.answer (let same : exit.0 ≡ Memory = cc in same));
+          },
+        ),
+      ),
       record {
         after_borrow = tt;
         lent = tt;
@@ -45,7 +58,14 @@ returns-in_default g c =
     let p = c.fill.new.self in
     let was = c.in_ok-end.was ∙ ap Ok c.in_default.is in
     let fills = rw was at (c.fill.ensures.fills profile) in (
-      (refl, (λ _. tt), After-none cell profile old p _ _ _ _ _ _ fills),
+      (
+        refl,
+        (λ _. tt),
+        (
+          After-none cell profile old p _ _ _ _ _ _ fills,
+          record { for_segments = omega arith; for_pieces = omega arith; memory = λ is. cc },
+        ),
+      ),
       record {
         after_borrow = tt;
         lent = tt;
@@ -66,8 +86,25 @@ returns-then-is_err g c =
     let old = c.args.self.now.paragraph in
     let p = c.fill.new.self in
     let was = c.in_ok-end.was ∙ ap Ok c.in-Some.is in
-    let fills = rw was at (c.fill.ensures.fills profile) in (
-      (refl, (λ _. tt), After-memory cell profile old p _ _ _ _ _ _ c.in-Some.end fills),
+    let fills = rw was at (c.fill.ensures.fills profile) in
+    let first : IsFirst (state_with cell profile p) p c.in-Some.end = fills.answer in
+    let many = λ (l : List ℕ). length (segments_of (ended c.in-Some.end (marks profile cell (chars l)))) in
+    let lines : vec_capacity c.args.self.now.segments < many (string_bytes p.text) =
+    subst (λ l. vec_capacity c.args.self.now.segments < many l) c.text-text.ensures.text
+    (on_err (vec_capacity c.args.self.now.segments < many c.text-text.result.now) c.cut_lines.result
+    (c.is_err.ensures.negation ∙ ap not c.if-is_err.true) (c.cut_lines.ensures.full first.broken)) in (
+      (
+        refl,
+        (λ _. tt),
+        (
+          After-memory cell profile old p _ _ _ _ _ _ c.in-Some.end fills,
+          record {
+            for_segments = omega (arith, c.cut_lines.ensures.room);
+            for_pieces = omega arith;
+            memory = λ is. lacks_room cell profile old p _ _ _ _ _ _ c.in-Some.end fills (found_by c.args.self.now) (inl lines);
+          },
+        ),
+      ),
       record {
         after_borrow = tt;
         lent = tt;
@@ -88,8 +125,23 @@ returns-then-is_err-2 g c =
     let old = c.args.self.now.paragraph in
     let p = c.fill.new.self in
     let was = c.in_ok-end.was ∙ ap Ok c.in-Some.is in
-    let fills = rw was at (c.fill.ensures.fills profile) in (
-      (refl, (λ _. tt), After-memory cell profile old p _ _ _ _ _ _ c.in-Some.end fills),
+    let fills = rw was at (c.fill.ensures.fills profile) in
+    let words : vec_capacity c.args.self.now.pieces < length (pieces_of cell (string_bytes p.text)) =
+    subst (λ l. vec_capacity c.args.self.now.pieces < length (pieces_of cell l)) c.text-text.ensures.text
+    (on_err (vec_capacity c.args.self.now.pieces < length (pieces_of cell c.text-text.result.now)) c.cut_words.result
+    (c.is_err-2.ensures.negation ∙ ap not c.if-is_err-2.true) c.cut_words.ensures.full) in (
+      (
+        refl,
+        (λ _. tt),
+        (
+          After-memory cell profile old p _ _ _ _ _ _ c.in-Some.end fills,
+          record {
+            for_segments = omega (arith, c.cut_lines.ensures.room);
+            for_pieces = omega (arith, c.cut_words.ensures.room);
+            memory = λ is. lacks_room cell profile old p _ _ _ _ _ _ c.in-Some.end fills (found_by c.args.self.now) (inr words);
+          },
+        ),
+      ),
       record {
         after_borrow = tt;
         lent = tt;
@@ -113,10 +165,10 @@ returns g c =
     let fills = rw was at (c.fill.ensures.fills profile) in
     let lines : c.cut_lines.new.segments.items ≡ segments_of (ended c.in-Some.end (marks profile cell (chars c.text-text.result.now))) =
     on_ok (c.cut_lines.new.segments.items ≡ segments_of (ended c.in-Some.end (marks profile cell (chars c.text-text.result.now))))
-    c.cut_lines.result (c.is_err.ensures.negation ∙ ap not c.if-is_err.false) c.cut_lines.ensures in
+    c.cut_lines.result (c.is_err.ensures.negation ∙ ap not c.if-is_err.false) c.cut_lines.ensures.cut in
     let words : c.cut_words.new.pieces.items ≡ pieces_of cell c.text-text.result.now =
     on_ok (c.cut_words.new.pieces.items ≡ pieces_of cell c.text-text.result.now)
-    c.cut_words.result (c.is_err-2.ensures.negation ∙ ap not c.if-is_err-2.false) c.cut_words.ensures in
+    c.cut_words.result (c.is_err-2.ensures.negation ∙ ap not c.if-is_err-2.false) c.cut_words.ensures.cut in
     let given = After-lent cell profile old p _ _ _ _ _ _ c.in-Some.end fills c.release.new.self c.lend.result c.release.ensures (record {
       start = omega (
         arith,
@@ -131,7 +183,14 @@ returns g c =
       pieces = c.lend.ensures.pieces ∙ words ∙ ap (pieces_of cell) c.text-text.ensures.text;
       ends = c.lend.ensures.end;
     }) in (
-      (refl, (λ _. tt), given.0),
+      (
+        refl,
+        (λ _. tt),
+        (
+          given.0,
+          record { for_segments = omega (arith, c.cut_lines.ensures.room); for_pieces = omega (arith, c.cut_words.ensures.room); memory = λ is. no_fault _ is },
+        ),
+      ),
       record {
         after_borrow = tt;
         lent = given.1;

@@ -1,4 +1,4 @@
-use Rattle.std.proofs.Common.{◌≡◌, ℕ, ◌+◌, ◌-◌, [], length, chars, Bool, Ok, Err, None, Some, Result, refl, sym, ap, subst, ◌∙◌, ⊎_elim, arith, string_bytes, string_len}
+use Rattle.std.proofs.Common.{◌≡◌, ℕ, ◌-◌, [], length, chars, Bool, Ok, Err, None, Some, refl, sym, ap, ◌∙◌, ⊎_elim, arith, string_bytes, string_len}
 use Rattle.std.specs.Prelude.{if◌then◌else◌}
 use Rattle.std.proofs.lemmas.Result.{err_from_is_err_and}
 use Rattle.lbk_rules.specs.declared.cells.Cell.{Cell}
