@@ -276,7 +276,8 @@ lbk_text lbk_file_name(uint32_t file);
  *
  * Whatever the table and the state have, each break is LBK_MAY or LBK_MUST by one of the rules; their places rise, from the
  * state's `at` on and up to `size`; and a state of which breaks came is further on than it was, or has ended, with its `at` at
- * `size`. So kinds and rules can be looked up in arrays, and calls while a block with room comes back full come to an end.
+ * `size`. So kinds and rules can be looked up in arrays, and calls while a block with room comes back full come to an end. Of
+ * numbers that no property files give, a place may lie within a scalar.
  *
  * Returns 0 and leaves the state unchanged: where `room` is 0, where the state's profile is none of the two, where its `at` is
  * past the text's end, and where it has ended. Entries of the block past the returned count are unspecified and may be

@@ -75,6 +75,9 @@ impl Table {
     /// The table that these bytes are, as [`Table::as_bytes`] gave them, perhaps in a file that is mapped or in the program
     /// ([`include_bytes_aligned!`](crate::include_bytes_aligned)). `None` where they are no whole table of this version, or do
     /// not begin at a multiple of 8 bytes.
+    ///
+    /// The check finds damage. It does not find a table that someone made up, whose breaks may lie within a character, where
+    /// [`Segments`](crate::Segments) panics.
     pub fn of_bytes(bytes: &[u8]) -> Option<&Table> {
         processor::require();
         if bytes.len() != size_of::<Table>() || bytes.as_ptr() as usize % align_of::<Table>() != 0 {
