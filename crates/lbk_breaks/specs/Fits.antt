@@ -1,6 +1,6 @@
 -- What a walk knows of the scalars that it has taken.
 use Rattle.std.specs.Prelude.{ℕ, List}
-use Rattle.lbk_rules.specs.declared.cells.Cell.{Cell}
+use Rattle.lbk_uax14.specs.declared.cells.Cell.{Cell}
 use Rattle.lbk_values.specs.declared.profile.Profile.{Profile}
 use Rattle.lbk_steps.specs.AheadFits.{AheadFits}
 use Rattle.lbk_steps.specs.RowMachineFits.{RowMachineFits}

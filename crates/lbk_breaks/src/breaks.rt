@@ -3,11 +3,10 @@
 ghost use Rattle.std.specs.Prelude.{◌≡◌, length, min, take, drop};
 ghost use Rattle.std.specs.Iterator.{YieldsFirst, item_count};
 ghost use Rattle.std.specs.Str.{chars};
-ghost use Rattle.lbk_rules.specs.Breaks.{breaks};
+ghost use Rattle.lbk_uax14.specs.Breaks.{breaks};
 
 use crate::walk::Walk;
-use lbk_rules::{Break, Kind, Profile, Rule};
-use lbk_steps::CellSource;
+use lbk_rules::{Break, CellSource, Kind, Profile, Rule};
 use std::marker::Model;
 
 /// The breaks of a text: its positions after the first where a line may or must end (UAX #14, section 3), the last
@@ -39,9 +38,9 @@ pub struct Breaks<'a, C: CellSource> {
 impl<'a, C: CellSource> Model for Breaks<'a, C> {
     ghost use Rattle.std.specs.Prelude.{List, drop};
     ghost use Rattle.std.specs.Str.{chars};
-    ghost use Rattle.lbk_rules.specs.declared.breaks.Break.{Break};
+    ghost use Rattle.lbk_uax14.specs.declared.breaks.Break.{Break};
     ghost use Rattle.lbk_breaks.specs.Fits.{WalkFits};
-    ghost use Rattle.lbk_rules.specs.Breaks.{breaks};
+    ghost use Rattle.lbk_uax14.specs.Breaks.{breaks};
     ghost use Rattle.lbk_breaks.specs.Onward.{IsKept};
 
     ghost Value = { List Break };

@@ -1,14 +1,13 @@
 //! A block that is filled by the plain rules.
 
 ghost use Rattle.std.specs.Prelude.{◌≡◌, ℕ, ◌<◌, ◌≤◌, List, IsCharBoundary, length, take};
-ghost use Rattle.lbk_rules.specs.declared.cells.Cell.{Cell};
+ghost use Rattle.lbk_uax14.specs.declared.cells.Cell.{Cell};
 ghost use Rattle.lbk_values.specs.declared.profile.Profile.{Profile};
 ghost use Rattle.lbk_steps.specs.AheadFits.{AheadFits};
 ghost use Rattle.lbk_breaks.specs.Onward.{Filled};
 
 use crate::filling::{FilledTo, put};
-use lbk_rules::Break;
-use lbk_steps::{AheadMachine, CellSource};
+use lbk_rules::{AheadMachine, Break, CellSource};
 
 /// Takes scalars of a text from the byte `start` on, as `by_steps::fill` does. It stands apart, so that a call that goes by
 /// steps has few registers to keep.

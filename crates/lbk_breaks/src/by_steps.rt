@@ -1,14 +1,13 @@
 //! A block that is filled by the table of steps.
 
 ghost use Rattle.std.specs.Prelude.{◌≡◌, ℕ, ◌<◌, ◌≤◌, List, IfNone, IfSome, IsCharBoundary, length, take};
-ghost use Rattle.lbk_rules.specs.declared.cells.Cell.{Cell};
+ghost use Rattle.lbk_uax14.specs.declared.cells.Cell.{Cell};
 ghost use Rattle.lbk_values.specs.declared.profile.Profile.{Profile};
 ghost use Rattle.lbk_steps.specs.RowMachineFits.{RowMachineFits};
 ghost use Rattle.lbk_breaks.specs.Onward.{Filled};
 
 use crate::filling::{FilledTo, put};
-use lbk_rules::Break;
-use lbk_steps::RowMachine;
+use lbk_rules::{Break, RowMachine};
 
 /// Takes scalars of a text from the byte `start` on, until the block is full or the text ends, and writes the breaks
 /// before them into the front of the block.

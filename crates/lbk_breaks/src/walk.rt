@@ -1,15 +1,14 @@
 //! A walk over a text.
 
 ghost use Rattle.std.specs.Prelude.{◌≡◌, ℕ, ◌<◌, ◌≤◌, [], List, IsCharBoundary, false, length, map, take};
-ghost use Rattle.lbk_rules.specs.declared.cells.Cell.{Cell};
+ghost use Rattle.lbk_uax14.specs.declared.cells.Cell.{Cell};
 ghost use Rattle.lbk_values.specs.declared.profile.Profile.{Profile};
-ghost use Rattle.lbk_rules.specs.Verdict.{verdict_between_in};
+ghost use Rattle.lbk_uax14.specs.Verdict.{verdict_between_in};
 ghost use Rattle.lbk_breaks.specs.Onward.{Filled, FillsTo};
 
 use crate::filling::{FilledTo, put};
 use crate::{by_rules, by_steps};
-use lbk_rules::{Break, Profile, Verdict};
-use lbk_steps::{AheadMachine, CellSource, RowMachine};
+use lbk_rules::{AheadMachine, Break, CellSource, Profile, RowMachine, Verdict};
 
 /// What decides the positions of a text: the table of steps of its source, or the plain rules where that has none.
 #[derive(Drop)]

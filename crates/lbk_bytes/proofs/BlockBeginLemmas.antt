@@ -9,8 +9,8 @@ use Rattle.lbk_masks.proofs.BitLemmas.{set-or}
 use Rattle.lbk_masks.proofs.FoundLemmas.{rest-byte}
 use Rattle.lbk_masks.specs.Sets.{is_set, left_before, left_in, meets, right_in}
 use Rattle.lbk_masks.specs.Strays.{is_pair, is_second, is_stray}
-use Rattle.lbk_rules.specs.declared.cells.Cell.{Cell}
-use Rattle.lbk_rules.specs.declared.facts.Left.{Left}
+use Rattle.lbk_uax14.specs.declared.cells.Cell.{Cell}
+use Rattle.lbk_uax14.specs.declared.facts.Left.{Left}
 use Rattle.lbk_steps.specs.declared.flat_table.FlatStep.{FlatStep}
 use Rattle.lbk_steps.specs.declared.neighbours.Neighbours.{Neighbours}
 use Rattle.lbk_values.specs.declared.profile.Profile.{Profile}

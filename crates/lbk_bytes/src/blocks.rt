@@ -1,8 +1,8 @@
 //! Blocks of up to 64 bytes whose breaks the sets of their bytes tell, so that no step waits for the one before it.
 
 ghost use Rattle.std.specs.Prelude.{◌≡◌, ℕ, ◌+◌, ◌-◌, ◌<◌, ◌≤◌, ◌++◌, List, length, nat_le, IfSome};
-ghost use Rattle.lbk_rules.specs.declared.cells.Cell.{Cell};
-ghost use Rattle.lbk_rules.specs.declared.facts.Left.{Left};
+ghost use Rattle.lbk_uax14.specs.declared.cells.Cell.{Cell};
+ghost use Rattle.lbk_uax14.specs.declared.facts.Left.{Left};
 ghost use Rattle.lbk_values.specs.declared.profile.Profile.{Profile};
 ghost use Rattle.lbk_steps.specs.FlatTable.{AreFlatKinds};
 ghost use Rattle.lbk_steps.specs.Neighbours.{AreTold};
@@ -16,7 +16,7 @@ use crate::filling::{put_break, runs};
 use crate::raw_break::RawBreak;
 use crate::steps::{CODES, step_at};
 use crate::tries::are_many;
-use lbk_steps::{FlatStep, Neighbours, STEPS};
+use lbk_rules::{FlatStep, Neighbours, STEPS};
 
 /// How many bytes at most are looked at together.
 pub(crate) const BLOCK: usize = 64;

@@ -1,10 +1,10 @@
 //! The end of a text, or of a part of one.
 
 ghost use Rattle.std.specs.Prelude.{◌≡◌, ℕ, ◌+◌, ◌<◌, ◌≤◌, ◌++◌, [], List, length, true};
-ghost use Rattle.lbk_rules.specs.declared.cells.Cell.{Cell};
-ghost use Rattle.lbk_rules.specs.declared.facts.Left.{Left};
+ghost use Rattle.lbk_uax14.specs.declared.cells.Cell.{Cell};
+ghost use Rattle.lbk_uax14.specs.declared.facts.Left.{Left};
 ghost use Rattle.lbk_values.specs.declared.profile.Profile.{Profile};
-ghost use Rattle.lbk_rules.specs.Codes.{IsCode, verdict_coded};
+ghost use Rattle.lbk_uax14.specs.Codes.{IsCode, verdict_coded};
 ghost use Rattle.lbk_steps.specs.FlatTable.{IsFlatBy, KnowsTaken};
 ghost use Rattle.lbk_bytes.specs.Bytes.{end_in, with_break};
 ghost use Rattle.lbk_bytes.specs.Order.{AreBreaks, AreInOrder};
@@ -14,8 +14,7 @@ ghost use Rattle.lbk_bytes.specs.Shown.{given_in};
 use crate::filling::put;
 use crate::raw_break::RawBreak;
 use crate::steps::step_at;
-use lbk_rules::{RULES, VERDICTS};
-use lbk_steps::FlatTable;
+use lbk_rules::{FlatTable, RULES, VERDICTS};
 
 /// The kind of a letter.
 const LETTER: u8 = 0;

@@ -1,11 +1,11 @@
 //! A block that is filled with breaks.
 
 ghost use Rattle.std.specs.Prelude.{◌≡◌, ℕ, ◌+◌, ◌<◌, ◌≤◌, ◌++◌, [], List, false, length, take};
-ghost use Rattle.lbk_rules.specs.declared.cells.Cell.{Cell};
-ghost use Rattle.lbk_rules.specs.declared.facts.Left.{Left};
+ghost use Rattle.lbk_uax14.specs.declared.cells.Cell.{Cell};
+ghost use Rattle.lbk_uax14.specs.declared.facts.Left.{Left};
 ghost use Rattle.lbk_values.specs.declared.profile.Profile.{Profile};
-ghost use Rattle.lbk_rules.specs.Breaks.{is_no};
-ghost use Rattle.lbk_rules.specs.Codes.{IsCode, verdict_coded};
+ghost use Rattle.lbk_uax14.specs.Breaks.{is_no};
+ghost use Rattle.lbk_uax14.specs.Codes.{IsCode, verdict_coded};
 ghost use Rattle.lbk_steps.specs.FlatTable.{AreFlatKinds, IsFlatBy};
 ghost use Rattle.lbk_steps.specs.Neighbours.{AreTold};
 ghost use Rattle.lbk_bytes.specs.Bytes.{with_break};
@@ -22,8 +22,7 @@ use crate::raw_break::RawBreak;
 use crate::shown::{shown_of, shown_of_break};
 use crate::steps::{CODES, pairs_of, step_at, steps_of};
 use crate::tries::{are_short, next_try};
-use lbk_rules::{Profile, VERDICTS, is_break};
-use lbk_steps::{FlatStep, FlatTable, Neighbours, STEPS};
+use lbk_rules::{FlatStep, FlatTable, Neighbours, Profile, STEPS, VERDICTS, is_break};
 
 /// Goes on until the block is full or the text ends, and writes the breaks before the scalars taken after those in the
 /// front of the block. In a text of fewer than 64 bytes the scalars that no block takes are gone over here, with no call, as

@@ -1,8 +1,8 @@
 //! Blocks of 64 bytes whose bits the sets of their bytes tell at once.
 
 ghost use Rattle.std.specs.Prelude.{◌≡◌, ℕ, ◌+◌, ◌*◌, ◌<◌, ◌≤◌, ◌++◌, List, length, IfSome};
-ghost use Rattle.lbk_rules.specs.declared.cells.Cell.{Cell};
-ghost use Rattle.lbk_rules.specs.declared.facts.Left.{Left};
+ghost use Rattle.lbk_uax14.specs.declared.cells.Cell.{Cell};
+ghost use Rattle.lbk_uax14.specs.declared.facts.Left.{Left};
 ghost use Rattle.lbk_values.specs.declared.profile.Profile.{Profile};
 ghost use Rattle.lbk_steps.specs.declared.flat_table.FlatStep.{FlatStep};
 ghost use Rattle.lbk_steps.specs.FlatTable.{AreFlatKinds};
@@ -15,7 +15,7 @@ ghost use Rattle.lbk_bytes.specs.Reached.{Ahead, AreSwift};
 use crate::blocks::{BLOCK, Marks, behind_byte, kept_below, marks_ahead};
 use crate::fill_state::FillState;
 use crate::marks::mark_bits;
-use lbk_steps::Neighbours;
+use lbk_rules::Neighbours;
 
 /// Takes blocks of bytes, as many as come one after the other, and the front of one in which a byte is special or of no scalar of
 /// one or two bytes in the block.

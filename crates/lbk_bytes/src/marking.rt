@@ -1,8 +1,8 @@
 //! Words that are filled with a bit for each byte of a text.
 
 ghost use Rattle.std.specs.Prelude.{◌≡◌, ℕ, ◌+◌, ◌*◌, ◌<◌, ◌≤◌, ◌++◌, ◌||◌, [], List, false, length, min};
-ghost use Rattle.lbk_rules.specs.declared.cells.Cell.{Cell};
-ghost use Rattle.lbk_rules.specs.declared.facts.Left.{Left};
+ghost use Rattle.lbk_uax14.specs.declared.cells.Cell.{Cell};
+ghost use Rattle.lbk_uax14.specs.declared.facts.Left.{Left};
 ghost use Rattle.lbk_values.specs.declared.profile.Profile.{Profile};
 ghost use Rattle.lbk_steps.specs.FlatTable.{IsFlatBy, KnowsTaken};
 ghost use Rattle.lbk_bytes.specs.Bytes.{end_in};
@@ -19,8 +19,7 @@ use crate::marks::{BITS, clear, mark, mark_breaks};
 use crate::raw_break::RawBreak;
 use crate::steps::{pairs_of, steps_of};
 use crate::tries::next_try;
-use lbk_rules::{Profile, is_break};
-use lbk_steps::FlatTable;
+use lbk_rules::{FlatTable, Profile, is_break};
 
 /// How many breaks are looked at together.
 const ROOM: usize = 16;

@@ -4,8 +4,7 @@ ghost use Rattle.std.specs.Prelude.{◌≡◌, ◌+◌, ◌<◌, slice_index_or}
 ghost use Rattle.lbk_steps.specs.FlatTable.{no_flat_step};
 ghost use Rattle.lbk_bytes.specs.Reached.{pairs_in, steps_in};
 
-use lbk_rules::Profile;
-use lbk_steps::{FlatStep, FlatTable, Neighbours, STEPS};
+use lbk_rules::{FlatStep, FlatTable, Neighbours, Profile, STEPS};
 
 /// How many codes there are.
 pub(crate) const CODES: usize = 0x11_0000;

@@ -8,16 +8,16 @@ use Rattle.std.proofs.Math.Seq.{drop-append_seam, drop-length}
 use lib.Utf8.{scalars}
 use Rattle.bstr.specs.Utf8.{pieces}
 use Rattle.bstr.proofs.lemmas.PieceLemmas.{pieces-nil}
-use Rattle.lbk_rules.specs.declared.breaks.Break.{Break}
-use Rattle.lbk_rules.specs.declared.cells.Cell.{Cell}
-use Rattle.lbk_rules.specs.declared.facts.Left.{Left}
+use Rattle.lbk_uax14.specs.declared.breaks.Break.{Break}
+use Rattle.lbk_uax14.specs.declared.cells.Cell.{Cell}
+use Rattle.lbk_uax14.specs.declared.facts.Left.{Left}
 use Rattle.lbk_steps.specs.declared.flat_table.FlatTable.{FlatTable}
 use Rattle.lbk_values.specs.declared.profile.Profile.{Profile}
 use Rattle.lbk_values.specs.declared.profile.Profile.TheVariants.{First, Second}
-use Rattle.lbk_rules.specs.Breaks.{breaks, breaks_from}
+use Rattle.lbk_uax14.specs.Breaks.{breaks, breaks_from}
 use Rattle.lbk_steps.specs.FlatTable.{IsFlatBy, IsFlatOf, KnowsTaken}
-use Rattle.lbk_rules.specs.Marks.{marks, marks_behind}
-use Rattle.lbk_rules.specs.Verdict.{verdict_between_in}
+use Rattle.lbk_uax14.specs.Marks.{marks, marks_behind}
+use Rattle.lbk_uax14.specs.Verdict.{verdict_between_in}
 use Rattle.lbk_words.proofs.WellFormedLemmas.{good_of, pieces-encode, scalars-good}
 use Rattle.lbk_bytes.specs.declared.raw_break.RawBreak.{RawBreak}
 use Rattle.lbk_c.specs.declared.interface.State.{State}

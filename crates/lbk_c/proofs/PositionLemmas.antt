@@ -3,21 +3,21 @@ use Rattle.std.proofs.Common.{◌≡◌, ℕ, ◌+◌, ◌<◌, List, [], ◌∷
 use Rattle.std.proofs.lemmas.List.{length-map}
 use Rattle.std.proofs.Math.Seq.{drop-length, take-length}
 use Rattle.bstr.specs.Utf8.{Decoded, or_replacement}
-use Rattle.lbk_rules.specs.declared.breaks.Break.{Break}
-use Rattle.lbk_rules.specs.declared.cells.Cell.{Cell}
-use Rattle.lbk_rules.specs.declared.facts.Left.{Left}
-use Rattle.lbk_rules.specs.declared.verdicts.Kind.TheVariants.{No}
-use Rattle.lbk_rules.specs.declared.verdicts.Rule.TheVariants.{Lb2}
-use Rattle.lbk_rules.specs.declared.verdicts.Verdict.{Verdict}
+use Rattle.lbk_uax14.specs.declared.breaks.Break.{Break}
+use Rattle.lbk_uax14.specs.declared.cells.Cell.{Cell}
+use Rattle.lbk_uax14.specs.declared.facts.Left.{Left}
+use Rattle.lbk_uax14.specs.declared.verdicts.Kind.TheVariants.{No}
+use Rattle.lbk_uax14.specs.declared.verdicts.Rule.TheVariants.{Lb2}
+use Rattle.lbk_uax14.specs.declared.verdicts.Verdict.{Verdict}
 use Rattle.lbk_steps.specs.declared.flat_table.FlatTable.{FlatTable}
 use Rattle.lbk_values.specs.declared.profile.Profile.{Profile}
-use Rattle.lbk_rules.specs.Breaks.{break_by}
-use Rattle.lbk_rules.specs.Codes.{IsCode, verdict_coded}
-use Rattle.lbk_rules.specs.Ends.{end_of_text}
-use Rattle.lbk_rules.specs.Joins.{moved}
-use Rattle.lbk_rules.specs.Marks.{marks_behind}
-use Rattle.lbk_rules.specs.Verdict.{verdict_between_in}
-use Rattle.lbk_rules.proofs.EndLemmas.{must_at_length, start_of_text}
+use Rattle.lbk_uax14.specs.Breaks.{break_by}
+use Rattle.lbk_uax14.specs.Codes.{IsCode, verdict_coded}
+use Rattle.lbk_uax14.specs.Ends.{end_of_text}
+use Rattle.lbk_uax14.specs.Joins.{moved}
+use Rattle.lbk_uax14.specs.Marks.{marks_behind}
+use Rattle.lbk_uax14.specs.Verdict.{verdict_between_in}
+use Rattle.lbk_uax14.proofs.EndLemmas.{must_at_length, start_of_text}
 use Rattle.lbk_steps.specs.FlatTable.{IsFlatBy, KnowsTaken}
 use Rattle.lbk_bytes.specs.declared.ends.TheConstants.{END}
 use Rattle.lbk_bytes.specs.Reached.{onward_all, scalars_of}

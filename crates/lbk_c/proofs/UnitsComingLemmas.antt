@@ -6,13 +6,13 @@ use Rattle.std.proofs.lemmas.Str.{chars-encodes}
 use Rattle.std.proofs.Math.Seq.{drop-length}
 use lib.Utf8.{scalars}
 use Rattle.bstr.specs.Utf8.{Decoded}
-use Rattle.lbk_rules.specs.declared.breaks.Break.{Break}
-use Rattle.lbk_rules.specs.declared.cells.Cell.{Cell}
-use Rattle.lbk_rules.specs.declared.facts.Left.{Left}
+use Rattle.lbk_uax14.specs.declared.breaks.Break.{Break}
+use Rattle.lbk_uax14.specs.declared.cells.Cell.{Cell}
+use Rattle.lbk_uax14.specs.declared.facts.Left.{Left}
 use Rattle.lbk_steps.specs.declared.flat_table.FlatTable.{FlatTable}
 use Rattle.lbk_values.specs.declared.profile.Profile.{Profile}
-use Rattle.lbk_rules.specs.Breaks.{breaks}
-use Rattle.lbk_rules.specs.Joins.{moved}
+use Rattle.lbk_uax14.specs.Breaks.{breaks}
+use Rattle.lbk_uax14.specs.Joins.{moved}
 use Rattle.lbk_steps.specs.FlatTable.{IsFlatBy, IsFlatOf, KnowsTaken}
 use Rattle.lbk_bytes.specs.declared.fill_state.FillState.{FillState}
 use Rattle.lbk_bytes.specs.declared.raw_break.RawBreak.{RawBreak}

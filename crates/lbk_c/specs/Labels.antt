@@ -1,8 +1,8 @@
 -- The labels of rules.
 use Rattle.std.specs.Prelude.{ℕ, ◌-◌, ◌==◌, List, [], ◌++◌, length, replicate, Option, Some, None, find}
-use Rattle.lbk_rules.specs.declared.verdicts.Rule.{Rule}
-use Rattle.lbk_rules.specs.Codes.{rule_number, rules}
-use Rattle.lbk_rules.specs.Labels.{label_of}
+use Rattle.lbk_uax14.specs.declared.verdicts.Rule.{Rule}
+use Rattle.lbk_uax14.specs.Codes.{rule_number, rules}
+use Rattle.lbk_uax14.specs.Labels.{label_of}
 
 -- four bytes: those of a label, and zeros behind them
 abbrev pub filled : List ℕ → List ℕ

@@ -2,12 +2,12 @@
 
 ghost use Rattle.std.specs.Prelude.{◌≡◌, ℕ, Bool, suc, ◌<◌, ◌≤◌, ◌⊎◌, [], List, MatchOption, drop, length, map, min, take};
 ghost use Rattle.std.specs.Str.{IsUtf8, chars};
-ghost use Rattle.lbk_rules.specs.declared.breaks.Break.{Break};
-ghost use Rattle.lbk_rules.specs.declared.cells.Cell.{Cell};
-ghost use Rattle.lbk_rules.specs.declared.facts.Left.{Left};
+ghost use Rattle.lbk_uax14.specs.declared.breaks.Break.{Break};
+ghost use Rattle.lbk_uax14.specs.declared.cells.Cell.{Cell};
+ghost use Rattle.lbk_uax14.specs.declared.facts.Left.{Left};
 ghost use Rattle.lbk_values.specs.declared.profile.Profile.{Profile};
-ghost use Rattle.lbk_rules.specs.Breaks.{breaks};
-ghost use Rattle.lbk_rules.specs.Joins.{moved};
+ghost use Rattle.lbk_uax14.specs.Breaks.{breaks};
+ghost use Rattle.lbk_uax14.specs.Joins.{moved};
 ghost use Rattle.lbk_steps.specs.FlatTable.{IsFlatBy, IsFlatOf};
 ghost use Rattle.lbk_bytes.specs.Bytes.{breaks_of_bytes, breaks_of_part};
 ghost use Rattle.lbk_bytes.specs.Order.{AreInOrder};
@@ -18,8 +18,7 @@ ghost use Rattle.lbk_c.specs.State.{part_start, plain, profile_numbered, start_i
 
 use crate::interface::State;
 use lbk_bytes::{FillState, RawBreak, fill, goes_on, plain_number, profile_numbered, put_end};
-use lbk_rules::Profile;
-use lbk_steps::FlatTable;
+use lbk_rules::{FlatTable, Profile};
 
 /// Puts the next breaks of a text (UAX #14, section 3) into the front of the block, from the state on, and returns how many:
 /// as many as the block holds, or all that are left. The text may be any bytes: each longest piece that begins no scalar is

@@ -3,7 +3,7 @@
 ghost use Rattle.std.specs.Prelude.{◌↔◌, IsTrue};
 ghost use Rattle.lbk_steps.specs.FlatTable.{IsWhole};
 
-use lbk_steps::FlatTable;
+use lbk_rules::FlatTable;
 
 /// Whether the table is whole: its layout is that of this version, and its digest is that of its numbers. So it is of each
 /// table that `lbk_read` filled, also after it was kept in a file.

@@ -2,15 +2,15 @@
 
 ghost use Rattle.std.specs.Prelude.{◌≡◌, [], ℕ};
 ghost use Rattle.std.specs.Char.{IsScalar};
-ghost use Rattle.lbk_rules.specs.declared.cells.Cell.{Cell};
-ghost use Rattle.lbk_rules.specs.declared.classes.Class.{Class};
+ghost use Rattle.lbk_uax14.specs.declared.cells.Cell.{Cell};
+ghost use Rattle.lbk_uax14.specs.declared.classes.Class.{Class};
 ghost use Rattle.lbk_steps.specs.FlatTable.{IsFlatOf};
 ghost use Rattle.lbk_steps.specs.ClassLabels.{class_label};
 ghost use Rattle.lbk_c.specs.Labels.{filled};
 
 use crate::interface::ClassLabel;
 use crate::labels::filled;
-use lbk_steps::{FlatTable, class_label};
+use lbk_rules::{FlatTable, class_label};
 
 /// The line breaking class of a scalar value once rule LB1 has resolved it (UAX #14, sections 5.1 and 6.1), as `AL`: ASCII,
 /// filled up by zeros. For a number that is no scalar value it is zeros. Whatever the table holds, it is the name of some class.

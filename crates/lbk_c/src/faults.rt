@@ -4,7 +4,7 @@ ghost use Rattle.std.specs.Prelude.{◌≡◌};
 ghost use Rattle.lbk_c.specs.Faults.{cause_number, file_number, given_fault, unmade_fault, unpublished_fault};
 
 use crate::interface::Fault;
-use lbk_steps::TableError;
+use lbk_rules::TableError;
 use lbk_ucd::{UcdCause, UcdFault, Which};
 
 /// No fault.

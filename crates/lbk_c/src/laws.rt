@@ -1,8 +1,8 @@
 //! What holds of states and of digests, over definitions only. Each law is the contract of a function that does nothing.
 
 ghost use Rattle.std.specs.Prelude.{◌≡◌, ℕ, ◌^◌, ◌<◌, ◌≤◌, List, drop, length};
-ghost use Rattle.lbk_rules.specs.declared.breaks.Break.{Break};
-ghost use Rattle.lbk_rules.specs.declared.cells.Cell.{Cell};
+ghost use Rattle.lbk_uax14.specs.declared.breaks.Break.{Break};
+ghost use Rattle.lbk_uax14.specs.declared.cells.Cell.{Cell};
 ghost use Rattle.lbk_steps.specs.declared.flat_table.FlatTable.{FlatTable};
 ghost use Rattle.lbk_c.specs.declared.interface.State.{State};
 ghost use Rattle.bstr.specs.Utf8.{Decoded};

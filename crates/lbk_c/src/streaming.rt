@@ -1,10 +1,10 @@
 //! A text that comes in pieces.
 
 ghost use Rattle.std.specs.Prelude.{◌≡◌, ◌⊎◌, ℕ, Bool, suc, ◌+◌, ◌-◌, ◌^◌, ◌<◌, ◌≤◌, ◌++◌, true, false, [], List, drop, length, map, take};
-ghost use Rattle.lbk_rules.specs.declared.breaks.Break.{Break};
-ghost use Rattle.lbk_rules.specs.declared.cells.Cell.{Cell};
+ghost use Rattle.lbk_uax14.specs.declared.breaks.Break.{Break};
+ghost use Rattle.lbk_uax14.specs.declared.cells.Cell.{Cell};
 ghost use Rattle.lbk_values.specs.declared.profile.Profile.{Profile};
-ghost use Rattle.lbk_rules.specs.Joins.{moved};
+ghost use Rattle.lbk_uax14.specs.Joins.{moved};
 ghost use Rattle.lbk_steps.specs.FlatTable.{IsFlatOf};
 ghost use Rattle.lbk_bytes.specs.Bytes.{breaks_of_bytes, breaks_of_part};
 ghost use Rattle.lbk_bytes.specs.Order.{AreBreaks, AreInOrder};
@@ -13,7 +13,7 @@ ghost use Rattle.lbk_streams.specs.Stands.{Streams};
 ghost use Rattle.lbk_streams.specs.Streams.{AreUnsettled, IsSound, cut_bytes, most_left, next_place, part_stream, place_of, stream_start};
 
 use lbk_bytes::RawBreak;
-use lbk_steps::FlatTable;
+use lbk_rules::FlatTable;
 use lbk_streams::{Fed, Stream, feed};
 
 /// Takes the next piece of a stream, and puts the breaks that it settles (UAX #14, section 3) into the front of the block, as

@@ -3,7 +3,7 @@
 ghost use Rattle.std.specs.Prelude.{◌≡◌, ◌<◌, ℕ};
 ghost use Rattle.lbk_ucd.specs.Files.{AreLawful};
 ghost use Rattle.lbk_steps.specs.Cells.{AreCellsOf};
-ghost use Rattle.lbk_rules.specs.declared.cells.Cell.{Cell};
+ghost use Rattle.lbk_uax14.specs.declared.cells.Cell.{Cell};
 ghost use Rattle.lbk_steps.specs.FlatTable.{IsFlatOf, IsWhole};
 ghost use Rattle.lbk_database.specs.Digests.{ArePublished};
 ghost use Rattle.lbk_c.specs.Faults.{IsFaultOf, IsFaultOfPublished, files_of, no_fault};
@@ -11,7 +11,7 @@ ghost use Rattle.lbk_c.specs.Faults.{IsFaultOf, IsFaultOfPublished, files_of, no
 use crate::faults::{NO_FAULT, given_fault, unmade_fault, unpublished_fault};
 use crate::interface::Fault;
 use lbk_database::first_unpublished;
-use lbk_steps::FlatTable;
+use lbk_rules::FlatTable;
 use lbk_ucd::{Files, Tables};
 use std::alloc::Global;
 

@@ -2,12 +2,12 @@
 
 ghost use Rattle.std.specs.Prelude.{◌≡◌, ℕ, suc, ◌<◌, ◌≤◌, ◌⊎◌, false, true, [], List, drop, length, map, min, take};
 ghost use Rattle.std.specs.Str.{all_scalars, encode_utf8_all};
-ghost use Rattle.lbk_rules.specs.declared.breaks.Break.{Break};
-ghost use Rattle.lbk_rules.specs.declared.cells.Cell.{Cell};
-ghost use Rattle.lbk_rules.specs.declared.facts.Left.{Left};
+ghost use Rattle.lbk_uax14.specs.declared.breaks.Break.{Break};
+ghost use Rattle.lbk_uax14.specs.declared.cells.Cell.{Cell};
+ghost use Rattle.lbk_uax14.specs.declared.facts.Left.{Left};
 ghost use Rattle.lbk_values.specs.declared.profile.Profile.{Profile};
-ghost use Rattle.lbk_rules.specs.Breaks.{breaks};
-ghost use Rattle.lbk_rules.specs.Joins.{moved};
+ghost use Rattle.lbk_uax14.specs.Breaks.{breaks};
+ghost use Rattle.lbk_uax14.specs.Joins.{moved};
 ghost use Rattle.lbk_steps.specs.FlatTable.{IsFlatBy, IsFlatOf};
 ghost use Rattle.lbk_bytes.specs.Order.{AreInOrder};
 ghost use Rattle.lbk_bytes.specs.Reached.{onward};
@@ -22,8 +22,7 @@ ghost use Rattle.lbk_c.specs.UnitsComing.{UnitsCome, UnitsGo};
 use crate::breaking::going_profile;
 use crate::interface::State;
 use lbk_bytes::{FillState, RawBreak, put_end};
-use lbk_rules::Profile;
-use lbk_steps::FlatTable;
+use lbk_rules::{FlatTable, Profile};
 use lbk_units::{Unit, fill_units};
 
 /// Puts the next breaks of a text in UTF-16 into the front of the block, as `lbk_breaks` does of one in UTF-8, and returns how

@@ -5,9 +5,9 @@ use Rattle.std.specs.List.{flat_map}
 use Rattle.std.proofs.Math.Seq.{drop-append_seam, take-append_seam}
 use Rattle.std.proofs.lemmas.Str.{chars_from_encodes}
 use Rattle.lbk_feed.specs.Devices.{Reads}
-use Rattle.lbk_rules.specs.declared.cells.Cell.{Cell}
-use Rattle.lbk_rules.specs.declared.verdicts.Kind.TheVariants.{No, May, Must}
-use Rattle.lbk_rules.specs.Breaks.{is_no}
+use Rattle.lbk_uax14.specs.declared.cells.Cell.{Cell}
+use Rattle.lbk_uax14.specs.declared.verdicts.Kind.TheVariants.{No, May, Must}
+use Rattle.lbk_uax14.specs.Breaks.{is_no}
 use Rattle.lbk_passage.specs.Marks.{Marked, scalars_of, text_of}
 use Rattle.lbk_passage.specs.Segments.{segments_from, segments_of}
 use Rattle.lbk_passage.specs.State.{State}

@@ -15,8 +15,7 @@ use super::shown::{decide, push_shown};
 use super::signed::push_signed;
 use lbk_feed::{Sink, Source, write_all};
 use lbk_passage::{Passage, Segmenter};
-use lbk_rules::{Profile, Verdict};
-use lbk_steps::CellSource;
+use lbk_rules::{CellSource, Profile, Verdict};
 use std::alloc::{AllocError, Global};
 
 /// Writes a text with `÷` at each position where a line may end (UAX #14, section 6), and nothing else changed: where a

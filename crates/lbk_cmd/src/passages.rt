@@ -13,8 +13,7 @@ use super::owned::OwnedPassage;
 use lbk_feed::Source;
 use lbk_files::read_cells;
 use lbk_passage::Segmenter;
-use lbk_rules::Profile;
-use lbk_steps::CellPages;
+use lbk_rules::{CellPages, Profile};
 use lbk_ucd::Files;
 use std::alloc::Global;
 

@@ -9,8 +9,7 @@ use super::faults::CmdFault;
 use lbk_args::Part;
 use lbk_feed::{Sink, Source, write_all};
 use lbk_passage::Segmenter;
-use lbk_rules::Profile;
-use lbk_steps::CellSource;
+use lbk_rules::{CellSource, Profile};
 use std::alloc::Global;
 
 /// Writes the lines of the passages that begin in a range of bytes, as they are of the whole text. The text is read from its

@@ -7,13 +7,12 @@ ghost use Rattle.lbk_notation.specs.Shown.{passage_line, written_labels, passage
 ghost use Rattle.lbk_notation.specs.Written.{written_line};
 ghost use Rattle.lbk_notation.specs.declared.marks.Form.TheVariants.{Kinds};
 ghost use Rattle.lbk_passage.specs.Marks.{marks, ended};
-ghost use Rattle.lbk_rules.specs.Answers.{written};
+ghost use Rattle.lbk_uax14.specs.Answers.{written};
 ghost use Rattle.lbk_cmd.specs.Show.{verdicts_of};
 ghost use Rattle.lbk_cmd.specs.Deciding.{placed};
 
 use lbk_notation::{Form, mark_of, push_mark, push_scalar};
-use lbk_rules::{Kind, Profile, Rule, Verdict};
-use lbk_steps::{CellSource, Stepper};
+use lbk_rules::{CellSource, Kind, Profile, Rule, Stepper, Verdict};
 use std::alloc::AllocError;
 
 /// Writes the verdicts of all positions of a passage in place of what the list held: those of its text by itself, the

@@ -8,8 +8,7 @@ ghost use Rattle.lbk_cmd.specs.Mark.{is_line_end, missing_line_end, sign};
 ghost use Rattle.lbk_cmd.specs.Signing.{IsCut, signed_from};
 
 use lbk_passage::{Passage, Segment};
-use lbk_rules::{Cell, Class, Kind};
-use lbk_steps::CellSource;
+use lbk_rules::{Cell, CellSource, Class, Kind};
 use std::alloc::AllocError;
 
 /// Puts the text of a passage at the end of `out`, with `÷` after each segment after which a line may end, and with a

@@ -2,16 +2,15 @@
 
 ghost use Rattle.std.specs.Prelude.{◌≡◌, ℕ, ◌+◌, ◌-◌, ◌<◌, ◌≤◌, length, drop};
 ghost use Rattle.bstr.specs.Utf8.{decoded};
-ghost use Rattle.lbk_rules.specs.declared.cells.Cell.{Cell};
+ghost use Rattle.lbk_uax14.specs.declared.cells.Cell.{Cell};
 ghost use Rattle.lbk_values.specs.declared.profile.Profile.{Profile};
-ghost use Rattle.lbk_rules.specs.Ends.{ends_between};
+ghost use Rattle.lbk_uax14.specs.Ends.{ends_between};
 ghost use Rattle.lbk_steps.specs.FlatTable.{AreFlatKinds, IsFlatOf};
 ghost use Rattle.lbk_cuts.specs.Cuts.{IsCutAfter, IsCutBefore, IsPieceStart, IsSafeCut, JoinsAt};
 ghost use Rattle.lbk_cuts.specs.Looking.{LastIs, NextIs};
 
 use bstr::{decode_last_lossy, decode_lossy};
-use lbk_rules::Class;
-use lbk_steps::FlatTable;
+use lbk_rules::{Class, FlatTable};
 
 /// The first byte at or after `at` at which a part of a text may begin: one before which a line must end (UAX #14, section
 /// 6.1, rules LB4 and LB5), or the end of the text. A place past the text counts as its end, and 0 is its start, at which the

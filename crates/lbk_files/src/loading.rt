@@ -14,7 +14,7 @@ use super::places::{Place, Places, places_of};
 use super::published::check_claim;
 use super::store::{LoadFault, Store};
 use lbk_args::FileNames;
-use lbk_steps::CellPages;
+use lbk_rules::CellPages;
 use lbk_ucd::{Files, LONGEST_FILE, Which};
 use std::alloc::Global;
 

@@ -11,8 +11,7 @@ use super::faults::{CellsFault, Stop};
 use super::loading::load_cells;
 use super::store::Store;
 use lbk_args::{Engine, Order, Part, WordsFault, parse};
-use lbk_rules::Profile;
-use lbk_steps::CellPages;
+use lbk_rules::{CellPages, Profile};
 use std::alloc::Global;
 
 /// An engine with its option, the profile, which passages of each text, unless all, the cells of the files and the names of

@@ -12,8 +12,7 @@ use super::marks::Form;
 use super::replay_state::ReplayState;
 use super::replayer::Replayer;
 use lbk_feed::{Sink, Source, write_all};
-use lbk_rules::Profile;
-use lbk_steps::CellSource;
+use lbk_rules::{CellSource, Profile};
 use std::alloc::Global;
 
 const BLOCK: usize = 4096;

@@ -8,8 +8,7 @@ ghost use Rattle.lbk_notation.specs.Put.{put, mark_now};
 
 use super::marks::Mark;
 use super::test_line::TestLine;
-use lbk_rules::{Kind, Profile, Verdict};
-use lbk_steps::{CellSource, Stepper};
+use lbk_rules::{CellSource, Kind, Profile, Stepper, Verdict};
 use std::alloc::{AllocError, Global};
 
 /// The scalars of a text, and at each position what the rules say of it (UAX #14, section 6). An error comes where memory

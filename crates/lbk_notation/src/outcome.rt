@@ -8,8 +8,7 @@ ghost use Rattle.lbk_notation.specs.Outcome.{IsOutcome};
 use super::findings::Outcome;
 use super::marks::{Form, Mark};
 use super::test_line::TestLine;
-use lbk_rules::{Kind, Profile, Verdict};
-use lbk_steps::{CellSource, Stepper};
+use lbk_rules::{CellSource, Kind, Profile, Stepper, Verdict};
 
 /// Compares the marks of a line with what the rules of the profile say of its scalars (UAX #14, section 6).
 ///

@@ -9,7 +9,7 @@ use super::findings::{Finding, ReplayFault, Report, STREAM_MAX};
 use super::line_reading::LONGEST;
 use super::replay_lines::{push_finding, push_total};
 use super::replayer::Replayer;
-use lbk_steps::CellSource;
+use lbk_rules::CellSource;
 use std::alloc::{AllocError, Global};
 
 const MARK: [u8; 3] = [0xEF, 0xBB, 0xBF];
@@ -35,7 +35,7 @@ pub struct ReplayState {
 }
 
 impl ReplayState {
-    ghost use Rattle.lbk_rules.specs.declared.cells.Cell.{Cell};
+    ghost use Rattle.lbk_uax14.specs.declared.cells.Cell.{Cell};
     ghost use Rattle.lbk_values.specs.declared.profile.Profile.{Profile};
     ghost use Rattle.lbk_notation.specs.declared.marks.Form.{Form};
     ghost use Rattle.lbk_notation.specs.Fault.{HasMarks};

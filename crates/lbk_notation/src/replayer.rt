@@ -9,8 +9,7 @@ use super::findings::{Finding, ReplayFault};
 use super::line_reading::read_line;
 use super::marks::Form;
 use super::outcome::replay_line;
-use lbk_rules::Profile;
-use lbk_steps::CellSource;
+use lbk_rules::{CellSource, Profile};
 use std::alloc::Global;
 
 /// What the lines of a file are compared with, and in which form.

@@ -1,7 +1,7 @@
 //! Where a paragraph ends, told by two classes.
 
 ghost use Rattle.std.specs.Prelude.{◌≡◌};
-ghost use Rattle.lbk_rules.specs.Ends.{ends_line};
+ghost use Rattle.lbk_uax14.specs.Ends.{ends_line};
 ghost use Rattle.lbk_passage.specs.Stays.{ends_at, end_before};
 
 use lbk_rules::{Class, Kind, Rule, Verdict};

@@ -4,7 +4,7 @@ ghost use Rattle.std.specs.Prelude.{◌≡◌, ◌+◌, ◌<◌, ◌≤◌, true
 ghost use Rattle.lbk_passage.specs.Flags.{AreLetters, AreQuiet, ArePassed};
 
 use crate::ends::ends_line;
-use lbk_steps::CellSource;
+use lbk_rules::CellSource;
 
 /// How many bytes are a scalar by themselves.
 const ASCII: u8 = 0x80;

@@ -8,8 +8,7 @@ use crate::faults::{PassageFault, from_feed};
 use crate::flags::ByteFlags;
 use crate::reach::{Reach, Stop, reach_in};
 use lbk_feed::{Feed, Source};
-use lbk_rules::{Class, Verdict};
-use lbk_steps::CellSource;
+use lbk_rules::{CellSource, Class, Verdict};
 use std::alloc::{AllocError, Global};
 
 /// The bytes of the paragraph in progress, what was read after them, and how far the paragraph may reach.
@@ -37,7 +36,7 @@ impl Paragraph {
     ghost use Rattle.lbk_passage.specs.Flags.{AreQuiet};
     ghost use Rattle.lbk_passage.specs.Gathering.{Takes, Settles, Gathering, Gathers, Fills, IsSame};
     ghost use Rattle.lbk_passage.specs.Next.{IsDone, failures_with, fault_in};
-    ghost use Rattle.lbk_rules.specs.declared.cells.Cell.{Cell};
+    ghost use Rattle.lbk_uax14.specs.declared.cells.Cell.{Cell};
     ghost use Rattle.lbk_values.specs.declared.profile.Profile.{Profile};
 
     /// A paragraph of at most `limit` bytes, for which room is reserved.

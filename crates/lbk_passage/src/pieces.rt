@@ -6,7 +6,7 @@ ghost use Rattle.lbk_passage.specs.Pieces.{is_word, pieces_of};
 
 use crate::flags::ByteFlags;
 use crate::passage::Piece;
-use lbk_steps::CellSource;
+use lbk_rules::CellSource;
 use std::alloc::AllocError;
 use unicode_segmentation::UnicodeSegmentation;
 

@@ -1,13 +1,12 @@
 //! How far a paragraph reaches into a piece of text.
 
 ghost use Rattle.std.specs.Prelude.{◌≡◌, ℕ, ◌≤◌, IsCharBoundary, Option};
-ghost use Rattle.lbk_rules.specs.declared.classes.Class.{Class};
+ghost use Rattle.lbk_uax14.specs.declared.classes.Class.{Class};
 ghost use Rattle.lbk_passage.specs.Flags.{AreQuiet, Passes, is_end};
 
 use crate::ends::{ends_at, ends_line};
 use crate::flags::ByteFlags;
-use lbk_rules::Class;
-use lbk_steps::CellSource;
+use lbk_rules::{CellSource, Class};
 
 /// Why a paragraph reaches no further into a piece.
 #[derive(Clone, Copy, PartialEq, Eq, Debug)]

@@ -2,7 +2,7 @@
 
 ghost use Rattle.std.specs.Prelude.{◌≡◌, ◌+◌, ◌<◌, ◌≤◌, ◌^◌, ◌++◌, List, false, length, vec_capacity, vec_len, All, IfOk, OnOk, OnErr};
 ghost use Rattle.std.specs.Str.{chars};
-ghost use Rattle.lbk_rules.specs.declared.breaks.Break.{Break};
+ghost use Rattle.lbk_uax14.specs.declared.breaks.Break.{Break};
 ghost use Rattle.lbk_passage.specs.Breaks.{breaks, is_no};
 ghost use Rattle.lbk_passage.specs.Cuts.{cut_at, ending_by};
 ghost use Rattle.lbk_passage.specs.Marks.{marks, ended};
@@ -10,8 +10,7 @@ ghost use Rattle.lbk_passage.specs.Segments.{segments_of};
 
 use crate::passage::Segment;
 use lbk_breaks::{Break, Breaks};
-use lbk_rules::{Kind, Profile, Rule, Verdict};
-use lbk_steps::CellSource;
+use lbk_rules::{CellSource, Kind, Profile, Rule, Verdict};
 use std::alloc::AllocError;
 
 /// How many breaks are found at a time.

@@ -1,37 +1,26 @@
-//! The rules of line breaking: Unicode Standard Annex #14, Unicode 15.0, over cells.
+//! The door to the rules of line breaking: Unicode Standard Annex #14, Unicode 15.0, with all that decides by them.
 //!
-//! A text is seen as a list of [`Cell`]s, one a scalar. [`decide`] returns for a position in it
-//! whether the line may break, must break or must not, and the rule that decided. The crate `lbk_steps` decides texts, and
-//! is fast.
+//! What callers need of the rules stands here: a text is seen as a list of [`Cell`]s, one a scalar, which a [`CellSource`]
+//! gives; [`decide`] returns for a position in it whether the line may break, must break or must not, and the rule that
+//! decided; [`Machine`] and [`LateMachine`] do so cell by cell, holding a few fields. The rules are written down in
+//! `lbk_uax14`, the tables of steps in `lbk_steps`. The crate `lbk_breaks` finds the breaks of a text in memory, and is
+//! faster.
 #![tactic(auto)]
 
-pub mod annex;
-mod asked;
-mod breaks;
-mod cells;
-mod classes;
-mod codes;
-mod evaluator;
-mod facts;
-mod forward_machine;
-mod late_machine;
-pub mod laws;
-mod resolution;
-mod table;
-mod verdicts;
+// Cells, and the sources of them.
+pub use lbk_steps::{CellPages, CellSource, class_label};
+pub use lbk_uax14::{Cell, Class, Quote, resolve};
 
-// What callers name.
-pub use breaks::Break;
-pub use cells::Cell;
-pub use classes::{Class, Quote};
-pub use evaluator::{decide, decide_in};
-pub use lbk_values::Profile;
-pub use resolution::resolve;
-pub use verdicts::{Kind, Rule, Verdict};
+// Positions decided, at once or cell by cell.
+pub use lbk_steps::Stepper;
+pub use lbk_uax14::{
+    Break, End, Kind, LateMachine, Machine, Out, Profile, Rule, Verdict, annex, decide, decide_all,
+    decide_all_in, decide_in, laws,
+};
 
-// What `lbk_steps` is made of, and what tests compare it with.
-pub use codes::{RULES, VERDICTS, code_of, is_break};
-pub use facts::{Before, Left};
-pub use forward_machine::{ForwardMachine, decide_all};
-pub use late_machine::{EndVerdicts, LateMachine, StepVerdicts, decide_all_in, unless_held};
-pub use verdicts::is_second;
+// What `lbk_breaks` and `lbk_c` step by.
+pub use lbk_steps::{
+    AheadMachine, FlatStep, FlatTable, HELD, LAYOUT, Neighbours, RowMachine, RowStepper, STEPS,
+    StepTable, TableError,
+};
+pub use lbk_uax14::{Before, Left, RULES, VERDICTS, code_of, is_break, is_second, unless_held};

@@ -6,26 +6,26 @@ use Rattle.std.proofs.lemmas.Bool.{false≢true}
 use Rattle.std.proofs.lemmas.List.{length-map}
 use Rattle.std.proofs.lemmas.Str.{IsUtf8-past_char, chars-nil, chars_past_char}
 use Rattle.std.proofs.Math.Seq.{drop-length, take-length}
-use Rattle.lbk_rules.specs.declared.cells.Cell.{Cell}
+use Rattle.lbk_uax14.specs.declared.cells.Cell.{Cell}
 use Rattle.lbk_values.specs.declared.profile.Profile.{Profile}
 use Rattle.lbk_values.specs.declared.profile.Profile.TheVariants.{First, Second}
-use Rattle.lbk_rules.specs.Chain.{from_cells}
-use Rattle.lbk_rules.specs.Classes.{hard, mark, none_of, closes_before}
-use Rattle.lbk_rules.specs.Facts.{closes_in}
-use Rattle.lbk_rules.specs.Held.{is_15b}
+use Rattle.lbk_uax14.specs.Chain.{from_cells}
+use Rattle.lbk_uax14.specs.Classes.{hard, mark, none_of, closes_before}
+use Rattle.lbk_uax14.specs.Facts.{closes_in}
+use Rattle.lbk_uax14.specs.Held.{is_15b}
 use Rattle.lbk_steps.specs.declared.kind_table.KindTable.{KindTable}
 use Rattle.lbk_steps.specs.Kinds.{kind_cell}
 use Rattle.lbk_steps.specs.KindTable.{kind_at}
-use Rattle.lbk_rules.specs.Normal.{normal}
+use Rattle.lbk_uax14.specs.Normal.{normal}
 use Rattle.lbk_steps.specs.RowFits.{AreKindsOf}
 use Rattle.lbk_steps.specs.RowMachineFits.{normals}
-use Rattle.lbk_rules.specs.Verdict.{verdict_between_in, verdict_in}
-use Rattle.lbk_rules.specs.Sides.{Side, leaves_closed}
-use Rattle.lbk_rules.specs.Units.{unit, units_after}
-use Rattle.lbk_rules.proofs.ChainLemmas.{verdict_between-chain}
-use Rattle.lbk_rules.proofs.HeldLemmas.{from_cells-first}
-use Rattle.lbk_rules.proofs.MachineLemmas.{verdict_in-append}
-use Rattle.lbk_rules.proofs.NormalLemmas.{between-normal}
+use Rattle.lbk_uax14.specs.Verdict.{verdict_between_in, verdict_in}
+use Rattle.lbk_uax14.specs.Sides.{Side, leaves_closed}
+use Rattle.lbk_uax14.specs.Units.{unit, units_after}
+use Rattle.lbk_uax14.proofs.ChainLemmas.{verdict_between-chain}
+use Rattle.lbk_uax14.proofs.HeldLemmas.{from_cells-first}
+use Rattle.lbk_uax14.proofs.MachineLemmas.{verdict_in-append}
+use Rattle.lbk_uax14.proofs.NormalLemmas.{between-normal}
 use Rattle.lbk_steps.proofs.PagesOfText.{cells_of_text-same}
 
 -- what is left of the text, behind a cell that leaves the next one fresh or not, tells what the whole told

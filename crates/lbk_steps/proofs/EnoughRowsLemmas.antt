@@ -2,13 +2,13 @@
 use Rattle.std.proofs.Common.{◌≡◌, ℕ, ◌<◌, List, ◌∷◌, length, map, get_or, ap, subst, sym, ◌∙◌}
 use Rattle.std.specs.Prelude.{All}
 use Rattle.std.proofs.lemmas.List.Elements.{All-cons}
-use Rattle.lbk_rules.specs.declared.cells.Cell.{Cell}
-use Rattle.lbk_rules.specs.declared.facts.Left.{Left}
+use Rattle.lbk_uax14.specs.declared.cells.Cell.{Cell}
+use Rattle.lbk_uax14.specs.declared.facts.Left.{Left}
 use Rattle.lbk_steps.specs.declared.kinds.TheConstants.{KINDS}
-use Rattle.lbk_rules.specs.Facts.{facts}
+use Rattle.lbk_uax14.specs.Facts.{facts}
 use Rattle.lbk_steps.specs.Kinds.{kind_cell}
 use Rattle.lbk_steps.specs.EnoughRows.{IsKnown}
-use Rattle.lbk_rules.specs.Sides.{Side}
+use Rattle.lbk_uax14.specs.Sides.{Side}
 
 -- what is known after one cell more than what a row knows of
 pub known-next : (lefts : List Left) (left next : Left) (cell : Cell) (row kind : ℕ) → All IsKnown lefts

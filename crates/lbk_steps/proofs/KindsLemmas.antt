@@ -2,14 +2,14 @@
 use Rattle.std.proofs.Common.{◌≡◌, ℕ, ◌+◌, ◌*◌, ◌%◌, ◌<◌, Bool, true, false, ◌&&◌, leb, ap, refl, ◌∙◌, arith, lit<}
 use Rattle.std.proofs.lemmas.Bool.Decides.{nat_tests}
 use Rattle.std.specs.Int.{from_bool}
-use Rattle.lbk_rules.specs.declared.cells.Cell.{Cell}
-use Rattle.lbk_rules.specs.declared.classes.Class.{Class}
-use Rattle.lbk_rules.specs.declared.classes.Class.TheVariants.{Alphabetic, BreakBoth, BreakAfter, BreakBefore, MandatoryBreak, ContingentBreak, ClosePunctuation, CombiningMark, CloseParenthesis, CarriageReturn, EBase, EModifier, Exclamation, Glue, H2, H3, HebrewLetter, Hyphen, Ideographic, Inseparable, InfixNumeric, JL, JT, JV, LineFeed, NextLine, Nonstarter, Numeric, OpenPunctuation, PostfixNumeric, PrefixNumeric, Quotation, RegionalIndicator, Space, BreakSymbols, WordJoiner, ZWSpace, ZWJ}
-use Rattle.lbk_rules.specs.declared.classes.Quote.{Quote}
-use Rattle.lbk_rules.specs.declared.classes.Quote.TheVariants.{Neither, Initial, Final}
-use Rattle.lbk_rules.specs.Classes.{is, mark, none_of}
+use Rattle.lbk_uax14.specs.declared.cells.Cell.{Cell}
+use Rattle.lbk_uax14.specs.declared.classes.Class.{Class}
+use Rattle.lbk_uax14.specs.declared.classes.Class.TheVariants.{Alphabetic, BreakBoth, BreakAfter, BreakBefore, MandatoryBreak, ContingentBreak, ClosePunctuation, CombiningMark, CloseParenthesis, CarriageReturn, EBase, EModifier, Exclamation, Glue, H2, H3, HebrewLetter, Hyphen, Ideographic, Inseparable, InfixNumeric, JL, JT, JV, LineFeed, NextLine, Nonstarter, Numeric, OpenPunctuation, PostfixNumeric, PrefixNumeric, Quotation, RegionalIndicator, Space, BreakSymbols, WordJoiner, ZWSpace, ZWJ}
+use Rattle.lbk_uax14.specs.declared.classes.Quote.{Quote}
+use Rattle.lbk_uax14.specs.declared.classes.Quote.TheVariants.{Neither, Initial, Final}
+use Rattle.lbk_uax14.specs.Classes.{is, mark, none_of}
 use Rattle.lbk_steps.specs.Kinds.{kind_cell, kind_of, slot_cell, slot_of}
-use Rattle.lbk_rules.specs.Normal.{normal}
+use Rattle.lbk_uax14.specs.Normal.{normal}
 
 -- a place leads back to the cell, but for what no rule asks of it
 abbrev LeadsBack : Cell → Type 0

@@ -2,12 +2,12 @@
 use Rattle.std.proofs.Common.{◌≡◌, false, ap, Decides}
 use Rattle.std.specs.Cmp.{booleans_Decides}
 use Rattle.std.proofs.lemmas.Bool.Decides.{Decides-and, Decides-like}
-use Rattle.lbk_rules.specs.contracts.facts.BeforePartialEq.TheImpl.{eq-value as before_eq}
-use Rattle.lbk_rules.specs.contracts.facts.LeftPartialEq.TheImpl.{eq-value as left_eq}
-use Rattle.lbk_rules.specs.declared.classes.Class.TheVariants.{Alphabetic}
-use Rattle.lbk_rules.specs.declared.facts.Before.{Before}
-use Rattle.lbk_rules.specs.declared.facts.Left.{Left}
-use Rattle.lbk_rules.specs.Units.{letter}
+use Rattle.lbk_uax14.specs.contracts.facts.BeforePartialEq.TheImpl.{eq-value as before_eq}
+use Rattle.lbk_uax14.specs.contracts.facts.LeftPartialEq.TheImpl.{eq-value as left_eq}
+use Rattle.lbk_uax14.specs.declared.classes.Class.TheVariants.{Alphabetic}
+use Rattle.lbk_uax14.specs.declared.facts.Before.{Before}
+use Rattle.lbk_uax14.specs.declared.facts.Left.{Left}
+use Rattle.lbk_uax14.specs.Units.{letter}
 use Rattle.lbk_steps.proofs.PagesLemmas.{cell_Decides, class_Decides}
 
 before_from_fields : (one other : Before) → one.last ≡ other.last → one.before_spaces ≡ other.before_spaces

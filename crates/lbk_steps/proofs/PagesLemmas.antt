@@ -8,12 +8,12 @@ use Rattle.std.proofs.lemmas.Bool.Decides.{Decides-and, Decides-like}
 use Rattle.std.proofs.lemmas.List.{get_or-map, get_or_append_left, get_or_push, length-map, length_push}
 use Rattle.std.proofs.lemmas.Slice.Eq.{slice_eq-Decides}
 use denote.Enum.Bare.{same_true, true_same, sameb}
-use Rattle.lbk_rules.specs.contracts.classes.Class.{the_type as class_type}
-use Rattle.lbk_rules.specs.contracts.classes.Quote.{the_type as quote_type}
-use Rattle.lbk_rules.specs.contracts.cells.CellPartialEq.TheImpl.{eq-value}
-use Rattle.lbk_rules.specs.declared.cells.Cell.{Cell}
-use Rattle.lbk_rules.specs.declared.classes.Class.{Class}
-use Rattle.lbk_rules.specs.declared.classes.Quote.{Quote}
+use Rattle.lbk_uax14.specs.contracts.classes.Class.{the_type as class_type}
+use Rattle.lbk_uax14.specs.contracts.classes.Quote.{the_type as quote_type}
+use Rattle.lbk_uax14.specs.contracts.cells.CellPartialEq.TheImpl.{eq-value}
+use Rattle.lbk_uax14.specs.declared.cells.Cell.{Cell}
+use Rattle.lbk_uax14.specs.declared.classes.Class.{Class}
+use Rattle.lbk_uax14.specs.declared.classes.Quote.{Quote}
 use Rattle.lbk_steps.specs.Pages.{AreSame, IsPageOf, cell_in, digest_of, page_at}
 
 pub class_Decides : (one other : Class) → Decides (sameb class_type one other) (one ≡ other)

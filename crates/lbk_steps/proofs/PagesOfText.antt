@@ -5,7 +5,7 @@ use Rattle.std.proofs.lemmas.Bool.{and_parts}
 use Rattle.std.proofs.lemmas.Str.{scalars-chars}
 use Rattle.std.specs.Char.{IsScalar}
 use Rattle.std.specs.Str.{IsUtf8, chars}
-use Rattle.lbk_rules.specs.declared.cells.Cell.{Cell}
+use Rattle.lbk_uax14.specs.declared.cells.Cell.{Cell}
 
 -- of a list of scalar values
 pub cells-same : (one other : ℕ → Cell) → ((code : ℕ) → IsScalar code → one code ≡ other code) → (codes : List ℕ) → scalars codes ≡ true → map one codes ≡ map other codes

@@ -2,21 +2,21 @@
 use Rattle.std.proofs.Common.{◌≡◌, ℕ, true, false, cond, Some, None, List, [], ◌∷◌, ◌++◌, length, map, reverse, refl, sym, ap, ◌∙◌}
 use Rattle.std.specs.Char.{IsScalar}
 use Rattle.std.proofs.lemmas.List.{length-map, map-append}
-use Rattle.lbk_rules.specs.declared.cells.Cell.{Cell}
+use Rattle.lbk_uax14.specs.declared.cells.Cell.{Cell}
 use Rattle.lbk_steps.specs.declared.kind_table.KindTable.{KindTable}
 use Rattle.lbk_values.specs.declared.profile.Profile.{Profile}
-use Rattle.lbk_rules.specs.declared.verdicts.Verdict.{Verdict}
-use Rattle.lbk_rules.specs.Chain.{from_cells}
-use Rattle.lbk_rules.specs.Held.{is_15b, is_held, now_at}
+use Rattle.lbk_uax14.specs.declared.verdicts.Verdict.{Verdict}
+use Rattle.lbk_uax14.specs.Chain.{from_cells}
+use Rattle.lbk_uax14.specs.Held.{is_15b, is_held, now_at}
 use Rattle.lbk_steps.specs.KindTable.{kind_at}
 use Rattle.lbk_steps.specs.Kinds.{kind_cell}
-use Rattle.lbk_rules.specs.Normal.{normal}
+use Rattle.lbk_uax14.specs.Normal.{normal}
 use Rattle.lbk_steps.specs.RowFits.{AreKindsOf}
 use Rattle.lbk_steps.specs.RowMachineFits.{normals}
-use Rattle.lbk_rules.specs.Verdict.{verdict_in, verdict_between_in}
-use Rattle.lbk_rules.proofs.HeldLemmas.{from_cells-settled, is_held-chain}
-use Rattle.lbk_rules.proofs.MachineLemmas.{reverse-snoc, verdict_in-append, verdict_in-chain, verdict_in-end}
-use Rattle.lbk_rules.proofs.NormalLemmas.{from_cells-normal, held-normal, reverse-map, verdict-normal}
+use Rattle.lbk_uax14.specs.Verdict.{verdict_in, verdict_between_in}
+use Rattle.lbk_uax14.proofs.HeldLemmas.{from_cells-settled, is_held-chain}
+use Rattle.lbk_uax14.proofs.MachineLemmas.{reverse-snoc, verdict_in-append, verdict_in-chain, verdict_in-end}
+use Rattle.lbk_uax14.proofs.NormalLemmas.{from_cells-normal, held-normal, reverse-map, verdict-normal}
 
 -- the cell of the kind of a scalar
 pub kind_same : (kinds : KindTable) (cell : ℕ → Cell) (c kind : ℕ) → AreKindsOf kinds cell → IsScalar c → kind ≡ kind_at kinds c

@@ -2,26 +2,26 @@
 use Rattle.std.proofs.Common.{◌≡◌, ℕ, ◌+◌, ◌*◌, ◌/◌, ◌%◌, ◌<◌, ◌≤◌, true, false, List, [], ◌∷◌, ◌++◌, length, get_or, refl, sym, ap, subst, ◌∙◌, arith, below_more}
 use Rattle.std.proofs.lemmas.Bool.{false≢true}
 use Rattle.std.proofs.lemmas.List.{get_or_append_left, get_or_push, get_or_read, length_push}
-use Rattle.lbk_rules.specs.declared.cells.Cell.{Cell}
-use Rattle.lbk_rules.specs.declared.facts.Left.{Left}
+use Rattle.lbk_uax14.specs.declared.cells.Cell.{Cell}
+use Rattle.lbk_uax14.specs.declared.facts.Left.{Left}
 use Rattle.lbk_steps.specs.declared.flat_table.FlatStep.{FlatStep}
 use Rattle.lbk_steps.specs.declared.flat_table.TheConstants.{HELD}
 use Rattle.lbk_steps.specs.declared.kinds.TheConstants.{KINDS}
 use Rattle.lbk_steps.specs.declared.step_rows.Step.{Step}
 use Rattle.lbk_values.specs.declared.profile.Profile.{Profile}
 use Rattle.lbk_values.specs.declared.profile.Profile.TheVariants.{First, Second}
-use Rattle.lbk_rules.specs.declared.verdicts.Verdict.{Verdict}
-use Rattle.lbk_rules.specs.Chain.{from_cells}
-use Rattle.lbk_rules.specs.Classes.{hard}
-use Rattle.lbk_rules.specs.Codes.{verdict_coded}
-use Rattle.lbk_rules.specs.Facts.{facts}
+use Rattle.lbk_uax14.specs.declared.verdicts.Verdict.{Verdict}
+use Rattle.lbk_uax14.specs.Chain.{from_cells}
+use Rattle.lbk_uax14.specs.Classes.{hard}
+use Rattle.lbk_uax14.specs.Codes.{verdict_coded}
+use Rattle.lbk_uax14.specs.Facts.{facts}
 use Rattle.lbk_steps.specs.FlatTable.{AreFlatSteps, AreNumbered, IsFlatStep, IsNumbered, no_flat_step}
-use Rattle.lbk_rules.specs.Held.{is_15b}
+use Rattle.lbk_uax14.specs.Held.{is_15b}
 use Rattle.lbk_steps.specs.Kinds.{kind_cell}
-use Rattle.lbk_rules.specs.Sides.{Side, leaves_closed}
+use Rattle.lbk_uax14.specs.Sides.{Side, leaves_closed}
 use Rattle.lbk_steps.specs.Steps.{AreSteps, AreStepsTo, Extends, IsStart, IsStep, left_at, no_step, steps_in}
-use Rattle.lbk_rules.specs.Units.{units_after}
-use Rattle.lbk_rules.proofs.HeldLemmas.{from_cells-15b, from_cells-first, from_cells-open, from_cells-settled}
+use Rattle.lbk_uax14.specs.Units.{units_after}
+use Rattle.lbk_uax14.proofs.HeldLemmas.{from_cells-15b, from_cells-first, from_cells-open, from_cells-settled}
 
 -- the step of one profile from what is known, by a cell: the verdict is that where nothing follows
 pub record IsStepIn (profile : Profile) (lefts : List Left) (left : Left) (cell : Cell) (step : Step) : Type 0 where

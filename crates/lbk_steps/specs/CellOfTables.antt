@@ -2,8 +2,8 @@
 use Rattle.std.specs.Prelude.{ℕ}
 use Rattle.lbk_ucd.specs.declared.tables.Tables.{Tables}
 use Rattle.lbk_ucd.specs.Tables.{line_break_of, east_asian_of, category_of, is_pictographic_of}
-use Rattle.lbk_rules.specs.declared.cells.Cell.{Cell}
-use Rattle.lbk_rules.specs.Resolve.{cell_of_properties}
+use Rattle.lbk_uax14.specs.declared.cells.Cell.{Cell}
+use Rattle.lbk_uax14.specs.Resolve.{cell_of_properties}
 
 -- the cell that tables give a scalar value
 unfoldable pub cell_of_tables : Tables → ℕ → Cell

@@ -1,6 +1,6 @@
 -- What pages of cells show: a cell for each code.
 use Rattle.std.specs.Prelude.{ℕ}
-use Rattle.lbk_rules.specs.declared.cells.Cell.{Cell}
+use Rattle.lbk_uax14.specs.declared.cells.Cell.{Cell}
 use Rattle.lbk_steps.specs.declared.pages.CellPages.{CellPages}
 use Rattle.lbk_steps.specs.Pages.{cell_in}
 

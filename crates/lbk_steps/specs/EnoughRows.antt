@@ -1,11 +1,11 @@
 -- When the rows of a table of steps are enough.
 use Rattle.std.specs.Prelude.{◌≡◌, ◌≢◌, ℕ, ◌<◌, ◌≤◌, List, All, AllPairs, length, map}
-use Rattle.lbk_rules.specs.declared.facts.Left.{Left}
+use Rattle.lbk_uax14.specs.declared.facts.Left.{Left}
 use Rattle.lbk_steps.specs.declared.flat_table.TableError.{TableError}
 use Rattle.lbk_steps.specs.declared.flat_table.TableError.TheVariants.{Memory, TooManyRows}
 use Rattle.lbk_steps.specs.declared.kinds.TheConstants.{KINDS}
 use Rattle.lbk_steps.specs.declared.step_rows.TheConstants.{MOST_ROWS}
-use Rattle.lbk_rules.specs.Facts.{facts}
+use Rattle.lbk_uax14.specs.Facts.{facts}
 use Rattle.lbk_steps.specs.Kinds.{kind_cell}
 
 -- this is what the rules ask of some cells, each of a kind

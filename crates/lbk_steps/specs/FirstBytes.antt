@@ -1,8 +1,8 @@
 -- What the first byte of a scalar in UTF-8 tells of it.
 use Rattle.std.specs.Prelude.{◌≡◌, ℕ, Bool, true, false, List, encode_utf8, slice_index_or}
 use Rattle.std.specs.Char.{IsScalar}
-use Rattle.lbk_rules.specs.declared.cells.Cell.{Cell}
-use Rattle.lbk_rules.specs.Ends.{ends_line}
+use Rattle.lbk_uax14.specs.declared.cells.Cell.{Cell}
+use Rattle.lbk_uax14.specs.Ends.{ends_line}
 
 -- the first byte of a scalar
 abbrev pub first_byte : ℕ → ℕ

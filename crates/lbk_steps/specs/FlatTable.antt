@@ -1,27 +1,27 @@
 -- The table of steps as plain numbers: the kinds of all codes, and what happens at a cell of each kind in both profiles.
 use Rattle.std.specs.Prelude.{◌≡◌, ◌⊎◌, ℕ, ◌+◌, ◌*◌, ◌<◌, ◌%◌, true, false, List, [], ◌∷◌, fold, length, slice_index, slice_index_or, reverse}
 use Rattle.std.specs.Char.{IsScalar}
-use Rattle.lbk_rules.specs.declared.cells.Cell.{Cell}
-use Rattle.lbk_rules.specs.declared.codes.TheConstants.{VERDICTS}
-use Rattle.lbk_rules.specs.declared.facts.Left.{Left}
+use Rattle.lbk_uax14.specs.declared.cells.Cell.{Cell}
+use Rattle.lbk_uax14.specs.declared.codes.TheConstants.{VERDICTS}
+use Rattle.lbk_uax14.specs.declared.facts.Left.{Left}
 use Rattle.lbk_steps.specs.declared.flat_table.FlatStep.{FlatStep}
 use Rattle.lbk_steps.specs.declared.flat_table.FlatTable.{FlatTable}
 use Rattle.lbk_steps.specs.declared.flat_table.TheConstants.{HELD, LAYOUT}
 use Rattle.lbk_steps.specs.declared.kinds.TheConstants.{KINDS}
 use Rattle.lbk_steps.specs.declared.step_rows.Step.{Step}
 use Rattle.lbk_values.specs.declared.profile.Profile.TheVariants.{First, Second}
-use Rattle.lbk_rules.specs.Chain.{from_cells}
-use Rattle.lbk_rules.specs.Classes.{hard}
-use Rattle.lbk_rules.specs.Codes.{verdict_coded}
-use Rattle.lbk_rules.specs.Facts.{facts}
-use Rattle.lbk_rules.specs.Held.{is_15b}
+use Rattle.lbk_uax14.specs.Chain.{from_cells}
+use Rattle.lbk_uax14.specs.Classes.{hard}
+use Rattle.lbk_uax14.specs.Codes.{verdict_coded}
+use Rattle.lbk_uax14.specs.Facts.{facts}
+use Rattle.lbk_uax14.specs.Held.{is_15b}
 pub use Rattle.lbk_steps.specs.FlatStep.{digest_with, no_flat_step}
 use Rattle.lbk_steps.specs.Kinds.{kind_cell}
 use Rattle.lbk_steps.specs.Neighbours.{AreTold, digest_of_neighbours}
-use Rattle.lbk_rules.specs.Normal.{normal, normals}
-use Rattle.lbk_rules.specs.Sides.{Side, leaves_closed}
+use Rattle.lbk_uax14.specs.Normal.{normal, normals}
+use Rattle.lbk_uax14.specs.Sides.{Side, leaves_closed}
 use Rattle.lbk_steps.specs.Steps.{IsStart, left_at, no_step}
-use Rattle.lbk_rules.specs.Units.{units_after}
+use Rattle.lbk_uax14.specs.Units.{units_after}
 
 -- a number that a table of steps has for a verdict: the first that it has, and `HELD` by rule 15b
 abbrev pub IsStepCode : ℕ → Type 0

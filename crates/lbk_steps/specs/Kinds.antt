@@ -1,13 +1,13 @@
 -- A number for each normal cell, its kind: its place among 42, and 42 more for an unassigned pictograph.
 use Rattle.std.specs.Prelude.{ℕ, ◌+◌, ◌*◌, ◌%◌, ◌==◌, ◌&&◌, ◌||◌, Bool, false, if◌then◌else◌, nat_le, slice_index_or}
 use Rattle.std.specs.Int.{from_bool}
-use Rattle.lbk_rules.specs.declared.cells.Cell.{Cell}
-use Rattle.lbk_rules.specs.declared.classes.Class.TheVariants.{Alphabetic}
-use Rattle.lbk_rules.specs.declared.classes.Quote.{Quote}
-use Rattle.lbk_rules.specs.declared.classes.Quote.TheVariants.{Neither, Initial, Final}
+use Rattle.lbk_uax14.specs.declared.cells.Cell.{Cell}
+use Rattle.lbk_uax14.specs.declared.classes.Class.TheVariants.{Alphabetic}
+use Rattle.lbk_uax14.specs.declared.classes.Quote.{Quote}
+use Rattle.lbk_uax14.specs.declared.classes.Quote.TheVariants.{Neither, Initial, Final}
 use Rattle.lbk_steps.specs.declared.kinds.TheConstants.{CLASSES}
-use Rattle.lbk_rules.specs.Classes.{none_of, CP, OP, mark, place}
-use Rattle.lbk_rules.specs.Sides.{opening, closing}
+use Rattle.lbk_uax14.specs.Classes.{none_of, CP, OP, mark, place}
+use Rattle.lbk_uax14.specs.Sides.{opening, closing}
 
 -- the place of a cell among 42: that of its class, or behind the classes one for each cell that the
 -- rules tell apart from the others of its class

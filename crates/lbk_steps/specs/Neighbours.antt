@@ -3,8 +3,8 @@ use Rattle.std.specs.Prelude.{◌≡◌, ◌⊎◌, ℕ, ◌+◌, ◌<◌, ◌�
 use Rattle.lbk_cover.specs.Letters.{StandsForAll}
 use Rattle.lbk_masks.specs.Sets.{left_in, meets, right_in}
 use Rattle.lbk_masks.specs.declared.TheConstants.{SPECIAL}
-use Rattle.lbk_rules.specs.Breaks.{is_no}
-use Rattle.lbk_rules.specs.Codes.{verdict_coded}
+use Rattle.lbk_uax14.specs.Breaks.{is_no}
+use Rattle.lbk_uax14.specs.Codes.{verdict_coded}
 use Rattle.lbk_steps.specs.declared.flat_table.FlatStep.{FlatStep}
 use Rattle.lbk_steps.specs.declared.flat_table.TheConstants.{HELD}
 use Rattle.lbk_steps.specs.declared.kinds.TheConstants.{KINDS}

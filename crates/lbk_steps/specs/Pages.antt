@@ -1,11 +1,11 @@
 -- Pages of cells: each holds the cells of 256 codes that follow one another.
 use Rattle.std.specs.Prelude.{◌≡◌, ◌≢◌, ℕ, ◌+◌, ◌*◌, ◌/◌, ◌%◌, ◌^◌, ◌<◌, ◌≤◌, List, [], bit_xor, fold, AllPairs, slice_index, slice_index_or}
 use Rattle.std.specs.Int.{from_bool}
-use Rattle.lbk_rules.specs.declared.cells.Cell.{Cell}
-use Rattle.lbk_rules.specs.declared.classes.Quote.{Quote}
-use Rattle.lbk_rules.specs.declared.classes.Quote.TheVariants.{Neither, Initial, Final}
-use Rattle.lbk_rules.specs.Classes.{place}
-use Rattle.lbk_rules.specs.Units.{letter}
+use Rattle.lbk_uax14.specs.declared.cells.Cell.{Cell}
+use Rattle.lbk_uax14.specs.declared.classes.Quote.{Quote}
+use Rattle.lbk_uax14.specs.declared.classes.Quote.TheVariants.{Neither, Initial, Final}
+use Rattle.lbk_uax14.specs.Classes.{place}
+use Rattle.lbk_uax14.specs.Units.{letter}
 
 -- the page holds the cells of the 256 codes from `first` on
 abbrev pub IsPageOf : (ℕ → Cell) → ℕ → List Cell → Type 0

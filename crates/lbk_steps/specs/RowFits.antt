@@ -1,13 +1,13 @@
 -- What a row knows of the cells that were taken.
 use Rattle.std.specs.Prelude.{◌≡◌, ℕ, List, reverse}
 use Rattle.std.specs.Char.{IsScalar}
-use Rattle.lbk_rules.specs.declared.cells.Cell.{Cell}
+use Rattle.lbk_uax14.specs.declared.cells.Cell.{Cell}
 use Rattle.lbk_steps.specs.declared.kind_table.KindTable.{KindTable}
 use Rattle.lbk_steps.specs.declared.step_rows.StepRows.{StepRows}
-use Rattle.lbk_rules.specs.Facts.{facts}
+use Rattle.lbk_uax14.specs.Facts.{facts}
 use Rattle.lbk_steps.specs.Kinds.{kind_cell}
 use Rattle.lbk_steps.specs.KindTable.{kind_at}
-use Rattle.lbk_rules.specs.Normal.{normal}
+use Rattle.lbk_uax14.specs.Normal.{normal}
 use Rattle.lbk_steps.specs.Steps.{IsStart, left_at}
 
 -- a row of the table begins at this place

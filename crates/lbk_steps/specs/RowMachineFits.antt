@@ -1,13 +1,13 @@
 -- What a row machine knows of the scalars that it has taken.
 use Rattle.std.specs.Prelude.{◌≡◌, ℕ, List}
-use Rattle.lbk_rules.specs.declared.cells.Cell.{Cell}
+use Rattle.lbk_uax14.specs.declared.cells.Cell.{Cell}
 use Rattle.lbk_steps.specs.declared.row_machine.RowMachine.{RowMachine}
 use Rattle.lbk_steps.specs.declared.step_table.StepTable.{StepTable}
 use Rattle.lbk_values.specs.declared.profile.Profile.{Profile}
 use Rattle.lbk_steps.specs.Kinds.{kind_cell}
 use Rattle.lbk_steps.specs.KindTable.{kind_at}
 use Rattle.lbk_steps.specs.RowFits.{AreKindsOf, RowFits}
-pub use Rattle.lbk_rules.specs.Normal.{normals}
+pub use Rattle.lbk_uax14.specs.Normal.{normals}
 
 -- the cell of a code in this table, without what no rule asks of it
 unfoldable pub normal_in : StepTable → ℕ → Cell

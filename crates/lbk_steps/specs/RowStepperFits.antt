@@ -1,18 +1,18 @@
 -- What a row stepper knows of the scalars that it has taken.
 use Rattle.std.specs.Prelude.{◌≡◌, ℕ, Bool, true, false, List, ◌∷◌, length, reverse, Option, Some, None}
-use Rattle.lbk_rules.specs.declared.cells.Cell.{Cell}
-use Rattle.lbk_rules.specs.declared.late_machine.Held.{Held}
+use Rattle.lbk_uax14.specs.declared.cells.Cell.{Cell}
+use Rattle.lbk_uax14.specs.declared.late_machine.Held.{Held}
 use Rattle.lbk_steps.specs.declared.row_stepper.HeldRow.{HeldRow}
 use Rattle.lbk_steps.specs.declared.row_stepper.RowStepper.{RowStepper}
 use Rattle.lbk_values.specs.declared.profile.Profile.{Profile}
-use Rattle.lbk_rules.specs.declared.verdicts.Verdict.{Verdict}
-use Rattle.lbk_rules.specs.Chain.{from_cells}
-use Rattle.lbk_rules.specs.Classes.{hard}
-use Rattle.lbk_rules.specs.Facts.{closes_in, facts}
-use Rattle.lbk_rules.specs.LateFits.{waiting}
+use Rattle.lbk_uax14.specs.declared.verdicts.Verdict.{Verdict}
+use Rattle.lbk_uax14.specs.Chain.{from_cells}
+use Rattle.lbk_uax14.specs.Classes.{hard}
+use Rattle.lbk_uax14.specs.Facts.{closes_in, facts}
+use Rattle.lbk_uax14.specs.LateFits.{waiting}
 use Rattle.lbk_steps.specs.RowMachineFits.{RowMachineFits, normals}
-use Rattle.lbk_rules.specs.Sides.{Side}
-use Rattle.lbk_rules.specs.Units.{units_after}
+use Rattle.lbk_uax14.specs.Sides.{Side}
+use Rattle.lbk_uax14.specs.Units.{units_after}
 
 -- the verdict of the position that waits, where the unit after its quotation mark leaves that closed or not
 abbrev pub IsAnswer : Profile → Held → Bool → Verdict → Type 0

@@ -1,11 +1,11 @@
 -- What a stepper knows of the scalars that it has taken.
 use Rattle.std.specs.Prelude.{◌≡◌, ℕ, List, map, Option, Some, None}
-use Rattle.lbk_rules.specs.declared.cells.Cell.{Cell}
-use Rattle.lbk_rules.specs.declared.late_machine.LateMachine.{LateMachine}
+use Rattle.lbk_uax14.specs.declared.cells.Cell.{Cell}
+use Rattle.lbk_uax14.specs.declared.late_machine.LateMachine.{LateMachine}
 use Rattle.lbk_steps.specs.declared.row_stepper.RowStepper.{RowStepper}
 use Rattle.lbk_steps.specs.declared.stepper.Stepper.{Stepper}
 use Rattle.lbk_values.specs.declared.profile.Profile.{Profile}
-use Rattle.lbk_rules.specs.LateFits.{LateFits}
+use Rattle.lbk_uax14.specs.LateFits.{LateFits}
 use Rattle.lbk_steps.specs.RowStepperFits.{RowStepperFits}
 
 -- by rows, it knows of the scalars taken what their cells ask; by rules, of their cells, which are those of its source

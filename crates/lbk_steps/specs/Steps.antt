@@ -1,19 +1,19 @@
 -- The rows of a table of steps: one for each thing that can be known of the cells so far.
 use Rattle.std.specs.Prelude.{◌≡◌, ℕ, ◌*◌, ◌/◌, ◌%◌, ◌<◌, ◌≤◌, true, List, [], ◌∷◌, length, slice_index_or}
-use Rattle.lbk_rules.specs.declared.cells.Cell.{Cell}
-use Rattle.lbk_rules.specs.declared.facts.Left.{Left}
+use Rattle.lbk_uax14.specs.declared.cells.Cell.{Cell}
+use Rattle.lbk_uax14.specs.declared.facts.Left.{Left}
 use Rattle.lbk_steps.specs.declared.kinds.TheConstants.{KINDS}
 use Rattle.lbk_steps.specs.declared.step_rows.Step.{Step}
-use Rattle.lbk_rules.specs.declared.verdicts.Kind.TheVariants.{No}
+use Rattle.lbk_uax14.specs.declared.verdicts.Kind.TheVariants.{No}
 use Rattle.lbk_values.specs.declared.profile.Profile.{Profile}
 use Rattle.lbk_values.specs.declared.profile.Profile.TheVariants.{First, Second}
-use Rattle.lbk_rules.specs.declared.verdicts.Rule.TheVariants.{Lb2}
-use Rattle.lbk_rules.specs.Chain.{from_cells}
-use Rattle.lbk_rules.specs.Classes.{hard}
-use Rattle.lbk_rules.specs.Facts.{facts}
+use Rattle.lbk_uax14.specs.declared.verdicts.Rule.TheVariants.{Lb2}
+use Rattle.lbk_uax14.specs.Chain.{from_cells}
+use Rattle.lbk_uax14.specs.Classes.{hard}
+use Rattle.lbk_uax14.specs.Facts.{facts}
 use Rattle.lbk_steps.specs.Kinds.{kind_cell}
-use Rattle.lbk_rules.specs.Sides.{Side, leaves_closed}
-use Rattle.lbk_rules.specs.Units.{units_after}
+use Rattle.lbk_uax14.specs.Sides.{Side, leaves_closed}
+use Rattle.lbk_uax14.specs.Units.{units_after}
 
 -- what the row of a place knows
 abbrev pub left_at : List Left → ℕ → Left

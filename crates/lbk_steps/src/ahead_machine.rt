@@ -3,15 +3,15 @@
 
 ghost use Rattle.std.specs.Prelude.{◌≡◌, ℕ, List, [], ◌∷◌, ◌++◌, map, ⊤};
 ghost use Rattle.std.specs.Str.{chars};
-ghost use Rattle.lbk_rules.specs.Chain.{from_cells};
-ghost use Rattle.lbk_rules.specs.Classes.{hard};
-ghost use Rattle.lbk_rules.specs.Facts.{closes_in, facts};
-ghost use Rattle.lbk_rules.specs.Sides.{Side, leaves_closed};
-ghost use Rattle.lbk_rules.specs.Units.{units_after};
-ghost use Rattle.lbk_rules.specs.Verdict.{verdict_between_in};
+ghost use Rattle.lbk_uax14.specs.Chain.{from_cells};
+ghost use Rattle.lbk_uax14.specs.Classes.{hard};
+ghost use Rattle.lbk_uax14.specs.Facts.{closes_in, facts};
+ghost use Rattle.lbk_uax14.specs.Sides.{Side, leaves_closed};
+ghost use Rattle.lbk_uax14.specs.Units.{units_after};
+ghost use Rattle.lbk_uax14.specs.Verdict.{verdict_between_in};
 
 use crate::source::CellSource;
-use lbk_rules::{Cell, Class, Left, Profile, Verdict, is_second};
+use lbk_uax14::{Cell, Class, Left, Profile, Verdict, is_second};
 use std::alloc::AllocError;
 
 /// Decides the positions of a text in memory one after another in either profile, by the cells of a source and
@@ -36,7 +36,7 @@ impl<'a, C: CellSource> Clone for AheadMachine<'a, C> {
 
 impl<'a, C: CellSource> AheadMachine<'a, C> {
     ghost use Rattle.lbk_steps.specs.AheadFits.{AheadFits};
-    ghost use Rattle.lbk_rules.specs.declared.cells.Cell.{Cell};
+    ghost use Rattle.lbk_uax14.specs.declared.cells.Cell.{Cell};
     ghost use Rattle.lbk_values.specs.declared.profile.Profile.{Profile};
 
     /// A machine that has taken no scalar.

@@ -3,7 +3,7 @@
 ghost use Rattle.std.specs.Prelude.{◌≡◌, ◌≤◌, length};
 ghost use Rattle.lbk_steps.specs.ClassLabels.{class_label};
 
-use lbk_rules::Class;
+use lbk_uax14::Class;
 
 /// The name of a class, as LineBreak.txt has it (UAX #14, section 5.1).
 pub fn class_label(class: Class) -> &'static str

@@ -1,11 +1,11 @@
 //! The table of steps as plain numbers in one block, which a caller may keep where it likes.
 
 ghost use Rattle.std.specs.Prelude.{◌≡◌, ◌+◌, ◌*◌, ◌^◌, ℕ, ◌↔◌, IsTrue, IfErr, IfOk, OnErr, fold, length, slice_index};
-ghost use Rattle.lbk_rules.specs.declared.cells.Cell.{Cell};
+ghost use Rattle.lbk_uax14.specs.declared.cells.Cell.{Cell};
 ghost use Rattle.lbk_steps.specs.declared.flat_table.TableError.TheVariants.{Memory};
 ghost use Rattle.lbk_steps.specs.EnoughRows.{HasReason};
 ghost use Rattle.lbk_steps.specs.FlatTable.{AreFlatKinds, AreNumbered, IsFlatOf, IsNumbered, IsWhole, digest_of, digest_with, digest_with_step};
-ghost use Rattle.lbk_rules.specs.Normal.{normal};
+ghost use Rattle.lbk_uax14.specs.Normal.{normal};
 ghost use Rattle.lbk_steps.specs.CellOfTables.{cell_of_tables};
 
 use crate::kind_table::KindTable;
@@ -13,7 +13,7 @@ use crate::kinds::{KINDS, cell_of_kind};
 use crate::neighbours::Neighbours;
 use crate::runs::CellRuns;
 use crate::step_rows::{Step, StepRows};
-use lbk_rules::{Cell, VERDICTS, code_of};
+use lbk_uax14::{Cell, VERDICTS, code_of};
 use lbk_ucd::Tables;
 use std::alloc::{AllocError, Global};
 
@@ -41,7 +41,7 @@ const DIGEST_PRIME: u64 = 0x100_0000_01b3;
 #[repr(C)]
 #[derive(Clone, Copy, PartialEq, Eq, Debug)]
 pub struct FlatStep {
-    /// The number of the verdict before the cell, as `lbk_rules::code_of` counts them. In the second profile, of that where
+    /// The number of the verdict before the cell, as `lbk_uax14::code_of` counts them. In the second profile, of that where
     /// what follows leaves a closing quotation mark closed.
     pub code: u16,
     /// The place at which the row after the cell begins.

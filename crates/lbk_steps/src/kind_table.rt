@@ -3,13 +3,13 @@
 ghost use Rattle.std.specs.Prelude.{◌≡◌, ℕ, ◌<◌, length, slice_index, IfOk};
 ghost use Rattle.std.specs.Char.{IsScalar};
 ghost use Rattle.lbk_steps.specs.Kinds.{kind_cell};
-ghost use Rattle.lbk_rules.specs.Normal.{normal};
+ghost use Rattle.lbk_uax14.specs.Normal.{normal};
 
 use crate::flat_table::CODES;
 use crate::kinds::{KINDS, cell_of_kind, kind_of};
 use crate::runs::CellRuns;
 use crate::source::CellSource;
-use lbk_rules::Cell;
+use lbk_uax14::Cell;
 use lbk_ucd::Places;
 use std::alloc::{AllocError, Global};
 

@@ -3,7 +3,7 @@
 ghost use Rattle.std.specs.Prelude.{◌≡◌, ◌<◌};
 ghost use Rattle.lbk_steps.specs.Kinds.{kind_cell, kind_of, quote_at, slot_of};
 
-use lbk_rules::{Cell, Class, Quote};
+use lbk_uax14::{Cell, Class, Quote};
 
 /// How many kinds there are. Two of them no cell has, the marks that are unassigned pictographs: no
 /// rule asks a mark for that.

@@ -10,7 +10,7 @@ use crate::flat_table::{CODES, FlatStep, HELD, STEPS, digest_kinds, digest_with}
 use crate::kinds::KINDS;
 use lbk_cover::{LETTER, Related, cover, firsts_of_letters, stands_for_all};
 use lbk_masks::{ByteSets, SPECIAL};
-use lbk_rules::is_break;
+use lbk_uax14::is_break;
 
 /// How many bytes are scalars.
 const ASCII: usize = 128;

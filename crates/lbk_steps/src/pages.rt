@@ -6,7 +6,7 @@ ghost use Rattle.lbk_steps.specs.Pages.{AreDistinct, AreSame, IsPageOf, cell_in}
 ghost use Rattle.lbk_steps.specs.FirstBytes.{AreQuiet};
 ghost use Rattle.lbk_steps.specs.declared.step_table.StepTable.{StepTable};
 ghost use Rattle.lbk_steps.specs.EnoughRows.{RowsSuffice};
-ghost use Rattle.lbk_rules.specs.Normal.{normal};
+ghost use Rattle.lbk_uax14.specs.Normal.{normal};
 ghost use Rattle.lbk_steps.specs.RowMachineFits.{normal_in};
 
 mod kept;
@@ -16,7 +16,7 @@ use crate::runs::{CellRun, CellRuns};
 use crate::source::CellSource;
 use crate::step_table::StepTable;
 use kept::Kept;
-use lbk_rules::Cell;
+use lbk_uax14::Cell;
 use lbk_ucd::{Places, Tables};
 use std::alloc::{AllocError, Global};
 

@@ -8,7 +8,7 @@ use crate::ahead_machine::closes_in;
 use crate::kind_table::KindTable;
 use crate::kinds::{KINDS, cell_of_kind};
 use crate::step_rows::{Step, StepRows};
-use lbk_rules::{Cell, Left, Profile, Verdict};
+use lbk_uax14::{Cell, Left, Profile, Verdict};
 
 /// Decides the positions of a text one after another by a table of steps: two reads a scalar (UAX #14, section 6). It
 /// is what hot loops step by. It holds no position: where rule 15b may decide, the caller looks ahead or waits.
@@ -28,16 +28,16 @@ pub struct RowMachine<'a> {
 }
 
 impl<'a> RowMachine<'a> {
-    ghost use Rattle.lbk_rules.specs.declared.cells.Cell.{Cell};
+    ghost use Rattle.lbk_uax14.specs.declared.cells.Cell.{Cell};
     ghost use Rattle.lbk_values.specs.declared.profile.Profile.{Profile};
-    ghost use Rattle.lbk_rules.specs.Chain.{from_cells};
-    ghost use Rattle.lbk_rules.specs.Facts.{facts};
-    ghost use Rattle.lbk_rules.specs.Held.{is_15b, is_held};
+    ghost use Rattle.lbk_uax14.specs.Chain.{from_cells};
+    ghost use Rattle.lbk_uax14.specs.Facts.{facts};
+    ghost use Rattle.lbk_uax14.specs.Held.{is_15b, is_held};
     ghost use Rattle.lbk_steps.specs.KindTable.{kind_at};
-    ghost use Rattle.lbk_rules.specs.Normal.{normal};
+    ghost use Rattle.lbk_uax14.specs.Normal.{normal};
     ghost use Rattle.lbk_steps.specs.RowFits.{AreKindsOf, RowFits};
     ghost use Rattle.lbk_steps.specs.RowMachineFits.{RowMachineFits, normals};
-    ghost use Rattle.lbk_rules.specs.Verdict.{verdict_between_in, verdict_in};
+    ghost use Rattle.lbk_uax14.specs.Verdict.{verdict_between_in, verdict_in};
     ghost use Rattle.std.specs.Str.{chars};
 
     /// A machine of this profile that has taken no scalar, by the kinds of all scalar values and the rows of both profiles.

@@ -1,11 +1,11 @@
 //! The positions of a text in either profile, decided scalar by scalar by a table of steps.
 
 ghost use Rattle.std.specs.Prelude.{◌≡◌, ℕ, ◌<◌, List, [], ◌∷◌, ◌++◌, length, map, reverse, None, if◌then◌else◌};
-ghost use Rattle.lbk_rules.specs.Held.{answer_at, is_15b, is_held, late_at, now_at, unanswered};
-ghost use Rattle.lbk_rules.specs.Verdict.{verdict_in};
+ghost use Rattle.lbk_uax14.specs.Held.{answer_at, is_15b, is_held, late_at, now_at, unanswered};
+ghost use Rattle.lbk_uax14.specs.Verdict.{verdict_in};
 
 use crate::row_machine::RowMachine;
-use lbk_rules::{EndVerdicts, StepVerdicts, Verdict, unless_held};
+use lbk_uax14::{End, Out, Verdict, unless_held};
 
 /// A position whose verdict waits for the unit after a closing quotation mark, with both its verdicts:
 /// where that unit leaves the mark closed, or none comes, and where it does not.
@@ -40,16 +40,16 @@ pub struct RowStepper<'a> {
 }
 
 impl<'a> RowStepper<'a> {
-    ghost use Rattle.lbk_rules.specs.declared.cells.Cell.{Cell};
+    ghost use Rattle.lbk_uax14.specs.declared.cells.Cell.{Cell};
     ghost use Rattle.lbk_values.specs.declared.profile.Profile.{Profile};
     ghost use Rattle.lbk_values.specs.declared.profile.Profile.TheVariants.{Second};
-    ghost use Rattle.lbk_rules.specs.Classes.{hard};
-    ghost use Rattle.lbk_rules.specs.Facts.{closes_in, facts};
-    ghost use Rattle.lbk_rules.specs.LateFits.{waiting};
-    ghost use Rattle.lbk_rules.specs.Normal.{normal};
+    ghost use Rattle.lbk_uax14.specs.Classes.{hard};
+    ghost use Rattle.lbk_uax14.specs.Facts.{closes_in, facts};
+    ghost use Rattle.lbk_uax14.specs.LateFits.{waiting};
+    ghost use Rattle.lbk_uax14.specs.Normal.{normal};
     ghost use Rattle.lbk_steps.specs.RowMachineFits.{RowMachineFits, normals};
     ghost use Rattle.lbk_steps.specs.RowStepperFits.{Holds, IsHeldRow, RowStepperFits};
-    ghost use Rattle.lbk_rules.specs.Units.{nearest, units_after};
+    ghost use Rattle.lbk_uax14.specs.Units.{nearest, units_after};
 
     /// A stepper that goes on where the machine stands, after as many scalars as `steps` says, of which
     /// no position is held.
@@ -70,7 +70,7 @@ impl<'a> RowStepper<'a> {
     /// the position that was held until now, where the scalar heads the unit after its quotation mark. It does so for
     /// the first 18,446,744,073,709,551,615 scalars of a text.
     #[inline(always)]
-    pub fn step(&mut self, c: char) -> StepVerdicts
+    pub fn step(&mut self, c: char) -> Out
         ensures now { (profile : Profile) (cell : ℕ → Cell) (taken : List ℕ) (more : List Cell)
             → RowStepperFits self.old profile cell taken
             → result.now ≡ now_at profile (map cell taken) (cell c ∷ more) }
@@ -86,7 +86,7 @@ impl<'a> RowStepper<'a> {
         if self.held.is_none() && !verdict.rule.is_15b() {
             self.machine = machine;
             self.steps = self.steps.wrapping_add(1);
-            return StepVerdicts {
+            return Out {
                 now: Some(verdict),
                 late: None,
             };
@@ -97,7 +97,7 @@ impl<'a> RowStepper<'a> {
     /// The same where a position is held before the step or after it, which is rare. Its values are set up here, and not in
     /// `step`; and `holding` and `late`, which it calls, take the stepper by value, so that a loop has its own in registers.
     #[inline(always)]
-    fn step_with_held(&mut self, c: char) -> StepVerdicts
+    fn step_with_held(&mut self, c: char) -> Out
         ensures now { (profile : Profile) (cell : ℕ → Cell) (taken : List ℕ) (more : List Cell)
             → RowStepperFits self.old profile cell taken
             → result.now ≡ now_at profile (map cell taken) (cell c ∷ more) }
@@ -112,7 +112,7 @@ impl<'a> RowStepper<'a> {
         let verdict = self.machine.step(c);
         self.steps = self.steps.wrapping_add(1);
         self.held = before.holding(c, verdict.rule.is_15b());
-        StepVerdicts {
+        Out {
             now: unless_held(verdict),
             late: before.late(c),
         }
@@ -120,7 +120,7 @@ impl<'a> RowStepper<'a> {
 
     /// The verdict of the position after all scalars taken, where the text ends, and that of the
     /// position that was held until now.
-    pub fn finish(&self) -> EndVerdicts
+    pub fn finish(&self) -> End
         ensures late { (profile : Profile) (cell : ℕ → Cell) (taken : List ℕ)
             → RowStepperFits self.now profile cell taken
             → result.late ≡ answer_at profile (map cell taken) [] }
@@ -128,7 +128,7 @@ impl<'a> RowStepper<'a> {
             → RowStepperFits self.now profile cell taken
             → result.end ≡ verdict_in profile (map cell taken) (length taken) }
     {
-        EndVerdicts {
+        End {
             late: self.answer(true),
             end: self.machine.finish(),
         }

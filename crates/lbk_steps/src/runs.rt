@@ -2,7 +2,7 @@
 
 ghost use Rattle.std.specs.Prelude.{◌≡◌, ℕ, ◌≤◌};
 
-use lbk_rules::{Cell, resolve};
+use lbk_uax14::{Cell, resolve};
 use lbk_ucd::{Places, Tables};
 
 /// The cell that all codes from `first` to `last` have, and where it was found.
@@ -16,7 +16,7 @@ pub(crate) struct CellRun {
 
 /// Something that knows the cells of ranges of codes.
 pub(crate) trait CellRuns {
-    ghost use Rattle.lbk_rules.specs.declared.cells.Cell.{Cell};
+    ghost use Rattle.lbk_uax14.specs.declared.cells.Cell.{Cell};
     ghost use Rattle.lbk_steps.specs.Pages.{AreSame};
 
     ghost cell_at: { Self → ℕ → Cell };

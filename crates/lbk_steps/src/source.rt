@@ -3,12 +3,12 @@
 ghost use Rattle.std.specs.Prelude.{◌≡◌, ℕ, IfSome};
 
 use crate::step_table::StepTable;
-use lbk_rules::{Cell, resolve};
+use lbk_uax14::{Cell, resolve};
 use lbk_ucd::Tables;
 
 /// Something that knows the cell of each scalar value.
 pub trait CellSource {
-    ghost use Rattle.lbk_rules.specs.declared.cells.Cell.{Cell};
+    ghost use Rattle.lbk_uax14.specs.declared.cells.Cell.{Cell};
     ghost use Rattle.lbk_steps.specs.FirstBytes.{AreQuiet};
     ghost use Rattle.lbk_steps.specs.RowMachineFits.{IsTableOf};
 

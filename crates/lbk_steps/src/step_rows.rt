@@ -4,17 +4,17 @@ ghost use Rattle.std.specs.Prelude.{◌≡◌, ◌≢◌, ◌*◌, ◌<◌, ◌�
 ghost use Rattle.lbk_steps.specs.declared.flat_table.TheConstants.{STEPS};
 ghost use Rattle.lbk_steps.specs.declared.step_rows.TheConstants.{MOST_ROWS};
 ghost use Rattle.lbk_values.specs.declared.profile.Profile.TheVariants.{First, Second};
-ghost use Rattle.lbk_rules.specs.Chain.{from_cells};
-ghost use Rattle.lbk_rules.specs.Classes.{hard};
+ghost use Rattle.lbk_uax14.specs.Chain.{from_cells};
+ghost use Rattle.lbk_uax14.specs.Classes.{hard};
 ghost use Rattle.lbk_steps.specs.EnoughRows.{AreDifferent, IsKnown, RowsSuffice};
-ghost use Rattle.lbk_rules.specs.Facts.{facts};
-ghost use Rattle.lbk_rules.specs.Sides.{Side, leaves_closed};
+ghost use Rattle.lbk_uax14.specs.Facts.{facts};
+ghost use Rattle.lbk_uax14.specs.Sides.{Side, leaves_closed};
 ghost use Rattle.lbk_steps.specs.Steps.{AreSteps, Extends, IsStart, left_at, steps_in};
-ghost use Rattle.lbk_rules.specs.Units.{units_after};
+ghost use Rattle.lbk_uax14.specs.Units.{units_after};
 
 use crate::flat_table::STEPS;
 use crate::kinds::{KINDS, cell_of_kind};
-use lbk_rules::{Cell, Kind, Left, Profile, Rule, Verdict};
+use lbk_uax14::{Cell, Kind, Left, Profile, Rule, Verdict};
 use std::alloc::{AllocError, Global};
 
 /// How many rows a table may have at most, so that the place of each fits a `u16`.
@@ -55,7 +55,7 @@ const NO_STEP: Step = Step {
 };
 
 impl StepRows {
-    ghost use Rattle.lbk_rules.specs.declared.cells.Cell.{Cell};
+    ghost use Rattle.lbk_uax14.specs.declared.cells.Cell.{Cell};
     ghost use Rattle.lbk_steps.specs.RowFits.{IsRowOf, RowFits};
     ghost use Rattle.std.specs.Prelude.{reverse};
 

@@ -7,7 +7,7 @@ use crate::kind_table::KindTable;
 use crate::row_machine::RowMachine;
 use crate::runs::CellRuns;
 use crate::step_rows::StepRows;
-use lbk_rules::Profile;
+use lbk_uax14::Profile;
 use std::alloc::{AllocError, Global};
 
 /// The kinds of all scalar values, and for both profiles what happens at a cell of each kind. A `CellSource` may have
@@ -19,7 +19,7 @@ pub struct StepTable {
 }
 
 impl StepTable {
-    ghost use Rattle.lbk_rules.specs.declared.cells.Cell.{Cell};
+    ghost use Rattle.lbk_uax14.specs.declared.cells.Cell.{Cell};
     ghost use Rattle.lbk_steps.specs.RowMachineFits.{IsTableOf, RowMachineFits};
 
     /// The table of the cells that a source gives the scalar values. None comes where there are more rows than places can

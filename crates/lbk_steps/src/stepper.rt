@@ -1,15 +1,15 @@
 //! The positions of a text, decided scalar by scalar.
 
 ghost use Rattle.std.specs.Prelude.{◌≡◌, ℕ, ◌<◌, List, [], ◌∷◌, ◌++◌, length, map};
-ghost use Rattle.lbk_rules.specs.declared.cells.Cell.{Cell};
+ghost use Rattle.lbk_uax14.specs.declared.cells.Cell.{Cell};
 ghost use Rattle.lbk_values.specs.declared.profile.Profile.{Profile};
-ghost use Rattle.lbk_rules.specs.Held.{answer_at, late_at, now_at};
-ghost use Rattle.lbk_rules.specs.LateFits.{LateFits};
-ghost use Rattle.lbk_rules.specs.Verdict.{verdict_in};
+ghost use Rattle.lbk_uax14.specs.Held.{answer_at, late_at, now_at};
+ghost use Rattle.lbk_uax14.specs.LateFits.{LateFits};
+ghost use Rattle.lbk_uax14.specs.Verdict.{verdict_in};
 
 use crate::row_stepper::RowStepper;
 use crate::source::CellSource;
-use lbk_rules::{EndVerdicts, LateMachine, Profile, StepVerdicts};
+use lbk_uax14::{End, LateMachine, Out, Profile};
 
 /// Decides the positions of a text one after another in either profile, scalar by scalar and without looking back,
 /// by the cells of a source (UAX #14, section 6): by its table of steps, if it has one, and else by the plain rules. In
@@ -53,7 +53,7 @@ impl<'a, C: CellSource> Stepper<'a, C> {
     /// that was held until now, where the scalar heads the unit after its quotation mark. It does so for the first
     /// 18,446,744,073,709,551,615 scalars of a text.
     #[inline(always)]
-    pub fn step(&mut self, c: char) -> StepVerdicts
+    pub fn step(&mut self, c: char) -> Out
         ensures now { (profile : Profile) (cell : ℕ → Cell) (taken : List ℕ) (more : List Cell)
             → StepperFits C.cell_of self.old profile cell taken → length taken < 18446744073709551615
             → result.now ≡ now_at profile (map cell taken) (cell c ∷ more) }
@@ -72,7 +72,7 @@ impl<'a, C: CellSource> Stepper<'a, C> {
 
     /// The same where the source has no table of steps. Its values are set up here, and not in `step`.
     #[inline(always)]
-    fn step_by_rules(&mut self, c: char) -> StepVerdicts
+    fn step_by_rules(&mut self, c: char) -> Out
         ensures now { (profile : Profile) (taken more : List Cell)
             → LateFits self.old.rules profile taken → length taken < 18446744073709551615
             → result.now ≡ now_at profile taken (C.cell_of self.old.cells.now c ∷ more) }
@@ -92,7 +92,7 @@ impl<'a, C: CellSource> Stepper<'a, C> {
 
     /// The verdict of the position after all scalars taken, where the text ends, and that of the position that was
     /// held until now.
-    pub fn finish(&self) -> EndVerdicts
+    pub fn finish(&self) -> End
         ensures late { (profile : Profile) (cell : ℕ → Cell) (taken : List ℕ)
             → StepperFits C.cell_of self.now profile cell taken
             → result.late ≡ answer_at profile (map cell taken) [] }
@@ -111,11 +111,7 @@ impl<'a, C: CellSource> Stepper<'a, C> {
 /// steps has its stepper in registers.
 #[cold]
 #[inline(never)]
-fn next_by_rules<C: CellSource>(
-    cells: &C,
-    before: LateMachine,
-    c: char,
-) -> (LateMachine, StepVerdicts)
+fn next_by_rules<C: CellSource>(cells: &C, before: LateMachine, c: char) -> (LateMachine, Out)
     ensures now { (profile : Profile) (taken more : List Cell)
         → LateFits before profile taken → length taken < 18446744073709551615
         → result.1.now ≡ now_at profile taken (C.cell_of cells.now c ∷ more) }
@@ -130,7 +126,7 @@ fn next_by_rules<C: CellSource>(
     if machine.steps() == u64::MAX {
         return (
             machine,
-            StepVerdicts {
+            Out {
                 now: None,
                 late: None,
             },

@@ -1,8 +1,8 @@
 //! The part of a piece that needs no care: scalars of at most three bytes, before which no position waits.
 
 ghost use Rattle.std.specs.Prelude.{◌≡◌, ℕ, ◌+◌, ◌-◌, ◌^◌, ◌<◌, ◌≤◌, ◌++◌, [], List, drop, length, map};
-ghost use Rattle.lbk_rules.specs.declared.cells.Cell.{Cell};
-ghost use Rattle.lbk_rules.specs.declared.facts.Left.{Left};
+ghost use Rattle.lbk_uax14.specs.declared.cells.Cell.{Cell};
+ghost use Rattle.lbk_uax14.specs.declared.facts.Left.{Left};
 ghost use Rattle.lbk_steps.specs.FlatTable.{IsFlatBy};
 ghost use Rattle.lbk_streams.specs.declared.stream.Place.{Place};
 ghost use Rattle.lbk_bytes.specs.Order.{AreBreaks, AreInOrder};
@@ -11,8 +11,7 @@ ghost use Rattle.lbk_streams.specs.Stands.{Ahead, AreFew, Feeds, IsOrdered, Stan
 
 use crate::stream::{Feeding, Place};
 use lbk_bytes::{FillState, RawBreak, fill_common};
-use lbk_rules::Profile;
-use lbk_steps::FlatTable;
+use lbk_rules::{FlatTable, Profile};
 
 /// Goes on until a scalar needs care, the block is full or the piece ends.
 pub(crate) fn skim(

@@ -1,11 +1,11 @@
 //! A text that comes in pieces.
 
 ghost use Rattle.std.specs.Prelude.{◌≡◌, ◌⊎◌, ℕ, Bool, suc, min, ◌+◌, ◌-◌, ◌^◌, ◌<◌, ◌≤◌, ◌++◌, true, false, [], List, MatchOption, None, Some, drop, length, map, take};
-ghost use Rattle.lbk_rules.specs.declared.breaks.Break.{Break};
-ghost use Rattle.lbk_rules.specs.declared.cells.Cell.{Cell};
-ghost use Rattle.lbk_rules.specs.declared.facts.Left.{Left};
+ghost use Rattle.lbk_uax14.specs.declared.breaks.Break.{Break};
+ghost use Rattle.lbk_uax14.specs.declared.cells.Cell.{Cell};
+ghost use Rattle.lbk_uax14.specs.declared.facts.Left.{Left};
 ghost use Rattle.lbk_values.specs.declared.profile.Profile.{Profile};
-ghost use Rattle.lbk_rules.specs.Joins.{moved};
+ghost use Rattle.lbk_uax14.specs.Joins.{moved};
 ghost use Rattle.lbk_steps.specs.FlatTable.{IsFlatBy, IsFlatOf, KnowsTaken};
 ghost use Rattle.lbk_bytes.specs.Bytes.{breaks_of_bytes, breaks_of_part, end_in};
 ghost use Rattle.lbk_bytes.specs.Order.{AreBreaks, AreInOrder};
@@ -18,8 +18,7 @@ use crate::cutting::cut_of;
 use crate::feeding::{take_cut, take_piece};
 use crate::stream::{Fed, Feeding, Place, Stream};
 use lbk_bytes::{RawBreak, goes_on, plain_number, profile_numbered, put_end};
-use lbk_rules::Profile;
-use lbk_steps::FlatTable;
+use lbk_rules::{FlatTable, Profile};
 
 /// Takes the next piece of a stream, and puts the breaks that it settles (UAX #14, section 3) into the front of the block, as
 /// many as that holds. All bytes of the piece are taken, unless the block is full. Where `last`, nothing follows the piece: the

@@ -1,22 +1,21 @@
 //! Positions that what follows decides.
 
 ghost use Rattle.std.specs.Prelude.{◌≡◌, ℕ, ◌<◌, ◌∷◌, List, map};
-ghost use Rattle.lbk_rules.specs.declared.cells.Cell.{Cell};
-ghost use Rattle.lbk_rules.specs.declared.facts.Left.{Left};
+ghost use Rattle.lbk_uax14.specs.declared.cells.Cell.{Cell};
+ghost use Rattle.lbk_uax14.specs.declared.facts.Left.{Left};
 ghost use Rattle.lbk_values.specs.declared.profile.Profile.TheVariants.{Second};
-ghost use Rattle.lbk_rules.specs.Classes.{hard};
-ghost use Rattle.lbk_rules.specs.Codes.{IsCode, verdict_coded};
+ghost use Rattle.lbk_uax14.specs.Classes.{hard};
+ghost use Rattle.lbk_uax14.specs.Codes.{IsCode, verdict_coded};
 ghost use Rattle.lbk_steps.specs.FlatTable.{AreFlatKinds, IsFlatBy, KnowsTaken};
-ghost use Rattle.lbk_rules.specs.Normal.{normal};
-ghost use Rattle.lbk_rules.specs.Sides.{leaves_closed};
-ghost use Rattle.lbk_rules.specs.Units.{units_after};
-ghost use Rattle.lbk_rules.specs.Verdict.{verdict_between_in};
+ghost use Rattle.lbk_uax14.specs.Normal.{normal};
+ghost use Rattle.lbk_uax14.specs.Sides.{leaves_closed};
+ghost use Rattle.lbk_uax14.specs.Units.{units_after};
+ghost use Rattle.lbk_uax14.specs.Verdict.{verdict_between_in};
 ghost use Rattle.lbk_bytes.specs.Reached.{scalars_of};
 
 use crate::unit::Unit;
 use lbk_bytes::step_at;
-use lbk_rules::Profile;
-use lbk_steps::{FlatTable, HELD};
+use lbk_rules::{FlatTable, HELD, Profile};
 
 /// The number of the verdict before `c`, by the table's row at this place, where `rest` is the text after `c` up to its
 /// end.

@@ -1,16 +1,15 @@
 //! The position before one scalar, whatever it is.
 
 ghost use Rattle.std.specs.Prelude.{ℕ, ◌<◌, ◌≤◌, List, length};
-ghost use Rattle.lbk_rules.specs.declared.cells.Cell.{Cell};
-ghost use Rattle.lbk_rules.specs.declared.facts.Left.{Left};
+ghost use Rattle.lbk_uax14.specs.declared.cells.Cell.{Cell};
+ghost use Rattle.lbk_uax14.specs.declared.facts.Left.{Left};
 ghost use Rattle.lbk_steps.specs.FlatTable.{IsFlatBy, KnowsTaken};
 ghost use Rattle.lbk_units.specs.Reached.{IsUnitDecided, on_from};
 
 use crate::ahead::code_ahead;
 use crate::unit::Unit;
 use lbk_bytes::{Decided, step_at};
-use lbk_rules::Profile;
-use lbk_steps::FlatTable;
+use lbk_rules::{FlatTable, Profile};
 
 /// Decides the position before this unit, by the row there and by what follows, and takes the scalar that begins there.
 #[inline(always)]

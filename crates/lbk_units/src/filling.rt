@@ -1,9 +1,9 @@
 //! A block that is filled with breaks.
 
 ghost use Rattle.std.specs.Prelude.{◌≡◌, ℕ, ◌+◌, ◌<◌, ◌≤◌, List, length};
-ghost use Rattle.lbk_rules.specs.declared.breaks.Break.{Break};
-ghost use Rattle.lbk_rules.specs.declared.cells.Cell.{Cell};
-ghost use Rattle.lbk_rules.specs.declared.facts.Left.{Left};
+ghost use Rattle.lbk_uax14.specs.declared.breaks.Break.{Break};
+ghost use Rattle.lbk_uax14.specs.declared.cells.Cell.{Cell};
+ghost use Rattle.lbk_uax14.specs.declared.facts.Left.{Left};
 ghost use Rattle.lbk_values.specs.declared.profile.Profile.{Profile};
 ghost use Rattle.lbk_steps.specs.FlatTable.{AreFlatKinds, IsFlatBy};
 ghost use Rattle.lbk_bytes.specs.Reached.{AreSwift, IsInOrder};
@@ -13,8 +13,7 @@ ghost use Rattle.lbk_units.specs.Reached.{UnitsReached, on_from};
 use crate::deciding::decide_unit;
 use crate::unit::Unit;
 use lbk_bytes::{FillState, RawBreak, put, step_at, steps_of};
-use lbk_rules::Profile;
-use lbk_steps::{FlatStep, FlatTable, HELD, STEPS};
+use lbk_rules::{FlatStep, FlatTable, HELD, Profile, STEPS};
 
 /// How many codes there are.
 const CODES: usize = 0x11_0000;

@@ -1,11 +1,11 @@
 //! A block that is filled with positions.
 
 ghost use Rattle.std.specs.Prelude.{◌≡◌, ℕ, ◌+◌, ◌<◌, ◌≤◌, ◌++◌, [], ◌∷◌, List, length};
-ghost use Rattle.lbk_rules.specs.declared.breaks.Break.{Break};
-ghost use Rattle.lbk_rules.specs.declared.cells.Cell.{Cell};
-ghost use Rattle.lbk_rules.specs.declared.facts.Left.{Left};
-ghost use Rattle.lbk_rules.specs.Breaks.{break_by};
-ghost use Rattle.lbk_rules.specs.Codes.{IsCode, verdict_coded};
+ghost use Rattle.lbk_uax14.specs.declared.breaks.Break.{Break};
+ghost use Rattle.lbk_uax14.specs.declared.cells.Cell.{Cell};
+ghost use Rattle.lbk_uax14.specs.declared.facts.Left.{Left};
+ghost use Rattle.lbk_uax14.specs.Breaks.{break_by};
+ghost use Rattle.lbk_uax14.specs.Codes.{IsCode, verdict_coded};
 ghost use Rattle.lbk_steps.specs.FlatTable.{IsFlatBy};
 ghost use Rattle.lbk_bytes.specs.Order.{ArePositionsInOrder, IsPosition};
 ghost use Rattle.lbk_bytes.specs.Reached.{IsInOrderBy, onward_all};
@@ -15,8 +15,7 @@ ghost use Rattle.lbk_units.specs.Reached.{UnitsReachedBy, on_from};
 use crate::deciding::decide_unit;
 use crate::unit::Unit;
 use lbk_bytes::{FillState, RawBreak, shown_of};
-use lbk_rules::Profile;
-use lbk_steps::FlatTable;
+use lbk_rules::{FlatTable, Profile};
 
 /// Goes on until the block is full or the text ends, and writes the positions before the scalars taken after those in the
 /// front of the block.

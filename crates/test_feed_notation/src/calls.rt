@@ -7,7 +7,7 @@ use lbk_feed::devices::{MemorySink, MemorySource};
 use lbk_feed::{Failed, Feed, FeedFault, Sink, Source, write_all};
 use lbk_notation::{Form, ReplayFault, Report, replay};
 use lbk_passage::{Passage, PassageFault, Segmenter};
-use lbk_steps::{CellPages, CellSource};
+use lbk_rules::{CellPages, CellSource};
 use std::alloc::{AllocError, Global};
 use std::test::Fail;
 

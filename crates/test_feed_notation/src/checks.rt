@@ -5,7 +5,7 @@ use crate::runs::{Ran, Run};
 use crate::tasks::{End, Setting};
 use lbk_feed::Source;
 use lbk_passage::{PassageFault, Segmenter};
-use lbk_steps::CellPages;
+use lbk_rules::CellPages;
 use std::test::Fail;
 use test_support::checks::same;
 

@@ -4,8 +4,7 @@
 use lbk_notation::{
     Form, LineFault, Outcome, TestLine, mark_text, read_line, replay_line, write_line,
 };
-use lbk_rules::Profile;
-use lbk_steps::CellPages;
+use lbk_rules::{CellPages, Profile};
 use std::alloc::{AllocError, Global};
 
 pub fn line_of(alloc: Global, bytes: &[u8], form: Form) -> Result<Option<TestLine>, LineFault> {

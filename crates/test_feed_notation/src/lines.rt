@@ -6,8 +6,7 @@ use lbk_notation::{
     Form, LineFault, Mark, TestLine, laws, mark_of, push_line, push_mark, push_passage_line,
     push_scalar, read_back, read_passage_line,
 };
-use lbk_rules::{Cell, Kind, Profile, Rule, Verdict, decide_all_in};
-use lbk_steps::CellPages;
+use lbk_rules::{Cell, CellPages, Kind, Profile, Rule, Verdict, decide_all_in};
 use std::alloc::{AllocError, Global};
 use std::test::Fail;
 use test_support::cells::cells_of;

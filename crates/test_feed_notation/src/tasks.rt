@@ -6,8 +6,7 @@ use lbk_cmd::CmdFault;
 use lbk_feed::{Sink, Source};
 use lbk_notation::{Form, ReplayFault, Report};
 use lbk_passage::{PassageFault, Segmenter};
-use lbk_rules::Profile;
-use lbk_steps::CellPages;
+use lbk_rules::{CellPages, Profile};
 use std::alloc::Global;
 
 /// The most bytes of a paragraph.

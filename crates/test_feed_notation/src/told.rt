@@ -4,7 +4,7 @@ use crate::calls::next_passage;
 use lbk_cmd::CmdFault;
 use lbk_feed::Source;
 use lbk_passage::{Passage, Piece, Segment, Segmenter};
-use lbk_steps::CellPages;
+use lbk_rules::CellPages;
 use std::alloc::{AllocError, Global};
 use std::fmt::Write;
 

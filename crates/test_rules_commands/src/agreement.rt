@@ -1,8 +1,7 @@
 //! The machines say of every short list of cells what the evaluator says.
 
 use crate::calls::{decided, decided_in, late_step, start_late, step, step_over, stepper};
-use lbk_rules::{Cell, Class, ForwardMachine, Profile, Quote, StepVerdicts, Verdict};
-use lbk_steps::CellPages;
+use lbk_rules::{Cell, CellPages, Class, Machine, Out, Profile, Quote, Verdict};
 use std::process::Abort;
 use std::test::Fail;
 use test_support::calls::cell_of;
@@ -17,7 +16,7 @@ fn same(rt: &impl Abort, found: Option<Verdict>, want: Verdict, k: usize, cells:
 }
 
 fn check_machine(rt: &impl Abort, cells: &[Cell; 3]) {
-    let mut machine = ForwardMachine::start();
+    let mut machine = Machine::start();
     for k in 0..3 {
         let found = step(&mut machine, cells[k]);
         same(rt, Some(found), decided(rt, cells, k), k, cells);
@@ -51,7 +50,7 @@ impl Answers {
         }
     }
 
-    fn add_step(&mut self, rt: &impl Abort, position: u64, out: StepVerdicts) {
+    fn add_step(&mut self, rt: &impl Abort, position: u64, out: Out) {
         self.add_late(rt, out.late);
         if let Some(verdict) = out.now {
             self.add(rt, position, verdict);
@@ -97,7 +96,7 @@ fn late_machine(rt: HostRuntime) -> Result<(), Fail> {
 }
 
 /// Compares results of a stepper and of the late machine.
-fn same_out(rt: &impl Abort, found: StepVerdicts, want: StepVerdicts, k: u64, text: &[Scalar; 3]) {
+fn same_out(rt: &impl Abort, found: Out, want: Out, k: u64, text: &[Scalar; 3]) {
     assert!(rt; found == want, "{found:?} at {k} of {text:?}");
 }
 

@@ -2,8 +2,7 @@
 //! steps and in blocks of all sizes.
 
 use lbk_breaks::{Break, Breaks};
-use lbk_rules::{Kind, Profile, Rule, Verdict, decide_in};
-use lbk_steps::CellSource;
+use lbk_rules::{CellSource, Kind, Profile, Rule, Verdict, decide_in};
 use std::alloc::{AllocError, Global};
 use std::fmt::Write;
 use std::process::Abort;

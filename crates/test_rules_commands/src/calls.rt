@@ -2,9 +2,8 @@
 //! fact of them; a check that does not carry their facts from call to call takes a fraction of the time.
 
 use lbk_rules::{
-    Cell, ForwardMachine, LateMachine, Profile, StepVerdicts, Verdict, decide, decide_in,
+    Cell, CellSource, LateMachine, Machine, Out, Profile, Stepper, Verdict, decide, decide_in,
 };
-use lbk_steps::{CellSource, Stepper};
 use std::fmt::Debug;
 use std::process::Abort;
 
@@ -18,7 +17,7 @@ pub fn decided_in(rt: &impl Abort, profile: Profile, cells: &[Cell], k: usize) -
     decide_in(profile, cells, k)
 }
 
-pub fn step(machine: &mut ForwardMachine, cell: Cell) -> Verdict {
+pub fn step(machine: &mut Machine, cell: Cell) -> Verdict {
     machine.step(cell)
 }
 
@@ -27,12 +26,7 @@ pub fn start_late(profile: Profile) -> LateMachine {
 }
 
 /// Steps on, after `taken` cells.
-pub fn late_step(
-    rt: &impl Abort,
-    machine: &mut LateMachine,
-    taken: u64,
-    cell: Cell,
-) -> StepVerdicts {
+pub fn late_step(rt: &impl Abort, machine: &mut LateMachine, taken: u64, cell: Cell) -> Out {
     assert!(rt; machine.steps() == taken && taken < u64::MAX);
     machine.step(cell)
 }
@@ -41,7 +35,7 @@ pub fn stepper<C: CellSource>(source: &C, profile: Profile) -> Stepper<'_, C> {
     Stepper::start(source, profile)
 }
 
-pub fn step_over<C: CellSource>(stepper: &mut Stepper<'_, C>, c: char) -> StepVerdicts {
+pub fn step_over<C: CellSource>(stepper: &mut Stepper<'_, C>, c: char) -> Out {
     stepper.step(c)
 }
 

@@ -2,9 +2,9 @@
 
 use crate::calls::{decided, decided_in, late_step, same, start_late, step_over, stepper};
 use lbk_rules::{
-    Cell, Class, EndVerdicts, Kind, Profile, Rule, StepVerdicts, Verdict, decide_all, decide_all_in,
+    Cell, CellPages, CellSource, Class, End, Kind, Out, Profile, Rule, Verdict, decide_all,
+    decide_all_in,
 };
-use lbk_steps::{CellPages, CellSource};
 use std::alloc::{AllocError, Global};
 use std::fmt::Write;
 use std::process::Abort;
@@ -149,7 +149,7 @@ fn steps_over<C: CellSource>(
     Ok(steps)
 }
 
-fn push_step(steps: &mut String, out: StepVerdicts) -> Result<(), AllocError> {
+fn push_step(steps: &mut String, out: Out) -> Result<(), AllocError> {
     match out.now {
         None => steps.push('-')?,
         Some(verdict) => steps.push_str(verdict.rule.label())?,
@@ -158,7 +158,7 @@ fn push_step(steps: &mut String, out: StepVerdicts) -> Result<(), AllocError> {
     steps.push(' ')
 }
 
-fn push_end(steps: &mut String, end: EndVerdicts) -> Result<(), AllocError> {
+fn push_end(steps: &mut String, end: End) -> Result<(), AllocError> {
     steps.push_str(end.end.rule.label())?;
     push_late(steps, end.late)
 }

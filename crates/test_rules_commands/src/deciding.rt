@@ -2,8 +2,8 @@
 
 use crate::calls::{decided, decided_in, late_step, same_at, same_value, start_late, step};
 use lbk_rules::{
-    Cell, Class, EndVerdicts, ForwardMachine, Kind, Profile, Quote, Rule, StepVerdicts, Verdict,
-    decide_all, decide_all_in, resolve,
+    Cell, Class, End, Kind, Machine, Out, Profile, Quote, Rule, Verdict, decide_all, decide_all_in,
+    resolve,
 };
 use lbk_ucd::{Category, EastAsian, LineBreak};
 use std::process::Abort;
@@ -51,7 +51,7 @@ fn first_profile(rt: HostRuntime) {
         kind: Kind::May,
         rule: Rule::Lb18,
     });
-    let mut machine = ForwardMachine::start();
+    let mut machine = Machine::start();
     for k in 0..5 {
         same_at(&rt, decided(&rt, &cells, k), want[k], k);
         same_at(&rt, step(&mut machine, cells[k]), want[k], k);
@@ -93,20 +93,20 @@ fn second_profile_at_once(rt: HostRuntime) {
 }
 
 /// The result of a step by which no held position comes.
-fn at_once(rule: Rule) -> StepVerdicts {
-    StepVerdicts {
+fn at_once(rule: Rule) -> Out {
+    Out {
         now: Some(no(rule)),
         late: None,
     }
 }
 
 /// What the steps over these cells return.
-fn outs_of_quoted() -> [StepVerdicts; 5] {
-    let held = StepVerdicts {
+fn outs_of_quoted() -> [Out; 5] {
+    let held = Out {
         now: None,
         late: None,
     };
-    let answered = StepVerdicts {
+    let answered = Out {
         now: Some(no(Rule::Lb13)),
         late: Some((2, no(Rule::Lb15b))),
     };
@@ -130,7 +130,7 @@ fn held_position(rt: HostRuntime) {
         same_at(&rt, out, outs[k as usize], k as usize);
     }
     same_value(&rt, machine.steps(), 5, "steps");
-    let end = EndVerdicts {
+    let end = End {
         late: None,
         end: END,
     };

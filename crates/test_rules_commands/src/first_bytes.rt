@@ -1,7 +1,7 @@
 //! First bytes of scalars after which no line must end are reported: without them the passages are the same, and found slower.
 
 use crate::calls::same_at;
-use lbk_steps::CellSource;
+use lbk_rules::CellSource;
 use std::test::Fail;
 use test_support::calls::pages_by;
 use test_support::property_files::line_break_alone;

@@ -12,8 +12,7 @@ ghost use Rattle.lbk_steps.specs.CellPages.{page_cell};
 use lbk_cmd::{CmdFault, SAMPLE_FILES, read_cells, show};
 use lbk_feed::devices::{MemorySink, MemorySource};
 use lbk_passage::{Segment, Segmenter};
-use lbk_rules::Profile;
-use lbk_steps::CellPages;
+use lbk_rules::{CellPages, Profile};
 use std::alloc::Global;
 use std::test::Fail;
 

@@ -1,8 +1,7 @@
 //! The labels of texts over the sample files by machines that look ahead, in both profiles.
 
 use crate::calls::same;
-use lbk_rules::{Profile, Rule};
-use lbk_steps::{AheadMachine, CellPages, CellSource, RowMachine};
+use lbk_rules::{AheadMachine, CellPages, CellSource, Profile, RowMachine, Rule};
 use std::alloc::{AllocError, Global};
 use std::process::Abort;
 use std::str::Chars;

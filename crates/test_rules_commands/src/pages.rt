@@ -1,8 +1,7 @@
 //! Pages give each scalar the cell of the tables that they are built of: at the edges of pages, and where pages are
 //! equal and where they differ.
 
-use lbk_rules::{Cell, Class};
-use lbk_steps::CellPages;
+use lbk_rules::{Cell, CellPages, Class};
 use lbk_ucd::Tables;
 use std::alloc::{AllocError, Global};
 use std::fmt::Write;

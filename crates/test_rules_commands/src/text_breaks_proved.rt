@@ -2,14 +2,13 @@
 
 ghost use Rattle.std.specs.Prelude.{◌≡◌, IfOk};
 ghost use Rattle.std.specs.Str.{chars};
-ghost use Rattle.lbk_rules.specs.Breaks.{breaks};
+ghost use Rattle.lbk_uax14.specs.Breaks.{breaks};
 ghost use Rattle.lbk_steps.specs.CellPages.{page_cell};
 ghost use Rattle.lbk_values.specs.declared.profile.Profile.TheVariants.{First};
 
 use lbk_breaks::Breaks;
 use lbk_cmd::{SAMPLE_FILES, read_cells};
-use lbk_rules::{Break, Kind, Profile, Rule};
-use lbk_steps::CellPages;
+use lbk_rules::{Break, CellPages, Kind, Profile, Rule};
 use std::alloc::{AllocError, Global};
 use std::test::Fail;
 

@@ -1,8 +1,7 @@
 //! Calls that tests make, each without its contract. A test proves only that it is safe and returns, so it needs no
 //! fact of them; a check that does not carry their facts from call to call takes a fraction of the time.
 
-use lbk_rules::Cell;
-use lbk_steps::{CellPages, CellSource};
+use lbk_rules::{Cell, CellPages, CellSource};
 use lbk_ucd::{Files, Tables, UcdFault};
 use std::alloc::{AllocError, Global};
 use std::test::Fail;

@@ -1,7 +1,6 @@
 //! Cells: those that a source gives a text, and those of a class with and without flags.
 
-use lbk_rules::{Cell, Class, Quote};
-use lbk_steps::CellSource;
+use lbk_rules::{Cell, CellSource, Class, Quote};
 use std::alloc::{AllocError, Global};
 
 pub fn cells_of<C: CellSource>(

@@ -3,8 +3,7 @@
 use crate::calls::{cell_of, has_step_table, pages_by};
 use crate::cells::{mark, pictograph, plain, wide};
 use crate::checks::same;
-use lbk_rules::{Cell, Class, Quote};
-use lbk_steps::CellPages;
+use lbk_rules::{Cell, CellPages, Class, Quote};
 use lbk_ucd::Files;
 use std::alloc::{AllocError, Global};
 use std::test::Fail;

@@ -7,8 +7,7 @@ use crate::verdicts::{add_late, add_out, add_verdict};
 use anyhow::Result;
 use lbk_breaks::{Break, Breaks};
 use lbk_files::SAMPLE_FILES;
-use lbk_rules::{Kind, Profile, Rule};
-use lbk_steps::{CellPages, CellSource, Stepper};
+use lbk_rules::{CellPages, CellSource, Kind, Profile, Rule, Stepper};
 use lbk_ucd::Tables;
 use std::alloc::Global;
 

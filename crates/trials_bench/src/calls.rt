@@ -13,8 +13,7 @@ use lbk_feed::devices::{MemorySink, MemorySource};
 use lbk_files::{CellsFault, LoadFault, MemoryStore, Ready, SAMPLE_FILES, Stop, Store};
 use lbk_notation::{Form, LineFault, Mark, ReplayFault, Report, TestLine};
 use lbk_passage::{Passage, PassageFault, Segmenter};
-use lbk_rules::{Profile, Verdict};
-use lbk_steps::CellPages;
+use lbk_rules::{CellPages, Profile, Verdict};
 use lbk_ucd::{Files, Tables, UcdFault};
 use std::alloc::{AllocError, Global};
 

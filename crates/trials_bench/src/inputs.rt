@@ -4,8 +4,7 @@ use anyhow::{Result, anyhow};
 use lbk_feed::devices::{MemorySink, MemorySource};
 use lbk_files::{SAMPLE_FILES, read_cells};
 use lbk_notation::{TestLine, mark_text};
-use lbk_rules::{Cell, Kind, Profile, Rule, Verdict, decide_all_in};
-use lbk_steps::{CellPages, CellSource};
+use lbk_rules::{Cell, CellPages, CellSource, Kind, Profile, Rule, Verdict, decide_all_in};
 use lbk_ucd::{Files, Tables};
 use std::alloc::{AllocError, Global};
 

@@ -9,8 +9,10 @@ use lbk_cmd::{mark, segment, show};
 use lbk_feed::devices::MemorySource;
 use lbk_notation::{Form, replay};
 use lbk_passage::{LIMIT_MAX, Segment, Segmenter};
-use lbk_rules::{Break, Class, ForwardMachine, Kind, LateMachine, Profile, Rule, Verdict};
-use lbk_steps::{CellPages, CellSource, Stepper};
+use lbk_rules::{
+    Break, CellPages, CellSource, Class, Kind, LateMachine, Machine, Profile, Rule, Stepper,
+    Verdict,
+};
 use lbk_ucd::Tables;
 use std::alloc::{AllocError, Global};
 use unicode_segmentation::UnicodeSegmentation;
@@ -23,7 +25,7 @@ pub enum Layer {
     /// Their cells.
     LookUp,
     /// The verdicts of the first profile, one after another.
-    ForwardMachine,
+    Machine,
     /// Those of a profile by the machine that may hold a position.
     LateMachine(Profile),
     /// The same by the table of steps, or what steps in its place.
@@ -54,7 +56,7 @@ pub enum Layer {
 pub const LAYERS: [Layer; 19] = [
     Layer::Decoding,
     Layer::LookUp,
-    Layer::ForwardMachine,
+    Layer::Machine,
     Layer::LateMachine(Profile::First),
     Layer::LateMachine(Profile::Second),
     Layer::Stepper(Profile::First),
@@ -90,7 +92,7 @@ impl Layer {
         match self {
             Layer::Decoding => "decoding",
             Layer::LookUp => "look-up",
-            Layer::ForwardMachine => "ForwardMachine",
+            Layer::Machine => "Machine",
             Layer::LateMachine(Profile::First) => "LateMachine, profile 1",
             Layer::LateMachine(Profile::Second) => "LateMachine, profile 2",
             Layer::Stepper(Profile::First) => "Stepper, profile 1",
@@ -126,7 +128,7 @@ impl Layer {
         match self {
             Layer::Decoding => Ok(decoding(text)),
             Layer::LookUp => Ok(look_up(cells, text)),
-            Layer::ForwardMachine => Ok(by_machine(cells, text)),
+            Layer::Machine => Ok(by_machine(cells, text)),
             Layer::LateMachine(profile) => Ok(by_late_machine(cells, profile, text)),
             Layer::Stepper(profile) => Ok(by_stepper(cells, profile, text)),
             Layer::Breaks(profile) => Ok(by_breaks(cells, profile, text)),
@@ -165,7 +167,7 @@ fn breaks_at(verdict: Verdict) -> u64 {
 }
 
 fn by_machine(cells: &CellPages, text: &str) -> u64 {
-    let mut machine = ForwardMachine::start();
+    let mut machine = Machine::start();
     let mut breaks = 0u64;
     for c in text.chars() {
         breaks = breaks.wrapping_add(breaks_at(machine.step(cells.cell(c))));

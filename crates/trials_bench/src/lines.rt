@@ -6,8 +6,7 @@ use crate::inputs::{Input, Text, text_of};
 use crate::told::{fault_told, line_told, read_told};
 use anyhow::{Result, anyhow};
 use lbk_notation::{Form, Mark, Outcome, TestLine, replay_line};
-use lbk_rules::Profile;
-use lbk_steps::CellPages;
+use lbk_rules::{CellPages, Profile};
 use std::alloc::{AllocError, Global};
 
 pub fn read(alloc: Global, bytes: Text, form: Form) -> Result<String> {

@@ -4,8 +4,7 @@ use anyhow::{Result, bail};
 use lbk_cmd::show;
 use lbk_feed::devices::{MemorySink, MemorySource};
 use lbk_passage::{LIMIT_MAX, Segmenter};
-use lbk_rules::Profile;
-use lbk_steps::{CellPages, CellSource};
+use lbk_rules::{CellPages, CellSource, Profile};
 use lbk_ucd::{Files, Tables};
 use std::alloc::Global;
 

@@ -32,7 +32,7 @@ pub enum OnText {
     Replay(Form),
     /// `decide`, `decide_in`, `decide_all`, `decide_all_in`, which take no memory.
     Decide,
-    /// Each call of `ForwardMachine` and `LateMachine`, and `label`, which take no memory.
+    /// Each call of `Machine` and `LateMachine`, and `label`, which take no memory.
     Machines,
     /// `Breaks`, in blocks and one by one, and `Stepper`, over pages and over tables, which take no memory.
     Breaks,

@@ -8,8 +8,7 @@ use anyhow::{Result, anyhow};
 use lbk_feed::Source;
 use lbk_feed::devices::MemorySource;
 use lbk_passage::{Passage, PassageFault, Piece, Segment, Segmenter};
-use lbk_rules::Profile;
-use lbk_steps::CellPages;
+use lbk_rules::{CellPages, Profile};
 use std::alloc::{AllocError, Global};
 use std::fmt::Write;
 

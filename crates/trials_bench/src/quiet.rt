@@ -10,8 +10,7 @@ use anyhow::Result;
 use lbk_cmd::Ending;
 use lbk_files::SAMPLE_FILES;
 use lbk_notation::Report;
-use lbk_rules::{Cell, resolve};
-use lbk_steps::{CellPages, CellSource};
+use lbk_rules::{Cell, CellPages, CellSource, resolve};
 use lbk_ucd::{Places, Tables};
 use std::alloc::Global;
 

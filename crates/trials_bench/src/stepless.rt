@@ -2,8 +2,7 @@
 
 ghost use Rattle.lbk_steps.specs.CellPages.{page_cell};
 
-use lbk_rules::Cell;
-use lbk_steps::{CellPages, CellSource};
+use lbk_rules::{Cell, CellPages, CellSource};
 
 /// The cells of pages, without their table of steps.
 #[derive(Clone, Copy)]

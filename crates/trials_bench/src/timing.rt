@@ -21,7 +21,7 @@ struct Best {
 }
 
 /// Reads four property files and a text from standard input, and prints for each layer how many millions of bytes it takes in a
-/// second, how that compares with `ForwardMachine`, and what it counts, or the milliseconds of a part of the start-up.
+/// second, how that compares with `Machine`, and what it counts, or the milliseconds of a part of the start-up.
 pub fn print(rt: &HostRuntime, name: &str) -> Result<()> {
     let input = io::read_to_string(rt.alloc(), rt.stdin())?;
     let (files, text) = parts_of(input.as_str())?;
@@ -69,7 +69,7 @@ fn print_layers(rt: &HostRuntime, name: &str, material: &Material<'_>) -> Result
     )?;
     let mut machine = 0;
     for (layer, best) in LAYERS.iter().zip(best.iter()) {
-        if matches!(layer, Layer::ForwardMachine) {
+        if matches!(layer, Layer::Machine) {
             machine = rate(material.text.len(), best.time);
         }
     }

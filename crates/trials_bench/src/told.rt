@@ -4,8 +4,7 @@ use crate::digest::Digest;
 use crate::inputs::text_of;
 use anyhow::Result;
 use lbk_notation::{LineFault, Mark, TestLine};
-use lbk_rules::{Cell, Class, Quote};
-use lbk_steps::CellSource;
+use lbk_rules::{Cell, CellSource, Class, Quote};
 use std::alloc::Global;
 use std::fmt::Debug;
 

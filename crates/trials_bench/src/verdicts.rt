@@ -6,8 +6,7 @@ use crate::inputs::{Input, verdicts_of};
 use crate::told::digest_told;
 use anyhow::{Result, ensure};
 use lbk_rules::{
-    Cell, ForwardMachine, LateMachine, Profile, StepVerdicts, Verdict, decide, decide_all,
-    decide_all_in, decide_in,
+    Cell, LateMachine, Machine, Out, Profile, Verdict, decide, decide_all, decide_all_in, decide_in,
 };
 use std::alloc::Global;
 
@@ -71,7 +70,7 @@ pub fn add_verdict(digest: &mut Digest, verdict: Verdict) {
     digest.add_verdict(verdict.kind, verdict.rule);
 }
 
-/// Each call of `ForwardMachine` and `LateMachine`, and `label`.
+/// Each call of `Machine` and `LateMachine`, and `label`.
 pub fn machines(alloc: Global, input: &Input, profile: Profile) -> Result<String> {
     let list = input.cell_list(alloc)?;
     let mut digest = Digest::new();
@@ -83,7 +82,7 @@ pub fn machines(alloc: Global, input: &Input, profile: Profile) -> Result<String
 }
 
 fn step_machine(digest: &mut Digest, list: &[Cell]) {
-    let mut machine = ForwardMachine::start();
+    let mut machine = Machine::start();
     for cell in list {
         add_verdict(digest, machine.step(*cell));
     }
@@ -104,7 +103,7 @@ fn step_late_machine(digest: &mut Digest, list: &[Cell], profile: Profile) {
     digest.add(machine.steps());
 }
 
-pub fn add_out(digest: &mut Digest, out: StepVerdicts) {
+pub fn add_out(digest: &mut Digest, out: Out) {
     add_late(digest, out.late);
     if let Some(verdict) = out.now {
         add_verdict(digest, verdict);

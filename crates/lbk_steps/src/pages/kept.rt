@@ -4,7 +4,7 @@ ghost use Rattle.std.specs.Prelude.{◌≡◌, ◌≢◌, ℕ, ◌+◌, ◌<◌,
 ghost use Rattle.lbk_steps.specs.Pages.{AreDistinct, cell_number, digest_of, digest_with};
 
 use super::Page;
-use lbk_rules::Cell;
+use lbk_uax14::Cell;
 use std::alloc::{AllocError, Global};
 
 /// The pages kept so far, each with its digest.

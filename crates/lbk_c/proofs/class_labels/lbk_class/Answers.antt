@@ -1,6 +1,6 @@
 use Rattle.std.proofs.Common.{ap, ◌∙◌}
-use Rattle.lbk_rules.specs.declared.cells.Cell.{Cell}
-use Rattle.lbk_rules.specs.Normal.{normal}
+use Rattle.lbk_uax14.specs.declared.cells.Cell.{Cell}
+use Rattle.lbk_uax14.specs.Normal.{normal}
 use Rattle.lbk_steps.specs.ClassLabels.{class_label}
 use Rattle.lbk_c.specs.Labels.{filled}
 use Rattle.lbk_c.proofs.class_labels.lbk_class.Goals as goal

@@ -2,10 +2,10 @@ use Rattle.std.proofs.Common.{◌≡◌, ◌||◌, Bool, true, false, not, map, 
 use Rattle.std.specs.Str.{chars}
 use Rattle.std.specs.Str.Iter.{chars_rest}
 use Rattle.std.proofs.lemmas.List.{nil_from_length}
-use Rattle.lbk_rules.specs.Classes.{hard, mark, none_of, closes_before}
-use Rattle.lbk_rules.specs.declared.cells.Cell.{Cell}
-use Rattle.lbk_rules.specs.Sides.{leaves_closed}
-use Rattle.lbk_rules.specs.Units.{unit, units_after}
+use Rattle.lbk_uax14.specs.Classes.{hard, mark, none_of, closes_before}
+use Rattle.lbk_uax14.specs.declared.cells.Cell.{Cell}
+use Rattle.lbk_uax14.specs.Sides.{leaves_closed}
+use Rattle.lbk_uax14.specs.Units.{unit, units_after}
 use Rattle.lbk_steps.proofs.AheadLemmas.{AheadLoop, AheadLoop-start, AheadLoop-tells, AheadLoop-step, AheadLoop-end}
 use Rattle.lbk_steps.proofs.ahead_machine.closes_ahead.Goals as goal
 use Rattle.lbk_steps.proofs.ahead_machine.closes_ahead.Goals.{then-fresh-via-then-fresh, then-fresh-via-else-fresh+then-not-is_mark}

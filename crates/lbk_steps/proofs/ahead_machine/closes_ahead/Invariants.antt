@@ -1,9 +1,9 @@
 use Rattle.std.proofs.Common.{map}
 use Rattle.std.specs.Str.{chars}
 use Rattle.std.specs.Str.Iter.{chars_rest}
-use Rattle.lbk_rules.specs.Classes.{hard}
-use Rattle.lbk_rules.specs.Sides.{leaves_closed}
-use Rattle.lbk_rules.specs.Units.{units_after}
+use Rattle.lbk_uax14.specs.Classes.{hard}
+use Rattle.lbk_uax14.specs.Sides.{leaves_closed}
+use Rattle.lbk_uax14.specs.Units.{units_after}
 use Rattle.lbk_steps.proofs.AheadLemmas.{AheadLoop}
 use Rattle.lbk_steps.proofs.ahead_machine.closes_ahead.Given as goal
 

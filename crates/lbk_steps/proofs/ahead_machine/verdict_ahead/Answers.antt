@@ -1,9 +1,9 @@
 use Rattle.std.proofs.Common.{[], map, sym, ap, ◌∙◌}
 use Rattle.std.specs.Str.{chars}
-use Rattle.lbk_rules.specs.declared.verdicts.Verdict.{Verdict}
-use Rattle.lbk_rules.specs.Held.{is_15b}
+use Rattle.lbk_uax14.specs.declared.verdicts.Verdict.{Verdict}
+use Rattle.lbk_uax14.specs.Held.{is_15b}
 use Rattle.lbk_steps.proofs.AheadLemmas.{closes_asked}
-use Rattle.lbk_rules.proofs.HeldLemmas.{from_cells-settled}
+use Rattle.lbk_uax14.proofs.HeldLemmas.{from_cells-settled}
 use Rattle.lbk_steps.proofs.ahead_machine.verdict_ahead.Goals as goal
 
 pub returns-then-not-is_15b : goal.returns-then-not-is_15b

@@ -1,6 +1,6 @@
 use Rattle.std.proofs.Common.{◌≡◌, ℕ, ◌-◌, ◌<◌, ◌≤◌, true, false, get_or}
 use Rattle.std.specs.Char.{IsScalar}
-use Rattle.lbk_rules.specs.Ends.{ends_line}
+use Rattle.lbk_uax14.specs.Ends.{ends_line}
 use Rattle.lbk_steps.specs.FirstBytes.{first_byte}
 use Rattle.lbk_steps.proofs.first_bytes.quiet_first_bytes.Given as goal
 

@@ -1,6 +1,6 @@
 use Rattle.std.proofs.Common.{◌≡◌, ℕ, ◌+◌, ◌<◌, ◌≤◌, length, get_or}
 use Rattle.lbk_steps.specs.Pages.{AreSame}
-use Rattle.lbk_rules.specs.Units.{letter}
+use Rattle.lbk_uax14.specs.Units.{letter}
 use Rattle.lbk_steps.proofs.pages.fill.Given as goal
 
 abbrev pub invariant-loop-k : goal.invariant-loop-k

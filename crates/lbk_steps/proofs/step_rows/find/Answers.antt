@@ -1,7 +1,7 @@
 use Rattle.std.proofs.Common.{[], get_or, sym, ◌∙◌, arith, below_more}
 use Rattle.std.proofs.lemmas.Bool.{false≢true}
 use Rattle.std.proofs.lemmas.List.{get_or_default}
-use Rattle.lbk_rules.specs.Facts.{facts}
+use Rattle.lbk_uax14.specs.Facts.{facts}
 use Rattle.lbk_steps.proofs.LeftLemmas.{left_Decides, unread}
 use Rattle.lbk_steps.proofs.step_rows.find.Goals as goal
 

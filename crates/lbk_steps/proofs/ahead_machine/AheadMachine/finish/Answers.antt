@@ -1,5 +1,5 @@
 use Rattle.std.proofs.Common.{[], map, reverse, sym, ◌∙◌}
-use Rattle.lbk_rules.proofs.ChainLemmas.{verdict_between-chain}
+use Rattle.lbk_uax14.proofs.ChainLemmas.{verdict_between-chain}
 use Rattle.lbk_steps.proofs.ahead_machine.AheadMachine.finish.Goals as goal
 
 pub returns : goal.returns

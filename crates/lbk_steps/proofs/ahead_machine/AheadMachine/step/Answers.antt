@@ -1,12 +1,12 @@
 use Rattle.std.proofs.Common.{◌≡◌, ℕ, [], ◌∷◌, map, reverse, sym, ap, ◌∙◌}
 use Rattle.std.specs.Str.{chars}
 use Rattle.std.proofs.lemmas.List.{map-append}
-use Rattle.lbk_rules.specs.declared.cells.Cell.{Cell}
+use Rattle.lbk_uax14.specs.declared.cells.Cell.{Cell}
 use Rattle.lbk_values.specs.declared.profile.Profile.{Profile}
-use Rattle.lbk_rules.specs.Chain.{from_cells}
-use Rattle.lbk_rules.specs.Facts.{facts}
-use Rattle.lbk_rules.proofs.ChainLemmas.{verdict_between-chain}
-use Rattle.lbk_rules.proofs.MachineLemmas.{reverse-snoc}
+use Rattle.lbk_uax14.specs.Chain.{from_cells}
+use Rattle.lbk_uax14.specs.Facts.{facts}
+use Rattle.lbk_uax14.proofs.ChainLemmas.{verdict_between-chain}
+use Rattle.lbk_uax14.proofs.MachineLemmas.{reverse-snoc}
 use Rattle.lbk_steps.proofs.ahead_machine.AheadMachine.step.Goals as goal
 
 pub returns-clause-decides : goal.returns-clause-decides

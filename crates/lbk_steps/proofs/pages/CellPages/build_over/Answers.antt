@@ -2,8 +2,8 @@ use Rattle.std.proofs.Common.{◌≡◌, ℕ, ◌-◌, ◌∙◌, [], Some, IfSo
 use Rattle.std.proofs.lemmas.List.{get_or_default}
 use Rattle.std.specs.Char.{IsScalar}
 use Rattle.lbk_steps.specs.CellPages.{page_cell}
-use Rattle.lbk_rules.specs.Ends.{ends_line}
-use Rattle.lbk_rules.specs.Normal.{normal}
+use Rattle.lbk_uax14.specs.Ends.{ends_line}
+use Rattle.lbk_uax14.specs.Normal.{normal}
 use Rattle.lbk_steps.specs.Pages.{cell_in}
 use Rattle.lbk_steps.specs.RowFits.{AreKindsOf}
 use Rattle.lbk_steps.specs.RowMachineFits.{IsTableOf, normal_in}

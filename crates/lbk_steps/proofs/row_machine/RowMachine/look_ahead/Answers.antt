@@ -1,11 +1,11 @@
 use Rattle.std.proofs.Common.{ℕ, ◌∷◌, map, reverse, sym, ap, ◌∙◌}
 use Rattle.std.specs.Str.{chars}
-use Rattle.lbk_rules.specs.declared.cells.Cell.{Cell}
+use Rattle.lbk_uax14.specs.declared.cells.Cell.{Cell}
 use Rattle.lbk_values.specs.declared.profile.Profile.{Profile}
-use Rattle.lbk_rules.specs.Chain.{from_cells}
+use Rattle.lbk_uax14.specs.Chain.{from_cells}
 use Rattle.lbk_steps.specs.Kinds.{kind_cell}
 use Rattle.lbk_steps.specs.KindTable.{kind_at}
-use Rattle.lbk_rules.specs.Normal.{normal}
+use Rattle.lbk_uax14.specs.Normal.{normal}
 use Rattle.lbk_steps.specs.RowMachineFits.{normals}
 use Rattle.lbk_steps.proofs.AheadLemmas.{ahead-normal, at-seam, kinds_of_text}
 use Rattle.lbk_steps.proofs.row_machine.RowMachine.look_ahead.Goals as goal

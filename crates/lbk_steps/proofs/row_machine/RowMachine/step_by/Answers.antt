@@ -1,8 +1,8 @@
 use Rattle.std.proofs.Common.{◌≡◌, ◌+◌, ◌∷◌, [], get_or, reverse, sym, ap, subst, ◌∙◌}
-use Rattle.lbk_rules.specs.Chain.{from_cells}
-use Rattle.lbk_rules.specs.Facts.{facts}
+use Rattle.lbk_uax14.specs.Chain.{from_cells}
+use Rattle.lbk_uax14.specs.Facts.{facts}
 use Rattle.lbk_steps.specs.Kinds.{kind_cell}
-use Rattle.lbk_rules.specs.Normal.{normals}
+use Rattle.lbk_uax14.specs.Normal.{normals}
 use Rattle.lbk_steps.specs.RowFits.{RowFits}
 use Rattle.lbk_steps.specs.Steps.{no_step}
 use Rattle.lbk_steps.proofs.RowMachineLemmas.{kind_same, normals-back, so_far-normal}

@@ -1,9 +1,9 @@
 use Rattle.std.proofs.Common.{Some, reverse, refl, ap, subst, ◌∙◌}
-use Rattle.lbk_rules.specs.LateFits.{waiting}
+use Rattle.lbk_uax14.specs.LateFits.{waiting}
 use Rattle.lbk_steps.specs.RowMachineFits.{normals}
 use Rattle.lbk_steps.specs.RowStepperFits.{Holds}
 use Rattle.lbk_steps.proofs.HoldsLemmas.{Holds-answer, Holds-none}
-use Rattle.lbk_rules.proofs.WaitingLemmas.{answer-none}
+use Rattle.lbk_uax14.proofs.WaitingLemmas.{answer-none}
 use Rattle.lbk_steps.proofs.row_stepper.RowStepper.answer.Goals as goal
 
 pub returns-in-None : goal.returns-in-None

@@ -1,5 +1,5 @@
 use Rattle.std.proofs.Common.{[], map, refl, ◌∙◌}
-use Rattle.lbk_rules.proofs.NormalLemmas.{answer-normal}
+use Rattle.lbk_uax14.proofs.NormalLemmas.{answer-normal}
 use Rattle.lbk_steps.proofs.row_stepper.RowStepper.finish.Goals as goal
 
 pub returns-clause-late : goal.returns-clause-late

@@ -1,7 +1,7 @@
 use Rattle.std.proofs.Common.{true, false, length, reverse, sym, ◌∙◌}
 use Rattle.std.proofs.lemmas.List.{length-reverse}
-use Rattle.lbk_rules.specs.Facts.{facts}
-use Rattle.lbk_rules.specs.Normal.{normal}
+use Rattle.lbk_uax14.specs.Facts.{facts}
+use Rattle.lbk_uax14.specs.Normal.{normal}
 use Rattle.lbk_steps.specs.RowMachineFits.{normals}
 use Rattle.lbk_steps.proofs.HoldsLemmas.{answer-by}
 use Rattle.lbk_steps.proofs.RowMachineLemmas.{normals-length}

@@ -1,9 +1,9 @@
 use Rattle.std.proofs.Common.{reverse, sym, ap, subst, ◌∙◌}
-use Rattle.lbk_rules.specs.LateFits.{waiting}
-use Rattle.lbk_rules.specs.Normal.{normal}
+use Rattle.lbk_uax14.specs.LateFits.{waiting}
+use Rattle.lbk_uax14.specs.Normal.{normal}
 use Rattle.lbk_steps.specs.RowMachineFits.{normals}
 use Rattle.lbk_steps.specs.RowStepperFits.{Holds}
-use Rattle.lbk_rules.specs.Units.{heads}
+use Rattle.lbk_uax14.specs.Units.{heads}
 use Rattle.lbk_steps.proofs.HoldsLemmas.{Holds-calm, Holds-head, Holds-here, Holds-on, none-held}
 use Rattle.lbk_steps.proofs.RowMachineLemmas.{held-chain-normal}
 use Rattle.lbk_steps.proofs.row_stepper.RowStepper.holding.Goals as goal

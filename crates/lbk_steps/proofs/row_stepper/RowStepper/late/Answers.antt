@@ -1,13 +1,13 @@
 use Rattle.std.proofs.Common.{◌≡◌, true, ◌∷◌, map, reverse, sym, ap, subst, ◌∙◌}
-use Rattle.lbk_rules.specs.declared.cells.Cell.{Cell}
-use Rattle.lbk_rules.specs.Classes.{closes_before}
-use Rattle.lbk_rules.specs.LateFits.{waiting}
-use Rattle.lbk_rules.specs.Normal.{normal}
+use Rattle.lbk_uax14.specs.declared.cells.Cell.{Cell}
+use Rattle.lbk_uax14.specs.Classes.{closes_before}
+use Rattle.lbk_uax14.specs.LateFits.{waiting}
+use Rattle.lbk_uax14.specs.Normal.{normal}
 use Rattle.lbk_steps.specs.RowMachineFits.{normals}
 use Rattle.lbk_steps.specs.RowStepperFits.{Holds}
-use Rattle.lbk_rules.specs.Units.{heads, unit}
+use Rattle.lbk_uax14.specs.Units.{heads, unit}
 use Rattle.lbk_steps.proofs.HoldsLemmas.{Holds-no_late, head-closes, late-head, late-joins, none-held}
-use Rattle.lbk_rules.proofs.NormalLemmas.{late-normal}
+use Rattle.lbk_uax14.proofs.NormalLemmas.{late-normal}
 use Rattle.lbk_steps.proofs.row_stepper.RowStepper.late.Goals as goal
 
 pub returns-then-is_none : goal.returns-then-is_none

@@ -1,7 +1,7 @@
 use Rattle.std.proofs.Common.{map, ◌∙◌}
 use Rattle.lbk_steps.specs.RowMachineFits.{normals}
 use Rattle.lbk_steps.proofs.HoldsLemmas.{Holds-unanswered}
-use Rattle.lbk_rules.proofs.NormalLemmas.{unanswered-normal}
+use Rattle.lbk_uax14.proofs.NormalLemmas.{unanswered-normal}
 use Rattle.lbk_steps.proofs.row_stepper.RowStepper.new.Goals as goal
 
 pub returns : goal.returns

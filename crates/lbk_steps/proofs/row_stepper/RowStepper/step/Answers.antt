@@ -1,12 +1,12 @@
 use Rattle.std.proofs.Common.{◌≡◌, false, cond, Some, None, [], ◌∷◌, ◌++◌, map, reverse, sym, ap, subst, ◌∙◌, arith}
 use Rattle.std.proofs.lemmas.List.{length_push}
-use Rattle.lbk_rules.specs.Held.{is_15b}
-use Rattle.lbk_rules.specs.LateFits.{waiting}
-use Rattle.lbk_rules.specs.Normal.{normal}
+use Rattle.lbk_uax14.specs.Held.{is_15b}
+use Rattle.lbk_uax14.specs.LateFits.{waiting}
+use Rattle.lbk_uax14.specs.Normal.{normal}
 use Rattle.lbk_steps.specs.RowMachineFits.{normals}
 use Rattle.lbk_steps.specs.RowStepperFits.{Holds}
 use Rattle.lbk_steps.proofs.HoldsLemmas.{Holds-calm, Holds-no_late, none-held}
-use Rattle.lbk_rules.proofs.NormalLemmas.{late-normal}
+use Rattle.lbk_uax14.proofs.NormalLemmas.{late-normal}
 use Rattle.lbk_steps.proofs.RowMachineLemmas.{held-chain-normal, normals-back, now-told}
 use Rattle.lbk_steps.proofs.row_stepper.RowStepper.step.Goals as goal
 

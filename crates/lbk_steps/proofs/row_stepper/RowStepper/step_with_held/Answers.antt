@@ -1,6 +1,6 @@
 use Rattle.std.proofs.Common.{[], sym, subst, ◌∙◌, arith}
 use Rattle.std.proofs.lemmas.List.{length_push}
-use Rattle.lbk_rules.specs.LateFits.{waiting}
+use Rattle.lbk_uax14.specs.LateFits.{waiting}
 use Rattle.lbk_steps.specs.RowStepperFits.{Holds}
 use Rattle.lbk_steps.proofs.RowMachineLemmas.{normals-back, now-told}
 use Rattle.lbk_steps.proofs.row_stepper.RowStepper.step_with_held.Goals as goal

@@ -3,7 +3,7 @@ use Rattle.std.specs.Prelude.{All}
 use Rattle.lbk_steps.specs.declared.kinds.TheConstants.{KINDS}
 use Rattle.lbk_steps.specs.declared.step_rows.TheConstants.{MOST_ROWS}
 use Rattle.lbk_steps.specs.EnoughRows.{AreDifferent, IsKnown}
-use Rattle.lbk_rules.specs.Facts.{facts}
+use Rattle.lbk_uax14.specs.Facts.{facts}
 use Rattle.lbk_steps.specs.Steps.{AreStepsTo, IsStart, left_at}
 use Rattle.lbk_steps.proofs.step_rows.StepRows.build.Given as goal
 

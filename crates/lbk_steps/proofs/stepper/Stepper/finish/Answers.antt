@@ -2,7 +2,7 @@ use Rattle.std.proofs.Common.{Option, map, ap, subst, ◌∙◌}
 use Rattle.std.proofs.lemmas.List.{length-map}
 use Rattle.lbk_steps.specs.declared.row_stepper.RowStepper.{RowStepper}
 use Rattle.lbk_steps.specs.StepperFits.{StepperFits, WayFits}
-use Rattle.lbk_rules.specs.Verdict.{verdict_in}
+use Rattle.lbk_uax14.specs.Verdict.{verdict_in}
 use Rattle.lbk_steps.proofs.stepper.Stepper.finish.Goals as goal
 
 pub returns-in-Some-clause-late : goal.returns-in-Some-clause-late

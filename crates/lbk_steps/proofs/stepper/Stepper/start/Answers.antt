@@ -1,7 +1,7 @@
 use Rattle.std.proofs.Common.{[], Option, refl, subst, sym}
 use Rattle.std.specs.Option.{IfSome}
 use Rattle.lbk_steps.specs.declared.row_stepper.RowStepper.{RowStepper}
-use Rattle.lbk_rules.specs.Held.{unanswered_before}
+use Rattle.lbk_uax14.specs.Held.{unanswered_before}
 use Rattle.lbk_steps.specs.RowMachineFits.{IsTableOf}
 use Rattle.lbk_steps.specs.StepperFits.{StepperFits, WayFits}
 use Rattle.lbk_steps.proofs.stepper.Stepper.start.Goals as goal

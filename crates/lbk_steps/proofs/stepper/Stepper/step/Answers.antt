@@ -1,9 +1,9 @@
 use Rattle.std.proofs.Common.{◌≡◌, ◌<◌, ℕ, [], ◌∷◌, ◌++◌, Option, map, sym, ap, subst, ◌∙◌}
 use Rattle.std.proofs.lemmas.List.{length-map, map-append}
-use Rattle.lbk_rules.specs.declared.cells.Cell.{Cell}
+use Rattle.lbk_uax14.specs.declared.cells.Cell.{Cell}
 use Rattle.lbk_steps.specs.declared.row_stepper.RowStepper.{RowStepper}
-use Rattle.lbk_rules.specs.Held.{late_at, now_at}
-use Rattle.lbk_rules.specs.LateFits.{LateFits}
+use Rattle.lbk_uax14.specs.Held.{late_at, now_at}
+use Rattle.lbk_uax14.specs.LateFits.{LateFits}
 use Rattle.lbk_steps.specs.StepperFits.{StepperFits, WayFits}
 use Rattle.lbk_steps.proofs.stepper.Stepper.step.Goals as goal
 

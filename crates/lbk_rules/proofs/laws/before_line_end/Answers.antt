@@ -1,8 +1,0 @@
-use Rattle.lbk_rules.proofs.EndLemmas.{same_before, same_before_at}
-use Rattle.lbk_rules.proofs.laws.before_line_end.Goals as goal
-
-pub returns-clause-between : goal.returns-clause-between
-returns-clause-between c = same_before
-
-pub returns-clause-at : goal.returns-clause-at
-returns-clause-at c = same_before_at

@@ -1,9 +1,0 @@
-use Rattle.lbk_rules.proofs.CoverLemmas.{held-heads}
-use Rattle.lbk_rules.proofs.EndLemmas.{settled_between}
-use Rattle.lbk_rules.proofs.laws.held_or_settled.Goals as goal
-
-pub returns-clause-settled : goal.returns-clause-settled
-returns-clause-settled c = settled_between
-
-pub returns-clause-headed : goal.returns-clause-headed
-returns-clause-headed c = held-heads

@@ -1,5 +1,0 @@
-use Rattle.lbk_rules.proofs.UnansweredLemmas.{unanswered-named}
-use Rattle.lbk_rules.proofs.laws.unanswered_position.Goals as goal
-
-pub returns : goal.returns
-returns c = λ profile cells p e. let named = unanswered-named profile cells p e in (named.within, named.held, named.last)

@@ -1,0 +1,37 @@
+//! The rules of line breaking: Unicode Standard Annex #14, Unicode 15.0, over cells.
+//!
+//! A text is seen as a list of [`Cell`]s, one a scalar. [`decide`] returns for a position in it
+//! whether the line may break, must break or must not, and the rule that decided. The crate `lbk_steps` decides texts, and
+//! is fast.
+#![tactic(auto)]
+
+pub mod annex;
+mod asked;
+mod breaks;
+mod cells;
+mod classes;
+mod codes;
+mod evaluator;
+mod facts;
+mod late_machine;
+pub mod laws;
+mod machine;
+mod resolution;
+mod table;
+mod verdicts;
+
+// What callers name.
+pub use breaks::Break;
+pub use cells::Cell;
+pub use classes::{Class, Quote};
+pub use evaluator::{decide, decide_in};
+pub use lbk_values::Profile;
+pub use resolution::resolve;
+pub use verdicts::{Kind, Rule, Verdict};
+
+// What `lbk_steps` is made of, and what tests compare it with.
+pub use codes::{RULES, VERDICTS, code_of, is_break};
+pub use facts::{Before, Left};
+pub use late_machine::{End, LateMachine, Out, decide_all_in, unless_held};
+pub use machine::{Machine, decide_all};
+pub use verdicts::is_second;
