@@ -12,13 +12,13 @@ RULES = [
     *"2 3 4 5 6 7 8 8a 9 10 11 12 12a 13 14 15 15a 15b 16 17 18 19 20 21 21a 21b".split(),
     *"22 23 23a 24 25 26 27 28 29 30 30a 30b 31".split(),
 ]
-DEFINITIONS = TOP / "crates/lbk_rules/specs/Rules.antt"
-CODE = TOP / "crates/lbk_rules/src/table.rt"
+DEFINITIONS = TOP / "crates/lbk_uax14/specs/Rules.antt"
+CODE = TOP / "crates/lbk_uax14/src/table.rt"
 ROWS = TOP / "crates/test_support/src/texts.rt"
 # Rule 10 has no entry: it says what the other rules see. Its places are those where a mark that heads a unit is read as a letter.
 TEN = {
-    "definitions": (TOP / "crates/lbk_rules/specs/Units.antt", r"^abbrev pub unit :"),
-    "code": (TOP / "crates/lbk_rules/src/cells.rt", r"fn unit\b"),
+    "definitions": (TOP / "crates/lbk_uax14/specs/Units.antt", r"^abbrev pub unit :"),
+    "code": (TOP / "crates/lbk_uax14/src/cells.rt", r"fn unit\b"),
     "row": r"^ *\(\"\( \\u\{301\}a\"",
 }
 
@@ -63,12 +63,12 @@ def span(numbers):
 
 
 def edit_fault(name):
-    """What is wrong with an edit of lbk_rules, by its name."""
+    """What is wrong with an edit of lbk_uax14, by its name."""
     found = [
         path
         for path in (
-            TOP / f"crates/lbk_rules/must-fail/{name}.edit",
-            TOP / f"more-edits/lbk_rules/{name}.edit",
+            TOP / f"crates/lbk_uax14/must-fail/{name}.edit",
+            TOP / f"more-edits/lbk_uax14/{name}.edit",
         )
         if path.is_file()
     ]
@@ -77,7 +77,7 @@ def edit_fault(name):
     file = None
     for line in found[0].read_text(encoding="utf-8").split("\n"):
         if line.startswith("file: "):
-            file = TOP / "crates/lbk_rules" / line[6:]
+            file = TOP / "crates/lbk_uax14" / line[6:]
         elif line.startswith("old: ") and file.read_text(encoding="utf-8").count(line[5:]) != 1:
             return f"what {name} turns stands not once in {file.name}"
     return None

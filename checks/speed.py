@@ -16,7 +16,7 @@ SIZE = 1_200_000
 
 # A layer, what it is compared with, and the least ratio of their speeds over each text.
 BOUNDS = [
-    ("Breaks, profile 1", "ForwardMachine", (6.0, 3.5, 2.5)),
+    ("Breaks, profile 1", "Machine", (6.0, 3.5, 2.5)),
     ("Breaks, profile 2", "Breaks, profile 1", (0.5, 0.5, 0.5)),
     ("Stepper, profile 1", "LateMachine, profile 1", (5.0, 4.0, 3.0)),
     ("Stepper, profile 2", "LateMachine, profile 2", (5.0, 4.0, 3.0)),

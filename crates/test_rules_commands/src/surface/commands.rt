@@ -1,0 +1,156 @@
+//! What `lbk_cmd` exports: the engines, and a run of the program.
+
+use lbk_cmd::{CmdFault, Ending, LoadFault, MemoryStore, RunFault, Store, run, segment, show};
+use lbk_feed::devices::{MemorySink, MemorySource};
+use lbk_feed::{Sink, Source};
+use lbk_notation::{ReplayFault, Report};
+use lbk_passage::PassageFault;
+use lbk_rules::{CellPages, CellSource, Profile};
+use lbk_ucd::{UcdFault, Which};
+use std::alloc::Global;
+use std::test::Fail;
+use test_support::sample_pages;
+
+fn fault(fault: CmdFault) -> bool {
+    match fault {
+        CmdFault::Passage(fault) => {
+            let _: PassageFault = fault;
+            true
+        }
+        CmdFault::Write | CmdFault::Memory => true,
+    }
+}
+
+fn run_fault(fault: RunFault) -> bool {
+    match fault {
+        RunFault::Load(which) => {
+            let _: Which = which;
+            true
+        }
+        RunFault::Tables(fault) => {
+            let _: UcdFault = fault;
+            true
+        }
+        RunFault::Cmd(fault) => {
+            let _: CmdFault = fault;
+            true
+        }
+        RunFault::Replay(fault) => {
+            let _: ReplayFault = fault;
+            true
+        }
+        RunFault::Memory => true,
+        // What only a run over texts, or by a folder, comes to.
+        RunFault::Open | RunFault::Claim(..) => false,
+    }
+}
+
+fn load_fault(fault: LoadFault) -> bool {
+    match fault {
+        LoadFault::Unreadable | LoadFault::Memory => true,
+    }
+}
+
+fn status(ending: Ending) -> u8 {
+    let status: u8 = ending.status();
+    match ending {
+        Ending::Done | Ending::Reported => {}
+        Ending::Help { text } | Ending::Usage { text } => {
+            let _: String = text;
+        }
+        Ending::Differs(report) => {
+            let _: Report = report;
+        }
+        Ending::Refused(fault) => {
+            let _: RunFault = fault;
+        }
+    }
+    status
+}
+
+fn shown<R: Source, W: Sink, C: CellSource>(
+    alloc: Global,
+    reader: &mut R,
+    writer: &mut W,
+    cells: &C,
+    limit: u32,
+    profile: Profile,
+) -> Result<(), CmdFault> {
+    show(alloc, reader, writer, cells, limit, profile)
+}
+
+fn segmented<R: Source, W: Sink, C: CellSource>(
+    alloc: Global,
+    reader: &mut R,
+    writer: &mut W,
+    cells: &C,
+    limit: u32,
+    profile: Profile,
+) -> Result<(), CmdFault> {
+    segment(alloc, reader, writer, cells, limit, profile)
+}
+
+fn ran<S: Store, R: Source, W: Sink>(
+    alloc: Global,
+    words: &[&str],
+    store: &mut S,
+    reader: &mut R,
+    writer: &mut W,
+) -> Ending {
+    run(alloc, words, store, reader, writer)
+}
+
+fn loaded<S: Store>(alloc: Global, store: &mut S, name: &str) -> Result<Vec<u8>, LoadFault> {
+    let most: usize = 8;
+    store.load(alloc, name, most)
+}
+
+#[test]
+fn engines(rt: HostRuntime) -> Result<(), Fail> {
+    let cells: CellPages = sample_pages(rt.alloc())?;
+    let mut writer = MemorySink::new(rt.alloc(), 128)?;
+    let mut reader = MemorySource::new(b"ab");
+    assert_eq!(&rt;
+        shown(
+            rt.alloc(),
+            &mut reader,
+            &mut writer,
+            &cells,
+            4,
+            Profile::First
+        ),
+        Ok(())
+    );
+    let mut reader = MemorySource::new(b"ab");
+    assert_eq!(&rt;
+        segmented(
+            rt.alloc(),
+            &mut reader,
+            &mut writer,
+            &cells,
+            4,
+            Profile::First
+        ),
+        Ok(())
+    );
+    assert!(&rt;
+        fault(CmdFault::Write) && run_fault(RunFault::Memory) && load_fault(LoadFault::Unreadable)
+    );
+    Ok(())
+}
+
+#[test]
+fn runs(rt: HostRuntime) -> Result<(), Fail> {
+    let files: &[(&str, &[u8])] = &[("name", b"bytes")];
+    let mut store = MemoryStore::new(files);
+    let bytes = loaded(rt.alloc(), &mut store, "name");
+    assert!(&rt; bytes.is_ok());
+    let mut reader = MemorySource::new(b"ab");
+    let mut writer = MemorySink::new(rt.alloc(), 128)?;
+    let words: &[&str] = &["bogus"];
+    assert_eq!(&rt;
+        status(ran(rt.alloc(), words, &mut store, &mut reader, &mut writer)),
+        2
+    );
+    Ok(())
+}

@@ -1,0 +1,137 @@
+//! What `lbk_notation` exports: lines of break tests, read, written and replayed.
+
+use lbk_feed::devices::{MemorySink, MemorySource};
+use lbk_feed::{Sink, Source};
+use lbk_notation::{
+    Form, LineFault, Mark, Outcome, ReplayFault, Report, TestLine, mark_text, read_line, replay,
+    replay_line, write_line,
+};
+use lbk_rules::{CellPages, CellSource, Profile, Verdict};
+use std::alloc::{AllocError, Global};
+use std::test::Fail;
+use test_support::sample_pages;
+
+fn mark(value: Mark) -> bool {
+    match value {
+        Mark::No | Mark::May | Mark::Must => true,
+    }
+}
+
+fn form(value: Form) -> bool {
+    match value {
+        Form::Plain | Form::Kinds => true,
+    }
+}
+
+fn line_fault(fault: LineFault) -> u32 {
+    match fault {
+        LineFault::LineTooLong | LineFault::Memory => 0,
+        LineFault::Bad { at } => at,
+    }
+}
+
+fn replay_fault(fault: ReplayFault) -> bool {
+    match fault {
+        ReplayFault::Read | ReplayFault::Write | ReplayFault::Memory | ReplayFault::StreamTooLong =>
+            true,
+    }
+}
+
+fn outcome(outcome: Outcome) -> Option<(usize, Mark, Verdict)> {
+    match outcome {
+        Outcome::Agree => None,
+        Outcome::Differ {
+            position,
+            file,
+            rules,
+        } => Some((position, file, rules)),
+    }
+}
+
+fn read(alloc: Global, bytes: &[u8], form: Form) -> Result<Option<TestLine>, LineFault> {
+    read_line(alloc, bytes, form)
+}
+
+fn written(alloc: Global, line: &TestLine, form: Form) -> Result<Vec<u8>, AllocError> {
+    write_line(alloc, line, form)
+}
+
+fn marked<C: CellSource>(
+    alloc: Global,
+    cells: &C,
+    text: &str,
+    profile: Profile,
+) -> Result<TestLine, AllocError> {
+    mark_text(alloc, cells, text, profile)
+}
+
+fn replayed_line<C: CellSource>(
+    cells: &C,
+    line: &TestLine,
+    form: Form,
+    profile: Profile,
+) -> Outcome {
+    replay_line(cells, line, form, profile)
+}
+
+fn replayed<R: Source, W: Sink, C: CellSource>(
+    alloc: Global,
+    reader: &mut R,
+    writer: &mut W,
+    cells: &C,
+    form: Form,
+    profile: Profile,
+) -> Result<Report, ReplayFault> {
+    replay(alloc, reader, writer, cells, form, profile)
+}
+
+fn made(scalars: Vec<char>, marks: Vec<Mark>) -> Option<TestLine> {
+    TestLine::new(scalars, marks)
+}
+
+#[test]
+fn lines(rt: HostRuntime) -> Result<(), Fail> {
+    let cells: CellPages = sample_pages(rt.alloc())?;
+    let line: TestLine = marked(rt.alloc(), &cells, "ab", Profile::First)?;
+    let scalars: &[char] = line.scalars();
+    let marks: &[Mark] = line.marks();
+    assert!(&rt; scalars.len() == 2 && marks.len() == 3 && mark(Mark::Must) && form(Form::Kinds));
+    let text: Vec<u8> = written(rt.alloc(), &line, Form::Plain)?;
+    let again = read(rt.alloc(), text.as_slice(), Form::Plain);
+    assert!(&rt; again.is_ok());
+    let bad = read(rt.alloc(), b"\xC3\x97 D800", Form::Plain);
+    assert_eq!(&rt; bad.map(|line| line.is_some()).map_err(line_fault), Err(6));
+    let same: Outcome = replayed_line(&cells, &line, Form::Kinds, Profile::First);
+    assert!(&rt; outcome(same).is_none());
+    assert!(&rt; made(Vec::new(rt.alloc()), Vec::new(rt.alloc())).is_none());
+    Ok(())
+}
+
+#[test]
+fn files(rt: HostRuntime) -> Result<(), Fail> {
+    let cells: CellPages = sample_pages(rt.alloc())?;
+    let mut reader = MemorySource::new("÷ 0061 ÷\n".as_bytes());
+    let mut writer = MemorySink::new(rt.alloc(), 64)?;
+    let found: Result<Report, ReplayFault> = replayed(
+        rt.alloc(),
+        &mut reader,
+        &mut writer,
+        &cells,
+        Form::Plain,
+        Profile::First,
+    );
+    assert!(&rt; found.is_ok() && replay_fault(ReplayFault::Read));
+    if let Ok(
+        Report {
+            lines,
+            agreed,
+            differed,
+            refused,
+        },
+    ) = found
+    {
+        let counts: [u32; 4] = [lines, agreed, differed, refused];
+        assert_eq!(&rt; counts, [1, 0, 1, 0]);
+    }
+    Ok(())
+}

@@ -1,0 +1,213 @@
+//! What `lbk_rules` exports: cells and their sources, the evaluator, and the machines.
+
+use crate::calls::{decided, decided_in, late_step};
+use lbk_rules::{
+    Cell, CellPages, CellSource, Class, End, Kind, LateMachine, Machine, Out, Profile, Quote, Rule,
+    Verdict, decide, decide_in, laws, resolve,
+};
+use lbk_ucd::{Category, EastAsian, LineBreak, Tables};
+use std::alloc::{AllocError, Global};
+use std::process::Abort;
+use std::test::Fail;
+use test_support::sample_tables;
+
+fn class(value: Class) -> bool {
+    use Class::*;
+    match value {
+        Alphabetic
+        | BreakBoth
+        | BreakAfter
+        | BreakBefore
+        | MandatoryBreak
+        | ContingentBreak
+        | ClosePunctuation
+        | CombiningMark
+        | CloseParenthesis
+        | CarriageReturn
+        | EBase
+        | EModifier
+        | Exclamation
+        | Glue
+        | H2
+        | H3
+        | HebrewLetter
+        | Hyphen
+        | Ideographic
+        | Inseparable
+        | InfixNumeric
+        | JL
+        | JT
+        | JV
+        | LineFeed
+        | NextLine
+        | Nonstarter
+        | Numeric
+        | OpenPunctuation
+        | PostfixNumeric
+        | PrefixNumeric
+        | Quotation
+        | RegionalIndicator
+        | Space
+        | BreakSymbols
+        | WordJoiner
+        | ZWSpace
+        | ZWJ => true,
+    }
+}
+
+fn rule(value: Rule) -> bool {
+    use Rule::*;
+    match value {
+        Lb2
+        | Lb3
+        | Lb4
+        | Lb5
+        | Lb6
+        | Lb7
+        | Lb8
+        | Lb8a
+        | Lb9
+        | Lb11
+        | Lb12
+        | Lb12a
+        | Lb13
+        | Lb14
+        | Lb15
+        | Lb15a
+        | Lb15b
+        | Lb16
+        | Lb17
+        | Lb18
+        | Lb19
+        | Lb20
+        | Lb21
+        | Lb21a
+        | Lb21b
+        | Lb22
+        | Lb23
+        | Lb23a
+        | Lb24
+        | Lb25
+        | Lb26
+        | Lb27
+        | Lb28
+        | Lb29
+        | Lb30
+        | Lb30a
+        | Lb30b
+        | Lb31 => true,
+    }
+}
+
+fn quote(value: Quote) -> bool {
+    match value {
+        Quote::Neither | Quote::Initial | Quote::Final => true,
+    }
+}
+
+fn kind(value: Kind) -> bool {
+    match value {
+        Kind::No | Kind::May | Kind::Must => true,
+    }
+}
+
+fn profile(value: Profile) -> bool {
+    match value {
+        Profile::First | Profile::Second => true,
+    }
+}
+
+fn cell_of<C: CellSource>(source: &C, c: char) -> Cell {
+    source.cell(c)
+}
+
+fn pages(alloc: Global, tables: &Tables) -> Result<CellPages, AllocError> {
+    CellPages::build(alloc, tables)
+}
+
+fn letter() -> Cell {
+    let wide: bool = false;
+    let pict_cn: bool = false;
+    let letter: bool = true;
+    Cell {
+        class: Class::Alphabetic,
+        wide,
+        pict_cn,
+        quote: Quote::Neither,
+        letter,
+    }
+}
+
+/// The verdicts of a text of one letter, by the machine of the first profile.
+fn by_machine(cell: Cell) -> (Verdict, Verdict) {
+    let mut machine: Machine = Machine::start();
+    let before: Verdict = machine.step(cell);
+    let after: Verdict = machine.finish();
+    (before, after)
+}
+
+/// The same by the machine of either profile.
+fn by_late_machine(rt: &impl Abort, profile: Profile, cell: Cell) -> (Option<Verdict>, Verdict) {
+    let mut machine: LateMachine = LateMachine::start(profile);
+    let Out { now, late } = late_step(rt, &mut machine, 0, cell);
+    let now: Option<Verdict> = now;
+    let late: Option<(u64, Verdict)> = late;
+    let steps: u64 = machine.steps();
+    let End { late: last, end } = machine.finish();
+    let last: Option<(u64, Verdict)> = last;
+    assert!(rt; late.is_none() && last.is_none() && steps == 1);
+    (now, end)
+}
+
+#[test]
+fn cells(rt: HostRuntime) -> Result<(), Fail> {
+    let resolved: Cell = resolve(
+        LineBreak::Alphabetic,
+        EastAsian::Neutral,
+        Category::Ll,
+        false,
+    );
+    let Cell {
+        class: its_class,
+        wide,
+        pict_cn,
+        quote: its_quote,
+        letter,
+    } = resolved;
+    assert!(&rt; class(its_class) && !wide && !pict_cn && quote(its_quote) && letter);
+    let tables: Tables = sample_tables(rt.alloc())?;
+    let pages: CellPages = pages(rt.alloc(), &tables)?;
+    assert_eq!(&rt; cell_of(&tables, 'a'), cell_of(&pages, 'a'));
+    Ok(())
+}
+
+#[test]
+fn verdicts(rt: HostRuntime) -> Result<(), Fail> {
+    let cells: &[Cell] = &[letter()];
+    let Verdict {
+        kind: its_kind,
+        rule: its_rule,
+    } = decided(&rt, cells, 1);
+    let label: &'static str = its_rule.label();
+    assert!(&rt; kind(its_kind) && rule(its_rule) && profile(Profile::Second));
+    assert_eq!(&rt; label, "3");
+    let second: Verdict = decided_in(&rt, Profile::Second, cells, 1);
+    let (before, after) = by_machine(letter());
+    let (late_before, late_after) = by_late_machine(&rt, Profile::Second, letter());
+    assert!(&rt; second == after && late_before == Some(before) && late_after == after);
+    Ok(())
+}
+
+/// The evaluator's own types, by the calls that ask for its condition.
+fn evaluated(cells: &[Cell]) -> (Verdict, Verdict) {
+    let k: usize = cells.len();
+    (decide(cells, k), decide_in(Profile::First, cells, k))
+}
+
+#[test]
+fn evaluator(rt: HostRuntime) -> Result<(), Fail> {
+    let (plain, first) = evaluated(&[letter()]);
+    assert_eq!(&rt; plain, first);
+    laws::paragraph();
+    Ok(())
+}
