@@ -210,3 +210,4 @@ pub record AfterNext (old new : State) (unread unread' : Option (List ℕ)) (end
   pub agrees : Agrees old ended unread → Agrees new ended' unread'
   pub notices : new.is_ended ≡ false → ended' ≡ ended
   pub quiet : old.is_ended ≡ true → (lent_text r ++ new.held ≡ old.held) × (new.is_ended ≡ true) × (reads' ≡ reads) × (¬ (fault_in r ≡ Some Read))
+  pub still : old.is_settled ≡ true → IsStill old.held (lent_text r ++ new.held) reads reads' × (¬ (fault_in r ≡ Some Read))

@@ -148,6 +148,15 @@ impl<'a, C: CellSource> Segmenter<'a, C> {
         Ok(Some(self.paragraph.given()))
     }
 
+    /// Finds the next passage among the bytes that were read already, where these settle it: where a line must end before one of
+    /// them. Returns whether the next call of `next` or `pass` makes no read. What it finds is kept for that call.
+    pub fn look_ahead(&mut self) -> bool
+        ensures state { state_of C.cell_of self.new ≡ record (state_of C.cell_of self.old) { is_settled = result } }
+        ensures found { found_by self.new ≡ found_by self.old }
+    {
+        self.paragraph.look_ahead(self.cells, &self.flags)
+    }
+
     /// The paragraph as a passage.
     fn lend(&self, end: Verdict) -> Passage<'_>
         ensures start { result.start ≡ self.now.paragraph.feed.given - string_len self.now.paragraph.text }
