@@ -36,7 +36,7 @@ impl Paragraph {
     ghost use Rattle.lbk_passage.specs.Stays.{IsWhole};
     ghost use Rattle.lbk_passage.specs.Flags.{AreQuiet};
     ghost use Rattle.lbk_passage.specs.Gathering.{Reaches, Takes, Moves, Settles, Gathering, Gathers, Fills, IsSame};
-    ghost use Rattle.lbk_passage.specs.Next.{IsDone, failures_with, fault_in};
+    ghost use Rattle.lbk_passage.specs.Next.{IsDone, IsOpen, failures_with, fault_in};
     ghost use Rattle.lbk_uax14.specs.declared.cells.Cell.{Cell};
     ghost use Rattle.lbk_values.specs.declared.profile.Profile.{Profile};
 
@@ -130,6 +130,7 @@ impl Paragraph {
         requires whole { self.old.is_held ≡ true → IsWhole (C.cell_of cells.now) self.old }
         ensures state { (cell : ℕ → Cell) (profile : Profile)
             → state_with cell profile self.new ≡ record (state_with cell profile self.old) { is_settled = result } }
+        ensures remains { result ≡ false → (profile : Profile) → IsOpen (state_with (C.cell_of cells.now) profile self.old) }
         ensures whole { self.new.is_held ≡ true → IsWhole (C.cell_of cells.now) self.new }
     {
         if self.is_held || self.is_spent {
@@ -137,9 +138,9 @@ impl Paragraph {
         }
         self.text.clear();
         let reach = self.reach(cells, flags, None);
-        if !matches!(reach.stop, Stop::LineEnds) {
+        let Stop::LineEnds = reach.stop else {
             return false;
-        }
+        };
         self.move_up(reach.len);
         self.end = end_before(reach.last, true);
         self.is_held = true;
