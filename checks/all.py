@@ -15,6 +15,7 @@ NAMES = [
     "page-references",
     "quoted-contracts",
     "man-page",
+    "word-tables",
     "refused-allocations",
     "failing-streams",
     "files-and-pipes",

@@ -7,8 +7,7 @@ use Rattle.ucd_emoji.specs.Binary.{is_extended_pictographic}
 use Rattle.unicode_segmentation.specs.Segments.{cut, prepend}
 use Rattle.unicode_segmentation.specs.Word.{break_by_pair, is_ah_letter, is_double_quote, is_hebrew_letter, is_ignored, is_mid_letter, is_mid_num, is_numeric, is_regional, is_word_break, joins, significant, starts_with_half_flag, value_at}
 use Rattle.unicode_segmentation.proofs.WordLemmas.{significant-ignored, significant-kept}
-use Rattle.lbk_words.specs.declared.context.Context.{Context}
-use Rattle.lbk_words.specs.Contexts.{breaks_by, context_after, context_of}
+use Rattle.lbk_words.specs.Contexts.{Context, breaks_by, context_after, context_of}
 use Rattle.lbk_words.proofs.Booleans.{and-false, or_parts}
 use Rattle.lbk_words.proofs.ContextLemmas.{context-after, decided-inside}
 

@@ -3,7 +3,7 @@
 ghost use Rattle.std.specs.Prelude.{◌≡◌, ◌<◌, ◌≤◌, drop, length, min, take};
 ghost use Rattle.lbk_words.specs.Words.{AreRising, IsBoundary, words_on};
 
-use crate::pieces::first_piece;
+use crate::parts::fill_by_scalars;
 use crate::word::{Filled, Word};
 
 /// Puts the first words of what a text has from the byte `start` on, as a text of its own, into the front of a block: as many as
@@ -22,16 +22,15 @@ pub fn fill(text: &[u8], start: usize, out: &mut [Word]) -> Filled
     ensures past { length text.now ≤ start → result.at ≡ start }
     ensures no_room { length out.old ≡ 0 → result.at ≡ start }
 {
-    let mut count = 0;
-    let mut at = start;
-    while count < out.len() && at < text.len() {
-        let piece = first_piece(text, at);
-        out[count] = Word {
-            start: at,
-            end: piece.end,
-        };
-        count += usize::from(piece.is_word);
-        at = piece.end;
+    let here = Filled {
+        count: 0,
+        at: start,
+    };
+    if out.is_empty() {
+        return here;
     }
-    Filled { count, at }
+    if text.len() <= start {
+        return here;
+    }
+    fill_by_scalars(text, here, text.len(), out)
 }

@@ -3,14 +3,15 @@
 //! The text may be any bytes. [`fill`] goes over it from any byte on, with no memory but the caller's block.
 #![tactic(auto)]
 
-mod context;
+mod decoding;
 mod filling;
+mod kind_table;
+mod kinds;
 pub mod laws;
-mod letters;
-mod pieces;
-mod rules;
+mod parts;
 mod scalars;
-mod values;
+mod step_table;
+mod steps;
 mod word;
 
 pub use filling::fill;
