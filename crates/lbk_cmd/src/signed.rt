@@ -63,7 +63,7 @@ fn ends_in_line_end<C: CellSource>(cells: &C, text: &str) -> bool
     }
 }
 
-#[tactic(auto, unfolding(lbk_rules::specs::Classes::is))]
+#[tactic(auto, unfolding(lbk_uax14::specs::Classes::is))]
 fn is_line_end(cell: Cell) -> bool
     ensures { result ≡ is_line_end cell }
 {

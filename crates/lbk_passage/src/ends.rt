@@ -8,7 +8,7 @@ use lbk_rules::{Class, Kind, Rule, Verdict};
 
 /// Whether a line must end between a scalar of class `last`, if there is one, and one of class `next` (UAX #14, rules
 /// LB4 and LB5).
-#[tactic(auto, unfolding(lbk_rules::specs::Classes::is))]
+#[tactic(auto, unfolding(lbk_uax14::specs::Classes::is))]
 pub fn ends_at(last: Option<Class>, next: Class) -> bool
     ensures { result ≡ ends_at last next }
 {
@@ -20,7 +20,7 @@ pub fn ends_at(last: Option<Class>, next: Class) -> bool
 }
 
 /// Whether a line must end after a scalar of this class, except a line feed after a carriage return.
-#[tactic(auto, unfolding(lbk_rules::specs::Classes::is))]
+#[tactic(auto, unfolding(lbk_uax14::specs::Classes::is))]
 pub fn ends_line(class: Class) -> bool
     ensures { result ≡ ends_line class }
 {
@@ -32,7 +32,7 @@ pub fn ends_line(class: Class) -> bool
 
 /// The verdict at the end of a paragraph whose last scalar is of class `last`, or `None` where it has none. `follows`:
 /// text follows, before which a line must end (UAX #14, rules LB3 to LB5).
-#[tactic(auto, unfolding(lbk_rules::specs::Classes::is))]
+#[tactic(auto, unfolding(lbk_uax14::specs::Classes::is))]
 pub fn end_before(last: Option<Class>, follows: bool) -> Option<Verdict>
     ensures { result ≡ end_before last follows }
 {
