@@ -6,7 +6,7 @@ mod system_files;
 mod telling;
 mod waiting;
 
-use lbk_cmd::{CmdFault, Ending, RunFault, run};
+use lbk_cmd::{CmdFault, Ending, RunFault, run_over_texts};
 use lbk_devices::{Input, InputKind, Notes, Noting, Prompted};
 use lbk_feed::Device;
 use lbk_files::FileStore;
@@ -56,7 +56,7 @@ fn run_on_devices(rt: &HostRuntime, words: &[&str], notes: &Notes) -> Ending {
     let files = SystemFiles::new(rt, notes);
     let mut store = FileStore::new(&files);
     let mut texts = SystemTexts::new(rt, words, kind, notes);
-    run(
+    run_over_texts(
         rt.alloc(),
         words,
         &mut store,

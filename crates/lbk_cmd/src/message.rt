@@ -67,7 +67,7 @@ impl<'a> fmt::Display for Message<'a> {
 
 impl<'a> Message<'a> {
     /// The message of a call of a library.
-    pub(crate) fn of_call(fault: RunFault) -> Message<'a>
+    pub fn of_call(fault: RunFault) -> Message<'a>
         ensures { result ≡ of_call fault }
     {
         Message {

@@ -1,6 +1,6 @@
 //! The texts that operands name.
 
-ghost use Rattle.std.specs.Prelude.{◌≡◌, ◌++◌, ◌∷◌, ℕ, List, [], Option, option_map};
+ghost use Rattle.std.specs.Prelude.{◌≡◌, ◌++◌, ◌∷◌, ℕ, List, [], None, Option, Some, option_map};
 ghost use Rattle.lbk_cmd.specs.declared.ending.RunFault.{RunFault};
 ghost use Rattle.lbk_cmd.specs.MemoryTexts.{Notes, refusals_told_by, told_by};
 
@@ -71,4 +71,24 @@ impl<'a> Texts for MemoryTexts<'a> {
     {
         let _ = self.refused.push(fault);
     }
+}
+
+/// No files of text: none can be opened, and of none is it said why.
+#[derive(Drop)]
+pub(crate) struct NoTexts;
+
+impl Opens for NoTexts {
+    type File = MemorySource<'static>;
+
+    ghost contents = { λ texts name. Some None };
+
+    fn open(&self, _name: &str) -> Result<MemorySource<'static>, LoadFault> {
+        Err(LoadFault::Unreadable)
+    }
+}
+
+impl Texts for NoTexts {
+    ghost refused = { λ texts. None };
+
+    fn refuse(&mut self, _name: &str, _fault: RunFault) {}
 }

@@ -1,7 +1,6 @@
 //! How often the engines read and write: in blocks, and once for each passage or line.
 
-use crate::commands::NO_TEXTS;
-use lbk_cmd::{Ending, MemoryStore, MemoryTexts, run};
+use lbk_cmd::{Ending, MemoryStore, run};
 use lbk_feed::devices::MemorySource;
 use lbk_feed::{Device, Source};
 use std::alloc::Global;
@@ -32,16 +31,7 @@ fn counted(alloc: Global, words: &[&'static str], input: &[u8]) -> (Ending, Coun
     let mut store = MemoryStore::new(NAMED_SAMPLES.as_slice());
     let mut reader = MemorySource::new(input);
     let mut writer = Device::new(CountedWrites { calls: 0 });
-    let no_texts = MemoryStore::new(NO_TEXTS.as_slice());
-    let mut texts = MemoryTexts::new(alloc, no_texts);
-    let ending = run(
-        alloc,
-        words,
-        &mut store,
-        &mut texts,
-        &mut reader,
-        &mut writer,
-    );
+    let ending = run(alloc, words, &mut store, &mut reader, &mut writer);
     let reads = reader.reads();
     (ending, writer.into_inner(), reads)
 }

@@ -302,7 +302,7 @@ fn bare_run(
     source: &mut MemorySource<'_>,
     sink: &mut MemorySink,
 ) -> Ending {
-    lbk_cmd::run(alloc, words, store, texts, source, sink)
+    lbk_cmd::run_over_texts(alloc, words, store, texts, source, sink)
 }
 
 fn bare_parse(alloc: Global, words: Words) -> Result<Order<'static>, WordsFault> {
