@@ -32,14 +32,15 @@ module _ {F : Type 0} (source : SourceMembers F) where
       → ReadsAlone Runs names before after ending
   reads_alone Runs [] before after ending reads = reads.0
   reads_alone Runs (name ∷ names) before after ending reads =
-      each_by (ReadsText source (λ _. Some None) Runs) (ReadsNoFile Runs) (no_file Runs) (name ∷ names) _ _ reads
+      each_by (ReadsText source (λ _. Some None) Runs) (ReadsNoFile Runs) (no_file Runs) (name ∷ names)
+      (standing before None Done) (standing after None ending) reads
 
   pub performs_alone : (file : List ℕ → Option (Option (List ℕ))) (task : Task) (counts counts' : LoadCounts) (before after : Devices) (ending : Ending)
       → Performs source file (λ _. Some None) task counts counts' (standing before None Done) (standing after None ending)
       → PerformsAlone file task counts counts' before after ending
   performs_alone file task counts counts' before after ending (inl stops) = inl stops.0
   performs_alone file task counts counts' before after ending (inr (cell, cells, reads)) =
-      inr (cell, cells, reads_alone _ task.texts before after ending reads)
+      inr (cell, cells, reads_alone (RunsOver task.part task.engine task.profile cell) task.texts before after ending reads)
 
   by_reader : (told file : List ℕ → Option (Option (List ℕ))) (task : Task) (counts counts' : LoadCounts) (before after : Standing)
       → task.texts ≡ [] → Performs source file told task counts counts' before after
