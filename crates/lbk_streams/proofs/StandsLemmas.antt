@@ -26,7 +26,7 @@ use Rattle.lbk_rules.proofs.EndLemmas.{heads-joins, joins_no_break}
 use Rattle.lbk_rules.proofs.HeldLemmas.{is_held-chain}
 use Rattle.lbk_rules.specs.declared.FlatStep.{FlatStep}
 use Rattle.lbk_rules.specs.declared.FlatTable.{FlatTable}
-use Rattle.lbk_rules.specs.declared.TheConstants.{HELD}
+use Rattle.lbk_rules.specs.flat_table.TheConstants.{HELD}
 use Rattle.lbk_rules.specs.FlatTable.{IsFlatBy, KnowsTaken, no_flat_step}
 use Rattle.lbk_rules.specs.Kinds.{kind_cell}
 use Rattle.lbk_rules.specs.RowMachineFits.{normals}

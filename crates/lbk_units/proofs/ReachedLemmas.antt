@@ -8,7 +8,7 @@ use Rattle.lbk_rules.specs.declared.Cell.{Cell}
 use Rattle.lbk_rules.specs.declared.Left.{Left}
 use Rattle.lbk_rules.specs.declared.FlatStep.{FlatStep}
 use Rattle.lbk_rules.specs.declared.FlatTable.{FlatTable}
-use Rattle.lbk_rules.specs.declared.TheConstants.{HELD}
+use Rattle.lbk_rules.specs.flat_table.TheConstants.{HELD}
 use Rattle.lbk_values.specs.declared.profile.Profile.{Profile}
 use Rattle.lbk_rules.specs.declared.Verdict.{Verdict}
 use Rattle.lbk_rules.specs.Breaks.{break_by}
