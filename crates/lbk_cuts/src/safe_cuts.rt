@@ -138,9 +138,8 @@ fn class_before(table: &FlatTable, text: &[u8], place: usize) -> (Class, usize)
 }
 
 /// Whether a line must end between scalars of these classes (rules LB4 and LB5).
-#[tactic(auto, unfolding(lbk_rules::specs::Classes::is))]
 fn must_end(last: Class, next: Class) -> bool
     ensures { result ≡ ends_between last next }
 {
-    last.ends_line() && !(matches!(last, Class::CarriageReturn) && matches!(next, Class::LineFeed))
+    last.ends_line() && !(last.is(Class::CarriageReturn) && next.is(Class::LineFeed))
 }
