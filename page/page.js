@@ -1,15 +1,19 @@
 /** The page: its text, and what it shows of it. */
 import { Table } from "./lbk.js";
+import { AnswerView } from "./answer.js";
 import { ColumnsView } from "./columns.js";
+import { DecidedText } from "./decided.js";
 import { EXAMPLES } from "./examples.js";
 import { testLine } from "./notation.js";
-import { MOST_SHOWN, PositionsView } from "./positions.js";
+import { passageAt } from "./passage.js";
+import { PositionsView } from "./positions.js";
 
 const find = (id) => document.getElementById(id);
 const field = find("text");
 const profile = find("profile");
 
-const KINDS = ["no", "may", "must"];
+/** The position of the first example that is chosen where the page opens: the comma of a number. */
+const FIRST_CHOSEN = 23;
 /** How many bytes of a dropped file are read. */
 const MOST_OF_FILE = 1_000_000;
 
@@ -74,27 +78,37 @@ function takeFiles(taken) {
   });
 }
 
-/** The first positions of columns, as `Table.positions` gives them. */
-function firstRows(table, { at, kind, rule }) {
-  return Array.from(at.subarray(0, MOST_SHOWN), (place, k) => ({ at: place, kind: KINDS[kind[k]], rule: table.ruleLabel(rule[k]) }));
+/** The place of the first position that a rule decides, or else of the first break, in the first paragraphs. */
+function firstPlace(decided, rule) {
+  let first;
+  for (let index = 0; index < Math.min(10, decided.paragraphs.length); index++) {
+    const found = decided.positionsIn(index, 0, decided.paragraphs[index].length);
+    const wanted = found.find((it) => it.rule === rule);
+    if (wanted) return decided.startOf(index) + wanted.at;
+    const isBreak = found.find((it) => it.kind !== "no");
+    if (isBreak) first ??= decided.startOf(index) + isBreak.at;
+  }
+  return first ?? 0;
 }
 
 function start(table, chosen) {
-  const positions = new PositionsView(find("positions"), find("detail"), (scalar) => table.classOf(scalar));
+  const decided = new DecidedText(table);
+  const answer = new AnswerView(find("detail"), decided, (scalar) => table.classOf(scalar));
   const columns = new ColumnsView(find("ours"), find("theirs"), find("differences"));
-  const options = () => ({ profile: Number(profile.value) });
+  const showPassage = (at) => columns.show(passageAt(decided, at));
+  const positions = new PositionsView(find("positions"), decided, (before, after) => {
+    answer.show(before, after);
+    showPassage(before?.at ?? 0);
+  });
+  const number = () => Number(profile.value);
 
-  const changed = (told = "") => {
-    const decided = table.positionColumns(text, options());
-    const shown = firstRows(table, decided);
-    const left = decided.at.length - shown.length;
-    positions.show(text, shown);
-    columns.show(text, shown);
-    find("cut").hidden = left === 0;
-    find("cut").textContent = `The first ${MOST_SHOWN} positions are shown, and ${left} are not.`;
+  /** Shows a text or a profile that is new, with a position chosen. */
+  const begin = (at, told = "") => {
+    decided.set(text, number());
+    positions.show();
+    positions.choose(at ?? firstPlace(decided));
     find("done").textContent = told;
   };
-
   const widen = () => {
     find("width-told").value = `${find("width").value} pixels`;
     columns.width = find("width").value;
@@ -102,25 +116,28 @@ function start(table, chosen) {
 
   field.addEventListener("input", () => {
     text = field.value;
-    changed();
+    decided.edit(text);
+    positions.show();
+    positions.choose(field.selectionStart);
+    find("done").textContent = "";
   });
-  profile.addEventListener("change", () => changed());
+  // What is typed is not read out at each key.
+  field.addEventListener("focus", () => find("detail").setAttribute("aria-live", "off"));
+  field.addEventListener("blur", () => find("detail").setAttribute("aria-live", "polite"));
+  profile.addEventListener("change", () => begin(positions.chosenAt));
   find("example").addEventListener("change", ({ target }) => {
-    if (target.value) setText(EXAMPLES[target.value][2]);
-    changed();
+    const [, rule, given] = EXAMPLES[target.value] ?? [];
+    if (given !== undefined) setText(given);
+    begin();
+    if (rule) positions.choose(firstPlace(decided, rule));
   });
   find("width").addEventListener("input", widen);
-  find("copy").addEventListener("click", () => copy(testLine(text, table.positions(text, options())), "The line"));
+  find("copy").addEventListener("click", () => copy(testLine(text, table.positions(text, { profile: number() })), "The line"));
   find("link").addEventListener("click", () => copy(linkToText(positions.chosenAt), "The link"));
-  window.addEventListener("hashchange", () => {
-    const at = readFragment();
-    changed();
-    positions.chooseAt(at);
-  });
-  takeFiles(changed);
+  window.addEventListener("hashchange", () => begin(readFragment()));
+  takeFiles((told) => begin(undefined, told));
   widen();
-  changed();
-  positions.chooseAt(chosen);
+  begin(chosen ?? (text === EXAMPLES[0][2] ? FIRST_CHOSEN : undefined));
   document.documentElement.dataset.readyAfter = performance.now();
   document.documentElement.dataset.ready = "yes";
 }

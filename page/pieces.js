@@ -1,0 +1,116 @@
+/** A piece of a paragraph as it is drawn: its letters, and below these the signs of its positions. */
+import { LEAST_WIDTH, letterElement } from "./letters.js";
+import { SAYS, signOf } from "./notation.js";
+import { signPlaces } from "./places.js";
+
+/** The most UTF-16 units of a piece. A longer paragraph is drawn in several. */
+export const MOST_UNITS = 500;
+
+function element(tag, className, text = "") {
+  const made = document.createElement(tag);
+  made.className = className;
+  made.textContent = text;
+  return made;
+}
+
+/** The direction of a paragraph, from its first letter that has one. */
+function directionOf(paragraph) {
+  const probe = element("p", "", paragraph);
+  probe.dir = "auto";
+  return probe.matches(":dir(rtl)") ? "rtl" : "ltr";
+}
+
+/** The pieces of a paragraph, which are not drawn yet. */
+export function piecesOf(paragraph) {
+  const found = [];
+  for (let from = 0; from < paragraph.length; ) {
+    let to = Math.min(from + MOST_UNITS, paragraph.length);
+    if (/^[\udc00-\udfff]/.test(paragraph.slice(to, to + 1))) to++;
+    found.push(new Piece(paragraph, from, to));
+    from = to;
+  }
+  return found;
+}
+
+class Piece {
+  #paragraph;
+  #signs = [];
+  /** The paragraph's index, which edits before it change. */
+  index = 0;
+  height = undefined;
+  element = undefined;
+
+  constructor(paragraph, from, to) {
+    this.#paragraph = paragraph;
+    this.from = from;
+    this.to = to;
+  }
+
+  /** Makes the element, without signs, as letters have a place only once they are laid out. */
+  draw(measure) {
+    const letters = element("div", "letters");
+    letters.setAttribute("aria-hidden", "true");
+    for (let at = this.from; at < this.to; at += String.fromCodePoint(this.#paragraph.codePointAt(at)).length) {
+      letters.append(letterElement(this.#paragraph, at, measure));
+    }
+    this.element = element("div", "piece");
+    this.element.setAttribute("role", "presentation");
+    this.element.dir = directionOf(this.#paragraph);
+    this.element.append(letters);
+  }
+
+  /** Where the letters are, once the element is laid out. */
+  measure() {
+    const origin = this.element.getBoundingClientRect();
+    const boxes = [...this.element.firstChild.children].map((it) => it.getBoundingClientRect());
+    return { boxes, origin };
+  }
+
+  /** Puts the signs of positions, and the names of what is not seen, where the letters are. */
+  putSigns(positions, { boxes, origin }) {
+    const letters = [...this.element.firstChild.children];
+    const order = new Map(letters.map((it, k) => [Number(it.dataset.at), k]));
+    const places = signPlaces(boxes, this.element.dir);
+    const put = (made, { x, y }) => {
+      made.style.left = `${x - origin.left}px`;
+      made.style.top = `${y - origin.top}px`;
+      return made;
+    };
+    for (const it of this.#signs) it.remove();
+    const names = letters.flatMap((it, k) => {
+      const middle = { x: (boxes[k].left + boxes[k].right) / 2, y: (boxes[k].top + boxes[k].bottom) / 2 };
+      return it.dataset.name ? [put(nameElement(it.dataset.name), middle)] : [];
+    });
+    this.#signs = names.concat(positions.map((it) => put(signElement(it), places[order.get(it.at) ?? places.length - 1])));
+    this.element.append(...this.#signs);
+    this.height = origin.height;
+  }
+
+  /** About how high it is in a list of this width, before it is drawn. */
+  expectedHeight(width, row) {
+    return Math.ceil(((this.to - this.from) * (LEAST_WIDTH + 1)) / Math.max(width, LEAST_WIDTH)) * row;
+  }
+
+  sign(at) {
+    return this.element?.querySelector(`.position[data-at="${at}"]`);
+  }
+
+  letter(at) {
+    return this.element?.querySelector(`.letter[data-at="${at}"]`);
+  }
+}
+
+function nameElement(name) {
+  const made = element("span", `hidden-character${name.length === 1 ? " dot" : ""}`, name);
+  made.setAttribute("aria-hidden", "true");
+  return made;
+}
+
+function signElement({ at, kind, rule }) {
+  const made = element("span", `position ${kind}`, signOf(kind));
+  made.dataset.at = at;
+  made.setAttribute("role", "option");
+  made.setAttribute("aria-selected", "false");
+  made.setAttribute("aria-label", `${SAYS[kind]}, rule ${rule}`);
+  return made;
+}
