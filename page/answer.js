@@ -52,7 +52,7 @@ export class AnswerView {
   }
 
   #side(character, otherwise) {
-    return character ? [characterElement(character), ` (${codeOf(character)})`] : [otherwise];
+    return character ? [characterElement(character), element("span", "code", ` (${codeOf(character)})`)] : [otherwise];
   }
 
   #classes(at) {

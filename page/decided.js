@@ -139,14 +139,20 @@ export class DecidedText {
     return (paragraph.columns ??= decide());
   }
 
+  /** The index of the last position of a paragraph that is not after a place of the text. */
+  #lastUpTo(index, place) {
+    return firstFrom(this.#columnsOf(index).at, place - this.#starts[index] + 1) - 1;
+  }
+
   /** The position at a place of the text, or the last one before it; undefined where the text has none. */
   positionAt(place) {
     if (this.paragraphs.length === 0) return undefined;
+    const index = this.indexAt(place);
+    const k = this.#lastUpTo(index, place);
     // A position between two paragraphs is the last of the first one.
-    const index = place > 0 ? this.indexAt(place - 1) : 0;
-    const start = this.#starts[index];
-    const found = this.#position(index, firstFrom(this.#columnsOf(index).at, place - start + 1) - 1);
-    return { ...found, at: start + found.at };
+    const [of, found] = k === 0 && index > 0 ? [index - 1, this.#lastUpTo(index - 1, this.#starts[index])] : [index, k];
+    const position = this.#position(of, found);
+    return { ...position, at: this.#starts[of] + position.at };
   }
 
   /** The next position after a place, or the last one before it. */

@@ -1,5 +1,5 @@
 /** A piece of a paragraph as it is drawn: its letters, and below these the signs of its positions. */
-import { LEAST_WIDTH, letterElement } from "./letters.js";
+import { LEAST_WIDTH, characterAt, letterElement } from "./letters.js";
 import { SAYS, signOf } from "./notation.js";
 import { signPlaces } from "./places.js";
 
@@ -20,42 +20,40 @@ function directionOf(paragraph) {
   return probe.matches(":dir(rtl)") ? "rtl" : "ltr";
 }
 
-/** The pieces of a paragraph, which are not drawn yet. */
+/** The pieces of a paragraph, which are not drawn yet. They don't keep its text, as a slice would keep the whole text. */
 export function piecesOf(paragraph) {
   const found = [];
   for (let from = 0; from < paragraph.length; ) {
     let to = Math.min(from + MOST_UNITS, paragraph.length);
     if (/^[\udc00-\udfff]/.test(paragraph.slice(to, to + 1))) to++;
-    found.push(new Piece(paragraph, from, to));
+    found.push(new Piece(from, to));
     from = to;
   }
   return found;
 }
 
 class Piece {
-  #paragraph;
   #signs = [];
   /** The paragraph's index, which edits before it change. */
   index = 0;
   height = undefined;
   element = undefined;
 
-  constructor(paragraph, from, to) {
-    this.#paragraph = paragraph;
+  constructor(from, to) {
     this.from = from;
     this.to = to;
   }
 
   /** Makes the element, without signs, as letters have a place only once they are laid out. */
-  draw(measure) {
+  draw(paragraph, measure) {
     const letters = element("div", "letters");
     letters.setAttribute("aria-hidden", "true");
-    for (let at = this.from; at < this.to; at += String.fromCodePoint(this.#paragraph.codePointAt(at)).length) {
-      letters.append(letterElement(this.#paragraph, at, measure));
+    for (let at = this.from; at < this.to; at += characterAt(paragraph, at).length) {
+      letters.append(letterElement(paragraph, at, measure));
     }
     this.element = element("div", "piece");
     this.element.setAttribute("role", "presentation");
-    this.element.dir = directionOf(this.#paragraph);
+    this.element.dir = directionOf(paragraph);
     this.element.append(letters);
   }
 

@@ -16,6 +16,7 @@ export class PositionsView {
   #known = new WeakMap();
   #chosenAt;
   #ofLetter = false;
+  #marked = [];
 
   /** `chose` is called with a position that is chosen and, where a letter is, with the position after this. */
   constructor(list, decided, chose) {
@@ -78,7 +79,7 @@ export class PositionsView {
     const last = past < 0 ? this.#pieces.length : past;
     const wanted = this.#pieces.slice(first, last);
     const isNew = (it) => !this.#drawn.includes(it);
-    for (const it of wanted) if (!it.element) it.draw(this.#measure);
+    for (const it of wanted) if (!it.element) it.draw(this.#decided.paragraphText(it.index), this.#measure);
     for (const it of [...this.#inner.children]) if (!wanted.some(({ element }) => element === it)) it.remove();
     wanted.forEach(({ element }, k) => {
       if (this.#inner.children[k] !== element) this.#inner.insertBefore(element, this.#inner.children[k] ?? null);
@@ -168,8 +169,6 @@ export class PositionsView {
     this.#select(place, ofLetter);
     this.#chose(this.#decided.positionAt(place), ofLetter ? this.#decided.next(place) : undefined);
   }
-
-  #marked = [];
 
   #mark(elements) {
     for (const it of this.#marked) {
