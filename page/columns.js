@@ -1,11 +1,13 @@
 /** A text in a column, once with given breaks and once as the browser breaks it, with the places where only one starts a line. */
+import { Blocks } from "./blocks.js";
 import { headLength, lineStarts } from "./lines.js";
 import { hiddenName } from "./notation.js";
 
-/** How many places are told of each column, and how many units of the text there. */
+/** How many places are told of each column, and how many characters of the text there. */
 const MOST_TOLD = 5;
 const MOST_QUOTED = 14;
 const LINE_END = /(?:\r\n|[\n\v\f\r\u0085\u2028\u2029])$/;
+const BLANK = /^(?:\r\n|[\n\v\f\r\u0085\u2028\u2029])?$/;
 
 function element(tag, className, text = "") {
   const made = document.createElement(tag);
@@ -14,36 +16,33 @@ function element(tag, className, text = "") {
   return made;
 }
 
-/** The places of a text, in UTF-16 units, at which the lines of an element that shows it start. Blank lines are left out. */
-export function shownLineStarts(root) {
-  const walker = document.createTreeWalker(root, NodeFilter.SHOW_TEXT);
+/** The places in an element's text at which the browser starts its lines. Blank lines are left out. */
+function browserStarts({ firstChild: node }) {
   const range = document.createRange();
   const starts = [];
-  let place = 0;
   let bottom = -Infinity;
-  for (let node = walker.nextNode(); node; node = walker.nextNode()) {
-    for (let k = 0; k < node.data.length; k++) {
-      if (LINE_END.test(node.data[k])) continue;
-      range.setStart(node, k);
-      range.setEnd(node, k + 1);
-      const box = range.getClientRects()[0];
-      if (box && box.width > 0 && box.top >= bottom - 1) {
-        starts.push(place + k);
-        bottom = box.bottom;
-      }
-    }
-    place += node.data.length;
+  for (let k = 0; k < (node?.length ?? 0); k++) {
+    if (LINE_END.test(node.data[k])) continue;
+    range.setStart(node, k);
+    range.setEnd(node, k + 1);
+    // A character at the start of a line can have an empty box at the end of the line before, too, and boxes of some fonts are so high
+    // that they reach into the next line.
+    const box = [...range.getClientRects()].at(-1);
+    if (!box || (box.top + box.bottom) / 2 < bottom) continue;
+    starts.push(k);
+    bottom = box.bottom;
   }
   return starts;
 }
 
-/** A paragraph by its segments, with an end of the line where `starts` has the next segment. `end` is where its last segment ends. */
+/** A paragraph by its segments, which end at `ends`, with a line's end before each segment that is in `starts`. */
 function paragraphElement(text, ends, starts) {
   const made = element("div", "lines");
+  const first = new Set(starts);
   made.dir = "auto";
   ends.forEach((end, k) => {
     const segment = text.slice(k === 0 ? 0 : ends[k - 1], end);
-    const isLast = k + 1 === ends.length || starts.includes(k + 1);
+    const isLast = k + 1 === ends.length || first.has(k + 1);
     const head = headLength(segment.replace(LINE_END, ""));
     made.append(element("span", "segment", segment.slice(0, head)), element("span", isLast ? "hanging" : "space", segment.slice(head)));
     if (isLast && k + 1 < ends.length) made.append(document.createElement("br"));
@@ -51,18 +50,33 @@ function paragraphElement(text, ends, starts) {
   return made;
 }
 
+/** The places of the lines of blocks in the text that these make together. */
+function placesOf(blocks) {
+  const places = new Set();
+  let offset = 0;
+  for (const { starts, length } of blocks) {
+    for (const it of starts) places.add(offset + it);
+    offset += length;
+  }
+  return places;
+}
+
 export class ColumnsView {
   #ours;
   #theirs;
   #told;
+  #ourBlocks;
+  #theirBlocks;
   #probe = element("div", "probe");
   #passage = { text: "", paragraphs: [], offset: 0 };
-  #shownWidth;
+  #room = 0;
 
   constructor(ours, theirs, told) {
     this.#ours = ours;
     this.#theirs = theirs;
     this.#told = told;
+    this.#ourBlocks = new Blocks(ours, (paragraph) => this.#ourBlock(paragraph));
+    this.#theirBlocks = new Blocks(theirs, (text) => ({ element: element("div", "", text), length: text.length, starts: undefined }));
     ours.parentElement.append(this.#probe);
     // A drag of one column takes the other along.
     const observer = new ResizeObserver((entries) => this.#follow(entries));
@@ -75,13 +89,12 @@ export class ColumnsView {
    * `ends` of its segments.
    */
   show(passage) {
-    const isSame = (one, other) => one.text === other?.text && one.ends.join() === other.ends.join();
-    const [now, before] = [passage.paragraphs, this.#passage.paragraphs];
-    const isShown = now.length === before.length && now.every((it, k) => isSame(it, before[k]));
-    if (isShown && passage.offset === this.#passage.offset) return;
     this.#passage = passage;
-    this.#theirs.textContent = passage.text;
-    this.#layOut();
+    const ours = this.#ourBlocks.show(passage.paragraphs, ({ text, ends }) => `${ends.join()} ${text}`);
+    // (a browser ends a paragraph at a line feed)
+    const theirs = this.#theirBlocks.show(passage.text.split(/(?<=\n)/), (text) => text);
+    for (const it of theirs) it.starts ??= browserStarts(it.element);
+    this.#compare(placesOf(ours), placesOf(theirs));
   }
 
   set width(pixels) {
@@ -94,32 +107,28 @@ export class ColumnsView {
     for (const column of [this.#ours, this.#theirs]) {
       if (width && column.style.width !== width) column.style.width = width;
     }
-    if (this.#room() !== this.#shownWidth) this.#layOut();
+    this.#layOut();
   }
 
-  #room() {
+  /** Lays all out again where the room for lines is another than before. */
+  #layOut() {
     const style = getComputedStyle(this.#ours);
     const sides = ["paddingLeft", "paddingRight", "borderLeftWidth", "borderRightWidth"];
-    return this.#ours.getBoundingClientRect().width - sides.reduce((sum, it) => sum + parseFloat(style[it]), 0);
+    const room = this.#ours.getBoundingClientRect().width - sides.reduce((sum, it) => sum + parseFloat(style[it]), 0);
+    if (room === this.#room) return;
+    this.#room = room;
+    this.#ourBlocks.clear();
+    this.#theirBlocks.clear();
+    this.show(this.#passage);
   }
 
-  #layOut() {
-    const room = (this.#shownWidth = this.#room());
-    const fits = (piece) => {
+  #ourBlock({ text, ends }) {
+    const starts = lineStarts(text, ends, (piece) => {
       this.#probe.textContent = piece;
-      return this.#probe.getBoundingClientRect().width <= room;
-    };
-    const starts = [];
-    let place = 0;
-    const paragraphs = this.#passage.paragraphs.map(({ text, ends }) => {
-      const found = lineStarts(text, ends, fits);
-      const places = found.map((k) => (k === 0 ? 0 : ends[k - 1]));
-      starts.push(...places.filter((it) => !/^(?:\r\n|[\n\v\f\r\u0085\u2028\u2029]|$)/.test(text.slice(it))).map((it) => place + it));
-      place += text.length;
-      return paragraphElement(text, ends, found);
+      return this.#probe.getBoundingClientRect().width <= this.#room;
     });
-    this.#ours.replaceChildren(...paragraphs);
-    this.#compare(new Set(starts), new Set(shownLineStarts(this.#theirs)));
+    const places = starts.map((k) => (k === 0 ? 0 : ends[k - 1]));
+    return { element: paragraphElement(text, ends, starts), length: text.length, starts: places.filter((it) => !BLANK.test(text.slice(it))) };
   }
 
   /** Says at which places only one of the two starts a line. */
@@ -151,7 +160,9 @@ export class ColumnsView {
     return element("bdi", "", `“${shown}${rest.length > MOST_QUOTED ? "…" : ""}”`);
   }
 
+  /** Marks in our column the places at which only one starts a line. */
   #mark(places) {
+    for (const it of this.#ours.querySelectorAll(".line-end")) it.remove();
     let place = 0;
     for (const it of this.#ours.querySelectorAll(".segment")) {
       place += it.textContent.length + it.nextSibling.textContent.length;

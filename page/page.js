@@ -30,7 +30,7 @@ function readFragment() {
   const given = new URLSearchParams(location.hash.slice(1));
   if (given.has("text")) setText(given.get("text"));
   if (["1", "2"].includes(given.get("profile"))) profile.value = given.get("profile");
-  return given.has("at") ? Number(given.get("at")) : undefined;
+  return /^\d+$/.test(given.get("at")) ? Number(given.get("at")) : undefined;
 }
 
 function linkToText(at) {

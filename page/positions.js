@@ -38,7 +38,7 @@ export class PositionsView {
     new ResizeObserver(() => this.#resize()).observe(list);
   }
 
-  /** Shows what is decided now. Pieces of paragraphs that did not change are kept. */
+  /** Shows what is decided now, with no position chosen. Pieces of paragraphs that did not change are kept. */
   show() {
     const all = this.#decided.paragraphs.map((paragraph, index) => {
       if (!this.#known.has(paragraph)) this.#known.set(paragraph, piecesOf(this.#decided.paragraphText(index)));
@@ -47,6 +47,7 @@ export class PositionsView {
       return pieces;
     });
     this.#pieces = all.flat();
+    this.#chosenAt = undefined;
     this.#mark([]);
     this.#draw();
   }
@@ -122,7 +123,7 @@ export class PositionsView {
       Home: () => 0,
       End: () => last,
     }[event.key];
-    if (!to || last === 0) return;
+    if (!to || last === 0 || event.altKey || event.ctrlKey || event.metaKey) return;
     event.preventDefault();
     this.choose(to() ?? at);
   }

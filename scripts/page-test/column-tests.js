@@ -35,8 +35,8 @@ function shownLines(root) {
     for (let k = 0; k < node.data.length; k++) {
       range.setStart(node, k);
       range.setEnd(node, k + 1);
-      const box = isSeen(node.data[k]) && range.getClientRects()[0];
-      if (!box || box.width === 0 || box.top < bottom - 1) continue;
+      const box = isSeen(node.data[k]) && [...range.getClientRects()].at(-1);
+      if (!box || (box.top + box.bottom) / 2 < bottom) continue;
       found.push(place + k);
       bottom = box.bottom;
     }
@@ -51,21 +51,22 @@ function withoutTrailing(text) {
   return text.slice(0, end);
 }
 
-/** The same places in a layout of breaks. */
-function laidOut(text, breaks, widthOf, room) {
+/** The same places in a layout of breaks. Where a line is as wide as the room but for rounding, it is as it is `shown`. */
+function laidOut(text, breaks, widthOf, room, shown) {
+  const firstSeen = (from, to = text.length) => [...Array(to - from).keys()].map((k) => from + k).find((it) => isSeen(text[it]));
+  const isTooWide = (start, end, before) => {
+    const excess = widthOf(withoutTrailing(text.slice(start, end))) - room;
+    return Math.abs(excess) < ROUNDING ? shown.includes(firstSeen(before)) : excess > 0;
+  };
   const starts = [0];
   let before = 0;
   for (const { at, kind } of breaks) {
-    if (before > starts.at(-1) && widthOf(withoutTrailing(text.slice(starts.at(-1), at))) > room) starts.push(before);
+    if (before > starts.at(-1) && isTooWide(starts.at(-1), at, before)) starts.push(before);
     if (kind === "must") starts.push(at);
     before = at;
   }
-  const seen = starts.map((start, k) => {
-    const line = text.slice(start, starts[k + 1] ?? text.length);
-    const first = [...line.split("").keys()].find((it) => isSeen(line[it]));
-    return first === undefined ? undefined : start + first;
-  });
-  return [...new Set(seen)].filter((it) => it !== undefined);
+  const seen = starts.map((start, k) => firstSeen(start, starts[k + 1]));
+  return seen.filter((it, k) => it !== undefined && seen.indexOf(it) === k);
 }
 
 function measureOf(page) {
@@ -94,8 +95,8 @@ export async function tryColumns(table) {
       const { clientWidth } = page.find("ours");
       const { paddingLeft, paddingRight } = page.window.getComputedStyle(page.find("ours"));
       const room = clientWidth - parseFloat(paddingLeft) - parseFloat(paddingRight);
-      const wanted = [room - ROUNDING, room + ROUNDING].map((it) => laidOut(text, breaks, widthOf, it).join());
-      return !wanted.includes(shownLines(page.find("ours")).join());
+      const shown = shownLines(page.find("ours"));
+      return shown.join() !== laidOut(text, breaks, widthOf, room, shown).join();
     });
     equal(`the lines of ${name} end where the breaks and widths say, at ${WIDTHS.length} widths`, wrong, []);
   }

@@ -57,7 +57,7 @@ async function tryJoined(page) {
   if (width("بب") === width("ب\u200cب")) return say("no font of this machine joins Arabic letters, so that is not tried");
   await follow(page, "سعر دار بَب");
   const shown = boxes(page, ".letter").map(({ it }) => it.textContent.replaceAll(/\u0640+/g, "-"));
-  equal("Arabic letters join those that they join in words", shown, ["س-", "-ع-", "-ر", " ", "د", "ا", "ر", " ", "ب-", "-\u064e", "-ب"]);
+  equal("Arabic letters join those that they join in words", shown, ["س-", "-ع-", "-ر", " ", "د", "ا", "ر", " ", "ب-", "-\u064e-", "-ب"]);
   const found = boxes(page, ".letter").slice(0, 3).map(({ box }) => box);
   const apart = found.slice(1).map((box, k) => Math.round(found[k].left - box.right));
   equal("with nothing between their boxes", apart, [0, 0]);
