@@ -13,9 +13,9 @@ function element(tag, className, text = "") {
   return made;
 }
 
-/** The direction of a paragraph, from its first letter that has one. */
+/** The direction of a paragraph, from the first letter of its front that has one. */
 function directionOf(paragraph) {
-  const probe = element("p", "", paragraph);
+  const probe = element("p", "", paragraph.slice(0, 2 * MOST_UNITS));
   probe.dir = "auto";
   return probe.matches(":dir(rtl)") ? "rtl" : "ltr";
 }
@@ -33,7 +33,6 @@ export function piecesOf(paragraph) {
 }
 
 class Piece {
-  #signs = [];
   /** The paragraph's index, which edits before it change. */
   index = 0;
   height = undefined;
@@ -74,14 +73,19 @@ class Piece {
       made.style.top = `${y - origin.top}px`;
       return made;
     };
-    for (const it of this.#signs) it.remove();
     const names = letters.flatMap((it, k) => {
       const middle = { x: (boxes[k].left + boxes[k].right) / 2, y: (boxes[k].top + boxes[k].bottom) / 2 };
       return it.dataset.name ? [put(nameElement(it.dataset.name), middle)] : [];
     });
-    this.#signs = names.concat(positions.map((it) => put(signElement(it), places[order.get(it.at) ?? places.length - 1])));
-    this.element.append(...this.#signs);
+    const signs = positions.map((it) => put(signElement(it), places[order.get(it.at) ?? places.length - 1]));
+    this.element.append(...names, ...signs);
     this.height = origin.height;
+  }
+
+  /** Lets the element go, as it is not in view. */
+  release() {
+    this.element?.remove();
+    this.element = undefined;
   }
 
   /** About how high it is in a list of this width, before it is drawn. */

@@ -55,9 +55,8 @@ export class PositionsView {
   #resize() {
     if (this.#list.clientWidth === this.#width) return;
     for (const it of this.#pieces) it.height = undefined;
-    this.#drawn = [];
+    for (const it of this.#drawn) it.release();
     this.#draw();
-    if (this.#chosenAt !== undefined) this.#select(this.#chosenAt, this.#ofLetter);
   }
 
   #countTops() {
@@ -70,28 +69,33 @@ export class PositionsView {
     });
   }
 
-  /** Draws the pieces in view, and some above and below. */
-  #draw() {
-    this.#countTops();
+  /** The first piece in view or a little above, and the one past the last. */
+  #inView() {
     const margin = this.#row * 4;
     const [top, bottom] = [this.#list.scrollTop - margin, this.#list.scrollTop + this.#list.clientHeight + margin];
     const first = Math.max(0, this.#tops.findIndex((it) => it > top) - 1);
     const past = this.#tops.findIndex((it, k) => k > first && it >= bottom);
-    const last = past < 0 ? this.#pieces.length : past;
-    const wanted = this.#pieces.slice(first, last);
-    const isNew = (it) => !this.#drawn.includes(it);
-    for (const it of wanted) if (!it.element) it.draw(this.#decided.paragraphText(it.index), this.#measure);
-    for (const it of [...this.#inner.children]) if (!wanted.some(({ element }) => element === it)) it.remove();
+    return [first, past < 0 ? this.#pieces.length : past];
+  }
+
+  /** Draws the pieces that come into view, and lets the others go. */
+  #draw() {
+    this.#countTops();
+    const [first, past] = this.#inView();
+    const wanted = this.#pieces.slice(first, past);
+    for (const it of this.#drawn) if (!wanted.includes(it)) it.release();
+    const fresh = wanted.filter((it) => !it.element);
+    for (const it of fresh) it.draw(this.#decided.paragraphText(it.index), this.#measure);
     wanted.forEach(({ element }, k) => {
       if (this.#inner.children[k] !== element) this.#inner.insertBefore(element, this.#inner.children[k] ?? null);
     });
     this.#inner.style.paddingTop = `${this.#tops[first]}px`;
-    this.#inner.style.paddingBottom = `${this.#tops.at(-1) - this.#tops[last]}px`;
-    // (all are measured before any is changed, so that the browser lays out once)
-    const measured = wanted.filter(isNew).map((it) => [it, it.measure()]);
-    for (const [it, found] of measured) it.putSigns(this.#decided.positionsIn(it.index, it.from, it.to), found);
+    this.#inner.style.paddingBottom = `${this.#tops.at(-1) - this.#tops[past]}px`;
     this.#drawn = wanted;
-    if (measured.length > 0 && this.#chosenAt !== undefined) this.#select(this.#chosenAt, this.#ofLetter);
+    // (all are measured before any is changed, so that the browser lays out once)
+    const measured = fresh.map((it) => [it, it.measure()]);
+    for (const [it, found] of measured) it.putSigns(this.#decided.positionsIn(it.index, it.from, it.to), found);
+    if (fresh.length > 0 && this.#chosenAt !== undefined) this.#select(this.#chosenAt, this.#ofLetter);
   }
 
   /** The piece with the position at a place of the text, and the place in its paragraph. */
