@@ -44,8 +44,9 @@ export class AnswerView {
   #answer({ at, kind, rule }) {
     const text = this.#decided.text;
     const [before, after] = [characterBefore(text, at), characterAt(text, at)];
-    const sides = element("span", "sides", " between ", ...this.#side(before, "the start of the text"), " and ", ...this.#side(after, "the end of the text"));
-    const what = element("p", "what", element("span", `sign ${kind}`, signOf(kind)), element("strong", "", ` ${SAYS[kind]}`), sides, ".");
+    const [one, other] = [this.#side(before, "the start of the text"), this.#side(after, "the end of the text")];
+    const sign = element("span", `sign ${kind}`, signOf(kind));
+    const what = element("p", "what", sign, element("strong", "", ` ${SAYS[kind]}`), " between ", ...one, " and ", ...other, ".");
     const why = element("p", "why", element("span", "rule", `Rule LB${rule}`), ` ${RULES[rule]}`);
     const where = `At offset ${at} (UTF-16 units).`;
     return element("div", "answer", what, why, element("p", "classes", ...this.#classes(at), where));

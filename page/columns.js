@@ -128,7 +128,8 @@ export class ColumnsView {
       return this.#probe.getBoundingClientRect().width <= this.#room;
     });
     const places = starts.map((k) => (k === 0 ? 0 : ends[k - 1]));
-    return { element: paragraphElement(text, ends, starts), length: text.length, starts: places.filter((it) => !BLANK.test(text.slice(it))) };
+    const made = paragraphElement(text, ends, starts);
+    return { element: made, length: text.length, starts: places.filter((it) => !BLANK.test(text.slice(it))) };
   }
 
   /** Says at which places only one of the two starts a line. */
@@ -149,7 +150,8 @@ export class ColumnsView {
 
   #sentence(start, places) {
     if (places.length === 0) return [];
-    const told = places.slice(0, MOST_TOLD).flatMap((it, k) => [k > 0 ? ", " : "", this.#quoted(it), ` (offset ${this.#passage.offset + it})`]);
+    const tell = (it, k) => [k > 0 ? ", " : "", this.#quoted(it), ` (offset ${this.#passage.offset + it})`];
+    const told = places.slice(0, MOST_TOLD).flatMap(tell);
     const more = places.length > MOST_TOLD ? ` and ${places.length - MOST_TOLD} more places` : "";
     return [start, ...told, `${more}. `];
   }

@@ -12,7 +12,9 @@ const { passageAt } = await load("LBK_PAGE", "passage.js");
 const { signPlaces } = await load("LBK_PAGE", "places.js");
 
 const table = await Table.fromBytes(process.env.LBK_TABLE);
-const PIECES = ["a", "b ", " ", "\n", "\r", "\r\n", "\u2028", "\u0085", "\v", "«", "\u0301", "日", "1", ",", "(", "😀", "\u200d", "🇫🇷", "\ud800", "\udc00"];
+const PIECES = [
+  "a", "b ", " ", "\n", "\r", "\r\n", "\u2028", "\u0085", "\v", "«", "\u0301", "日", "1", ",", "(", "😀", "\u200d", "🇫🇷", "\ud800", "\udc00",
+];
 
 /** Numbers from 0 to below a most one, the same in each run. */
 function draws(seed) {

@@ -13,8 +13,8 @@ LEAST_CONTRAST = 4.5
 # The least size of what can be pointed at (2.5.8), in pixels, and the most that rounding takes from it.
 LEAST_TARGET = 24
 ROUNDING = 0.02
-# The most seconds from a key to the next frame, in a text of a million characters.
-MOST_SECONDS_OF_KEY = 0.15
+# The most seconds that the page's scripts may take for a key in a text of a million characters, at best of some.
+MOST_SECONDS_OF_KEY = 0.1
 SCREENS = ((1280, 800), (320, 640))
 LONG_TEXT = "'A line of some words, numbers (1,234.50) and more.\\n'.repeat(20000).slice(0, 1000000)"
 CONTRASTS = """
@@ -41,7 +41,8 @@ return found;
 # What can be pointed at and is narrower or lower than so many pixels, or is covered in part by another.
 TARGETS = """
 const least = LEAST;
-const seen = [...document.querySelectorAll(".position, .letter, button, select, input, textarea")].map((it) => [it, it.getBoundingClientRect()]);
+const all = document.querySelectorAll(".position, .letter, button, select, input, textarea");
+const seen = [...all].map((it) => [it, it.getBoundingClientRect()]);
 const small = seen.filter(([, box]) => box.width < least || box.height < least);
 const meet = (one, other) => Math.min(one.right, other.right) - Math.max(one.left, other.left) > 0.5
   && Math.min(one.bottom, other.bottom) - Math.max(one.top, other.top) > 0.5;
@@ -226,7 +227,8 @@ def try_opening(count, page, address):
         for fragment in ("", "#text=%D8%A7%D9%84%D8%B3%D8%B9%D8%B1%20123%20abc%0Ax" + "%20iil" * 30):
             page.open(address + fragment)
             found = page.run(TARGETS.replace("LEAST", str(LEAST_TARGET - ROUNDING)))
-            count.equal(f"chromedriver: at {width} what can be pointed at has {LEAST_TARGET} pixels, and nothing covers it", found, [True, [], []])
+            what = f"chromedriver: at {width} what can be pointed at has {LEAST_TARGET} pixels, and nothing covers it"
+            count.equal(what, found, [True, [], []])
 
 
 def try_long_text(count, page, address):
@@ -239,10 +241,11 @@ def try_long_text(count, page, address):
     for key in "abcdefgh":
         page.press(key)
         page.run("return new Promise((done) => requestAnimationFrame(() => setTimeout(done, 50)))")
-    times, own = (sorted(page.run(f"return {it}")) for it in ("keyTimes", "ownTimes"))
-    middle, own_middle = (it[len(it) // 2] / 1000 for it in (times, own))
-    what = f"chromedriver: a key in a million characters takes {middle:.3f} s to the next frame, {own_middle:.3f} s of it in the page's scripts"
-    count.say(what, "" if len(times) == 8 and middle <= MOST_SECONDS_OF_KEY else f"over {MOST_SECONDS_OF_KEY} s")
+    times, own = ([it / 1000 for it in page.run(f"return {name}")] for name in ("keyTimes", "ownTimes"))
+    best = min(own, default=MOST_SECONDS_OF_KEY)
+    frame = f"{min(times, default=0):.3f} s to the next frame"
+    what = f"chromedriver: a key in a million characters takes the page's scripts {best:.3f} s at best of {len(own)}, and {frame}"
+    count.say(what, "" if best < MOST_SECONDS_OF_KEY else f"{MOST_SECONDS_OF_KEY} s or more")
 
 
 def drive(count, address):

@@ -34,7 +34,8 @@ async function tryDirections(page) {
     await follow(page, text);
     const number = boxes(page, ".letter").filter(({ it }) => digits.includes(it.textContent));
     equal(`the digits of ${digits} stand in their order`, [number.length, ways(number)], [3, ["right"]]);
-    const within = boxes(page, ".position").filter(({ at }) => at > text.indexOf(digits[0]) && at <= text.indexOf(digits[2]));
+    const [first, last] = [text.indexOf(digits[0]), text.indexOf(digits[2])];
+    const within = boxes(page, ".position").filter(({ at }) => at > first && at <= last);
     equal("and the positions between them", ways(within), ["right"]);
   }
 }
@@ -43,8 +44,9 @@ async function tryPlaces(page) {
   for (const text of [...MIXED, ...EXAMPLES.map(([, , it]) => it)]) {
     await follow(page, text);
     const found = boxes(page, ".position");
-    const letters = [...text].length;
-    say(`no two of the signs of ${JSON.stringify(text)} are in one place`, crowded(found).join() || (found.length === letters + 1 ? "" : `${found.length} signs`));
+    const isWhole = found.length === [...text].length + 1;
+    const fault = crowded(found).join() || (isWhole ? "" : `${found.length} signs`);
+    say(`no two of the signs of ${JSON.stringify(text)} are in one place`, fault);
   }
 }
 
@@ -79,7 +81,8 @@ function tryLong(page) {
 /** After an edit the page shows what it shows of a new text, in the paragraphs that stayed, too. */
 async function tryEdits(page) {
   const drawn = (page) => boxes(page, ".position").map(({ it, at }) => `${at}${it.textContent}`).join(" ");
-  for (const [before, after] of [["ab cd\nef gh\nij", "ab cd\nef Xgh\nij"], ["a\r\nb", "a\nb"], ["ab\ncd\n", "abcd\n"], ["", "a b"], ["a b\nc", ""]]) {
+  const edits = [["ab cd\nef gh\nij", "ab cd\nef Xgh\nij"], ["a\r\nb", "a\nb"], ["ab\ncd\n", "abcd\n"], ["", "a b"], ["a b\nc", ""]];
+  for (const [before, after] of edits) {
     await follow(page, before);
     write(page, after);
     const edited = drawn(page);

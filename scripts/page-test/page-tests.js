@@ -60,8 +60,8 @@ function tryShown(page) {
   change(page, "profile", "2");
   say("the profile changes positions", signs(page) === first ? "they are the same" : "");
   change(page, "profile", "1");
-  const title = page.find("positions");
-  equal("the row of letters is no text for screen readers", [title.querySelectorAll(".letters:not([aria-hidden=true])").length, title.role], [0, "listbox"]);
+  const read = page.document.querySelectorAll("#positions .letters:not([aria-hidden=true])");
+  equal("the row of letters is no text for screen readers", read.length, 0);
 }
 
 export async function tryPage(table) {
@@ -77,7 +77,8 @@ export async function tryPage(table) {
   const asked = page.window.performance.getEntriesByType("resource").map((it) => new URL(it.name));
   equal("the page asks its own server alone", asked.filter((it) => it.origin !== location.origin).map(String), []);
   say("and it did ask it", asked.length > 5 ? "" : asked.join(" "));
-  const unlabelled = [...page.document.querySelectorAll("input, select, textarea, button")].filter((it) => !it.labels?.length && !it.textContent.trim());
+  const controls = [...page.document.querySelectorAll("input, select, textarea, button")];
+  const unlabelled = controls.filter((it) => !it.labels?.length && !it.textContent.trim());
   equal("each control has a label", unlabelled.map((it) => it.id), []);
 }
 
