@@ -34,11 +34,9 @@ export class AnswerView {
     this.#classOf = classOf;
   }
 
-  /** Says what decides at a position, or at two; with nothing given, that there is none. */
+  /** Says what decides at a position, or at two. */
   show(...positions) {
-    const given = positions.filter(Boolean);
-    const answers = given.map((it) => this.#answer(it));
-    this.#panel.replaceChildren(...(answers.length > 0 ? answers : [element("p", "note", "An empty text has no positions.")]));
+    this.#panel.replaceChildren(...positions.filter(Boolean).map((it) => this.#answer(it)));
   }
 
   #answer({ at, kind, rule }) {

@@ -46,13 +46,14 @@ function firstFrom(places, least) {
 export class DecidedText {
   #table;
   #profile = 1;
-  #starts = new Uint32Array(1);
+  #starts;
   text = "";
   /** The paragraphs, each with its `length` in UTF-16 units. One that did not change stays the same object. */
-  paragraphs = [];
+  paragraphs;
 
   constructor(table) {
     this.#table = table;
+    this.set("", 1);
   }
 
   /** Takes a text and a profile, and decides all of it. */
@@ -71,16 +72,17 @@ export class DecidedText {
     // (a line end at the place of the change can become a part of CR LF)
     const first = this.indexAt(Math.max(0, start - 1));
     const last = this.indexAt(end);
-    const stop = last < this.paragraphs.length ? this.#starts[last + 1] : before.length;
     const from = this.#starts[first];
     this.text = text;
-    const changed = this.#paragraphsOf(from, stop + text.length - before.length);
+    const changed = this.#paragraphsOf(from, this.#starts[last + 1] + text.length - before.length);
     this.paragraphs = [...this.paragraphs.slice(0, first), ...changed, ...this.paragraphs.slice(last + 1)];
     this.#count();
     return changed.length;
   }
 
   #paragraphsOf(start, end) {
+    // (an empty text is a paragraph, as it has a position)
+    if (this.text.length === 0) return [{ length: 0, columns: undefined }];
     const { at, kind } = this.#table.breakColumns(withNext(this.text, start, end), { profile: this.#profile });
     const found = [];
     let before = 0;
@@ -107,7 +109,7 @@ export class DecidedText {
 
   /** Which paragraph has the character at a place. The text's end is of the last one. */
   indexAt(place) {
-    let [low, high] = [0, Math.max(0, this.paragraphs.length - 1)];
+    let [low, high] = [0, this.paragraphs.length - 1];
     while (low < high) {
       const middle = (low + high + 1) >> 1;
       if (this.#starts[middle] <= place) low = middle;
@@ -144,9 +146,8 @@ export class DecidedText {
     return firstFrom(this.#columnsOf(index).at, place - this.#starts[index] + 1) - 1;
   }
 
-  /** The position at a place of the text, or the last one before it; undefined where the text has none. */
+  /** The position at a place of the text, or the last one before it. */
   positionAt(place) {
-    if (this.paragraphs.length === 0) return undefined;
     const index = this.indexAt(place);
     const k = this.#lastUpTo(index, place);
     // A position between two paragraphs is the last of the first one.

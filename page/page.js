@@ -95,10 +95,9 @@ function start(table, chosen) {
   const decided = new DecidedText(table);
   const answer = new AnswerView(find("detail"), decided, (scalar) => table.classOf(scalar));
   const columns = new ColumnsView(find("ours"), find("theirs"), find("differences"));
-  const showPassage = (at) => columns.show(passageAt(decided, at));
   const positions = new PositionsView(find("positions"), decided, (before, after) => {
     answer.show(before, after);
-    showPassage(before?.at ?? 0);
+    columns.show(passageAt(decided, before.at));
   });
   const number = () => Number(profile.value);
 

@@ -28,7 +28,7 @@ export function passageAt(decided, place) {
   const isWhole = decided.text.length <= MOST_UNITS;
   const first = isWhole ? 0 : decided.indexAt(Math.max(0, place - 1));
   const offset = decided.startOf(first);
-  if (decided.paragraphs.length > 0 && decided.paragraphs[first].length > MOST_UNITS) {
+  if (decided.paragraphs[first].length > MOST_UNITS) {
     const { from, part } = partAround(decided, first, place - offset);
     return { text: part.text, offset: offset + from, paragraphs: [part] };
   }

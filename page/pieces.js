@@ -22,7 +22,7 @@ function directionOf(paragraph) {
 
 /** The pieces of a paragraph, which are not drawn yet. They don't keep its text, as a slice would keep the whole text. */
 export function piecesOf(paragraph) {
-  const found = [];
+  const found = paragraph === "" ? [new Piece(0, 0)] : [];
   for (let from = 0; from < paragraph.length; ) {
     let to = Math.min(from + MOST_UNITS, paragraph.length);
     if (/^[\udc00-\udfff]/.test(paragraph.slice(to, to + 1))) to++;
@@ -67,7 +67,9 @@ class Piece {
   putSigns(positions, { boxes, origin }) {
     const letters = [...this.element.firstChild.children];
     const order = new Map(letters.map((it, k) => [Number(it.dataset.at), k]));
-    const places = signPlaces(boxes, this.element.dir);
+    // (an empty text has a sign, but no letters)
+    const alone = { x: origin.left + LEAST_WIDTH, y: origin.bottom - LEAST_WIDTH };
+    const places = boxes.length > 0 ? signPlaces(boxes, this.element.dir) : [alone];
     const put = (made, { x, y }) => {
       made.style.left = `${x - origin.left}px`;
       made.style.top = `${y - origin.top}px`;

@@ -55,12 +55,11 @@ function settle(signs) {
 }
 
 /**
- * The places of the positions before each of some letters, and after the last: the middle of each sign, and its top. `boxes` are those of
+ * The places of the positions before each of some letters, of which there is one at least, and after the last: the middle of each sign, and its top. `boxes` are those of
  * letters in reading order, `base` is the direction of their paragraph. Where the direction changes a sign stands at one of two letters:
  * at the one that does not go in the paragraph's direction, if no other sign stands there.
  */
 export function signPlaces(boxes, base) {
-  if (boxes.length === 0) return [];
   const signs = edgesOf(boxes, base);
   for (let from = 0; from < signs.length; ) {
     let to = from + 1;

@@ -35,7 +35,8 @@ export class PositionsView {
     });
     list.addEventListener("keydown", (event) => this.#onKey(event));
     list.addEventListener("scroll", () => this.#draw());
-    new ResizeObserver(() => this.#resize()).observe(list);
+    // (in a frame of its own, as what is done changes sizes again)
+    new ResizeObserver(() => requestAnimationFrame(() => this.#resize())).observe(list);
   }
 
   /** Shows what is decided now, with no position chosen. Pieces of paragraphs that did not change are kept. */
@@ -102,7 +103,7 @@ export class PositionsView {
   #pieceOf(place, isLetter = false) {
     const index = place > 0 && !isLetter ? this.#decided.indexAt(place - 1) : this.#decided.indexAt(place);
     const at = place - this.#decided.startOf(index);
-    const pieces = this.#known.get(this.#decided.paragraphs[index]) ?? [];
+    const pieces = this.#known.get(this.#decided.paragraphs[index]);
     return { piece: pieces.find((it) => at < it.to) ?? pieces.at(-1), at };
   }
 
@@ -127,7 +128,7 @@ export class PositionsView {
       Home: () => 0,
       End: () => last,
     }[event.key];
-    if (!to || last === 0 || event.altKey || event.ctrlKey || event.metaKey) return;
+    if (!to || event.altKey || event.ctrlKey || event.metaKey) return;
     event.preventDefault();
     this.choose(to() ?? at);
   }
@@ -157,14 +158,9 @@ export class PositionsView {
 
   /** Chooses the position at a place of the text, or the last one before it, and brings it into view. */
   choose(place) {
-    const found = this.#decided.positionAt(place);
-    if (!found) {
-      this.#chosenAt = undefined;
-      this.#chose();
-      return;
-    }
-    this.#reveal(found.at);
-    this.#take(found.at, false);
+    const { at } = this.#decided.positionAt(place);
+    this.#reveal(at);
+    this.#take(at, false);
   }
 
   #take(place, ofLetter) {

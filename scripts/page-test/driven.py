@@ -42,13 +42,16 @@ return found;
 TARGETS = """
 const least = LEAST;
 const all = document.querySelectorAll(".position, .letter, button, select, input, textarea");
-const seen = [...all].map((it) => [it, it.getBoundingClientRect()]);
+const view = document.getElementById("positions");
+const room = view.getBoundingClientRect();
+const isShown = ([it, box]) => !view.contains(it) || (box.top >= room.top && box.bottom <= room.bottom);
+const seen = [...all].map((it) => [it, it.getBoundingClientRect()]).filter(isShown);
 const small = seen.filter(([, box]) => box.width < least || box.height < least);
 const meet = (one, other) => Math.min(one.right, other.right) - Math.max(one.left, other.left) > 0.5
   && Math.min(one.bottom, other.bottom) - Math.max(one.top, other.top) > 0.5;
 const covered = seen.filter(([, box], k) => seen.some(([, other], n) => n < k && meet(box, other)));
 const name = ([it, box]) => `${it.className}#${it.id} ${it.textContent.slice(0, 5)} ${box.width} x ${box.height}`;
-return [seen.length > 150, small.map(name).slice(0, 5), covered.map(name).slice(0, 5)];
+return [seen.length > 50, small.map(name).slice(0, 5), covered.map(name).slice(0, 5)];
 """
 # Whether the chosen sign and all of the answer are on the screen, with nothing over them.
 OPENING = """
