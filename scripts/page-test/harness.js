@@ -11,6 +11,10 @@ export function equal(what, found, wanted) {
   say(what, one === other ? "" : `${one}, and not ${other}`);
 }
 
+export function matches(what, found, wanted) {
+  say(what, wanted.test(found) ? "" : `${JSON.stringify(found)}, which is not as ${wanted}`);
+}
+
 export async function untilTrue(holds, what) {
   for (let k = 0; k < 200; k++) {
     if (holds()) return;

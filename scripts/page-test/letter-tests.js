@@ -1,6 +1,6 @@
 /** Letters and signs of the page: their order in both directions, numbers, joined letters, and that no two signs are in one place. */
 import { EXAMPLES } from "/page/examples.js";
-import { change, equal, follow, openPage, press, say, signs, write } from "./harness.js";
+import { change, equal, follow, matches, openPage, press, say, write } from "./harness.js";
 
 const MIXED = [
   "word בית 123 x", "אבג abc 45 דה", "abc (אבג) def", "1 א 2 ב 3", "مرحبا 12-34 world 5", "a\u2067אב 12\u2069b", "بَب دار ١٬٢٣٤ %",
@@ -29,7 +29,7 @@ async function tryDirections(page) {
   press(page, "Home");
   press(page, "ArrowLeft");
   press(page, "ArrowLeft");
-  say("where the arrow to the left goes on", /“י”.*“ת”/.test(page.find("detail").textContent) ? "" : page.find("detail").textContent);
+  matches("where the arrow to the left goes on", page.find("detail").textContent, /“י”.*“ת”/);
   for (const [digits, text] of [["123", "אב 123 גד"], ["١٢٣", "سعر ١٢٣ بيت"]]) {
     await follow(page, text);
     const number = boxes(page, ".letter").filter(({ it }) => digits.includes(it.textContent));
@@ -71,10 +71,10 @@ function tryLong(page) {
   const count = () => page.document.querySelectorAll(".position").length;
   say(`of a million positions ${count()} are drawn`, count() > 100 && count() < 4000 ? "" : "too few or too many");
   press(page, "End");
-  say("the last can be reached", /the end of the text.*1000000/.test(page.find("detail").textContent) ? "" : page.find("detail").textContent);
+  matches("the last can be reached", page.find("detail").textContent, /the end of the text.*1000000/);
   const chosen = page.document.querySelector("[aria-selected=true]")?.getBoundingClientRect();
   const view = page.find("positions").getBoundingClientRect();
-  say("and is in view", chosen && chosen.top >= view.top && chosen.bottom <= view.bottom ? "" : JSON.stringify(chosen));
+  say("and is in view", chosen && chosen.top >= view.top && chosen.bottom <= view.bottom ? "" : `it is at ${JSON.stringify(chosen)}`);
   say("the columns show a part", page.find("ours").textContent.length < 5000 ? "" : `${page.find("ours").textContent.length} units`);
 }
 
@@ -100,6 +100,6 @@ export async function tryLetters() {
   await tryEdits(page);
   tryLong(page);
   change(page, "example", "0");
-  say("an example opens with a position that its rule decides", /Rule LB25/.test(page.find("detail").textContent) ? "" : signs(page));
+  matches("an example opens with a position that its rule decides", page.find("detail").textContent, /Rule LB25/);
   equal("no error in the page", page.faults, []);
 }

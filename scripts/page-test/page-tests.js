@@ -1,11 +1,10 @@
 /** What the page shows of a text, and how it takes one. */
 import { EXAMPLES } from "/page/examples.js";
 import { testLine } from "/page/notation.js";
-import { change, equal, openPage, press, say, signs, untilTrue, write } from "./harness.js";
+import { change, equal, matches, openPage, press, say, signs, untilTrue, write } from "./harness.js";
 
 function shows(page, what, wanted) {
-  const found = page.find("detail").textContent;
-  say(what, wanted.test(found) ? "" : found);
+  matches(what, page.find("detail").textContent, wanted);
 }
 
 function namesOf(page) {
@@ -32,8 +31,7 @@ async function tryDrop(page) {
 function tryOpening(page) {
   shows(page, "the page opens with an answer", /^×.*No break between “,” \(U\+002C\) and “2” \(U\+0032\)\.Rule LB25 /);
   shows(page, "classes are in words", /Before: IS, infix separator\. After: NU, digit\./);
-  const said = page.find("how").textContent;
-  say("a line says what to do", ["Point", "tap", "arrow keys"].every((it) => said.includes(it)) ? "" : said);
+  matches("a line says what to do", page.find("how").textContent, /Point .* tap .* arrow keys/);
 }
 
 function tryChoosing(page) {
