@@ -6,6 +6,7 @@ import { DecidedText } from "./decided.js";
 import { EXAMPLES } from "./examples.js";
 import { testLine } from "./notation.js";
 import { passageAt } from "./passage.js";
+import { directionOf } from "./pieces.js";
 import { PositionsView } from "./positions.js";
 
 const find = (id) => document.getElementById(id);
@@ -14,14 +15,23 @@ const profile = find("profile");
 
 /** The position of the first example that is chosen where the page opens: the comma of a number. */
 const FIRST_CHOSEN = 23;
+/** The field finds the direction of each paragraph in texts of so many units at most, and else has that of the text. */
+const MOST_OF_AUTO = 20_000;
 /** How many bytes of a dropped file are read. */
 const MOST_OF_FILE = 1_000_000;
 
 /** The text, as it was given: a text field makes LF of CR. */
 let text = "";
 
-function setText(given) {
+function takeText(given) {
   text = given;
+  // A browser that looks for the direction of each paragraph takes seconds for a key in a long one, and lays all out where it is set.
+  const direction = text.length > MOST_OF_AUTO ? directionOf(text) : "auto";
+  if (field.dir !== direction) field.dir = direction;
+}
+
+function setText(given) {
+  takeText(given);
   field.value = given;
 }
 
@@ -114,7 +124,7 @@ function start(table, chosen) {
   };
 
   field.addEventListener("input", () => {
-    text = field.value;
+    takeText(field.value);
     decided.edit(text);
     positions.show();
     positions.choose(field.selectionStart);

@@ -4,7 +4,7 @@ import { SAYS, signOf } from "./notation.js";
 import { signPlaces } from "./places.js";
 
 /** The most UTF-16 units of a piece. A longer paragraph is drawn in several. */
-export const MOST_UNITS = 500;
+export const MOST_UNITS = 400;
 
 function element(tag, className, text = "") {
   const made = document.createElement(tag);
@@ -13,9 +13,9 @@ function element(tag, className, text = "") {
   return made;
 }
 
-/** The direction of a paragraph, from the first letter of its front that has one. */
-function directionOf(paragraph) {
-  const probe = element("p", "", paragraph.slice(0, 2 * MOST_UNITS));
+/** The direction of a text, from the first letter of its front that has one. */
+export function directionOf(text) {
+  const probe = element("p", "", text.slice(0, MOST_UNITS));
   probe.dir = "auto";
   return probe.matches(":dir(rtl)") ? "rtl" : "ltr";
 }

@@ -72,7 +72,7 @@ export class PositionsView {
 
   /** The first piece in view or a little above, and the one past the last. */
   #inView() {
-    const margin = this.#row * 4;
+    const margin = this.#row * 2;
     const [top, bottom] = [this.#list.scrollTop - margin, this.#list.scrollTop + this.#list.clientHeight + margin];
     const first = Math.max(0, this.#tops.findIndex((it) => it > top) - 1);
     const past = this.#tops.findIndex((it, k) => k > first && it >= bottom);
