@@ -46,7 +46,7 @@ export class AnswerView {
     const sign = element("span", `sign ${kind}`, signOf(kind));
     const what = element("p", "what", sign, element("strong", "", ` ${SAYS[kind]}`), " between ", ...one, " and ", ...other, ".");
     const why = element("p", "why", element("span", "rule", `Rule LB${rule}`), ` ${RULES[rule]}`);
-    const where = `At offset ${at} (UTF-16 units).`;
+    const where = element("span", "where", `At offset ${at} (UTF-16 units).`);
     return element("div", "answer", what, why, element("p", "classes", ...this.#classes(at), where));
   }
 

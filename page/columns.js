@@ -6,6 +6,8 @@ import { hiddenName } from "./notation.js";
 /** How many places are told of each column, and how many characters of the text there. */
 const MOST_TOLD = 5;
 const MOST_QUOTED = 14;
+const SOFT_HYPHEN = "\u00ad";
+const HYPHEN = "\u2010";
 const LINE_END = /(?:\r\n|[\n\v\f\r\u0085\u2028\u2029])$/;
 const BLANK = /^(?:\r\n|[\n\v\f\r\u0085\u2028\u2029])?$/;
 
@@ -43,9 +45,11 @@ function paragraphElement(text, ends, starts) {
   ends.forEach((end, k) => {
     const segment = text.slice(k === 0 ? 0 : ends[k - 1], end);
     const isLast = k + 1 === ends.length || first.has(k + 1);
-    const head = headLength(segment.replace(LINE_END, ""));
-    made.append(element("span", "segment", segment.slice(0, head)), element("span", isLast ? "hanging" : "space", segment.slice(head)));
-    if (isLast && k + 1 < ends.length) made.append(document.createElement("br"));
+    const head = segment.slice(0, headLength(segment.replace(LINE_END, "")));
+    const isBroken = isLast && k + 1 < ends.length;
+    const seen = element("span", isBroken && head.endsWith(SOFT_HYPHEN) ? "segment hyphenated" : "segment", head);
+    made.append(seen, element("span", isLast ? "hanging" : "space", segment.slice(head.length)));
+    if (isBroken) made.append(document.createElement("br"));
   });
   return made;
 }
@@ -124,7 +128,8 @@ export class ColumnsView {
 
   #ourBlock({ text, ends }) {
     const starts = lineStarts(text, ends, (piece) => {
-      this.#probe.textContent = piece;
+      // (a soft hyphen is seen where a line ends after it)
+      this.#probe.textContent = piece.endsWith(SOFT_HYPHEN) ? piece + HYPHEN : piece;
       return this.#probe.getBoundingClientRect().width <= this.#room;
     });
     const places = starts.map((k) => (k === 0 ? 0 : ends[k - 1]));

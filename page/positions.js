@@ -73,7 +73,8 @@ export class PositionsView {
   /** The first piece in view or a little above, and the one past the last. */
   #inView() {
     const margin = this.#row * 2;
-    const [top, bottom] = [this.#list.scrollTop - margin, this.#list.scrollTop + this.#list.clientHeight + margin];
+    const height = parseFloat(getComputedStyle(this.#list).maxHeight);
+    const [top, bottom] = [this.#list.scrollTop - margin, this.#list.scrollTop + height + margin];
     const first = Math.max(0, this.#tops.findIndex((it) => it > top) - 1);
     const past = this.#tops.findIndex((it, k) => k > first && it >= bottom);
     return [first, past < 0 ? this.#pieces.length : past];
@@ -96,7 +97,10 @@ export class PositionsView {
     // (all are measured before any is changed, so that the browser lays out once)
     const measured = fresh.map((it) => [it, it.measure()]);
     for (const [it, found] of measured) it.putSigns(this.#decided.positionsIn(it.index, it.from, it.to), found);
-    if (fresh.length > 0 && this.#chosenAt !== undefined) this.#select(this.#chosenAt, this.#ofLetter);
+    if (fresh.length === 0) return;
+    if (this.#chosenAt !== undefined) this.#select(this.#chosenAt, this.#ofLetter);
+    // Where these are lower than was expected, others come into view.
+    this.#draw();
   }
 
   /** The piece with the position at a place of the text, and the place in its paragraph. */

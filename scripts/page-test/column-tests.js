@@ -11,6 +11,7 @@ const TEXTS = {
   "English prose": "It was a bright cold day in April, and the clocks were striking thirteen. He slipped in quickly, though not quickly enough.",
   "numbers and a URL": "A well-known price: $1,234.50 (50 % off) — see https://example.org/a-b?c=d.",
   "a long word": "So the Donaudampfschifffahrtsgesellschaftskapitän spoke to a few of us (Nordostseekanalschleusenwärterhäuschen).",
+  "soft hyphens": "Donau\u00addampf\u00adschiff\u00adfahrts\u00adgesell\u00adschafts\u00adkapitän und Nord\u00adost\u00adsee\u00adkanal",
   "several spaces": "one  two   three    four     five      six       seven   ( eight )   nine  ",
   "tabs": "name\tsize\tkind of file\tand a longer one\tx\t\ty\tend of it",
   "CR LF": "first line of some words\r\nsecond line, which is longer than the first\r\n\r\nthe last one",
@@ -45,17 +46,18 @@ function shownLines(root) {
   return found;
 }
 
-function withoutTrailing(text) {
+/** A line as it is seen: without white space at its end, and with the hyphen for which a soft one stands there. */
+function asLine(text) {
   let end = text.length;
   while (end > 0 && (LINE_END.test(text[end - 1]) || " \t\u2003\u3000".includes(text[end - 1]))) end--;
-  return text.slice(0, end);
+  return text.slice(0, end) + (text[end - 1] === "\u00ad" ? "\u2010" : "");
 }
 
 /** The same places in a layout of breaks. Where a line is as wide as the room but for rounding, it is as it is `shown`. */
 function laidOut(text, breaks, widthOf, room, shown) {
   const firstSeen = (from, to = text.length) => [...Array(to - from).keys()].map((k) => from + k).find((it) => isSeen(text[it]));
   const isTooWide = (start, end, before) => {
-    const excess = widthOf(withoutTrailing(text.slice(start, end))) - room;
+    const excess = widthOf(asLine(text.slice(start, end))) - room;
     return Math.abs(excess) < ROUNDING ? shown.includes(firstSeen(before)) : excess > 0;
   };
   const starts = [0];
@@ -108,6 +110,8 @@ async function tryDifferences(page) {
   await follow(page, "one two three four five six seven eight nine ten");
   change(page, "width", "120", "input");
   equal("both columns have the same lines of plain English", page.find("differences").textContent, "Both columns have the same lines.");
+  await follow(page, TEXTS["soft hyphens"]);
+  equal("and of words with soft hyphens", page.find("differences").textContent, "Both columns have the same lines.");
   say("the columns have several lines", page.find("ours").getClientRects()[0].height > 60 ? "" : "one line");
   // A browser takes a next line (NEL) for no end of a line.
   await follow(page, "ab\u0085cd ef");

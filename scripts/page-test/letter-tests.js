@@ -92,7 +92,15 @@ async function tryEdits(page) {
   }
 }
 
+/** A text that is longer than a row, as a page opens with it, is drawn down to the end of its view. */
+async function tryRows() {
+  const text = `${"some words of a line ".repeat(4)}\nnext one\n\nlast one`;
+  const page = await openPage(`#${new URLSearchParams({ text })}`);
+  equal("all paragraphs of a short text are drawn", boxes(page, ".position").length, text.length + 1);
+}
+
 export async function tryLetters() {
+  await tryRows();
   const page = await openPage();
   await tryDirections(page);
   await tryPlaces(page);
