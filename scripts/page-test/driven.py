@@ -51,7 +51,7 @@ const meet = (one, other) => Math.min(one.right, other.right) - Math.max(one.lef
   && Math.min(one.bottom, other.bottom) - Math.max(one.top, other.top) > 0.5;
 const covered = seen.filter(([, box], k) => seen.some(([, other], n) => n < k && meet(box, other)));
 const name = ([it, box]) => `${it.className}#${it.id} ${it.textContent.slice(0, 5)} ${box.width} x ${box.height}`;
-return [seen.length > 50, small.map(name).slice(0, 5), covered.map(name).slice(0, 5)];
+return [seen.length > 30, small.map(name).slice(0, 5), covered.map(name).slice(0, 5)];
 """
 # Whether the chosen sign and all of the answer are on the screen, with nothing over them.
 OPENING = """
