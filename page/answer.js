@@ -1,19 +1,13 @@
 /** What decides at a position, in words: the kind, the rule, and the classes of the characters on both sides. */
+import { characterAt, characterBefore } from "./characters.js";
 import { CLASSES } from "./classes.js";
-import { characterAt, characterBefore } from "./letters.js";
+import { element } from "./elements.js";
 import { SAYS, codeOf, hiddenName, signOf } from "./notation.js";
 import { RULES } from "./rules.js";
 
 /** After these classes a mark stands for itself (rule LB10). */
 const HARD = ["BK", "CR", "LF", "NL", "SP", "ZW"];
 const MARKS = ["CM", "ZWJ"];
-
-function element(tag, className, ...parts) {
-  const made = document.createElement(tag);
-  if (className) made.className = className;
-  made.append(...parts);
-  return made;
-}
 
 /** A character in quotes, in isolation from the direction of what is around it, or its name. */
 function characterElement(character) {

@@ -1,5 +1,6 @@
 /** A text in a column, once with given breaks and once as the browser breaks it, with the places where only one starts a line. */
 import { Blocks } from "./blocks.js";
+import { element } from "./elements.js";
 import { headLength, lineStarts } from "./lines.js";
 import { hiddenName } from "./notation.js";
 
@@ -9,14 +10,6 @@ const MOST_QUOTED = 14;
 const SOFT_HYPHEN = "\u00ad";
 const HYPHEN = "\u2010";
 const LINE_END = /(?:\r\n|[\n\v\f\r\u0085\u2028\u2029])$/;
-const BLANK = /^(?:\r\n|[\n\v\f\r\u0085\u2028\u2029])?$/;
-
-function element(tag, className, text = "") {
-  const made = document.createElement(tag);
-  made.className = className;
-  made.textContent = text;
-  return made;
-}
 
 /** The places in an element's text at which the browser starts its lines. Blank lines are left out. */
 function browserStarts({ firstChild: node }) {
@@ -133,8 +126,9 @@ export class ColumnsView {
       return this.#probe.getBoundingClientRect().width <= this.#room;
     });
     const places = starts.map((k) => (k === 0 ? 0 : ends[k - 1]));
+    const isBlank = (place) => text.slice(place).replace(LINE_END, "") === "";
     const made = paragraphElement(text, ends, starts);
-    return { element: made, length: text.length, starts: places.filter((it) => !BLANK.test(text.slice(it))) };
+    return { element: made, length: text.length, starts: places.filter((it) => !isBlank(it)) };
   }
 
   /** Says at which places only one of the two starts a line. */

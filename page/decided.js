@@ -3,6 +3,8 @@
  * changes the paragraphs that it touches, and no other.
  */
 
+import { characterAt, characterBefore } from "./characters.js";
+
 const KINDS = ["no", "may", "must"];
 const MUST = 2;
 /** How many units are compared at once where two texts are compared. */
@@ -28,8 +30,7 @@ function commonEnd(one, other, most) {
 
 /** The text from one place to another, with the character that follows, as a break after a line end depends on that one. */
 function withNext(text, start, end) {
-  const next = text.codePointAt(end);
-  return text.slice(start, end + (next === undefined ? 0 : String.fromCodePoint(next).length));
+  return text.slice(start, end + characterAt(text, end).length);
 }
 
 /** The index of the first of some rising places that is not below a given one. */
@@ -156,16 +157,15 @@ export class DecidedText {
     return { ...position, at: this.#starts[of] + position.at };
   }
 
-  /** The next position after a place, or the last one before it. */
+  /** The position after the character at a place, if there is one. */
   next(place) {
-    return place < this.text.length ? this.positionAt(place + this.#sizeAt(place)) : undefined;
+    const { length } = characterAt(this.text, place);
+    return length > 0 ? this.positionAt(place + length) : undefined;
   }
 
+  /** The position before the character that ends before a place, if there is one. */
   previous(place) {
-    return place > 0 ? this.positionAt(place - 1) : undefined;
-  }
-
-  #sizeAt(place) {
-    return String.fromCodePoint(this.text.codePointAt(place)).length;
+    const { length } = characterBefore(this.text, place);
+    return length > 0 ? this.positionAt(place - length) : undefined;
   }
 }

@@ -2,6 +2,7 @@
  * Letters with room for a sign between any two. They are text in spans, and nothing stands between these: what did would turn numbers
  * in right-to-left text round, as the bidirectional algorithm takes it for a neutral character.
  */
+import { characterAt, characterBefore } from "./characters.js";
 import { hiddenName } from "./notation.js";
 
 /** The least width of a letter, in pixels, so that it can be pointed at, and so can the signs below. */
@@ -40,19 +41,6 @@ export class FontMeasure {
     if (!JOINING.test(one) || !JOINING.test(other)) return false;
     return Math.abs(this.width(one + other) - this.width(one + NON_JOINER + other)) > 0.05;
   }
-}
-
-/** The character that ends before a place of a text, or an empty string. */
-export function characterBefore(text, place) {
-  if (place <= 0) return "";
-  const pair = place > 1 ? String.fromCodePoint(text.codePointAt(place - 2)) : "";
-  return pair.length === 2 ? pair : text[place - 1];
-}
-
-/** The character at a place of a text, or an empty string at its end. */
-export function characterAt(text, place) {
-  const code = text.codePointAt(place);
-  return code === undefined ? "" : String.fromCodePoint(code);
 }
 
 /** The letter that a stroke goes to from a place, over marks: the one before, or the one after. */

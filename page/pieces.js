@@ -1,17 +1,12 @@
 /** A piece of a paragraph as it is drawn: its letters, and below these the signs of its positions. */
-import { LEAST_WIDTH, characterAt, letterElement } from "./letters.js";
+import { characterAt } from "./characters.js";
+import { element } from "./elements.js";
+import { LEAST_WIDTH, letterElement } from "./letters.js";
 import { SAYS, signOf } from "./notation.js";
 import { signPlaces } from "./places.js";
 
 /** The most UTF-16 units of a piece. A longer paragraph is drawn in several. */
 export const MOST_UNITS = 400;
-
-function element(tag, className, text = "") {
-  const made = document.createElement(tag);
-  made.className = className;
-  made.textContent = text;
-  return made;
-}
 
 /** The direction of a text, from the first letter of its front that has one. */
 export function directionOf(text) {

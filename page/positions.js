@@ -1,5 +1,7 @@
 /** The view of the positions of a text: its letters and a sign at each position, one of them chosen. What is in view is drawn. */
-import { FontMeasure, characterAt } from "./letters.js";
+import { characterAt } from "./characters.js";
+import { element } from "./elements.js";
+import { FontMeasure } from "./letters.js";
 import { piecesOf } from "./pieces.js";
 
 export class PositionsView {
@@ -23,7 +25,7 @@ export class PositionsView {
     this.#list = list;
     this.#decided = decided;
     this.#chose = chose;
-    this.#inner = document.createElement("div");
+    this.#inner = element("div", "");
     this.#inner.setAttribute("role", "presentation");
     list.replaceChildren(this.#inner);
     const style = getComputedStyle(list);
