@@ -57,15 +57,12 @@ export class PositionsView {
 
   #resize() {
     if (this.#list.clientWidth === this.#width) return;
-    for (const it of this.#pieces) it.height = undefined;
     for (const it of this.#drawn) it.release();
     this.#draw();
   }
 
   #countTops() {
-    const style = getComputedStyle(this.#list);
-    this.#width = this.#list.clientWidth;
-    const room = this.#width - parseFloat(style.paddingLeft) - parseFloat(style.paddingRight) - this.#row / 2;
+    const room = this.#list.clientWidth - this.#row;
     this.#tops = new Float64Array(this.#pieces.length + 1);
     this.#pieces.forEach((it, k) => {
       this.#tops[k + 1] = this.#tops[k] + (it.height ?? it.expectedHeight(room, this.#row));
@@ -98,6 +95,7 @@ export class PositionsView {
     this.#drawn = wanted;
     // (all are measured before any is changed, so that the browser lays out once)
     const measured = fresh.map((it) => [it, it.measure()]);
+    this.#width = this.#list.clientWidth;
     for (const [it, found] of measured) it.putSigns(this.#decided.positionsIn(it.index, it.from, it.to), found);
     if (fresh.length === 0) return;
     if (this.#chosenAt !== undefined) this.#select(this.#chosenAt, this.#ofLetter);

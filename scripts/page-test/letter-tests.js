@@ -92,6 +92,30 @@ async function tryEdits(page) {
   }
 }
 
+/** The places of signs that stand at no edge of a letter. */
+function astray(page) {
+  const letters = boxes(page, ".letter").map(({ box }) => box);
+  const isAt = (box, x) => Math.abs(box.left - x) < 1.5 || Math.abs(box.right - x) < 1.5;
+  const isBelow = (sign, box) => Math.abs(sign.top - box.bottom) < box.height / 2;
+  const stands = ({ box }) => letters.some((it) => isBelow(box, it) && isAt(it, (box.left + box.right) / 2));
+  return boxes(page, ".position").filter((it) => !stands(it)).map(({ at }) => at);
+}
+
+/** Signs stand at the edges of letters in a page that opens with a text, whether or not its view scrolls, and after a resize. */
+async function tryEdges() {
+  for (const count of [1, 3, 20]) {
+    const text = `${MIXED.slice(-2).join(" ")} سعر\n`.repeat(count);
+    const page = await openPage(`#${new URLSearchParams({ text })}`);
+    const frames = () => new Promise((done) => page.window.requestAnimationFrame(() => page.window.requestAnimationFrame(done)));
+    await frames();
+    equal(`signs stand at the edges of letters in ${count} lines`, astray(page), []);
+    page.window.frameElement.style.width = "600px";
+    await frames();
+    await frames();
+    equal("and after a resize", astray(page), []);
+  }
+}
+
 /** A text that is longer than a row, as a page opens with it, is drawn down to the end of its view. */
 async function tryRows() {
   const text = `${"some words of a line ".repeat(4)}\nnext one\n\nlast one`;
@@ -101,6 +125,7 @@ async function tryRows() {
 
 export async function tryLetters() {
   await tryRows();
+  await tryEdges();
   const page = await openPage();
   await tryDirections(page);
   await tryPlaces(page);
