@@ -105,15 +105,23 @@ function start(table, chosen) {
   const decided = new DecidedText(table);
   const answer = new AnswerView(find("detail"), decided, (scalar) => table.classOf(scalar));
   const columns = new ColumnsView(find("ours"), find("theirs"), find("differences"));
+  let passage;
+  /** Shows the passage with a place, and keeps one that is shown as long as places in it are chosen. */
+  const showPassage = (at) => {
+    if (passage && at >= passage.offset && at <= passage.offset + passage.text.length) return;
+    passage = passageAt(decided, at);
+    columns.show(passage);
+  };
   const positions = new PositionsView(find("positions"), decided, (before, after) => {
     answer.show(before, after);
-    columns.show(passageAt(decided, before.at));
+    showPassage(before.at);
   });
   const number = () => Number(profile.value);
 
   /** Shows a text or a profile that is new, with a position chosen. */
   const begin = (at, told = "") => {
     decided.set(text, number());
+    passage = undefined;
     positions.show();
     positions.choose(at ?? firstPlace(decided));
     find("done").textContent = told;
@@ -126,6 +134,7 @@ function start(table, chosen) {
   field.addEventListener("input", () => {
     takeText(field.value);
     decided.edit(text);
+    passage = undefined;
     positions.show();
     positions.choose(field.selectionStart);
     find("done").textContent = "";
