@@ -101,61 +101,93 @@ function firstPlace(decided, rule) {
   return first ?? 0;
 }
 
-function start(table, chosen) {
-  const decided = new DecidedText(table);
-  const answer = new AnswerView(find("detail"), decided, (scalar) => table.classOf(scalar));
-  const columns = new ColumnsView(find("ours"), find("theirs"), find("differences"));
-  let passage;
-  /** Shows the passage with a place, and keeps one that is shown as long as places in it are chosen. */
-  const showPassage = (at) => {
-    if (passage && at >= passage.offset && at <= passage.offset + passage.text.length) return;
-    passage = passageAt(decided, at);
-    columns.show(passage);
-  };
-  const positions = new PositionsView(find("positions"), decided, (before, after) => {
-    answer.show(before, after);
-    showPassage(before.at);
-  });
-  const number = () => Number(profile.value);
+/** What the page shows of a text: the positions, the answer at the chosen one, and the columns. */
+class Views {
+  #table;
+  #decided;
+  #columns = new ColumnsView(find("ours"), find("theirs"), find("differences"));
+  #positions;
+  #passage;
 
-  /** Shows a text or a profile that is new, with a position chosen. */
-  const begin = (at, told = "") => {
-    decided.set(text, number());
-    passage = undefined;
-    positions.show();
-    positions.choose(at ?? firstPlace(decided));
-    find("done").textContent = told;
-  };
-  const widen = () => {
+  constructor(table) {
+    this.#table = table;
+    this.#decided = new DecidedText(table);
+    const answer = new AnswerView(find("detail"), this.#decided, (scalar) => table.classOf(scalar));
+    this.#positions = new PositionsView(find("positions"), this.#decided, (before, after) => {
+      answer.show(before, after);
+      this.#showPassage(before.at);
+    });
+  }
+
+  get chosenAt() {
+    return this.#positions.chosenAt;
+  }
+
+  get line() {
+    return testLine(text, this.#table.positions(text, { profile: Number(profile.value) }));
+  }
+
+  /** Shows a text or a profile that is new, with the position at a place chosen, or else one that a rule decides. */
+  begin(at, rule) {
+    this.#decided.set(text, Number(profile.value));
+    this.#show(at ?? firstPlace(this.#decided, rule));
+  }
+
+  edit(at) {
+    this.#decided.edit(text);
+    this.#show(at);
+  }
+
+  widen() {
     find("width-told").value = `${find("width").value} pixels`;
-    columns.width = find("width").value;
-  };
+    this.#columns.width = find("width").value;
+  }
 
+  #show(at) {
+    this.#passage = undefined;
+    this.#positions.show();
+    this.#positions.choose(at);
+    find("done").textContent = "";
+  }
+
+  /** Shows the passage with a place, and keeps one that is shown as long as places in it are chosen. */
+  #showPassage(at) {
+    const shown = this.#passage;
+    if (shown && at >= shown.offset && at <= shown.offset + shown.text.length) return;
+    this.#passage = passageAt(this.#decided, at);
+    this.#columns.show(this.#passage);
+  }
+}
+
+function listen(views) {
   field.addEventListener("input", () => {
     takeText(field.value);
-    decided.edit(text);
-    passage = undefined;
-    positions.show();
-    positions.choose(field.selectionStart);
-    find("done").textContent = "";
+    views.edit(field.selectionStart);
   });
   // What is typed is not read out at each key.
   field.addEventListener("focus", () => find("detail").setAttribute("aria-live", "off"));
   field.addEventListener("blur", () => find("detail").setAttribute("aria-live", "polite"));
-  profile.addEventListener("change", () => begin(positions.chosenAt));
+  profile.addEventListener("change", () => views.begin(views.chosenAt));
   find("example").addEventListener("change", ({ target }) => {
     const [, rule, given] = EXAMPLES[target.value] ?? [];
     if (given !== undefined) setText(given);
-    begin();
-    if (rule) positions.choose(firstPlace(decided, rule));
+    views.begin(undefined, rule);
   });
-  find("width").addEventListener("input", widen);
-  find("copy").addEventListener("click", () => copy(testLine(text, table.positions(text, { profile: number() })), "The line"));
-  find("link").addEventListener("click", () => copy(linkToText(positions.chosenAt), "The link"));
-  window.addEventListener("hashchange", () => begin(readFragment()));
-  takeFiles((told) => begin(undefined, told));
-  widen();
-  begin(chosen ?? (text === EXAMPLES[0][2] ? FIRST_CHOSEN : undefined));
+  find("width").addEventListener("input", () => views.widen());
+  find("copy").addEventListener("click", () => copy(views.line, "The line"));
+  find("link").addEventListener("click", () => copy(linkToText(views.chosenAt), "The link"));
+  window.addEventListener("hashchange", () => views.begin(readFragment()));
+  takeFiles((told) => {
+    views.begin();
+    find("done").textContent = told;
+  });
+}
+
+function start(table, chosen) {
+  const views = new Views(table);
+  listen(views);
+  views.widen();
+  views.begin(chosen ?? (text === EXAMPLES[0][2] ? FIRST_CHOSEN : undefined));
   document.documentElement.dataset.readyAfter = performance.now();
   document.documentElement.dataset.ready = "yes";
 }
