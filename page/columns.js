@@ -1,7 +1,7 @@
 /** A text in a column, once with given breaks and once as the browser breaks it, with the places where only one starts a line. */
 import { Blocks } from "./blocks.js";
 import { element } from "./elements.js";
-import { headLength, lineStarts } from "./lines.js";
+import { headLength, lineStarts, withoutLineEnd } from "./lines.js";
 import { hiddenName } from "./notation.js";
 
 /** How many places are told of each column, and how many characters of the text there. */
@@ -9,7 +9,6 @@ const MOST_TOLD = 5;
 const MOST_QUOTED = 14;
 const SOFT_HYPHEN = "\u00ad";
 const HYPHEN = "\u2010";
-const LINE_END = /(?:\r\n|[\n\v\f\r\u0085\u2028\u2029])$/;
 
 /** The places in an element's text at which the browser starts its lines. Blank lines are left out. */
 function browserStarts({ firstChild: node }) {
@@ -17,7 +16,7 @@ function browserStarts({ firstChild: node }) {
   const starts = [];
   let bottom = -Infinity;
   for (let k = 0; k < (node?.length ?? 0); k++) {
-    if (LINE_END.test(node.data[k])) continue;
+    if (withoutLineEnd(node.data[k]) === "") continue;
     range.setStart(node, k);
     range.setEnd(node, k + 1);
     // A character at the start of a line can have an empty box at the end of the line before, too, and boxes of some fonts are so high
@@ -38,7 +37,7 @@ function paragraphElement(text, ends, starts) {
   ends.forEach((end, k) => {
     const segment = text.slice(k === 0 ? 0 : ends[k - 1], end);
     const isLast = k + 1 === ends.length || first.has(k + 1);
-    const head = segment.slice(0, headLength(segment.replace(LINE_END, "")));
+    const head = segment.slice(0, headLength(segment));
     const isBroken = isLast && k + 1 < ends.length;
     const seen = element("span", isBroken && head.endsWith(SOFT_HYPHEN) ? "segment hyphenated" : "segment", head);
     made.append(seen, element("span", isLast ? "hanging" : "space", segment.slice(head.length)));
@@ -126,7 +125,7 @@ export class ColumnsView {
       return this.#probe.getBoundingClientRect().width <= this.#room;
     });
     const places = starts.map((k) => (k === 0 ? 0 : ends[k - 1]));
-    const isBlank = (place) => text.slice(place).replace(LINE_END, "") === "";
+    const isBlank = (place) => withoutLineEnd(text.slice(place)) === "";
     const made = paragraphElement(text, ends, starts);
     return { element: made, length: text.length, starts: places.filter((it) => !isBlank(it)) };
   }

@@ -3,9 +3,16 @@
 /** White space that hangs (CSS Text, section 4.1.3): spaces, tabs and other space separators, but for a no-break space. */
 const HANGING = /[\t\p{Zs}]*$/u;
 
+/** The end of a line: what has one of the classes CR, LF, NL and BK. */
+const LINE_END = /(?:\r\n|[\n\v\f\r\u0085\u2028\u2029])$/;
+
+export function withoutLineEnd(text) {
+  return text.replace(LINE_END, "");
+}
+
 /** How much of a segment counts for the width where it ends a line. */
 export function headLength(segment) {
-  const { 0: spaces, index } = HANGING.exec(segment);
+  const { 0: spaces, index } = HANGING.exec(withoutLineEnd(segment));
   return spaces.includes("\u00a0") ? index + spaces.lastIndexOf("\u00a0") + 1 : index;
 }
 

@@ -14,7 +14,7 @@ const TEXTS = {
   "soft hyphens": "Donau\u00addampf\u00adschiff\u00adfahrts\u00adgesell\u00adschafts\u00adkapitän und Nord\u00adost\u00adsee\u00adkanal",
   "several spaces": "one  two   three    four     five      six       seven   ( eight )   nine  ",
   "tabs": "name\tsize\tkind of file\tand a longer one\tx\t\ty\tend of it",
-  "CR LF": "first line of some words\r\nsecond line, which is longer than the first\r\n\r\nthe last one",
+  "CR LF": "first line of some words      \r\nsecond line, which is longer than the first  \r\n\r\nthe last one",
   "Japanese with wide spaces": "「きょうは、ちょっと暑いですね。」と言った。\u3000東京都\u3000千代田区の天気は、晴れのち曇りだった。",
   "Arabic": "السعر ١٬٢٣٤٫٥٠ ريال، أي 10% من المبلغ الذي دفعه في السنة الماضية.",
   "Hebrew and English": "בית-ספר ו/או גן־ילדים עם 25 ילדים, and then some English (עברית) at the end.",

@@ -99,7 +99,7 @@ test("a passage has the breaks of its part of the text", () => {
 });
 
 test("white space at the end of a line counts for no width", () => {
-  assert.deepEqual(["ab  ", "ab\t", "ab\u3000", " a", "a\u00a0", "a\u00a0 ", "  "].map(headLength), [2, 2, 2, 2, 2, 2, 0]);
+  assert.deepEqual(["ab  ", "ab\t", "ab\u3000", " a", "a\u00a0", "a\u00a0 ", "  ", "ab \r\n", "\n"].map(headLength), [2, 2, 2, 2, 2, 2, 0, 2, 0]);
   const fits = (room) => (piece) => piece.length <= room;
   assert.deepEqual(lineStarts("aa bb cc", [3, 6, 8], fits(5)), [0, 2]);
   assert.deepEqual(lineStarts("aa bb cc", [3, 6, 8], fits(4)), [0, 1, 2]);
