@@ -2,8 +2,8 @@
  *
  *     words TEXT..
  *
- * Prints MB/s over the first million bytes of each text: processor time, the best of 15 runs in turn, blocks of 256 words. ICU iterates over
- * the text as UTF-8, and counts the parts that its rules number as words, so its count may differ from the library's.
+ * Prints MB/s over the first million bytes of each text: processor time, the best of 15 runs in turn, blocks of 256
+ * words. ICU iterates over the text as UTF-8.
  */
 #define _GNU_SOURCE
 #include <lbk.h>
