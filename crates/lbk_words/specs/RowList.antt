@@ -1,4 +1,4 @@
--- The rows: what the rules ask of a part so far, and whether it has a letter or a number. Written by scripts/word-tables.
+-- The rows, written by scripts/word-tables: what the rules ask of a part so far, and whether it has a letter or a number.
 use Rattle.std.specs.Prelude.{Bool, true, false, List, [], ◌∷◌}
 use Rattle.ucd_breaks.specs.declared.WordBreak.TheVariants.{ALetter, Cr, DoubleQuote, ExtendNumLet, HebrewLetter, Katakana, Lf, MidLetter, MidNum, Numeric, Other, WSegSpace, Zwj}
 use Rattle.lbk_words.specs.Contexts.{Context}

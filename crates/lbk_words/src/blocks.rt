@@ -133,7 +133,8 @@ fn fill_runs(base: usize, found: Edges, here: Filled, out: &mut [Word]) -> Fille
     here
 }
 
-/// Goes on filling a block of words from a boundary, by the next 64 bytes: what their marks tell by these, and the rest scalar by scalar.
+/// Goes on filling a block of words from a boundary, by the next 64 bytes: runs by the marks of the bytes, and the rest
+/// scalar by scalar.
 pub(crate) fn fill_by_marks(text: &[u8], start: Filled, out: &mut [Word]) -> Filled
     requires { (start.count < length out.old) × (start.at + 64 ≤ length text.now) }
     ensures filled { (from : ℕ) → IsFilled text.now from start.at start.count out.old → IsFilled text.now from result.at result.count out.new }

@@ -65,7 +65,8 @@ pub(crate) fn fill_by_scalars(text: &[u8], here: Filled, stop: usize, out: &mut 
     }
 }
 
-/// Takes one more scalar, which ends at a byte. The part so far is written whether it ends there or not, so that nothing waits for that.
+/// Takes one more scalar, which ends at a byte. It writes the part so far whether the part ends there or not, so that
+/// no branch depends on it.
 #[inline(always)]
 fn taken(part: Filling, step: Step, end: usize, out: &mut [Word]) -> Filling
     requires { part.count < length out.old }

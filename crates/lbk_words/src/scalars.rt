@@ -72,8 +72,8 @@ fn any_scalar_at(text: &[u8], at: usize) -> Scalar
 /// The answer of a kind that rule WB4 passes over.
 const PASSED_OVER: u8 = 4;
 
-/// What the rules ask of the first scalar from a byte on that rule WB4 does not pass over: 1 where it is an ALetter, 2 a Hebrew_Letter,
-/// 3 a Numeric, and 0 where it is another or none is left.
+/// What the rules ask of the first scalar from a byte on that rule WB4 does not pass over: 1 for an ALetter, 2 for a
+/// Hebrew_Letter, 3 for a Numeric, and 0 for any other or where none is left.
 pub(crate) fn answer_ahead(text: &[u8], start: usize) -> usize
     ensures number { result ≡ answer_number (value_at (significant (scalars_on text.now start)) 0) }
     ensures few { result < 4 }

@@ -1,7 +1,7 @@
 // What a scalar makes of a part of a text, written by scripts/word-tables.
 
-// The step from each row by each kind, the rows once for each answer to what is behind the scalar. It is the number of the next row,
-// and 64 where the part ends, 128 where it ends and is a word, 256 where the answer matters.
+// The step from each row by each kind, the rows once for each answer to what is behind the scalar. It is the number
+// of the next row, and 64 where the part ends, 128 where it ends and is a word, 256 where the answer matters.
 #[rattlefmt::skip]
 pub(crate) static STEPS: [[u16; 32]; 172] = [
     [64, 65, 66, 65, 65, 67, 68, 69, 6, 65, 65, 65, 70, 71, 72, 65, 73, 65, 74, 75, 76, 77, 78, 79, 75, 69, 78, 65, 65, 65, 65, 65],
