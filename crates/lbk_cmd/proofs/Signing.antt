@@ -1,19 +1,26 @@
--- A passage's text with its signs, segment by segment, is that of its marks.
-use Rattle.std.proofs.Common.{◌≡◌, ℕ, ◌+◌, ◌-◌, ◌≤◌, List, [], ◌∷◌, ◌++◌, length, drop, take, Some, Option, Result, Ok, Bool, append_assoc, refl, sym, ap, ap₂, subst, ◌∙◌, arith, length-append, encode_utf8, chars}
+-- A passage's text with its signs, break by break, is that of its marks.
+use Rattle.std.proofs.Common.{◌≡◌, ⊎_elim, ℕ, ◌+◌, ◌-◌, ◌≤◌, Bool, true, false, List, [], ◌∷◌, ◌++◌, length, drop, take, append_assoc, refl, sym, ap, ap₂, subst, ◌∙◌, arith, length-append, encode_utf8, encode_utf8_all, chars, IsUtf8}
 use Rattle.std.specs.Prelude.{slice_range, if◌then◌else◌}
-use Rattle.std.specs.List.{flat_map}
+use Rattle.std.specs.List.{AllByRecursion, flat_map}
 use Rattle.std.proofs.Math.Seq.{drop-append_seam, take-append_seam}
-use Rattle.std.proofs.lemmas.Str.{chars_from_encodes}
-use Rattle.lbk_feed.specs.Devices.{Reads}
+use Rattle.std.proofs.lemmas.Str.{chars_from_encodes, encodes-chars}
+use Rattle.lbk_uax14.specs.declared.breaks.Break.{Break}
 use Rattle.lbk_uax14.specs.declared.cells.Cell.{Cell}
+use Rattle.lbk_uax14.specs.declared.verdicts.Kind.{Kind}
 use Rattle.lbk_uax14.specs.declared.verdicts.Kind.TheVariants.{No, May, Must}
-use Rattle.lbk_uax14.specs.Breaks.{is_no}
-use Rattle.lbk_passage.specs.Marks.{Marked, scalars_of, text_of}
-use Rattle.lbk_passage.specs.Segments.{segments_from, segments_of}
+use Rattle.lbk_uax14.specs.declared.verdicts.Verdict.{Verdict}
+use Rattle.lbk_uax14.specs.Breaks.{breaks, breaks_from, is_no}
+use Rattle.lbk_uax14.proofs.MarkLemmas.{scalars-behind}
+use Rattle.lbk_values.specs.declared.profile.Profile.{Profile}
+use Rattle.lbk_passage.specs.Laws.{IsPart}
+use Rattle.lbk_passage.specs.Marks.{Marked, ended, marks, scalars_of, text_of}
+use Rattle.lbk_passage.specs.Next.{GoesOn, IsLast, IsPassage, Lends}
+use Rattle.lbk_passage.specs.Passages.{ends_passage, is_must}
 use Rattle.lbk_passage.specs.State.{State}
-use Rattle.lbk_passage.specs.Next.{AfterNext, IsPassage}
-use Rattle.lbk_passage.specs.declared.faults.PassageFault.{PassageFault}
 use Rattle.lbk_passage.specs.declared.passage.Passage.{Passage}
+use Rattle.lbk_passage.proofs.Cutting.{IsClosed}
+use Rattle.lbk_passage.proofs.Marking.{marks-closed}
+use Rattle.lbk_passage.proofs.Together.{passages-end}
 use Rattle.lbk_cmd.specs.Mark.{missing_line_end, sign, signed, signed_passage}
 use Rattle.lbk_cmd.specs.Signing.{IsCut, signed_from}
 
@@ -26,10 +33,10 @@ part-is before here behind text start end is first last =
     (ap₂ (λ n l. drop n l) first is ∙ drop-append_seam before (here ++ behind))
     ∙ take-append_seam here behind
 
--- the text from `start` on, where the bytes `here` stand before the scalars of the marks and behind the last segment's end
+-- the text from `start` on, where the bytes `here` stand before the scalars of the marks and behind the last break
 signed-is : (ms : List Marked) (before here text : List ℕ) (start at : ℕ) → text ≡ before ++ (here ++ text_of ms)
     → start ≡ length before → at ≡ length before + length here
-    → signed_from text start (segments_from start at ms) ≡ here ++ flat_map signed ms
+    → signed_from text start (breaks_from at ms) ≡ here ++ flat_map signed ms
 signed-is [] before here text start at is first last =
     ap₂ (λ n l. drop n l) first is ∙ drop-append_seam before (here ++ [])
 signed-is (m ∷ ms) before here text start at is first last =
@@ -40,21 +47,21 @@ signed-is (m ∷ ms) before here text start at is first last =
     let far : end ≡ length before + length (here ++ bytes) = omega (arith, wide, last) in
     let beyond : text ≡ (before ++ (here ++ bytes)) ++ ([] ++ text_of ms) = more ∙ sym (append_assoc before (here ++ bytes) (text_of ms)) in
     let seam : end ≡ length (before ++ (here ++ bytes)) = omega (arith, far, length-append before (here ++ bytes)) in
-    let further : signed_from text end (segments_from end end ms) ≡ flat_map signed ms =
+    let further : signed_from text end (breaks_from end ms) ≡ flat_map signed ms =
     signed-is ms (before ++ (here ++ bytes)) [] text end end beyond seam (omega (arith, seam)) in
     let piece : slice_range text start end ≡ here ++ bytes = part-is before (here ++ bytes) (text_of ms) text start end more first far in
     let regroup : (tail rest : List ℕ) → (here ++ bytes) ++ (tail ++ rest) ≡ here ++ ((bytes ++ tail) ++ rest) =
     λ tail rest. append_assoc here bytes (tail ++ rest) ∙ ap (λ l. here ++ l) (sym (append_assoc bytes tail rest)) in
     elim m.after.kind as (λ k. signed_from text start
-    (if is_no k then segments_from start end ms else record { start = start; end = end; kind = k; rule = m.after.rule } ∷ segments_from end end ms)
+    (if is_no k then breaks_from end ms else record { at = end; kind = k; rule = m.after.rule } ∷ breaks_from end ms)
     ≡ here ++ ((bytes ++ sign k) ++ flat_map signed ms)) [
       | No ↦ signed-is ms before (here ++ bytes) text start end more first far ∙ regroup [] (flat_map signed ms)
       | May ↦ ap₂ (λ l r. l ++ (sign May ++ r)) piece further ∙ regroup (sign May) (flat_map signed ms)
       | Must ↦ ap₂ (λ l r. l ++ (sign Must ++ r)) piece further ∙ regroup (sign Must) (flat_map signed ms)
     ]
 
--- the segments of some marks end one behind another
-cut-is : (ms : List Marked) (start at len : ℕ) → start ≤ at → at + length (text_of ms) ≤ len → IsCut start len (segments_from start at ms)
+-- the breaks after some marks stand one behind another
+cut-is : (ms : List Marked) (start at len : ℕ) → start ≤ at → at + length (text_of ms) ≤ len → IsCut start len (breaks_from at ms)
 cut-is [] start at len first last = omega (arith, first, last)
 cut-is (m ∷ ms) start at len first last =
     let end = at + length (encode_utf8 m.scalar) in
@@ -62,32 +69,74 @@ cut-is (m ∷ ms) start at len first last =
     let near : start ≤ end = omega (arith, first) in
     let within : end ≤ len = omega (arith, wide, last) in
     let room : end + length (text_of ms) ≤ len = omega (arith, wide, last) in
-    let further : IsCut end len (segments_from end end ms) = cut-is ms end end len (omega arith) room in
+    let further : IsCut end len (breaks_from end ms) = cut-is ms end end len (omega arith) room in
     elim m.after.kind as (λ k. IsCut start len
-    (if is_no k then segments_from start end ms else record { start = start; end = end; kind = k; rule = m.after.rule } ∷ segments_from end end ms)) [
+    (if is_no k then breaks_from end ms else record { at = end; kind = k; rule = m.after.rule } ∷ breaks_from end ms)) [
       | No ↦ cut-is ms start end len near room
       | May ↦ (near, within, further)
       | Must ↦ (near, within, further)
     ]
 
-module _ (s : State) (ms : List Marked) (p : Passage) (of : IsPassage s ms p) where
-  pub passage_cut : IsCut 0 (length p.text.now) p.segments.now
-  unfolding segments_of
-  passage_cut =
-      subst (IsCut 0 (length p.text.now)) (sym of.segments)
-      (cut-is ms 0 0 (length p.text.now) (omega arith) (let long = ap length of.text in omega (arith, long)))
+-- so do the first of them
+pub cut-front : (at len : ℕ) (bs more : List Break) → IsCut at len (bs ++ more) → IsCut at len bs
+cut-front at len [] more cut = before at more cut
+  where
+    before : (at : ℕ) (bs : List Break) → IsCut at len bs → at ≤ len
+    before at [] cut = cut
+    before at (b ∷ bs) cut = let rest = before b.at bs cut.2 in omega (arith, cut.0, rest)
+cut-front at len (b ∷ bs) more cut = (cut.0, cut.1, cut-front b.at len bs more cut.2)
 
-  pub passage_signed : (cell : ℕ → Cell)
-      → signed_from p.text.now 0 p.segments.now ++ missing_line_end cell (chars p.text.now) ≡ signed_passage cell ms
-  unfolding segments_of
-  passage_signed cell =
-      ap₂ (λ l cs. l ++ missing_line_end cell cs)
-      (ap (signed_from p.text.now 0) of.segments ∙ signed-is ms [] [] p.text.now 0 0 of.text refl refl)
-      (sym (chars_from_encodes (scalars_of ms) p.text.now of.utf8 (sym of.text)))
+module _ (profile : Profile) (cell : ℕ → Cell) (text : List ℕ) (utf8 : IsUtf8 text) where
+  scalars_are : scalars_of (marks profile cell (chars text)) ≡ chars text
+  scalars_are = scalars-behind profile cell [] (chars text)
 
--- so do those of a passage that a segmenter lent
-pub lent_cut : (s t : State) (u v : Option (List ℕ)) (e1 e2 : Bool) (r1 r2 : Reads) (r : Result (Option Passage) PassageFault) (p : Passage)
-    → r ≡ Ok (Some p) → AfterNext s t u v e1 e2 r1 r2 r → IsCut 0 (length p.text.now) p.segments.now
-lent_cut s t u v e1 e2 r1 r2 r p was after =
-    let lent = (subst (λ (a : Result (Option Passage) PassageFault). AfterNext s t u v e1 e2 r1 r2 a) was after).answer in
-    passage_cut s lent.marks p lent.passage
+  text_is : text_of (marks profile cell (chars text)) ≡ text
+  text_is = ap encode_utf8_all scalars_are ∙ encodes-chars text utf8
+
+  pub text_cut : IsCut 0 (length text) (breaks profile cell (chars text))
+  text_cut = cut-is (marks profile cell (chars text)) 0 0 (length text) (omega arith) (omega (arith, ap length text_is))
+
+  pub text_signed : signed_from text 0 (breaks profile cell (chars text)) ++ missing_line_end cell (chars text) ≡ signed_passage cell (marks profile cell (chars text))
+  text_signed = ap₂ (λ l cs. l ++ missing_line_end cell cs)
+      (signed-is (marks profile cell (chars text)) [] [] text 0 0 (sym text_is) refl refl) (sym scalars_are)
+
+-- a line must end behind the text of a passage, and no sign stands there
+must-sign : (k : Kind) → is_must k ≡ true → sign k ≡ []
+must-sign No must = cc
+must-sign May must = cc
+must-sign Must must = refl
+
+signed-ended : (end : Verdict) (ms : List Marked) → IsClosed ends_passage ms → is_must end.kind ≡ true → flat_map signed (ended end ms) ≡ flat_map signed ms
+signed-ended end [] closed must = refl
+signed-ended end (m ∷ []) closed must = ap (λ l. (encode_utf8 m.scalar ++ l) ++ []) (must-sign end.kind must ∙ sym (must-sign m.after.kind closed))
+signed-ended end (m ∷ n ∷ ms) closed must = ap (λ l. signed m ++ l) (signed-ended end (n ∷ ms) closed must)
+
+must_end : (end : Verdict) (ms : List Marked) → IsPart ends_passage (ended end ms) → is_must end.kind ≡ true
+must_end end [] part = absurd part
+must_end end (m ∷ []) part = part
+must_end end (m ∷ n ∷ []) part = part.1
+must_end end (m ∷ n ∷ o ∷ ms) part = must_end end (n ∷ o ∷ ms) part.1
+
+-- what is written of a passage, by its text alone
+pub passage_signed : (s : State) (ms : List Marked) (p : Passage) (cell : ℕ → Cell) (profile : Profile) → s.cell ≡ cell → s.profile ≡ profile
+    → IsPassage s ms p → is_must p.end.kind ≡ true → signed_passage cell (marks profile cell (chars p.text.now)) ≡ signed_passage cell ms
+passage_signed s ms p cell profile cell_is profile_is of must =
+    let cs = chars p.text.now in
+    let scalars_of_it : cs ≡ scalars_of ms = sym (chars_from_encodes (scalars_of ms) p.text.now of.utf8 (sym of.text)) in
+    let all : ended p.end (marks profile cell cs) ≡ ms =
+    ap (λ l. ended p.end (marks profile cell l)) scalars_of_it
+    ∙ ap₂ (λ f g. ended p.end (marks f g (scalars_of ms))) (sym profile_is) (sym cell_is) ∙ sym of.alone in
+    ap₂ (λ l cs. l ++ missing_line_end cell cs) (sym (signed-ended p.end (marks profile cell cs) (marks-closed profile cell [] cs) must) ∙ ap (flat_map signed) all)
+    (scalars-behind profile cell [] cs ∙ scalars_of_it)
+
+-- a line must end behind a passage that was lent
+pub lent_must : (s t : State) (p : Passage) → Lends s t p → is_must p.end.kind ≡ true
+lent_must s t p lends = must_end p.end (marks s.profile s.cell (scalars_of lends.marks)) (subst (IsPart ends_passage) lends.passage.alone ends)
+  where
+    ends : IsPart ends_passage lends.marks
+    ends = ⊎_elim
+        (λ (h : GoesOn t lends.marks t.held).
+        (subst (AllByRecursion (IsPart ends_passage)) (h.first []) (passages-end t.profile t.cell (scalars_of lends.marks ++ h.next ∷ []))).0)
+        (λ (h : IsLast t lends.marks t.held).
+        (subst (AllByRecursion (IsPart ends_passage)) h.first (passages-end t.profile t.cell (scalars_of lends.marks))).0)
+        lends.comes.follows

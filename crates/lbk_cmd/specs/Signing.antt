@@ -1,14 +1,14 @@
--- A text that is written up to the end of each of its segments, with the segment's sign behind it.
+-- A text that is written up to each of its breaks, with the break's sign behind it.
 use Rattle.std.specs.Prelude.{ℕ, ◌≤◌, List, [], ◌∷◌, ◌++◌, drop, slice_range}
-use Rattle.lbk_passage.specs.declared.passage.Segment.{Segment}
+use Rattle.lbk_uax14.specs.declared.breaks.Break.{Break}
 use Rattle.lbk_cmd.specs.Mark.{sign}
 
--- the segments end one behind another, from `at` to at most `len`
-abbrev pub IsCut : ℕ → ℕ → List Segment → Type 0
+-- the breaks stand one behind another, from `at` to at most `len`
+abbrev pub IsCut : ℕ → ℕ → List Break → Type 0
 IsCut at len [] = at ≤ len
-IsCut at len (s ∷ segments) = (at ≤ s.end) × (s.end ≤ len) × IsCut s.end len segments
+IsCut at len (b ∷ bs) = (at ≤ b.at) × (b.at ≤ len) × IsCut b.at len bs
 
--- the text from `at` on, with the signs of the segments that end there
-abbrev pub signed_from : List ℕ → ℕ → List Segment → List ℕ
+-- the text from `at` on, with the signs of the breaks in it
+abbrev pub signed_from : List ℕ → ℕ → List Break → List ℕ
 signed_from text at [] = drop at text
-signed_from text at (s ∷ segments) = slice_range text at s.end ++ (sign s.kind ++ signed_from text s.end segments)
+signed_from text at (b ∷ bs) = slice_range text at b.at ++ (sign b.kind ++ signed_from text b.at bs)

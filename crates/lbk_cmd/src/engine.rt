@@ -1,23 +1,14 @@
 //! The engines: each reads a text to its end, and writes its lines of every passage.
 
-ghost use Rattle.std.specs.Prelude.{◌≡◌, ◌++◌, List, length, OnOk};
-ghost use Rattle.lbk_passage.specs.Marks.{Marked};
-ghost use Rattle.lbk_passage.specs.Next.{IsPassage, IsPlaced};
-ghost use Rattle.lbk_passage.specs.State.{State};
 ghost use Rattle.lbk_cmd.specs.Acts.{Marks, Segments, Shows, Writes};
 ghost use Rattle.lbk_cmd.specs.Devices.{devices_of};
-ghost use Rattle.lbk_cmd.specs.Engines.{lines_of};
-ghost use Rattle.lbk_cmd.specs.Signing.{IsCut};
 
 use super::faults::CmdFault;
 use super::gathered::{Gathered, end_of};
-use super::segmented::push_segmented;
-use super::shown::{decide, push_shown};
-use super::signed::push_signed;
 use lbk_feed::{Sink, Source};
-use lbk_passage::{Passage, Segmenter};
-use lbk_rules::{CellSource, Profile, Verdict};
-use std::alloc::{AllocError, Global};
+use lbk_passage::Segmenter;
+use lbk_rules::{CellSource, Profile};
+use std::alloc::Global;
 
 /// Writes a text with `÷` at each position where a line may end (UAX #14, section 6), and nothing else changed: where a
 /// line must end, the text's own line end shows it. A text that ends without a line end gets one.
@@ -117,31 +108,5 @@ fn write_lines<R: Source, W: Sink, C: CellSource>(
             gathered.write(writer)?;
             return answer;
         }
-    }
-}
-
-/// Puts the lines of a passage at the end of a text, `verdicts` being a list to work in. After an error some of them
-/// may stand there.
-pub(crate) fn push_lines<C: CellSource>(
-    lines: Lines,
-    cells: &C,
-    profile: Profile,
-    passage: &Passage<'_>,
-    verdicts: &mut Vec<Verdict>,
-    text: &mut Vec<u8>,
-) -> Result<(), AllocError>
-    requires placed { IsPlaced passage.now }
-    requires cut { IsCut 0 (length passage.now.text.now) passage.now.segments.now }
-    ensures { OnOk result ((s : State) (ms : List Marked) → s.cell ≡ C.cell_of cells.now → s.profile ≡ profile
-        → IsPassage s ms passage.now
-        → text.new.items ≡ text.old.items ++ lines_of lines (C.cell_of cells.now) passage.now.start ms) }
-{
-    match lines {
-        Lines::Signed => push_signed(text, cells, passage),
-        Lines::Shown => {
-            decide(cells, profile, passage.text, passage.end, verdicts)?;
-            push_shown(text, passage.text, verdicts)
-        }
-        Lines::Segmented => push_segmented(text, passage),
     }
 }

@@ -1,21 +1,33 @@
 //! Lines that wait for those behind them, as long as no read is due.
 
-ghost use Rattle.std.specs.Prelude.{ℕ, ◌≡◌, ◌≤◌, ◌<◌, ◌⊎◌, ◌^◌, [], length, take, true, vec_len, Err, OnOk, OnErr};
+ghost use Rattle.std.specs.Prelude.{ℕ, ◌≡◌, ◌≤◌, ◌<◌, ◌⊎◌, ◌^◌, List, [], length, take, true, vec_len, Err, OnOk, OnErr};
 ghost use Rattle.std.specs.Io.KnownBytes.{Appends};
 ghost use Rattle.lbk_feed.specs.Devices.{failures_after};
+ghost use Rattle.lbk_uax14.specs.declared.cells.Cell.{Cell};
+ghost use Rattle.lbk_values.specs.declared.profile.Profile as specs;
+ghost use Rattle.lbk_passage.specs.Marks.{Marked};
+ghost use Rattle.lbk_passage.specs.Next.{IsPassage};
+ghost use Rattle.lbk_passage.specs.Passages.{is_must};
 ghost use Rattle.lbk_passage.specs.Shown.{state_of};
+ghost use Rattle.lbk_passage.specs.State.{State};
+ghost use Rattle.lbk_passage.specs.declared.passage.Passage.{Passage};
 ghost use Rattle.lbk_passage.specs.declared.faults.PassageFault.{PassageFault};
-ghost use Rattle.lbk_cmd.specs.Engines.{engine_of};
+ghost use Rattle.lbk_cmd.specs.Engines.{engine_of, lines_of};
+ghost use Rattle.lbk_cmd.specs.declared.engine.Lines.TheVariants as kinds;
 ghost use Rattle.lbk_cmd.specs.Gathering.{HasWritten, PutsNext, end_of};
 ghost use Rattle.lbk_cmd.specs.Ranges.{within};
 
-use super::engine::{Lines, push_lines};
+use super::engine::Lines;
 use super::faults::CmdFault;
+use super::segmented::push_segmented;
+use super::shown::{decide, push_shown};
+use super::signed::{BLOCK, NO_BREAKS, push_signed};
 use lbk_args::Part;
+use lbk_breaks::Break;
 use lbk_feed::{Failed, Sink, Source, write_all};
 use lbk_passage::Segmenter;
 use lbk_rules::{CellSource, Profile, Verdict};
-use std::alloc::Global;
+use std::alloc::{AllocError, Global};
 
 /// How many bytes of lines wait at most, before those of a passage more.
 const WAITING: usize = 65_536;
@@ -28,6 +40,7 @@ pub(crate) struct Gathered {
     at: u64,
     passage: Vec<u8>,
     verdicts: Vec<Verdict>,
+    block: [Break; BLOCK],
 }
 
 impl Gathered {
@@ -41,6 +54,7 @@ impl Gathered {
             at: 0,
             passage: Vec::new(alloc),
             verdicts: Vec::new(alloc),
+            block: NO_BREAKS,
         }
     }
 
@@ -104,24 +118,95 @@ impl Gathered {
             self.old.lines.items self.new.lines.items self.new.at result }
         ensures settled { (state_of C.cell_of segmenter.old).is_settled ≡ true → reader.new ≡ reader.old }
     {
+        match lines {
+            Lines::Segmented => self.put_segmented(segmenter, reader),
+            Lines::Signed | Lines::Shown => self.put_text(lines, segmenter, reader, cells, profile),
+        }
+    }
+
+    /// Those of its segments and words.
+    fn put_segmented<R: Source, C: CellSource>(
+        &mut self,
+        segmenter: &mut Segmenter<'_, C>,
+        reader: &mut R,
+    ) -> Result<bool, CmdFault>
+        ensures puts { (cell : ℕ → Cell) (profile : specs.Profile) (limit : ℕ) → PutsNext (engine_of kinds.Segmented cell profile limit)
+            (state_of C.cell_of segmenter.old) (state_of C.cell_of segmenter.new)
+            (R.unread reader.old) (R.unread reader.new) (R.has_ended reader.old) (R.has_ended reader.new)
+            (R.reads_made reader.old) (R.reads_made reader.new) (R.failure_count reader.old) (R.failure_count reader.new)
+            self.old.lines.items self.new.lines.items self.new.at result }
+        ensures settled { (state_of C.cell_of segmenter.old).is_settled ≡ true → reader.new ≡ reader.old }
+    {
         let Some(passage) = segmenter.next(reader)? else {
             return Ok(false);
         };
         self.passage.clear();
-        push_lines(
-            lines,
-            cells,
-            profile,
-            &passage,
-            &mut self.verdicts,
-            &mut self.passage,
-        )?;
+        push_segmented(&mut self.passage, &passage)?;
         self.lines.extend_from_slice(&self.passage)?;
         self.at = passage.start + passage.text.len() as u64;
         Ok(true)
     }
 
-    /// The same, for a passage that begins before the end of a range: where it begins before the range, it is passed over.
+    /// Those of its text, for which neither segments nor words are found.
+    fn put_text<R: Source, C: CellSource>(
+        &mut self,
+        lines: Lines,
+        segmenter: &mut Segmenter<'_, C>,
+        reader: &mut R,
+        cells: &C,
+        profile: Profile,
+    ) -> Result<bool, CmdFault>
+        requires { ¬ (lines ≡ kinds.Segmented) }
+        ensures puts { (limit : ℕ) → PutsNext (engine_of lines (C.cell_of cells.now) profile limit)
+            (state_of C.cell_of segmenter.old) (state_of C.cell_of segmenter.new)
+            (R.unread reader.old) (R.unread reader.new) (R.has_ended reader.old) (R.has_ended reader.new)
+            (R.reads_made reader.old) (R.reads_made reader.new) (R.failure_count reader.old) (R.failure_count reader.new)
+            self.old.lines.items self.new.lines.items self.new.at result }
+        ensures settled { (state_of C.cell_of segmenter.old).is_settled ≡ true → reader.new ≡ reader.old }
+    {
+        let Some(passage) = segmenter.next_text(reader)? else {
+            return Ok(false);
+        };
+        self.passage.clear();
+        self.push_text(lines, cells, profile, passage.text, passage.end)?;
+        self.lines.extend_from_slice(&self.passage)?;
+        self.at = passage.start + passage.text.len() as u64;
+        Ok(true)
+    }
+
+    /// Puts the lines of a passage into an empty list, by its text and the verdict at its end. After an error some of them may
+    /// stand there.
+    fn push_text<C: CellSource>(
+        &mut self,
+        lines: Lines,
+        cells: &C,
+        profile: Profile,
+        text: &str,
+        end: Verdict,
+    ) -> Result<(), AllocError>
+        requires kind { ¬ (lines ≡ kinds.Segmented) }
+        requires some { 0 < length text.now }
+        requires few { length text.now < 2 ^ 32 }
+        requires empty { self.old.passage.items ≡ [] }
+        ensures text { OnOk result ((s : State) (ms : List Marked) (p : Passage) → s.cell ≡ C.cell_of cells.now → s.profile ≡ profile
+            → IsPassage s ms p → p.text.now ≡ text.now → p.end ≡ end → is_must end.kind ≡ true
+            → self.new.passage.items ≡ lines_of lines (C.cell_of cells.now) p.start ms) }
+        ensures lines { self.new.lines ≡ self.old.lines }
+        ensures at { self.new.at ≡ self.old.at }
+    {
+        match lines {
+            Lines::Signed => {
+                push_signed(&mut self.passage, cells, profile, text, &mut self.block)
+            }
+            Lines::Shown => {
+                decide(cells, profile, text, end, &mut self.verdicts)?;
+                push_shown(&mut self.passage, text, &self.verdicts)
+            }
+            Lines::Segmented => unreachable!(),
+        }
+    }
+
+    /// The same as `put_next`, for a passage that begins before the end of a range: where it begins before the range, it is passed over.
     pub fn put_within<R: Source, C: CellSource>(
         &mut self,
         part: Part,

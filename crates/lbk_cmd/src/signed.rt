@@ -1,47 +1,100 @@
 //! The text that `mark` writes of a passage.
 
-ghost use Rattle.std.specs.Prelude.{◌≡◌, ◌++◌, [], length, map, IfSome, OnOk, None, false};
+ghost use Rattle.std.specs.Prelude.{◌≡◌, ◌<◌, ◌≤◌, ◌^◌, ◌++◌, [], List, drop, length, map, IfOk, IfSome, OnOk, None, false};
 ghost use Rattle.std.specs.List.{last_or};
 ghost use Rattle.std.specs.Option.{option_map_or};
 ghost use Rattle.std.specs.Str.{chars};
+ghost use Rattle.lbk_uax14.specs.Breaks.{breaks};
+ghost use Rattle.lbk_uax14.specs.declared.breaks.Break.{Break};
 ghost use Rattle.lbk_cmd.specs.Mark.{is_line_end, missing_line_end, sign};
 ghost use Rattle.lbk_cmd.specs.Signing.{IsCut, signed_from};
 
-use lbk_passage::{Passage, Segment};
-use lbk_rules::{Cell, CellSource, Class, Kind};
+use lbk_breaks::{Break, Breaks};
+use lbk_rules::{Cell, CellSource, Class, Kind, Profile, Rule};
 use std::alloc::AllocError;
 
-/// Puts the text of a passage at the end of `out`, with `÷` after each segment after which a line may end, and with a
-/// line end where the text has none. After an error some of it may stand there.
+/// How many breaks are found at a time.
+pub const BLOCK: usize = 64;
+
+/// A block that nothing was found into.
+pub const NO_BREAKS: [Break; BLOCK] = [Break {
+    at: 0,
+    kind: Kind::No,
+    rule: Rule::Lb31,
+}; BLOCK];
+
+/// Puts the text of a passage at the end of `out`, with `÷` at each position where a line may end, and with a line end where
+/// the text has none. `block` is a list to work in. After an error some of it may stand there.
 pub fn push_signed<C: CellSource>(
     out: &mut Vec<u8>,
     cells: &C,
-    passage: &Passage<'_>,
+    profile: Profile,
+    text: &str,
+    block: &mut [Break; BLOCK],
 ) -> Result<(), AllocError>
-    requires { IsCut 0 (length passage.now.text.now) passage.now.segments.now }
-    ensures { OnOk result (out.new.items ≡ out.old.items ++ (signed_from passage.now.text.now 0 passage.now.segments.now
-        ++ missing_line_end (C.cell_of cells.now) (chars passage.now.text.now))) }
+    ensures { OnOk result (out.new.items ≡ out.old.items
+        ++ (signed_from text.now 0 (breaks profile (C.cell_of cells.now) (chars text.now)) ++ missing_line_end (C.cell_of cells.now) (chars text.now))) }
 {
-    push_segments(out, passage.text.as_bytes(), passage.segments)?;
-    if !ends_in_line_end(cells, passage.text) {
+    push_text(out, cells, profile, text, block)?;
+    if !ends_in_line_end(cells, text) {
         out.push(b'\n')?;
     }
     Ok(())
 }
 
-/// Puts a text at the end of `out`, with the signs of its segments.
-fn push_segments(out: &mut Vec<u8>, text: &[u8], segments: &[Segment]) -> Result<(), AllocError>
-    requires { IsCut 0 (length text.now) segments.now }
-    ensures { OnOk result (out.new.items ≡ out.old.items ++ signed_from text.now 0 segments.now) }
+/// Puts a text at the end of `out`, with its signs.
+fn push_text<C: CellSource>(
+    out: &mut Vec<u8>,
+    cells: &C,
+    profile: Profile,
+    text: &str,
+    block: &mut [Break; BLOCK],
+) -> Result<(), AllocError>
+    ensures { OnOk result (out.new.items
+        ≡ out.old.items ++ signed_from text.now 0 (breaks profile (C.cell_of cells.now) (chars text.now))) }
 {
+    let bytes = text.as_bytes();
+    let mut breaks = Breaks::new(cells, text, profile);
     let mut done = 0;
-    for segment in segments {
-        let end = segment.end as usize;
+    loop {
+        let count = breaks.fill(block);
+        done = push_block(out, bytes, &block[..count], done)?;
+        if count < BLOCK {
+            return push_rest(out, bytes, done);
+        }
+    }
+}
+
+/// Puts the text from the byte `start` on at the end of `out`.
+fn push_rest(out: &mut Vec<u8>, text: &[u8], start: usize) -> Result<(), AllocError>
+    requires { start ≤ length text.now }
+    ensures { OnOk result (out.new.items ≡ out.old.items ++ drop start text.now) }
+{
+    out.extend_from_slice(&text[start..])
+}
+
+/// Puts the text from the byte `start` up to the last of these breaks at the end of `out`, with their signs, and returns
+/// where the rest begins.
+fn push_block(
+    out: &mut Vec<u8>,
+    text: &[u8],
+    block: &[Break],
+    start: usize,
+) -> Result<usize, AllocError>
+    requires { IsCut start (length text.now) block.now }
+    ensures put { IfOk result (λ next. (more : List Break)
+        → out.new.items ++ signed_from text.now next more ≡ out.old.items ++ signed_from text.now start (block.now ++ more)) }
+    ensures cut { IfOk result (λ next. (more : List Break)
+        → IsCut start (length text.now) (block.now ++ more) → IsCut next (length text.now) more) }
+{
+    let mut done = start;
+    for one in block {
+        let end = one.at;
         out.extend_from_slice(&text[done..end])?;
-        out.extend_from_slice(sign(segment.kind).as_bytes())?;
+        out.extend_from_slice(sign(one.kind).as_bytes())?;
         done = end;
     }
-    out.extend_from_slice(&text[done..])
+    Ok(done)
 }
 
 fn sign(kind: Kind) -> &'static str

@@ -1,0 +1,46 @@
+use Rattle.std.proofs.Common.{◌≤◌, ◌++◌, [], drop, length, take, append-nil, sym, ap, subst, ◌∙◌, arith, chars}
+use Rattle.std.proofs.lemmas.List.{take_all, take-append-drop}
+use Rattle.std.proofs.lemmas.Result.{on_ok_weaker}
+use Rattle.lbk_cmd.specs.Signing.{IsCut, signed_from}
+use Rattle.lbk_cmd.proofs.Signing.{cut-front, text_cut}
+use Rattle.lbk_cmd.proofs.signed.push_text.Goals as goal
+
+pub loop-done-init : goal.loop-done-init
+loop-done-init g c =
+    let cell = g.C.CellSource.cell_of c.args.cells.now in
+    let same = c.new-breaks.ensures in record {
+      put = ap (λ bs. c.args.out.now.items ++ signed_from c.args.text.now 0 bs) same;
+      cut = subst (IsCut 0 (length c.args.text.now)) (sym same) (text_cut c.args.profile cell c.args.text.now c.utf8.text);
+    }
+
+pub push_block-requires : goal.push_block-requires
+push_block-requires g c =
+    let l = c.loop-done in
+    let count = c.fill-count.result in
+    subst (λ t. IsCut l.done (length t) (take count c.fill-count.new.block)) (sym c.as_bytes-bytes.ensures.value)
+    (subst (IsCut l.done (length c.args.text.now)) (sym c.fill-count.ensures.front)
+    (cut-front l.done (length c.args.text.now) (take count l.breaks) (drop count l.breaks)
+    (subst (IsCut l.done (length c.args.text.now)) (sym (take-append-drop count l.breaks)) l.invariant.cut)))
+
+pub push_rest-requires : goal.push_rest-requires
+push_rest-requires g c =
+    let l = c.loop-done in
+    let count = c.fill-count.result in
+    let all : length l.breaks ≤ count = omega (arith, c.fill-count.ensures.count, c.if-count-lt-BLOCK.true) in
+    let whole = append-nil (take count c.fill-count.new.block) ∙ c.fill-count.ensures.front ∙ take_all count l.breaks all in
+    c.in_ok-done.ensures.cut []
+    (subst (λ t. IsCut l.done (length t) (take count c.fill-count.new.block ++ [])) (sym c.as_bytes-bytes.ensures.value)
+    (subst (IsCut l.done (length c.args.text.now)) (sym whole) l.invariant.cut))
+
+pub returns-then-count-lt-BLOCK : goal.returns-then-count-lt-BLOCK
+returns-then-count-lt-BLOCK g c =
+    let l = c.loop-done in
+    let count = c.fill-count.result in
+    let all : length l.breaks ≤ count = omega (arith, c.fill-count.ensures.count, c.if-count-lt-BLOCK.true) in
+    let whole = append-nil (take count c.fill-count.new.block) ∙ c.fill-count.ensures.front ∙ take_all count l.breaks all in
+    on_ok_weaker c.push_rest.result
+    (λ is. is ∙ c.in_ok-done.ensures.put []
+    ∙ ap (λ bs. l.out.items ++ signed_from c.as_bytes-bytes.result.now l.done bs) whole
+    ∙ ap (λ t. l.out.items ++ signed_from t l.done l.breaks) c.as_bytes-bytes.ensures.value
+    ∙ l.invariant.put)
+    c.push_rest.ensures

@@ -1,0 +1,14 @@
+use Rattle.std.proofs.Common.{◌≡◌, ◌++◌, chars, length}
+use Rattle.lbk_uax14.specs.Breaks.{breaks}
+use Rattle.lbk_cmd.specs.Signing.{IsCut, signed_from}
+use Rattle.lbk_cmd.proofs.signed.push_text.Given as goal
+
+abbrev pub invariant-loop-done : goal.invariant-loop-done
+invariant-loop-done g l = record {
+  put : l.out.items ++ signed_from l.text l.done l.breaks
+      ≡ l.fn.out.items ++ signed_from l.text 0 (breaks l.fn.profile (g.C.CellSource.cell_of l.cells) (chars l.text));
+  cut : IsCut l.done (length l.text) l.breaks;
+}
+
+abbrev pub decreases-loop-done : goal.decreases-loop-done
+decreases-loop-done g l = length l.breaks
