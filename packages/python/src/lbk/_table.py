@@ -2,6 +2,7 @@
 
 import mmap
 import os
+import threading
 from array import array
 from collections.abc import Iterable, Iterator
 from pathlib import Path
@@ -19,6 +20,11 @@ Text: TypeAlias = "str | Bytes"
 Name: TypeAlias = "str | bytes | os.PathLike[str] | os.PathLike[bytes]"
 
 _new = tuple.__new__
+
+# What load() without a folder found, and who looks for it. No process forks while another thread does.
+_found: "bytearray | None" = None
+_finding = threading.Lock()
+os.register_at_fork(before=_finding.acquire, after_in_parent=_finding.release, after_in_child=_finding.release)
 
 
 class Table:
@@ -50,15 +56,21 @@ class Table:
         return table
 
     @classmethod
-    def load(cls, folder: _database.Folder) -> Self:
+    def load(cls, folder: "_database.Folder | None" = None) -> Self:
         """The table of the Unicode Character Database in a folder: LineBreak.txt,
         EastAsianWidth.txt, extracted/DerivedGeneralCategory.txt and emoji/emoji-data.txt, or all
-        four beside each other, in the folder or in its folder `ucd`; or in the archive UCD.zip.
+        four beside each other, in the folder, in its folder `ucd` or its archive UCD.zip; or in
+        such an archive.
 
-        Raises OSError where a file cannot be read, and Fault where one is not that which Unicode
-        published for the version UNICODE_VERSION.
+        Without a folder it is the one that UNICODE_DATA names, or else the first that has the files
+        of /usr/share/unicode, its `ucd`, and `unicode` in XDG_DATA_HOME and ~/.local/share. It is
+        read once in a process.
+
+        Raises OSError where a file cannot be read, FileNotFoundError with all places where none is
+        found, and Fault where a file is not that which Unicode published for the version
+        UNICODE_VERSION.
         """
-        return cls._read(_database.contents(folder), True)
+        return cls._of(_find() if folder is None else _read(_database.contents(folder), True))
 
     @classmethod
     def from_files(cls, line_break: Name, east_asian: Name, category: Name, emoji: Name) -> Self:
@@ -70,18 +82,7 @@ class Table:
     def read(cls, line_break: Bytes, east_asian: Bytes, category: Bytes, emoji: Bytes) -> Self:
         """The table of the contents of four files. Raises Fault at the first fault that they have,
         and MemoryError where memory is refused."""
-        return cls._read((line_break, east_asian, category, emoji), False)
-
-    @classmethod
-    def _read(cls, files: Iterable[Bytes], are_published: bool) -> Self:
-        line_break, east_asian, category, emoji = map(_unchanging, files)
-        memory = bytearray(_calls.TABLE_SIZE)
-        file, line, cause = _calls.read(memory, line_break, east_asian, category, emoji, are_published)
-        if cause == Cause.OUT_OF_MEMORY:
-            raise MemoryError
-        if cause != Cause.NONE:
-            raise Fault(file, line, cause)
-        return cls._of(memory)
+        return cls._of(_read((line_break, east_asian, category, emoji), False))
 
     @classmethod
     def from_bytes(cls, data: Bytes) -> Self:
@@ -211,6 +212,54 @@ class Table:
 
     def __reduce__(self) -> tuple[Any, ...]:
         return (Table.open, (self._name,)) if self._name is not None else (Table.from_bytes, (self.to_bytes(),))
+
+
+def breaks(text: Text, profile: int = 1) -> Iterator[Break]:
+    """As `Table.breaks`, by the table that `Table.load()` finds."""
+    return Table.load().breaks(text, profile)
+
+
+@overload
+def segments(text: str, profile: int = 1) -> Iterator[str]: ...
+@overload
+def segments(text: Bytes, profile: int = 1) -> Iterator[bytes]: ...
+def segments(text: Any, profile: int = 1) -> Iterator[Any]:
+    """As `Table.segments`, by the table that `Table.load()` finds."""
+    return Table.load().segments(text, profile)
+
+
+words = Table.words
+
+
+def _read(files: Iterable[Bytes], are_published: bool) -> bytearray:
+    line_break, east_asian, category, emoji = map(_unchanging, files)
+    memory = bytearray(_calls.TABLE_SIZE)
+    file, line, cause = _calls.read(memory, line_break, east_asian, category, emoji, are_published)
+    if cause == Cause.OUT_OF_MEMORY:
+        raise MemoryError
+    if cause != Cause.NONE:
+        raise Fault(file, line, cause)
+    return memory
+
+
+def _find() -> bytearray:
+    global _found
+    if _found is None:
+        with _finding:
+            _found = _found or _first_found()
+    return _found
+
+
+def _first_found() -> bytearray:
+    refusals = []
+    for folder in _database.folders():
+        try:
+            return _read(_database.contents(folder), True)
+        except OSError as error:
+            refusals.append(f"{error.filename}: {error.strerror}")
+        except Fault as fault:
+            refusals.append(f"{folder}/{fault}")
+    raise _database.not_found(refusals)
 
 
 def _unchanging(data: Bytes) -> bytes:
