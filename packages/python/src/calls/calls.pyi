@@ -1,5 +1,5 @@
 from collections.abc import Iterable, Iterator
-from typing import Any, TypeAlias, final
+from typing import Any, Self, TypeAlias, final
 
 from ._numbers import Rule
 from ._results import Kind
@@ -18,18 +18,18 @@ POSITIONS: int
 WORDS: int
 WORD_RANGES: int
 
+# A tuple to checkers alone, which take the types of `at, kind, rule = found` from nothing else. It has the length, the items
+# and the order of one, and equals none.
 @final
-class Break:
+class Break(tuple[int, Kind, Rule]):
     __match_args__ = ("at", "kind", "rule")
-    def __new__(cls, at: int, kind: Kind, rule: Rule) -> Break: ...
+    def __new__(cls, at: int, kind: Kind, rule: Rule) -> Self: ...
     @property
     def at(self) -> int: ...
     @property
     def kind(self) -> Kind: ...
     @property
     def rule(self) -> Rule: ...
-    def __iter__(self) -> Iterator[Any]: ...
-    def __hash__(self) -> int: ...
 
 @final
 class Found(Iterator[Any]):

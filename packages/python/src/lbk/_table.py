@@ -6,7 +6,7 @@ import threading
 from array import array
 from collections.abc import Iterable, Iterator
 from pathlib import Path
-from typing import Any, Self, TypeAlias, overload
+from typing import Any, Protocol, Self, TypeAlias, overload
 
 from . import _calls, _database
 from ._calls import Break
@@ -14,8 +14,19 @@ from ._fault import Fault
 from ._numbers import Cause
 from ._results import Columns, Kind, ListColumns, Passage
 
-# What `memoryview` takes.
-Bytes: TypeAlias = "bytes | bytearray | memoryview | mmap.mmap | array[int]"
+
+class _Buffer(Protocol):
+    """What `memoryview` takes, where checkers know it (PEP 688)."""
+
+    def __buffer__(self, flags: int, /) -> memoryview: ...
+
+
+class _NumpyArray(Protocol):
+    @property
+    def __array_interface__(self) -> dict[str, Any]: ...
+
+
+Bytes: TypeAlias = "bytes | bytearray | memoryview | mmap.mmap | array[int] | _Buffer | _NumpyArray"
 Text: TypeAlias = "str | Bytes"
 Name: TypeAlias = "str | bytes | os.PathLike[str] | os.PathLike[bytes]"
 
@@ -88,7 +99,7 @@ class Table:
     def from_bytes(cls, data: Bytes) -> Self:
         """The table of the bytes that `to_bytes` returned. Raises ValueError where they are no
         whole table of this version."""
-        memory = bytearray(memoryview(data))
+        memory = bytearray(_view(data))
         _check(memory, "the bytes")
         return cls._of(memory)
 
@@ -195,14 +206,20 @@ class Table:
         # These give a str or bytes as their slices.
         return _passages(breaks, text if isinstance(text, (str, bytes, mmap.mmap)) else bytes(text))
 
+    @property
+    def _digest(self) -> str:
+        return self._memory[8:16].hex()
+
+    def __repr__(self) -> str:
+        return f"<lbk.Table: rules of Unicode {_calls.UNICODE_VERSION}, digest {self._digest}>"
+
     def __eq__(self, other: object) -> bool:
         if not isinstance(other, Table):
             return NotImplemented
         return memoryview(self._memory) == memoryview(other._memory)
 
     def __hash__(self) -> int:
-        # The layout and the digest, which stand first.
-        return hash(bytes(self._memory[:16]))
+        return hash(self._digest)
 
     def __copy__(self) -> Self:
         return self
@@ -263,7 +280,11 @@ def _first_found() -> bytearray:
 
 
 def _unchanging(data: Bytes) -> bytes:
-    return data if isinstance(data, bytes) else bytes(memoryview(data))
+    return data if isinstance(data, bytes) else bytes(_view(data))
+
+
+def _view(data: Any) -> memoryview:
+    return memoryview(data)
 
 
 def _passages(breaks: Iterable[Break], text: Any) -> Iterator[Passage[Any]]:

@@ -15,6 +15,9 @@ goes on after its part (`goes_on` of `Table.break_columns`). That is the law of 
 (`joined_parts`), proved for any number of parts of any bytes.
 """
 
+# What these need has types in some of its versions.
+# mypy: disable-error-code="import", allow-subclassing-any
+
 import os
 from collections.abc import Callable, Iterable
 from pathlib import Path
@@ -55,7 +58,7 @@ def broadcast(client: Any, table: Table) -> str:
     that come later. Each saves and maps it. Returns a name for the calls here."""
     from distributed import WorkerPlugin
 
-    class Receive(WorkerPlugin):  # type: ignore[misc]
+    class Receive(WorkerPlugin):
         def __init__(self, name: str, data: bytes) -> None:
             self.name, self.data = name, data
 
@@ -68,7 +71,7 @@ def broadcast(client: Any, table: Table) -> str:
             dask._broadcast[self.name] = str(path)
 
     data = table.to_bytes()
-    name = f"lbk-table-{data[8:16].hex()}"
+    name = f"lbk-table-{table._digest}"
     register = getattr(client, "register_plugin", None) or client.register_worker_plugin
     register(Receive(name, data))
     _broadcast_here(name, table)
@@ -239,7 +242,7 @@ def _all_breaks(texts: list[Any], table: Table, profile: int) -> Iterable[Column
     import numpy as np
 
     offsets, places, kinds, rules = table.break_list_columns(texts, profile)
-    columns = [np.frombuffer(places, np.int64), np.frombuffer(kinds, np.uint8), np.frombuffer(rules, np.uint8)]
+    columns: list[Any] = [np.frombuffer(places, np.int64), np.frombuffer(kinds, np.uint8), np.frombuffer(rules, np.uint8)]
     for start, end in zip(offsets, offsets[1:]):
         yield Columns(*(column[start:end] for column in columns))
 
