@@ -17,6 +17,7 @@ SEGMENTS: int
 POSITIONS: int
 WORDS: int
 WORD_RANGES: int
+SHARED: str
 
 # A tuple to checkers alone, which take the types of `at, kind, rule = found` from nothing else. It has the length, the items
 # and the order of one, and equals none.
@@ -36,6 +37,7 @@ class Found(Iterator[Any]):
     @classmethod
     def of(cls, table: _Buffer | None, text: str | _Buffer, profile: int, what: int, /) -> Found: ...
     def __next__(self) -> Any: ...
+    def __copy__(self) -> Found: ...
 
 def read(
     table: _Buffer, line_break: _Buffer, east_asian: _Buffer, category: _Buffer, emoji: _Buffer, are_published: bool, /

@@ -1,5 +1,8 @@
 """The table of the rules, and what it finds."""
 
+import contextlib
+import copy
+import functools
 import mmap
 import os
 import threading
@@ -33,7 +36,7 @@ Name: TypeAlias = "str | bytes | os.PathLike[str] | os.PathLike[bytes]"
 _new = tuple.__new__
 
 # What load() without a folder found, and who looks for it. No process forks while another thread does.
-_found: "bytearray | None" = None
+_found: "tuple[bytearray, str] | None" = None
 _finding = threading.Lock()
 os.register_at_fork(before=_finding.acquire, after_in_parent=_finding.release, after_in_child=_finding.release)
 
@@ -44,7 +47,8 @@ class Table:
 
     Make one by `load`, `from_files`, `read`, `from_bytes` or `open`. It never changes, so any
     number of threads may use it. Pickled it is its bytes; one that `open` mapped is the name of its
-    file.
+    file, and one of `load` its folder and digest: where the folder then gives another table,
+    ValueError names it.
 
     Texts are `str`, with places in code points, or objects of bytes in UTF-8, with places in bytes:
     `bytes`, `bytearray`, `memoryview`, `mmap`, and others with the buffer protocol and items of a
@@ -53,17 +57,18 @@ class Table:
     place of LB15. TypeError comes for what is no text, and ValueError for what is no profile.
     """
 
-    __slots__ = ("_memory", "_name")
+    __slots__ = ("_memory", "_origin")
     _memory: bytearray | mmap.mmap
-    _name: str | None
+    _origin: tuple[Any, ...]
+    """A call that makes the same table, and its arguments, or nothing."""
 
     def __init__(self) -> None:
         raise TypeError("a Table is made by load, from_files, read, from_bytes or open")
 
     @classmethod
-    def _of(cls, memory: bytearray | mmap.mmap, name: str | None = None) -> Self:
+    def _of(cls, memory: bytearray | mmap.mmap, call: Any = None, *arguments: str) -> Self:
         table = object.__new__(cls)
-        table._memory, table._name = memory, name
+        table._memory, table._origin = memory, (call, arguments) if call else ()
         return table
 
     @classmethod
@@ -81,7 +86,8 @@ class Table:
         found, and Fault where a file is not that which Unicode published for the version
         UNICODE_VERSION.
         """
-        return cls._of(_find() if folder is None else _read(_database.contents(folder), True))
+        memory, place = _find() if folder is None else (_read(_database.contents(folder), True), os.path.abspath(folder))
+        return cls._of(memory, _load_again, place, _digest_of(memory))
 
     @classmethod
     def from_files(cls, line_break: Name, east_asian: Name, category: Name, emoji: Name) -> Self:
@@ -117,7 +123,7 @@ class Table:
                 raise ValueError(f"{path} is no table of this version")
             memory = mmap.mmap(file.fileno(), 0, access=mmap.ACCESS_READ)
         _check(memory, path)
-        return cls._of(memory, path)
+        return cls._of(memory, Table.open, path)
 
     def to_bytes(self) -> bytes:
         """The bytes of the table, for `from_bytes`."""
@@ -204,11 +210,11 @@ class Table:
         words."""
         breaks = self.breaks(text, profile)
         # These give a str or bytes as their slices.
-        return _passages(breaks, text if isinstance(text, (str, bytes, mmap.mmap)) else bytes(text))
+        return _Passages(breaks, text if isinstance(text, (str, bytes, mmap.mmap)) else bytes(text))
 
     @property
     def _digest(self) -> str:
-        return self._memory[8:16].hex()
+        return _digest_of(self._memory)
 
     def __repr__(self) -> str:
         return f"<lbk.Table: rules of Unicode {_calls.UNICODE_VERSION}, digest {self._digest}>"
@@ -228,7 +234,7 @@ class Table:
         return self
 
     def __reduce__(self) -> tuple[Any, ...]:
-        return (Table.open, (self._name,)) if self._name is not None else (Table.from_bytes, (self.to_bytes(),))
+        return self._origin or (Table.from_bytes, (self.to_bytes(),))
 
 
 def breaks(text: Text, profile: int = 1) -> Iterator[Break]:
@@ -259,7 +265,11 @@ def _read(files: Iterable[Bytes], are_published: bool) -> bytearray:
     return memory
 
 
-def _find() -> bytearray:
+def _digest_of(memory: bytearray | mmap.mmap) -> str:
+    return memory[8:16].hex()
+
+
+def _find() -> tuple[bytearray, str]:
     global _found
     if _found is None:
         with _finding:
@@ -267,16 +277,33 @@ def _find() -> bytearray:
     return _found
 
 
-def _first_found() -> bytearray:
+def _first_found() -> tuple[bytearray, str]:
     refusals = []
     for folder in _database.folders():
         try:
-            return _read(_database.contents(folder), True)
+            return _read(_database.contents(folder), True), folder
         except OSError as error:
             refusals.append(f"{error.filename}: {error.strerror}")
         except Fault as fault:
             refusals.append(f"{folder}/{fault}")
     raise _database.not_found(refusals)
+
+
+def _load_again(folder: str, digest: str) -> Table:
+    """The table that was pickled as these. A process that takes many makes it once."""
+    changed = ValueError(f"the files in {folder} give another table than the one that was pickled")
+    try:
+        memory = _read_again(*_database.contents(folder))
+    except Fault as fault:
+        raise changed from fault
+    if _digest_of(memory) != digest:
+        raise changed
+    return Table._of(memory, _load_again, folder, digest)
+
+
+@functools.lru_cache(maxsize=1)
+def _read_again(*files: bytes) -> bytearray:
+    return _read(files, True)
 
 
 def _unchanging(data: Bytes) -> bytes:
@@ -287,16 +314,44 @@ def _view(data: Any) -> memoryview:
     return memoryview(data)
 
 
-def _passages(breaks: Iterable[Break], text: Any) -> Iterator[Passage[Any]]:
-    start = last = 0
-    segments = []
-    for found in breaks:
-        segments.append(text[last : found.at])
-        last = found.at
-        if found.kind is Kind.MUST:
-            passage = text[start:last]
-            yield Passage(start, passage, segments, list(Table.words(passage)))
-            start, segments = last, []
+class _Passages(Iterator[Passage[Any]]):
+    """The passages of a text, of its breaks."""
+
+    def __init__(self, breaks: Iterator[Break], text: Any) -> None:
+        self._breaks, self._text = breaks, text
+        self._start = self._last = 0
+        self._segments: list[Any] = []
+        self._turn = threading.Lock()
+
+    @contextlib.contextmanager
+    def _alone(self) -> Iterator[None]:
+        if not self._turn.acquire(blocking=False):
+            raise ValueError(_calls.SHARED)
+        try:
+            yield
+        finally:
+            self._turn.release()
+
+    def __next__(self) -> Passage[Any]:
+        with self._alone():
+            for found in self._breaks:
+                self._segments.append(self._text[self._last : found.at])
+                self._last = found.at
+                if found.kind is Kind.MUST:
+                    passage = self._text[self._start : self._last]
+                    made = Passage(self._start, passage, self._segments, list(Table.words(passage)))
+                    self._start, self._segments = self._last, []
+                    return made
+        raise StopIteration
+
+    def __copy__(self) -> "_Passages":
+        with self._alone():
+            same = _Passages(copy.copy(self._breaks), self._text)
+            same._start, same._last, same._segments = self._start, self._last, [*self._segments]
+        return same
+
+    def __reduce__(self) -> tuple[Any, ...]:
+        return iter, (list(copy.copy(self)),)
 
 
 def _check(memory: bytearray | mmap.mmap, what: str) -> None:
