@@ -93,6 +93,11 @@ class Folders(unittest.TestCase):
         with mock.patch.dict(os.environ, {"UNICODE_DATA": str(samples.PUBLISHED)}):
             self.assertEqual(Table.load(), Table.load(samples.PUBLISHED))
 
+    def test_the_user_has_one_folder_or_two(self):
+        for named, wanted in (("", self.users[1:]), ("data", self.users[1:]), (str(self.home / ".local/share"), self.users[1:])):
+            with mock.patch.dict(os.environ, {"XDG_DATA_HOME": named}):
+                self.assertEqual(_database.folders(), [*map(str, self.systems), *map(str, wanted)])
+
     @unittest.skipUnless(samples.HAS_PUBLISHED, "the published files are not there")
     def test_it_is_read_once_by_all_threads(self):
         self.put(self.users[1])

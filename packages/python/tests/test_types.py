@@ -1,6 +1,7 @@
 """What mypy says of the package, and of programs that use it."""
 
 import importlib.util
+import os
 import pathlib
 import subprocess
 import sys
@@ -24,7 +25,8 @@ class Types(unittest.TestCase):
     def check(self, *words):
         """What mypy says, over the package as it is here."""
         command = [sys.executable, "-m", "mypy", "--strict", "--no-error-summary", "--cache-dir", self.folder / "cache", *words]
-        done = subprocess.run(command, cwd=PACKAGE.parent, capture_output=True, text=True, timeout=600, check=False)
+        environment = {**os.environ, "LD_PRELOAD": ""}
+        done = subprocess.run(command, cwd=PACKAGE.parent, env=environment, capture_output=True, text=True, timeout=600, check=False)
         return done.stdout + done.stderr
 
     def said_of(self, program):

@@ -61,9 +61,8 @@ def folders() -> list[str]:
     the system and of the user."""
     if named := os.environ.get("UNICODE_DATA"):
         return [os.path.abspath(named)]
-    home = os.path.expanduser("~/.local/share")
-    users = [os.environ.get("XDG_DATA_HOME") or home, home]
-    return list(dict.fromkeys([*_SYSTEM, *(os.path.join(one, "unicode") for one in users)]))
+    users = os.environ.get("XDG_DATA_HOME", ""), os.path.expanduser("~/.local/share")
+    return [*_SYSTEM, *dict.fromkeys(f"{one}/unicode" for one in users if os.path.isabs(one))]
 
 
 def not_found(refusals: list[str]) -> FileNotFoundError:

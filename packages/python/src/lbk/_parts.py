@@ -1,7 +1,7 @@
 """Parts of files: ranges of bytes that are broken apart, and how each is read by itself."""
 
 # What these need has types in some of its versions.
-# mypy: disable-error-code="import", allow-subclassing-any
+# mypy: disable-error-code="import"
 
 import mmap
 import threading
