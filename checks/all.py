@@ -15,6 +15,7 @@ NAMES = [
     "page-references",
     "quoted-contracts",
     "man-page",
+    "completion",
     "word-tables",
     "refused-allocations",
     "failing-streams",
