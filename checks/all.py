@@ -10,11 +10,13 @@ from checks.harness import ALL_RIGHT, FAILED, USAGE, CannotRun, Tally
 # of its text says what it checks.
 NAMES = [
     "stored-runs",
+    "first-look",
     "published-files",
     "shown-commands",
     "page-references",
     "quoted-contracts",
     "man-page",
+    "completion",
     "word-tables",
     "refused-allocations",
     "failing-streams",

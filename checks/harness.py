@@ -81,7 +81,7 @@ def newest_source():
 
 def built_program():
     """The program lbk, proved and built where it is not."""
-    subprocess.run([TOP / "lbk", "--version"], stdin=subprocess.DEVNULL, stdout=subprocess.DEVNULL, check=True)
+    subprocess.run([TOP / "lbk", "--prove"], stdin=subprocess.DEVNULL, check=True)
     return TOP / "crates/lbk/out/lbk"
 
 

@@ -2,7 +2,7 @@
 
 ghost use Rattle.std.specs.Prelude.{◌≡◌, ◌≢◌, ◌+◌, ◌<◌, ◌≤◌, ◌⊎◌, Bool, [], Some, map};
 ghost use Rattle.lbk_args.specs.Accepted.{AreAccepted};
-ghost use Rattle.lbk_args.specs.Task.{Task, task_by};
+ghost use Rattle.lbk_args.specs.Task.{Task, task_by, task_of};
 ghost use Rattle.lbk_args.specs.PlainWords.{IsPlainFor};
 ghost use Rattle.lbk_files.specs.FileFault.{counts_of};
 ghost use Rattle.lbk_files.specs.Ready.{IsStoppedByWords};
@@ -17,9 +17,9 @@ use super::ending::Ending;
 use super::engine::show;
 use super::operands::{NoTexts, Texts};
 use super::performing::perform;
-use lbk_args::DEFAULT_LIMIT;
+use lbk_args::{DEFAULT_LIMIT, Order};
 use lbk_feed::{Sink, Source};
-use lbk_files::{Store, prepare, sample_cells};
+use lbk_files::{Store, prepare, read_order, sample_cells};
 use lbk_rules::Profile;
 use std::alloc::Global;
 
@@ -70,8 +70,10 @@ pub fn run<'a, S: Store, R: Source, W: Sink>(
 ///
 /// The texts are read in order, each once, and what is written of each follows what was written of those before it. One
 /// that is refused is reported and the others are read; the run then ends with `Reported`.
+///
+/// The arguments are read once, and what they ask for is told to `texts` before anything is opened.
 #[tactic(none)]
-pub fn run_over_texts<'a, S: Store, T: Texts, R: Source, W: Sink>(
+pub fn run_over_texts<'a, S: Store, T: Texts<'a>, R: Source, W: Sink>(
     alloc: Global,
     words: &'a [&'a str],
     store: &mut S,
@@ -107,9 +109,37 @@ pub fn run_over_texts<'a, S: Store, T: Texts, R: Source, W: Sink>(
     if words.is_empty() {
         return show_samples(alloc, reader, writer);
     }
-    match prepare(alloc, words, store) {
-        Ok(ready) => perform(alloc, &ready, texts, reader, writer),
+    match read_order(alloc, words) {
+        Ok(order) => {
+            texts.begin(&order);
+            perform_order(alloc, order, store, texts, reader, writer)
+        }
         Err(stop) => Ending::from(stop),
+    }
+}
+
+/// Loads the files that an order names, and runs its engine over its texts.
+#[tactic(none)]
+fn perform_order<'a, S: Store, T: Texts<'a>, R: Source, W: Sink>(
+    alloc: Global,
+    order: Order<'a>,
+    store: &mut S,
+    texts: &mut T,
+    reader: &mut R,
+    writer: &mut W,
+) -> Ending
+    ensures performs { Performs T.File.Source (S.file store.old) (T.contents texts.old) (task_of order.entry)
+        (counts_of (S.load_count store.old) (S.refusal_count store.old)) (counts_of (S.load_count store.new) (S.refusal_count store.new))
+        (standing (devices_of R.Source W.Sink reader.old writer.old) (T.refused texts.old) Done)
+        (standing (devices_of R.Source W.Sink reader.new writer.new) (T.refused texts.new) result) }
+    ensures texts { T.contents texts.new ≡ T.contents texts.old }
+    ensures refused { S.refusal_count store.old < S.refusal_count store.new → result ≡ Ending.Refused Memory }
+    ensures loads { S.load_count store.new ≤ S.load_count store.old + 4 }
+    ensures files { S.file store.new ≡ S.file store.old }
+{
+    match prepare(alloc, order, store) {
+        Ok(ready) => perform(alloc, &ready, texts, reader, writer),
+        Err(fault) => Ending::of_files(fault),
     }
 }
 

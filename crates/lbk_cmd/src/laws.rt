@@ -31,7 +31,7 @@ ghost use Rattle.lbk_files.specs.FileFault.{LoadCounts};
 ghost use Rattle.lbk_cmd.specs.Acts.{Performs, PerformsAlone};
 ghost use Rattle.lbk_cmd.specs.Operands.{Standing};
 
-use super::operands::Texts;
+use lbk_files::Opens;
 
 /// For all property files, every text and either profile: the passages joined are the text, their breaks are the
 /// positions, kinds and rules that the first matching rule gives on the whole text (UAX #14, section 6), and the line written
@@ -92,7 +92,7 @@ pub fn joined_ranges()
 
 /// A task that names no text has one meaning: with files of text, whatever they are, `run_over_texts` does what `run` does, and
 /// reports nothing of them.
-pub fn one_run_without_texts<T: Texts>(texts: &T)
+pub fn one_run_without_texts<T: Opens>(texts: &T)
     ensures { (file : List ℕ → Option (Option (List ℕ))) (task : Task) (counts after_counts : LoadCounts) (before after : Standing)
         → task.texts ≡ []
         → (Performs T.File.Source file (T.contents texts.now) task counts after_counts before after

@@ -26,6 +26,10 @@ IsStoppedAt file task before after (Usage text) = ⊥
 IsStoppedAt file task before after (Refused fault) =
     ((fault ≡ Memory) × (after ≡ before)) ⊎ IsFileFault (files_of file task.files) before after fault
 
+-- out of memory, before any load
+abbrev pub IsWantOfMemory : Stop → Type 0
+IsWantOfMemory stop = stop ≡ Refused Memory
+
 -- words that are not accepted: help for a call for it, usage for a mistake, or want of memory
 abbrev pub IsStoppedByWords : List (List ℕ) → Stop → Type 0
 IsStoppedByWords words (Help text) = HasFault IsCallForHelp (faults_of words)

@@ -81,7 +81,7 @@ fn faults_of_files(rt: HostRuntime) -> Result<(), Fail> {
 }
 
 static OF_RUNS: [(RunFault, &str); 15] = [
-    (RunFault::Open, "the input cannot be read"),
+    (RunFault::Open, "the input: cannot be read"),
     (
         RunFault::Load(Which::LineBreak),
         "LineBreak.txt: the file cannot be read",
@@ -100,7 +100,7 @@ static OF_RUNS: [(RunFault, &str); 15] = [
     ),
     (
         RunFault::Cmd(CmdFault::Passage(PassageFault::Read)),
-        "the input cannot be read",
+        "the input: cannot be read",
     ),
     (
         RunFault::Cmd(CmdFault::Passage(PassageFault::NotUtf8 { at: 70_000 })),
@@ -108,7 +108,7 @@ static OF_RUNS: [(RunFault, &str); 15] = [
     ),
     (
         RunFault::Cmd(CmdFault::Passage(PassageFault::TextTooLong)),
-        "the input has more than 1073741824 bytes",
+        "the input: more than 1073741824 bytes",
     ),
     (
         RunFault::Cmd(CmdFault::Passage(PassageFault::ParagraphTooLong { start: 70_000 })),
@@ -116,19 +116,19 @@ static OF_RUNS: [(RunFault, &str); 15] = [
     ),
     (
         RunFault::Cmd(CmdFault::Write),
-        "the output cannot be written",
+        "the output: cannot be written",
     ),
     (
         RunFault::Replay(ReplayFault::Read),
-        "the input cannot be read",
+        "the input: cannot be read",
     ),
     (
         RunFault::Replay(ReplayFault::Write),
-        "the output cannot be written",
+        "the output: cannot be written",
     ),
     (
         RunFault::Replay(ReplayFault::StreamTooLong),
-        "the input has more than 1073741824 bytes",
+        "the input: more than 1073741824 bytes",
     ),
     (RunFault::Replay(ReplayFault::Memory), "out of memory"),
     (RunFault::Memory, "out of memory"),
@@ -151,7 +151,7 @@ static OF_ENGINES: [(CmdFault, &str); 9] = [
     (CmdFault::Passage(PassageFault::Memory), "out of memory"),
     (
         CmdFault::Passage(PassageFault::Read),
-        "the input cannot be read",
+        "the input: cannot be read",
     ),
     (
         CmdFault::Passage(PassageFault::NotUtf8 { at: 9 }),
@@ -159,7 +159,7 @@ static OF_ENGINES: [(CmdFault, &str); 9] = [
     ),
     (
         CmdFault::Passage(PassageFault::TextTooLong),
-        "the input has more than 1073741824 bytes",
+        "the input: more than 1073741824 bytes",
     ),
     (
         CmdFault::Passage(PassageFault::ParagraphTooLong { start: 9 }),
@@ -169,7 +169,7 @@ static OF_ENGINES: [(CmdFault, &str); 9] = [
         CmdFault::Passage(PassageFault::Spent),
         "an earlier call was refused",
     ),
-    (CmdFault::Write, "the output cannot be written"),
+    (CmdFault::Write, "the output: cannot be written"),
     (CmdFault::Memory, "out of memory"),
 ];
 

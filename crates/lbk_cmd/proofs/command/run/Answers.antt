@@ -1,3 +1,4 @@
+use Rattle.std.proofs.Common.{refl}
 use Rattle.lbk_cmd.proofs.Alone.{performs_alone}
 use Rattle.lbk_cmd.proofs.command.run.Goals as goal
 
@@ -26,3 +27,6 @@ returns-clause-loads g c = c.run_over_texts.ensures.loads
 
 pub returns-clause-files : goal.returns-clause-files
 returns-clause-files g c = c.run_over_texts.ensures.files
+
+pub run_over_texts-requires : goal.run_over_texts-requires
+run_over_texts-requires g c κs = (refl, tt)

@@ -4,8 +4,8 @@ use Rattle.std.proofs.lemmas.List.{nil_from_length}
 use Rattle.std.proofs.lemmas.Str.{IsUtf8-past_char, chars-nil, chars_past_char}
 use Rattle.std.specs.Str.{IsUtf8}
 use Rattle.std.specs.Str.Iter.{chars_rest}
-use Rattle.lbk_cmd.specs.Message.{one_line, one_scalar}
-use Rattle.lbk_cmd.proofs.message.write_name.Goals as goal
+use Rattle.lbk_args.specs.OneLine.{one_line, one_scalar}
+use Rattle.lbk_args.proofs.one_line.write_name.Goals as goal
 
 all_left : (rest name : List ℕ) → rest ≡ name → [] ++ flat_map one_scalar (chars rest) ≡ one_line name
 all_left rest name same = ap (λ l. flat_map one_scalar (chars l)) same

@@ -2,8 +2,8 @@ use Rattle.std.proofs.Common.{◌≡◌, ℕ, List, ◌++◌, flat_map, chars}
 use Rattle.std.specs.Fmt.{HasWritten, IsPlainFormatter}
 use Rattle.std.specs.Str.{IsUtf8}
 use Rattle.std.specs.Str.Iter.{chars_rest}
-use Rattle.lbk_cmd.specs.Message.{one_line, one_scalar}
-use Rattle.lbk_cmd.proofs.message.write_name.Given as goal
+use Rattle.lbk_args.specs.OneLine.{one_line, one_scalar}
+use Rattle.lbk_args.proofs.one_line.write_name.Given as goal
 
 -- what was written, and the characters that are left
 abbrev pub invariant-loop-scalar : goal.invariant-loop-scalar
