@@ -14,7 +14,7 @@ use Rattle.lbk_cmd.specs.Engines.{engine_of, lines_of, marking, segmenting, show
 use Rattle.lbk_cmd.specs.Run.{Engine as TextEngine, IsRun, failed_reads_with, failed_writes_with, is_failed_read}
 use Rattle.lbk_cmd.specs.Ranges.{RangeRuns}
 use Rattle.lbk_cmd.specs.Texts.{lines_from, segment_text, show_text, signed_text}
-use Rattle.lbk_uax14.specs.declared.cells.Cell.{Cell}
+use Rattle.lbk_rules.specs.declared.Cell.{Cell}
 use Rattle.lbk_values.specs.declared.profile.Profile.{Profile}
 use Rattle.lbk_values.specs.declared.profile.Profile.TheVariants.{First}
 use Rattle.lbk_notation.specs.declared.findings.Report.{Report}

@@ -10,7 +10,7 @@ ghost use Rattle.lbk_notation.specs.Shown.{passage_line, passage_marks};
 ghost use Rattle.lbk_passage.specs.Marks.{Marked, scalars_of, text_of};
 ghost use Rattle.lbk_cmd.specs.Show.{shown_passage, verdicts_of};
 ghost use Rattle.lbk_ucd.specs.declared.tables.Files.{Files};
-ghost use Rattle.lbk_uax14.specs.declared.cells.Cell.{Cell};
+ghost use Rattle.lbk_rules.specs.declared.Cell.{Cell};
 ghost use Rattle.lbk_values.specs.declared.profile.Profile.{Profile};
 ghost use Rattle.lbk_passage.specs.Joins.{AreParts, of_parts};
 ghost use Rattle.lbk_passage.specs.Next.{IsPassage};

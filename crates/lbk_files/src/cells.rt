@@ -2,7 +2,7 @@
 
 ghost use Rattle.std.specs.Prelude.{◌≡◌, IfOk, IfErr, OnOk, MatchResult};
 ghost use Rattle.lbk_ucd.specs.Files.{AreLawful};
-ghost use Rattle.lbk_steps.specs.CellPages.{page_cell};
+ghost use Rattle.lbk_rules.specs.CellPages.{page_cell};
 ghost use Rattle.lbk_files.specs.Cells.{AreCellsOf};
 ghost use Rattle.lbk_files.specs.CellsRefusal.{IsCellsRefusal};
 ghost use Rattle.lbk_files.specs.SampleFiles.{AreSampleCells, IsSampleFault};

@@ -1,7 +1,7 @@
 //! How far a paragraph reaches into a piece of text.
 
 ghost use Rattle.std.specs.Prelude.{◌≡◌, ℕ, ◌≤◌, IsCharBoundary, Option};
-ghost use Rattle.lbk_uax14.specs.declared.classes.Class.{Class};
+ghost use Rattle.lbk_rules.specs.declared.Class.{Class};
 ghost use Rattle.lbk_passage.specs.Flags.{AreQuiet, Passes, is_end};
 
 use crate::ends::ends_at;
