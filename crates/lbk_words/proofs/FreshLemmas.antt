@@ -95,9 +95,6 @@ pub record Alike (x y : Context) (cs : List ℕ) : Type 0 where
   pub here : (more : WordBreak) → joins x.far_left x.left (value_at (significant cs) 0) more ≡ joins y.far_left y.left (value_at (significant cs) 0) more
   pub next : (left right far_right : WordBreak) → joins x.left left right far_right ≡ joins y.left left right far_right
 
-alike-same : (x : Context) (cs : List ℕ) → Alike x x cs
-alike-same x cs = record { last = refl; flag = refl; here = λ more. refl; next = λ left right far_right. refl }
-
 alike-breaks : (x y : Context) (c : ℕ) (cs : List ℕ) (far_right : WordBreak) → Alike x y (c ∷ cs) → breaks_by x c far_right ≡ breaks_by y c far_right
 alike-breaks x y c cs far_right alike =
     let value = word_break c in
