@@ -128,7 +128,7 @@ class Folders(unittest.TestCase):
     @unittest.skipUnless(samples.HAS_PUBLISHED, "the published files are not there")
     def test_a_process_that_forks_while_a_thread_reads_can_read_too(self):
         program = (
-            "import os, threading, lbk\n"
+            "import os, signal, threading, lbk\n"
             "from lbk import _database\n"
             "begun, contents = threading.Event(), _database.contents\n"
             "def slow(folder):\n"
@@ -140,6 +140,7 @@ class Folders(unittest.TestCase):
             "thread.start()\n"
             "begun.wait()\n"
             "if (child := os.fork()) == 0:\n"
+            "    signal.alarm(20)\n"
             "    os._exit(len(list(lbk.breaks('a b'))))\n"
             "raise SystemExit(os.waitstatus_to_exitcode(os.waitpid(child, 0)[1]))\n"
         )
