@@ -56,6 +56,7 @@ done
 [ "$failed" = 0 ] || end
 
 prefix=$here/prefix
+"$top/scripts/prove" lbk lbk_c || { told 'the program and the library are proved' "status $?"; end; }
 tried 'install-library' "$top/scripts/install-library" "$prefix" || end
 export PKG_CONFIG_PATH=$prefix/lib/pkgconfig LD_LIBRARY_PATH=$prefix/lib PYTHONDONTWRITEBYTECODE=1
 folder=$(pkg-config --variable=libdir lbk)
@@ -95,7 +96,7 @@ printf 'ab, (cd) \xe2\x80\x98ef\xe2\x80\x99\r\n\xe4\xb8\x80\xe4\xb8\x80 1,5 %%\n
 texts+=("$here/few" "$here/nothing" "$@")
 for profile in 1 2; do
     for number in "${!texts[@]}"; do
-        "$top/lbk" segment --line-break "${files[0]}" --east-asian "${files[1]}" --category "${files[2]}" --emoji "${files[3]}" \
+        "$top/crates/lbk/out/lbk" segment --line-break "${files[0]}" --east-asian "${files[1]}" --category "${files[2]}" --emoji "${files[3]}" \
             --limit 16777216 --profile $profile < "${texts[number]}" > "$here/all" || told "lbk segment of ${texts[number]}" "status $?"
         sed -n '/^S /p' "$here/all" > "$here/wanted-$profile-$number"
         sed -n '/^W /p' "$here/all" > "$here/words-$number"
