@@ -46,9 +46,10 @@ pub(crate) struct BlockState {
 }
 
 /// Takes blocks of bytes, as many as come one after the other, up to a scalar that no step takes, or from which on few bytes
-/// are left, or many of them to steps. It stands apart, so that what single scalars need stays in registers.
+/// are left, or many of them to steps. Without masks it takes none. It stands apart, so that what single scalars need stays in
+/// registers.
 #[inline(never)]
-pub(crate) fn blocks(
+pub(crate) fn blocks<const MASKS: bool>(
     pairs: &Neighbours,
     kinds: &[u8; CODES],
     steps: &[FlatStep; STEPS],
@@ -65,6 +66,9 @@ pub(crate) fn blocks(
         → Reached profile cell lefts (text.now ++ more) all start (given_in out.old start.count)
         → Reached profile cell lefts (text.now ++ more) all result (given_in out.new result.count) }
 {
+    if !MASKS {
+        return start;
+    }
     let mut here = begun(kinds, steps, start, text, out);
     loop {
         let from = here.at;

@@ -142,7 +142,7 @@ fn mark_scalars(
         row: here.row,
         at: here.at,
     };
-    let until = next_try(here.at, front);
+    let until = next_try::<true>(here.at, front);
     let steps = steps_of(table, profile);
     let there = quick(&table.kinds, steps, start, until, front, block);
     mark_breaks(&block[..there.count], from, words);

@@ -17,10 +17,10 @@ use Rattle.lbk_bytes.specs.Reached.{Onward, ReachedBy, onward_to}
 use Rattle.lbk_bytes.proofs.BoundaryLemmas.{boundary-end, boundary-here}
 use Rattle.lbk_bytes.proofs.MarkLemmas.{among-append, below-wider, or-false}
 use Rattle.lbk_bytes.proofs.MarkPlaceLemmas.{end-below, from-none, from-wider, left-behind, left-from, left-past, onward-from}
-use Rattle.lbk_c.specs.declared.interface.State.{State}
-use Rattle.lbk_c.specs.Coming.{ComesBy, IsGoing, IsSpent, MarksBy, from_state}
-use Rattle.lbk_c.specs.State.{plain, profile_numbered}
-use Rattle.lbk_c.proofs.ComingLemmas.{same-profile, spent-ended}
+use Rattle.lbk_calls.specs.declared.interface.State.{State}
+use Rattle.lbk_calls.specs.Coming.{ComesBy, IsGoing, IsSpent, MarksBy, from_state}
+use Rattle.lbk_calls.specs.State.{plain, profile_numbered}
+use Rattle.lbk_calls.proofs.ComingLemmas.{same-profile, spent-ended}
 
 -- the words are told before the text's end
 pub Marks-full : (goes_on : Bool) (profile : Profile) (cell : ℕ → Cell) (lefts : List Left) (text : List ℕ) (to_come : List Break) (place stop : ℕ) (here : FillState) (state : State) (words : List ℕ)

@@ -11,5 +11,5 @@ use lbk_rules::FlatTable;
 pub extern "C" fn lbk_check(table: &FlatTable) -> bool
     ensures { IsTrue result ↔ IsWhole table.now }
 {
-    table.is_whole()
+    lbk_calls::lbk_check(table)
 }

@@ -10,12 +10,11 @@ ghost use Rattle.lbk_steps.specs.FlatTable.{IsFlatBy, IsFlatOf};
 ghost use Rattle.lbk_bytes.specs.Bytes.{breaks_of_bytes, breaks_of_part};
 ghost use Rattle.lbk_bytes.specs.Marks.{boundary_from, from_on, is_marked, stands_among};
 ghost use Rattle.lbk_bytes.specs.Reached.{ReachedBy};
-ghost use Rattle.lbk_c.specs.Coming.{Comes, IsGoing, MarksBy, from_state, onward_in};
-ghost use Rattle.lbk_c.specs.State.{part_start, plain, start_in};
+ghost use Rattle.lbk_calls.specs.Coming.{Comes, IsGoing, MarksBy, from_state, onward_in};
+ghost use Rattle.lbk_calls.specs.State.{part_start, plain, start_in};
 
-use crate::breaking::{going_profile, plain};
-use crate::interface::State;
 use lbk_bytes::{FillState, clear, fill_marks, goes_on, mark_end};
+use lbk_calls::{State, going_profile, plain};
 use lbk_rules::{FlatTable, Profile};
 
 /// How many bits a word has.

@@ -9,7 +9,7 @@ use Rattle.lbk_bytes.specs.Shown.{given_in}
 use Rattle.lbk_bytes.proofs.blocks.blocks.Given as goal
 
 abbrev pub invariant-loop-here : goal.invariant-loop-here
-invariant-loop-here l = record {
+invariant-loop-here g l = record {
   room : l.here.count ≤ length l.out;
   row : l.here.row < 65536;
   within : l.here.at ≤ length l.text;
@@ -23,4 +23,4 @@ invariant-loop-here l = record {
 }
 
 abbrev pub decreases-loop-here : goal.decreases-loop-here
-decreases-loop-here l = length l.text - l.here.at
+decreases-loop-here g l = length l.text - l.here.at
