@@ -3,6 +3,7 @@
 //! The text may be any bytes. [`fill`] goes over it from any byte on, with no memory but the caller's block.
 #![tactic(auto)]
 
+mod calls;
 mod decoding;
 mod filling;
 mod kind_table;
@@ -14,5 +15,6 @@ mod step_table;
 mod steps;
 mod word;
 
+pub use calls::{WordState, lbk_words};
 pub use filling::fill;
 pub use word::{Filled, Word};
