@@ -50,7 +50,7 @@ end() {
 
 has() { command -v "$1" > "$here/found"; }
 
-for word in cc python3 ar ld objcopy nm pkg-config; do
+for word in cc python3 ar ld objcopy objdump nm pkg-config; do
     if ! has $word; then told "$word" 'it is not there'; fi
 done
 [ "$failed" = 0 ] || end
@@ -102,6 +102,12 @@ for profile in 1 2; do
         sed -n '/^W /p' "$here/all" > "$here/words-$number"
     done
 done
+
+# The code of each function is what the kit's compiler made of what was proved.
+code_in() { (mkdir "$2" && cd "$2" && ar x "$1" && for it in *.o; do objdump -s "$it" | awk '/^Contents of section/ { on = $4 ~ /^\.text\./ } on'; done); }
+code_in "$top/crates/lbk_c/out/liblbk_c.a" "$here/made" > "$here/code-made"
+code_in "$folder/liblbk.a" "$here/linked" > "$here/code-linked"
+told 'the code in liblbk.a is that of the proved archive' "$([ -s "$here/code-made" ] && cmp "$here/code-made" "$here/code-linked" && echo yes)"
 
 # The names that the libraries show: those of the header, and in the shared one with the version.
 calls=$(sed -n 's/^[a-z].* \**\(lbk_[a-z0-9_]*\)(.*/\1/p' "$prefix/include/lbk.h" | sort)
