@@ -1,20 +1,18 @@
 //! The breaks of a text, a block at a time.
 
-ghost use Rattle.std.specs.Prelude.{◌≡◌, ℕ, Bool, suc, ◌<◌, ◌≤◌, ◌⊎◌, [], List, MatchOption, drop, length, map, min, take};
+ghost use Rattle.std.specs.Prelude.{◌≡◌, ℕ, Bool, suc, ◌<◌, ◌≤◌, ◌⊎◌, List, drop, length, map, min, take};
 ghost use Rattle.std.specs.Str.{IsUtf8, chars};
 ghost use Rattle.lbk_uax14.specs.declared.breaks.Break.{Break};
 ghost use Rattle.lbk_uax14.specs.declared.cells.Cell.{Cell};
-ghost use Rattle.lbk_uax14.specs.declared.facts.Left.{Left};
 ghost use Rattle.lbk_values.specs.declared.profile.Profile.{Profile};
 ghost use Rattle.lbk_uax14.specs.Breaks.{breaks};
 ghost use Rattle.lbk_uax14.specs.Joins.{moved};
-ghost use Rattle.lbk_steps.specs.FlatTable.{IsFlatBy, IsFlatOf};
+ghost use Rattle.lbk_steps.specs.FlatTable.{IsFlatOf};
 ghost use Rattle.lbk_bytes.specs.Bytes.{breaks_of_bytes, breaks_of_part};
 ghost use Rattle.lbk_bytes.specs.Order.{AreInOrder};
-ghost use Rattle.lbk_bytes.specs.Reached.{ReachedBy};
-ghost use Rattle.lbk_calls.specs.Coming.{Comes, GoesBy, IsGoing, IsSpent, from_state, onward_in};
+ghost use Rattle.lbk_calls.specs.Coming.{Comes};
 ghost use Rattle.lbk_bytes.specs.Shown.{given_in};
-ghost use Rattle.lbk_calls.specs.State.{part_start, plain, profile_numbered, start_in};
+ghost use Rattle.lbk_calls.specs.State.{part_start, start_in};
 
 use lbk_bytes::RawBreak;
 use lbk_calls::{State, give_breaks};

@@ -1,6 +1,6 @@
 //! The label of a rule.
 
-ghost use Rattle.std.specs.Prelude.{◌≡◌, ◌≤◌, length};
+ghost use Rattle.std.specs.Prelude.{◌≡◌};
 ghost use Rattle.lbk_calls.specs.Labels.{filled, label_numbered};
 
 use lbk_calls::RuleLabel;

@@ -1,25 +1,21 @@
 //! The positions of a text with the verdict of each, a block at a time.
 
-ghost use Rattle.std.specs.Prelude.{◌≡◌, ◌⊎◌, ℕ, suc, ◌<◌, ◌≤◌, false, true, [], List, drop, length, map, min, take};
+ghost use Rattle.std.specs.Prelude.{◌≡◌, ◌⊎◌, ℕ, suc, ◌<◌, ◌≤◌, false, true, List, drop, length, map, min, take};
 ghost use Rattle.std.specs.Str.{all_scalars, encode_utf8_all};
 ghost use Rattle.bstr.specs.Utf8.{pieces};
 ghost use Rattle.lbk_uax14.specs.declared.breaks.Break.{Break};
 ghost use Rattle.lbk_uax14.specs.declared.cells.Cell.{Cell};
-ghost use Rattle.lbk_uax14.specs.declared.facts.Left.{Left};
 ghost use Rattle.lbk_values.specs.declared.profile.Profile.{Profile};
 ghost use Rattle.lbk_uax14.specs.Joins.{moved};
-ghost use Rattle.lbk_steps.specs.FlatTable.{IsFlatBy, IsFlatOf};
+ghost use Rattle.lbk_steps.specs.FlatTable.{IsFlatOf};
 ghost use Rattle.lbk_bytes.specs.Bytes.{breaks_of_bytes};
 ghost use Rattle.lbk_bytes.specs.Order.{ArePositionsInOrder};
-ghost use Rattle.lbk_bytes.specs.Reached.{onward_all};
 ghost use Rattle.lbk_bytes.specs.Shown.{given_in};
 ghost use Rattle.lbk_units.specs.Encodings.{encode_utf16_all, placed_in};
-ghost use Rattle.lbk_units.specs.Positions.{breaks_among, positions_of_bytes, positions_of_pieces, positions_of_utf16, positions_of_utf32};
-ghost use Rattle.lbk_units.specs.Reached.{UnitsReachedBy, on_from};
+ghost use Rattle.lbk_units.specs.Positions.{breaks_among, positions_of_bytes, positions_of_utf16, positions_of_utf32};
 ghost use Rattle.lbk_units.specs.Units.{breaks_of_utf16, breaks_of_utf32, pieces_of_utf16, pieces_of_utf32};
-ghost use Rattle.lbk_calls.specs.Coming.{IsGoing, from_state};
 ghost use Rattle.lbk_calls.specs.State.{part_start, start_in};
-ghost use Rattle.lbk_calls.specs.UnitsComing.{PositionsCome, UnitsGo};
+ghost use Rattle.lbk_calls.specs.UnitsComing.{PositionsCome};
 
 use lbk_bytes::RawBreak;
 use lbk_calls::{State, next_positions};

@@ -1,23 +1,20 @@
 //! The breaks of a text in UTF-16 or UTF-32, a block at a time.
 
-ghost use Rattle.std.specs.Prelude.{◌≡◌, ℕ, suc, ◌<◌, ◌≤◌, ◌⊎◌, false, true, [], List, drop, length, map, min, take};
+ghost use Rattle.std.specs.Prelude.{◌≡◌, ℕ, suc, ◌<◌, ◌≤◌, ◌⊎◌, false, true, List, drop, length, map, min, take};
 ghost use Rattle.std.specs.Str.{all_scalars, encode_utf8_all};
 ghost use Rattle.lbk_uax14.specs.declared.breaks.Break.{Break};
 ghost use Rattle.lbk_uax14.specs.declared.cells.Cell.{Cell};
-ghost use Rattle.lbk_uax14.specs.declared.facts.Left.{Left};
 ghost use Rattle.lbk_values.specs.declared.profile.Profile.{Profile};
 ghost use Rattle.lbk_uax14.specs.Breaks.{breaks};
 ghost use Rattle.lbk_uax14.specs.Joins.{moved};
-ghost use Rattle.lbk_steps.specs.FlatTable.{IsFlatBy, IsFlatOf};
+ghost use Rattle.lbk_steps.specs.FlatTable.{IsFlatOf};
 ghost use Rattle.lbk_bytes.specs.Order.{AreInOrder};
 ghost use Rattle.lbk_bytes.specs.Reached.{onward};
 ghost use Rattle.lbk_bytes.specs.Shown.{given_in};
 ghost use Rattle.lbk_units.specs.Encodings.{encode_utf16_all, placed_in};
-ghost use Rattle.lbk_units.specs.Reached.{UnitsReached, on_from};
-ghost use Rattle.lbk_units.specs.Units.{breaks_of_pieces, breaks_of_utf16, breaks_of_utf32, pieces_of_utf16, pieces_of_utf32};
-ghost use Rattle.lbk_calls.specs.Coming.{IsGoing, from_state};
+ghost use Rattle.lbk_units.specs.Units.{breaks_of_utf16, breaks_of_utf32, pieces_of_utf16, pieces_of_utf32};
 ghost use Rattle.lbk_calls.specs.State.{part_start, start_in};
-ghost use Rattle.lbk_calls.specs.UnitsComing.{UnitsCome, UnitsGo};
+ghost use Rattle.lbk_calls.specs.UnitsComing.{UnitsCome};
 
 use lbk_bytes::RawBreak;
 use lbk_calls::{State, next_breaks};
