@@ -80,7 +80,7 @@ def newest_source():
 
 
 def built_program():
-    """The program lbk, proved and built where it is not."""
+    """The program lbk, proved and built where no verdict fits it."""
     subprocess.run([TOP / "lbk", "--prove"], stdin=subprocess.DEVNULL, check=True)
     return TOP / "crates/lbk/out/lbk"
 

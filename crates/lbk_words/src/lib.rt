@@ -4,6 +4,7 @@
 #![tactic(auto)]
 
 mod blocks;
+mod calls;
 mod decoding;
 mod filling;
 mod kind_table;
@@ -15,5 +16,6 @@ mod step_table;
 mod steps;
 mod word;
 
+pub use calls::{WordState, lbk_words};
 pub use filling::fill;
 pub use word::{Filled, Word};
