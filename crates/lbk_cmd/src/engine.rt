@@ -13,7 +13,7 @@ use std::alloc::Global;
 /// Writes a text with `÷` at each position where a line may end (UAX #14, section 6), and nothing else changed: where a
 /// line must end, the text's own line end shows it. A text that ends without a line end gets one.
 ///
-/// The text of a passage is written as a whole. `limit` and the faults are those of `show`.
+/// When lines are written, `limit` and the faults are as in `show`.
 pub fn mark<R: Source, W: Sink, C: CellSource>(
     alloc: Global,
     reader: &mut R,
@@ -31,7 +31,8 @@ pub fn mark<R: Source, W: Sink, C: CellSource>(
 /// Writes the marks, scalars and rules of a text (UAX #14, section 6), each passage in a line of its own: the marks
 /// of its positions with its scalars between them, a tab, `#`, and the number of the rule that decided each position.
 ///
-/// A passage's line is written as a whole, once the scalar after the passage was seen, or the end of the text.
+/// The lines of the passages that what was read settles are written before the next read, and before a fault is returned: a
+/// passage's once the scalar after it was seen, or the end of the text.
 /// `limit` is the most bytes of a paragraph, 1 to 16,777,216. `Passage` says why no more passages come, `Write` that
 /// the writer failed, `Memory` that memory could not grow for a line, of which nothing was written.
 pub fn show<R: Source, W: Sink, C: CellSource>(
@@ -52,7 +53,7 @@ pub fn show<R: Source, W: Sink, C: CellSource>(
 /// last, then a line `S` for each segment, with the kind and the rule of the line break at its end (UAX #14,
 /// section 6), then a line `W` for each word (UAX #29, section 4). Offsets count bytes of the whole text.
 ///
-/// The lines of a passage are written as a whole. `limit` and the faults are those of `show`.
+/// When lines are written, `limit` and the faults are as in `show`.
 pub fn segment<R: Source, W: Sink, C: CellSource>(
     alloc: Global,
     reader: &mut R,

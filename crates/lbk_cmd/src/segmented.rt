@@ -53,9 +53,7 @@ fn push_segment(out: &mut Vec<u8>, start: u64, segment: &Segment) -> Result<(), 
 {
     let mut line = Line::new();
     line.put_text(segment.rule.label());
-    line.put_byte(b' ');
-    line.put_text(kind_name(segment.kind));
-    line.put_byte(b' ');
+    put_kind(&mut line, segment.kind);
     let from = start + u64::from(segment.start);
     put_part(&mut line, b'S', from, start + u64::from(segment.end));
     out.extend_from_slice(line.as_slice())
@@ -87,12 +85,30 @@ fn put_part(line: &mut Line, letter: u8, start: u64, end: u64)
     line.put_byte(letter);
 }
 
-fn kind_name(kind: Kind) -> &'static str
-    ensures { result.now ≡ kind_name kind }
+/// Puts the name of a kind in front, between two spaces.
+#[inline(always)]
+fn put_kind(line: &mut Line, kind: Kind)
+    requires { 6 ≤ line.old.start }
+    ensures text { written line.new ≡ 32 ∷ (kind_name kind ++ (32 ∷ written line.old)) }
+    ensures room { line.old.start ≤ line.new.start + 6 }
 {
+    line.put_byte(b' ');
     match kind {
-        Kind::No => "No",
-        Kind::May => "May",
-        Kind::Must => "Must",
+        Kind::No => {
+            line.put_byte(b'o');
+            line.put_byte(b'N');
+        }
+        Kind::May => {
+            line.put_byte(b'y');
+            line.put_byte(b'a');
+            line.put_byte(b'M');
+        }
+        Kind::Must => {
+            line.put_byte(b't');
+            line.put_byte(b's');
+            line.put_byte(b'u');
+            line.put_byte(b'M');
+        }
     }
+    line.put_byte(b' ');
 }
