@@ -3,7 +3,7 @@
 ghost use Rattle.std.specs.Prelude.{◌≡◌, ◌<◌, ◌≤◌, drop, length, min, take};
 ghost use Rattle.lbk_words.specs.Words.{AreRising, IsBoundary, words_on};
 
-use lbk_words::{Word, WordState};
+use lbk_words::{Word, WordState, fill};
 
 /// Puts the next words of a text (UAX #29, section 4) into the front of the block, from the state
 /// on, and returns how many: as many as the block holds, or all that are left. The text may be any
@@ -25,5 +25,7 @@ pub extern "C" fn lbk_words(state: &mut WordState, text: &[u8], out: &mut [Word]
     ensures ended { length text.now ≤ state.old.at → (result ≡ 0) × (state.new ≡ state.old) }
     ensures no_room { length out.old ≡ 0 → (result ≡ 0) × (state.new ≡ state.old) }
 {
-    lbk_words::lbk_words(state, text, out)
+    let filled = fill::<true>(text, state.at, out);
+    state.at = filled.at;
+    filled.count
 }

@@ -35,7 +35,7 @@ pub extern "C" fn lbk_words(state: &mut WordState, text: &[u8], out: &mut [Word]
     ensures ended { length text.now ≤ state.old.at → (result ≡ 0) × (state.new ≡ state.old) }
     ensures no_room { length out.old ≡ 0 → (result ≡ 0) × (state.new ≡ state.old) }
 {
-    let filled = fill(text, state.at, out);
+    let filled = fill::<false>(text, state.at, out);
     state.at = filled.at;
     filled.count
 }

@@ -6,7 +6,7 @@ use Rattle.lbk_words.proofs.StepLemmas.{filled-none}
 use Rattle.lbk_words.proofs.filling.fill.Goals as goal
 
 pub loop-here-init : goal.loop-here-init
-loop-here-init c = record {
+loop-here-init g c = record {
   within = inr refl;
   filled = filled-none c.args.text.now c.args.start c.args.out.now;
   past = λ _. refl;
@@ -15,7 +15,7 @@ loop-here-init c = record {
 
 -- the text ends with the block not full
 pub returns-else-here-text-clause-count : goal.returns-else-here-text-clause-count
-returns-else-here-text-clause-count c =
+returns-else-here-text-clause-count g c =
     let here = c.loop-here.here in
     let f = c.loop-here.invariant.filled in
     (gives (words_on c.args.text.now c.args.start) (take here.count c.loop-here.out) (words_on c.args.text.now here.at) here.count (length c.args.out.now)

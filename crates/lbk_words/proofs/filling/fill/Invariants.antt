@@ -3,7 +3,7 @@ use Rattle.lbk_words.specs.Filling.{IsFilled}
 use Rattle.lbk_words.proofs.filling.fill.Given as goal
 
 abbrev pub invariant-loop-here : goal.invariant-loop-here
-invariant-loop-here l = record {
+invariant-loop-here g l = record {
   within : (l.here.at ≤ length l.text) ⊎ (l.here.at ≡ l.fn.start);
   filled : IsFilled l.text l.fn.start l.here.at l.here.count l.out;
   past : length l.text ≤ l.fn.start → l.here.at ≡ l.fn.start;
@@ -11,4 +11,4 @@ invariant-loop-here l = record {
 }
 
 abbrev pub decreases-loop-here : goal.decreases-loop-here
-decreases-loop-here l = (length l.text - l.here.at) + (length l.initial.out - l.here.count)
+decreases-loop-here g l = (length l.text - l.here.at) + (length l.initial.out - l.here.count)
