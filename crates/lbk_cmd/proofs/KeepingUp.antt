@@ -1,5 +1,5 @@
 -- What is settled before a read is written before it.
-use Rattle.std.proofs.Common.{◌≡◌, ℕ, ◌+◌, ◌<◌, ◌≤◌, true, false, Bool, List, [], ◌∷◌, ◌++◌, length, take, drop, Option, Result, encode_utf8, encode_utf8_all, sym, ap, subst, ◌∙◌, arith, inl, inr, refl, ⊎_elim, length-append, append_assoc, append-nil}
+use Rattle.std.proofs.Common.{◌≡◌, ◌⊎◌, ℕ, ◌+◌, ◌<◌, ◌≤◌, true, false, Bool, List, [], ◌∷◌, ◌++◌, length, take, drop, Option, Result, encode_utf8, encode_utf8_all, sym, ap, subst, ◌∙◌, arith, inl, inr, refl, ⊎_elim, length-append, append_assoc, append-nil}
 use Rattle.std.proofs.lemmas.Bool.{false≢true}
 use Rattle.std.proofs.lemmas.List.{take-append-drop, take-append-le}
 use Rattle.std.proofs.Math.Seq.{take-append_seam}
@@ -14,7 +14,7 @@ use Rattle.lbk_passage.specs.declared.faults.PassageFault.{PassageFault}
 use Rattle.lbk_passage.specs.declared.passage.Passage.{Passage}
 use Rattle.lbk_cmd.specs.Ranges.{ReadsBefore, next_start}
 use Rattle.lbk_cmd.specs.Run.{Engine, KeepsUp, passages_by}
-use Rattle.lbk_cmd.proofs.Running.{some_bytes, Stands, fresh, goes_on, ended, Standing}
+use Rattle.lbk_cmd.proofs.Running.{some_bytes, Stands, fresh, goes_on, ended, Standing, Standing-same}
 use Rattle.lbk_cmd.proofs.Stopping.{settled_by, settled_none}
 
 -- nothing was read
@@ -56,12 +56,13 @@ pub before_written : (e : Engine) (from to : Reads) (bytes out line : List ℕ) 
 unfolding keeps_written
 before_written e from to bytes out line k end before = before
 
+-- of a call that left the bytes as they were, none came
+pub none_got : (held got : List ℕ) → held ++ got ≡ held → got ≡ []
+none_got held [] same = refl
+none_got held (x ∷ got) same = absurd (let long = ap length same in omega (arith, long, length-append held (x ∷ got)))
+
 -- a call that made no read
 module _ (e : Engine) (from to to' : Reads) (bytes held all got out : List ℕ) (grown : all ≡ held ++ got) (still : IsStill held all to to') (k : KeepsUp e from to bytes out) where
-  none_got : (held got : List ℕ) → held ++ got ≡ held → got ≡ []
-  none_got held [] same = refl
-  none_got held (x ∷ got) same = absurd (let long = ap length same in omega (arith, long, length-append held (x ∷ got)))
-
   same_bytes : bytes ++ got ≡ bytes
   same_bytes = ap (λ l. bytes ++ l) (none_got held got (sym grown ∙ still.0)) ∙ append-nil bytes
 
@@ -187,10 +188,32 @@ module _ (e : Engine) (from : Reads) (s : State) (bytes out : List ℕ) (st : St
         by true is = let quiet = a.quiet is in still (quiet.0, quiet.2)
         by false is = ⊎_elim still (λ due. (keeps_due is due, λ end early before. before_due is due end early)) a.costs.due
 
-    pub keeps_next : KeepsUp e from r2 (bytes ++ a.got) out
+    pub keeps_next : (k' : KeepsUp e from r2 (bytes ++ a.got) out) × ((end : ℕ) → s.start < end → ReadsBefore end k → ReadsBefore end k')
     unfolding Next
-    keeps_next = next.0
+    keeps_next = next
 
-    pub before_next : (end : ℕ) → s.start < end → ReadsBefore end k → ReadsBefore end keeps_next
-    unfolding Next keeps_next
-    before_next = next.1
+-- where lines wait, the call is one that makes no read
+module _ (e : Engine) (from : Reads) (s : State) (bytes out lines : List ℕ) (st : Standing e s bytes (out ++ lines)) (t : State) (u v : Option (List ℕ)) (e1 e2 : Bool)
+    (r1 r2 : Reads) (r : Result (Option Passage) PassageFault) (a : AfterNext s t u v e1 e2 r1 r2 r) (paid : s.is_ended ≡ false → r1.count ≤ from.count + (s.start + length s.held))
+    (waits : (lines ≡ []) ⊎ (s.is_settled ≡ true)) (k : KeepsUp e from r1 bytes out) where
+  Waiting : Type 0
+  Waiting = (k' : KeepsUp e from r2 (bytes ++ a.got) out) × ((end : ℕ) → s.start < end → ReadsBefore end k → ReadsBefore end k')
+
+  waiting : Waiting
+  unfolding Waiting
+  waiting = ⊎_elim
+      (λ (none : lines ≡ []).
+      keeps_next e from s bytes out (Standing-same e s bytes (out ++ lines) out (sym (ap (λ l. out ++ l) none ∙ append-nil out)) st) t u v e1 e2 r1 r2 r a paid k)
+      (λ (settled : s.is_settled ≡ true). (
+        keeps_still e from r1 r2 bytes s.held (lent_text r ++ t.held) a.got out a.grown (a.still settled).0 k,
+        λ end early before. before_still e from r1 r2 bytes s.held (lent_text r ++ t.held) a.got out a.grown (a.still settled).0 k end before,
+      ))
+      waits
+
+  pub keeps_waiting : KeepsUp e from r2 (bytes ++ a.got) out
+  unfolding Waiting
+  keeps_waiting = waiting.0
+
+  pub before_waiting : (end : ℕ) → s.start < end → ReadsBefore end k → ReadsBefore end keeps_waiting
+  unfolding Waiting keeps_waiting
+  before_waiting = waiting.1

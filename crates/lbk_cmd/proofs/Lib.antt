@@ -10,6 +10,7 @@ pub mod Runs
 pub mod Stopping
 pub mod KeepingUp
 pub mod Looping
+pub mod Gathering
 pub mod Owning
 pub mod Known
 pub mod Ranging

@@ -1,31 +1,32 @@
 -- The loop of an engine: what was read and what was written, from passage to passage.
-use Rattle.std.proofs.Common.{◌≡◌, ℕ, ◌+◌, ◌<◌, ◌≤◌, Bool, true, false, ◌||◌, ◌⊎◌, List, [], ◌∷◌, ◌++◌, length, take, Option, None, Some, Result, Ok, Err, refl, IsTrue, sym, ap, subst, ◌∙◌, arith, inl, ⊎_elim, length-append, append_assoc, append-nil}
+use Rattle.std.proofs.Common.{◌≡◌, ℕ, ◌+◌, ◌<◌, ◌≤◌, Bool, true, false, ◌||◌, ◌⊎◌, List, [], ◌∷◌, ◌++◌, length, take, Option, None, Some, Result, Ok, Err, refl, IsTrue, sym, ap, subst, ◌∙◌, arith, inl, inr, ⊎_elim, length-append, append_assoc, append-nil}
 use Rattle.std.proofs.Math.Seq.{take-append-add}
 use Rattle.std.proofs.lemmas.Bool.{cases_lt, false≢true}
-use Rattle.std.specs.Io.KnownBytes.{Appends, Consumes, IsAtEnd}
+use Rattle.std.specs.Io.KnownBytes.{Appends, Consumes, IsAtEnd, Keeps}
 use Rattle.lbk_feed.specs.Devices.{Reads}
-use Rattle.lbk_feed.specs.Runs.{Took, Ran}
+use Rattle.lbk_feed.specs.Runs.{IsStopped, Took, Ran}
 use Rattle.lbk_feed.specs.Text.{longest_text}
 use Rattle.lbk_feed.proofs.Taking.{Consumes-nil, Consumes-trans, Took-then, kept_took, begun_took, told_took}
 use Rattle.lbk_passage.specs.Marks.{Marked}
 use Rattle.lbk_passage.specs.State.{State, new_state}
-use Rattle.lbk_passage.specs.Next.{AfterNext, Agrees, IsDone, IsPassage, Lends, ends_run, fault_in, lent_text}
+use Rattle.lbk_passage.specs.Next.{AfterNext, Agrees, IsDone, IsPassage, KeepsAhead, Lends, ends_run, fault_in, lent_text}
 use Rattle.lbk_passage.specs.declared.faults.PassageFault.{PassageFault}
 use Rattle.lbk_passage.specs.declared.faults.PassageFault.TheVariants as fault
 use Rattle.lbk_passage.specs.declared.passage.Passage.{Passage}
+use Rattle.lbk_cmd.specs.Gathering.{HasWritten}
 use Rattle.lbk_cmd.specs.Ranges.{IsRangeRun, RangeComesTo, ReadsBefore}
-use Rattle.lbk_cmd.specs.Run.{ComesTo, Engine, IsRun, KeepsUp, is_failed_read}
+use Rattle.lbk_cmd.specs.Run.{ComesTo, Engine, IsRun, IsSettled, IsWhole, KeepsUp, is_failed_read}
 use Rattle.lbk_cmd.specs.declared.faults.CmdFault.{CmdFault}
 use Rattle.lbk_cmd.specs.declared.faults.CmdFault.TheVariants as cmd
-use Rattle.lbk_cmd.proofs.Running.{Standing, Standing-new, Standing-new-given, Standing-next, Standing-next-given, given_now, passage_now, start_now}
-use Rattle.lbk_cmd.proofs.KeepingUp.{before_next, before_none, before_written, keeps_none, keeps_written, keeps_next}
+use Rattle.lbk_cmd.proofs.Running.{Standing, Standing-new, Standing-new-given, Standing-next, Standing-next-given, Standing-same, Standing-settled, given_now, passage_now, some_bytes_of, start_now}
+use Rattle.lbk_cmd.proofs.KeepingUp.{before_none, before_waiting, before_written, keeps_none, keeps_waiting, keeps_written, none_got}
 use Rattle.lbk_cmd.proofs.Stopping.{range_fault, stopped, run_memory, run_whole, run_fault}
 
 pub Appends-nil : (a : Option (List ℕ)) → Appends a a []
 Appends-nil None = tt
 Appends-nil (Some xs) = sym (append-nil xs)
 
-Appends-trans : (a b c : Option (List ℕ)) (bs cs : List ℕ) → Appends a b bs → Appends b c cs → Appends a c (bs ++ cs)
+pub Appends-trans : (a b c : Option (List ℕ)) (bs cs : List ℕ) → Appends a b bs → Appends b c cs → Appends a c (bs ++ cs)
 Appends-trans None b c bs cs p q = tt
 Appends-trans (Some x) None c bs cs p q = absurd p
 Appends-trans (Some x) (Some y) None bs cs p q = absurd q
@@ -51,20 +52,31 @@ pub record Ends {X : Type 0} (e : Engine) (from to : Reads) (has_ended : Bool) (
   pub keeps_up : KeepsUp e from to bytes out
   pub before : (begin end : ℕ) → May begin end → ReadsBefore end keeps_up
 
+-- the bytes ahead are told still, but after a failed read
+kept_but_read : (f : Option PassageFault) (a b : Option (List ℕ)) → ¬ (f ≡ Some fault.Read) → KeepsAhead f a b → Keeps a b
+kept_but_read None a b calm k = k
+kept_but_read (Some fault.Limit) a b calm k = k
+kept_but_read (Some fault.Memory) a b calm k = k
+kept_but_read (Some fault.Read) a b calm k = absurd (calm refl)
+kept_but_read (Some (fault.NotUtf8 at)) a b calm k = k
+kept_but_read (Some fault.TextTooLong) a b calm k = k
+kept_but_read (Some (fault.ParagraphTooLong start)) a b calm k = k
+kept_but_read (Some fault.Spent) a b calm k = k
+
 module _ (e : Engine) (u0 w0 : Option (List ℕ)) (reads0 : Reads) where
-  -- what the calls so far took from the reader, and what was written
-  pub record Going (s : State) (u w : Option (List ℕ)) (has_ended : Bool) (reads : Reads) : Type 0 where
+  -- what the calls so far took from the reader, what was written, and the lines behind it that wait
+  pub record Going (s : State) (u w : Option (List ℕ)) (has_ended : Bool) (reads : Reads) (lines : List ℕ) : Type 0 where
     pub bytes : List ℕ
     pub out : List ℕ
     pub took : Consumes u0 u bytes
     pub put : Appends w0 w out
-    pub standing : Standing e s bytes out
+    pub standing : Standing e s bytes (out ++ lines)
     pub agrees : Agrees s has_ended u
     pub paid : s.is_ended ≡ false → reads.count ≤ reads0.count + (s.start + length s.held)
     pub most : reads.count ≤ reads0.count + (longest_text + 1)
     pub keeps_up : KeepsUp e reads0 reads bytes out
 
-  pub Going-new : (s : State) (has_ended : Bool) → s ≡ new_state e.cell e.profile e.limit → Going s u0 w0 has_ended reads0
+  pub Going-new : (s : State) (has_ended : Bool) → s ≡ new_state e.cell e.profile e.limit → Going s u0 w0 has_ended reads0 []
   Going-new s has_ended is = record {
     bytes = [];
     out = [];
@@ -85,7 +97,100 @@ module _ (e : Engine) (u0 w0 : Option (List ℕ)) (reads0 : Reads) where
   unfolding Going-new
   Going-new-given s has_ended is = Standing-new-given e s is
 
-  module _ (s t : State) (u v w : Option (List ℕ)) (e1 e2 : Bool) (r1 r2 : Reads) (g : Going s u w e1 r1) where
+  module _ (s : State) (u w : Option (List ℕ)) (e1 : Bool) (r1 : Reads) (lines : List ℕ) (g : Going s u w e1 r1 lines) where
+    -- the lines that waited were written
+    pub Going-written : (w' : Option (List ℕ)) → Appends w w' lines → Going s u w' e1 r1 []
+    Going-written w' wrote = record {
+      bytes = g.bytes;
+      out = g.out ++ lines;
+      took = g.took;
+      put = Appends-trans w0 w w' g.out lines g.put wrote;
+      standing = Standing-same e s g.bytes (g.out ++ lines) ((g.out ++ lines) ++ []) (append-nil (g.out ++ lines)) g.standing;
+      agrees = g.agrees;
+      paid = g.paid;
+      most = g.most;
+      keeps_up = keeps_written e reads0 r1 g.bytes g.out lines g.keeps_up;
+    }
+
+    pub before-written : (w' : Option (List ℕ)) (wrote : Appends w w' lines) (to : ℕ) → ReadsBefore to g.keeps_up → ReadsBefore to (Going-written w' wrote).keeps_up
+    unfolding Going-written
+    before-written w' wrote to before = before_written e reads0 r1 g.bytes g.out lines g.keeps_up to before
+
+    pub Going-written-given : (w' : Option (List ℕ)) (wrote : Appends w w' lines) → (Going-written w' wrote).standing.given ≡ g.standing.given
+    unfolding Going-written Standing-same
+    Going-written-given w' wrote = refl
+
+    -- the next passage was looked for
+    Going-looked : (is_settled : Bool) → Going (record s { is_settled = is_settled }) u w e1 r1 lines
+    Going-looked is_settled = record {
+      bytes = g.bytes;
+      out = g.out;
+      took = g.took;
+      put = g.put;
+      standing = Standing-settled e s is_settled g.bytes (g.out ++ lines) g.standing;
+      agrees = g.agrees;
+      paid = g.paid;
+      most = g.most;
+      keeps_up = g.keeps_up;
+    }
+
+    -- the lines were not written, or not all of them
+    pub ran_unwritten : (X : Type 0) (w' : Option (List ℕ)) (n : ℕ) → Appends w w' (take n lines)
+        → Ran false u0 u w0 w' (Ends {X = X} e reads0 r1 e1 u (λ begin end. ReadsBefore end g.keeps_up) (Err cmd.Write))
+    ran_unwritten X w' n wrote =
+        let put = take n lines in
+        let comes = subst (λ l. IsStopped (IsSettled e) (IsWhole e) (e1 ≡ true) l (g.out ++ put)) (append-nil g.bytes)
+        (stopped e s g.bytes (g.out ++ lines) g.standing e1 [] (λ at_end. ((g.agrees at_end).0, refl)) (g.out ++ put) (length g.out + n)
+        (sym (take-append-add g.out lines n))) in
+        record {
+          read = g.bytes;
+          out = g.out ++ put;
+          took = g.took;
+          put = Appends-trans w0 w w' g.out put g.put wrote;
+          so = record {
+            comes = comes;
+            in_range = λ from to may. comes;
+            keeps_up = keeps_written e reads0 r1 g.bytes g.out put g.keeps_up;
+            before = λ from to may. before_written e reads0 r1 g.bytes g.out put g.keeps_up to may;
+          };
+        }
+
+  -- lines wait, or none does and a read may be made
+  abbrev pub Wait : State → List ℕ → Type 0
+  Wait s lines = (lines ≡ []) ⊎ (s.is_settled ≡ true)
+
+  -- where a run goes on that has looked for the next passage, and has written the lines where a read may be due
+  pub record Due (s t : State) (u w w' : Option (List ℕ)) (e1 : Bool) (r1 : Reads) (lines lines' : List ℕ) (g : Going s u w e1 r1 lines) : Type 0 where
+    pub going : Going t u w' e1 r1 lines'
+    pub wait : Wait t lines'
+    pub start : t.start ≡ s.start
+    pub before : (end : ℕ) → ReadsBefore end g.keeps_up → ReadsBefore end going.keeps_up
+
+  pub due : (s t : State) (u w w' : Option (List ℕ)) (e1 : Bool) (r1 : Reads) (lines lines' : List ℕ) (g : Going s u w e1 r1 lines)
+      → t ≡ record s { is_settled = t.is_settled } → HasWritten w w' lines lines' ⊎ ((lines' ≡ lines) × (w' ≡ w) × (t.is_settled ≡ true))
+      → Due s t u w w' e1 r1 lines lines' g
+  unfolding Going-looked
+  due s t u w w' e1 r1 lines lines' g is by =
+      subst (λ x. Due s x u w w' e1 r1 lines lines' g) (sym is)
+      (⊎_elim
+      (λ (written : HasWritten w w' lines lines').
+      subst (λ l. Due s (record s { is_settled = t.is_settled }) u w w' e1 r1 lines l g) (sym written.0) (record {
+        going = Going-looked s u w' e1 r1 [] (Going-written s u w e1 r1 lines g w' written.1) t.is_settled;
+        wait = inl refl;
+        start = refl;
+        before = λ end before. before-written s u w e1 r1 lines g w' written.1 end before;
+      }))
+      (λ (kept : (lines' ≡ lines) × (w' ≡ w) × (t.is_settled ≡ true)).
+      subst (λ l. Due s (record s { is_settled = t.is_settled }) u w w' e1 r1 lines l g) (sym kept.0)
+      (subst (λ x. Due s (record s { is_settled = t.is_settled }) u w x e1 r1 lines lines g) (sym kept.1) (record {
+        going = Going-looked s u w e1 r1 lines g t.is_settled;
+        wait = inr kept.2;
+        start = refl;
+        before = λ end before. before;
+      })))
+      by)
+
+  module _ (s t : State) (u v w : Option (List ℕ)) (e1 e2 : Bool) (r1 r2 : Reads) (lines : List ℕ) (g : Going s u w e1 r1 lines) (wait : Wait s lines) where
     -- the reads of a call, where `all` are the bytes held in the end and those given
     module _ (all : List ℕ) (stops : Bool) (each : (stops || t.is_ended) ≡ false → r2.count + length s.held ≤ r1.count + length all)
         (within : r1.count < r2.count → r2.count + (s.start + length s.held) ≤ r1.count + (longest_text + 1))
@@ -111,12 +216,22 @@ module _ (e : Engine) (u0 w0 : Option (List ℕ)) (reads0 : Reads) where
         (λ h. ((a.quiet h).0, (a.quiet h).1, (a.quiet h).2))
 
     keeps_now : (r : Result (Option Passage) PassageFault) (a : AfterNext s t u v e1 e2 r1 r2 r) → KeepsUp e reads0 r2 (g.bytes ++ a.got) g.out
-    keeps_now r a = keeps_next e reads0 s g.bytes g.out g.standing t u v e1 e2 r1 r2 r a g.paid g.keeps_up
+    keeps_now r a = keeps_waiting e reads0 s g.bytes g.out lines g.standing t u v e1 e2 r1 r2 r a g.paid wait g.keeps_up
 
     before_now : (r : Result (Option Passage) PassageFault) (a : AfterNext s t u v e1 e2 r1 r2 r) (to : ℕ) → s.start < to → ReadsBefore to g.keeps_up
         → ReadsBefore to (keeps_now r a)
     unfolding keeps_now
-    before_now r a = before_next e reads0 s g.bytes g.out g.standing t u v e1 e2 r1 r2 r a g.paid g.keeps_up
+    before_now r a = before_waiting e reads0 s g.bytes g.out lines g.standing t u v e1 e2 r1 r2 r a g.paid wait g.keeps_up
+
+    -- and once the lines that waited were written, or some of them
+    keeps_then : (r : Result (Option Passage) PassageFault) (a : AfterNext s t u v e1 e2 r1 r2 r) (put : List ℕ) → KeepsUp e reads0 r2 (g.bytes ++ a.got) (g.out ++ put)
+    keeps_then r a put = keeps_written e reads0 r2 (g.bytes ++ a.got) g.out put (keeps_now r a)
+
+    before_then : (r : Result (Option Passage) PassageFault) (a : AfterNext s t u v e1 e2 r1 r2 r) (put : List ℕ) (to : ℕ) → s.start < to → ReadsBefore to g.keeps_up
+        → ReadsBefore to (keeps_then r a put)
+    unfolding keeps_then
+    before_then r a put to early before =
+        before_written e reads0 r2 (g.bytes ++ a.got) g.out put (keeps_now r a) to (before_now r a to early before)
 
     notices : (r : Result (Option Passage) PassageFault) (a : AfterNext s t u v e1 e2 r1 r2 r) → t.is_ended ≡ true → e2 ≡ true
     notices r a at_end = (a.agrees g.agrees at_end).0
@@ -130,96 +245,89 @@ module _ (e : Engine) (u0 w0 : Option (List ℕ)) (reads0 : Reads) where
     MayStop Late from to = MayEnd to × Late from
 
     module _ (p : Passage) (a : AfterNext s t u v e1 e2 r1 r2 (Ok (Some p))) where
-      took_now : Consumes u0 v (g.bytes ++ a.got)
-      took_now = Consumes-trans u0 u v g.bytes a.got g.took (kept_took _ _ _ a.grown u v a.ahead_kept)
+      ms : List Marked
+      ms = given_now e s g.bytes (g.out ++ lines) g.standing t u v e1 e2 r1 r2 p a
 
-      -- a passage was given, and its lines were written
-      pub Going-given : (w' : Option (List ℕ)) → Appends w w' (e.lines s.start (given_now e s g.bytes g.out g.standing t u v e1 e2 r1 r2 p a))
-          → Going t v w' e2 r2
-      Going-given w' wrote =
-          let line = e.lines s.start (given_now e s g.bytes g.out g.standing t u v e1 e2 r1 r2 p a) in
-          record {
-            bytes = g.bytes ++ a.got;
-            out = g.out ++ line;
-            took = took_now;
-            put = Appends-trans w0 w w' g.out line g.put wrote;
-            standing = Standing-next e s g.bytes g.out g.standing t u v e1 e2 r1 r2 p a;
-            agrees = a.agrees g.agrees;
-            paid = λ open_end.
-                (let few = paid_reads (p.text.now ++ t.held) false a.costs.each_gave a.costs.within
-                (λ h. ((a.quiet h).0, (a.quiet h).1, (a.quiet h).2)) refl open_end in
-                omega (arith, few, a.start, length-append p.text.now t.held));
-            most = most_reads (Ok (Some p)) a;
-            keeps_up = keeps_written e reads0 r2 (g.bytes ++ a.got) g.out line (keeps_now (Ok (Some p)) a);
-          }
+      -- a passage was given, and its lines wait behind the others
+      Going-lined : Going t v w e2 r2 (lines ++ e.lines s.start ms)
+      unfolding ms
+      Going-lined = record {
+        bytes = g.bytes ++ a.got;
+        out = g.out;
+        took = Consumes-trans u0 u v g.bytes a.got g.took (kept_took _ _ _ a.grown u v a.ahead_kept);
+        put = g.put;
+        standing = Standing-same e t (g.bytes ++ a.got) ((g.out ++ lines) ++ e.lines s.start ms) (g.out ++ (lines ++ e.lines s.start ms))
+            (sym (append_assoc g.out lines (e.lines s.start ms))) (Standing-next e s g.bytes (g.out ++ lines) g.standing t u v e1 e2 r1 r2 p a);
+        agrees = a.agrees g.agrees;
+        paid = λ open_end.
+            (let few = paid_reads (p.text.now ++ t.held) false a.costs.each_gave a.costs.within
+            (λ h. ((a.quiet h).0, (a.quiet h).1, (a.quiet h).2)) refl open_end in
+            omega (arith, few, a.start, length-append p.text.now t.held));
+        most = most_reads (Ok (Some p)) a;
+        keeps_up = keeps_now (Ok (Some p)) a;
+      }
 
-      pub before-given : (w' : Option (List ℕ)) (wrote : Appends w w' (e.lines s.start (given_now e s g.bytes g.out g.standing t u v e1 e2 r1 r2 p a)))
-          (to : ℕ) → MayEnd to → ReadsBefore to (Going-given w' wrote).keeps_up
-      unfolding Going-given
-      before-given w' wrote to may =
-          before_written e reads0 r2 (g.bytes ++ a.got) g.out (e.lines s.start (given_now e s g.bytes g.out g.standing t u v e1 e2 r1 r2 p a))
-          (keeps_now (Ok (Some p)) a) to (before_now (Ok (Some p)) a to may.0 may.1)
+      before-lined : (to : ℕ) → MayEnd to → ReadsBefore to Going-lined.keeps_up
+      unfolding Going-lined
+      before-lined to may = before_now (Ok (Some p)) a to may.0 may.1
 
-      pub Going-given-is : (w' : Option (List ℕ)) (wrote : Appends w w' (e.lines s.start (given_now e s g.bytes g.out g.standing t u v e1 e2 r1 r2 p a)))
-          → (Going-given w' wrote).standing.given ≡ g.standing.given ++ given_now e s g.bytes g.out g.standing t u v e1 e2 r1 r2 p a ∷ []
-      unfolding Going-given
-      Going-given-is w' wrote = Standing-next-given e s g.bytes g.out g.standing t u v e1 e2 r1 r2 p a
+      lined-given : Going-lined.standing.given ≡ g.standing.given ++ ms ∷ []
+      unfolding Going-lined Standing-same ms
+      lined-given = Standing-next-given e s g.bytes (g.out ++ lines) g.standing t u v e1 e2 r1 r2 p a
 
-      -- its lines were not written, or not all of them
-      module _ (line : List ℕ) (is : (ms : List Marked) → s.cell ≡ e.cell → s.profile ≡ e.profile → IsPassage s ms p → line ≡ e.lines p.start ms) where
-        line_is : line ≡ e.lines s.start (given_now e s g.bytes g.out g.standing t u v e1 e2 r1 r2 p a)
-        line_is =
-            is (given_now e s g.bytes g.out g.standing t u v e1 e2 r1 r2 p a) g.standing.cell g.standing.profile
-            (passage_now e s g.bytes g.out g.standing t u v e1 e2 r1 r2 p a)
-            ∙ ap (λ n. e.lines n (given_now e s g.bytes g.out g.standing t u v e1 e2 r1 r2 p a)) (start_now e s g.bytes g.out g.standing t u v e1 e2 r1 r2 p a)
+      -- and were written
+      pub Going-given : (w' : Option (List ℕ)) → Appends w w' (lines ++ e.lines s.start (given_now e s g.bytes (g.out ++ lines) g.standing t u v e1 e2 r1 r2 p a))
+          → Going t v w' e2 r2 []
+      unfolding ms
+      Going-given w' wrote = Going-written t v w e2 r2 (lines ++ e.lines s.start ms) Going-lined w' wrote
 
-        standing_now : Standing e t (g.bytes ++ a.got) (g.out ++ line)
-        standing_now =
-            subst (λ l. Standing e t (g.bytes ++ a.got) (g.out ++ l)) (sym line_is) (Standing-next e s g.bytes g.out g.standing t u v e1 e2 r1 r2 p a)
+      pub Going-given-is : (w' : Option (List ℕ))
+          (wrote : Appends w w' (lines ++ e.lines s.start (given_now e s g.bytes (g.out ++ lines) g.standing t u v e1 e2 r1 r2 p a)))
+          → (Going-given w' wrote).standing.given ≡ g.standing.given ++ given_now e s g.bytes (g.out ++ lines) g.standing t u v e1 e2 r1 r2 p a ∷ []
+      unfolding Going-given ms
+      Going-given-is w' wrote = Going-written-given t v w e2 r2 (lines ++ e.lines s.start ms) Going-lined w' wrote ∙ lined-given
 
-        pub Going-next : (w' : Option (List ℕ)) → Appends w w' line → Going t v w' e2 r2
-        Going-next w' wrote = Going-given w' (subst (Appends w w') line_is wrote)
+      -- where a run goes on
+      pub record GoesTo (lines' : List ℕ) (at : ℕ) : Type 0 where
+        pub going : Going t v w e2 r2 lines'
+        pub before : (to : ℕ) → MayEnd to → ReadsBefore to going.keeps_up
+        pub is : at ≡ t.start
+        pub onward : s.start < t.start
+        pub few : t.start ≤ longest_text
 
-        pub before-next : (w' : Option (List ℕ)) (wrote : Appends w w' line) (to : ℕ) → MayEnd to → ReadsBefore to (Going-next w' wrote).keeps_up
-        unfolding Going-next
-        before-next w' wrote = before-given w' (subst (Appends w w') line_is wrote)
-
-        pub ran_write : (X : Type 0) (Late : ℕ → Type 0) (w' : Option (List ℕ)) (n : ℕ) → Appends w w' (take n line)
-            → Ran false u0 v w0 w' (Ends {X = X} e reads0 r2 e2 v (MayStop Late) (Err cmd.Write))
-        ran_write X Late w' n wrote =
-            let put = take n line in
-            let kept = keeps_now (Ok (Some p)) a in
-            let comes = stopped e t (g.bytes ++ a.got) (g.out ++ line) standing_now e2 (notices (Ok (Some p)) a) (g.out ++ put) (length g.out + n)
-            (sym (take-append-add g.out line n)) in
-            record {
-              read = g.bytes ++ a.got;
-              out = g.out ++ put;
-              took = took_now;
-              put = Appends-trans w0 w w' g.out put g.put wrote;
-              so = record {
-                comes = comes;
-                in_range = λ from to may. comes;
-                keeps_up = keeps_written e reads0 r2 (g.bytes ++ a.got) g.out put kept;
-                before = λ from to may. before_written e reads0 r2 (g.bytes ++ a.got) g.out put kept to (before_now (Ok (Some p)) a to may.0.0 may.0.1);
-              };
-            }
-
-      -- memory could not grow for its lines
-      pub ran_memory : (X : Type 0) → Ran false u0 v w0 w (Ends {X = X} e reads0 r2 e2 v (MayStop (λ from. from ≤ s.start)) (Err cmd.Memory))
-      ran_memory X =
+      pub goes_to : (lines' : List ℕ) (at : ℕ) → at ≡ p.start + length p.text.now
+          → ((ms : List Marked) → s.cell ≡ e.cell → s.profile ≡ e.profile → IsPassage s ms p → lines' ≡ lines ++ e.lines p.start ms) → GoesTo lines' at
+      unfolding ms
+      goes_to lines' at end is =
+          let start = start_now e s g.bytes (g.out ++ lines) g.standing t u v e1 e2 r1 r2 p a in
+          let passage = passage_now e s g.bytes (g.out ++ lines) g.standing t u v e1 e2 r1 r2 p a in
+          let same : lines' ≡ lines ++ e.lines s.start ms = is ms g.standing.cell g.standing.profile passage ∙ ap (λ n. lines ++ e.lines n ms) start in
           let lends : Lends s t p = a.answer in
-          let held = run_memory e s g.bytes g.out g.standing t u v e1 e2 r1 r2 (Ok (Some p)) a (notices (Ok (Some p)) a) lends.marks t.held lends.passage.some
+          subst (λ l. GoesTo l at) (sym same) (record {
+            going = Going-lined;
+            before = before-lined;
+            is = omega (arith, end, start, a.start);
+            onward = omega (arith, a.start, some_bytes_of lends.marks lends.passage.some, ap length lends.passage.text);
+            few = omega (arith, a.start, lends.counted);
+          })
+
+      -- memory could not grow for its lines; those that waited were written
+      pub ran_memory : (X : Type 0) (Late : ℕ → Type 0) → ((from : ℕ) → Late from → from ≤ s.start) → (w' : Option (List ℕ)) → Appends w w' lines
+          → Ran false u0 v w0 w' (Ends {X = X} e reads0 r2 e2 v (MayStop Late) (Err cmd.Memory))
+      ran_memory X Late is_late w' wrote =
+          let lends : Lends s t p = a.answer in
+          let held = run_memory e s g.bytes (g.out ++ lines) g.standing t u v e1 e2 r1 r2 (Ok (Some p)) a (notices (Ok (Some p)) a) lends.marks t.held lends.passage.some
           (ap (λ l. l ++ t.held) lends.passage.text) lends.comes in
           record {
             read = g.bytes ++ a.got;
-            out = g.out;
-            took = took_now;
-            put = g.put;
+            out = g.out ++ lines;
+            took = Consumes-trans u0 u v g.bytes a.got g.took (kept_took _ _ _ a.grown u v a.ahead_kept);
+            put = Appends-trans w0 w w' g.out lines g.put wrote;
             so = record {
               comes = held.0;
-              in_range = λ from to may. record { held_up = held.0; late = omega (arith, held.1, may.1); begins = omega (arith, held.1, may.0.0) };
-              keeps_up = keeps_now (Ok (Some p)) a;
-              before = λ from to may. before_now (Ok (Some p)) a to may.0.0 may.0.1;
+              in_range = λ from to may. record { held_up = held.0; late = omega (arith, held.1, is_late from may.1); begins = omega (arith, held.1, may.0.0) };
+              keeps_up = keeps_then (Ok (Some p)) a lines;
+              before = λ from to may. before_then (Ok (Some p)) a lines to may.0.0 may.0.1;
             };
           }
 
@@ -227,39 +335,61 @@ module _ (e : Engine) (u0 w0 : Option (List ℕ)) (reads0 : Reads) where
     at_the_end a = let done : IsDone t = a.answer in a.agrees g.agrees done.at_end
 
     -- the text was read to its end
-    pub ran_whole : {X : Type 0} (Late : ℕ → Type 0) (x : X) → AfterNext s t u v e1 e2 r1 r2 (Ok None) → Ran false u0 v w0 w (Ends e reads0 r2 e2 v (MayStop Late) (Ok x))
-    ran_whole Late x a =
-        let whole = run_whole e s g.bytes g.out g.standing t u v e1 e2 r1 r2 a in
+    pub ran_whole : {X : Type 0} (Late : ℕ → Type 0) (x : X) (w' : Option (List ℕ)) → Appends w w' lines → AfterNext s t u v e1 e2 r1 r2 (Ok None)
+        → Ran false u0 v w0 w' (Ends e reads0 r2 e2 v (MayStop Late) (Ok x))
+    ran_whole Late x w' wrote a =
+        let whole = run_whole e s g.bytes (g.out ++ lines) g.standing t u v e1 e2 r1 r2 a in
         record {
           read = g.bytes ++ a.got;
-          out = g.out;
+          out = g.out ++ lines;
           took = Consumes-trans u0 u v g.bytes a.got g.took (kept_took _ _ _ a.grown u v a.ahead_kept);
-          put = g.put;
+          put = Appends-trans w0 w w' g.out lines g.put wrote;
           so = record {
             comes = whole;
             in_range = λ from to may. inl (at_the_end a, whole);
-            keeps_up = keeps_now (Ok None) a;
-            before = λ from to may. before_now (Ok None) a to may.0.0 may.0.1;
+            keeps_up = keeps_then (Ok None) a lines;
+            before = λ from to may. before_then (Ok None) a lines to may.0.0 may.0.1;
           };
         }
 
     -- the segmenter answered a fault
     pub ran_fault : (X : Type 0) (Late : ℕ → Type 0) (why : PassageFault) → ((from : ℕ) → Late from → why ≡ fault.Memory → from ≤ s.start)
-        → AfterNext s t u v e1 e2 r1 r2 (Err why)
-        → Ran (is_failed_read {X = X} (Err (cmd.Passage why))) u0 v w0 w (Ends {X = X} e reads0 r2 e2 v (MayStop Late) (Err (cmd.Passage why)))
-    ran_fault X Late why is_late a = record {
+        → (w' : Option (List ℕ)) → Appends w w' lines → AfterNext s t u v e1 e2 r1 r2 (Err why)
+        → Ran (is_failed_read {X = X} (Err (cmd.Passage why))) u0 v w0 w' (Ends {X = X} e reads0 r2 e2 v (MayStop Late) (Err (cmd.Passage why)))
+    ran_fault X Late why is_late w' wrote a = record {
       read = g.bytes ++ a.got;
-      out = g.out;
+      out = g.out ++ lines;
       took = Took-then (is_failed_read {X = X} (Err (cmd.Passage why))) u0 u v g.bytes a.got g.took (took_fault X s t u v e1 e2 r1 r2 why a);
-      put = g.put;
+      put = Appends-trans w0 w w' g.out lines g.put wrote;
       so = record {
-        comes = run_fault e s g.bytes g.out g.standing t u v e1 e2 r1 r2 X why a (notices (Err why) a);
-        in_range = λ from to may. range_fault e s g.bytes g.out g.standing t u v e1 e2 r1 r2 X from to (IsTrue e2 × IsAtEnd v) why a (notices (Err why) a)
+        comes = run_fault e s g.bytes (g.out ++ lines) g.standing t u v e1 e2 r1 r2 X why a (notices (Err why) a);
+        in_range = λ from to may. range_fault e s g.bytes (g.out ++ lines) g.standing t u v e1 e2 r1 r2 X from to (IsTrue e2 × IsAtEnd v) why a (notices (Err why) a)
             (is_late from may.1) may.0.0;
-        keeps_up = keeps_now (Err why) a;
-        before = λ from to may. before_now (Err why) a to may.0.0 may.0.1;
+        keeps_up = keeps_then (Err why) a lines;
+        before = λ from to may. before_then (Err why) a lines to may.0.0 may.0.1;
       };
     }
+
+    -- after a call that read nothing, the lines that waited were not written, or not all of them
+    pub ran_held_back : (X : Type 0) (r : Result (Option Passage) PassageFault) (a : AfterNext s t u v e1 e2 r1 r2 r) → ¬ (fault_in r ≡ Some fault.Read)
+        → (w' : Option (List ℕ)) (n : ℕ) → Appends w w' (take n lines) → Ran false u0 v w0 w' (Ends {X = X} e reads0 r2 e2 v (λ from to. MayEnd to) (Err cmd.Write))
+    ran_held_back X r a calm w' n wrote =
+        let put = take n lines in
+        let comes = stopped e s g.bytes (g.out ++ lines) g.standing e2 a.got
+        (λ at_end. let quiet = a.quiet at_end in (notices r a quiet.1, none_got s.held a.got (sym a.grown ∙ quiet.0))) (g.out ++ put) (length g.out + n)
+        (sym (take-append-add g.out lines n)) in
+        record {
+          read = g.bytes ++ a.got;
+          out = g.out ++ put;
+          took = Consumes-trans u0 u v g.bytes a.got g.took (kept_took _ _ _ a.grown u v (kept_but_read (fault_in r) _ _ calm a.ahead_kept));
+          put = Appends-trans w0 w w' g.out put g.put wrote;
+          so = record {
+            comes = comes;
+            in_range = λ from to may. comes;
+            keeps_up = keeps_then r a put;
+            before = λ from to may. before_then r a put to may.0 may.1;
+          };
+        }
 
   -- nothing was read, where the segmenter could not be made
   ran_none : (X : Type 0) (has_ended : Bool) → Ran false u0 u0 w0 w0 (Ends {X = X} e reads0 reads0 has_ended u0 (λ begin end. Unit {0}) (Err (cmd.Passage fault.Memory)))
@@ -306,51 +436,34 @@ module _ (e : Engine) (u0 w0 : Option (List ℕ)) (reads0 : Reads) (X : Type 0) 
       none same ran =
           subst (λ f. Ran (is_failed_read {X = X} (Err (cmd.Passage f))) u0 u0 w0 w0 (Ends {X = X} e reads0 reads0 has_ended u0 (λ begin end. Unit {0}) (Err (cmd.Passage f)))) (sym same) ran
 
-  module _ (s t : State) (u v w : Option (List ℕ)) (e1 e2 : Bool) (r1 r2 : Reads) (r : Result (Option Passage) PassageFault)
-      (g : Going e u0 w0 reads0 s u w e1 r1) (a : AfterNext s t u v e1 e2 r1 r2 r) where
+  module _ (s t : State) (u v w : Option (List ℕ)) (e1 e2 : Bool) (r1 r2 : Reads) (r : Result (Option Passage) PassageFault) (lines : List ℕ)
+      (g : Going e u0 w0 reads0 s u w e1 r1 lines) (wait : Wait e u0 w0 reads0 s lines) (a : AfterNext s t u v e1 e2 r1 r2 r) (w' : Option (List ℕ)) (wrote : Appends w w' lines) where
     -- where memory could not grow for a passage, this one begins in the range
     abbrev pub IsLate : ℕ → Type 0
     IsLate from = r ≡ Err fault.Memory → from ≤ s.start
 
     -- a run that ends after the call, over a range where it may begin so
-    abbrev pub EndsSo : (ℕ → Type 0) → Option (List ℕ) → Type 0
-    EndsSo Late w' = Ran (is_failed_read answer) u0 v w0 w' (Ends e reads0 r2 e2 v (MayStop e u0 w0 reads0 s t u v w e1 e2 r1 r2 g Late) answer)
+    abbrev pub EndsSo : (ℕ → Type 0) → Type 0
+    EndsSo Late = Ran (is_failed_read answer) u0 v w0 w' (Ends e reads0 r2 e2 v (MayStop e u0 w0 reads0 s t u v w e1 e2 r1 r2 lines g wait Late) answer)
 
-    ended_so : (Late : ℕ → Type 0) (w' : Option (List ℕ)) (known : Result X CmdFault) → answer ≡ known
-        → Ran (is_failed_read known) u0 v w0 w' (Ends e reads0 r2 e2 v (MayStop e u0 w0 reads0 s t u v w e1 e2 r1 r2 g Late) known) → EndsSo Late w'
-    ended_so Late w' known is =
-        subst (λ x. Ran (is_failed_read x) u0 v w0 w' (Ends e reads0 r2 e2 v (MayStop e u0 w0 reads0 s t u v w e1 e2 r1 r2 g Late) x)) (sym is)
+    ended_so : (Late : ℕ → Type 0) (known : Result X CmdFault) → answer ≡ known
+        → Ran (is_failed_read known) u0 v w0 w' (Ends e reads0 r2 e2 v (MayStop e u0 w0 reads0 s t u v w e1 e2 r1 r2 lines g wait Late) known) → EndsSo Late
+    ended_so Late known is =
+        subst (λ x. Ran (is_failed_read x) u0 v w0 w' (Ends e reads0 r2 e2 v (MayStop e u0 w0 reads0 s t u v w e1 e2 r1 r2 lines g wait Late) x)) (sym is)
 
-    pub run_stopped : (why : PassageFault) → r ≡ Err why → answer ≡ Err (cmd.Passage why) → EndsSo IsLate w
+    pub run_stopped : (why : PassageFault) → r ≡ Err why → answer ≡ Err (cmd.Passage why) → EndsSo IsLate
     run_stopped why was is =
-        ended_so IsLate w (Err (cmd.Passage why)) is (ran_fault e u0 w0 reads0 s t u v w e1 e2 r1 r2 g X IsLate why (λ from late same. late (was ∙ ap (λ f. Err f) same))
-        (subst (AfterNext s t u v e1 e2 r1 r2) was a))
+        ended_so IsLate (Err (cmd.Passage why)) is (ran_fault e u0 w0 reads0 s t u v w e1 e2 r1 r2 lines g wait X IsLate why
+        (λ from late same. late (was ∙ ap (λ f. Err f) same)) w' wrote (subst (AfterNext s t u v e1 e2 r1 r2) was a))
 
-    pub run_ended : (x : X) → r ≡ Ok None → answer ≡ Ok x → EndsSo IsLate w
-    run_ended x was is = ended_so IsLate w (Ok x) is (ran_whole e u0 w0 reads0 s t u v w e1 e2 r1 r2 g IsLate x (subst (AfterNext s t u v e1 e2 r1 r2) was a))
+    pub run_ended : (x : X) → r ≡ Ok None → answer ≡ Ok x → EndsSo IsLate
+    run_ended x was is =
+        ended_so IsLate (Ok x) is (ran_whole e u0 w0 reads0 s t u v w e1 e2 r1 r2 lines g wait IsLate x w' wrote (subst (AfterNext s t u v e1 e2 r1 r2) was a))
 
-    module _ (p : Passage) (was : r ≡ Ok (Some p)) where
-      given : AfterNext s t u v e1 e2 r1 r2 (Ok (Some p))
-      given = subst (AfterNext s t u v e1 e2 r1 r2) was a
-
-      pub run_out_of_memory : answer ≡ Err cmd.Memory → EndsSo (λ from. from ≤ s.start) w
-      run_out_of_memory is = ended_so (λ from. from ≤ s.start) w (Err cmd.Memory) is (ran_memory e u0 w0 reads0 s t u v w e1 e2 r1 r2 g p given X)
-
-      module _ (line : List ℕ) (lines : (ms : List Marked) → s.cell ≡ e.cell → s.profile ≡ e.profile → IsPassage s ms p → line ≡ e.lines p.start ms)
-          (w' : Option (List ℕ)) where
-        pub run_unwritten : answer ≡ Err cmd.Write → (n : ℕ) → Appends w w' (take n line) → EndsSo IsLate w'
-        run_unwritten is n wrote =
-            ended_so IsLate w' (Err cmd.Write) is (ran_write e u0 w0 reads0 s t u v w e1 e2 r1 r2 g p given line lines X IsLate w' n wrote)
-
-        pub run_goes_on : Appends w w' line → Going e u0 w0 reads0 t v w' e2 r2
-        run_goes_on wrote = Going-next e u0 w0 reads0 s t u v w e1 e2 r1 r2 g p given line lines w' wrote
-
-        pub range_goes_on : Appends w w' line → (to : ℕ) → MayEnd e u0 w0 reads0 s t u v w e1 e2 r1 r2 g to
-            → (on : Going e u0 w0 reads0 t v w' e2 r2) × ReadsBefore to on.keeps_up
-        range_goes_on wrote to may = (
-          Going-next e u0 w0 reads0 s t u v w e1 e2 r1 r2 g p given line lines w' wrote,
-          before-next e u0 w0 reads0 s t u v w e1 e2 r1 r2 g p given line lines w' wrote to may,
-        )
+    pub run_out_of_memory : (p : Passage) → r ≡ Ok (Some p) → answer ≡ Err cmd.Memory → EndsSo (λ from. from ≤ s.start)
+    run_out_of_memory p was is =
+        ended_so (λ from. from ≤ s.start) (Err cmd.Memory) is
+        (ran_memory e u0 w0 reads0 s t u v w e1 e2 r1 r2 lines g wait p (subst (AfterNext s t u v e1 e2 r1 r2) was a) X (λ from. from ≤ s.start) (λ from late. late) w' wrote)
 
 -- over the whole text
 pub whole_run : {X : Type 0} {failed : Bool} {u v w w' : Option (List ℕ)} {e : Engine} {from to : Reads} {has_ended : Bool} {unread : Option (List ℕ)} {May : ℕ → ℕ → Type 0}

@@ -1,5 +1,5 @@
 -- The passages that a loop owns are those that its segmenter has lent.
-use Rattle.std.proofs.Common.{◌≡◌, ℕ, ◌+◌, true, Bool, List, [], ◌∷◌, ◌++◌, length, Option, None, Some, Result, Ok, Err, IfErr, chars, encode_utf8_all, refl, sym, ap, ap₂, subst, ◌∙◌, arith, length-append}
+use Rattle.std.proofs.Common.{◌≡◌, ℕ, ◌+◌, true, Bool, List, [], ◌∷◌, ◌++◌, length, Option, None, Some, Result, Ok, Err, IfErr, chars, encode_utf8_all, refl, sym, ap, ap₂, subst, ◌∙◌, arith, inl, length-append}
 use Rattle.std.specs.List.{flat_map}
 use Rattle.std.proofs.KnownBytes.{Consumes-whole}
 use Rattle.std.proofs.lemmas.Str.{encodes-append, scalars-chars}
@@ -62,7 +62,7 @@ lent_is s ms p cell start of cell_is first =
 module _ (e : Engine) (u0 : Option (List ℕ)) (reads0 : Reads) where
   -- what the calls so far took from the reader, and the passages that they lent
   pub record Owning (s : State) (u : Option (List ℕ)) (has_ended : Bool) (reads : Reads) (items : List Owned) : Type 0 where
-    pub going : Going e u0 None reads0 s u None has_ended reads
+    pub going : Going e u0 None reads0 s u None has_ended reads []
     pub list : items ≡ owned_from e.cell 0 going.standing.given
 
   pub Owning-new : (s : State) (has_ended : Bool) (items : List Owned) → s ≡ new_state e.cell e.profile e.limit → items ≡ []
@@ -79,15 +79,15 @@ module _ (e : Engine) (u0 : Option (List ℕ)) (reads0 : Reads) where
         let a : AfterNext s t u v e1 e2 r1 r2 (Ok (Some p)) = subst (AfterNext s t u v e1 e2 r1 r2) was after in
         let g = o.going in
         let st = g.standing in
-        let ms = given_now e s g.bytes g.out st t u v e1 e2 r1 r2 p a in
+        let ms = given_now e s g.bytes (g.out ++ []) st t u v e1 e2 r1 r2 p a in
         let place : p.start ≡ 0 + length (encode_utf8_all (flat_map scalars_of st.given)) =
-        omega (arith, start_now e s g.bytes g.out st t u v e1 e2 r1 r2 p a, st.start, ap (λ l. length (encode_utf8_all l)) st.joined) in
+        omega (arith, start_now e s g.bytes (g.out ++ []) st t u v e1 e2 r1 r2 p a, st.start, ap (λ l. length (encode_utf8_all l)) st.joined) in
         record {
-          going = Going-given e u0 None reads0 s t u v None e1 e2 r1 r2 g p a None tt;
+          going = Going-given e u0 None reads0 s t u v None e1 e2 r1 r2 [] g (inl refl) p a None tt;
           list = more ∙ ap₂ (λ l x. l ++ x ∷ []) o.list
-              (lent_is s ms p e.cell _ (passage_now e s g.bytes g.out st t u v e1 e2 r1 r2 p a) st.cell place)
+              (lent_is s ms p e.cell _ (passage_now e s g.bytes (g.out ++ []) st t u v e1 e2 r1 r2 p a) st.cell place)
               ∙ sym (owned-snoc e.cell 0 st.given ms)
-              ∙ ap (owned_from e.cell 0) (sym (Going-given-is e u0 None reads0 s t u v None e1 e2 r1 r2 g p a None tt));
+              ∙ ap (owned_from e.cell 0) (sym (Going-given-is e u0 None reads0 s t u v None e1 e2 r1 r2 [] g (inl refl) p a None tt));
         }
 
     -- the text was read to its end
@@ -95,13 +95,13 @@ module _ (e : Engine) (u0 : Option (List ℕ)) (reads0 : Reads) where
     all_owned was =
         let a : AfterNext s t u v e1 e2 r1 r2 (Ok None) = subst (AfterNext s t u v e1 e2 r1 r2) was after in
         let g = o.going in
-        let end = at_the_end e u0 None reads0 s t u v None e1 e2 r1 r2 g a in
+        let end = at_the_end e u0 None reads0 s t u v None e1 e2 r1 r2 [] g (inl refl) a in
         record {
           bytes = g.bytes ++ a.got;
           read = Consumes-whole u0 v (g.bytes ++ a.got) (λ input. g.bytes ++ a.got ≡ input)
               (Consumes-trans u0 u v g.bytes a.got g.took (kept_took _ _ _ a.grown u v a.ahead_kept)) end.1 refl;
-          utf8 = (run_whole e s g.bytes g.out g.standing t u v e1 e2 r1 r2 a).utf8;
-          is = o.list ∙ ap (owned_from e.cell 0) (given_whole e s g.bytes g.out g.standing t u v e1 e2 r1 r2 a);
+          utf8 = (run_whole e s g.bytes (g.out ++ []) g.standing t u v e1 e2 r1 r2 a).utf8;
+          is = o.list ∙ ap (owned_from e.cell 0) (given_whole e s g.bytes (g.out ++ []) g.standing t u v e1 e2 r1 r2 a);
         }
 
 -- by the cells of files

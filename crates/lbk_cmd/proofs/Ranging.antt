@@ -14,7 +14,7 @@ use Rattle.lbk_passage.specs.Laws.{EndsOnce}
 use Rattle.lbk_passage.specs.Marks.{Marked, scalars_of, text_of}
 use Rattle.lbk_passage.specs.Passages.{passages}
 use Rattle.lbk_passage.specs.State.{State}
-use Rattle.lbk_passage.specs.Next.{AfterNext}
+use Rattle.lbk_passage.specs.Next.{AfterNext, IsPassage}
 use Rattle.lbk_passage.specs.Passing.{end_of}
 use Rattle.lbk_passage.specs.declared.faults.PassageFault.{PassageFault}
 use Rattle.lbk_passage.specs.declared.passage.Passage.{Passage}
@@ -26,18 +26,15 @@ use Rattle.lbk_cmd.specs.Ranges.{AreRanges, HasPassed, IsRangeRun, ReadsBefore, 
 use Rattle.lbk_cmd.specs.Run.{Engine, IsWhole, is_failed_read, passages_by}
 use Rattle.lbk_cmd.specs.Texts.{lines_from}
 use Rattle.lbk_cmd.specs.declared.faults.CmdFault.{CmdFault}
-use Rattle.lbk_cmd.proofs.Looping.{Appends-nil, Going, MayEnd, range_goes_on}
+use Rattle.lbk_cmd.specs.Gathering.{Puts}
+use Rattle.lbk_cmd.specs.declared.faults.CmdFault.TheVariants.{Memory, Passage as PassageRefused}
+use Rattle.lbk_cmd.proofs.KeepingUp.{before_written, keeps_written}
+use Rattle.lbk_cmd.proofs.Looping.{Appends-trans, Going}
+use Rattle.lbk_cmd.proofs.Running.{some_bytes_of}
 use Rattle.lbk_cmd.proofs.Stopping.{passed}
 
 abbrev range : ℕ → ℕ → Part
 range from to = record { from = from; to = to }
-
--- the bytes of a passage are some
-some_bytes_of : (ms : List Marked) → 0 < length ms → 1 ≤ length (text_of ms)
-some_bytes_of [] some = absurd (omega (arith, some))
-some_bytes_of (m ∷ ms) some =
-    let bounds = len_utf8_bounds m.scalar in
-    omega (arith, length-encode m.scalar, bounds.0, length-append (encode_utf8 m.scalar) (text_of ms))
 
 some_text : (ms : List Marked) → EndsOnce ms → 1 ≤ length (text_of ms)
 some_text [] ends = absurd ends
@@ -190,22 +187,23 @@ known_range part e reads reads' has_ended (Ok x) (Some input) (Some left) w w' r
 abbrev pub engine_in : Part → Lines → (ℕ → Cell) → Profile → ℕ → Engine
 engine_in part lines cell profile limit = within part (engine_of lines cell profile limit)
 
--- a run that stops where the passages given reach the end of its range
-pub range_passed : (e : Engine) (u0 w0 : Option (List ℕ)) (reads0 : Reads) (s : State) (u w : Option (List ℕ)) (has_ended : Bool) (reads : Reads) (from to : ℕ)
-    → (g : Going e u0 w0 reads0 s u w has_ended reads) → ReadsBefore to g.keeps_up → to ≤ s.start
-    → Ran false u0 u w0 w (IsRangeRun {X = Unit {0}} e from to reads0 reads has_ended (IsTrue has_ended × IsAtEnd u) (Ok (tt {0})))
-range_passed e u0 w0 reads0 s u w has_ended reads from to g before past = record {
+-- a run that stops where the passages given reach the end of its range, once the lines that waited were written
+pub range_passed : (e : Engine) (u0 w0 : Option (List ℕ)) (reads0 : Reads) (s : State) (u w : Option (List ℕ)) (has_ended : Bool) (reads : Reads)
+    (lines : List ℕ) (from to : ℕ) → (g : Going e u0 w0 reads0 s u w has_ended reads lines) → ReadsBefore to g.keeps_up → to ≤ s.start
+    → (w' : Option (List ℕ)) → Appends w w' lines
+    → Ran false u0 u w0 w' (IsRangeRun {X = Unit {0}} e from to reads0 reads has_ended (IsTrue has_ended × IsAtEnd u) (Ok (tt {0})))
+range_passed e u0 w0 reads0 s u w has_ended reads lines from to g before past w' wrote = record {
   read = g.bytes;
-  out = g.out;
+  out = g.out ++ lines;
   took = g.took;
-  put = g.put;
+  put = Appends-trans w0 w w' g.out lines g.put wrote;
   so = record {
     comes = ⊎_elim
-        (λ (ended : (s.is_ended ≡ true) × IsWhole e g.bytes g.out). inl (g.agrees ended.0, ended.1))
-        (λ (settled : HasPassed e to g.bytes g.out). inr settled)
-        (passed e s g.bytes g.out g.standing to past);
-    keeps_up = g.keeps_up;
-    no_further = before;
+        (λ (ended : (s.is_ended ≡ true) × IsWhole e g.bytes (g.out ++ lines)). inl (g.agrees ended.0, ended.1))
+        (λ (settled : HasPassed e to g.bytes (g.out ++ lines)). inr settled)
+        (passed e s g.bytes (g.out ++ lines) g.standing to past);
+    keeps_up = keeps_written e reads0 reads g.bytes g.out lines g.keeps_up;
+    no_further = before_written e reads0 reads g.bytes g.out lines g.keeps_up to before;
   };
 }
 
@@ -229,46 +227,46 @@ lent_none (Ok None) is = refl
 lent_none (Ok (Some p)) is = absurd (cc is)
 lent_none (Err why) is = absurd (cc is)
 
--- a passage before the range was passed over
-module _ (part : Part) (lines : ℕ → List Marked → List ℕ) (cell : ℕ → Cell) (profile : Profile) (limit : ℕ) where
-  abbrev ranged : Engine
-  ranged = within part (record { lines = lines; cell = cell; profile = profile; limit = limit })
+-- a passage before the range that was passed over has no lines
+pub puts_none : (part : Part) (lines : ℕ → List Marked → List ℕ) (cell : ℕ → Cell) (profile : Profile) (limit : ℕ) (s t : State) (u v : Option (List ℕ))
+    (e1 e2 : Bool) (r1 r2 : Reads) (lent : Result (Option Passage) PassageFault) (end : ℕ) (before : List ℕ) → AfterNext s t u v e1 e2 r1 r2 lent
+    → Ok (Some end) ≡ end_of lent → s.start < part.from
+    → Puts (within part (record { lines = lines; cell = cell; profile = profile; limit = limit })) s lent before before end (Ok true)
+puts_none part lines cell profile limit s t u v e1 e2 r1 r2 (Ok None) end before a is early = absurd (cc is)
+puts_none part lines cell profile limit s t u v e1 e2 r1 r2 (Err why) end before a is early = absurd (cc is)
+puts_none part lines cell profile limit s t u v e1 e2 r1 r2 (Ok (Some p)) end before a is early =
+    let begins : p.start ≡ s.start = a.answer.start in
+    let ends : end ≡ p.start + length p.text.now = cc in
+    inl (
+      refl,
+      ends,
+      λ ms cell_is profile_is of.
+          sym (append-nil before) ∙ ap (λ l. before ++ l) (lines-before part lines p.start ms (omega (arith, begins, early))),
+    )
 
-  -- what the calls leave that passed over a passage, and where they stand: `end` is what the last one answered
-  pub record PassedOver (u0 w0 : Option (List ℕ)) (reads0 : Reads) (s t : State) (v w : Option (List ℕ)) (has_ended : Bool) (reads : Reads) (end to : ℕ) : Type 0 where
-    pub going : Going ranged u0 w0 reads0 t v w has_ended reads
-    pub before : ReadsBefore to going.keeps_up
-    pub at : end ≡ t.start
-    pub onward : s.start < t.start
-    pub few : t.start ≤ longest_text
+-- a passage in the range has its lines
+pub puts_here : (part : Part) (lines : ℕ → List Marked → List ℕ) (cell : ℕ → Cell) (profile : Profile) (limit : ℕ) (s t : State) (u v : Option (List ℕ))
+    (e1 e2 : Bool) (r1 r2 : Reads) (lent : Result (Option Passage) PassageFault) (before after : List ℕ) (at : ℕ) (answer : Result Bool CmdFault)
+    → AfterNext s t u v e1 e2 r1 r2 lent → part.from ≤ s.start → s.start < part.to
+    → Puts (record { lines = lines; cell = cell; profile = profile; limit = limit }) s lent before after at answer
+    → Puts (within part (record { lines = lines; cell = cell; profile = profile; limit = limit })) s lent before after at answer
+puts_here part lines cell profile limit s t u v e1 e2 r1 r2 (Ok None) before after at answer a late early puts = puts
+puts_here part lines cell profile limit s t u v e1 e2 r1 r2 (Err why) before after at answer a late early puts = puts
+puts_here part lines cell profile limit s t u v e1 e2 r1 r2 (Ok (Some p)) before after at answer a late early puts =
+    let begins : p.start ≡ s.start = a.answer.start in
+    ⊎_elim
+    (λ (put : (answer ≡ Ok true) × (at ≡ p.start + length p.text.now)
+    × ((ms : List Marked) → s.cell ≡ cell → s.profile ≡ profile → IsPassage s ms p → after ≡ before ++ lines p.start ms)).
+    inl (
+      put.0,
+      put.1,
+      λ ms cell_is profile_is of.
+          put.2 ms cell_is profile_is of ∙ ap (λ l. before ++ l) (lines-here part lines p.start ms (omega (arith, begins, late)) (omega (arith, begins, early))),
+    ))
+    (λ (refused : (answer ≡ Err Memory) × (after ≡ before)). inr refused)
+    puts
 
-  pub passed_over : (u0 w0 : Option (List ℕ)) (reads0 : Reads) (s t : State) (u v w : Option (List ℕ)) (e1 e2 : Bool) (r1 r2 : Reads)
-      (lent : Result (Option Passage) PassageFault) (end to : ℕ) (g : Going ranged u0 w0 reads0 s u w e1 r1) → AfterNext s t u v e1 e2 r1 r2 lent
-      → Ok (Some end) ≡ end_of lent → s.start < part.from → MayEnd ranged u0 w0 reads0 s t u v w e1 e2 r1 r2 g to
-      → PassedOver u0 w0 reads0 s t v w e2 r2 end to
-  passed_over u0 w0 reads0 s t u v w e1 e2 r1 r2 (Ok None) end to g a is early may = absurd (cc is)
-  passed_over u0 w0 reads0 s t u v w e1 e2 r1 r2 (Err why) end to g a is early may = absurd (cc is)
-  passed_over u0 w0 reads0 s t u v w e1 e2 r1 r2 (Ok (Some p)) end to g a is early may =
-      let begins : p.start ≡ s.start = a.answer.start in
-      let ends : end ≡ p.start + length p.text.now = cc in
-      let on = range_goes_on ranged u0 w0 reads0 (Unit {0}) (Ok (tt {0})) s t u v w e1 e2 r1 r2 (Ok (Some p)) g a p refl []
-      (λ ms cell_is profile_is of. lines-before part lines p.start ms (omega (arith, begins, early))) w (Appends-nil w) to may in
-      record {
-        going = on.0;
-        before = on.1;
-        at = omega (arith, ends, begins, a.start);
-        onward = omega (arith, a.start, some_bytes_of a.answer.marks a.answer.passage.some, ap length a.answer.passage.text);
-        few = omega (arith, a.start, a.answer.counted);
-      }
-
--- where a passage stands that a call lent
-module _ (s t : State) (u v : Option (List ℕ)) (e1 e2 : Bool) (r1 r2 : Reads) (r : Result (Option Passage) PassageFault) (p : Passage)
-    (was : r ≡ Ok (Some p)) (after : AfterNext s t u v e1 e2 r1 r2 r) where
-  lent_so : AfterNext s t u v e1 e2 r1 r2 (Ok (Some p))
-  lent_so = subst (λ (a : Result (Option Passage) PassageFault). AfterNext s t u v e1 e2 r1 r2 a) was after
-
-  pub lent_from : p.start ≡ s.start
-  lent_from = lent_so.answer.start
-
-  pub lent_to : p.start + length p.text.now ≡ t.start
-  lent_to = omega (arith, lent_from, lent_so.start)
+-- after a fault no line more stands there
+pub puts_fault : (e : Engine) (s : State) (lent : Result (Option Passage) PassageFault) (before : List ℕ) (at : ℕ) (why : PassageFault) → lent ≡ Err why
+    → (answer : Result Bool CmdFault) → answer ≡ Err (PassageRefused why) → Puts e s lent before before at answer
+puts_fault e s lent before at why same answer is = rw same (is, refl)

@@ -16,6 +16,13 @@ use Rattle.lbk_cmd.specs.Run.{Engine, passages_by, written_by, AreWithin}
 pub some_bytes : (c : ℕ) → 1 ≤ length (encode_utf8 c)
 some_bytes c = let bounds = len_utf8_bounds c in omega (arith, length-encode c, bounds.0)
 
+-- the bytes of a passage are some
+pub some_bytes_of : (ms : List Marked) → 0 < length ms → 1 ≤ length (text_of ms)
+some_bytes_of [] some = absurd (omega (arith, some))
+some_bytes_of (m ∷ ms) some =
+    let bounds = len_utf8_bounds m.scalar in
+    omega (arith, length-encode m.scalar, bounds.0, length-append (encode_utf8 m.scalar) (text_of ms))
+
 lines_from-snoc : (lines : ℕ → List Marked → List ℕ) (start : ℕ) (given : List (List Marked)) (ms : List Marked)
     → lines_from lines start (given ++ ms ∷ []) ≡ lines_from lines start given ++ lines (start + length (encode_utf8_all (flat_map scalars_of given))) ms
 lines_from-snoc lines start [] ms =
@@ -85,6 +92,49 @@ module _ (e : Engine) where
   pub Standing-new-given : (s : State) (is : s ≡ new_state e.cell e.profile e.limit) → (Standing-new s is).given ≡ []
   unfolding Standing-new
   Standing-new-given s is = refl
+
+  -- the same of equal text
+  unfoldable pub Standing-same : (s : State) (bytes out out' : List ℕ) → out' ≡ out → Standing s bytes out → Standing s bytes out'
+  Standing-same s bytes out out' same st = record {
+    scalars = st.scalars;
+    given = st.given;
+    cell = st.cell;
+    profile = st.profile;
+    limit = st.limit;
+    unspent = st.unspent;
+    utf8 = st.utf8;
+    bytes_are = st.bytes_are;
+    start = st.start;
+    few = st.few;
+    joined = st.joined;
+    within = st.within;
+    is = same ∙ st.is;
+    stands = st.stands;
+  }
+
+  -- whether the next passage was found already
+  pub Standing-settled : (s : State) (is_settled : Bool) (bytes out : List ℕ) → Standing s bytes out → Standing (record s { is_settled = is_settled }) bytes out
+  Standing-settled s is_settled bytes out st = record {
+    scalars = st.scalars;
+    given = st.given;
+    cell = st.cell;
+    profile = st.profile;
+    limit = st.limit;
+    unspent = st.unspent;
+    utf8 = st.utf8;
+    bytes_are = st.bytes_are;
+    start = st.start;
+    few = st.few;
+    joined = st.joined;
+    within = st.within;
+    is = st.is;
+    stands = by st.stands;
+  }
+    where
+      by : Stands s st.scalars st.given → Stands (record s { is_settled = is_settled }) st.scalars st.given
+      by (fresh no_scalars no_given) = fresh no_scalars no_given
+      by (goes_on next rest held utf8 near first) = goes_on next rest held utf8 near first
+      by (ended held at_end given) = ended held at_end given
 
   module _ (s : State) (bytes out : List ℕ) (st : Standing s bytes out) where
     -- a passage of more text begins behind those given

@@ -131,18 +131,20 @@ module _ (e : Engine) where
           is = st.is ∙ ap (written_by e) (sym (ap (passages_by e) scalars_are ∙ given));
         }
 
-    -- the front of what is written of the passages given
-    pub stopped : (has_ended : Bool) → (s.is_ended ≡ true → has_ended ≡ true) → (put : List ℕ) (n : ℕ) → put ≡ take n out
-        → IsStopped (IsSettled e) (IsWhole e) (has_ended ≡ true) bytes put
-    stopped has_ended notices put n front = by st.stands
+    -- the front of what is written of the passages given; more may have been read behind them
+    pub stopped : (has_ended : Bool) (got : List ℕ) → (s.is_ended ≡ true → (has_ended ≡ true) × (got ≡ [])) → (put : List ℕ) (n : ℕ) → put ≡ take n out
+        → IsStopped (IsSettled e) (IsWhole e) (has_ended ≡ true) (bytes ++ got) put
+    stopped has_ended got notices put n front = by st.stands
       where
-        by : Stands e s st.scalars st.given → IsStopped (IsSettled e) (IsWhole e) (has_ended ≡ true) bytes put
-        by (fresh none no_given) = midway bytes [] out n (sym (append-nil bytes)) (settled_fresh no_given) front
-        by (goes_on next rest held utf8 near first) =
-            midway bytes [] out n (sym (append-nil bytes)) (settled_on next rest held utf8 near first) front
+        by : Stands e s st.scalars st.given → IsStopped (IsSettled e) (IsWhole e) (has_ended ≡ true) (bytes ++ got) put
+        by (fresh none no_given) = midway bytes got out n refl (settled_fresh no_given) front
+        by (goes_on next rest held utf8 near first) = midway bytes got out n refl (settled_on next rest held utf8 near first) front
         by (ended held is_at_end given) =
-            at_end out n (notices is_at_end)
-            (whole_at bytes (st.bytes_are ∙ ap (λ l. encode_utf8_all st.scalars ++ l) held ∙ append-nil (encode_utf8_all st.scalars)) given) front
+            let at = notices is_at_end in
+            at_end out n at.0
+            (whole_at (bytes ++ got)
+            (ap (λ l. bytes ++ l) at.1 ∙ append-nil bytes ∙ st.bytes_are ∙ ap (λ l. encode_utf8_all st.scalars ++ l) held ∙ append-nil (encode_utf8_all st.scalars))
+            given) front
 
     -- the passages given reach up to `to`, or are all of the text
     pub passed : (to : ℕ) → to ≤ s.start → ((s.is_ended ≡ true) × IsWhole e bytes out) ⊎ HasPassed e to bytes out

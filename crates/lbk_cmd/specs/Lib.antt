@@ -18,6 +18,7 @@ pub mod Parts
 pub mod Message
 -- What only carries proofs.
 pub mod Deciding
+pub mod Gathering
 pub mod Signing
 pub mod ReadBack
 pub mod OutputLine

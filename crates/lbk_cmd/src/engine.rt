@@ -10,10 +10,11 @@ ghost use Rattle.lbk_cmd.specs.Engines.{lines_of};
 ghost use Rattle.lbk_cmd.specs.Signing.{IsCut};
 
 use super::faults::CmdFault;
+use super::gathered::{Gathered, end_of};
 use super::segmented::push_segmented;
 use super::shown::{decide, push_shown};
 use super::signed::push_signed;
-use lbk_feed::{Sink, Source, write_all};
+use lbk_feed::{Sink, Source};
 use lbk_passage::{Passage, Segmenter};
 use lbk_rules::{CellSource, Profile, Verdict};
 use std::alloc::{AllocError, Global};
@@ -94,7 +95,7 @@ pub(crate) enum Lines {
     Segmented,
 }
 
-/// Reads a text to its end, and writes the lines of each passage by one call of `write_all`.
+/// Reads a text to its end, and writes the lines of each passage before the next read that is due.
 fn write_lines<R: Source, W: Sink, C: CellSource>(
     lines: Lines,
     alloc: Global,
@@ -108,14 +109,15 @@ fn write_lines<R: Source, W: Sink, C: CellSource>(
         (devices_of R.Source W.Sink reader.old writer.old) (devices_of R.Source W.Sink reader.new writer.new) result }
 {
     let mut segmenter = Segmenter::new(alloc, cells, limit, profile)?;
-    let mut verdicts = Vec::new(alloc);
-    let mut text = Vec::new(alloc);
-    while let Some(passage) = segmenter.next(reader)? {
-        text.clear();
-        push_lines(lines, cells, profile, &passage, &mut verdicts, &mut text)?;
-        write_all(writer, &text)?;
+    let mut gathered = Gathered::new(alloc);
+    loop {
+        gathered.write_due(&mut segmenter, writer)?;
+        let put = gathered.put_next(lines, &mut segmenter, reader, cells, profile);
+        if let Some(answer) = end_of(put) {
+            gathered.write(writer)?;
+            return answer;
+        }
     }
-    Ok(())
 }
 
 /// Puts the lines of a passage at the end of a text, `verdicts` being a list to work in. After an error some of them

@@ -6,6 +6,7 @@ mod command;
 mod ending;
 mod engine;
 mod faults;
+mod gathered;
 pub mod laws;
 mod message;
 mod operands;

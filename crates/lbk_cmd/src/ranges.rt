@@ -4,10 +4,11 @@ ghost use Rattle.lbk_cmd.specs.Devices.{devices_of};
 ghost use Rattle.lbk_cmd.specs.Engines.{engine_of};
 ghost use Rattle.lbk_cmd.specs.Ranges.{RangeRuns};
 
-use super::engine::{Lines, push_lines};
+use super::engine::Lines;
 use super::faults::CmdFault;
+use super::gathered::{Gathered, end_of};
 use lbk_args::Part;
-use lbk_feed::{Sink, Source, write_all};
+use lbk_feed::{Sink, Source};
 use lbk_passage::Segmenter;
 use lbk_rules::{CellSource, Profile};
 use std::alloc::Global;
@@ -30,24 +31,15 @@ pub fn write_range<R: Source, W: Sink, C: CellSource>(
         (devices_of R.Source W.Sink reader.old writer.old) (devices_of R.Source W.Sink reader.new writer.new) result }
 {
     let mut segmenter = Segmenter::new(alloc, cells, limit, profile)?;
-    let mut verdicts = Vec::new(alloc);
-    let mut text = Vec::new(alloc);
-    let mut at = 0;
-    while at < u64::from(part.to) {
-        if at < u64::from(part.from) {
-            let Some(end) = segmenter.pass(reader)? else {
-                return Ok(());
-            };
-            at = end;
-            continue;
+    let mut gathered = Gathered::new(alloc);
+    while gathered.at() < u64::from(part.to) {
+        gathered.write_due(&mut segmenter, writer)?;
+        let put = gathered.put_within(part, lines, &mut segmenter, reader, cells, profile);
+        if let Some(answer) = end_of(put) {
+            gathered.write(writer)?;
+            return answer;
         }
-        let Some(passage) = segmenter.next(reader)? else {
-            return Ok(());
-        };
-        at = passage.start + passage.text.len() as u64;
-        text.clear();
-        push_lines(lines, cells, profile, &passage, &mut verdicts, &mut text)?;
-        write_all(writer, &text)?;
     }
+    gathered.write(writer)?;
     Ok(())
 }

@@ -63,12 +63,8 @@ fn ends_in_line_end<C: CellSource>(cells: &C, text: &str) -> bool
     }
 }
 
-#[tactic(auto, unfolding(lbk_uax14::specs::Classes::is))]
 fn is_line_end(cell: Cell) -> bool
     ensures { result ≡ is_line_end cell }
 {
-    matches!(
-        cell.class,
-        Class::MandatoryBreak | Class::CarriageReturn | Class::LineFeed | Class::NextLine
-    )
+    cell.class.ends_line()
 }

@@ -28,7 +28,6 @@ pub const SAMPLE_FILES: Files<'static> = Files {
 /// ```rust
 /// let cells = read_cells(rt.alloc(), SAMPLE_FILES)?;
 /// ```
-#[tactic(auto, unfolding(lbk_steps::specs::CellOfTables::cell_of_tables))]
 pub fn read_cells(alloc: Global, files: Files<'_>) -> Result<CellPages, CellsFault>
     ensures lawful { OnOk result (AreLawful files.entry) }
     ensures cells { IfOk result (λ pages. AreCellsOf files.entry (page_cell pages)) }

@@ -2,6 +2,7 @@
 use Rattle.std.proofs.Common.{◌≡◌, ℕ, ◌+◌, Bool, true, false, ◌||◌, not, List, [], ◌++◌, length, Option, None, Some, Result, Ok, Err, string_bytes, encode_utf8_all, chars, IsUtf8, if◌then◌else◌, refl, sym, ap, subst, ◌∙◌, arith, inl, inr, ⊎_elim, append-nil}
 use Rattle.std.specs.Io.KnownBytes.{prepend_known}
 use Rattle.std.proofs.lemmas.Str.{chars-nil, encodes-chars}
+use Rattle.std.proofs.lemmas.Bool.{false≢true}
 use Rattle.lbk_feed.specs.Devices.{Reads}
 use Rattle.lbk_feed.specs.View.{BeginsWith, CanGoOn}
 use Rattle.lbk_uax14.specs.declared.cells.Cell.{Cell}
@@ -52,6 +53,7 @@ module _ (cell : ℕ → Cell) (profile : Profile) (old : Paragraph) (u : Option
     agrees = λ h. h;
     notices = λ h. refl;
     quiet = λ h. (refl, h, refl, λ e. cc);
+    still = λ h. ((refl, refl), λ e. cc);
   }
 
   -- a paragraph that is held already
@@ -71,6 +73,7 @@ module _ (cell : ℕ → Cell) (profile : Profile) (old : Paragraph) (u : Option
     agrees = λ h. h;
     notices = λ h. refl;
     quiet = λ h. (refl, h, refl, λ e. cc);
+    still = λ h. ((refl, refl), λ e. cc);
   }
 
   -- a paragraph that was gathered
@@ -147,6 +150,7 @@ module _ (cell : ℕ → Cell) (profile : Profile) (old : Paragraph) (u : Option
           quiet = λ h.
               (let still = g.quiet (ap (λ f. f.is_ended) feed_is ∙ h) in
               (new_held ∙ still.0 ∙ sym old_held, ap (λ f. f.is_ended) feed_same ∙ still.1, still.2, still.3));
+          still = λ h. absurd (false≢true (sym fresh ∙ h));
         }
 
 -- a fault that stops a run ends it

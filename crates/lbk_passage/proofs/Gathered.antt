@@ -14,7 +14,7 @@ use Rattle.lbk_uax14.specs.declared.cells.Cell.{Cell}
 use Rattle.lbk_values.specs.declared.profile.Profile.{Profile}
 use Rattle.lbk_uax14.specs.declared.verdicts.Verdict.{Verdict}
 use Rattle.lbk_passage.specs.Faults.{passage_fault}
-use Rattle.lbk_passage.specs.Stays.{ends_at, stays, last_class, end_before, finds_end, is_nil}
+use Rattle.lbk_passage.specs.Stays.{IsWholeText, ends_at, stays, last_class, end_before, finds_end, is_nil}
 use Rattle.lbk_passage.specs.State.{state_with, text_held}
 use Rattle.lbk_passage.specs.Next.{fault_in, ends_run, Stops}
 use Rattle.lbk_passage.specs.Gathering.{StopsBefore, Takes, Settles, HasRead, Gathering, Gathers, IsSame}
@@ -57,6 +57,24 @@ Shows-of cell profile p in_hand =
       is_ended = refl;
       text = IsUtf8-string_bytes p.text;
       within = omega (arith, len, short);
+    }
+
+-- a paragraph is whole where a line must end before the next scalar that is ready
+pub whole-line : (cell : ℕ → Cell) (last : Option Class) (p n : Paragraph) (r : Reach) (t : Takes cell last p n r)
+    → stays cell None (chars (string_bytes n.text)) ≡ true → r.last ≡ last_class cell None (chars (string_bytes n.text))
+    → (end : Option Verdict) → r.stop ≡ LineEnds → end ≡ end_before r.last true → IsWholeText cell (string_bytes n.text) n.feed end
+whole-line cell last p n r t none_ends last_is end is end_is =
+    let next = subst (λ k. StopsBefore cell r.last (string_len n.text) p.limit k t.rest) is t.stop in
+    let ready : chars n.feed.ready ≡ next.0 ∷ next.1 = t.is_ready ∙ next.2 in
+    record {
+      utf8 = is_utf8-from_IsUtf8 n.feed.ready t.utf8;
+      first = ap (λ l. n.feed.ready ++ drop (length n.feed.ready) l) t.front ∙ ap (λ l. n.feed.ready ++ l) (drop-append_seam n.feed.ready t.behind) ∙ sym t.front;
+      few = t.few;
+      none_ends = none_ends;
+      found = ap (λ l. finds_end cell (last_class cell None (chars (string_bytes n.text))) n.feed l) ready
+          ∙ ap (λ k. ends_at k (cell next.0).class) (sym last_is) ∙ next.3;
+      end_is = end_is ∙ ap (λ k. end_before k true) last_is
+          ∙ ap (λ l. end_before (last_class cell None (chars (string_bytes n.text))) (not (is_nil l))) (sym ready);
     }
 
 module _ (cell : ℕ → Cell) (old : Paragraph) (unread : Option (List ℕ)) (ended : Bool) (reads : Reads) where
@@ -280,8 +298,6 @@ module _ (cell : ℕ → Cell) (old : Paragraph) (unread : Option (List ℕ)) (e
       pub Gathers-line : (end : Option Verdict) → p.is_spent ≡ false → r.stop ≡ LineEnds → end ≡ end_before r.last true
           → Gathers cell old n unread v ended e' reads r2 (Ok end)
       Gathers-line end unspent is end_is =
-          let next = subst (λ k. StopsBefore cell r.last (string_len n.text) p.limit k t.rest) is t.stop in
-          let ready : chars n.feed.ready ≡ next.0 ∷ next.1 = t.is_ready ∙ next.2 in
           let kept = kept_short in
           record {
             limit = t.limit ∙ s.limit;
@@ -294,16 +310,7 @@ module _ (cell : ℕ → Cell) (old : Paragraph) (unread : Option (List ℕ)) (e
             agrees = λ h at_end. s.agrees h (sym t.ended ∙ at_end);
             notices = λ h. s.notices (sym t.ended ∙ h);
             quiet = λ h. ((still h).0, (still h).1, (still h).2, λ e. cc);
-            whole = record {
-              utf8 = is_utf8-from_IsUtf8 n.feed.ready t.utf8;
-              first = ap (λ l. n.feed.ready ++ drop (length n.feed.ready) l) t.front ∙ ap (λ l. n.feed.ready ++ l) (drop-append_seam n.feed.ready t.behind) ∙ sym t.front;
-              few = t.few;
-              none_ends = none_ends;
-              found = ap (λ l. finds_end cell (last_class cell None (chars (string_bytes n.text))) n.feed l) ready
-                  ∙ ap (λ k. ends_at k (cell next.0).class) (sym last_is) ∙ next.3;
-              end_is = end_is ∙ ap (λ k. end_before k true) last_is
-                  ∙ ap (λ l. end_before (last_class cell None (chars (string_bytes n.text))) (not (is_nil l))) (sym ready);
-            };
+            whole = whole-line cell last p n r t none_ends last_is end is end_is;
             stops = tt;
           }
 

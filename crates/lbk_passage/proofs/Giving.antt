@@ -88,6 +88,7 @@ module _ (cell : ℕ → Cell) (profile : Profile) (old p : Paragraph) (u v : Op
     agrees = f.agrees;
     notices = f.notices;
     quiet = f.quiet;
+    still = f.still;
   }
 
   pub After-none : Fills cell profile old p u v e e' reads reads' (Ok None)
@@ -106,6 +107,7 @@ module _ (cell : ℕ → Cell) (profile : Profile) (old p : Paragraph) (u v : Op
     agrees = f.agrees;
     notices = f.notices;
     quiet = f.quiet;
+    still = f.still;
   }
 
   module _ (end : Verdict) (f : Fills cell profile old p u v e e' reads reads' (Ok (Some end))) where
@@ -164,6 +166,7 @@ module _ (cell : ℕ → Cell) (profile : Profile) (old p : Paragraph) (u v : Op
       agrees = f.agrees;
       notices = f.notices;
       quiet = λ h. ((f.quiet h).0, (f.quiet h).1, (f.quiet h).2, λ e. cc);
+      still = λ h. ((f.still h).0, λ e. cc);
     }
 
     pub lacks_room : (found : Found) → (found.room_for_segments < length (segments_of ms)) ⊎ (found.room_for_pieces < length (pieces_of cell text))
@@ -261,6 +264,7 @@ module _ (cell : ℕ → Cell) (profile : Profile) (old p : Paragraph) (u v : Op
             agrees = λ h at_end. f.agrees h (sym ended_is ∙ at_end);
             notices = λ open_end. f.notices (sym ended_is ∙ open_end);
             quiet = λ h. (all_is ∙ (f.quiet h).0, ended_is ∙ (f.quiet h).1, (f.quiet h).2, λ e. cc);
+            still = λ h. let none = (f.still h).0 in ((all_is ∙ none.0, none.1), λ e. cc);
           }
 
       some_text : (l : List ℕ) → 0 < length (chars l) → 0 < length l

@@ -8,6 +8,7 @@ pub mod Settling
 pub mod Stopping
 pub mod Gathered
 pub mod Filling
+pub mod Looking
 pub mod Giving
 pub mod Running
 pub mod Finding

@@ -7,7 +7,7 @@ use Rattle.std.proofs.lemmas.Str.{scalars-chars, chars-encodes, encodes-chars, e
 use Rattle.lbk_feed.specs.View.{LendsFront}
 use Rattle.lbk_uax14.specs.declared.classes.Class.{Class}
 use Rattle.lbk_uax14.specs.declared.cells.Cell.{Cell}
-use Rattle.lbk_passage.specs.Gathering.{Reaches, Takes, StopsBefore}
+use Rattle.lbk_passage.specs.Gathering.{Reaches, Moves, Takes, StopsBefore}
 use Rattle.lbk_passage.specs.declared.paragraph.Paragraph.{Paragraph}
 use Rattle.lbk_passage.specs.declared.reach.Reach.{Reach}
 use Rattle.lbk_passage.specs.declared.reach.Stop.{Stop}
@@ -64,14 +64,6 @@ StopsBefore-room : (cell : ℕ → Cell) (last : Option Class) (len room len' ro
 StopsBefore-room cell last len room len' room' PieceEnds rest more stops = stops
 StopsBefore-room cell last len room len' room' LineEnds rest more stops = stops
 StopsBefore-room cell last len room len' room' NoRoom rest more stops = (stops.0, stops.1, stops.2, stops.3, more (length (encode_utf8 stops.0)) stops.4)
-
--- what is known of the fields before and after
-pub record Moves (old new : Paragraph) (len : ℕ) : Type 0 where
-  pub feed : new.feed ≡ record old.feed { held = drop len old.feed.held; ready = drop len old.feed.ready; given = old.feed.given + len }
-  pub text : string_bytes new.text ≡ string_bytes old.text ++ take len old.feed.ready
-  pub limit : new.limit ≡ old.limit
-  pub held : new.is_held ≡ old.is_held
-  pub spent : new.is_spent ≡ old.is_spent
 
 pub Takes-moves : (cell : ℕ → Cell) (last : Option Class) (old new : Paragraph) (r : Reach) → LendsFront old.feed
     → Reaches cell last old.feed.ready (old.limit - string_len old.text) r → Moves old new r.len → Takes cell last old new r

@@ -1,5 +1,5 @@
 -- How far a paragraph reaches, and what the steps of gathering it leave.
-use Rattle.std.specs.Prelude.{◌≡◌, ◌⊎◌, ℕ, ◌+◌, ◌<◌, ◌≤◌, Bool, true, false, ◌||◌, List, [], ◌∷◌, ◌++◌, length, Option, None, Some, Result, Ok, Err, IfOk, IfErr, is_ok, is_some, option_map, encode_utf8, encode_utf8_all, string_bytes, string_len, IsUtf8}
+use Rattle.std.specs.Prelude.{◌≡◌, ◌⊎◌, ℕ, ◌+◌, ◌<◌, ◌≤◌, Bool, true, false, ◌||◌, List, [], ◌∷◌, ◌++◌, length, take, drop, Option, None, Some, Result, Ok, Err, IfOk, IfErr, is_ok, is_some, option_map, encode_utf8, encode_utf8_all, string_bytes, string_len, IsUtf8}
 use Rattle.std.specs.Str.{chars}
 use Rattle.std.specs.Bool.{OnTrue, OnFalse}
 use Rattle.std.specs.Io.KnownBytes.{prepend_known}
@@ -45,6 +45,14 @@ pub record Reaches (cell : ℕ → Cell) (last : Option Class) (piece : List ℕ
   pub none_ends : stays cell last taken ≡ true
   pub last_is : r.last ≡ last_class cell last taken
   pub stop : StopsBefore cell r.last r.len room r.stop rest
+
+-- the first bytes that the feed has ready went to the text
+pub record Moves (old new : Paragraph) (len : ℕ) : Type 0 where
+  pub feed : new.feed ≡ record old.feed { held = drop len old.feed.held; ready = drop len old.feed.ready; given = old.feed.given + len }
+  pub text : string_bytes new.text ≡ string_bytes old.text ++ take len old.feed.ready
+  pub limit : new.limit ≡ old.limit
+  pub held : new.is_held ≡ old.is_held
+  pub spent : new.is_spent ≡ old.is_spent
 
 -- the scalars taken went from what the feed holds to the text
 pub record Takes (cell : ℕ → Cell) (last : Option Class) (old new : Paragraph) (r : Reach) : Type 0 where
@@ -181,6 +189,8 @@ pub record Fills (cell : ℕ → Cell) (profile : Profile) (old new : Paragraph)
   pub notices : new.feed.is_ended ≡ false → ended' ≡ ended
   pub quiet : old.feed.is_ended ≡ true
       → ((state_with cell profile new).held ≡ (state_with cell profile old).held) × (new.feed.is_ended ≡ true) × (reads' ≡ reads) × (¬ (fault_in r ≡ Some Read))
+  pub still : (old.is_held || old.is_spent) ≡ true
+      → IsStill (state_with cell profile old).held (state_with cell profile new).held reads reads' × (¬ (fault_in r ≡ Some Read))
 
 -- the same paragraph, but for whether it is held, and whether it is spent
 pub record IsSame (old new : Paragraph) (is_held is_spent : Bool) : Type 0 where

@@ -156,6 +156,18 @@ Answers old new (Err Memory) = Waits new
 Answers old new (Err Spent) = old.is_spent ≡ true
 Answers old new (Err fault) = Stops new fault
 
+-- the bytes held settle no passage: the scalars seen, which begin them, are at most one passage, and begin the first passage of
+-- every text that goes on from them. They are all well-formed bytes held, or go past the limit
+pub record IsOpen (s : State) : Type 0 where
+  pub seen : List ℕ
+  pub rest : List ℕ
+  pub bytes : s.held ≡ encode_utf8_all seen ++ rest
+  pub text : IsUtf8 (encode_utf8_all seen)
+  pub few : length (passages s.profile s.cell seen) ≤ 1
+  pub unfinished : 0 < length seen → (more : List ℕ) → BeginsWithAll seen (passages s.profile s.cell (seen ++ more))
+  pub all_seen : (s.limit < length (encode_utf8_all seen))
+      ⊎ AfterEach s.start (λ used. used ++ encode_utf8_all seen ≡ well_formed_prefix (counted (used ++ s.held)))
+
 -- the cells, the profile and the limit stay
 pub record DecidesAlike (old new : State) : Type 0 where
   pub cell : new.cell ≡ old.cell
@@ -210,3 +222,4 @@ pub record AfterNext (old new : State) (unread unread' : Option (List ℕ)) (end
   pub agrees : Agrees old ended unread → Agrees new ended' unread'
   pub notices : new.is_ended ≡ false → ended' ≡ ended
   pub quiet : old.is_ended ≡ true → (lent_text r ++ new.held ≡ old.held) × (new.is_ended ≡ true) × (reads' ≡ reads) × (¬ (fault_in r ≡ Some Read))
+  pub still : old.is_settled ≡ true → IsStill old.held (lent_text r ++ new.held) reads reads' × (¬ (fault_in r ≡ Some Read))

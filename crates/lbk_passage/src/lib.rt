@@ -18,5 +18,5 @@ mod segments;
 
 pub use faults::PassageFault;
 pub use lbk_feed::LIMIT_MAX;
-pub use passage::{Passage, Piece, Segment};
+pub use passage::{Passage, PassageText, Piece, Segment};
 pub use segmenter::Segmenter;

@@ -30,12 +30,13 @@ pub struct Paragraph {
 }
 
 impl Paragraph {
-    ghost use Rattle.std.specs.Prelude.{ℕ, ◌-◌, ◌+◌, ◌<◌, ◌∷◌, true, [], drop, length, OnOk, IfOk, string_bytes};
+    ghost use Rattle.std.specs.Prelude.{ℕ, ◌-◌, ◌+◌, ◌<◌, ◌∷◌, true, [], drop, length, OnOk, IfOk, IsCharBoundary, string_bytes};
+    ghost use Rattle.lbk_feed.specs.View.{IsFront, LendsFront};
     ghost use Rattle.lbk_passage.specs.State.{state_with, new_state};
     ghost use Rattle.lbk_passage.specs.Stays.{IsWhole};
     ghost use Rattle.lbk_passage.specs.Flags.{AreQuiet};
-    ghost use Rattle.lbk_passage.specs.Gathering.{Takes, Settles, Gathering, Gathers, Fills, IsSame};
-    ghost use Rattle.lbk_passage.specs.Next.{IsDone, failures_with, fault_in};
+    ghost use Rattle.lbk_passage.specs.Gathering.{Reaches, Takes, Moves, Settles, Gathering, Gathers, Fills, IsSame};
+    ghost use Rattle.lbk_passage.specs.Next.{IsDone, IsOpen, failures_with, fault_in};
     ghost use Rattle.lbk_uax14.specs.declared.cells.Cell.{Cell};
     ghost use Rattle.lbk_values.specs.declared.profile.Profile.{Profile};
 
@@ -122,6 +123,30 @@ impl Paragraph {
         Ok(end)
     }
 
+    /// Gathers the paragraph if the bytes that are ready settle it: if a line must end before one of their scalars. Returns
+    /// whether it is held, or a fault was met, so that the next `fill` makes no read.
+    pub fn look_ahead<C: CellSource>(&mut self, cells: &C, flags: &ByteFlags) -> bool
+        requires quiet { AreQuiet (C.cell_of cells.now) flags.now.is_quiet }
+        requires whole { self.old.is_held ≡ true → IsWhole (C.cell_of cells.now) self.old }
+        ensures state { (cell : ℕ → Cell) (profile : Profile)
+            → state_with cell profile self.new ≡ record (state_with cell profile self.old) { is_settled = result } }
+        ensures remains { result ≡ false → (profile : Profile) → IsOpen (state_with (C.cell_of cells.now) profile self.old) }
+        ensures whole { self.new.is_held ≡ true → IsWhole (C.cell_of cells.now) self.new }
+    {
+        if self.is_held || self.is_spent {
+            return true;
+        }
+        self.text.clear();
+        let reach = self.reach(cells, flags, None);
+        let Stop::LineEnds = reach.stop else {
+            return false;
+        };
+        self.move_up(reach.len);
+        self.end = end_before(reach.last, true);
+        self.is_held = true;
+        true
+    }
+
     /// Takes pieces until a line must end before the next scalar, or no text is left.
     fn gather<R: Source, C: CellSource>(
         &mut self,
@@ -176,14 +201,34 @@ impl Paragraph {
         requires { AreQuiet (C.cell_of cells.now) flags.now.is_quiet }
         ensures { Takes (C.cell_of cells.now) last self.old self.new result }
     {
-        let ready = self.feed.ready();
+        let reach = self.reach(cells, flags, last);
+        self.move_up(reach.len);
+        reach
+    }
+
+    /// How far the paragraph reaches into the piece that is ready, after a scalar of class `last`.
+    fn reach<C: CellSource>(&self, cells: &C, flags: &ByteFlags, last: Option<Class>) -> Reach
+        requires { AreQuiet (C.cell_of cells.now) flags.now.is_quiet }
+        ensures reaches { Reaches (C.cell_of cells.now) last self.now.feed.ready (self.now.limit - string_len self.now.text) result }
+        ensures place { IsCharBoundary self.now.feed.ready result.len }
+        ensures lends { LendsFront self.now.feed }
+        ensures front { IsFront self.now.feed }
+    {
         let room = self.limit as usize - self.text.len();
-        let reach = reach_in(cells, flags, last, ready, room);
-        if self.text.push_str(&ready[..reach.len]).is_err() {
+        reach_in(cells, flags, last, self.feed.ready(), room)
+    }
+
+    /// Moves the first `len` bytes that are ready to the end of the text.
+    fn move_up(&mut self, len: usize)
+        requires place { IsCharBoundary self.old.feed.ready len }
+        requires room { string_len self.old.text + len ≤ self.old.limit }
+        ensures { Moves self.old self.new len }
+    {
+        let ready = self.feed.ready();
+        if self.text.push_str(&ready[..len]).is_err() {
             unreachable!();
         }
-        self.feed.advance(reach.len);
-        reach
+        self.feed.advance(len);
     }
 
     /// The fault of a paragraph that is too long.

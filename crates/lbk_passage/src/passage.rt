@@ -28,6 +28,17 @@ pub struct Passage<'a> {
     pub end: Verdict,
 }
 
+/// The text of a passage, whose segments and words were not found.
+#[derive(Clone, Copy, Debug)]
+pub struct PassageText<'a> {
+    /// How many bytes of the whole text stand before it.
+    pub start: u64,
+    /// Its text.
+    pub text: &'a str,
+    /// What the rules say of the position after its last scalar.
+    pub end: Verdict,
+}
+
 /// A part of a passage that ends at a line break (UAX #14, section 3). Offsets count bytes of the passage's text.
 #[derive(Clone, Copy, PartialEq, Eq, Debug)]
 pub struct Segment {

@@ -4,7 +4,7 @@ ghost use Rattle.std.specs.Prelude.{◌≡◌, ℕ, ◌≤◌, IsCharBoundary, O
 ghost use Rattle.lbk_uax14.specs.declared.classes.Class.{Class};
 ghost use Rattle.lbk_passage.specs.Flags.{AreQuiet, Passes, is_end};
 
-use crate::ends::{ends_at, ends_line};
+use crate::ends::ends_at;
 use crate::flags::ByteFlags;
 use lbk_rules::{CellSource, Class};
 
@@ -122,6 +122,6 @@ fn is_end(last: Option<Class>) -> bool
 {
     match last {
         None => false,
-        Some(class) => ends_line(class),
+        Some(class) => class.ends_line(),
     }
 }

@@ -10,7 +10,7 @@ ghost use Rattle.lbk_passage.specs.Stays.{IsWhole};
 use crate::faults::PassageFault;
 use crate::flags::ByteFlags;
 use crate::paragraph::Paragraph;
-use crate::passage::{Passage, Piece, Segment};
+use crate::passage::{Passage, PassageText, Piece, Segment};
 use crate::pieces::cut_words;
 use crate::segments::{BLOCK, NO_BREAKS, cut_lines};
 use lbk_breaks::Break;
@@ -48,8 +48,8 @@ pub struct Segmenter<'a, C: CellSource> {
 impl<'a, C: CellSource> Segmenter<'a, C> {
     ghost use Rattle.lbk_passage.specs.State.{IsLimit, new_state};
     ghost use Rattle.lbk_passage.specs.Shown.{HasRoom, KeepsRoom, found_by, state_of};
-    ghost use Rattle.lbk_passage.specs.Next.{AfterNext, IsDone, IsPlaced, fault_in, failures_with};
-    ghost use Rattle.lbk_passage.specs.Passing.{PassesOver};
+    ghost use Rattle.lbk_passage.specs.Next.{AfterNext, IsDone, IsOpen, IsPlaced, fault_in, failures_with};
+    ghost use Rattle.lbk_passage.specs.Passing.{LendsText, PassesOver};
     ghost use Rattle.lbk_passage.specs.contracts.segmenter.Segmenter.{the_row};
     ghost use mir.Syntax.{named};
 
@@ -125,6 +125,38 @@ impl<'a, C: CellSource> Segmenter<'a, C> {
         Ok(Some(self.lend(end)))
     }
 
+    /// The text of the next passage and the verdict at its end, without its segments and words, or `None` at the end of the
+    /// text. Reads and faults are those of `next`, and so is what later calls give.
+    pub fn next_text<R: Source>(
+        &mut self,
+        reader: &mut R,
+    ) -> Result<Option<PassageText<'_>>, PassageFault>
+        ensures* after_borrow { sem 𝓛 (Rests (the_row (record { mir = named 1; lft = [] }) C.row C.CellSource) self.entry (λ new.
+            LendsText (state_of C.cell_of self.old) (state_of C.cell_of new) (R.unread reader.old) (R.unread reader.new)
+            (R.has_ended reader.old) (R.has_ended reader.new)
+            (R.reads_made reader.old) (R.reads_made reader.new) result
+            × (found_by new ≡ found_by self.old))) }
+        ensures spent { (state_of C.cell_of self.old).is_spent ≡ true → result ≡ Err PassageFault.Spent }
+        ensures spent_only { result ≡ Err PassageFault.Spent → (state_of C.cell_of self.old).is_spent ≡ true }
+        ensures again { IsDone (state_of C.cell_of self.old) → (state_of C.cell_of self.old).is_spent ≡ false → result ≡ Ok None }
+        ensures settled { (state_of C.cell_of self.old).is_settled ≡ true → reader.new ≡ reader.old }
+        ensures ended { (state_of C.cell_of self.old).is_ended ≡ true → reader.new ≡ reader.old }
+        ensures reads { (R.reads_made reader.new).count ≤ (R.reads_made reader.old).count + ((state_of C.cell_of self.old).limit + 8) }
+        // Nothing grows, so it is never out of memory.
+        ensures memory { ¬ (result ≡ Err PassageFault.Memory) }
+        ensures failures { R.failure_count reader.new ≡ failures_with (R.failure_count reader.old) (fault_in result) }
+    {
+        let Some(end) = self.paragraph.fill(reader, self.cells, &self.flags)? else {
+            return Ok(None);
+        };
+        self.paragraph.release();
+        Ok(Some(PassageText {
+            start: self.paragraph.start(),
+            text: self.paragraph.text(),
+            end,
+        }))
+    }
+
     /// Passes over the next passage, without finding its segments and words, and returns the byte of the text after it, or
     /// `None` at the end of the text. Reads and faults are those of `next`, and so is what later calls give.
     pub fn pass<R: Source>(&mut self, reader: &mut R) -> Result<Option<u64>, PassageFault>
@@ -146,6 +178,16 @@ impl<'a, C: CellSource> Segmenter<'a, C> {
         };
         self.paragraph.release();
         Ok(Some(self.paragraph.given()))
+    }
+
+    /// Finds the next passage among the bytes that were read already, where these settle it: where a line must end before one of
+    /// them. Returns whether the next call of `next` or `pass` makes no read. What it finds is kept for that call.
+    pub fn look_ahead(&mut self) -> bool
+        ensures state { state_of C.cell_of self.new ≡ record (state_of C.cell_of self.old) { is_settled = result } }
+        ensures remains { result ≡ false → IsOpen (state_of C.cell_of self.old) }
+        ensures found { found_by self.new ≡ found_by self.old }
+    {
+        self.paragraph.look_ahead(self.cells, &self.flags)
     }
 
     /// The paragraph as a passage.

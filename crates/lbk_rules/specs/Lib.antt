@@ -31,6 +31,8 @@ pub use Rattle.lbk_steps.specs.EnoughRows
 pub use Rattle.lbk_steps.specs.FirstBytes
 pub use Rattle.lbk_steps.specs.FlatStep
 pub use Rattle.lbk_steps.specs.FlatTable
+-- (the constants of its layout)
+pub use Rattle.lbk_steps.specs.declared.flat_table
 pub use Rattle.lbk_steps.specs.KindTable
 pub use Rattle.lbk_steps.specs.Kinds
 pub use Rattle.lbk_steps.specs.Neighbours

@@ -8,4 +8,8 @@ pub mod WalkLemmas
 pub mod ReadLemmas
 pub mod FillLemmas
 pub mod StepLemmas
+pub mod ByteLemmas
+pub mod RunLemmas
+pub mod EdgeLemmas
+pub mod TakenLemmas
 pub mod WellFormedLemmas

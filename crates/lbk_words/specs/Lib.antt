@@ -8,3 +8,4 @@ pub mod RowList
 pub mod Rows
 pub mod Places
 pub mod Filling
+pub mod Blocks

@@ -1,8 +1,10 @@
 //! A block that is filled with words.
 
-ghost use Rattle.std.specs.Prelude.{◌≡◌, ◌<◌, ◌≤◌, drop, length, min, take};
+ghost use Rattle.std.specs.Prelude.{◌≡◌, ℕ, ◌<◌, ◌≤◌, drop, length, min, take};
+ghost use Rattle.lbk_words.specs.Filling.{IsFilled};
 ghost use Rattle.lbk_words.specs.Words.{AreRising, IsBoundary, words_on};
 
+use crate::blocks::{BLOCK, fill_by_marks};
 use crate::parts::fill_by_scalars;
 use crate::word::{Filled, Word};
 
@@ -22,15 +24,27 @@ pub fn fill(text: &[u8], start: usize, out: &mut [Word]) -> Filled
     ensures past { length text.now ≤ start → result.at ≡ start }
     ensures no_room { length out.old ≡ 0 → result.at ≡ start }
 {
-    let here = Filled {
+    let mut here = Filled {
         count: 0,
         at: start,
     };
-    if out.is_empty() {
-        return here;
+    while here.count < out.len() && here.at < text.len() {
+        here = fill_further(text, here, out);
     }
-    if text.len() <= start {
-        return here;
+    here
+}
+
+/// Goes on from a boundary, by as many bytes as marks are made of, where the text has so many.
+#[inline(always)]
+fn fill_further(text: &[u8], here: Filled, out: &mut [Word]) -> Filled
+    requires { (here.count < length out.old) × (here.at < length text.now) }
+    ensures filled { (start : ℕ) → IsFilled text.now start here.at here.count out.old → IsFilled text.now start result.at result.count out.new }
+    ensures onward { (here.at ≤ result.at) × (here.count ≤ result.count) }
+    ensures within { (result.at ≤ length text.now) × (result.count ≤ length out.old) }
+    ensures further { result.count < length out.old → here.at < result.at }
+{
+    if text.len() - here.at < BLOCK {
+        return fill_by_scalars(text, here, text.len(), out);
     }
-    fill_by_scalars(text, here, text.len(), out)
+    fill_by_marks(text, here, out)
 }

@@ -3,6 +3,7 @@
 //! The text may be any bytes. [`fill`] goes over it from any byte on, with no memory but the caller's block.
 #![tactic(auto)]
 
+mod blocks;
 mod decoding;
 mod filling;
 mod kind_table;

@@ -28,7 +28,8 @@ pub(crate) struct Filling {
 pub(crate) fn fill_by_scalars(text: &[u8], here: Filled, stop: usize, out: &mut [Word]) -> Filled
     requires { (here.count < length out.old) × (here.at < stop) × (stop ≤ length text.now) }
     ensures filled { (start : ℕ) → IsFilled text.now start here.at here.count out.old → IsFilled text.now start result.at result.count out.new }
-    ensures within { result.at ≤ length text.now }
+    ensures onward { (here.at ≤ result.at) × (here.count ≤ result.count) }
+    ensures within { (result.at ≤ length text.now) × (result.count ≤ length out.old) }
     ensures far { result.count < length out.old → stop ≤ result.at }
 {
     let first = scalar_at(text, here.at);
@@ -72,6 +73,7 @@ fn taken(part: Filling, step: Step, end: usize, out: &mut [Word]) -> Filling
         → IsStep part.row code (value_at (significant (scalars_on text end)) 0) step → IsFilling text start result out.new }
     ensures at { result.at ≡ end }
     ensures row { result.row ≡ step.next }
+    ensures count { (part.count ≤ result.count) × (result.count ≤ part.count + 1) }
     ensures begin { (result.begin ≡ part.begin) ⊎ (result.begin ≡ part.at) }
 {
     out[part.count] = Word {
@@ -92,6 +94,7 @@ fn ended(part: Filling, out: &mut [Word]) -> Filled
     requires { (part.count < length out.old) × (part.row < 43) }
     ensures filled { (text : List ℕ) (start : ℕ) → IsFilling text start part out.old → length text ≤ part.at → IsFilled text start result.at result.count out.new }
     ensures at { result.at ≡ part.at }
+    ensures count { (part.count ≤ result.count) × (result.count ≤ part.count + 1) }
 {
     out[part.count] = Word {
         start: part.begin,

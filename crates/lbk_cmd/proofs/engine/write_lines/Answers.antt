@@ -1,12 +1,12 @@
-use Rattle.std.proofs.Common.{rules, Ok, Err, ◌++◌, refl, ap, subst, ◌∙◌}
-use Rattle.std.specs.Io.KnownBytes.{Appends}
+use Rattle.std.proofs.Common.{rules, Ok, Err, [], refl, sym, ap, subst, ◌∙◌, inl, inr, ⊎_elim, arith}
 use Rattle.std.proofs.lemmas.Result.{err_from_is_err_and}
-use Rattle.lbk_passage.specs.Next.{failures_with, fault_in}
+use Rattle.lbk_feed.specs.Devices.{count_up, failures_after}
 use Rattle.lbk_passage.specs.Shown.{state_of}
-use Rattle.lbk_cmd.specs.Engines.{engine_of, lines_of}
+use Rattle.lbk_cmd.specs.Engines.{engine_of}
+use Rattle.lbk_cmd.specs.Run.{failed_reads_with, failed_writes_with}
 use Rattle.lbk_cmd.proofs.Known.{known_whole}
-use Rattle.lbk_cmd.proofs.Looping.{Going-new, most_reads, run_none, run_stopped, run_ended, run_out_of_memory, run_unwritten, run_goes_on, whole_run}
-use Rattle.lbk_cmd.proofs.Signing.{lent_cut}
+use Rattle.lbk_cmd.proofs.Looping.{Going, Going-new, due, ran_unwritten, run_none, whole_run}
+use Rattle.lbk_cmd.proofs.Gathering.{ends, failed_reads, held_back, limit_kept, most, no_failed_write, no_limit, on, to_its_end, waits}
 use Rattle.lbk_cmd.proofs.engine.write_lines.Goals as goal
 
 pub returns-in_err-segmenter : goal.returns-in_err-segmenter
@@ -24,103 +24,104 @@ returns-in_err-segmenter g c =
       failed_writes = search rules;
     }
 
-pub loop-text-init : goal.loop-text-init
-loop-text-init g c = record {
-  going = Going-new (engine_of c.args.lines (g.C.CellSource.cell_of c.args.cells.now) c.args.profile c.args.limit)
-      _ _ _ (state_of g.C.CellSource.cell_of c.in_ok-segmenter.segmenter) _ c.in_ok-segmenter.ensures.state;
-  read_failures = refl;
-  write_failures = refl;
-}
-
-pub returns-in_err-passage : goal.returns-in_err-passage
-returns-in_err-passage g c =
-    let exit = err_from_is_err_and c.from_residual-in_err-passage.result c.from_residual-in_err-passage.ensures.1 in
+pub loop-gathered-init : goal.loop-gathered-init
+loop-gathered-init g c =
+    let e = engine_of c.args.lines (g.C.CellSource.cell_of c.args.cells.now) c.args.profile c.args.limit in
+    let s = state_of g.C.CellSource.cell_of c.in_ok-segmenter.segmenter in
+    let u = g.R.Source.unread c.args.reader.now in
+    let w = g.W.Sink.written c.args.writer.now in
+    let reads = g.R.Source.reads_made c.args.reader.now in
+    let ended = g.R.Source.has_ended c.args.reader.now in
     record {
-      shown = search rules;
-      ended = search rules;
-      run = whole_run (run_stopped (engine_of c.args.lines (g.C.CellSource.cell_of c.args.cells.now) c.args.profile c.args.limit) _ _ _ _
-          c.from_residual-in_err-passage.result _ _ _ _ _ _ _ _ _ c.next.result c.loop-text.invariant.going c.next.follows.holds-at-none.0
-          c.in_err-passage.field-0.0 c.in_err-passage.was (exit.1 ∙ ap Err exit.2));
-      reads = most_reads (engine_of c.args.lines (g.C.CellSource.cell_of c.args.cells.now) c.args.profile c.args.limit) _ _ _ _ _ _ _ _ _ _ _ _
-          c.loop-text.invariant.going c.next.result c.next.follows.holds-at-none.0;
-      limit = search rules;
-      failed_reads = search rules;
-      failed_writes = search rules;
+      going = subst (λ l. Going e u w reads s u w ended reads l) (sym c.new-gathered.ensures.lines) (Going-new e u w reads s ended c.in_ok-segmenter.ensures.state);
+      read_failures = refl;
+      write_failures = refl;
     }
 
-pub push_lines-requires-clause-cut : goal.push_lines-requires-clause-cut
-push_lines-requires-clause-cut g c =
-    lent_cut _ _ _ _ _ _ _ _ c.next.result c.in-Some.passage (c.in_ok-passage.was ∙ ap Ok c.in-Some.is) c.next.follows.holds-at-none.0
+pub returns-in_err-write_due : goal.returns-in_err-write_due
+returns-in_err-write_due g c =
+    let e = engine_of c.args.lines (g.C.CellSource.cell_of c.args.cells.now) c.args.profile c.args.limit in
+    let exit = err_from_is_err_and c.from_residual-in_err-write_due.result c.from_residual-in_err-write_due.ensures.1 in
+    let is = exit.1 ∙ ap Err exit.2 in
+    let l = c.loop-gathered in
+    let front = c.in_err-write_due.ensures.front in
+    rw is (record {
+      shown = tt;
+      ended = tt;
+      run = whole_run (ran_unwritten e _ _ _ (state_of g.C.CellSource.cell_of l.segmenter) _ _ _ _ _ l.invariant.going (Unit {0}) _ front.0 front.1);
+      reads = l.invariant.going.most;
+      limit = limit_kept c.args.limit c.new.result c.in_ok-segmenter.segmenter c.in_ok-segmenter.was c.new.ensures.limit _ (λ same. cc);
+      failed_reads = l.invariant.read_failures;
+      failed_writes = c.write_due.ensures.failures ∙ ap (failures_after (g.W.Sink.failure_count l.writer)) c.in_err-write_due.was ∙ ap count_up l.invariant.write_failures;
+    })
 
-pub returns-in_err-push_lines : goal.returns-in_err-push_lines
-returns-in_err-push_lines g c =
-    let exit = err_from_is_err_and c.from_residual-in_err-push_lines.result c.from_residual-in_err-push_lines.ensures.1 in
-    record {
-      shown = search rules;
-      ended = search rules;
-      run = whole_run (run_out_of_memory (engine_of c.args.lines (g.C.CellSource.cell_of c.args.cells.now) c.args.profile c.args.limit) _ _ _ _
-          c.from_residual-in_err-push_lines.result _ _ _ _ _ _ _ _ _ c.next.result c.loop-text.invariant.going c.next.follows.holds-at-none.0
-          c.in-Some.passage (c.in_ok-passage.was ∙ ap Ok c.in-Some.is) (exit.1 ∙ ap Err exit.2));
-      reads = most_reads (engine_of c.args.lines (g.C.CellSource.cell_of c.args.cells.now) c.args.profile c.args.limit) _ _ _ _ _ _ _ _ _ _ _ _
-          c.loop-text.invariant.going c.next.result c.next.follows.holds-at-none.0;
-      limit = search rules;
-      failed_reads = search rules;
-      failed_writes = search rules;
-    }
+pub returns-in_err-write : goal.returns-in_err-write
+returns-in_err-write g c =
+    let e = engine_of c.args.lines (g.C.CellSource.cell_of c.args.cells.now) c.args.profile c.args.limit in
+    let exit = err_from_is_err_and c.from_residual-in_err-write.result c.from_residual-in_err-write.ensures.1 in
+    let is = exit.1 ∙ ap Err exit.2 in
+    let l = c.loop-gathered in
+    let d = due e _ _ _ (state_of g.C.CellSource.cell_of l.segmenter) (state_of g.C.CellSource.cell_of c.write_due.new.segmenter) _ _ _ _ _ _ _ l.invariant.going
+    c.write_due.ensures.state (⊎_elim inl (λ k. inr (k.0, ap g.W.Sink.written k.1, k.2)) c.in_ok-write_due.ensures.due) in
+    let put = c.put_next-put.ensures.puts c.args.limit in
+    let answer = sym c.end_of.ensures ∙ c.in-Some.is in
+    let settled = waits e _ _ _ _ _ _ _ _ _ _ _ _ _ _ _ _ _ _ d.going d.wait put c.in-Some.answer answer c.write.result c.in_err-write.field-0.0 c.in_err-write.was
+    (λ none. (c.write.ensures.nothing none).0) in
+    let front = c.in_err-write.ensures.front in
+    rw is (record {
+      shown = tt;
+      ended = tt;
+      run = whole_run (held_back e _ _ _ _ _ _ _ _ _ _ _ _ _ _ _ _ _ _ d.going d.wait put c.in-Some.answer answer settled _ front.0 front.1);
+      reads = most e _ _ _ _ _ _ _ _ _ _ _ _ _ _ _ _ _ _ d.going d.wait put;
+      limit = limit_kept c.args.limit c.new.result c.in_ok-segmenter.segmenter c.in_ok-segmenter.was c.new.ensures.limit _ (λ same. cc);
+      failed_reads = ap g.R.Source.failure_count (c.put_next-put.ensures.settled settled) ∙ l.invariant.read_failures;
+      failed_writes = c.write.ensures.failures ∙ ap (failures_after (g.W.Sink.failure_count c.write_due.new.writer)) c.in_err-write.was
+          ∙ ap count_up (c.write_due.ensures.failures ∙ ap (failures_after (g.W.Sink.failure_count l.writer)) c.in_ok-write_due.was ∙ l.invariant.write_failures);
+    })
 
-pub loop-text-preserved : goal.loop-text-preserved
-loop-text-preserved g c =
-    let cell = g.C.CellSource.cell_of c.args.cells.now in
-    let was = c.in_ok-passage.was ∙ ap Ok c.in-Some.is in
+pub returns-in-Some : goal.returns-in-Some
+returns-in-Some g c =
+    let e = engine_of c.args.lines (g.C.CellSource.cell_of c.args.cells.now) c.args.profile c.args.limit in
+    let l = c.loop-gathered in
+    let d = due e _ _ _ (state_of g.C.CellSource.cell_of l.segmenter) (state_of g.C.CellSource.cell_of c.write_due.new.segmenter) _ _ _ _ _ _ _ l.invariant.going
+    c.write_due.ensures.state (⊎_elim inl (λ k. inr (k.0, ap g.W.Sink.written k.1, k.2)) c.in_ok-write_due.ensures.due) in
+    let put = c.put_next-put.ensures.puts c.args.limit in
+    let answer = sym c.end_of.ensures ∙ c.in-Some.is in
+    let run = whole_run (ends e _ _ _ _ _ _ _ _ _ _ _ _ _ _ _ _ _ _ d.going d.wait put c.in-Some.answer answer _ c.in_ok-write.ensures.written.1) in
+    let end = to_its_end e _ _ _ _ _ _ _ _ _ _ _ _ _ _ _ _ _ _ d.going d.wait put c.in-Some.answer answer in
+    let n = g.R.Source.failure_count l.reader in
     record {
-      going = run_goes_on (engine_of c.args.lines cell c.args.profile c.args.limit) _ _ _ (Unit {0}) (Ok (tt {0})) _ _ _ _ _ _ _ _ _ c.next.result
-          c.loop-text.invariant.going c.next.follows.holds-at-none.0 c.in-Some.passage was c.push_lines.new.text.items
-          (λ ms cell_is profile_is of.
-          c.in_ok-push_lines.ensures _ ms cell_is profile_is of
-          ∙ ap (λ l. l ++ lines_of c.args.lines cell c.in-Some.passage.start ms) c.clear.ensures.items)
-          _ (subst (λ l. Appends (g.W.Sink.written c.loop-text.writer) (g.W.Sink.written c.write_all.new.writer) l) c.deref.ensures.value c.in_ok-write_all.ensures.ok);
-      read_failures = c.next.ensures.failures ∙ ap (λ r. failures_with (g.R.Source.failure_count c.loop-text.reader) (fault_in r)) was
-          ∙ c.loop-text.invariant.read_failures;
-      write_failures = c.in_ok-write_all.ensures.none_failed ∙ c.loop-text.invariant.write_failures;
-    }
-
-pub returns-in_err-write_all : goal.returns-in_err-write_all
-returns-in_err-write_all g c =
-    let cell = g.C.CellSource.cell_of c.args.cells.now in
-    let exit = err_from_is_err_and c.from_residual-in_err-write_all.result c.from_residual-in_err-write_all.ensures.1 in
-    let front = c.write_all.ensures.front in
-    record {
-      shown = search rules;
-      ended = search rules;
-      run = whole_run (run_unwritten (engine_of c.args.lines cell c.args.profile c.args.limit) _ _ _ _
-          c.from_residual-in_err-write_all.result _ _ _ _ _ _ _ _ _ c.next.result c.loop-text.invariant.going c.next.follows.holds-at-none.0
-          c.in-Some.passage (c.in_ok-passage.was ∙ ap Ok c.in-Some.is) c.deref.result.now
-          (λ ms cell_is profile_is of.
-          c.deref.ensures.value ∙ c.in_ok-push_lines.ensures _ ms cell_is profile_is of
-          ∙ ap (λ l. l ++ lines_of c.args.lines cell c.in-Some.passage.start ms) c.clear.ensures.items)
-          _ (exit.1 ∙ ap Err exit.2) front.0 front.1);
-      reads = most_reads (engine_of c.args.lines (g.C.CellSource.cell_of c.args.cells.now) c.args.profile c.args.limit) _ _ _ _ _ _ _ _ _ _ _ _
-          c.loop-text.invariant.going c.next.result c.next.follows.holds-at-none.0;
-      limit = search rules;
-      failed_reads = search rules;
-      failed_writes = search rules;
-    }
-
-pub returns : goal.returns
-returns g c =
-    let run =
-    whole_run (run_ended (engine_of c.args.lines (g.C.CellSource.cell_of c.args.cells.now) c.args.profile c.args.limit) _ _ _ (Unit {0})
-    (Ok (tt {0})) _ _ _ _ _ _ _ _ _ c.next.result c.loop-text.invariant.going c.next.follows.holds-at-none.0 (tt {0})
-    (c.in_ok-passage.was ∙ ap Ok c.in_default.is) refl)
-    in
-    record {
-      shown = known_whole _ (engine_of c.args.lines (g.C.CellSource.cell_of c.args.cells.now) c.args.profile c.args.limit) _ _ _
-          (Ok (tt {0})) _ _ _ _ run (search rules);
-      ended = search rules;
+      shown = known_whole _ e _ _ _ c.in-Some.answer _ _ _ _ run end;
+      ended = end;
       run = run;
-      reads = most_reads (engine_of c.args.lines (g.C.CellSource.cell_of c.args.cells.now) c.args.profile c.args.limit) _ _ _ _ _ _ _ _ _ _ _ _
-          c.loop-text.invariant.going c.next.result c.next.follows.holds-at-none.0;
-      limit = search rules;
-      failed_reads = search rules;
-      failed_writes = search rules;
+      reads = most e _ _ _ _ _ _ _ _ _ _ _ _ _ _ _ _ _ _ d.going d.wait put;
+      limit = limit_kept c.args.limit c.new.result c.in_ok-segmenter.segmenter c.in_ok-segmenter.was c.new.ensures.limit c.in-Some.answer
+          (no_limit e _ _ _ _ _ _ _ _ _ _ _ _ _ _ _ _ _ _ d.going d.wait put c.in-Some.answer answer);
+      failed_reads = failed_reads e _ _ _ _ _ _ _ _ _ _ _ _ _ _ _ _ _ _ d.going d.wait put c.in-Some.answer answer
+          ∙ ap (λ k. failed_reads_with k c.in-Some.answer) l.invariant.read_failures;
+      failed_writes = c.write.ensures.failures ∙ ap (failures_after (g.W.Sink.failure_count c.write_due.new.writer)) c.in_ok-write.was
+          ∙ c.write_due.ensures.failures ∙ ap (failures_after (g.W.Sink.failure_count l.writer)) c.in_ok-write_due.was ∙ l.invariant.write_failures
+          ∙ no_failed_write e _ _ _ _ _ _ _ _ _ _ _ _ _ _ _ _ _ _ d.going d.wait put c.in-Some.answer answer (g.W.Sink.failure_count c.args.writer.now);
+    }
+
+pub loop-gathered-smaller : goal.loop-gathered-smaller
+loop-gathered-smaller g c =
+    let e = engine_of c.args.lines (g.C.CellSource.cell_of c.args.cells.now) c.args.profile c.args.limit in
+    let l = c.loop-gathered in
+    let d = due e _ _ _ (state_of g.C.CellSource.cell_of l.segmenter) (state_of g.C.CellSource.cell_of c.write_due.new.segmenter) _ _ _ _ _ _ _ l.invariant.going
+    c.write_due.ensures.state (⊎_elim inl (λ k. inr (k.0, ap g.W.Sink.written k.1, k.2)) c.in_ok-write_due.ensures.due) in
+    let more = on e _ _ _ _ _ _ _ _ _ _ _ _ _ _ _ _ _ _ d.going d.wait (c.put_next-put.ensures.puts c.args.limit) (sym c.end_of.ensures ∙ c.in_default.is) in
+    omega (arith, d.start, more.onward, more.few)
+
+pub loop-gathered-preserved : goal.loop-gathered-preserved
+loop-gathered-preserved g c =
+    let e = engine_of c.args.lines (g.C.CellSource.cell_of c.args.cells.now) c.args.profile c.args.limit in
+    let l = c.loop-gathered in
+    let d = due e _ _ _ (state_of g.C.CellSource.cell_of l.segmenter) (state_of g.C.CellSource.cell_of c.write_due.new.segmenter) _ _ _ _ _ _ _ l.invariant.going
+    c.write_due.ensures.state (⊎_elim inl (λ k. inr (k.0, ap g.W.Sink.written k.1, k.2)) c.in_ok-write_due.ensures.due) in
+    let more = on e _ _ _ _ _ _ _ _ _ _ _ _ _ _ _ _ _ _ d.going d.wait (c.put_next-put.ensures.puts c.args.limit) (sym c.end_of.ensures ∙ c.in_default.is) in
+    record {
+      going = more.going;
+      read_failures = more.none_failed ∙ l.invariant.read_failures;
+      write_failures = c.write_due.ensures.failures ∙ ap (failures_after (g.W.Sink.failure_count l.writer)) c.in_ok-write_due.was ∙ l.invariant.write_failures;
     }

@@ -5,15 +5,16 @@ use Rattle.lbk_cmd.specs.Engines.{engine_of}
 use Rattle.lbk_cmd.proofs.Looping.{Going}
 use Rattle.lbk_cmd.proofs.engine.write_lines.Given as goal
 
-abbrev pub invariant-loop-text : goal.invariant-loop-text
-invariant-loop-text g l = record {
+abbrev pub invariant-loop-gathered : goal.invariant-loop-gathered
+invariant-loop-gathered g l = record {
   going : Going (engine_of l.fn.lines (g.C.CellSource.cell_of l.cells) l.fn.profile l.fn.limit)
       (g.R.Source.unread l.fn.reader) (g.W.Sink.written l.fn.writer) (g.R.Source.reads_made l.fn.reader)
       (state_of g.C.CellSource.cell_of l.segmenter)
-      (g.R.Source.unread l.reader) (g.W.Sink.written l.writer) (g.R.Source.has_ended l.reader) (g.R.Source.reads_made l.reader);
+      (g.R.Source.unread l.reader) (g.W.Sink.written l.writer) (g.R.Source.has_ended l.reader) (g.R.Source.reads_made l.reader)
+      l.gathered.lines.items;
   read_failures : g.R.Source.failure_count l.reader ≡ g.R.Source.failure_count l.fn.reader;
   write_failures : g.W.Sink.failure_count l.writer ≡ g.W.Sink.failure_count l.fn.writer;
 }
 
-abbrev pub decreases-loop-text : goal.decreases-loop-text
-decreases-loop-text g l = longest_text + 1 - (state_of g.C.CellSource.cell_of l.segmenter).start
+abbrev pub decreases-loop-gathered : goal.decreases-loop-gathered
+decreases-loop-gathered g l = longest_text + 1 - (state_of g.C.CellSource.cell_of l.segmenter).start

@@ -1,4 +1,4 @@
-use Rattle.std.proofs.Common.{rules, Ok, Err, [], ◌∷◌, ◌++◌, refl, ap, ◌∙◌}
+use Rattle.std.proofs.Common.{rules, None, Ok, Err, [], inl, ◌∷◌, ◌++◌, refl, ap, ◌∙◌}
 use Rattle.std.proofs.lemmas.Result.{err_from_is_err_and}
 use Rattle.lbk_steps.specs.CellPages.{page_cell}
 use Rattle.lbk_passage.specs.Next.{failures_with, fault_in}
@@ -38,10 +38,10 @@ returns-in_err-passage-clause-refused g c =
       shown = search rules;
       ended = search rules;
       run = whole_run (run_stopped (showing (page_cell c.args.cells.now) c.args.profile c.args.limit) _ _ _ _
-          c.from_residual-in_err-passage.result _ _ _ _ _ _ _ _ _ c.next.result c.loop-segmenter.invariant.owning.going c.next.follows.holds-at-none.0
+          c.from_residual-in_err-passage.result _ _ _ _ _ _ _ _ _ c.next.result [] c.loop-segmenter.invariant.owning.going (inl refl) c.next.follows.holds-at-none.0 None tt
           c.in_err-passage.field-0.0 c.in_err-passage.was (exit.1 ∙ ap Err exit.2));
-      reads = most_reads (showing (page_cell c.args.cells.now) c.args.profile c.args.limit) _ _ _ _ _ _ _ _ _ _ _ _
-          c.loop-segmenter.invariant.owning.going c.next.result c.next.follows.holds-at-none.0;
+      reads = most_reads (showing (page_cell c.args.cells.now) c.args.profile c.args.limit) _ _ _ _ _ _ _ _ _ _ _ _ []
+          c.loop-segmenter.invariant.owning.going (inl refl) c.next.result c.next.follows.holds-at-none.0;
       limit = search rules;
       failed_reads = search rules;
       failed_writes = search rules;
@@ -54,10 +54,10 @@ returns-in_err-owned-clause-refused g c =
       shown = search rules;
       ended = search rules;
       run = whole_run (run_out_of_memory (showing (page_cell c.args.cells.now) c.args.profile c.args.limit) _ _ _ _
-          c.from_residual-in_err-owned.result _ _ _ _ _ _ _ _ _ c.next.result c.loop-segmenter.invariant.owning.going c.next.follows.holds-at-none.0
+          c.from_residual-in_err-owned.result _ _ _ _ _ _ _ _ _ c.next.result [] c.loop-segmenter.invariant.owning.going (inl refl) c.next.follows.holds-at-none.0 None tt
           c.in-Some.passage (c.in_ok-passage.was ∙ ap Ok c.in-Some.is) (exit.1 ∙ ap Err exit.2));
-      reads = most_reads (showing (page_cell c.args.cells.now) c.args.profile c.args.limit) _ _ _ _ _ _ _ _ _ _ _ _
-          c.loop-segmenter.invariant.owning.going c.next.result c.next.follows.holds-at-none.0;
+      reads = most_reads (showing (page_cell c.args.cells.now) c.args.profile c.args.limit) _ _ _ _ _ _ _ _ _ _ _ _ []
+          c.loop-segmenter.invariant.owning.going (inl refl) c.next.result c.next.follows.holds-at-none.0;
       limit = search rules;
       failed_reads = search rules;
       failed_writes = search rules;
@@ -70,10 +70,10 @@ returns-in_err-push-clause-refused g c =
       shown = search rules;
       ended = search rules;
       run = whole_run (run_out_of_memory (showing (page_cell c.args.cells.now) c.args.profile c.args.limit) _ _ _ _
-          c.from_residual-in_err-push.result _ _ _ _ _ _ _ _ _ c.next.result c.loop-segmenter.invariant.owning.going c.next.follows.holds-at-none.0
+          c.from_residual-in_err-push.result _ _ _ _ _ _ _ _ _ c.next.result [] c.loop-segmenter.invariant.owning.going (inl refl) c.next.follows.holds-at-none.0 None tt
           c.in-Some.passage (c.in_ok-passage.was ∙ ap Ok c.in-Some.is) (exit.1 ∙ ap Err exit.2));
-      reads = most_reads (showing (page_cell c.args.cells.now) c.args.profile c.args.limit) _ _ _ _ _ _ _ _ _ _ _ _
-          c.loop-segmenter.invariant.owning.going c.next.result c.next.follows.holds-at-none.0;
+      reads = most_reads (showing (page_cell c.args.cells.now) c.args.profile c.args.limit) _ _ _ _ _ _ _ _ _ _ _ _ []
+          c.loop-segmenter.invariant.owning.going (inl refl) c.next.result c.next.follows.holds-at-none.0;
       limit = search rules;
       failed_reads = search rules;
       failed_writes = search rules;
@@ -99,7 +99,7 @@ pub returns-clause-done : goal.returns-clause-done
 returns-clause-done g c =
     let run =
     whole_run (run_ended (showing (page_cell c.args.cells.now) c.args.profile c.args.limit) _ _ _ (Unit {0})
-    (Ok (tt {0})) _ _ _ _ _ _ _ _ _ c.next.result c.loop-segmenter.invariant.owning.going c.next.follows.holds-at-none.0 (tt {0})
+    (Ok (tt {0})) _ _ _ _ _ _ _ _ _ c.next.result [] c.loop-segmenter.invariant.owning.going (inl refl) c.next.follows.holds-at-none.0 None tt (tt {0})
     (c.in_ok-passage.was ∙ ap Ok c.in_default.is) refl)
     in
     record {
@@ -107,8 +107,8 @@ returns-clause-done g c =
           (Ok (tt {0})) _ _ _ _ run (search rules);
       ended = search rules;
       run = run;
-      reads = most_reads (showing (page_cell c.args.cells.now) c.args.profile c.args.limit) _ _ _ _ _ _ _ _ _ _ _ _
-          c.loop-segmenter.invariant.owning.going c.next.result c.next.follows.holds-at-none.0;
+      reads = most_reads (showing (page_cell c.args.cells.now) c.args.profile c.args.limit) _ _ _ _ _ _ _ _ _ _ _ _ []
+          c.loop-segmenter.invariant.owning.going (inl refl) c.next.result c.next.follows.holds-at-none.0;
       limit = search rules;
       failed_reads = search rules;
       failed_writes = search rules;

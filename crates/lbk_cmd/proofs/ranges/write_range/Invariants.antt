@@ -6,17 +6,18 @@ use Rattle.lbk_cmd.specs.Ranges.{ReadsBefore, within}
 use Rattle.lbk_cmd.proofs.Looping.{Going}
 use Rattle.lbk_cmd.proofs.ranges.write_range.Given as goal
 
-abbrev pub invariant-loop-at : goal.invariant-loop-at
-invariant-loop-at g l = record {
+abbrev pub invariant-loop-lines : goal.invariant-loop-lines
+invariant-loop-lines g l = record {
   going : Going (within l.fn.part (engine_of l.fn.lines (g.C.CellSource.cell_of l.cells) l.fn.profile l.fn.limit))
       (g.R.Source.unread l.fn.reader) (g.W.Sink.written l.fn.writer) (g.R.Source.reads_made l.fn.reader)
       (state_of g.C.CellSource.cell_of l.segmenter)
-      (g.R.Source.unread l.reader) (g.W.Sink.written l.writer) (g.R.Source.has_ended l.reader) (g.R.Source.reads_made l.reader);
+      (g.R.Source.unread l.reader) (g.W.Sink.written l.writer) (g.R.Source.has_ended l.reader) (g.R.Source.reads_made l.reader)
+      l.gathered.lines.items;
   before : ReadsBefore l.fn.part.to going.keeps_up;
   read_failures : g.R.Source.failure_count l.reader ≡ g.R.Source.failure_count l.fn.reader;
   write_failures : g.W.Sink.failure_count l.writer ≡ g.W.Sink.failure_count l.fn.writer;
-  at : l.at ≡ (state_of g.C.CellSource.cell_of l.segmenter).start;
+  at : l.gathered.at ≡ (state_of g.C.CellSource.cell_of l.segmenter).start;
 }
 
-abbrev pub decreases-loop-at : goal.decreases-loop-at
-decreases-loop-at g l = longest_text + 1 - (state_of g.C.CellSource.cell_of l.segmenter).start
+abbrev pub decreases-loop-lines : goal.decreases-loop-lines
+decreases-loop-lines g l = longest_text + 1 - (state_of g.C.CellSource.cell_of l.segmenter).start

@@ -14,6 +14,8 @@ scalars-init c =
       few = c.first_row.ensures.few;
       within = first.ensures.read.within;
       before = omega (arith, first.ensures.read.grows);
+      begins = omega arith;
+      counts = omega arith;
       filling = λ start filled. record {
         filled = filled;
         reads = first-in_row c.args.text.now c.args.here.at first.result.code first.result.end c.first_row.result first.ensures.read c.first_row.ensures;
@@ -30,6 +32,9 @@ bytes-init c =
       within = omega (arith, taken.ensures.at, next.ensures.read.within);
       before = ⊎_elim (λ (same : taken.result.begin ≡ l.part.begin). omega (arith, taken.ensures.at, l.invariant.before, next.ensures.read.grows))
           (λ (here : taken.result.begin ≡ l.part.at). omega (arith, taken.ensures.at, next.ensures.read.grows)) taken.ensures.begin;
+      begins = ⊎_elim (λ (same : taken.result.begin ≡ l.part.begin). omega (arith, l.invariant.begins))
+          (λ (here : taken.result.begin ≡ l.part.at). omega (arith, l.invariant.begins, l.invariant.before)) taken.ensures.begin;
+      counts = omega (arith, taken.ensures.count, l.invariant.counts);
       onward = omega arith;
       filling = λ start filled.
           taken.ensures.filling c.args.text.now start next.result.code (l.invariant.filling start filled) next.ensures.read c.step_of-step.ensures;
@@ -48,6 +53,9 @@ bytes-preserved c =
       within = omega (arith, taken.ensures.at);
       before = ⊎_elim (λ (same : taken.result.begin ≡ l.part.begin). omega (arith, taken.ensures.at, l.invariant.before))
           (λ (here : taken.result.begin ≡ l.part.at). omega (arith, taken.ensures.at)) taken.ensures.begin;
+      begins = ⊎_elim (λ (same : taken.result.begin ≡ l.part.begin). omega (arith, l.invariant.begins))
+          (λ (here : taken.result.begin ≡ l.part.at). omega (arith, l.invariant.begins, l.invariant.before)) taken.ensures.begin;
+      counts = omega (arith, taken.ensures.count, l.invariant.counts);
       onward = omega (arith, taken.ensures.at, l.invariant.onward);
       filling = λ start filled.
           taken.ensures.filling text start byte (l.invariant.filling start filled) (one-read text l.part.at (omega arith) low)

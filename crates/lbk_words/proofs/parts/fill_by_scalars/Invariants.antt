@@ -7,6 +7,8 @@ invariant-scalars l = record {
   few : l.part.row < 43;
   within : l.part.at ≤ length l.text;
   before : l.part.begin ≤ l.part.at;
+  begins : l.fn.here.at ≤ l.part.begin;
+  counts : (l.fn.here.count ≤ l.part.count) × (l.part.count ≤ length l.out);
   filling : (start : ℕ) → IsFilled l.text start l.fn.here.at l.fn.here.count l.fn.out → IsFilling l.text start l.part l.out;
 }
 
@@ -18,6 +20,8 @@ invariant-bytes l = record {
   few : l.part.row < 43;
   within : l.part.at ≤ length l.text;
   before : l.part.begin ≤ l.part.at;
+  begins : l.fn.here.at ≤ l.part.begin;
+  counts : (l.fn.here.count ≤ l.part.count) × (l.part.count ≤ length l.out);
   onward : l.from ≤ l.part.at;
   filling : (start : ℕ) → IsFilled l.text start l.fn.here.at l.fn.here.count l.fn.out → IsFilling l.text start l.part l.out;
 }

@@ -1,0 +1,178 @@
+-- A run by the answers of the calls that gather its lines.
+use Rattle.std.proofs.Common.{◌≡◌, ℕ, ◌+◌, ◌<◌, ◌≤◌, ◌⊎◌, ◌↔◌, Bool, true, false, List, [], length, take, Option, None, Some, Result, Ok, Err, IsErrOf, IsTrue, OnOk, refl, sym, ap, subst, ◌∙◌, inl, inr, ⊎_elim}
+use Rattle.std.specs.Io.KnownBytes.{Appends, IsAtEnd}
+use Rattle.lbk_feed.specs.Devices.{Reads}
+use Rattle.lbk_feed.specs.Runs.{Ran}
+use Rattle.lbk_feed.specs.Text.{longest_text}
+use Rattle.lbk_passage.specs.State.{IsLimit, State}
+use Rattle.lbk_passage.specs.Next.{AfterNext, failures_with, fault_in}
+use Rattle.lbk_passage.specs.declared.faults.PassageFault.{PassageFault}
+use Rattle.lbk_passage.specs.declared.faults.PassageFault.TheVariants as fault
+use Rattle.lbk_passage.specs.declared.passage.Passage.{Passage}
+use Rattle.lbk_cmd.specs.Gathering.{Puts, PutsNext, end_of}
+use Rattle.lbk_cmd.specs.Ranges.{ReadsBefore}
+use Rattle.lbk_cmd.specs.Run.{Engine, failed_reads_with, failed_writes_with, is_failed_read}
+use Rattle.lbk_cmd.specs.declared.faults.CmdFault.{CmdFault}
+use Rattle.lbk_cmd.specs.declared.faults.CmdFault.TheVariants as cmd
+use Rattle.lbk_cmd.proofs.Looping.{Ends, Going, MayEnd, MayStop, Wait, at_the_end, goes_to, most_reads, ran_fault, ran_held_back, ran_memory, ran_whole}
+
+-- a run that goes on has no answer
+none_some : {X : Type 0} (o : Option X) (x : X) → o ≡ None → o ≡ Some x → ⊥
+none_some o x none some = let both : None ≡ Some x = sym none ∙ some in cc
+
+some_same : {X : Type 0} (o : Option X) (x y : X) → o ≡ Some x → o ≡ Some y → y ≡ x
+some_same o x y one other = let both : Some x ≡ Some y = sym one ∙ other in cc
+
+-- the count of failed reads, by the fault that the segmenter answered
+failed_alike : (n : ℕ) (why : PassageFault) → failures_with n (Some why) ≡ failed_reads_with {X = Unit {0}} n (Err (cmd.Passage why))
+failed_alike n fault.Limit = refl
+failed_alike n fault.Memory = refl
+failed_alike n fault.Read = refl
+failed_alike n (fault.NotUtf8 at) = refl
+failed_alike n fault.TextTooLong = refl
+failed_alike n (fault.ParagraphTooLong start) = refl
+failed_alike n fault.Spent = refl
+
+module _ (e : Engine) (u0 w0 : Option (List ℕ)) (reads0 : Reads) (s t : State) (u v w : Option (List ℕ)) (e1 e2 : Bool) (r1 r2 : Reads) (f1 f2 : ℕ)
+    (lines lines' : List ℕ) (at : ℕ) (put : Result Bool CmdFault) (g : Going e u0 w0 reads0 s u w e1 r1 lines) (wait : Wait e u0 w0 reads0 s lines)
+    (n : PutsNext e s t u v e1 e2 r1 r2 f1 f2 lines lines' at put) where
+  pub most : r2.count ≤ reads0.count + (longest_text + 1)
+  most = most_reads e u0 w0 reads0 s t u v w e1 e2 r1 r2 lines g wait n.lent n.next
+
+  -- memory could not grow for the passage or its lines
+  abbrev pub IsFull : Type 0
+  IsFull = (put ≡ Err cmd.Memory) ⊎ (put ≡ Err (cmd.Passage fault.Memory))
+
+  abbrev pub IsLate : ℕ → Type 0
+  IsLate from = IsFull → from ≤ s.start
+
+  -- a run over a range may end after the call
+  abbrev pub May : ℕ → Type 0
+  May to = MayEnd e u0 w0 reads0 s t u v w e1 e2 r1 r2 lines g wait to
+
+  -- where the run goes on
+  pub record On : Type 0 where
+    pub going : Going e u0 w0 reads0 t v w e2 r2 lines'
+    pub before : (to : ℕ) → May to → ReadsBefore to going.keeps_up
+    pub is : at ≡ t.start
+    pub onward : s.start < t.start
+    pub few : t.start ≤ longest_text
+    pub none_failed : f2 ≡ f1
+
+  pub on : end_of put ≡ None → On
+  on goes = by n.lent n.next n.puts n.failed
+    where
+      by : (lent : Result (Option Passage) PassageFault) → AfterNext s t u v e1 e2 r1 r2 lent → Puts e s lent lines lines' at put → f2 ≡ failures_with f1 (fault_in lent) → On
+      by (Ok None) a puts failed = absurd (none_some (end_of put) (Ok (tt {0})) goes (ap end_of puts.0))
+      by (Ok (Some p)) a (inl puts) failed =
+          let to = goes_to e u0 w0 reads0 s t u v w e1 e2 r1 r2 lines g wait p a lines' at puts.1 puts.2 in
+          record { going = to.going; before = to.before; is = to.is; onward = to.onward; few = to.few; none_failed = failed }
+      by (Ok (Some p)) a (inr puts) failed = absurd (none_some (end_of put) (Err cmd.Memory) goes (ap end_of puts.0))
+      by (Err why) a puts failed = absurd (none_some (end_of put) (Err (cmd.Passage why)) goes (ap end_of puts.0))
+
+  module _ (answer : Result (Unit {0}) CmdFault) (is : end_of put ≡ Some answer) where
+    -- no line was put
+    pub kept : lines' ≡ lines
+    kept = by n.lent n.puts
+      where
+        by : (lent : Result (Option Passage) PassageFault) → Puts e s lent lines lines' at put → lines' ≡ lines
+        by (Ok None) puts = puts.1
+        by (Ok (Some p)) (inl puts) = absurd (none_some (end_of put) answer (ap end_of puts.0) is)
+        by (Ok (Some p)) (inr puts) = puts.1
+        by (Err why) puts = puts.1
+
+    pub failed_reads : f2 ≡ failed_reads_with f1 answer
+    failed_reads = by n.lent n.puts n.failed
+      where
+        by : (lent : Result (Option Passage) PassageFault) → Puts e s lent lines lines' at put → f2 ≡ failures_with f1 (fault_in lent) → f2 ≡ failed_reads_with f1 answer
+        by (Ok None) puts failed = failed ∙ ap (failed_reads_with f1) (sym (some_same (end_of put) (Ok (tt {0})) answer (ap end_of puts.0) is))
+        by (Ok (Some p)) (inl puts) failed = absurd (none_some (end_of put) answer (ap end_of puts.0) is)
+        by (Ok (Some p)) (inr puts) failed = failed ∙ ap (failed_reads_with f1) (sym (some_same (end_of put) (Err cmd.Memory) answer (ap end_of puts.0) is))
+        by (Err why) puts failed =
+            failed ∙ failed_alike f1 why ∙ ap (failed_reads_with f1) (sym (some_same (end_of put) (Err (cmd.Passage why)) answer (ap end_of puts.0) is))
+
+    pub no_failed_write : (k : ℕ) → k ≡ failed_writes_with k answer
+    no_failed_write k = by n.lent n.puts
+      where
+        by : (lent : Result (Option Passage) PassageFault) → Puts e s lent lines lines' at put → k ≡ failed_writes_with k answer
+        by (Ok None) puts = ap (failed_writes_with k) (sym (some_same (end_of put) (Ok (tt {0})) answer (ap end_of puts.0) is))
+        by (Ok (Some p)) (inl puts) = absurd (none_some (end_of put) answer (ap end_of puts.0) is)
+        by (Ok (Some p)) (inr puts) = ap (failed_writes_with k) (sym (some_same (end_of put) (Err cmd.Memory) answer (ap end_of puts.0) is))
+        by (Err why) puts = ap (failed_writes_with k) (sym (some_same (end_of put) (Err (cmd.Passage why)) answer (ap end_of puts.0) is))
+
+    pub no_limit : ¬ (answer ≡ Err (cmd.Passage fault.Limit))
+    no_limit limit = by n.lent n.next n.puts
+      where
+        by : (lent : Result (Option Passage) PassageFault) → AfterNext s t u v e1 e2 r1 r2 lent → Puts e s lent lines lines' at put → ⊥
+        by (Ok None) a puts = let same : Ok (tt {0}) ≡ Err (cmd.Passage fault.Limit) = sym (some_same (end_of put) (Ok (tt {0})) answer (ap end_of puts.0) is) ∙ limit in cc
+        by (Ok (Some p)) a (inl puts) = none_some (end_of put) answer (ap end_of puts.0) is
+        by (Ok (Some p)) a (inr puts) =
+            let same : Err cmd.Memory ≡ Err (cmd.Passage fault.Limit) = sym (some_same (end_of put) (Err cmd.Memory) answer (ap end_of puts.0) is) ∙ limit in cc
+        by (Err fault.Limit) a puts = a.answer.lies
+        by (Err fault.Memory) a puts =
+            let same : Err (cmd.Passage fault.Memory) ≡ Err (cmd.Passage fault.Limit) = sym (some_same (end_of put) (Err (cmd.Passage fault.Memory)) answer (ap end_of puts.0) is) ∙ limit in cc
+        by (Err fault.Read) a puts =
+            let same : Err (cmd.Passage fault.Read) ≡ Err (cmd.Passage fault.Limit) = sym (some_same (end_of put) (Err (cmd.Passage fault.Read)) answer (ap end_of puts.0) is) ∙ limit in cc
+        by (Err (fault.NotUtf8 place)) a puts =
+            let same : Err (cmd.Passage (fault.NotUtf8 place)) ≡ Err (cmd.Passage fault.Limit) =
+            sym (some_same (end_of put) (Err (cmd.Passage (fault.NotUtf8 place))) answer (ap end_of puts.0) is) ∙ limit in cc
+        by (Err fault.TextTooLong) a puts =
+            let same : Err (cmd.Passage fault.TextTooLong) ≡ Err (cmd.Passage fault.Limit) =
+            sym (some_same (end_of put) (Err (cmd.Passage fault.TextTooLong)) answer (ap end_of puts.0) is) ∙ limit in cc
+        by (Err (fault.ParagraphTooLong start)) a puts =
+            let same : Err (cmd.Passage (fault.ParagraphTooLong start)) ≡ Err (cmd.Passage fault.Limit) =
+            sym (some_same (end_of put) (Err (cmd.Passage (fault.ParagraphTooLong start))) answer (ap end_of puts.0) is) ∙ limit in cc
+        by (Err fault.Spent) a puts =
+            let same : Err (cmd.Passage fault.Spent) ≡ Err (cmd.Passage fault.Limit) = sym (some_same (end_of put) (Err (cmd.Passage fault.Spent)) answer (ap end_of puts.0) is) ∙ limit in cc
+
+    -- where it ends, once the lines that waited were written
+    abbrev pub EndsBy : Option (List ℕ) → Result (Unit {0}) CmdFault → Type 0
+    EndsBy w' known =
+        Ran (is_failed_read known) u0 v w0 w' (Ends e reads0 r2 e2 v (MayStop e u0 w0 reads0 s t u v w e1 e2 r1 r2 lines g wait IsLate) known)
+
+    pub ends : (w' : Option (List ℕ)) → Appends w w' lines' → EndsBy w' answer
+    ends w' wrote = by n.lent n.next n.puts
+      where
+        by : (lent : Result (Option Passage) PassageFault) → AfterNext s t u v e1 e2 r1 r2 lent → Puts e s lent lines lines' at put → EndsBy w' answer
+        by (Ok None) a puts =
+            subst (EndsBy w') (sym (some_same (end_of put) (Ok (tt {0})) answer (ap end_of puts.0) is))
+            (ran_whole e u0 w0 reads0 s t u v w e1 e2 r1 r2 lines g wait IsLate (tt {0}) w' (subst (Appends w w') puts.1 wrote) a)
+        by (Ok (Some p)) a (inl puts) = absurd (none_some (end_of put) answer (ap end_of puts.0) is)
+        by (Ok (Some p)) a (inr puts) =
+            subst (EndsBy w') (sym (some_same (end_of put) (Err cmd.Memory) answer (ap end_of puts.0) is))
+            (ran_memory e u0 w0 reads0 s t u v w e1 e2 r1 r2 lines g wait p a (Unit {0}) IsLate (λ from late. late (inl puts.0)) w' (subst (Appends w w') puts.1 wrote))
+        by (Err why) a puts =
+            subst (EndsBy w') (sym (some_same (end_of put) (Err (cmd.Passage why)) answer (ap end_of puts.0) is))
+            (ran_fault e u0 w0 reads0 s t u v w e1 e2 r1 r2 lines g wait (Unit {0}) IsLate why
+            (λ from late same. late (inr (puts.0 ∙ ap (λ f. Err (cmd.Passage f)) same))) w' (subst (Appends w w') puts.1 wrote) a)
+
+    -- and where they were not, or not all
+    pub held_back : s.is_settled ≡ true → (w' : Option (List ℕ)) (k : ℕ) → Appends w w' (take k lines')
+        → Ran false u0 v w0 w' (Ends {X = Unit {0}} e reads0 r2 e2 v (λ from to. May to) (Err cmd.Write))
+    held_back settled w' k wrote =
+        ran_held_back e u0 w0 reads0 s t u v w e1 e2 r1 r2 lines g wait (Unit {0}) n.lent n.next (n.next.still settled).1 w' k
+        (subst (λ l. Appends w w' (take k l)) kept wrote)
+
+    -- the text was read to its end
+    pub to_its_end : OnOk answer (IsTrue e2 × IsAtEnd v)
+    to_its_end = by n.lent n.next n.puts
+      where
+        by : (lent : Result (Option Passage) PassageFault) → AfterNext s t u v e1 e2 r1 r2 lent → Puts e s lent lines lines' at put → OnOk answer (IsTrue e2 × IsAtEnd v)
+        by (Ok None) a puts =
+            let end = at_the_end e u0 w0 reads0 s t u v w e1 e2 r1 r2 lines g wait a in
+            subst (λ r. OnOk r (IsTrue e2 × IsAtEnd v)) (sym (some_same (end_of put) (Ok (tt {0})) answer (ap end_of puts.0) is)) end
+        by (Ok (Some p)) a (inl puts) = absurd (none_some (end_of put) answer (ap end_of puts.0) is)
+        by (Ok (Some p)) a (inr puts) = subst (λ r. OnOk r (IsTrue e2 × IsAtEnd v)) (sym (some_same (end_of put) (Err cmd.Memory) answer (ap end_of puts.0) is)) tt
+        by (Err why) a puts = subst (λ r. OnOk r (IsTrue e2 × IsAtEnd v)) (sym (some_same (end_of put) (Err (cmd.Passage why)) answer (ap end_of puts.0) is)) tt
+
+    -- where no line waits, none is written, and no write fails
+    pub waits : {F : Type 0} (written : Result (Unit {0}) F) (why : F) → written ≡ Err why → (lines' ≡ [] → written ≡ Ok (tt {0})) → s.is_settled ≡ true
+    waits written why was nothing = ⊎_elim
+        (λ (none : lines ≡ []). absurd (let both : Ok (tt {0}) ≡ Err why = sym (nothing (kept ∙ none)) ∙ was in cc))
+        (λ (settled : s.is_settled ≡ true). settled)
+        wait
+
+-- the limit is refused where the segmenter is made, and nowhere else
+pub limit_kept : {S : Type 0} (limit : ℕ) (made : Result S PassageFault) (s : S) → made ≡ Ok s → (IsErrOf made fault.Limit ↔ (¬ (IsLimit limit)))
+    → (answer : Result (Unit {0}) CmdFault) → ¬ (answer ≡ Err (cmd.Passage fault.Limit)) → IsErrOf answer (cmd.Passage fault.Limit) ↔ (¬ (IsLimit limit))
+limit_kept limit made s was told answer none = (λ h. absurd (none h), λ bad. absurd (let both : Ok s ≡ Err fault.Limit = sym was ∙ told.1 bad in cc))

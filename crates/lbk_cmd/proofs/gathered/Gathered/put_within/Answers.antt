@@ -1,0 +1,35 @@
+use Rattle.std.proofs.Common.{◌≡◌, Ok, Err, ap, sym, refl, ◌∙◌, arith, subst}
+use Rattle.std.proofs.lemmas.Result.{err_from_is_err_and}
+use Rattle.lbk_passage.specs.Next.{failures_with, fault_in}
+use Rattle.lbk_passage.specs.Shown.{state_of}
+use Rattle.lbk_cmd.specs.Engines.{lines_of}
+use Rattle.lbk_cmd.specs.Gathering.{PutsNext}
+use Rattle.lbk_cmd.proofs.Ranging.{engine_in, lent_fault, puts_fault, puts_here}
+use Rattle.lbk_cmd.proofs.gathered.Gathered.put_within.Goals as goal
+
+pub returns-then-self-from-clause-puts : goal.returns-then-self-from-clause-puts
+returns-then-self-from-clause-puts g c = λ limit.
+    let cell = g.C.CellSource.cell_of c.args.cells.now in
+    let put = c.put_next.ensures.puts limit in
+    record {
+      lent = put.lent;
+      next = put.next;
+      failed = put.failed;
+      puts = puts_here c.args.part (lines_of c.args.lines cell) cell c.args.profile limit _ _ _ _ _ _ _ _ put.lent _ _ _ _ put.next
+          (omega (arith, c.requires.start, c.if-self-from.true, c.from.ensures)) (omega (arith, c.requires.start, c.requires.early)) put.puts;
+    }
+
+pub returns-in_err-end-clause-puts : goal.returns-in_err-end-clause-puts
+returns-in_err-end-clause-puts g c = λ limit.
+    let cell = g.C.CellSource.cell_of c.args.cells.now in
+    let exit = err_from_is_err_and c.from_residual.result c.from_residual.ensures.1 in
+    let passes = c.pass.ensures.passes in
+    let same = lent_fault passes.lent c.in_err-end.field-0.0 (sym c.in_err-end.was ∙ passes.is) in
+    record {
+      lent = passes.lent;
+      next = passes.after;
+      failed = c.pass.ensures.failures ∙ ap (λ r. failures_with (g.R.Source.failure_count c.args.reader.now) (fault_in r)) c.in_err-end.was
+          ∙ ap (λ r. failures_with (g.R.Source.failure_count c.args.reader.now) (fault_in r)) (sym same);
+      puts = puts_fault (engine_in c.args.part c.args.lines cell c.args.profile limit) (state_of g.C.CellSource.cell_of c.args.segmenter.now) passes.lent
+          c.args.self.now.lines.items c.args.self.now.at c.in_err-end.field-0.0 same c.from_residual.result (exit.1 ∙ ap Err exit.2);
+    }

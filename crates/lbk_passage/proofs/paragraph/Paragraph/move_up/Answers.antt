@@ -1,0 +1,18 @@
+use Rattle.std.proofs.Common.{◌++◌, IsCharBoundary, string_bytes, not, is_ok, if◌then◌else◌, refl, sym, ap, subst, ◌∙◌}
+use Rattle.lbk_passage.proofs.Taking.{pushed}
+use Rattle.lbk_passage.proofs.paragraph.Paragraph.move_up.Goals as goal
+
+pub range-requires-clause-end_boundary : goal.range-requires-clause-end_boundary
+range-requires-clause-end_boundary c = subst (λ l. IsCharBoundary l c.args.len) (sym c.ready-ready.ensures.ready) c.requires.place
+
+pub returns : goal.returns
+returns c = record {
+  feed = c.advance.ensures.used;
+  text = pushed c.push_str.result _ _ c.ready-ready.result.now _ c.args.len
+      (c.is_err.ensures.negation ∙ ap not c.if-is_err.false)
+      (c.push_str.ensures.bytes ∙ ap (λ l. if is_ok c.push_str.result then string_bytes c.args.self.now.text ++ l else string_bytes c.args.self.now.text) c.range.ensures.value)
+      c.ready-ready.ensures.ready;
+  limit = refl;
+  held = refl;
+  spent = refl;
+}
