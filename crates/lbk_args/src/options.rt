@@ -131,7 +131,7 @@ fn limit_option<'a>(alloc: Global) -> Arg<'a>
     ensures local { result.global ≡ false }
 {
     number_option(alloc, "limit", u64::from(LIMIT_MAX), "65536").help(
-        "The most bytes of a paragraph",
+        "Bytes of a paragraph, 1 to 16777216",
     )
 }
 
