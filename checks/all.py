@@ -9,12 +9,16 @@ from checks.harness import ALL_RIGHT, FAILED, USAGE, CannotRun, Tally
 # In the order in which the gate runs them, which leaves out `clients`. Each is a module of this package with `run(tally, arguments)`, and the first line
 # of its text says what it checks.
 NAMES = [
+    "verdicts",
     "stored-runs",
+    "first-look",
     "published-files",
     "shown-commands",
     "page-references",
     "quoted-contracts",
     "man-page",
+    "completion",
+    "word-tables",
     "refused-allocations",
     "failing-streams",
     "files-and-pipes",

@@ -50,12 +50,13 @@ end() {
 
 has() { command -v "$1" > "$here/found"; }
 
-for word in cc python3 ar ld objcopy nm pkg-config; do
+for word in cc python3 ar ld objcopy objdump nm pkg-config; do
     if ! has $word; then told "$word" 'it is not there'; fi
 done
 [ "$failed" = 0 ] || end
 
 prefix=$here/prefix
+"$top/scripts/prove" lbk lbk_c || { told 'the program and the library are proved' "status $?"; end; }
 tried 'install-library' "$top/scripts/install-library" "$prefix" || end
 export PKG_CONFIG_PATH=$prefix/lib/pkgconfig LD_LIBRARY_PATH=$prefix/lib PYTHONDONTWRITEBYTECODE=1
 folder=$(pkg-config --variable=libdir lbk)
@@ -95,12 +96,18 @@ printf 'ab, (cd) \xe2\x80\x98ef\xe2\x80\x99\r\n\xe4\xb8\x80\xe4\xb8\x80 1,5 %%\n
 texts+=("$here/few" "$here/nothing" "$@")
 for profile in 1 2; do
     for number in "${!texts[@]}"; do
-        "$top/lbk" segment --line-break "${files[0]}" --east-asian "${files[1]}" --category "${files[2]}" --emoji "${files[3]}" \
+        "$top/crates/lbk/out/lbk" segment --line-break "${files[0]}" --east-asian "${files[1]}" --category "${files[2]}" --emoji "${files[3]}" \
             --limit 16777216 --profile $profile < "${texts[number]}" > "$here/all" || told "lbk segment of ${texts[number]}" "status $?"
         sed -n '/^S /p' "$here/all" > "$here/wanted-$profile-$number"
         sed -n '/^W /p' "$here/all" > "$here/words-$number"
     done
 done
+
+# The code of each function is what the kit's compiler made of what was proved.
+code_in() { (mkdir "$2" && cd "$2" && ar x "$1" && for it in *.o; do objdump -s "$it" | awk '/^Contents of section/ { on = $4 ~ /^\.text\./ } on'; done); }
+code_in "$top/crates/lbk_c/out/liblbk_c.a" "$here/made" > "$here/code-made"
+code_in "$folder/liblbk.a" "$here/linked" > "$here/code-linked"
+told 'the code in liblbk.a is that of the proved archive' "$([ -s "$here/code-made" ] && cmp "$here/code-made" "$here/code-linked" && echo yes)"
 
 # The names that the libraries show: those of the header, and in the shared one with the version.
 calls=$(sed -n 's/^[a-z].* \**\(lbk_[a-z0-9_]*\)(.*/\1/p' "$prefix/include/lbk.h" | sort)

@@ -134,6 +134,8 @@ def run(tally, _arguments):
     with tempfile.TemporaryDirectory() as name:
         room = Path(name)
         prefix = room / "prefix"
+        # (which says on standard error how far it is)
+        subprocess.run([TOP / "scripts/prove", "lbk_c"], check=True)
         if not done([TOP / "scripts/install-library", prefix], room / "log"):
             tally.tell("install-library", last_lines(room / "log"))
             return

@@ -16,15 +16,15 @@ from checks.program import run as run_program
 from checks.unicode_files import OPTIONS
 
 LINE_BREAK = b"000A;LF\n0020;SP\n0061..007A;AL\n"
-IN_FAULT = "lbk: standard input cannot be read"
-OUT_FAULT = "lbk: standard output cannot be written"
+IN_FAULT = "lbk: standard input: cannot be read"
+OUT_FAULT = "lbk: standard output: cannot be written"
 NO_SPACE = f"{OUT_FAULT}: no storage space"
 NOT_READY = "operation would block"
 SAMPLES = "lbk: these are sample data, for a first look; for real text: lbk mark --ucd FOLDER FILE\n"
 TOO_LONG = (
     "lbk: standard input: byte 0: the paragraph from here on has more than 65536 bytes; --limit raises the limit, up to 16777216"
 )
-NOT_TEXT = "lbk: the words are not UTF-8"
+NOT_TEXT = "lbk: argument {}, {}, is not UTF-8; a text of such a name is read as standard input: < FILE"
 SECONDS = 30  # until a run counts as one that waits
 GREATEST = 16_777_216  # bytes of a paragraph
 HAS_FULL = os.access("/dev/full", os.W_OK)
@@ -166,7 +166,7 @@ def ends_of_input(runs, name, words, first):
     runs.ends(f"{name}: a pipe that ends at once", ended, 0, "", first)
     runs.wrote(f"{name}: a pipe that ends at once", ended, nothing)
     ended = runs.redirected("< /dev/zero", words)
-    endless = "lbk: standard input has more than 1073741824 bytes" if name == "replay" else TOO_LONG
+    endless = "lbk: standard input: more than 1073741824 bytes" if name == "replay" else TOO_LONG
     runs.ends(f"{name}: an input that never ends", ended, 1, endless, first)
     runs.wrote(f"{name}: an input that never ends", ended)
 
@@ -185,21 +185,26 @@ def property_files(runs):
         ("a name with line ends", "no\nsuch\r", 1, r"lbk: no\u{a}such\u{d}: the file cannot be read: no such file"),
         ("a file that never ends", "/dev/zero", 1, "lbk: /dev/zero: the file has more than 8388608 bytes"),
         ("a file that ends at once", "/dev/null", 0, ""),
-        ("a name that is not UTF-8", b"\xff", 2, NOT_TEXT),
+        ("a name that is not UTF-8", b"\xff", 2, None),
     ]
     for task in ("show", "mark"):
         for k, option in enumerate(OPTIONS):
             for what, name, status, line in rows:
                 files = [name if k == other else file for other, file in enumerate(runs.files)]
                 ended = runs.redirected("< two", [task, *runs.words(files)])
-                runs.ends(f"{task} {option}: {what}", ended, status, line)
+                runs.ends(f"{task} {option}: {what}", ended, status, line if line is not None else NOT_TEXT.format(3 + 2 * k, r"\xff"))
                 if status:
                     runs.wrote(f"{task} {option}: {what}", ended)
 
 
 def arguments(runs):
     for word in (b"\xff", b"show\xc3", b"mark\xc3", b"\xed\xa0\x80", b"--limit=\xfe"):
-        runs.ends(f"an argument that is not UTF-8: {word!r}", runs.redirected("< two", [word]), 2, NOT_TEXT)
+        seen = "".join(chr(it) if 0x21 <= it < 0x7F else f"\\x{it:02x}" for it in word)
+        runs.ends(f"an argument that is not UTF-8: {word!r}", runs.redirected("< two", [word]), 2, NOT_TEXT.format(1, seen))
+    # (Linux takes 131,071 bytes)
+    long = b"x" * 131_070 + b"\xff"
+    ended = runs.redirected("< two", ["mark", long])
+    runs.ends("a long argument that is not UTF-8", ended, 2, NOT_TEXT.format(2, "x" * 131_070 + r"\xff"))
     for word in ("--help", "--version"):
         runs.ends(f"{word}: a closed output", runs.redirected("< two >&-", [word]), 1, OUT_FAULT)
         if HAS_FULL:

@@ -80,8 +80,8 @@ def newest_source():
 
 
 def built_program():
-    """The program lbk, proved and built where it is not."""
-    subprocess.run([TOP / "lbk", "--version"], stdin=subprocess.DEVNULL, stdout=subprocess.DEVNULL, check=True)
+    """The program lbk, proved and built where no verdict fits it."""
+    subprocess.run([TOP / "lbk", "--prove"], stdin=subprocess.DEVNULL, check=True)
     return TOP / "crates/lbk/out/lbk"
 
 

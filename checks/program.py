@@ -12,12 +12,6 @@ MIB = 1 << 20
 ANY = resource.RLIM_INFINITY
 
 
-# What lbk adds to a usage that asks for the property files, on a machine that has them where Debian has them; checks compare
-# the rest.
-LACKS_FILES = b"the property files are not named"
-HINT = b"\nlbk: they are in /usr/share/unicode: --ucd /usr/share/unicode\n"
-
-
 class Ended(NamedTuple):
     """A status and all that a run wrote."""
 
@@ -29,8 +23,7 @@ class Ended(NamedTuple):
 def run(words, given=b"", seconds=600, **more):
     """Runs a program over some bytes, and returns how it ended. One that takes longer than so many seconds ends the check."""
     ran = subprocess.run(words, input=given, capture_output=True, check=False, timeout=seconds, **more)
-    err = ran.stderr.replace(HINT, b"") if LACKS_FILES in ran.stderr else ran.stderr
-    return Ended(ran.returncode, ran.stdout, err)
+    return Ended(ran.returncode, ran.stdout, ran.stderr)
 
 
 class Long:

@@ -3,12 +3,10 @@
 import os
 import re
 import shutil
-import subprocess
 import tempfile
 from pathlib import Path
 
 from checks.harness import built_crate, built_program
-from checks.program import HINT
 from checks.program import run as run_program
 from checks.unicode_files import MISSING, NAMES, layers_input, options, published
 
@@ -49,9 +47,8 @@ def without_files(runs):
     runs.ends("--version", runs.run(b"ab cd", "--version"), 0)
     runs.ends("a wrong subcommand", runs.run(b"ab cd", "bogus"), 2, "unrecognized subcommand 'bogus'")
     runs.ends("no files", runs.run(b"ab cd", "show"), 2, "the property files are not named")
-    usage = subprocess.run([runs.program, "show"], stdin=subprocess.DEVNULL, capture_output=True, check=False).stderr
-    is_there = all(Path("/usr/share/unicode", it).is_file() for it in NAMES)
-    runs.tally.equal("no files: the folder of Debian's package is named where it has them", usage.endswith(HINT), is_there)
+    usage = runs.run(b"ab cd", "show").err
+    runs.tally.equal("no files: the folder of Debian's package is named", b"--ucd /usr/share/unicode\n" in usage, True)
 
 
 def steps(runs, files):
@@ -164,7 +161,8 @@ def one_file_less(runs, folder, here, mark, marked):
     """A file that its option names is not looked for in the folder, and may be any."""
     wide = here / "EastAsianWidth.txt"
     wide.unlink()
-    runs.ends("a folder that lacks a file", mark(), 1, f"^lbk: {wide}: the file cannot be read: no such file")
+    lacks = f"^lbk: {wide}: the file cannot be read: no such file; Debian's package unicode-data has the files: --ucd /usr/share/unicode$"
+    runs.ends("a folder that lacks a file", mark(), 1, lacks)
     own = runs.room / "wide.txt"
     own.write_bytes((folder / "EastAsianWidth.txt").read_bytes().partition(b"\n")[2])
     ended = mark("--east-asian", own)

@@ -24,7 +24,9 @@ class Shown:
 
     def __init__(self, tally, room):
         self.tally = tally
-        self.environment = {**os.environ, "TMPDIR": room}
+        # (`lbk` is the program, as where it is installed)
+        path = f"{TOP}/crates/lbk/out:{os.environ['PATH']}"
+        self.environment = {**os.environ, "TMPDIR": room, "PATH": path}
         self.left = 0
 
     def has_files(self):

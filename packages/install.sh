@@ -9,6 +9,7 @@
 #     LIBDIR/pkgconfig/lbk.pc                     by which pkg-config finds it
 #     LIBDIR/cmake/lbk/                           and CMake's find_package
 #     PREFIX/share/man/man1/lbk.1                 the program's manual page
+#     PREFIX/share/bash-completion/completions/lbk    the completion of its words
 #
 # LIBDIR is PREFIX/lib unless it is given. Both are taken as the places where the files will be used; DESTDIR, where it is set, stands
 # in front of them while they are copied.
@@ -57,7 +58,8 @@ filled lib/lbk-config.cmake.in > "$lib/cmake/lbk/lbk-config.cmake"
 cp lib/lbk-config-version.cmake "$lib/cmake/lbk"
 
 if [ -e bin/lbk ]; then
-    mkdir -p "$to/bin" "$to/share/man/man1"
+    mkdir -p "$to/bin" "$to/share/man/man1" "$to/share/bash-completion/completions"
     install -m 755 bin/lbk "$to/bin"
     install -m 644 share/lbk.1 "$to/share/man/man1"
+    install -m 644 share/lbk.bash "$to/share/bash-completion/completions/lbk"
 fi

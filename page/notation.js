@@ -8,6 +8,9 @@ const HIDDEN = new Map([
   ["\u3000", "IDSP"], ["\ufeff", "ZWNBSP"], [" ", "·"],
 ]);
 
+/** What each kind of position is, in words. */
+export const SAYS = { no: "No break", may: "A line may break", must: "A line must end" };
+
 export function signOf(kind) {
   return SIGNS[kind];
 }

@@ -1,23 +1,37 @@
 /** The page: its text, and what it shows of it. */
 import { Table } from "./lbk.js";
+import { AnswerView } from "./answer.js";
 import { ColumnsView } from "./columns.js";
+import { DecidedText } from "./decided.js";
 import { EXAMPLES } from "./examples.js";
 import { testLine } from "./notation.js";
-import { MOST_SHOWN, PositionsView } from "./positions.js";
+import { passageAt } from "./passage.js";
+import { directionOf } from "./pieces.js";
+import { PositionsView } from "./positions.js";
 
 const find = (id) => document.getElementById(id);
 const field = find("text");
 const profile = find("profile");
 
-const KINDS = ["no", "may", "must"];
+/** The position of the first example that is chosen where the page opens: the comma of a number. */
+const FIRST_CHOSEN = 23;
+/** The field finds the direction of each paragraph in texts of so many units at most, and else has that of the text. */
+const MOST_OF_AUTO = 20_000;
 /** How many bytes of a dropped file are read. */
 const MOST_OF_FILE = 1_000_000;
 
 /** The text, as it was given: a text field makes LF of CR. */
 let text = "";
 
-function setText(given) {
+function takeText(given) {
   text = given;
+  // A browser that looks for the direction of each paragraph takes seconds for a key in a long one, and lays all out where it is set.
+  const direction = text.length > MOST_OF_AUTO ? directionOf(text) : "auto";
+  if (field.dir !== direction) field.dir = direction;
+}
+
+function setText(given) {
+  takeText(given);
   field.value = given;
 }
 
@@ -26,7 +40,7 @@ function readFragment() {
   const given = new URLSearchParams(location.hash.slice(1));
   if (given.has("text")) setText(given.get("text"));
   if (["1", "2"].includes(given.get("profile"))) profile.value = given.get("profile");
-  return given.has("at") ? Number(given.get("at")) : undefined;
+  return /^\d+$/.test(given.get("at")) ? Number(given.get("at")) : undefined;
 }
 
 function linkToText(at) {
@@ -74,53 +88,106 @@ function takeFiles(taken) {
   });
 }
 
-/** The first positions of columns, as `Table.positions` gives them. */
-function firstRows(table, { at, kind, rule }) {
-  return Array.from(at.subarray(0, MOST_SHOWN), (place, k) => ({ at: place, kind: KINDS[kind[k]], rule: table.ruleLabel(rule[k]) }));
+/** The place of the first position that a rule decides, or else of the first break, in the first paragraphs. */
+function firstPlace(decided, rule) {
+  let first;
+  for (let index = 0; index < Math.min(10, decided.paragraphs.length); index++) {
+    const found = decided.positionsIn(index, 0, decided.paragraphs[index].length);
+    const wanted = found.find((it) => it.rule === rule);
+    if (wanted) return decided.startOf(index) + wanted.at;
+    const isBreak = found.find((it) => it.kind !== "no");
+    if (isBreak) first ??= decided.startOf(index) + isBreak.at;
+  }
+  return first ?? 0;
+}
+
+/** What the page shows of a text: the positions, the answer at the chosen one, and the columns. */
+class Views {
+  #table;
+  #decided;
+  #columns = new ColumnsView(find("ours"), find("theirs"), find("differences"));
+  #positions;
+  #passage;
+
+  constructor(table) {
+    this.#table = table;
+    this.#decided = new DecidedText(table);
+    const answer = new AnswerView(find("detail"), this.#decided, (scalar) => table.classOf(scalar));
+    this.#positions = new PositionsView(find("positions"), this.#decided, (before, after) => {
+      answer.show(before, after);
+      this.#showPassage(before.at);
+    });
+  }
+
+  get chosenAt() {
+    return this.#positions.chosenAt;
+  }
+
+  get line() {
+    return testLine(text, this.#table.positions(text, { profile: Number(profile.value) }));
+  }
+
+  /** Shows a text or a profile that is new, with the position at a place chosen, or else one that a rule decides. */
+  begin(at, rule) {
+    this.#decided.set(text, Number(profile.value));
+    this.#show(at ?? firstPlace(this.#decided, rule));
+  }
+
+  edit(at) {
+    this.#decided.edit(text);
+    this.#show(at);
+  }
+
+  widen() {
+    find("width-told").value = `${find("width").value} pixels`;
+    this.#columns.width = find("width").value;
+  }
+
+  #show(at) {
+    this.#passage = undefined;
+    this.#positions.show();
+    this.#positions.choose(at);
+    find("done").textContent = "";
+  }
+
+  /** Shows the passage with a place, and keeps one that is shown as long as places in it are chosen. */
+  #showPassage(at) {
+    const shown = this.#passage;
+    if (shown && at >= shown.offset && at <= shown.offset + shown.text.length) return;
+    this.#passage = passageAt(this.#decided, at);
+    this.#columns.show(this.#passage);
+  }
+}
+
+function listen(views) {
+  field.addEventListener("input", () => {
+    takeText(field.value);
+    views.edit(field.selectionStart);
+  });
+  // What is typed is not read out at each key.
+  field.addEventListener("focus", () => find("detail").setAttribute("aria-live", "off"));
+  field.addEventListener("blur", () => find("detail").setAttribute("aria-live", "polite"));
+  profile.addEventListener("change", () => views.begin(views.chosenAt));
+  find("example").addEventListener("change", ({ target }) => {
+    const [, rule, given] = EXAMPLES[target.value] ?? [];
+    if (given !== undefined) setText(given);
+    views.begin(undefined, rule);
+  });
+  find("width").addEventListener("input", () => views.widen());
+  find("copy").addEventListener("click", () => copy(views.line, "The line"));
+  find("link").addEventListener("click", () => copy(linkToText(views.chosenAt), "The link"));
+  window.addEventListener("hashchange", () => views.begin(readFragment()));
+  takeFiles((told) => {
+    views.begin();
+    find("done").textContent = told;
+  });
 }
 
 function start(table, chosen) {
-  const positions = new PositionsView(find("positions"), find("detail"), (scalar) => table.classOf(scalar));
-  const columns = new ColumnsView(find("ours"), find("theirs"), find("differences"));
-  const options = () => ({ profile: Number(profile.value) });
-
-  const changed = (told = "") => {
-    const decided = table.positionColumns(text, options());
-    const shown = firstRows(table, decided);
-    const left = decided.at.length - shown.length;
-    positions.show(text, shown);
-    columns.show(text, shown);
-    find("cut").hidden = left === 0;
-    find("cut").textContent = `The first ${MOST_SHOWN} positions are shown, and ${left} are not.`;
-    find("done").textContent = told;
-  };
-
-  const widen = () => {
-    find("width-told").value = `${find("width").value} pixels`;
-    columns.width = find("width").value;
-  };
-
-  field.addEventListener("input", () => {
-    text = field.value;
-    changed();
-  });
-  profile.addEventListener("change", () => changed());
-  find("example").addEventListener("change", ({ target }) => {
-    if (target.value) setText(EXAMPLES[target.value][2]);
-    changed();
-  });
-  find("width").addEventListener("input", widen);
-  find("copy").addEventListener("click", () => copy(testLine(text, table.positions(text, options())), "The line"));
-  find("link").addEventListener("click", () => copy(linkToText(positions.chosenAt), "The link"));
-  window.addEventListener("hashchange", () => {
-    const at = readFragment();
-    changed();
-    positions.chooseAt(at);
-  });
-  takeFiles(changed);
-  widen();
-  changed();
-  positions.chooseAt(chosen);
+  const views = new Views(table);
+  listen(views);
+  views.widen();
+  views.begin(chosen ?? (text === EXAMPLES[0][2] ? FIRST_CHOSEN : undefined));
   document.documentElement.dataset.readyAfter = performance.now();
   document.documentElement.dataset.ready = "yes";
 }

@@ -1,161 +1,220 @@
-/** The view of the positions of a text: a sign at each, one of them chosen. */
-import { codeOf, hiddenName, signOf } from "./notation.js";
-import { RULES } from "./rules.js";
-
-/** The most positions that are shown, so that a page stays quick. */
-export const MOST_SHOWN = 4000;
-
-/** After these classes a mark stands for itself (rule LB10). */
-const HARD = ["BK", "CR", "LF", "NL", "SP", "ZW"];
-const MARKS = ["CM", "ZWJ"];
-
-const SAYS = { no: "No break", may: "A line may break", must: "A line must end" };
-
-function element(tag, className, text) {
-  const made = document.createElement(tag);
-  if (className) made.className = className;
-  if (text !== undefined) made.textContent = text;
-  return made;
-}
-
-function characterElement(character) {
-  const name = hiddenName(character);
-  return name ? element("span", "hidden-character", name) : document.createTextNode(character);
-}
+/** The view of the positions of a text: its letters and a sign at each position, one of them chosen. What is in view is drawn. */
+import { characterAt } from "./characters.js";
+import { element } from "./elements.js";
+import { FontMeasure } from "./letters.js";
+import { piecesOf } from "./pieces.js";
 
 export class PositionsView {
   #list;
-  #detail;
-  #text = "";
-  #positions = [];
-  #chosen = -1;
-  #classOf;
+  #inner;
+  #decided;
+  #chose;
+  #measure;
+  #row;
+  #width = 0;
+  #pieces = [];
+  #tops = [0];
+  #drawn = [];
+  #known = new WeakMap();
+  #chosenAt;
+  #ofLetter = false;
+  #marked = [];
 
-  /** `classOf` gives the line breaking class of a code point. */
-  constructor(list, detail, classOf) {
+  /** `chose` is called with a position that is chosen and, where a letter is, with the position after this. */
+  constructor(list, decided, chose) {
     this.#list = list;
-    this.#detail = detail;
-    this.#classOf = classOf;
+    this.#decided = decided;
+    this.#chose = chose;
+    this.#inner = element("div", "");
+    this.#inner.setAttribute("role", "presentation");
+    list.replaceChildren(this.#inner);
+    const style = getComputedStyle(list);
+    this.#measure = new FontMeasure(style.font);
+    this.#row = parseFloat(style.lineHeight);
     list.addEventListener("click", (event) => this.#chooseElement(event.target));
     list.addEventListener("pointerover", (event) => {
       if (event.pointerType === "mouse") this.#chooseElement(event.target);
     });
     list.addEventListener("keydown", (event) => this.#onKey(event));
+    list.addEventListener("scroll", () => this.#draw());
+    // (in a frame of its own, as what is done changes sizes again)
+    new ResizeObserver(() => requestAnimationFrame(() => this.#resize())).observe(list);
   }
 
-  /** Shows positions of a text, from its start on. */
-  show(text, positions) {
-    this.#text = text;
-    this.#positions = positions;
-    this.#chosen = -1;
-    const parts = document.createDocumentFragment();
-    this.#positions.forEach((position, k) => {
-      parts.append(this.#positionElement(position, k));
-      const character = this.#characterAt(k);
-      if (character) parts.append(characterElement(character));
-      if (position.kind === "must" && character) parts.insertBefore(element("br"), parts.lastChild);
+  /** Shows what is decided now, with no position chosen. Pieces of paragraphs that did not change are kept. */
+  show() {
+    const all = this.#decided.paragraphs.map((paragraph, index) => {
+      if (!this.#known.has(paragraph)) this.#known.set(paragraph, piecesOf(this.#decided.paragraphText(index)));
+      const pieces = this.#known.get(paragraph);
+      for (const it of pieces) it.index = index;
+      return pieces;
     });
-    this.#list.replaceChildren(parts);
-    this.#list.removeAttribute("aria-activedescendant");
-    this.#detail.replaceChildren();
+    this.#pieces = all.flat();
+    this.#chosenAt = undefined;
+    this.#mark([]);
+    this.#draw();
   }
 
-  #positionElement({ kind, rule }, k) {
-    const made = element("span", `position ${kind}`, signOf(kind));
-    made.id = `position-${k}`;
-    made.dataset.k = k;
-    made.setAttribute("role", "option");
-    made.setAttribute("aria-selected", "false");
-    made.setAttribute("aria-label", `${SAYS[kind]}, rule ${rule}`);
-    return made;
+  #resize() {
+    if (this.#list.clientWidth === this.#width) return;
+    for (const it of this.#drawn) it.release();
+    this.#draw();
   }
 
-  #characterAt(k) {
-    const code = this.#positions[k] && this.#text.codePointAt(this.#positions[k].at);
-    return code === undefined ? "" : String.fromCodePoint(code);
+  #countTops() {
+    const room = this.#list.clientWidth - this.#row;
+    this.#tops = new Float64Array(this.#pieces.length + 1);
+    this.#pieces.forEach((it, k) => {
+      this.#tops[k + 1] = this.#tops[k] + (it.height ?? it.expectedHeight(room, this.#row));
+    });
+  }
+
+  /** The first piece in view or a little above, and the one past the last. */
+  #inView() {
+    const margin = this.#row * 2;
+    const height = parseFloat(getComputedStyle(this.#list).maxHeight);
+    const [top, bottom] = [this.#list.scrollTop - margin, this.#list.scrollTop + height + margin];
+    const first = Math.max(0, this.#tops.findIndex((it) => it > top) - 1);
+    const past = this.#tops.findIndex((it, k) => k > first && it >= bottom);
+    return [first, past < 0 ? this.#pieces.length : past];
+  }
+
+  /** Draws the pieces that come into view, and lets the others go. */
+  #draw() {
+    this.#countTops();
+    const [first, past] = this.#inView();
+    const wanted = this.#pieces.slice(first, past);
+    for (const it of this.#drawn) if (!wanted.includes(it)) it.release();
+    const fresh = wanted.filter((it) => !it.element);
+    for (const it of fresh) it.draw(this.#decided.paragraphText(it.index), this.#measure);
+    wanted.forEach(({ element }, k) => {
+      if (this.#inner.children[k] !== element) this.#inner.insertBefore(element, this.#inner.children[k] ?? null);
+    });
+    this.#inner.style.paddingTop = `${this.#tops[first]}px`;
+    this.#inner.style.paddingBottom = `${this.#tops.at(-1) - this.#tops[past]}px`;
+    this.#drawn = wanted;
+    // (all are measured before any is changed, so that the browser lays out once)
+    const measured = fresh.map((it) => [it, it.measure()]);
+    this.#width = this.#list.clientWidth;
+    for (const [it, found] of measured) it.putSigns(this.#decided.positionsIn(it.index, it.from, it.to), found);
+    if (fresh.length === 0) return;
+    if (this.#chosenAt !== undefined) this.#select(this.#chosenAt, this.#ofLetter);
+    // Where these are lower than was expected, others come into view.
+    this.#draw();
+  }
+
+  /** The piece with the position at a place of the text, and the place in its paragraph. */
+  #pieceOf(place, isLetter = false) {
+    const index = place > 0 && !isLetter ? this.#decided.indexAt(place - 1) : this.#decided.indexAt(place);
+    const at = place - this.#decided.startOf(index);
+    const pieces = this.#known.get(this.#decided.paragraphs[index]);
+    return { piece: pieces.find((it) => at < it.to) ?? pieces.at(-1), at };
   }
 
   #chooseElement(target) {
-    const k = target.closest?.(".position")?.dataset.k;
-    if (k !== undefined) this.choose(Number(k));
+    const chosen = target.closest?.(".position, .letter");
+    if (!chosen) return;
+    const piece = this.#drawn.find(({ element }) => element.contains(chosen));
+    const place = this.#decided.startOf(piece.index) + Number(chosen.dataset.at);
+    this.#take(place, chosen.classList.contains("letter"));
   }
 
   #onKey(event) {
-    const last = this.#positions.length - 1;
-    const [before, next] = [Math.max(0, this.#chosen - 1), Math.min(last, this.#chosen + 1)];
+    const last = this.#decided.text.length;
+    const at = this.#chosenAt ?? 0;
+    const isRight = this.#pieceOf(at).piece?.element?.dir === "rtl";
+    const [next, before] = [() => this.#decided.next(at)?.at, () => this.#decided.previous(at)?.at];
     const to = {
-      ArrowRight: next,
-      ArrowDown: next,
-      ArrowLeft: before,
-      ArrowUp: before,
-      Home: 0,
-      End: last,
+      ArrowRight: isRight ? before : next,
+      ArrowLeft: isRight ? next : before,
+      ArrowDown: () => this.#inRow(at, 1) ?? next(),
+      ArrowUp: () => this.#inRow(at, -1) ?? before(),
+      Home: () => 0,
+      End: () => last,
     }[event.key];
-    if (to === undefined || last < 0) return;
+    if (!to || event.altKey || event.ctrlKey || event.metaKey) return;
     event.preventDefault();
-    this.choose(to);
-    document.getElementById(`position-${to}`).scrollIntoView({ block: "nearest" });
+    this.choose(to() ?? at);
+  }
+
+  /** The place of the position that is nearest in the row below the one at a place, or above it. */
+  #inRow(place, way) {
+    const { piece, at } = this.#pieceOf(place);
+    const from = piece?.sign(at)?.getBoundingClientRect();
+    if (!from) return undefined;
+    const signs = [...this.#inner.querySelectorAll(".position")].map((it) => [it, it.getBoundingClientRect()]);
+    const ahead = signs.filter(([, box]) => (box.top - from.top) * way > from.height / 2);
+    const nearest = Math.min(...ahead.map(([, box]) => (box.top - from.top) * way));
+    const row = ahead.filter(([, box]) => (box.top - from.top) * way < nearest + from.height / 2);
+    const [found] = row.sort(([, one], [, other]) => Math.abs(one.left - from.left) - Math.abs(other.left - from.left));
+    return found && this.#placeOf(found[0]);
+  }
+
+  #placeOf(sign) {
+    const piece = this.#drawn.find(({ element }) => element.contains(sign));
+    return this.#decided.startOf(piece.index) + Number(sign.dataset.at);
   }
 
   /** The place of the chosen position, if one is. */
   get chosenAt() {
-    return this.#positions[this.#chosen]?.at;
+    return this.#chosenAt;
   }
 
-  /** Chooses the position at a place of the text, if one is there. */
-  chooseAt(place) {
-    const k = this.#positions.findIndex(({ at }) => at === place);
-    if (k >= 0) this.choose(k);
+  /** Chooses the position at a place of the text, or the last one before it, and brings it into view. */
+  choose(place) {
+    const { at } = this.#decided.positionAt(place);
+    this.#reveal(at);
+    this.#take(at, false);
   }
 
-  /** Chooses the k-th position, from 0, and says what decides there. */
-  choose(k) {
-    document.getElementById(`position-${this.#chosen}`)?.setAttribute("aria-selected", "false");
-    this.#chosen = k;
-    document.getElementById(`position-${k}`).setAttribute("aria-selected", "true");
-    this.#list.setAttribute("aria-activedescendant", `position-${k}`);
-    const { at, kind, rule } = this.#positions[k];
-    const before = k > 0 ? this.#nameOf(this.#characterAt(k - 1)) : "the start of the text";
-    const after = this.#characterAt(k) ? this.#nameOf(this.#characterAt(k)) : "the end of the text";
-    const what = element("p");
-    what.append(element("span", `sign ${kind}`, signOf(kind)), ` ${SAYS[kind]} between ${before} and ${after}, at ${at}.`);
-    const why = element("p");
-    why.append(element("span", "rule", `Rule LB${rule}`), ` ${RULES[rule]}`);
-    const classes = element("p", "", `Classes: ${this.#classBefore(k)} before, ${this.#classAfter(k)} after.`);
-    this.#detail.replaceChildren(what, why, classes);
+  #take(place, ofLetter) {
+    if (place === this.#chosenAt && ofLetter === this.#ofLetter && this.#marked.length > 0) return;
+    this.#chosenAt = place;
+    this.#ofLetter = ofLetter;
+    this.#select(place, ofLetter);
+    this.#chose(this.#decided.positionAt(place), ofLetter ? this.#decided.next(place) : undefined);
   }
 
-  /** The class of the k-th character, or undefined. */
-  #classAt(k) {
-    const character = this.#characterAt(k);
-    return character && this.#classOf(character.codePointAt(0));
+  #mark(elements) {
+    for (const it of this.#marked) {
+      it.classList.remove("chosen");
+      if (it.role === "option") it.setAttribute("aria-selected", "false");
+      it.removeAttribute("id");
+    }
+    this.#marked = elements;
+    for (const it of elements) it.classList.add("chosen");
   }
 
-  /** Whether the k-th character is a mark that joins the one before it (rule LB9). */
-  #joins(k) {
-    return k > 0 && MARKS.includes(this.#classAt(k)) && !HARD.includes(this.#classAt(k - 1));
+  /** Marks what is drawn of what is chosen. */
+  #select(place, ofLetter) {
+    const size = characterAt(this.#decided.text, place).length;
+    const at = this.#pieceOf(place);
+    const sign = at.piece?.sign(at.at);
+    const after = ofLetter ? this.#pieceOf(place + size) : undefined;
+    const letter = ofLetter ? this.#pieceOf(place, true) : undefined;
+    this.#mark([sign, letter?.piece?.letter(letter.at), after?.piece?.sign(after.at)].filter(Boolean));
+    if (!sign) {
+      this.#list.removeAttribute("aria-activedescendant");
+      return;
+    }
+    sign.id = "chosen-position";
+    sign.setAttribute("aria-selected", "true");
+    sign.setAttribute("aria-posinset", place + 1);
+    sign.setAttribute("aria-setsize", this.#decided.text.length + 1);
+    this.#list.setAttribute("aria-activedescendant", sign.id);
   }
 
-  /** The class of what ends before the k-th position: of a character with its marks, that of the character. */
-  #classBefore(k) {
-    if (k === 0) return "none";
-    let head = k - 1;
-    while (this.#joins(head)) head--;
-    return this.#standing(this.#classAt(head));
-  }
-
-  #classAfter(k) {
-    const found = this.#classAt(k);
-    return this.#joins(k) ? `${found}, which joins what is before,` : this.#standing(found) || "none";
-  }
-
-  /** A mark that joins nothing is read as a letter (rule LB10). */
-  #standing(found) {
-    return MARKS.includes(found) ? "AL" : found;
-  }
-
-  #nameOf(character) {
-    const name = hiddenName(character);
-    return `${name && name !== "·" ? name : character === " " ? "a space" : `“${character}”`} (${codeOf(character)})`;
+  #reveal(place) {
+    const { piece, at } = this.#pieceOf(place);
+    if (!this.#drawn.includes(piece)) {
+      this.#list.scrollTop = this.#tops[this.#pieces.indexOf(piece)] - this.#list.clientHeight / 3;
+      this.#draw();
+    }
+    const [box, room] = [piece.sign(at)?.getBoundingClientRect(), this.#list.getBoundingClientRect()];
+    if (!box) return;
+    // (with the letters above the sign)
+    const [above, below] = [box.top - this.#row / 2 - room.top, box.bottom - room.bottom];
+    if (above < 0) this.#list.scrollTop += above - this.#row / 4;
+    else if (below > 0) this.#list.scrollTop += below + this.#row / 4;
   }
 }

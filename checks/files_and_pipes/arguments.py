@@ -11,6 +11,10 @@ TWICE = "the argument '{}' cannot be used multiple times"
 INVALID = "invalid value '{}' for '{}': {}"
 VALUE = "a value is required for '{}' but none was supplied"
 UNEXPECTED = "unexpected argument '{0}' found\n\n  tip: to pass '{0}' as a value, use '-- {0}'"
+NUMBERS = """
+Numbers are decimal digits: --limit 1 to 16777216, --from and --to 0 to
+4294967295, --profile 1 or 2.
+"""
 LIMIT_OPTION, FROM_OPTION = "--limit <NUMBER>", "--from <BYTE>"
 
 # Arguments behind those that name the files, and what is said of them, as the library clap words it for Rust; whether the usage
@@ -30,6 +34,11 @@ MISTAKES = [
     ("replay", "--kinds=1", "unexpected value '1' for '--kinds' found; no more were expected", True),
     ("replay", "--from 1", UNEXPECTED.format("--from"), True),
     ("mark", "--from -1", UNEXPECTED.format("-1"), True),
+    ("segment", "--limit 64K", INVALID.format("64K", LIMIT_OPTION, "invalid digit found in string"), False),
+    ("show", "--limit=1e6", INVALID.format("1e6", LIMIT_OPTION, "invalid digit found in string"), False),
+    ("mark", "--limit -1", UNEXPECTED.format("-1"), True),
+    ("mark", "--no\x1b[1m", UNEXPECTED.format("--no\\u{1b}[1m"), True),
+    ("mark", "--from=\u2066\u061c1", INVALID.format("\\u{2066}\\u{61c}1", FROM_OPTION, "invalid digit found in string"), False),
     ("mark", "--version", UNEXPECTED.format("--version"), True),
     ("segment", "-é", UNEXPECTED.format("-é"), True),
     ("show", "--from 5 --to 4", "--from <BYTE> is greater than --to <BYTE>", True),
@@ -40,10 +49,11 @@ def mistakes(place):
     """Each kind of mistake, and operands that look like options, which are none behind `--`."""
     for task, more, told, has_usage in MISTAKES:
         usage = f"\nUsage: lbk {task} --ucd <FOLDER> [OPTIONS] [FILE]...\n" if has_usage else ""
-        err = f"error: {told}\n{usage}\nFor more information, try '--help'.\n".encode()
+        hint = NUMBERS if told.startswith("invalid value") or "'-1'" in told else ""
+        err = f"lbk: {told}\n{usage}\nFor more information, try '--help'.\n{hint}".encode()
         place.row(f"{task} {more}", words_of(task, more=more.split()), b"ab", 2, b"", err)
     place.write("--limit", b"a a")
-    err = "lbk: --help cannot be read: no such file\nlbk: -é cannot be read: no such file\n".encode()
+    err = "lbk: --help: cannot be read: no such file\nlbk: -é: cannot be read: no such file\n".encode()
     operands = ["--", "--limit", "--help", "-é", "-"]
     place.row("mark: operands behind --", words_of("mark", more=operands), b"in", 1, "a ÷a\nin\n".encode(), err)
     for task in ((), ("mark",), ("show",), ("segment",), ("replay",)):
@@ -70,11 +80,12 @@ def accepted(task, number):
 def each_number(place):
     """Each number of arguments, those that are accepted and others."""
     for task, out in (("show", AB), ("mark", b"ab\n")):
-        usage = f"""error: the property files are not named: give --ucd <FOLDER>, or each of
+        usage = f"""lbk: the property files are not named: give --ucd <FOLDER>, or each of
   --line-break <FILE>
   --east-asian <FILE>
   --category <FILE>
   --emoji <FILE>
+Debian's package unicode-data has them: --ucd /usr/share/unicode
 
 Usage: lbk {task} --ucd <FOLDER> [OPTIONS] [FILE]...
 
@@ -89,7 +100,7 @@ For more information, try '--help'.
             place.row(f"{task}: --help and {number - 2} arguments", helped, b"ab", 0, help_text)
             if number > 13:
                 given = [*accepted(task, 13), *["x"] * (number - 13)]
-                missing = b"lbk: x cannot be read: no such file\n" * (number - 13)
+                missing = b"lbk: x: cannot be read: no such file\n" * (number - 13)
                 place.row(f"{task}: {number} arguments, missing files", given, b"ab", 1, b"", missing)
 
 

@@ -9,7 +9,7 @@ from checks.files_and_pipes.pipes import over_pipes
 from checks.files_and_pipes.place import words_of
 from checks.program import run as run_program
 
-MISSING = "lbk: {} cannot be read: no such file\n"
+MISSING = "lbk: {}: cannot be read: no such file\n"
 NOT_UTF_8 = "lbk: {}: byte {}: invalid UTF-8"
 UTF_16 = NOT_UTF_8 + "; it begins as UTF-16 does: iconv -f UTF-16 -t UTF-8 makes UTF-8 of it\n"
 KINDS = "lbk: lines with ! for a break that must be are read with --kinds\n"
@@ -39,8 +39,8 @@ def run(place):
         ("a name behind --", ["--", "one"], b"a b\n", ""),
         ("a missing one", ["one", "none", "two"], b"a b\ncd\n", MISSING.format("none")),
         ("none but missing ones", ["none", ""], b"", MISSING.format("none") + MISSING.format("")),
-        ("a folder", ["folder", "one"], b"a b\n", "lbk: folder cannot be read: is a directory\n"),
-        ("a missing one and a folder", ["none", "folder"], b"", MISSING.format("none") + "lbk: folder cannot be read: is a directory\n"),
+        ("a folder", ["folder", "one"], b"a b\n", "lbk: folder: cannot be read: is a directory\n"),
+        ("a missing one and a folder", ["none", "folder"], b"", MISSING.format("none") + "lbk: folder: cannot be read: is a directory\n"),
         ("ill-formed text", ["bad", "two"], b"cd\n", "lbk: bad: byte 3: invalid UTF-8\n"),
         ("a thousand", ["two"] * 1000, b"cd\n" * 1000, ""),
         ("a thousand missing ones", ["none"] * 1000, b"", MISSING.format("none") * 1000),
@@ -51,7 +51,7 @@ def run(place):
     words = words_of("mark", more=["--to", "1", "-", "-"])
     place.row("texts: a range of standard input twice", words, b"a\n" * 2048 + b"b\nc\n", 0, b"a\nb\n")
     user = NOBODY if os.getuid() == 0 else None
-    err = b"lbk: hidden cannot be read: permission denied\n"
+    err = b"lbk: hidden: cannot be read: permission denied\n"
     place.row("texts: one without leave", words_of("mark", more=["hidden", "two"]), b"", 1, b"cd\n", err, user)
     pipes = {place.folder / "pipe": (b"ab\ncd", 1)}
     over_pipes(place, "texts: one from a pipe", words_of("mark", more=["pipe", "one"]), pipes, b"", "ab\ncd\na ÷b\n".encode())
@@ -72,14 +72,17 @@ def whole_names(place):
         place.write(name, b"ab")
         place.row(f"texts: {kind}", words_of("mark", more=[name]), b"", 0, b"ab\n")
         os.remove(place.folder / name)
-        err = MISSING.format(name).replace("\n ", "\\u{a} ").encode()
+        err = MISSING.format(name).replace("\n:", "\\u{a}:").encode()
         place.row(f"texts: {kind}, which is not there", words_of("mark", more=[name]), b"", 1, b"", err)
         for other in others:
             os.remove(place.folder / other)
     name = "a\x1b\x7f\x85\t\r"
     err = MISSING.format("a\\u{1b}\\u{7f}\\u{85}\\u{9}\\u{d}").encode()
     place.row("texts: a name with control characters", words_of("mark", more=[name]), b"", 1, b"", err)
-    err = b"lbk: a\\u{a}b/LineBreak.txt: the file cannot be read: no such file\n"
+    name = "a\u202eb\u200f\u2066"
+    err = MISSING.format("a\\u{202e}b\\u{200f}\\u{2066}").encode()
+    place.row("texts: a name with characters that turn a line", words_of("mark", more=[name]), b"", 1, b"", err)
+    err = b"lbk: a\\u{a}b/LineBreak.txt: the file cannot be read: no such file; Debian's package unicode-data has the files: --ucd /usr/share/unicode\n"
     place.row("a folder with a line end in its name", ["mark", "--ucd", "a\nb"], b"", 1, b"", err)
 
 

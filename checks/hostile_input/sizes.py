@@ -10,7 +10,7 @@ TEXT_MEMORY = 64 * MIB
 LONGEST_LINE = 268_435_456
 LONGEST_STREAM = 1_073_741_824
 RAISE = f"; --limit raises the limit, up to {LIMIT}"
-TOO_LONG = f"lbk: standard input has more than {LONGEST_STREAM} bytes"
+TOO_LONG = f"lbk: standard input: more than {LONGEST_STREAM} bytes"
 
 
 def wrote(ran, text):
@@ -36,7 +36,8 @@ def limits(hostile):
                 fault = f"it wrote {ran.bytes} bytes"
             hostile.tally.tell(f"{task} of {limit} bytes at that limit: {ran.seconds:.2f} s", fault)
             ran = Long(words, [(b"a", limit + 1)])
-            err = f"lbk: standard input: byte 0: the paragraph from here on has more than {limit} bytes{RAISE}"
+            more = ", the greatest limit" if limit == LIMIT else RAISE
+            err = f"lbk: standard input: byte 0: the paragraph from here on has more than {limit} bytes{more}"
             hostile.tally.tell(f"{task} of {limit + 1} bytes at the limit {limit}", ran.fault(1, err) or nothing(ran))
 
 

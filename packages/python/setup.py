@@ -22,11 +22,11 @@ VERSION = re.search(r'^#define LBK_VERSION "([^"]+)"', HEADER, re.M)[1]
 CALLS = Path("src", "calls")
 
 # The classes of the package that are enumerations of lbk.h: a class, its base, the field that the
-# enumeration's comment names, and what its constants begin with.
+# enumeration's comment names, what its constants begin with, and its docstring.
 CLASSES = (
-    ("Rule", "Labelled", "rule", "LBK_RULE_"),
-    ("File", "enum.IntEnum", "file", "LBK_"),
-    ("Cause", "enum.IntEnum", "cause", "LBK_CAUSE_"),
+    ("Rule", "Labelled", "rule", "LBK_RULE_", "A rule of UAX #14, section 6. As a str it is its label in the standard, as 8a."),
+    ("File", "enum.IntEnum", "file", "LBK_", "Which of the four property files a `Fault` is in."),
+    ("Cause", "enum.IntEnum", "cause", "LBK_CAUSE_", "Why a property file is refused. The text of a `Fault` says it in words."),
 )
 
 
@@ -45,8 +45,8 @@ def numbers_module():
     module."""
     lines = ['"""Numbers of lbk.h. setup.py makes this module."""', "", "import enum", ""]
     lines += ["from . import _calls", "from ._labels import Labelled"]
-    for name, base, field, begin in CLASSES:
-        lines += ["", "", f"class {name}({base}):"]
+    for name, base, field, begin, text in CLASSES:
+        lines += ["", "", f"class {name}({base}):", f'    """{text}"""', ""]
         for constant in constants(enumeration(field)):
             if constant.startswith(begin):
                 rest = constant.removeprefix(begin)

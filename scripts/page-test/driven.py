@@ -5,11 +5,18 @@ import subprocess
 import time
 import urllib.request
 
-KEYS = {"Tab": "\ue004", "Right": "\ue014", "Enter": "\ue007"}
+KEYS = {"Tab": "\ue004", "Right": "\ue014", "Enter": "\ue007", "Home": "\ue011"}
 ELEMENT = "element-6066-11e4-a52e-4f735466cecf"
 ASKS_A_NAME = {"button", "combobox", "textbox", "slider", "listbox", "option", "heading", "figure"}
 # The least contrast of text that WCAG 2.2 asks for (1.4.3).
 LEAST_CONTRAST = 4.5
+# The least size of what can be pointed at (2.5.8), in pixels, and the most that rounding takes from it.
+LEAST_TARGET = 24
+ROUNDING = 0.02
+# The most seconds that the page's scripts may take for a key in a text of a million characters, at best of some.
+MOST_SECONDS_OF_KEY = 0.1
+SCREENS = ((1280, 800), (320, 640))
+LONG_TEXT = "'A line of some words, numbers (1,234.50) and more.\\n'.repeat(20000).slice(0, 1000000)"
 CONTRASTS = """
 const parse = (it) => (it.match(/[\\d.]+/g) ?? []).map(Number);
 const light = ([r, g, b]) => [r, g, b].map((it) => it / 255).map((it) => (it <= 0.04045 ? it / 12.92 : ((it + 0.055) / 1.055) ** 2.4))
@@ -29,6 +36,43 @@ for (const it of document.querySelectorAll("body *")) {
   found[name] = Math.min(found[name] ?? 99, (one + 0.05) / (other + 0.05));
 }
 return found;
+"""
+
+# What can be pointed at and is narrower or lower than so many pixels, or is covered in part by another.
+TARGETS = """
+const least = LEAST;
+const all = document.querySelectorAll(".position, .letter, button, select, input, textarea");
+const view = document.getElementById("positions");
+const room = view.getBoundingClientRect();
+const isShown = ([it, box]) => !view.contains(it) || (box.top >= room.top && box.bottom <= room.bottom);
+const seen = [...all].map((it) => [it, it.getBoundingClientRect()]).filter(isShown);
+const small = seen.filter(([, box]) => box.width < least || box.height < least);
+const meet = (one, other) => Math.min(one.right, other.right) - Math.max(one.left, other.left) > 0.5
+  && Math.min(one.bottom, other.bottom) - Math.max(one.top, other.top) > 0.5;
+const covered = seen.filter(([, box], k) => seen.some(([, other], n) => n < k && meet(box, other)));
+const name = ([it, box]) => `${it.className}#${it.id} ${it.textContent.slice(0, 5)} ${box.width} x ${box.height}`;
+return [seen.length > 30, small.map(name).slice(0, 5), covered.map(name).slice(0, 5)];
+"""
+# Whether the chosen sign and all of the answer are on the screen, with nothing over them.
+OPENING = """
+const isIn = (box) => box.top >= 0 && box.left >= 0 && box.bottom <= innerHeight && box.right <= innerWidth;
+const sign = document.querySelector("[aria-selected=true]");
+const [one, other] = [sign, document.getElementById("detail")].map((it) => it.getBoundingClientRect());
+const top = document.elementFromPoint((one.left + one.right) / 2, (one.top + one.bottom) / 2);
+return [isIn(one), isIn(other), top === sign];
+"""
+# Takes down how long it is from each key to the frame that shows what it did, and how much of it is the page's own.
+WATCH_KEYS = """
+window.keyTimes = [];
+window.ownTimes = [];
+let began;
+const field = document.getElementById("text");
+field.addEventListener("keydown", () => (began = performance.now()), true);
+window.addEventListener("input", () => (window.ownBegan = performance.now()), true);
+window.addEventListener("input", () => {
+  ownTimes.push(performance.now() - ownBegan);
+  requestAnimationFrame(() => setTimeout(() => keyTimes.push(performance.now() - began)));
+});
 """
 
 
@@ -107,12 +151,20 @@ def driver():
         child.wait()
 
 
+def position(page, at):
+    return page.find(f'.position[data-at="{at}"]')
+
+
 def try_pointers(count, page):
-    page.point("mouse", (page.find("#position-3"), 0, 0))
+    page.point("mouse", (position(page, 3), 0, 0))
     said = page.text("#detail").partition(".")[0]
-    count.equal("chromedriver: hovering shows a position", said, "÷ A line may break between a space (U+0020) and “c” (U+0063), at 3")
-    page.point("touch", (page.find("#position-1"), 0, 0), "down", "up")
+    count.equal("chromedriver: hovering shows a position", said, "÷ A line may break between a space (U+0020) and “c” (U+0063)")
+    page.point("mouse", (page.find('.letter[data-at="3"]'), 0, 0))
+    rules = page.run("return [...document.querySelectorAll('#detail .rule')].map((it) => it.textContent)")
+    count.equal("chromedriver: hovering over a letter shows the positions on both sides", rules, ["Rule LB18", "Rule LB28"])
+    page.point("touch", (position(page, 1), 0, 0), "down", "up")
     count.equal("chromedriver: a finger shows a position", page.text("#detail .rule"), "Rule LB28")
+    page.run("document.getElementById('ours').scrollIntoView()")
     before = page.run("return document.getElementById('theirs').offsetWidth")
     ours = page.find("#ours")
     right, bottom = page.run("const it = document.getElementById('ours'); return [it.offsetWidth / 2 - 5, it.offsetHeight / 2 - 5]")
@@ -130,7 +182,7 @@ def try_keys(count, page):
         page.press("Tab")
         reached.append(page.run("return document.activeElement.id"))
         if reached[-1] == "positions":
-            page.press("Right", "Right")
+            page.press("Home", "Right", "Right", "Right")
             count.equal("chromedriver: keys choose a position", page.text("#detail .rule"), "Rule LB18")
         if reached[-1] == "copy":
             page.press("Enter")
@@ -164,6 +216,41 @@ def try_schemes(count, page):
     count.equal("chromedriver: light and dark differ", len(papers), 2)
 
 
+def show_screen(page, width, height, scheme="light"):
+    page.tools("Emulation.setDeviceMetricsOverride", width=width, height=height, deviceScaleFactor=1, mobile=width < 600)
+    page.tools("Emulation.setEmulatedMedia", features=[{"name": "prefers-color-scheme", "value": scheme}])
+
+
+def try_opening(count, page, address):
+    """The page as it opens, on a wide and a narrow screen."""
+    for width, height in SCREENS:
+        show_screen(page, width, height)
+        page.open(address)
+        count.equal(f"chromedriver: at {width} x {height} the first screen has the answer", page.run(OPENING), [True, True, True])
+        for fragment in ("", "#text=%D8%A7%D9%84%D8%B3%D8%B9%D8%B1%20123%20abc%0Ax" + "%20iil" * 30):
+            page.open(address + fragment)
+            found = page.run(TARGETS.replace("LEAST", str(LEAST_TARGET - ROUNDING)))
+            what = f"chromedriver: at {width} what can be pointed at has {LEAST_TARGET} pixels, and nothing covers it"
+            count.equal(what, found, [True, [], []])
+
+
+def try_long_text(count, page, address):
+    """Types into the middle of a text of a million characters."""
+    show_screen(page, *SCREENS[0])
+    page.open(address)
+    page.run(f"const it = document.getElementById('text'); it.value = {LONG_TEXT}; it.dispatchEvent(new Event('input')); "
+             "it.focus(); it.setSelectionRange(500000, 500000)")
+    page.run(WATCH_KEYS)
+    for key in "abcdefgh":
+        page.press(key)
+        page.run("return new Promise((done) => requestAnimationFrame(() => setTimeout(done, 50)))")
+    times, own = ([it / 1000 for it in page.run(f"return {name}")] for name in ("keyTimes", "ownTimes"))
+    best = min(own, default=MOST_SECONDS_OF_KEY)
+    frame = f"{min(times, default=0):.3f} s to the next frame"
+    what = f"chromedriver: a key in a million characters takes the page's scripts {best:.3f} s at best of {len(own)}, and {frame}"
+    count.say(what, "" if best < MOST_SECONDS_OF_KEY else f"{MOST_SECONDS_OF_KEY} s or more")
+
+
 def drive(count, address):
     with driver() as page:
         page.open(f"{address}#text=ab%20cd")
@@ -171,8 +258,10 @@ def drive(count, address):
         try_keys(count, page)
         try_names(count, page)
         try_schemes(count, page)
-        page.tools("Emulation.setDeviceMetricsOverride", width=320, height=640, deviceScaleFactor=1, mobile=True)
+        show_screen(page, 320, 640)
         count.equal("chromedriver: nothing is wider than 320 pixels", page.run("return document.documentElement.scrollWidth"), 320)
+        try_opening(count, page, address)
+        try_long_text(count, page, address)
         count.equal("chromedriver: nothing stands on the console", page.ask("POST", "/se/log", {"type": "browser"}), [])
         events = [json.loads(it["message"])["message"] for it in page.ask("POST", "/se/log", {"type": "performance"})]
         asked = [it["params"]["request"]["url"] for it in events if it["method"] == "Network.requestWillBeSent"]

@@ -1,28 +1,11 @@
 /** Tries the package and the page in this browser, and posts what was found to the server that scripts/page runs. */
 import { Table as Packaged } from "/package/lbk.js";
 import { Words } from "/package/words.js";
-import { EXAMPLES } from "/page/examples.js";
-import { testLine } from "/page/notation.js";
 import { Table } from "/page/lbk.js";
-
-const results = [];
-
-function say(what, fault = "") {
-  results.push([what, fault]);
-}
-
-function equal(what, found, wanted) {
-  const [one, other] = [JSON.stringify(found), JSON.stringify(wanted)];
-  say(what, one === other ? "" : `${one}, and not ${other}`);
-}
-
-async function untilTrue(holds, what) {
-  for (let k = 0; k < 200; k++) {
-    if (holds()) return;
-    await new Promise((done) => setTimeout(done, 25));
-  }
-  throw new Error(`${what} did not come within 5 s`);
-}
+import { tryColumns } from "./column-tests.js";
+import { equal, openPage, results, say, untilTrue } from "./harness.js";
+import { tryLetters } from "./letter-tests.js";
+import { tryLinks, tryPage } from "./page-tests.js";
 
 async function digestOf(count, line) {
   const lines = Array.from({ length: count }, (_, k) => line(k)).join("");
@@ -127,104 +110,6 @@ async function tryStart() {
   say(`the page is ready ${times[0]} ms after it was asked for, ${best} at best of ${times.length}`, isHeld && best > 100 ? "over 100 ms" : "");
 }
 
-async function openPage(fragment = "", width = 900) {
-  document.querySelector("iframe")?.remove();
-  const frame = document.createElement("iframe");
-  frame.style.cssText = `width: ${width}px; height: 900px`;
-  frame.src = `/page/index.html${fragment}`;
-  document.body.append(frame);
-  const faults = [];
-  await new Promise((done) => frame.addEventListener("load", done, { once: true }));
-  frame.contentWindow.addEventListener("error", (event) => faults.push(event.message));
-  await untilTrue(() => frame.contentDocument.documentElement.dataset.ready === "yes", "the page");
-  return { window: frame.contentWindow, document: frame.contentDocument, faults, find: (id) => frame.contentDocument.getElementById(id) };
-}
-
-function write(page, text) {
-  page.find("text").value = text;
-  page.find("text").dispatchEvent(new page.window.Event("input"));
-}
-
-function signs(page) {
-  return [...page.document.querySelectorAll(".position")].map((it) => it.textContent).join("");
-}
-
-function press(page, key) {
-  page.find("positions").dispatchEvent(new page.window.KeyboardEvent("keydown", { key, bubbles: true, cancelable: true }));
-}
-
-/** Each example has a position that its rule decides, and CR stays what it is. */
-function tryExamples(page, table) {
-  const missing = EXAMPLES.filter(([, rule, text]) => ![...table.positions(text)].some((it) => it.rule === rule));
-  equal("each example has a position of its rule", missing.map(([name]) => name), []);
-  page.find("example").value = EXAMPLES.findIndex(([name]) => name === "Hidden characters");
-  page.find("example").dispatchEvent(new page.window.Event("change"));
-  const names = [...page.document.querySelectorAll(".hidden-character")].map((it) => it.textContent);
-  equal("an example can hold CR LF", names.filter((it) => it !== "·"), ["ZWSP", "NBSP", "WJ", "SHY", "CR", "LF"]);
-}
-
-async function tryPage(table) {
-  const page = await openPage();
-  write(page, "ab cd");
-  equal("a text that is typed is shown", signs(page), "×××÷×!");
-  press(page, "ArrowRight");
-  press(page, "ArrowRight");
-  press(page, "ArrowRight");
-  press(page, "ArrowRight");
-  say("keys choose a position", /between a space .* and “c”/.test(page.find("detail").textContent) ? "" : page.find("detail").textContent);
-  say("its rule is told", /Rule LB18/.test(page.find("detail").textContent) ? "" : page.find("detail").textContent);
-  page.document.querySelector(".position").click();
-  say("a click chooses a position", /Rule LB2 /.test(page.find("detail").textContent) ? "" : page.find("detail").textContent);
-  write(page, "a\u200bb\u00a0c\u00add\u2060e");
-  equal("characters that are not seen have names", [...page.document.querySelectorAll(".hidden-character")].map((it) => it.textContent), ["ZWSP", "NBSP", "SHY", "WJ"]);
-  write(page, "a « b », c");
-  const first = signs(page);
-  page.find("profile").value = "2";
-  page.find("profile").dispatchEvent(new page.window.Event("change"));
-  say("the profile changes positions", signs(page) === first ? "they are the same" : "");
-  const files = new page.window.DataTransfer();
-  files.items.add(new page.window.File(["dropped text"], "text.txt"));
-  page.find("text").dispatchEvent(new page.window.DragEvent("drop", { dataTransfer: files, cancelable: true, bubbles: true }));
-  await untilTrue(() => page.find("text").value === "dropped text", "the text of a dropped file");
-  say("a file can be dropped");
-  write(page, "word ".repeat(200_000));
-  equal("a long text is cut, and the page says so", page.find("cut").textContent, "The first 4000 positions are shown, and 996001 are not.");
-  equal("and so are the columns", page.find("ours").textContent.length, 3999);
-  tryExamples(page, table);
-  const line = testLine("a\u{1F600} b", table.positions("a\u{1F600} b"));
-  equal("a line of the break test is written", line, "× 0061 ÷ 1F600 × 0020 ÷ 0062 ÷\t# 2 31 7 18 3");
-  write(page, "one two three four five six seven eight nine ten");
-  page.find("width").value = "120";
-  page.find("width").dispatchEvent(new page.window.Event("input"));
-  equal("both columns have the same lines of plain English", page.find("differences").textContent, "Both columns have the same lines.");
-  say("the columns have several lines", page.find("ours").getClientRects()[0].height > 60 ? "" : "one line");
-  equal("no error in the page", page.faults, []);
-  const asked = page.window.performance.getEntriesByType("resource").map((it) => new URL(it.name));
-  equal("the page asks its own server alone", asked.filter((it) => it.origin !== location.origin).map(String), []);
-  say("and it did ask it", asked.length > 5 ? "" : asked.join(" "));
-  const unlabelled = [...page.document.querySelectorAll("input, select, textarea, button")].filter((it) => !it.labels?.length && !it.textContent.trim());
-  equal("each control has a label", unlabelled.map((it) => it.id), []);
-}
-
-async function tryLinks() {
-  const page = await openPage("#text=a%20b&profile=2");
-  equal("a link holds the text", [page.find("text").value, page.find("profile").value, signs(page)], ["a b", "2", "××÷!"]);
-  const chosen = await openPage("#text=a%20b&profile=1&at=2");
-  const detail = chosen.find("detail").textContent;
-  say("a link chooses a position", /at 2\. ?Rule LB18/.test(detail) ? "" : detail);
-  const ends = await openPage("#text=a%0D%0Ab&at=2");
-  equal("a link can hold CR LF", [signs(ends), /Rule LB5 /.test(ends.find("detail").textContent)], ["×××!!", true]);
-  const joined = await openPage("#text=" + encodeURIComponent("a\u0301\u0308 \u0301") + "&at=3");
-  const classes = (page) => page.find("detail").lastChild.textContent;
-  equal("a mark joins the character before it", classes(joined), "Classes: AL before, SP after.");
-  joined.document.querySelectorAll(".position")[4].click();
-  equal("a mark after a space is a letter", classes(joined), "Classes: SP before, AL after.");
-  const wide = "A narrow window shows all of a text that is longer than it.";
-  const narrow = await openPage(`#text=${encodeURIComponent(wide)}`, 320);
-  const { scrollWidth } = narrow.document.documentElement;
-  say("nothing is wider than 320 pixels", scrollWidth <= 320 ? "" : `${scrollWidth} pixels`);
-}
-
 /** The pages that docs/javascript.md shows write what stands below them. */
 async function tryShown() {
   const wanted = await (await fetch("shown.json")).json();
@@ -249,6 +134,8 @@ try {
   await trySpeed(table);
   await tryPage(table);
   await tryLinks();
+  await tryLetters();
+  await tryColumns(table);
   await tryShown();
 } catch (error) {
   say("the tests came to their end", String(error.stack ?? error));

@@ -4,20 +4,9 @@
 pub const SAMPLES: &str =
     "these are sample data, for a first look; for real text: lbk mark --ucd FOLDER FILE";
 
-/// What is said where the property files are not named, and are where Debian's package unicode-data has them.
-pub const DATABASE: &str = "they are in /usr/share/unicode: --ucd /usr/share/unicode";
-
-/// What is said of words that are no text.
-pub const NOT_UTF_8: &str = "lbk: the words are not UTF-8\n";
-
 /// What is said where text is waited for on a terminal.
 pub const WAITING: &str =
     "text is read from the terminal, to the end of input (Ctrl-D at the start of a line)";
 
 /// What is said of refused lines of a replay that have `!`.
 pub const KINDS: &str = "lines with ! for a break that must be are read with --kinds";
-
-/// Whether a usage says that the property files are not named.
-pub fn lacks_files(usage: &str) -> bool {
-    usage.contains("the property files are not named")
-}

@@ -3,25 +3,13 @@
 ghost use Rattle.std.specs.Prelude.{None};
 
 use super::telling;
-use lbk_cmd::{RunFault, Texts};
-use lbk_devices::{Input, InputKind, Notes, Noting};
+use lbk_args::{Engine, Order};
+use lbk_cmd::{Caller, RunFault, Texts};
+use lbk_devices::{Input, Notes, Noting};
 use lbk_feed::Device;
 use lbk_files::{LoadFault, Opens};
 use std::fs::File;
 use std::io::ErrorKind;
-
-/// The four property files as Debian's package unicode-data has them.
-const DATABASE: [&str; 4] = [
-    "/usr/share/unicode/LineBreak.txt",
-    "/usr/share/unicode/EastAsianWidth.txt",
-    "/usr/share/unicode/extracted/DerivedGeneralCategory.txt",
-    "/usr/share/unicode/emoji/emoji-data.txt",
-];
-
-/// Whether these four files can be opened.
-pub fn has_database(rt: &HostRuntime) -> bool {
-    DATABASE.iter().all(|name| File::open(rt, name).is_ok())
-}
 
 /// The files of the system, by their names; why one cannot be opened or read is noted.
 #[derive(Drop)]
@@ -55,24 +43,23 @@ impl<'a> Opens for SystemFiles<'a> {
 #[derive(Drop)]
 pub struct SystemTexts<'a> {
     rt: &'a HostRuntime,
-    words: &'a [&'a str],
-    kind: InputKind,
+    /// What the words ask for, once this is known.
+    caller: Caller<'a>,
     notes: &'a Notes,
 }
 
 impl<'a> SystemTexts<'a> {
-    pub fn new(
-        rt: &'a HostRuntime,
-        words: &'a [&'a str],
-        kind: InputKind,
-        notes: &'a Notes,
-    ) -> SystemTexts<'a> {
+    pub fn new(rt: &'a HostRuntime, notes: &'a Notes) -> SystemTexts<'a> {
         SystemTexts {
             rt,
-            words,
-            kind,
+            caller: Caller::NoWords,
             notes,
         }
+    }
+
+    /// Who asks for the run.
+    pub fn caller(&self) -> Caller<'a> {
+        self.caller
     }
 }
 
@@ -85,7 +72,7 @@ impl<'a> Opens for SystemTexts<'a> {
         match self.notes.noted(File::open(self.rt, name)) {
             Ok(file) => {
                 let device = Device::new(Noting::new(file, self.notes));
-                Ok(Input::new(device, self.kind, self.notes))
+                Ok(Input::new(device, self.notes))
             }
             Err(error) if error.kind() == ErrorKind::OutOfMemory => Err(LoadFault::Memory),
             Err(_) => Err(LoadFault::Unreadable),
@@ -93,10 +80,20 @@ impl<'a> Opens for SystemTexts<'a> {
     }
 }
 
-impl<'a> Texts for SystemTexts<'a> {
+impl<'a> Texts<'a> for SystemTexts<'a> {
     ghost refused = { λ texts. None };
 
+    fn begin(&mut self, order: &Order<'a>) {
+        self.caller = Caller::Words {
+            engine: order.engine,
+            files: order.files,
+        };
+        // Lines with ! are refused without --kinds, and then it is said why.
+        let is_plain = order.engine == Engine::Replay { kinds: false };
+        self.notes.wants_kinds.set(is_plain);
+    }
+
     fn refuse(&mut self, name: &str, fault: RunFault) {
-        telling::tell_refused(self.rt, self.words, Some(name), fault, self.notes);
+        telling::tell_refused(self.rt, self.caller, Some(name), fault, self.notes);
     }
 }

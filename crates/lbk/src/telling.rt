@@ -1,16 +1,14 @@
 //! What a person reads of a refused run.
 
-use lbk_args::{WordsFault, parse};
 use lbk_cmd::{Caller, CmdFault, Message, RunFault};
 use lbk_devices::Notes;
 use lbk_notation::ReplayFault;
-use std::alloc::Global;
 use std::io::ErrorKind;
 
 /// One line for a refused run, or for the text of an operand that was refused; none where nobody reads the output any more.
 pub fn tell_refused<'x>(
     rt: &HostRuntime,
-    words: &'x [&'x str],
+    caller: Caller<'x>,
     text: Option<&'x str>,
     fault: RunFault,
     notes: &Notes,
@@ -19,12 +17,6 @@ pub fn tell_refused<'x>(
     if is_write(fault) && reason == Some(ErrorKind::BrokenPipe) {
         return;
     }
-    let (fault, caller) = match caller_of(rt.alloc(), words) {
-        Ok(caller) => (fault, caller),
-        // Without them the message would name another file or limit.
-        Err(WordsFault::Memory) => (RunFault::Memory, Caller::NoWords),
-        Err(_) => (fault, Caller::NoWords),
-    };
     let message = Message {
         fault,
         caller,
@@ -33,14 +25,6 @@ pub fn tell_refused<'x>(
         is_utf16: notes.is_utf16.get(),
     };
     let _ = eprintln!(rt; "lbk: {message}");
-}
-
-fn caller_of<'x>(alloc: Global, words: &'x [&'x str]) -> Result<Caller<'x>, WordsFault> {
-    let order = parse(alloc, words)?;
-    Ok(Caller::Words {
-        engine: order.engine,
-        files: order.files,
-    })
 }
 
 /// Whether the output failed.

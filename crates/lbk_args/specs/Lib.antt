@@ -4,5 +4,6 @@ pub mod Task
 pub mod Accepted
 pub mod PlainWords
 pub mod Refusal
+pub mod OneLine
 -- What only carries proofs.
 pub mod Local

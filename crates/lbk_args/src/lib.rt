@@ -2,9 +2,12 @@
 #![tactic(auto)]
 
 pub mod laws;
+mod one_line;
 mod options;
 mod order;
 mod parsing;
+mod usage;
 
+pub use one_line::OneLine;
 pub use order::{Engine, FileName, FileNames, Order, Part, WordsFault};
 pub use parsing::{DEFAULT_LIMIT, parse};

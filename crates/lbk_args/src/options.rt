@@ -14,21 +14,24 @@ use std::alloc::{AllocError, Global};
 const VERSION: &str = "0.1.0 (breaks by UAX #14 of Unicode 15.0, words by UAX #29 of Unicode 18.0)";
 
 const ABOUT: &str = "\
-Finds where a text may break and where it must, and says which rule of UAX #14 decided. A text is a file, or
-standard input. Without arguments it shows standard input by four small sample files.";
+Finds where a text may break and where it must, and says which rule of UAX #14
+decided. A text is a file, or standard input. Without arguments it shows
+standard input by four small sample files.";
 
 const EXAMPLES: &str = "\
-FOLDER is the Unicode Character Database of Unicode 15.0. Without --ucd name its files, all four:
+FOLDER is the Unicode Character Database of Unicode 15.0. Without --ucd name
+its files, all four:
   --line-break LineBreak.txt --east-asian EastAsianWidth.txt
   --category DerivedGeneralCategory.txt --emoji emoji-data.txt
 
 Examples:
-  lbk mark --ucd FOLDER text.txt                       the text with its breaks
-  lbk show --ucd FOLDER < text.txt                     a line for each passage
-  lbk segment --ucd FOLDER --limit 1000000 text.txt    the breaks as byte offsets
-  lbk replay --ucd FOLDER LineBreakTest.txt            the lines that do not agree
+  lbk mark --ucd FOLDER text.txt                     the text with its breaks
+  lbk show --ucd FOLDER < text.txt                   a line for each paragraph
+  lbk segment --ucd FOLDER --limit 1000000 text.txt  the breaks as byte offsets
+  lbk replay --ucd FOLDER LineBreakTest.txt          the lines that do not agree
 
-Exit status: 0 done, 1 a refused file or text, 2 invalid arguments, 3 a replay with lines that differ or are refused.";
+Exit status: 0 done, 1 a refused file or text, 2 invalid arguments, 3 a replay
+with lines that differ or are refused.";
 
 const MARK_USAGE: &str = "lbk mark --ucd <FOLDER> [OPTIONS] [FILE]...";
 
@@ -40,30 +43,29 @@ const REPLAY_USAGE: &str = "lbk replay --ucd <FOLDER> [OPTIONS] [FILE]...";
 
 const MARK_ABOUT: &str = "Writes the text with ÷ at each position where a line may end";
 
-const SHOW_ABOUT: &str =
-    "Writes a line for each passage: its marks and scalars, and the rule of each position";
+const SHOW_ABOUT: &str = "Writes a line for each paragraph, with the rule of each position";
 
-const SEGMENT_ABOUT: &str =
-    "Writes a line for each passage, segment and word, with its place in bytes";
+const SEGMENT_ABOUT: &str = "Writes the place of each paragraph, segment and word in bytes";
 
-const REPLAY_ABOUT: &str =
-    "Compares a file of break tests with the rules, and counts what agrees and what differs";
+const REPLAY_ABOUT: &str = "Compares break tests with the rules, and counts what differs";
 
 const MARK_AFTER: &str = "\
-Nothing else is changed: where a line must end, the line end of the text shows it. A text that ends without a line
-end gets one. Example:
+Nothing else is changed: where a line must end, the line end of the text shows
+it. A text that ends without a line end gets one. Example:
   $ printf 'ab cd' | lbk mark --ucd FOLDER
   ab ÷cd";
 
 const SHOW_AFTER: &str = "\
-A mark stands before and after each scalar: × no break, ÷ break allowed, ! break required. Example:
+A mark stands before and after each character: × no break, ÷ break allowed,
+! break required. Example:
   $ printf 'ab cd' | lbk show --ucd FOLDER
   × 0061 × 0062 × 0020 ÷ 0063 × 0064 !\t# 2 28 7 18 28 3";
 
 const SEGMENT_AFTER: &str = "\
-`P start end` is a passage, `S start end kind rule` a segment of it up to a break that may be (kind May) or must
-be (kind Must), and `W start end` a word. Places count bytes of the whole text. Ranges one after another, as
-`--to 1000` and `--from 1000`, write together what is written of the whole text. Example:
+`P start end` is a paragraph, `S start end kind rule` a segment of it up to a
+break that may be (kind May) or must be (kind Must), and `W start end` a word.
+Places count bytes of the whole text. Ranges one after another, as `--to 1000`
+and `--from 1000`, write together what is written of the whole text. Example:
   $ printf 'ab cd' | lbk segment --ucd FOLDER
   P 0 5
   S 0 3 May 18
@@ -72,9 +74,10 @@ be (kind Must), and `W start end` a word. Places count bytes of the whole text. 
   W 3 5";
 
 const REPLAY_AFTER: &str = "\
-`D line position file rules rule` is the first position of a line that differs, with the mark of the file and that
-of the rules; `R line place` is a line that cannot be read from its byte `place` on, and `R line long` one that is
-too long; `T lines agreed differed refused` stands at the end. Example:
+`D line position file rules rule` is the first position of a line that differs,
+with the mark of the file and that of the rules; `R line place` is a line that
+cannot be read from its byte `place` on, and `R line long` one that is too long;
+`T lines agreed differed refused` stands at the end. Example:
   $ printf '× 0061 ÷ 0062 ÷\\n' | lbk replay --ucd FOLDER
   D 1 1 ÷ × 28
   T 1 0 1 0";
@@ -102,9 +105,7 @@ fn folder_option<'a>(alloc: Global) -> Arg<'a>
     ensures rule { rule_of result ≡ value_rule (codes "ucd") }
     ensures local { result.global ≡ false }
 {
-    value_option(alloc, "ucd", "FOLDER").help(
-        "The folder of the Unicode Character Database, which has the four files below",
-    )
+    value_option(alloc, "ucd", "FOLDER").help("The folder with the four files below")
 }
 
 /// An option that takes the name of a property file.
@@ -130,7 +131,7 @@ fn limit_option<'a>(alloc: Global) -> Arg<'a>
     ensures local { result.global ≡ false }
 {
     number_option(alloc, "limit", u64::from(LIMIT_MAX), "65536").help(
-        "The most bytes of a paragraph, 1 to 16777216",
+        "Bytes of a paragraph, 1 to 16777216",
     )
 }
 
@@ -148,9 +149,7 @@ fn profile_option<'a>(alloc: Global) -> Arg<'a>
     ensures rule { rule_of result ≡ profile_rule }
     ensures local { result.global ≡ false }
 {
-    number_option(alloc, "profile", 2, "1").help(
-        "1 for the rules of Unicode 15.0, 2 for rules 15a and 15b in the place of 15",
-    )
+    number_option(alloc, "profile", 2, "1").help("2 for rules 15a and 15b in place of 15")
 }
 
 fn kinds_option<'a>(alloc: Global) -> Arg<'a>
@@ -159,7 +158,7 @@ fn kinds_option<'a>(alloc: Global) -> Arg<'a>
 {
     long_option(alloc, "kinds")
         .action(ArgAction::SetTrue)
-        .help("Marks tell ! from ÷; without it ÷ stands for every break")
+        .help("Marks tell ! from ÷, which stands for both without it")
 }
 
 /// The operands, which name the texts.
@@ -170,7 +169,7 @@ fn texts_operand<'a>(alloc: Global) -> Arg<'a>
     Arg::new(alloc, "text")
         .action(ArgAction::Append)
         .value_name("FILE")
-        .help("A text, `-` for standard input, which is read where no file is named")
+        .help("A text; `-` or no file: standard input")
 }
 
 /// A command line, or that an allocation was refused for it.
@@ -217,7 +216,7 @@ fn with_files<'a>(alloc: Global, name: &'a str) -> Made<'a>
     let command = with_option(command, file_option(alloc, "line-break", classes));
     let widths = "EastAsianWidth.txt, the widths";
     let command = with_option(command, file_option(alloc, "east-asian", widths));
-    let categories = "DerivedGeneralCategory.txt, the general categories";
+    let categories = "DerivedGeneralCategory.txt, the categories";
     let command = with_option(command, file_option(alloc, "category", categories));
     let pictographs = "emoji-data.txt, the pictographs";
     with_option(command, file_option(alloc, "emoji", pictographs))
@@ -228,9 +227,9 @@ fn limited<'a>(alloc: Global, name: &'a str) -> Made<'a>
     ensures { IsMade (limited_app name.entry.now) result }
 {
     let command = with_option(with_files(alloc, name), limit_option(alloc));
-    let from = "Only the passages that begin at this byte of a text or after it, counted from 0";
+    let from = "Only paragraphs that begin at this byte or after it";
     let command = with_option(command, byte_option(alloc, "from", from));
-    let to = "Only the passages that begin before this byte of a text";
+    let to = "Only paragraphs that begin before this byte";
     let command = with_option(command, byte_option(alloc, "to", to));
     let command = with_option(command, profile_option(alloc));
     with_option(command, texts_operand(alloc))

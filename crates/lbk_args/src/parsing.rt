@@ -10,6 +10,7 @@ ghost use Rattle.lbk_args.specs.Refusal.{IsMistake, IsRefusalBy};
 
 use super::options::command;
 use super::order::{Engine, FileName, FileNames, Order, Part, WordsFault};
+use super::usage::usage_text;
 use clap::error::ErrorKind;
 use clap::{ArgMatches, Error};
 use lbk_values::Profile;
@@ -24,7 +25,8 @@ the property files are not named: give --ucd <FOLDER>, or each of
   --line-break <FILE>
   --east-asian <FILE>
   --category <FILE>
-  --emoji <FILE>";
+  --emoji <FILE>
+Debian's package unicode-data has them: --ucd /usr/share/unicode";
 
 /// What is said of a range that ends before it begins.
 const TURNED_ROUND: &str = "--from <BYTE> is greater than --to <BYTE>";
@@ -51,7 +53,7 @@ pub fn parse<'a>(alloc: Global, words: &'a [&'a str]) -> Result<Order<'a>, Words
             };
             accepted(alloc, name, order(name, given, texts))
         }
-        Err(error) => Err(refusal(alloc, &error)),
+        Err(error) => Err(refusal(alloc, words, &error)),
     }
 }
 
@@ -210,15 +212,21 @@ fn texts<'a>(alloc: Global, given: &ArgMatches<'a>) -> Result<Vec<&'a str>, Allo
 }
 
 /// What the program writes where `clap` takes no order from the arguments.
-fn refusal(alloc: Global, error: &Error) -> WordsFault
+fn refusal(alloc: Global, words: &[&str], error: &Error) -> WordsFault
     ensures { IsRefusalBy (kind_of error.now ∷ []) result }
 {
     if error.kind() == ErrorKind::OutOfMemory {
         return WordsFault::Memory;
     }
-    match format!(in alloc; "{error}") {
-        Ok(text) if error.use_stderr() => WordsFault::Usage { text },
-        Ok(text) => WordsFault::Help { text },
+    let is_help = !error.use_stderr();
+    let text = if is_help {
+        format!(in alloc; "{error}")
+    } else {
+        usage_text(alloc, words, error)
+    };
+    match text {
+        Ok(text) if is_help => WordsFault::Help { text },
+        Ok(text) => WordsFault::Usage { text },
         Err(_) => WordsFault::Memory,
     }
 }
@@ -228,7 +236,7 @@ fn mistake(alloc: Global, name: &str, cause: &str) -> WordsFault
     ensures { (kind : ErrorKind) → IsMistake kind → IsRefusalBy (kind ∷ []) result }
 {
     let told = format!(in alloc;
-        "error: {cause}\n\nUsage: lbk {name} --ucd <FOLDER> [OPTIONS] [FILE]...\n\nFor more information, try '--help'.\n"
+        "lbk: {cause}\n\nUsage: lbk {name} --ucd <FOLDER> [OPTIONS] [FILE]...\n\nFor more information, try '--help'.\n"
     );
     match told {
         Ok(text) => WordsFault::Usage { text },

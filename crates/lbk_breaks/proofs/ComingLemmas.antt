@@ -6,14 +6,14 @@ use Rattle.std.proofs.lemmas.Bool.{false≢true}
 use Rattle.std.proofs.lemmas.List.{append-nil, length-append, length-drop, length-take-le, take-append-drop, take_at}
 use Rattle.std.proofs.lemmas.Str.{IsCharBoundary-start, chars-nil, encodes-chars, length-le-encodes}
 use Rattle.std.proofs.Math.Seq.{drop-append-add, drop-append_seam, drop-length}
-use Rattle.lbk_uax14.specs.declared.breaks.Break.{Break}
-use Rattle.lbk_uax14.specs.declared.cells.Cell.{Cell}
+use Rattle.lbk_rules.specs.declared.Break.{Break}
+use Rattle.lbk_rules.specs.declared.Cell.{Cell}
 use Rattle.lbk_values.specs.declared.profile.Profile.{Profile}
-use Rattle.lbk_uax14.specs.declared.verdicts.Verdict.{Verdict}
-use Rattle.lbk_uax14.specs.Breaks.{break_by, breaks, breaks_from, is_no}
-use Rattle.lbk_uax14.specs.Marks.{Marked, marks_behind}
-use Rattle.lbk_uax14.specs.Verdict.{verdict_between_in}
-use Rattle.lbk_uax14.proofs.EndLemmas.{start_of_text}
+use Rattle.lbk_rules.specs.declared.Verdict.{Verdict}
+use Rattle.lbk_rules.specs.Breaks.{break_by, breaks, breaks_from, is_no}
+use Rattle.lbk_rules.specs.Marks.{Marked, marks_behind}
+use Rattle.lbk_rules.specs.Verdict.{verdict_between_in}
+use Rattle.lbk_rules.proofs.EndLemmas.{start_of_text}
 use Rattle.lbk_breaks.specs.Onward.{Comes, Filled, FillsTo, IsKept, onward, onward_in, with_break}
 
 -- From the start on

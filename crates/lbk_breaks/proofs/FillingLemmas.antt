@@ -7,12 +7,12 @@ use Rattle.std.proofs.Math.ListN.{set}
 use Rattle.std.proofs.Math.Seq.{drop-append_seam, drop-drop}
 use Rattle.std.proofs.lemmas.List.{append-nil, drop_more, length-append, length-drop, take-set, take_more_set}
 use Rattle.std.proofs.lemmas.Str.{IsCharBoundary-from_drop, IsUtf8-drop, IsUtf8-past_char, chars_past_char, encode_ascii}
-use Rattle.lbk_uax14.specs.declared.breaks.Break.{Break}
-use Rattle.lbk_uax14.specs.declared.cells.Cell.{Cell}
+use Rattle.lbk_rules.specs.declared.Break.{Break}
+use Rattle.lbk_rules.specs.declared.Cell.{Cell}
 use Rattle.lbk_values.specs.declared.profile.Profile.{Profile}
-use Rattle.lbk_uax14.specs.declared.verdicts.Verdict.{Verdict}
-use Rattle.lbk_uax14.specs.Breaks.{break_by, is_no}
-use Rattle.lbk_uax14.specs.Verdict.{verdict_between_in}
+use Rattle.lbk_rules.specs.declared.Verdict.{Verdict}
+use Rattle.lbk_rules.specs.Breaks.{break_by, is_no}
+use Rattle.lbk_rules.specs.Verdict.{verdict_between_in}
 use Rattle.lbk_breaks.specs.Onward.{Filled, onward, onward_in, with_break}
 
 -- One more scalar

@@ -1,9 +1,9 @@
 -- What a walk knows of the scalars that it has taken.
 use Rattle.std.specs.Prelude.{ℕ, List}
-use Rattle.lbk_uax14.specs.declared.cells.Cell.{Cell}
+use Rattle.lbk_rules.specs.declared.Cell.{Cell}
 use Rattle.lbk_values.specs.declared.profile.Profile.{Profile}
-use Rattle.lbk_steps.specs.AheadFits.{AheadFits}
-use Rattle.lbk_steps.specs.RowMachineFits.{RowMachineFits}
+use Rattle.lbk_rules.specs.AheadFits.{AheadFits}
+use Rattle.lbk_rules.specs.RowMachineFits.{RowMachineFits}
 use Rattle.lbk_breaks.specs.declared.walk.Walk.{Walk}
 use Rattle.lbk_breaks.specs.declared.walk.Walk.TheVariants as walk
 

@@ -1,12 +1,12 @@
 -- The breaks from a position on, as the positions are decided one after another.
 use Rattle.std.specs.Prelude.{◌≡◌, ℕ, ◌+◌, ◌^◌, ◌<◌, ◌≤◌, Bool, true, false, List, [], ◌∷◌, ◌++◌, length, drop, map, encode_utf8, if◌then◌else◌}
 use Rattle.std.specs.Str.{IsCharBoundary, chars}
-use Rattle.lbk_uax14.specs.declared.breaks.Break.{Break}
-use Rattle.lbk_uax14.specs.declared.cells.Cell.{Cell}
+use Rattle.lbk_rules.specs.declared.Break.{Break}
+use Rattle.lbk_rules.specs.declared.Cell.{Cell}
 use Rattle.lbk_values.specs.declared.profile.Profile.{Profile}
-use Rattle.lbk_uax14.specs.declared.verdicts.Verdict.{Verdict}
-use Rattle.lbk_uax14.specs.Breaks.{break_by, breaks, is_no}
-use Rattle.lbk_uax14.specs.Verdict.{verdict_between_in}
+use Rattle.lbk_rules.specs.declared.Verdict.{Verdict}
+use Rattle.lbk_rules.specs.Breaks.{break_by, breaks, is_no}
+use Rattle.lbk_rules.specs.Verdict.{verdict_between_in}
 
 -- the break at a position, if there is one, and those that follow
 abbrev pub with_break : ℕ → Verdict → List Break → List Break

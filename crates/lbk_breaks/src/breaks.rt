@@ -3,7 +3,7 @@
 ghost use Rattle.std.specs.Prelude.{◌≡◌, length, min, take, drop};
 ghost use Rattle.std.specs.Iterator.{YieldsFirst, item_count};
 ghost use Rattle.std.specs.Str.{chars};
-ghost use Rattle.lbk_uax14.specs.Breaks.{breaks};
+ghost use Rattle.lbk_rules.specs.Breaks.{breaks};
 
 use crate::walk::Walk;
 use lbk_rules::{Break, CellSource, Kind, Profile, Rule};
@@ -38,9 +38,9 @@ pub struct Breaks<'a, C: CellSource> {
 impl<'a, C: CellSource> Model for Breaks<'a, C> {
     ghost use Rattle.std.specs.Prelude.{List, drop};
     ghost use Rattle.std.specs.Str.{chars};
-    ghost use Rattle.lbk_uax14.specs.declared.breaks.Break.{Break};
+    ghost use Rattle.lbk_rules.specs.declared.Break.{Break};
     ghost use Rattle.lbk_breaks.specs.Fits.{WalkFits};
-    ghost use Rattle.lbk_uax14.specs.Breaks.{breaks};
+    ghost use Rattle.lbk_rules.specs.Breaks.{breaks};
     ghost use Rattle.lbk_breaks.specs.Onward.{IsKept};
 
     ghost Value = { List Break };

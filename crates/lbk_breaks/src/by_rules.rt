@@ -1,9 +1,9 @@
 //! A block that is filled by the plain rules.
 
 ghost use Rattle.std.specs.Prelude.{◌≡◌, ℕ, ◌<◌, ◌≤◌, List, IsCharBoundary, length, take};
-ghost use Rattle.lbk_uax14.specs.declared.cells.Cell.{Cell};
+ghost use Rattle.lbk_rules.specs.declared.Cell.{Cell};
 ghost use Rattle.lbk_values.specs.declared.profile.Profile.{Profile};
-ghost use Rattle.lbk_steps.specs.AheadFits.{AheadFits};
+ghost use Rattle.lbk_rules.specs.AheadFits.{AheadFits};
 ghost use Rattle.lbk_breaks.specs.Onward.{Filled};
 
 use crate::filling::{FilledTo, put};

@@ -1,9 +1,9 @@
 //! A block that is filled by the table of steps.
 
 ghost use Rattle.std.specs.Prelude.{◌≡◌, ℕ, ◌<◌, ◌≤◌, List, IfNone, IfSome, IsCharBoundary, length, take};
-ghost use Rattle.lbk_uax14.specs.declared.cells.Cell.{Cell};
+ghost use Rattle.lbk_rules.specs.declared.Cell.{Cell};
 ghost use Rattle.lbk_values.specs.declared.profile.Profile.{Profile};
-ghost use Rattle.lbk_steps.specs.RowMachineFits.{RowMachineFits};
+ghost use Rattle.lbk_rules.specs.RowMachineFits.{RowMachineFits};
 ghost use Rattle.lbk_breaks.specs.Onward.{Filled};
 
 use crate::filling::{FilledTo, put};

@@ -1,7 +1,7 @@
 //! A block that is filled with breaks.
 
 ghost use Rattle.std.specs.Prelude.{◌≡◌, ◌<◌, ◌≤◌, ◌++◌, [], length, not, take};
-ghost use Rattle.lbk_uax14.specs.Breaks.{is_no};
+ghost use Rattle.lbk_rules.specs.Breaks.{is_no};
 ghost use Rattle.lbk_breaks.specs.Onward.{with_break};
 
 use lbk_rules::{Break, Kind, Verdict};

@@ -1,9 +1,9 @@
 //! A walk over a text.
 
 ghost use Rattle.std.specs.Prelude.{◌≡◌, ℕ, ◌<◌, ◌≤◌, [], List, IsCharBoundary, false, length, map, take};
-ghost use Rattle.lbk_uax14.specs.declared.cells.Cell.{Cell};
+ghost use Rattle.lbk_rules.specs.declared.Cell.{Cell};
 ghost use Rattle.lbk_values.specs.declared.profile.Profile.{Profile};
-ghost use Rattle.lbk_uax14.specs.Verdict.{verdict_between_in};
+ghost use Rattle.lbk_rules.specs.Verdict.{verdict_between_in};
 ghost use Rattle.lbk_breaks.specs.Onward.{Filled, FillsTo};
 
 use crate::filling::{FilledTo, put};

@@ -1,11 +1,11 @@
 -- What stands behind a quotation mark that may close.
 use Rattle.std.proofs.Common.{◌≡◌, ℕ, ◌+◌, ◌<◌, ◌||◌, Bool, true, false, cond, Option, Some, None, List, ◌∷◌, length, map, drop, refl, sym, ap, ◌∙◌}
 use Rattle.bstr.specs.Utf8.{decoded, lossy_chars, or_replacement}
-use Rattle.lbk_uax14.specs.declared.cells.Cell.{Cell}
-use Rattle.lbk_uax14.specs.Classes.{closes_before, hard, mark, none_of}
-use Rattle.lbk_uax14.specs.Normal.{normal}
-use Rattle.lbk_uax14.specs.Sides.{leaves_closed}
-use Rattle.lbk_uax14.specs.Units.{unit, units_after}
+use Rattle.lbk_rules.specs.declared.Cell.{Cell}
+use Rattle.lbk_rules.specs.Classes.{closes_before, hard, mark, none_of}
+use Rattle.lbk_rules.specs.Normal.{normal}
+use Rattle.lbk_rules.specs.Sides.{leaves_closed}
+use Rattle.lbk_rules.specs.Units.{unit, units_after}
 use Rattle.lbk_bytes.proofs.PieceLemmas.{pieces-on}
 
 -- what the next cell tells, if it heads a unit

@@ -9,15 +9,15 @@ use Rattle.lbk_masks.proofs.BitLemmas.{set-or}
 use Rattle.lbk_masks.proofs.FoundLemmas.{rest-byte}
 use Rattle.lbk_masks.specs.Sets.{is_set, left_before, left_in, meets, right_in}
 use Rattle.lbk_masks.specs.Strays.{is_pair, is_second, is_stray}
-use Rattle.lbk_uax14.specs.declared.cells.Cell.{Cell}
-use Rattle.lbk_uax14.specs.declared.facts.Left.{Left}
-use Rattle.lbk_steps.specs.declared.flat_table.FlatStep.{FlatStep}
-use Rattle.lbk_steps.specs.declared.neighbours.Neighbours.{Neighbours}
+use Rattle.lbk_rules.specs.declared.Cell.{Cell}
+use Rattle.lbk_rules.specs.declared.Left.{Left}
+use Rattle.lbk_rules.specs.declared.FlatStep.{FlatStep}
+use Rattle.lbk_rules.specs.declared.Neighbours.{Neighbours}
 use Rattle.lbk_values.specs.declared.profile.Profile.{Profile}
-use Rattle.lbk_steps.specs.FlatTable.{AreFlatKinds, no_flat_step}
-use Rattle.lbk_steps.specs.Kinds.{kind_cell}
-use Rattle.lbk_steps.specs.Neighbours.{AreSettled, AreTold, is_special}
-use Rattle.lbk_steps.specs.Steps.{IsStart, left_at}
+use Rattle.lbk_rules.specs.FlatTable.{AreFlatKinds, no_flat_step}
+use Rattle.lbk_rules.specs.Kinds.{kind_cell}
+use Rattle.lbk_rules.specs.Neighbours.{AreSettled, AreTold, is_special}
+use Rattle.lbk_rules.specs.Steps.{IsStart, left_at}
 use Rattle.lbk_bytes.specs.declared.fill_state.FillState.{FillState}
 use Rattle.lbk_bytes.specs.declared.blocks.Marks.{Marks}
 use Rattle.lbk_bytes.specs.Blocks.{AreMarks, IsBlock, IsByteTold, Rests, byte_at, row_before, stands_at, stops_at}

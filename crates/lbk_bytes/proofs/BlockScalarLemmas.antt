@@ -8,14 +8,14 @@ use Rattle.std.proofs.lemmas.List.{get_or-drop, length-append, length-drop}
 use Rattle.bstr.specs.Utf8.{code_of_2, decoded, good, second}
 use Rattle.bstr.proofs.lemmas.PieceLemmas.{value-1, value-6}
 use Rattle.lbk_cover.specs.Letters.{StandsFor, StandsForAll}
-use Rattle.lbk_uax14.specs.declared.cells.Cell.{Cell}
-use Rattle.lbk_uax14.specs.declared.facts.Left.{Left}
-use Rattle.lbk_steps.specs.declared.flat_table.FlatStep.{FlatStep}
-use Rattle.lbk_steps.specs.declared.neighbours.Neighbours.{Neighbours}
+use Rattle.lbk_rules.specs.declared.Cell.{Cell}
+use Rattle.lbk_rules.specs.declared.Left.{Left}
+use Rattle.lbk_rules.specs.declared.FlatStep.{FlatStep}
+use Rattle.lbk_rules.specs.declared.Neighbours.{Neighbours}
 use Rattle.lbk_values.specs.declared.profile.Profile.{Profile}
-use Rattle.lbk_uax14.specs.Codes.{IsCode, verdict_coded}
-use Rattle.lbk_steps.specs.FlatTable.{AreFlatKinds, no_flat_step}
-use Rattle.lbk_steps.specs.Neighbours.{step_behind}
+use Rattle.lbk_rules.specs.Codes.{IsCode, verdict_coded}
+use Rattle.lbk_rules.specs.FlatTable.{AreFlatKinds, no_flat_step}
+use Rattle.lbk_rules.specs.Neighbours.{step_behind}
 use Rattle.lbk_bytes.specs.declared.raw_break.RawBreak.{RawBreak}
 use Rattle.lbk_bytes.specs.Blocks.{GoesOn, IsByteTold, byte_at, end_at, place_at, row_before}
 use Rattle.lbk_bytes.specs.Bytes.{with_break}

@@ -6,10 +6,10 @@ use Rattle.std.proofs.Math.Seq.{drop-length}
 use Rattle.bstr.proofs.lemmas.PieceLemmas.{pieces-nil}
 use Rattle.bstr.specs.Utf8.{Decoded, code_of_2, decoded, pieces}
 use Rattle.lbk_cover.specs.Letters.{StandsForAll}
-use Rattle.lbk_uax14.specs.declared.cells.Cell.{Cell}
-use Rattle.lbk_uax14.specs.declared.facts.Left.{Left}
-use Rattle.lbk_steps.specs.declared.flat_table.FlatStep.{FlatStep}
-use Rattle.lbk_steps.specs.declared.neighbours.Neighbours.{Neighbours}
+use Rattle.lbk_rules.specs.declared.Cell.{Cell}
+use Rattle.lbk_rules.specs.declared.Left.{Left}
+use Rattle.lbk_rules.specs.declared.FlatStep.{FlatStep}
+use Rattle.lbk_rules.specs.declared.Neighbours.{Neighbours}
 use Rattle.lbk_values.specs.declared.profile.Profile.{Profile}
 use Rattle.lbk_bytes.specs.Blocks.{IsBlock, byte_at, end_at}
 use Rattle.lbk_bytes.specs.Marks.{boundary_among, boundary_from}

@@ -3,29 +3,29 @@ use Rattle.std.proofs.Common.{◌≡◌, ℕ, ◌+◌, ◌/◌, ◌<◌, ◌≤�
 use Rattle.std.proofs.lemmas.Bool.{cases_lt, false≢true}
 use Rattle.std.proofs.lemmas.List.{get_or_past, length-map, length-reverse, map-append}
 use Rattle.std.proofs.Math.Seq.{drop-length, take-length}
-use Rattle.lbk_uax14.specs.declared.cells.Cell.{Cell}
-use Rattle.lbk_uax14.specs.declared.classes.Class.{Class}
-use Rattle.lbk_uax14.specs.declared.facts.Left.{Left}
-use Rattle.lbk_uax14.specs.declared.verdicts.Kind.TheVariants.{No, May, Must}
-use Rattle.lbk_uax14.specs.declared.verdicts.Verdict.{Verdict}
+use Rattle.lbk_rules.specs.declared.Cell.{Cell}
+use Rattle.lbk_rules.specs.declared.Class.{Class}
+use Rattle.lbk_rules.specs.declared.Left.{Left}
+use Rattle.lbk_rules.specs.declared.Kind.TheVariants.{No, May, Must}
+use Rattle.lbk_rules.specs.declared.Verdict.{Verdict}
 use Rattle.lbk_values.specs.declared.profile.Profile.{Profile}
 use Rattle.lbk_values.specs.declared.profile.Profile.TheVariants.{First}
-use Rattle.lbk_steps.specs.declared.flat_table.FlatStep.{FlatStep}
-use Rattle.lbk_steps.specs.declared.flat_table.FlatTable.{FlatTable}
-use Rattle.lbk_uax14.specs.Breaks.{break_by}
-use Rattle.lbk_uax14.specs.Classes.{CR, is}
-use Rattle.lbk_uax14.specs.Codes.{IsCode, kind_numbered, verdict_coded}
-use Rattle.lbk_uax14.specs.Ends.{end_after, end_of_text, ends_between, ends_line}
-use Rattle.lbk_uax14.specs.Facts.{facts}
-use Rattle.lbk_uax14.specs.Normal.{normal, normals}
-use Rattle.lbk_uax14.specs.Sides.{Side, is_nothing}
-use Rattle.lbk_uax14.specs.Verdict.{verdict_between_in}
-use Rattle.lbk_uax14.proofs.EndLemmas.{must_at_length, must_between, no_must_between, start_of_text}
-use Rattle.lbk_uax14.proofs.ParagraphLemmas.{is_must}
-use Rattle.lbk_steps.specs.FlatTable.{IsFlatBy, IsFlatStep, KnowsTaken, no_flat_step}
-use Rattle.lbk_steps.specs.Kinds.{kind_cell}
-use Rattle.lbk_steps.specs.Steps.{left_at}
-use Rattle.lbk_steps.proofs.AheadLemmas.{ahead-normal}
+use Rattle.lbk_rules.specs.declared.FlatStep.{FlatStep}
+use Rattle.lbk_rules.specs.declared.FlatTable.{FlatTable}
+use Rattle.lbk_rules.specs.Breaks.{break_by}
+use Rattle.lbk_rules.specs.Classes.{CR, is}
+use Rattle.lbk_rules.specs.Codes.{IsCode, kind_numbered, verdict_coded}
+use Rattle.lbk_rules.specs.Ends.{end_after, end_of_text, ends_between, ends_line}
+use Rattle.lbk_rules.specs.Facts.{facts}
+use Rattle.lbk_rules.specs.Normal.{normal, normals}
+use Rattle.lbk_rules.specs.Sides.{Side, is_nothing}
+use Rattle.lbk_rules.specs.Verdict.{verdict_between_in}
+use Rattle.lbk_rules.proofs.EndLemmas.{must_at_length, must_between, no_must_between, start_of_text}
+use Rattle.lbk_rules.proofs.ParagraphLemmas.{is_must}
+use Rattle.lbk_rules.specs.FlatTable.{IsFlatBy, IsFlatStep, KnowsTaken, no_flat_step}
+use Rattle.lbk_rules.specs.Kinds.{kind_cell}
+use Rattle.lbk_rules.specs.Steps.{left_at}
+use Rattle.lbk_rules.proofs.AheadLemmas.{ahead-normal}
 use Rattle.lbk_bytes.specs.Bytes.{closed_end, open_end, with_break}
 use Rattle.lbk_bytes.proofs.StepLemmas.{code-known, flat_step_at}
 

@@ -9,11 +9,11 @@ use Rattle.std.proofs.lemmas.Nat.Bits.{bit_at-pow_other, bit_at-pow_same}
 use Rattle.bstr.specs.Utf8.{pieces}
 use Rattle.lbk_masks.proofs.BitLemmas.{set-or}
 use Rattle.lbk_masks.specs.Sets.{is_set}
-use Rattle.lbk_uax14.specs.declared.breaks.Break.{Break}
-use Rattle.lbk_uax14.specs.declared.cells.Cell.{Cell}
-use Rattle.lbk_uax14.specs.declared.facts.Left.{Left}
-use Rattle.lbk_uax14.specs.declared.verdicts.Verdict.{Verdict}
-use Rattle.lbk_uax14.specs.Breaks.{break_by, is_no}
+use Rattle.lbk_rules.specs.declared.Break.{Break}
+use Rattle.lbk_rules.specs.declared.Cell.{Cell}
+use Rattle.lbk_rules.specs.declared.Left.{Left}
+use Rattle.lbk_rules.specs.declared.Verdict.{Verdict}
+use Rattle.lbk_rules.specs.Breaks.{break_by, is_no}
 use Rattle.lbk_values.specs.declared.profile.Profile.{Profile}
 use Rattle.lbk_bytes.specs.declared.fill_state.FillState.{FillState}
 use Rattle.lbk_bytes.specs.declared.raw_break.RawBreak.{RawBreak}

@@ -1,8 +1,8 @@
 -- Breaks in order, one break more.
 use Rattle.std.proofs.Common.{◌≡◌, ℕ, ◌+◌, ◌<◌, ◌≤◌, true, false, not, List, length, get_or, set, below_more, get_or-set_other, get_or-set_same, refl, sym, ap, subst, arith}
 use Rattle.std.specs.Int.{from_bool}
-use Rattle.lbk_uax14.specs.declared.breaks.Break.{Break}
-use Rattle.lbk_uax14.specs.Breaks.{is_no}
+use Rattle.lbk_rules.specs.declared.Break.{Break}
+use Rattle.lbk_rules.specs.Breaks.{is_no}
 use Rattle.lbk_bytes.specs.declared.raw_break.RawBreak.{RawBreak}
 use Rattle.lbk_bytes.specs.Order.{AreBreaks, AreInOrder, AreInOrderBy, IsBreak, no_break}
 use Rattle.lbk_bytes.specs.Shown.{raw_of}

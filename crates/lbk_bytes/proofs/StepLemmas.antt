@@ -1,30 +1,30 @@
 -- What a step of a flat table says of the text.
 use Rattle.std.proofs.Common.{◌≡◌, ℕ, ◌+◌, ◌*◌, ◌/◌, ◌%◌, ◌<◌, true, false, List, [], ◌∷◌, ◌++◌, length, get_or, map, reverse, refl, sym, ap, subst, ◌∙◌, ⊎_elim, arith}
 use Rattle.std.specs.Char.{IsScalar}
-use Rattle.lbk_uax14.specs.declared.cells.Cell.{Cell}
-use Rattle.lbk_uax14.specs.declared.facts.Left.{Left}
-use Rattle.lbk_steps.specs.declared.flat_table.FlatStep.{FlatStep}
-use Rattle.lbk_steps.specs.declared.flat_table.FlatTable.{FlatTable}
-use Rattle.lbk_steps.specs.declared.neighbours.Neighbours.{Neighbours}
+use Rattle.lbk_rules.specs.declared.Cell.{Cell}
+use Rattle.lbk_rules.specs.declared.Left.{Left}
+use Rattle.lbk_rules.specs.declared.FlatStep.{FlatStep}
+use Rattle.lbk_rules.specs.declared.FlatTable.{FlatTable}
+use Rattle.lbk_rules.specs.declared.Neighbours.{Neighbours}
 use Rattle.lbk_values.specs.declared.profile.Profile.{Profile}
 use Rattle.lbk_values.specs.declared.profile.Profile.TheVariants.{First, Second}
-use Rattle.lbk_uax14.specs.Chain.{from_cells}
-use Rattle.lbk_uax14.specs.Classes.{hard}
-use Rattle.lbk_uax14.specs.Codes.{IsCode, verdict_coded}
-use Rattle.lbk_uax14.specs.Facts.{facts}
-use Rattle.lbk_steps.specs.FlatTable.{AreFlatSteps, IsFlatBy, IsFlatStep, IsStepCode, KnowsTaken, no_flat_step}
-use Rattle.lbk_uax14.specs.Held.{is_15b}
-use Rattle.lbk_steps.specs.Kinds.{kind_cell}
-use Rattle.lbk_uax14.specs.Normal.{normal}
-use Rattle.lbk_steps.specs.RowMachineFits.{normals}
-use Rattle.lbk_uax14.specs.Sides.{Side, leaves_closed}
-use Rattle.lbk_steps.specs.Steps.{IsStart, left_at}
-use Rattle.lbk_uax14.specs.Units.{units_after}
-use Rattle.lbk_uax14.specs.Verdict.{verdict_between_in}
-use Rattle.lbk_steps.proofs.AheadLemmas.{ahead-normal}
-use Rattle.lbk_steps.proofs.RowMachineLemmas.{normals-back}
-use Rattle.lbk_steps.specs.declared.flat_table.TheConstants.{HELD}
-use Rattle.lbk_steps.specs.Neighbours.{AreTold}
+use Rattle.lbk_rules.specs.Chain.{from_cells}
+use Rattle.lbk_rules.specs.Classes.{hard}
+use Rattle.lbk_rules.specs.Codes.{IsCode, verdict_coded}
+use Rattle.lbk_rules.specs.Facts.{facts}
+use Rattle.lbk_rules.specs.FlatTable.{AreFlatSteps, IsFlatBy, IsFlatStep, IsStepCode, KnowsTaken, no_flat_step}
+use Rattle.lbk_rules.specs.Held.{is_15b}
+use Rattle.lbk_rules.specs.Kinds.{kind_cell}
+use Rattle.lbk_rules.specs.Normal.{normal}
+use Rattle.lbk_rules.specs.RowMachineFits.{normals}
+use Rattle.lbk_rules.specs.Sides.{Side, leaves_closed}
+use Rattle.lbk_rules.specs.Steps.{IsStart, left_at}
+use Rattle.lbk_rules.specs.Units.{units_after}
+use Rattle.lbk_rules.specs.Verdict.{verdict_between_in}
+use Rattle.lbk_rules.proofs.AheadLemmas.{ahead-normal}
+use Rattle.lbk_rules.proofs.RowMachineLemmas.{normals-back}
+use Rattle.lbk_rules.specs.flat_table.TheConstants.{HELD}
+use Rattle.lbk_rules.specs.Neighbours.{AreTold}
 use Rattle.lbk_bytes.specs.Reached.{AreSwift, pairs_in, steps_in}
 
 -- the number of a verdict in a table is one

@@ -2,13 +2,13 @@
 use Rattle.std.specs.Prelude.{◌≡◌, ◌≢◌, ◌⊎◌, ℕ, ◌+◌, ◌-◌, ◌<◌, ◌≤◌, ◌||◌, Bool, true, false, List, length, take, drop, slice_index_or, nat_le, if◌then◌else◌}
 use Rattle.lbk_masks.specs.Sets.{is_set, left_in, meets, right_in}
 use Rattle.lbk_masks.specs.Strays.{is_stray}
-use Rattle.lbk_uax14.specs.declared.cells.Cell.{Cell}
-use Rattle.lbk_uax14.specs.declared.facts.Left.{Left}
-use Rattle.lbk_steps.specs.declared.flat_table.FlatStep.{FlatStep}
-use Rattle.lbk_steps.specs.declared.neighbours.Neighbours.{Neighbours}
+use Rattle.lbk_rules.specs.declared.Cell.{Cell}
+use Rattle.lbk_rules.specs.declared.Left.{Left}
+use Rattle.lbk_rules.specs.declared.FlatStep.{FlatStep}
+use Rattle.lbk_rules.specs.declared.Neighbours.{Neighbours}
 use Rattle.lbk_values.specs.declared.profile.Profile.{Profile}
-use Rattle.lbk_steps.specs.FlatTable.{AreFlatKinds}
-use Rattle.lbk_steps.specs.Neighbours.{AreSettled, is_special}
+use Rattle.lbk_rules.specs.FlatTable.{AreFlatKinds}
+use Rattle.lbk_rules.specs.Neighbours.{AreSettled, is_special}
 use Rattle.lbk_bytes.specs.declared.blocks.BlockState.{BlockState}
 use Rattle.lbk_bytes.specs.declared.blocks.Marks.{Marks}
 use Rattle.lbk_bytes.specs.declared.fill_state.FillState.{FillState}

@@ -2,14 +2,14 @@
 -- section 3.9, table 3-7) and keeps its own bytes.
 use Rattle.std.specs.Prelude.{ℕ, ◌+◌, ◌-◌, Bool, true, false, List, [], ◌∷◌, ◌++◌, length, map, take, if◌then◌else◌}
 use Rattle.bstr.specs.Utf8.{Decoded, lossy_chars, pieces}
-use Rattle.lbk_uax14.specs.declared.breaks.Break.{Break}
-use Rattle.lbk_uax14.specs.declared.cells.Cell.{Cell}
+use Rattle.lbk_rules.specs.declared.Break.{Break}
+use Rattle.lbk_rules.specs.declared.Cell.{Cell}
 use Rattle.lbk_values.specs.declared.profile.Profile.{Profile}
-use Rattle.lbk_uax14.specs.declared.verdicts.Verdict.{Verdict}
-use Rattle.lbk_uax14.specs.Breaks.{break_by, is_no}
-use Rattle.lbk_uax14.specs.Ends.{end_after, ends_line}
-use Rattle.lbk_uax14.specs.Marks.{Marked, marks}
-use Rattle.lbk_uax14.specs.Verdict.{verdict_between_in}
+use Rattle.lbk_rules.specs.declared.Verdict.{Verdict}
+use Rattle.lbk_rules.specs.Breaks.{break_by, is_no}
+use Rattle.lbk_rules.specs.Ends.{end_after, ends_line}
+use Rattle.lbk_rules.specs.Marks.{Marked, marks}
+use Rattle.lbk_rules.specs.Verdict.{verdict_between_in}
 
 -- the break at a position, if there is one, and those that follow
 abbrev pub with_break : ℕ → Verdict → List Break → List Break

@@ -1,12 +1,12 @@
 -- What is decided before one scalar of a text.
 use Rattle.std.specs.Prelude.{◌≡◌, ℕ, ◌+◌, List, [], ◌∷◌, ◌++◌, map, drop}
 use Rattle.bstr.specs.Utf8.{decoded, lossy_chars, or_replacement}
-use Rattle.lbk_uax14.specs.declared.cells.Cell.{Cell}
-use Rattle.lbk_uax14.specs.declared.facts.Left.{Left}
+use Rattle.lbk_rules.specs.declared.Cell.{Cell}
+use Rattle.lbk_rules.specs.declared.Left.{Left}
 use Rattle.lbk_values.specs.declared.profile.Profile.{Profile}
-use Rattle.lbk_uax14.specs.Codes.{IsCode, verdict_coded}
-use Rattle.lbk_uax14.specs.Verdict.{verdict_between_in}
-use Rattle.lbk_steps.specs.FlatTable.{KnowsTaken}
+use Rattle.lbk_rules.specs.Codes.{IsCode, verdict_coded}
+use Rattle.lbk_rules.specs.Verdict.{verdict_between_in}
+use Rattle.lbk_rules.specs.FlatTable.{KnowsTaken}
 use Rattle.lbk_bytes.specs.declared.deciding.Decided.{Decided}
 
 -- the scalar that some bytes begin with, or U+FFFD

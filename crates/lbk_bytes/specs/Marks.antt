@@ -2,7 +2,7 @@
 use Rattle.std.specs.Prelude.{ℕ, ◌+◌, ◌/◌, ◌%◌, ◌==◌, ◌||◌, Bool, false, List, [], ◌∷◌, drop, nat_le, slice_index, if◌then◌else◌}
 use Rattle.std.specs.Int.{bit_at}
 use Rattle.bstr.specs.Utf8.{Decoded, pieces}
-use Rattle.lbk_uax14.specs.declared.breaks.Break.{Break}
+use Rattle.lbk_rules.specs.declared.Break.{Break}
 
 -- bit i of some words: the lowest of the first word comes first
 abbrev pub is_marked : List ℕ → ℕ → Bool

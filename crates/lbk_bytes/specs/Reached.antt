@@ -1,25 +1,25 @@
 -- How far a call has come with a text.
 use Rattle.std.specs.Prelude.{◌≡◌, ℕ, ◌+◌, ◌*◌, ◌<◌, ◌≤◌, List, [], ◌∷◌, ◌++◌, length, map, drop, slice_index_or}
 use Rattle.bstr.specs.Utf8.{Decoded, or_replacement, pieces}
-use Rattle.lbk_uax14.specs.declared.breaks.Break.{Break}
-use Rattle.lbk_uax14.specs.declared.cells.Cell.{Cell}
-use Rattle.lbk_uax14.specs.declared.facts.Left.{Left}
-use Rattle.lbk_steps.specs.declared.flat_table.FlatStep.{FlatStep}
-use Rattle.lbk_steps.specs.declared.flat_table.FlatTable.{FlatTable}
-use Rattle.lbk_steps.specs.declared.neighbours.Neighbours.{Neighbours}
-use Rattle.lbk_uax14.specs.declared.verdicts.Verdict.{Verdict}
+use Rattle.lbk_rules.specs.declared.Break.{Break}
+use Rattle.lbk_rules.specs.declared.Cell.{Cell}
+use Rattle.lbk_rules.specs.declared.Left.{Left}
+use Rattle.lbk_rules.specs.declared.FlatStep.{FlatStep}
+use Rattle.lbk_rules.specs.declared.FlatTable.{FlatTable}
+use Rattle.lbk_rules.specs.declared.Neighbours.{Neighbours}
+use Rattle.lbk_rules.specs.declared.Verdict.{Verdict}
 use Rattle.lbk_values.specs.declared.profile.Profile.{Profile}
 use Rattle.lbk_values.specs.declared.profile.Profile.TheVariants.{First, Second}
-use Rattle.lbk_uax14.specs.Breaks.{break_by}
-use Rattle.lbk_uax14.specs.Chain.{from_cells}
-use Rattle.lbk_uax14.specs.Codes.{IsCode, kind_number, rule_number, verdict_coded}
-use Rattle.lbk_uax14.specs.Facts.{facts}
-use Rattle.lbk_steps.specs.FlatTable.{KnowsTaken, no_flat_step}
-use Rattle.lbk_steps.specs.Kinds.{kind_cell}
-use Rattle.lbk_uax14.specs.Sides.{Side}
-use Rattle.lbk_steps.specs.Steps.{IsStart, left_at}
-use Rattle.lbk_uax14.specs.Verdict.{verdict_between_in}
-use Rattle.lbk_steps.specs.declared.flat_table.TheConstants.{HELD}
+use Rattle.lbk_rules.specs.Breaks.{break_by}
+use Rattle.lbk_rules.specs.Chain.{from_cells}
+use Rattle.lbk_rules.specs.Codes.{IsCode, kind_number, rule_number, verdict_coded}
+use Rattle.lbk_rules.specs.Facts.{facts}
+use Rattle.lbk_rules.specs.FlatTable.{KnowsTaken, no_flat_step}
+use Rattle.lbk_rules.specs.Kinds.{kind_cell}
+use Rattle.lbk_rules.specs.Sides.{Side}
+use Rattle.lbk_rules.specs.Steps.{IsStart, left_at}
+use Rattle.lbk_rules.specs.Verdict.{verdict_between_in}
+use Rattle.lbk_rules.specs.flat_table.TheConstants.{HELD}
 use Rattle.lbk_bytes.specs.declared.fill_state.FillState.{FillState}
 use Rattle.lbk_bytes.specs.declared.raw_break.RawBreak.{RawBreak}
 use Rattle.lbk_bytes.specs.Bytes.{AtEnd, closed_end, with_break}

@@ -1,7 +1,7 @@
 -- What the numbers of a break stand for.
 use Rattle.std.specs.Prelude.{ℕ, List, map, take}
-use Rattle.lbk_uax14.specs.declared.breaks.Break.{Break}
-use Rattle.lbk_uax14.specs.Codes.{kind_number, kind_numbered, rule_number, rule_numbered}
+use Rattle.lbk_rules.specs.declared.Break.{Break}
+use Rattle.lbk_rules.specs.Codes.{kind_number, kind_numbered, rule_number, rule_numbered}
 use Rattle.lbk_bytes.specs.declared.raw_break.RawBreak.{RawBreak}
 
 -- a break as numbers

@@ -1,11 +1,11 @@
 //! Blocks of up to 64 bytes whose breaks the sets of their bytes tell, so that no step waits for the one before it.
 
 ghost use Rattle.std.specs.Prelude.{◌≡◌, ℕ, ◌+◌, ◌-◌, ◌<◌, ◌≤◌, ◌++◌, List, length, nat_le, IfSome};
-ghost use Rattle.lbk_uax14.specs.declared.cells.Cell.{Cell};
-ghost use Rattle.lbk_uax14.specs.declared.facts.Left.{Left};
+ghost use Rattle.lbk_rules.specs.declared.Cell.{Cell};
+ghost use Rattle.lbk_rules.specs.declared.Left.{Left};
 ghost use Rattle.lbk_values.specs.declared.profile.Profile.{Profile};
-ghost use Rattle.lbk_steps.specs.FlatTable.{AreFlatKinds};
-ghost use Rattle.lbk_steps.specs.Neighbours.{AreTold};
+ghost use Rattle.lbk_rules.specs.FlatTable.{AreFlatKinds};
+ghost use Rattle.lbk_rules.specs.Neighbours.{AreTold};
 ghost use Rattle.lbk_masks.specs.Sets.{is_set};
 ghost use Rattle.lbk_bytes.specs.Blocks.{AreCleared, AreEnded, AreInside, AreKeptBelow, AreKeptFrom, AreLeft, AreMarks, IsAhead, IsBlock, IsLowest, place_in, row_before};
 ghost use Rattle.lbk_bytes.specs.Reached.{Ahead, AreSwift, IsInOrder, Reached};
@@ -46,9 +46,10 @@ pub(crate) struct BlockState {
 }
 
 /// Takes blocks of bytes, as many as come one after the other, up to a scalar that no step takes, or from which on few bytes
-/// are left, or many of them to steps. It stands apart, so that what single scalars need stays in registers.
+/// are left, or many of them to steps. Without masks it takes none. It stands apart, so that what single scalars need stays in
+/// registers.
 #[inline(never)]
-pub(crate) fn blocks(
+pub(crate) fn blocks<const MASKS: bool>(
     pairs: &Neighbours,
     kinds: &[u8; CODES],
     steps: &[FlatStep; STEPS],
@@ -65,6 +66,9 @@ pub(crate) fn blocks(
         → Reached profile cell lefts (text.now ++ more) all start (given_in out.old start.count)
         → Reached profile cell lefts (text.now ++ more) all result (given_in out.new result.count) }
 {
+    if !MASKS {
+        return start;
+    }
     let mut here = begun(kinds, steps, start, text, out);
     loop {
         let from = here.at;

@@ -1,13 +1,13 @@
 //! A block that is filled with breaks.
 
 ghost use Rattle.std.specs.Prelude.{◌≡◌, ℕ, ◌+◌, ◌<◌, ◌≤◌, ◌++◌, [], List, false, length, take};
-ghost use Rattle.lbk_uax14.specs.declared.cells.Cell.{Cell};
-ghost use Rattle.lbk_uax14.specs.declared.facts.Left.{Left};
+ghost use Rattle.lbk_rules.specs.declared.Cell.{Cell};
+ghost use Rattle.lbk_rules.specs.declared.Left.{Left};
 ghost use Rattle.lbk_values.specs.declared.profile.Profile.{Profile};
-ghost use Rattle.lbk_uax14.specs.Breaks.{is_no};
-ghost use Rattle.lbk_uax14.specs.Codes.{IsCode, verdict_coded};
-ghost use Rattle.lbk_steps.specs.FlatTable.{AreFlatKinds, IsFlatBy};
-ghost use Rattle.lbk_steps.specs.Neighbours.{AreTold};
+ghost use Rattle.lbk_rules.specs.Breaks.{is_no};
+ghost use Rattle.lbk_rules.specs.Codes.{IsCode, verdict_coded};
+ghost use Rattle.lbk_rules.specs.FlatTable.{AreFlatKinds, IsFlatBy};
+ghost use Rattle.lbk_rules.specs.Neighbours.{AreTold};
 ghost use Rattle.lbk_bytes.specs.Bytes.{with_break};
 ghost use Rattle.lbk_bytes.specs.Marks.{boundary_from};
 ghost use Rattle.lbk_bytes.specs.Order.{AreBreaks, AreInOrder};
@@ -26,9 +26,10 @@ use lbk_rules::{FlatStep, FlatTable, Neighbours, Profile, STEPS, VERDICTS, is_br
 
 /// Goes on until the block is full or the text ends, and writes the breaks before the scalars taken after those in the
 /// front of the block. In a text of fewer than 64 bytes the scalars that no block takes are gone over here, with no call, as
-/// long as they are common.
+/// long as they are common. The breaks are the same with masks, by which blocks of bytes are taken, and without: these are for
+/// targets that have no vectors.
 #[inline(always)]
-pub fn fill(
+pub fn fill<const MASKS: bool>(
     table: &FlatTable,
     profile: Profile,
     start: FillState,
@@ -48,20 +49,20 @@ pub fn fill(
         return start;
     }
     if BLOCK <= text.len() - start.at {
-        return copied(fill_on(table, profile, start, text, out));
+        return copied(fill_on::<MASKS>(table, profile, start, text, out));
     }
     let steps = steps_of(table, profile);
-    let begun = few(table, profile, steps, start, text, out);
+    let begun = few::<MASKS>(table, profile, steps, start, text, out);
     let here = scalars(&table.kinds, steps, begun, text.len(), text, out);
     if here.count == out.len() || here.at == text.len() {
         return here;
     }
-    copied(fill_on(table, profile, copied(here), text, out))
+    copied(fill_on::<MASKS>(table, profile, copied(here), text, out))
 }
 
 /// Takes a block of a text of fewer than 64 bytes, unless they are very few or of scalars that a block leaves to steps.
 #[inline(always)]
-fn few(
+fn few<const MASKS: bool>(
     table: &FlatTable,
     profile: Profile,
     steps: &[FlatStep; STEPS],
@@ -78,14 +79,14 @@ fn few(
         → Reached profile cell lefts (text.now ++ more) all start (given_in out.old start.count)
         → Reached profile cell lefts (text.now ++ more) all result (given_in out.new result.count) }
 {
-    if text.len() - start.at < LEAST {
+    if !MASKS || text.len() - start.at < LEAST {
         return start;
     }
     if !are_short(&text[start.at..]) {
         return start;
     }
     let pairs = pairs_of(table, profile);
-    copied(blocks(pairs, &table.kinds, steps, start, text, out))
+    copied(blocks::<MASKS>(pairs, &table.kinds, steps, start, text, out))
 }
 
 /// The same state, field by field. A state that a call takes or returns stands in memory, and a copy of it in registers.
@@ -102,7 +103,7 @@ fn copied(state: FillState) -> FillState
 
 /// The same of any text, by blocks of bytes and single scalars in turn.
 #[inline(never)]
-fn fill_on(
+fn fill_on<const MASKS: bool>(
     table: &FlatTable,
     profile: Profile,
     start: FillState,
@@ -120,7 +121,7 @@ fn fill_on(
 {
     let mut here = start;
     while here.count < out.len() && here.at < text.len() {
-        here = further(table, profile, here, text, out);
+        here = further::<MASKS>(table, profile, here, text, out);
     }
     here
 }
@@ -146,16 +147,16 @@ pub fn fill_common(
     if start.at == text.len() {
         return start;
     }
-    let mut part = common_part(table, profile, start, text, out);
+    let mut part = common_part::<true>(table, profile, start, text, out);
     while part.until <= part.here.at && part.here.at < text.len() {
-        part = common_part(table, profile, part.here, text, out);
+        part = common_part::<true>(table, profile, part.here, text, out);
     }
     part.here
 }
 
 /// Takes blocks of bytes and then some scalars, at least one of them or a break more.
 #[inline(always)]
-fn further(
+fn further<const MASKS: bool>(
     table: &FlatTable,
     profile: Profile,
     here: FillState,
@@ -171,7 +172,7 @@ fn further(
         → Reached profile cell lefts text.now all here (given_in out.old here.count)
         → Reached profile cell lefts text.now all result (given_in out.new result.count) }
 {
-    let part = common_part(table, profile, here, text, out);
+    let part = common_part::<MASKS>(table, profile, here, text, out);
     if part.here.at < part.until && part.here.count < out.len() {
         return take_one(table, profile, part.here, text, out);
     }
@@ -188,7 +189,7 @@ struct Part {
 /// Takes blocks of bytes and then common scalars, up to the first that begins where blocks are tried again or after it, unless
 /// another scalar comes or the block is full before.
 #[inline(always)]
-fn common_part(
+fn common_part<const MASKS: bool>(
     table: &FlatTable,
     profile: Profile,
     here: FillState,
@@ -205,8 +206,8 @@ fn common_part(
 {
     let steps = steps_of(table, profile);
     let pairs = pairs_of(table, profile);
-    let there = blocks(pairs, &table.kinds, steps, here, text, out);
-    let until = next_try(there.at, text);
+    let there = blocks::<MASKS>(pairs, &table.kinds, steps, here, text, out);
+    let until = next_try::<MASKS>(there.at, text);
     Part {
         here: quick(&table.kinds, steps, there, until, text, out),
         until,

@@ -1,12 +1,12 @@
 //! Blocks of 64 bytes whose bits the sets of their bytes tell at once.
 
 ghost use Rattle.std.specs.Prelude.{◌≡◌, ℕ, ◌+◌, ◌*◌, ◌<◌, ◌≤◌, ◌++◌, List, length, IfSome};
-ghost use Rattle.lbk_uax14.specs.declared.cells.Cell.{Cell};
-ghost use Rattle.lbk_uax14.specs.declared.facts.Left.{Left};
+ghost use Rattle.lbk_rules.specs.declared.Cell.{Cell};
+ghost use Rattle.lbk_rules.specs.declared.Left.{Left};
 ghost use Rattle.lbk_values.specs.declared.profile.Profile.{Profile};
-ghost use Rattle.lbk_steps.specs.declared.flat_table.FlatStep.{FlatStep};
-ghost use Rattle.lbk_steps.specs.FlatTable.{AreFlatKinds};
-ghost use Rattle.lbk_steps.specs.Neighbours.{AreTold};
+ghost use Rattle.lbk_rules.specs.declared.FlatStep.{FlatStep};
+ghost use Rattle.lbk_rules.specs.FlatTable.{AreFlatKinds};
+ghost use Rattle.lbk_rules.specs.Neighbours.{AreTold};
 ghost use Rattle.lbk_bytes.specs.Blocks.{AreMarks, Rests};
 ghost use Rattle.lbk_bytes.specs.Marking.{Marked};
 ghost use Rattle.lbk_bytes.specs.Marks.{is_marked};

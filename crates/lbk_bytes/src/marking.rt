@@ -1,10 +1,10 @@
 //! Words that are filled with a bit for each byte of a text.
 
 ghost use Rattle.std.specs.Prelude.{◌≡◌, ℕ, ◌+◌, ◌*◌, ◌<◌, ◌≤◌, ◌++◌, ◌||◌, [], List, false, length, min};
-ghost use Rattle.lbk_uax14.specs.declared.cells.Cell.{Cell};
-ghost use Rattle.lbk_uax14.specs.declared.facts.Left.{Left};
+ghost use Rattle.lbk_rules.specs.declared.Cell.{Cell};
+ghost use Rattle.lbk_rules.specs.declared.Left.{Left};
 ghost use Rattle.lbk_values.specs.declared.profile.Profile.{Profile};
-ghost use Rattle.lbk_steps.specs.FlatTable.{IsFlatBy, KnowsTaken};
+ghost use Rattle.lbk_rules.specs.FlatTable.{IsFlatBy, KnowsTaken};
 ghost use Rattle.lbk_bytes.specs.Bytes.{end_in};
 ghost use Rattle.lbk_bytes.specs.Marking.{Marked, uncounted};
 ghost use Rattle.lbk_bytes.specs.Marks.{is_marked, stands_among};
@@ -142,7 +142,7 @@ fn mark_scalars(
         row: here.row,
         at: here.at,
     };
-    let until = next_try(here.at, front);
+    let until = next_try::<true>(here.at, front);
     let steps = steps_of(table, profile);
     let there = quick(&table.kinds, steps, start, until, front, block);
     mark_breaks(&block[..there.count], from, words);

@@ -1,9 +1,9 @@
 //! What a break shows of a verdict.
 
 ghost use Rattle.std.specs.Prelude.{◌≡◌, false};
-ghost use Rattle.lbk_uax14.specs.declared.verdicts.Verdict.{Verdict};
-ghost use Rattle.lbk_uax14.specs.Breaks.{is_no};
-ghost use Rattle.lbk_uax14.specs.Codes.{verdict_coded};
+ghost use Rattle.lbk_rules.specs.declared.Verdict.{Verdict};
+ghost use Rattle.lbk_rules.specs.Breaks.{is_no};
+ghost use Rattle.lbk_rules.specs.Codes.{verdict_coded};
 ghost use Rattle.lbk_bytes.specs.Reached.{numbers_of};
 
 use lbk_rules::{RULES, VERDICTS, is_break};

@@ -1,7 +1,7 @@
 //! The steps of a table, in either profile.
 
 ghost use Rattle.std.specs.Prelude.{◌≡◌, ◌+◌, ◌<◌, slice_index_or};
-ghost use Rattle.lbk_steps.specs.FlatTable.{no_flat_step};
+ghost use Rattle.lbk_rules.specs.FlatTable.{no_flat_step};
 ghost use Rattle.lbk_bytes.specs.Reached.{pairs_in, steps_in};
 
 use lbk_rules::{FlatStep, FlatTable, Neighbours, Profile, STEPS};

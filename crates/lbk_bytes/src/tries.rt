@@ -26,13 +26,13 @@ pub(crate) fn are_short(text: &[u8]) -> bool
     long_scalars(text) < 2
 }
 
-/// Up to where scalars are taken one by one, before blocks are tried again.
+/// Up to where scalars are taken one by one, before blocks are tried again; without masks that is the text's end.
 #[inline(always)]
-pub(crate) fn next_try(at: usize, text: &[u8]) -> usize
+pub(crate) fn next_try<const MASKS: bool>(at: usize, text: &[u8]) -> usize
     requires { at ≤ length text.now }
     ensures { (at ≤ result) × (result ≤ length text.now) × (at < length text.now → at < result) }
 {
-    if text.len() - at < BLOCK {
+    if !MASKS || text.len() - at < BLOCK {
         return text.len();
     }
     let pause = pause(&text[at..]);

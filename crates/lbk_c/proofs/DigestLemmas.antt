@@ -1,7 +1,7 @@
 -- No step of a table's digest leads two numbers to one.
 use Rattle.std.proofs.Common.{◌≡◌, ℕ, ◌*◌, ◌%◌, ◌^◌, ◌<◌, sym, ap, ◌∙◌, arith}
 use lib.Bits.{bit_xor, xor_assoc, xor_comm, xor_lt, xor_self, xor_zero_r}
-use Rattle.lbk_steps.specs.FlatStep.{digest_with}
+use Rattle.lbk_rules.specs.FlatStep.{digest_with}
 
 twice : (a d : ℕ) → bit_xor (bit_xor a d) d ≡ a
 twice a d = xor_assoc a d d ∙ ap (bit_xor a) (xor_self d) ∙ xor_zero_r a

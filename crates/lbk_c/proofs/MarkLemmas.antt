@@ -3,12 +3,12 @@ use Rattle.std.proofs.Common.{◌≡◌, ℕ, ◌+◌, ◌*◌, ◌<◌, ◌≤�
 use Rattle.std.proofs.Math.Seq.{drop-length}
 use Rattle.bstr.specs.Utf8.{pieces}
 use Rattle.bstr.proofs.lemmas.PieceLemmas.{pieces-nil}
-use Rattle.lbk_uax14.specs.declared.breaks.Break.{Break}
-use Rattle.lbk_uax14.specs.declared.cells.Cell.{Cell}
-use Rattle.lbk_uax14.specs.declared.facts.Left.{Left}
+use Rattle.lbk_rules.specs.declared.Break.{Break}
+use Rattle.lbk_rules.specs.declared.Cell.{Cell}
+use Rattle.lbk_rules.specs.declared.Left.{Left}
 use Rattle.lbk_values.specs.declared.profile.Profile.{Profile}
-use Rattle.lbk_steps.specs.declared.flat_table.FlatTable.{FlatTable}
-use Rattle.lbk_steps.specs.FlatTable.{IsFlatBy, KnowsTaken}
+use Rattle.lbk_rules.specs.declared.FlatTable.{FlatTable}
+use Rattle.lbk_rules.specs.FlatTable.{IsFlatBy, KnowsTaken}
 use Rattle.lbk_bytes.specs.declared.fill_state.FillState.{FillState}
 use Rattle.lbk_bytes.specs.Bytes.{end_in}
 use Rattle.lbk_bytes.specs.Marking.{Marked}
@@ -17,10 +17,10 @@ use Rattle.lbk_bytes.specs.Reached.{Onward, ReachedBy, onward_to}
 use Rattle.lbk_bytes.proofs.BoundaryLemmas.{boundary-end, boundary-here}
 use Rattle.lbk_bytes.proofs.MarkLemmas.{among-append, below-wider, or-false}
 use Rattle.lbk_bytes.proofs.MarkPlaceLemmas.{end-below, from-none, from-wider, left-behind, left-from, left-past, onward-from}
-use Rattle.lbk_c.specs.declared.interface.State.{State}
-use Rattle.lbk_c.specs.Coming.{ComesBy, IsGoing, IsSpent, MarksBy, from_state}
-use Rattle.lbk_c.specs.State.{plain, profile_numbered}
-use Rattle.lbk_c.proofs.ComingLemmas.{same-profile, spent-ended}
+use Rattle.lbk_calls.specs.declared.interface.State.{State}
+use Rattle.lbk_calls.specs.Coming.{ComesBy, IsGoing, IsSpent, MarksBy, from_state}
+use Rattle.lbk_calls.specs.State.{plain, profile_numbered}
+use Rattle.lbk_calls.proofs.ComingLemmas.{same-profile, spent-ended}
 
 -- the words are told before the text's end
 pub Marks-full : (goes_on : Bool) (profile : Profile) (cell : ℕ → Cell) (lefts : List Left) (text : List ℕ) (to_come : List Break) (place stop : ℕ) (here : FillState) (state : State) (words : List ℕ)

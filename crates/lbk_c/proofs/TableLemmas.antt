@@ -6,13 +6,13 @@ use Rattle.lbk_ucd.specs.declared.tables.Tables.{Tables}
 use Rattle.lbk_ucd.specs.File.{property_of}
 use Rattle.lbk_ucd.specs.Names.{line_break_format, east_asian_format, category_format, emoji_format}
 use Rattle.lbk_ucd.specs.Tables.{line_break_of, east_asian_of, category_of, is_pictographic_of}
-use Rattle.lbk_uax14.specs.declared.cells.Cell.{Cell}
-use Rattle.lbk_steps.specs.declared.flat_table.FlatTable.{FlatTable}
-use Rattle.lbk_steps.specs.Cells.{cell_of_files}
-use Rattle.lbk_steps.specs.FlatTable.{IsFlatOf}
-use Rattle.lbk_uax14.specs.Normal.{normal}
-use Rattle.lbk_uax14.specs.Resolve.{cell_of_properties}
-use Rattle.lbk_steps.specs.CellOfTables.{cell_of_tables}
+use Rattle.lbk_rules.specs.declared.Cell.{Cell}
+use Rattle.lbk_rules.specs.declared.FlatTable.{FlatTable}
+use Rattle.lbk_rules.specs.Cells.{cell_of_files}
+use Rattle.lbk_rules.specs.FlatTable.{IsFlatOf}
+use Rattle.lbk_rules.specs.Normal.{normal}
+use Rattle.lbk_rules.specs.Resolve.{cell_of_properties}
+use Rattle.lbk_rules.specs.CellOfTables.{cell_of_tables}
 
 -- a table over some cells is one over the same cells
 pub flat-same : (cell other : ℕ → Cell) (table : FlatTable) → ((code : ℕ) → IsScalar code → cell code ≡ other code) → IsFlatOf table cell → IsFlatOf table other

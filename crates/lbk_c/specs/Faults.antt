@@ -9,9 +9,9 @@ use Rattle.lbk_ucd.specs.declared.which.Which.{Which}
 use Rattle.lbk_ucd.specs.declared.which.Which.TheVariants.{LineBreak, EastAsianWidth, Category, Emoji}
 use Rattle.lbk_ucd.specs.Files.{AreLawful, IsRefused}
 use Rattle.lbk_database.specs.Digests.{ArePublished, IsFirstUnpublished}
-use Rattle.lbk_steps.specs.declared.flat_table.TableError.{TableError}
-use Rattle.lbk_steps.specs.declared.flat_table.TableError.TheVariants as refused
-use Rattle.lbk_steps.specs.EnoughRows.{HasReason}
+use Rattle.lbk_rules.specs.declared.TableError.{TableError}
+use Rattle.lbk_rules.specs.declared.TableError.TheVariants as refused
+use Rattle.lbk_rules.specs.EnoughRows.{HasReason}
 use Rattle.lbk_c.specs.declared.interface.Fault.{Fault}
 
 -- the number of a property file

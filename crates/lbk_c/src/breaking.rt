@@ -1,24 +1,22 @@
 //! The breaks of a text, a block at a time.
 
-ghost use Rattle.std.specs.Prelude.{◌≡◌, ℕ, Bool, suc, ◌<◌, ◌≤◌, ◌⊎◌, [], List, MatchOption, drop, length, map, min, take};
+ghost use Rattle.std.specs.Prelude.{◌≡◌, ℕ, Bool, suc, ◌<◌, ◌≤◌, ◌⊎◌, List, drop, length, map, min, take};
 ghost use Rattle.std.specs.Str.{IsUtf8, chars};
-ghost use Rattle.lbk_uax14.specs.declared.breaks.Break.{Break};
-ghost use Rattle.lbk_uax14.specs.declared.cells.Cell.{Cell};
-ghost use Rattle.lbk_uax14.specs.declared.facts.Left.{Left};
+ghost use Rattle.lbk_rules.specs.declared.Break.{Break};
+ghost use Rattle.lbk_rules.specs.declared.Cell.{Cell};
 ghost use Rattle.lbk_values.specs.declared.profile.Profile.{Profile};
-ghost use Rattle.lbk_uax14.specs.Breaks.{breaks};
-ghost use Rattle.lbk_uax14.specs.Joins.{moved};
-ghost use Rattle.lbk_steps.specs.FlatTable.{IsFlatBy, IsFlatOf};
+ghost use Rattle.lbk_rules.specs.Breaks.{breaks};
+ghost use Rattle.lbk_rules.specs.Joins.{moved};
+ghost use Rattle.lbk_rules.specs.FlatTable.{IsFlatOf};
 ghost use Rattle.lbk_bytes.specs.Bytes.{breaks_of_bytes, breaks_of_part};
 ghost use Rattle.lbk_bytes.specs.Order.{AreInOrder};
-ghost use Rattle.lbk_bytes.specs.Reached.{ReachedBy};
-ghost use Rattle.lbk_c.specs.Coming.{Comes, GoesBy, IsGoing, IsSpent, from_state, onward_in};
+ghost use Rattle.lbk_calls.specs.Coming.{Comes};
 ghost use Rattle.lbk_bytes.specs.Shown.{given_in};
-ghost use Rattle.lbk_c.specs.State.{part_start, plain, profile_numbered, start_in};
+ghost use Rattle.lbk_calls.specs.State.{part_start, start_in};
 
-use crate::interface::State;
-use lbk_bytes::{FillState, RawBreak, fill, goes_on, plain_number, profile_numbered, put_end};
-use lbk_rules::{FlatTable, Profile};
+use lbk_bytes::RawBreak;
+use lbk_calls::{State, give_breaks};
+use lbk_rules::FlatTable;
 
 /// Puts the next breaks of a text (UAX #14, section 3) into the front of the block, from the state on, and returns how many:
 /// as many as the block holds, or all that are left. The text may be any bytes: each longest piece that begins no scalar is
@@ -63,69 +61,5 @@ pub extern "C" fn lbk_breaks(
     ensures unknown { 3 < state.old.profile → (result ≡ 0) × (state.new ≡ state.old) }
     ensures no_room { length out.old ≡ 0 → (result ≡ 0) × (state.new ≡ state.old) }
 {
-    let Some(profile) = going_profile(&plain(state), text.len()) else {
-        return 0;
-    };
-    go_on(table, profile, state, text, out)
-}
-
-/// The state with only the profile in its number.
-pub(crate) fn plain(state: &State) -> State
-    ensures { result ≡ plain state.now }
-{
-    let profile = plain_number(state.profile);
-    State { profile, ..*state }
-}
-
-/// The profile of a state from which breaks may come of a text of this length: none where the state names no profile, has
-/// given all, or is past the text.
-pub(crate) fn going_profile(state: &State, len: usize) -> Option<Profile>
-    ensures { MatchOption result (IsSpent state.now len) (λ profile. IsGoing profile state.now len) }
-{
-    let profile = profile_numbered(state.profile)?;
-    if state.ended != 0 {
-        return None;
-    }
-    if len < state.at {
-        return None;
-    }
-    Some(profile)
-}
-
-/// Puts the next breaks into the front of the block, and returns how many.
-fn go_on(
-    table: &FlatTable,
-    profile: Profile,
-    state: &mut State,
-    text: &[u8],
-    out: &mut [RawBreak],
-) -> usize
-    requires { IsGoing profile (plain state.old) (length text.now) }
-    ensures within { result ≤ length out.old }
-    ensures profile_same { state.new.profile ≡ state.old.profile }
-    ensures in_order { AreInOrder out.new result state.old.at (suc (length text.now)) }
-    ensures before_state { state.new.ended ≡ 0 → AreInOrder out.new result state.old.at state.new.at }
-    ensures forward { 0 < result → (state.old.at < state.new.at) ⊎ (0 < state.new.ended) }
-    ensures onward { (state.old.at ≤ state.new.at) × (state.new.at ≤ length text.now) }
-    ensures at_end { 0 < state.new.ended → state.new.at ≡ length text.now }
-    ensures all { result < length out.old → 0 < state.new.ended }
-    ensures goes { (cell : ℕ → Cell) (lefts : List Left) (to_come : List Break) → IsFlatBy lefts table.now cell
-        → ReachedBy (onward_in state.old.profile) profile cell lefts text.now to_come (from_state (plain state.old)) []
-        → GoesBy (onward_in state.old.profile) profile cell lefts text.now to_come (plain state.new) (given_in out.new result) result (length out.old) }
-    ensures no_room { length out.old ≡ 0 → (result ≡ 0) × (state.new ≡ state.old) }
-{
-    let start = FillState {
-        count: 0,
-        row: state.row as usize,
-        at: state.at,
-    };
-    let here = fill(table, profile, start, text, out);
-    state.row = here.row as u16;
-    state.at = here.at;
-    if here.count == out.len() {
-        return here.count;
-    }
-    state.ended = 1;
-    let goes_on = goes_on(state.profile);
-    put_end(table, goes_on, here.row, out, here.count, text.len())
+    give_breaks::<true>(table, state, text, out)
 }

@@ -1,7 +1,7 @@
 //! Whether a table is whole.
 
 ghost use Rattle.std.specs.Prelude.{◌↔◌, IsTrue};
-ghost use Rattle.lbk_steps.specs.FlatTable.{IsWhole};
+ghost use Rattle.lbk_rules.specs.FlatTable.{IsWhole};
 
 use lbk_rules::FlatTable;
 
@@ -11,5 +11,5 @@ use lbk_rules::FlatTable;
 pub extern "C" fn lbk_check(table: &FlatTable) -> bool
     ensures { IsTrue result ↔ IsWhole table.now }
 {
-    table.is_whole()
+    lbk_calls::lbk_check(table)
 }

@@ -2,15 +2,14 @@
 
 ghost use Rattle.std.specs.Prelude.{◌≡◌, [], ℕ};
 ghost use Rattle.std.specs.Char.{IsScalar};
-ghost use Rattle.lbk_uax14.specs.declared.cells.Cell.{Cell};
-ghost use Rattle.lbk_uax14.specs.declared.classes.Class.{Class};
-ghost use Rattle.lbk_steps.specs.FlatTable.{IsFlatOf};
-ghost use Rattle.lbk_steps.specs.ClassLabels.{class_label};
-ghost use Rattle.lbk_c.specs.Labels.{filled};
+ghost use Rattle.lbk_rules.specs.declared.Cell.{Cell};
+ghost use Rattle.lbk_rules.specs.declared.Class.{Class};
+ghost use Rattle.lbk_rules.specs.FlatTable.{IsFlatOf};
+ghost use Rattle.lbk_rules.specs.ClassLabels.{class_label};
+ghost use Rattle.lbk_calls.specs.Labels.{filled};
 
-use crate::interface::ClassLabel;
-use crate::labels::filled;
-use lbk_rules::{FlatTable, class_label};
+use lbk_calls::ClassLabel;
+use lbk_rules::FlatTable;
 
 /// The line breaking class of a scalar value once rule LB1 has resolved it (UAX #14, sections 5.1 and 6.1), as `AL`: ASCII,
 /// filled up by zeros. For a number that is no scalar value it is zeros. Whatever the table holds, it is the name of some class.
@@ -21,10 +20,5 @@ pub extern "C" fn lbk_class(table: &FlatTable, scalar: u32) -> ClassLabel
     ensures named { IsScalar scalar → (class : Class) × (result.text ≡ filled (class_label class)) }
     ensures none { ¬ IsScalar scalar → result.text ≡ filled [] }
 {
-    match char::from_u32(scalar) {
-        Some(c) => ClassLabel {
-            text: filled(class_label(table.cell(c).class).as_bytes()),
-        },
-        None => ClassLabel { text: [0; 4] },
-    }
+    lbk_calls::lbk_class(table, scalar)
 }

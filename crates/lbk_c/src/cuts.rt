@@ -1,9 +1,9 @@
 //! Where a text may be cut into parts.
 
 ghost use Rattle.std.specs.Prelude.{◌≡◌, ℕ, ◌<◌, ◌≤◌, length};
-ghost use Rattle.lbk_uax14.specs.declared.cells.Cell.{Cell};
+ghost use Rattle.lbk_rules.specs.declared.Cell.{Cell};
 ghost use Rattle.lbk_values.specs.declared.profile.Profile.{Profile};
-ghost use Rattle.lbk_steps.specs.FlatTable.{IsFlatOf};
+ghost use Rattle.lbk_rules.specs.FlatTable.{IsFlatOf};
 ghost use Rattle.lbk_cuts.specs.Cuts.{IsCutAfter, IsCutBefore, IsPieceStart, JoinsAt};
 
 use lbk_cuts::{cut, cut_before};

@@ -1,15 +1,15 @@
 //! What holds of states and of digests, over definitions only. Each law is the contract of a function that does nothing.
 
 ghost use Rattle.std.specs.Prelude.{◌≡◌, ℕ, ◌^◌, ◌<◌, ◌≤◌, List, drop, length};
-ghost use Rattle.lbk_uax14.specs.declared.breaks.Break.{Break};
-ghost use Rattle.lbk_uax14.specs.declared.cells.Cell.{Cell};
-ghost use Rattle.lbk_steps.specs.declared.flat_table.FlatTable.{FlatTable};
-ghost use Rattle.lbk_c.specs.declared.interface.State.{State};
+ghost use Rattle.lbk_rules.specs.declared.Break.{Break};
+ghost use Rattle.lbk_rules.specs.declared.Cell.{Cell};
+ghost use Rattle.lbk_rules.specs.declared.FlatTable.{FlatTable};
+ghost use Rattle.lbk_calls.specs.declared.interface.State.{State};
 ghost use Rattle.bstr.specs.Utf8.{Decoded};
-ghost use Rattle.lbk_steps.specs.FlatTable.{digest_with};
+ghost use Rattle.lbk_rules.specs.FlatTable.{digest_with};
 ghost use Rattle.lbk_units.specs.Units.{pieces_of_utf16, pieces_of_utf32};
-ghost use Rattle.lbk_c.specs.Coming.{Comes};
-ghost use Rattle.lbk_c.specs.UnitsComing.{PositionsCome, UnitsCome};
+ghost use Rattle.lbk_calls.specs.Coming.{Comes};
+ghost use Rattle.lbk_calls.specs.UnitsComing.{PositionsCome, UnitsCome};
 
 /// What comes from a state on hangs on the state and on the bytes of the text from its place on. Whatever stands before the
 /// place, as many bytes as there were: the same breaks come. So it is of units, and of positions.

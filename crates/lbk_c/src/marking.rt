@@ -1,21 +1,20 @@
 //! The breaks of a text as bits, one for each byte.
 
 ghost use Rattle.std.specs.Prelude.{◌≡◌, ℕ, Bool, false, suc, ◌+◌, ◌-◌, ◌*◌, ◌<◌, ◌≤◌, ◌⊎◌, [], List, drop, length, map, min};
-ghost use Rattle.lbk_uax14.specs.declared.breaks.Break.{Break};
-ghost use Rattle.lbk_uax14.specs.declared.cells.Cell.{Cell};
-ghost use Rattle.lbk_uax14.specs.declared.facts.Left.{Left};
+ghost use Rattle.lbk_rules.specs.declared.Break.{Break};
+ghost use Rattle.lbk_rules.specs.declared.Cell.{Cell};
+ghost use Rattle.lbk_rules.specs.declared.Left.{Left};
 ghost use Rattle.lbk_values.specs.declared.profile.Profile.{Profile};
-ghost use Rattle.lbk_uax14.specs.Joins.{moved};
-ghost use Rattle.lbk_steps.specs.FlatTable.{IsFlatBy, IsFlatOf};
+ghost use Rattle.lbk_rules.specs.Joins.{moved};
+ghost use Rattle.lbk_rules.specs.FlatTable.{IsFlatBy, IsFlatOf};
 ghost use Rattle.lbk_bytes.specs.Bytes.{breaks_of_bytes, breaks_of_part};
 ghost use Rattle.lbk_bytes.specs.Marks.{boundary_from, from_on, is_marked, stands_among};
 ghost use Rattle.lbk_bytes.specs.Reached.{ReachedBy};
-ghost use Rattle.lbk_c.specs.Coming.{Comes, IsGoing, MarksBy, from_state, onward_in};
-ghost use Rattle.lbk_c.specs.State.{part_start, plain, start_in};
+ghost use Rattle.lbk_calls.specs.Coming.{Comes, IsGoing, MarksBy, from_state, onward_in};
+ghost use Rattle.lbk_calls.specs.State.{part_start, plain, start_in};
 
-use crate::breaking::{going_profile, plain};
-use crate::interface::State;
 use lbk_bytes::{FillState, clear, fill_marks, goes_on, mark_end};
+use lbk_calls::{State, going_profile, plain};
 use lbk_rules::{FlatTable, Profile};
 
 /// How many bits a word has.

@@ -2,9 +2,9 @@
 
 ghost use Rattle.std.specs.Prelude.{◌≡◌, ◌<◌, ℕ};
 ghost use Rattle.lbk_ucd.specs.Files.{AreLawful};
-ghost use Rattle.lbk_steps.specs.Cells.{AreCellsOf};
-ghost use Rattle.lbk_uax14.specs.declared.cells.Cell.{Cell};
-ghost use Rattle.lbk_steps.specs.FlatTable.{IsFlatOf, IsWhole};
+ghost use Rattle.lbk_rules.specs.Cells.{AreCellsOf};
+ghost use Rattle.lbk_rules.specs.declared.Cell.{Cell};
+ghost use Rattle.lbk_rules.specs.FlatTable.{IsFlatOf, IsWhole};
 ghost use Rattle.lbk_database.specs.Digests.{ArePublished};
 ghost use Rattle.lbk_c.specs.Faults.{IsFaultOf, IsFaultOfPublished, files_of, no_fault};
 

@@ -1,29 +1,24 @@
 //! The breaks of a text in UTF-16 or UTF-32, a block at a time.
 
-ghost use Rattle.std.specs.Prelude.{◌≡◌, ℕ, suc, ◌<◌, ◌≤◌, ◌⊎◌, false, true, [], List, drop, length, map, min, take};
+ghost use Rattle.std.specs.Prelude.{◌≡◌, ℕ, suc, ◌<◌, ◌≤◌, ◌⊎◌, false, true, List, drop, length, map, min, take};
 ghost use Rattle.std.specs.Str.{all_scalars, encode_utf8_all};
-ghost use Rattle.lbk_uax14.specs.declared.breaks.Break.{Break};
-ghost use Rattle.lbk_uax14.specs.declared.cells.Cell.{Cell};
-ghost use Rattle.lbk_uax14.specs.declared.facts.Left.{Left};
+ghost use Rattle.lbk_rules.specs.declared.Break.{Break};
+ghost use Rattle.lbk_rules.specs.declared.Cell.{Cell};
 ghost use Rattle.lbk_values.specs.declared.profile.Profile.{Profile};
-ghost use Rattle.lbk_uax14.specs.Breaks.{breaks};
-ghost use Rattle.lbk_uax14.specs.Joins.{moved};
-ghost use Rattle.lbk_steps.specs.FlatTable.{IsFlatBy, IsFlatOf};
+ghost use Rattle.lbk_rules.specs.Breaks.{breaks};
+ghost use Rattle.lbk_rules.specs.Joins.{moved};
+ghost use Rattle.lbk_rules.specs.FlatTable.{IsFlatOf};
 ghost use Rattle.lbk_bytes.specs.Order.{AreInOrder};
 ghost use Rattle.lbk_bytes.specs.Reached.{onward};
 ghost use Rattle.lbk_bytes.specs.Shown.{given_in};
 ghost use Rattle.lbk_units.specs.Encodings.{encode_utf16_all, placed_in};
-ghost use Rattle.lbk_units.specs.Reached.{UnitsReached, on_from};
-ghost use Rattle.lbk_units.specs.Units.{breaks_of_pieces, breaks_of_utf16, breaks_of_utf32, pieces_of_utf16, pieces_of_utf32};
-ghost use Rattle.lbk_c.specs.Coming.{IsGoing, from_state};
-ghost use Rattle.lbk_c.specs.State.{part_start, start_in};
-ghost use Rattle.lbk_c.specs.UnitsComing.{UnitsCome, UnitsGo};
+ghost use Rattle.lbk_units.specs.Units.{breaks_of_utf16, breaks_of_utf32, pieces_of_utf16, pieces_of_utf32};
+ghost use Rattle.lbk_calls.specs.State.{part_start, start_in};
+ghost use Rattle.lbk_calls.specs.UnitsComing.{UnitsCome};
 
-use crate::breaking::going_profile;
-use crate::interface::State;
-use lbk_bytes::{FillState, RawBreak, put_end};
-use lbk_rules::{FlatTable, Profile};
-use lbk_units::{Unit, fill_units};
+use lbk_bytes::RawBreak;
+use lbk_calls::{State, next_breaks};
+use lbk_rules::FlatTable;
 
 /// Puts the next breaks of a text in UTF-16 into the front of the block, as `lbk_breaks` does of one in UTF-8, and returns how
 /// many. Places are in units of 16 bits. The text may be any units: a surrogate without its other half is read as U+FFFD at its
@@ -68,7 +63,7 @@ pub extern "C" fn lbk_breaks_utf16(
     ensures unknown { 1 < state.old.profile → (result ≡ 0) × (state.new ≡ state.old) }
     ensures no_room { length out.old ≡ 0 → (result ≡ 0) × (state.new ≡ state.old) }
 {
-    next_breaks(table, state, text, out)
+    lbk_calls::lbk_breaks_utf16(table, state, text, out)
 }
 
 /// Puts the next breaks of a text in UTF-32 into the front of the block, as `lbk_breaks` does of one in UTF-8, and returns how
@@ -114,79 +109,4 @@ pub extern "C" fn lbk_breaks_utf32(
     ensures no_room { length out.old ≡ 0 → (result ≡ 0) × (state.new ≡ state.old) }
 {
     next_breaks(table, state, text, out)
-}
-
-/// Puts the next breaks of a text of units into the front of the block, and returns how many.
-fn next_breaks<U: Unit>(
-    table: &FlatTable,
-    state: &mut State,
-    text: &[U],
-    out: &mut [RawBreak],
-) -> usize
-    ensures within { result ≤ length out.old }
-    ensures profile_same { state.new.profile ≡ state.old.profile }
-    ensures in_order { AreInOrder out.new result state.old.at (suc (length text.now)) }
-    ensures before_state { state.new.ended ≡ 0 → AreInOrder out.new result state.old.at state.new.at }
-    ensures forward { 0 < result → (state.old.at < state.new.at) ⊎ (0 < state.new.ended) }
-    ensures onward { state.old.at ≤ state.new.at }
-    ensures inside { state.old.at ≤ length text.now → state.new.at ≤ length text.now }
-    ensures at_end { state.old.ended ≡ 0 → 0 < state.new.ended → state.new.at ≡ length text.now }
-    ensures all { state.old.profile ≤ 1 → state.old.at ≤ length text.now → result < length out.old → 0 < state.new.ended }
-    ensures start { (cell : ℕ → Cell) (profile : Profile) → IsFlatOf table.now cell → state.old ≡ start_in profile
-        → UnitsCome U.pieces_of cell table.now text.now state.old (breaks_of_pieces profile cell (U.pieces_of text.now)) }
-    ensures part { (cell : ℕ → Cell) (profile : Profile) (at : ℕ) → IsFlatOf table.now cell → at ≤ length text.now
-        → state.old ≡ part_start false profile at
-        → UnitsCome U.pieces_of cell table.now text.now state.old (map (moved at) (breaks_of_pieces profile cell (U.pieces_of (drop at text.now)))) }
-    ensures count { (cell : ℕ → Cell) (to_come : List Break) → UnitsCome U.pieces_of cell table.now text.now state.old to_come
-        → result ≡ min (length out.old) (length to_come) }
-    ensures front { (cell : ℕ → Cell) (to_come : List Break) → UnitsCome U.pieces_of cell table.now text.now state.old to_come
-        → given_in out.new result ≡ take result to_come }
-    ensures rest { (cell : ℕ → Cell) (to_come : List Break) → UnitsCome U.pieces_of cell table.now text.now state.old to_come
-        → UnitsCome U.pieces_of cell table.now text.now state.new (drop result to_come) }
-    ensures ended { 0 < state.old.ended → (result ≡ 0) × (state.new ≡ state.old) }
-    ensures past { length text.now < state.old.at → (result ≡ 0) × (state.new ≡ state.old) }
-    ensures unknown { 1 < state.old.profile → (result ≡ 0) × (state.new ≡ state.old) }
-    ensures no_room { length out.old ≡ 0 → (result ≡ 0) × (state.new ≡ state.old) }
-{
-    let Some(profile) = going_profile(state, text.len()) else {
-        return 0;
-    };
-    go_on(table, profile, state, text, out)
-}
-
-/// The same from a state from which breaks may come.
-fn go_on<U: Unit>(
-    table: &FlatTable,
-    profile: Profile,
-    state: &mut State,
-    text: &[U],
-    out: &mut [RawBreak],
-) -> usize
-    requires { IsGoing profile state.old (length text.now) }
-    ensures within { result ≤ length out.old }
-    ensures profile_same { state.new.profile ≡ state.old.profile }
-    ensures in_order { AreInOrder out.new result state.old.at (suc (length text.now)) }
-    ensures before_state { state.new.ended ≡ 0 → AreInOrder out.new result state.old.at state.new.at }
-    ensures forward { 0 < result → (state.old.at < state.new.at) ⊎ (0 < state.new.ended) }
-    ensures onward { (state.old.at ≤ state.new.at) × (state.new.at ≤ length text.now) }
-    ensures at_end { 0 < state.new.ended → state.new.at ≡ length text.now }
-    ensures all { result < length out.old → 0 < state.new.ended }
-    ensures goes { (cell : ℕ → Cell) (lefts : List Left) (to_come : List Break) → IsFlatBy lefts table.now cell
-        → UnitsReached profile cell lefts (on_from U.pieces_of text.now) to_come (from_state state.old) []
-        → UnitsGo onward U.pieces_of profile cell lefts text.now to_come state.new (given_in out.new result) result (length out.old) }
-    ensures no_room { length out.old ≡ 0 → (result ≡ 0) × (state.new ≡ state.old) }
-{
-    let start = FillState {
-        count: 0,
-        row: state.row as usize,
-        at: state.at,
-    };
-    let here = fill_units(table, profile, start, text, out);
-    state.row = here.row as u16;
-    state.at = here.at;
-    if here.count == out.len() {
-        return here.count;
-    }
-    state.ended = 1;
-    put_end(table, false, here.row, out, here.count, text.len())
 }

@@ -3,15 +3,7 @@
 ghost use Rattle.std.specs.Prelude.{◌≡◌, ◌<◌, ◌≤◌, drop, length, min, take};
 ghost use Rattle.lbk_words.specs.Words.{AreRising, IsBoundary, words_on};
 
-use lbk_words::{Word, fill};
-
-/// How far the words of a text were asked for. One of zeros stands at the start of a text.
-#[repr(C)]
-#[derive(Clone, Copy)]
-pub struct WordState {
-    /// The byte from which the next words come. The text after it is taken as a text of its own.
-    pub at: usize,
-}
+use lbk_words::{Word, WordState, fill};
 
 /// Puts the next words of a text (UAX #29, section 4) into the front of the block, from the state
 /// on, and returns how many: as many as the block holds, or all that are left. The text may be any
@@ -33,7 +25,7 @@ pub extern "C" fn lbk_words(state: &mut WordState, text: &[u8], out: &mut [Word]
     ensures ended { length text.now ≤ state.old.at → (result ≡ 0) × (state.new ≡ state.old) }
     ensures no_room { length out.old ≡ 0 → (result ≡ 0) × (state.new ≡ state.old) }
 {
-    let filled = fill(text, state.at, out);
+    let filled = fill::<true>(text, state.at, out);
     state.at = filled.at;
     filled.count
 }

@@ -7,15 +7,15 @@ use Rattle.std.proofs.lemmas.Bool.{false≢true}
 use Rattle.std.proofs.lemmas.List.{set-append_left, length-append, length-map, length-set, length_push, map-append, nil_from_length}
 use Rattle.std.proofs.lemmas.Str.{IsUtf8-past_char, chars-nil, chars_past_char, encodes-chars, len_utf8_bounds, length-encode}
 use Rattle.std.proofs.Math.Seq.{set-append_seam}
-use Rattle.lbk_uax14.specs.declared.cells.Cell.{Cell}
+use Rattle.lbk_rules.specs.declared.Cell.{Cell}
 use Rattle.lbk_values.specs.declared.profile.Profile.{Profile}
-use Rattle.lbk_uax14.specs.declared.verdicts.Verdict.{Verdict}
-use Rattle.lbk_uax14.specs.Answers.{written}
-use Rattle.lbk_uax14.specs.Facts.{heads}
-use Rattle.lbk_uax14.specs.Held.{is_held, unanswered_before, answer_at, late_at, now_at}
-use Rattle.lbk_uax14.specs.Verdict.{verdict_between_in}
-use Rattle.lbk_uax14.proofs.CoverLemmas.{answer-snoc, answer_at-below, held-heads}
-use Rattle.lbk_uax14.proofs.EndLemmas.{start_of_text}
+use Rattle.lbk_rules.specs.declared.Verdict.{Verdict}
+use Rattle.lbk_rules.specs.Answers.{written}
+use Rattle.lbk_rules.specs.Facts.{heads}
+use Rattle.lbk_rules.specs.Held.{is_held, unanswered_before, answer_at, late_at, now_at}
+use Rattle.lbk_rules.specs.Verdict.{verdict_between_in}
+use Rattle.lbk_rules.proofs.CoverLemmas.{answer-snoc, answer_at-below, held-heads}
+use Rattle.lbk_rules.proofs.EndLemmas.{start_of_text}
 use Rattle.lbk_passage.specs.Marks.{Marked, ended, marks, marks_behind}
 use Rattle.lbk_cmd.specs.Deciding.{placed}
 use Rattle.lbk_cmd.specs.Show.{at_start, verdicts_of}

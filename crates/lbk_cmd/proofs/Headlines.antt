@@ -4,9 +4,9 @@ use Rattle.std.specs.Char.{IsScalar}
 use Rattle.std.specs.List.{AllByRecursion, flat_map}
 use Rattle.std.proofs.lemmas.List.{length-map}
 use Rattle.lbk_ucd.specs.declared.tables.Files.{Files}
-use Rattle.lbk_uax14.specs.declared.cells.Cell.{Cell}
+use Rattle.lbk_rules.specs.declared.Cell.{Cell}
 use Rattle.lbk_values.specs.declared.profile.Profile.{Profile}
-use Rattle.lbk_uax14.specs.Verdict.{verdict_between_in}
+use Rattle.lbk_rules.specs.Verdict.{verdict_between_in}
 use Rattle.lbk_passage.specs.Breaks.{breaks_from}
 use Rattle.lbk_passage.specs.Marks.{Marked, marks_behind, scalars_of}
 use Rattle.lbk_passage.specs.Passages.{cut_after, ends_passage, passages}

@@ -1,12 +1,12 @@
 -- What is written of the parts of a text, joined.
 use Rattle.std.proofs.Common.{◌≡◌, ℕ, ◌+◌, true, List, [], ◌∷◌, ◌++◌, length, encode_utf8, encode_utf8_all, refl, sym, ap, ap₂, ◌∙◌, append-nil}
 use Rattle.std.specs.List.{flat_map}
-use Rattle.lbk_uax14.specs.declared.cells.Cell.{Cell}
-use Rattle.lbk_uax14.specs.declared.verdicts.Kind.TheVariants.{Must}
-use Rattle.lbk_uax14.specs.declared.verdicts.Verdict.{Verdict}
+use Rattle.lbk_rules.specs.declared.Cell.{Cell}
+use Rattle.lbk_rules.specs.declared.Kind.TheVariants.{Must}
+use Rattle.lbk_rules.specs.declared.Verdict.{Verdict}
 use Rattle.lbk_values.specs.declared.profile.Profile.{Profile}
-use Rattle.lbk_uax14.proofs.JoinLemmas.{end_before_more-must, joined-parts}
-use Rattle.lbk_uax14.proofs.MarkLemmas.{scalars-ended}
+use Rattle.lbk_rules.proofs.JoinLemmas.{end_before_more-must, joined-parts}
+use Rattle.lbk_rules.proofs.MarkLemmas.{scalars-ended}
 use Rattle.lbk_passage.specs.Joins.{AreParts, end_before_more, of_parts}
 use Rattle.lbk_passage.specs.Laws.{EndsOnce}
 use Rattle.lbk_passage.specs.Marks.{Marked, ended, text_of}

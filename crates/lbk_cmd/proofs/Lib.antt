@@ -20,3 +20,4 @@ pub mod Headlines
 pub mod Joined
 pub mod Relabeling
 pub mod Over
+pub mod Alone

@@ -9,7 +9,7 @@ use Rattle.lbk_notation.specs.declared.marks.Mark.{Mark}
 use Rattle.lbk_notation.specs.Grammar.{mark_bytes}
 use Rattle.lbk_notation.specs.Marked.{mark_of}
 use Rattle.lbk_notation.specs.Written.{shown, token, written_after, written_marks}
-use Rattle.lbk_uax14.specs.declared.verdicts.Verdict.{Verdict}
+use Rattle.lbk_rules.specs.declared.Verdict.{Verdict}
 
 abbrev marks_in : List Verdict → List Mark
 marks_in verdicts = map (λ v. mark_of v.kind) verdicts

@@ -8,7 +8,7 @@ use Rattle.lbk_feed.specs.Devices.{Reads}
 use Rattle.lbk_feed.proofs.Taking.{Consumes-trans, kept_took}
 use Rattle.lbk_passage.specs.Segments.{segments_of}
 use Rattle.lbk_ucd.specs.declared.tables.Files.{Files}
-use Rattle.lbk_uax14.specs.declared.cells.Cell.{Cell}
+use Rattle.lbk_rules.specs.declared.Cell.{Cell}
 use Rattle.lbk_values.specs.declared.profile.Profile.{Profile}
 use Rattle.lbk_passage.specs.Marks.{Marked, scalars_of, text_of}
 use Rattle.lbk_passage.specs.Next.{AfterNext, IsPassage}

@@ -8,7 +8,7 @@ use Rattle.std.proofs.lemmas.Str.{chars-append, chars_from_encodes, encodes-appe
 use Rattle.lbk_feed.specs.Devices.{Reads}
 use Rattle.lbk_feed.specs.Runs.{Ran}
 use Rattle.lbk_feed.specs.Text.{longest_text}
-use Rattle.lbk_uax14.specs.declared.cells.Cell.{Cell}
+use Rattle.lbk_rules.specs.declared.Cell.{Cell}
 use Rattle.lbk_values.specs.declared.profile.Profile.{Profile}
 use Rattle.lbk_passage.specs.Laws.{EndsOnce}
 use Rattle.lbk_passage.specs.Marks.{Marked, scalars_of, text_of}

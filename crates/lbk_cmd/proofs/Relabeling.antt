@@ -1,14 +1,14 @@
 -- What `show` writes of a part, whether another follows.
 use Rattle.std.proofs.Common.{◌≡◌, ℕ, ◌+◌, ◌<◌, List, [], ◌∷◌, ◌++◌, map, length, refl, sym, ap, ◌∙◌, append_assoc, append-nil, arith}
 use Rattle.std.specs.List.{AllByRecursion}
-use Rattle.lbk_uax14.specs.declared.cells.Cell.{Cell}
-use Rattle.lbk_uax14.specs.declared.verdicts.Kind.TheVariants.{Must}
-use Rattle.lbk_uax14.specs.declared.verdicts.Rule.{Rule}
-use Rattle.lbk_uax14.specs.declared.verdicts.Rule.TheVariants.{Lb3}
+use Rattle.lbk_rules.specs.declared.Cell.{Cell}
+use Rattle.lbk_rules.specs.declared.Kind.TheVariants.{Must}
+use Rattle.lbk_rules.specs.declared.Rule.{Rule}
+use Rattle.lbk_rules.specs.declared.Rule.TheVariants.{Lb3}
 use Rattle.lbk_values.specs.declared.profile.Profile.{Profile}
-use Rattle.lbk_uax14.specs.Labels.{label_of}
-use Rattle.lbk_uax14.proofs.JoinLemmas.{end_before_more-must}
-use Rattle.lbk_uax14.proofs.MarkLemmas.{scalars-ended}
+use Rattle.lbk_rules.specs.Labels.{label_of}
+use Rattle.lbk_rules.proofs.JoinLemmas.{end_before_more-must}
+use Rattle.lbk_rules.proofs.MarkLemmas.{scalars-ended}
 use Rattle.lbk_notation.specs.declared.marks.Form.TheVariants.{Kinds}
 use Rattle.lbk_notation.specs.Marked.{mark_of}
 use Rattle.lbk_notation.specs.Shown.{passage_marks, written_labels}

@@ -1,7 +1,7 @@
 -- Worked rows, by computing.
 use Rattle.std.proofs.Common.{◌≡◌, [], ◌∷◌, ◌++◌, codes, refl}
-use Rattle.lbk_uax14.specs.declared.verdicts.Kind.TheVariants.{No, Must}
-use Rattle.lbk_uax14.specs.declared.verdicts.Rule.TheVariants.{Lb5, Lb6}
+use Rattle.lbk_rules.specs.declared.Kind.TheVariants.{No, Must}
+use Rattle.lbk_rules.specs.declared.Rule.TheVariants.{Lb5, Lb6}
 use Rattle.lbk_cmd.specs.Show.{shown_passage}
 
 -- `a`, a carriage return and a line feed, before more text: × 0061 × 000D × 000A !, a tab, # 2 6 5 5

@@ -1,18 +1,23 @@
 -- From what is ready to what a task performs.
-use Rattle.std.proofs.Common.{◌≡◌, ℕ, true, false, suc, List, [], ◌∷◌, Option, Result, Err, map, length, inr, subst, refl, true≢false, eqb-true, arith}
+use Rattle.std.proofs.Common.{◌≡◌, ℕ, true, false, suc, List, [], ◌∷◌, Option, Result, Err, map, length, inl, inr, sym, subst, refl, true≢false, eqb-true, arith}
 use Rattle.std.specs.Prelude.{◌==◌}
 use Rattle.std.specs.Borrow.{Bor}
 use Rattle.lbk_feed.specs.declared.traits.Source.{Ghosts as SourceMembers}
-use Rattle.lbk_steps.specs.CellPages.{page_cell}
+use Rattle.lbk_rules.specs.CellPages.{page_cell}
 use Rattle.lbk_values.specs.declared.profile.Profile.{Profile}
 use Rattle.lbk_args.specs.declared.order.Engine.{Engine}
 use Rattle.lbk_args.specs.declared.order.Part.{Part}
 use Rattle.lbk_args.specs.Task.{Task}
+use Rattle.lbk_files.specs.declared.faults.CellsFault.{CellsFault}
+use Rattle.lbk_files.specs.declared.faults.CellsFault.TheVariants.{Memory as FilesMemory}
 use Rattle.lbk_files.specs.declared.faults.Stop.{Stop}
+use Rattle.lbk_files.specs.declared.faults.Stop.TheVariants.{Refused as StopRefused}
 use Rattle.lbk_files.specs.declared.readiness.Ready.{Ready}
 use Rattle.lbk_files.specs.FileFault.{LoadCounts}
-use Rattle.lbk_files.specs.Ready.{IsReadyFor}
-use Rattle.lbk_cmd.specs.Operands.{Reads, Standing}
+use Rattle.lbk_files.specs.Ready.{IsReadyFor, IsStoppedAt}
+use Rattle.lbk_cmd.specs.Devices.{Devices}
+use Rattle.lbk_cmd.specs.Operands.{Reads, Refusals, Standing, standing}
+use Rattle.lbk_cmd.specs.declared.ending.Ending.TheVariants.{Done}
 use Rattle.lbk_cmd.specs.Acts.{RunsOver, Performs}
 
 -- an engine that runs on what is ready for a task performs it
@@ -30,9 +35,25 @@ ready_performs source file text task counts counts' ready before after is reads 
       reads))),
 )
 
--- one stop
-pub same_stop : (answer : Result Ready Stop) (one other : Stop) → answer ≡ Err one → answer ≡ Err other → one ≡ other
-same_stop answer one other e f = cc
+-- what is performed, by what the texts told before they heard what is asked for
+pub performs_told : {F : Type 0} (source : SourceMembers F) (file text told : List ℕ → Option (Option (List ℕ))) (other task : Task) (counts counts' : LoadCounts)
+    (devices : Devices) (heard refused : Refusals) (after : Standing) → text ≡ told → heard ≡ refused → other ≡ task
+    → Performs source file text other counts counts' (standing devices heard Done) after
+    → Performs source file told task counts counts' (standing devices refused Done) after
+performs_told source file text told other task counts counts' devices heard refused after is_told is_refused is_task performs =
+    let by_task = subst (λ (t : Task). Performs source file text t counts counts' (standing devices heard Done) after) is_task performs in
+    let by_texts = subst (λ (t : List ℕ → Option (Option (List ℕ))). Performs source file t task counts counts' (standing devices heard Done) after) is_told by_task in
+    subst (λ (r : Refusals). Performs source file told task counts counts' (standing devices r Done) after) is_refused by_texts
+
+-- a task that is stopped for want of memory, before any load
+pub stops_for_memory : (file : List ℕ → Option (Option (List ℕ))) (task : Task) (counts : LoadCounts) (stop : Stop) → stop ≡ StopRefused FilesMemory
+    → IsStoppedAt file task counts counts stop
+stops_for_memory file task counts stop is =
+    subst (λ (s : Stop). IsStoppedAt file task counts counts s) (sym is) (inl (refl, refl))
+
+-- one fault
+pub same_fault : (answer : Result Ready CellsFault) (one other : CellsFault) → answer ≡ Err one → answer ≡ Err other → one ≡ other
+same_fault answer one other e f = cc
 
 -- a list of no words
 pub no_words : (words : List (Bor (List ℕ))) → (length words == 0) ≡ true → words ≡ []

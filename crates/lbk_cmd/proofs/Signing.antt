@@ -4,13 +4,13 @@ use Rattle.std.specs.Prelude.{slice_range, if◌then◌else◌}
 use Rattle.std.specs.List.{AllByRecursion, flat_map}
 use Rattle.std.proofs.Math.Seq.{drop-append_seam, take-append_seam}
 use Rattle.std.proofs.lemmas.Str.{chars_from_encodes, encodes-chars}
-use Rattle.lbk_uax14.specs.declared.breaks.Break.{Break}
-use Rattle.lbk_uax14.specs.declared.cells.Cell.{Cell}
-use Rattle.lbk_uax14.specs.declared.verdicts.Kind.{Kind}
-use Rattle.lbk_uax14.specs.declared.verdicts.Kind.TheVariants.{No, May, Must}
-use Rattle.lbk_uax14.specs.declared.verdicts.Verdict.{Verdict}
-use Rattle.lbk_uax14.specs.Breaks.{breaks, breaks_from, is_no}
-use Rattle.lbk_uax14.proofs.MarkLemmas.{scalars-behind}
+use Rattle.lbk_rules.specs.declared.Break.{Break}
+use Rattle.lbk_rules.specs.declared.Cell.{Cell}
+use Rattle.lbk_rules.specs.declared.Kind.{Kind}
+use Rattle.lbk_rules.specs.declared.Kind.TheVariants.{No, May, Must}
+use Rattle.lbk_rules.specs.declared.Verdict.{Verdict}
+use Rattle.lbk_rules.specs.Breaks.{breaks, breaks_from, is_no}
+use Rattle.lbk_rules.proofs.MarkLemmas.{scalars-behind}
 use Rattle.lbk_values.specs.declared.profile.Profile.{Profile}
 use Rattle.lbk_passage.specs.Laws.{IsPart}
 use Rattle.lbk_passage.specs.Marks.{Marked, ended, marks, scalars_of, text_of}

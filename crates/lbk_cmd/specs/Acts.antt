@@ -14,7 +14,7 @@ use Rattle.lbk_cmd.specs.Engines.{engine_of, lines_of, marking, segmenting, show
 use Rattle.lbk_cmd.specs.Run.{Engine as TextEngine, IsRun, failed_reads_with, failed_writes_with, is_failed_read}
 use Rattle.lbk_cmd.specs.Ranges.{RangeRuns}
 use Rattle.lbk_cmd.specs.Texts.{lines_from, segment_text, show_text, signed_text}
-use Rattle.lbk_uax14.specs.declared.cells.Cell.{Cell}
+use Rattle.lbk_rules.specs.declared.Cell.{Cell}
 use Rattle.lbk_values.specs.declared.profile.Profile.{Profile}
 use Rattle.lbk_values.specs.declared.profile.Profile.TheVariants.{First}
 use Rattle.lbk_notation.specs.declared.findings.Report.{Report}
@@ -36,7 +36,7 @@ use Rattle.lbk_cmd.specs.declared.faults.CmdFault.{CmdFault}
 use Rattle.lbk_cmd.specs.declared.ending.Ending.{Ending}
 use Rattle.lbk_cmd.specs.declared.engine.Lines.{Lines}
 use Rattle.lbk_cmd.specs.Devices.{Devices}
-use Rattle.lbk_cmd.specs.Operands.{Reads, Standing}
+use Rattle.lbk_cmd.specs.Operands.{Reads, ReadsAlone, Standing}
 use Rattle.lbk_cmd.specs.Ending.{ending_of_files, ending_of_replay, ending_of_stop, ending_of_text}
 
 -- what `mark`, `show` and `segment` do where they differ only in the text that they write: to the devices, with the answer
@@ -121,3 +121,10 @@ Performs source file text task counts counts' before after =
     (StopsBefore (IsStoppedAt file task counts counts') before.devices after.devices after.ending × (after.refused ≡ before.refused))
     ⊎ ((cell : ℕ → Cell) × AreCellsFrom (files_of file task.files) cell
     × Reads source text (RunsOver task.part task.engine task.profile cell) task.texts before after)
+
+-- a task, where there are no files of text
+abbrev pub PerformsAlone : (List ℕ → Option (Option (List ℕ))) → Task → LoadCounts → LoadCounts → Devices → Devices → Ending → Type 0
+PerformsAlone file task counts counts' before after ending =
+    StopsBefore (IsStoppedAt file task counts counts') before after ending
+    ⊎ ((cell : ℕ → Cell) × AreCellsFrom (files_of file task.files) cell
+    × ReadsAlone (RunsOver task.part task.engine task.profile cell) task.texts before after ending)

@@ -2,7 +2,7 @@
 use Rattle.std.specs.Prelude.{◌≡◌, ◌⊎◌, ℕ, List, map, Option, Result, Ok, Err, IfSome, IsUtf8}
 use Rattle.std.specs.Str.{chars}
 use Rattle.lbk_ucd.specs.declared.tables.Files.{Files}
-use Rattle.lbk_uax14.specs.declared.cells.Cell.{Cell}
+use Rattle.lbk_rules.specs.declared.Cell.{Cell}
 use Rattle.lbk_values.specs.declared.profile.Profile.{Profile}
 use Rattle.lbk_passage.specs.Marks.{Marked, scalars_of}
 use Rattle.lbk_notation.specs.TestLine.{Line}

@@ -1,8 +1,8 @@
 -- A list of verdicts that a machine fills.
 use Rattle.std.specs.Prelude.{Option, Some, None}
-use Rattle.lbk_uax14.specs.declared.verdicts.Kind.TheVariants.{No}
-use Rattle.lbk_uax14.specs.declared.verdicts.Rule.TheVariants.{Lb15b}
-use Rattle.lbk_uax14.specs.declared.verdicts.Verdict.{Verdict}
+use Rattle.lbk_rules.specs.declared.Kind.TheVariants.{No}
+use Rattle.lbk_rules.specs.declared.Rule.TheVariants.{Lb15b}
+use Rattle.lbk_rules.specs.declared.Verdict.{Verdict}
 
 -- a position that is held has a verdict in its place until its answer comes
 abbrev pub placed : Option Verdict → Verdict

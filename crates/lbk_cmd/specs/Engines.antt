@@ -1,6 +1,6 @@
 -- The engines, by the lines that they write of a passage.
 use Rattle.std.specs.Prelude.{ℕ, List}
-use Rattle.lbk_uax14.specs.declared.cells.Cell.{Cell}
+use Rattle.lbk_rules.specs.declared.Cell.{Cell}
 use Rattle.lbk_values.specs.declared.profile.Profile.{Profile}
 use Rattle.lbk_passage.specs.Marks.{Marked}
 use Rattle.lbk_cmd.specs.Mark.{signed_passage}

@@ -2,11 +2,11 @@
 use Rattle.std.specs.Prelude.{ℕ, Bool, false, List, [], ◌∷◌, ◌++◌, None, encode_utf8, if◌then◌else◌}
 use Rattle.std.specs.List.{flat_map, last_or}
 use Rattle.std.specs.Option.{option_map_or}
-use Rattle.lbk_uax14.specs.declared.cells.Cell.{Cell}
-use Rattle.lbk_uax14.specs.declared.verdicts.Kind.{Kind}
-use Rattle.lbk_uax14.specs.declared.verdicts.Kind.TheVariants.{No, May, Must}
-use Rattle.lbk_uax14.specs.Classes.{◌or◌, BK, CR, LF, NL}
-use Rattle.lbk_uax14.specs.Marks.{Marked, scalars_of}
+use Rattle.lbk_rules.specs.declared.Cell.{Cell}
+use Rattle.lbk_rules.specs.declared.Kind.{Kind}
+use Rattle.lbk_rules.specs.declared.Kind.TheVariants.{No, May, Must}
+use Rattle.lbk_rules.specs.Classes.{◌or◌, BK, CR, LF, NL}
+use Rattle.lbk_rules.specs.Marks.{Marked, scalars_of}
 
 -- ÷ where a line may end
 abbrev pub sign : Kind → List ℕ

@@ -1,10 +1,9 @@
 -- Why a run is refused, as a person reads it in one line.
-use Rattle.std.specs.Prelude.{ℕ, Bool, false, List, [], ◌∷◌, ◌++◌, Option, Some, None, codes, decimal, encode_utf8, if◌then◌else◌}
+use Rattle.std.specs.Prelude.{ℕ, Bool, false, List, [], ◌∷◌, ◌++◌, Option, Some, None, codes, decimal, if◌then◌else◌, nat_eq, nat_lt}
 use Rattle.std.specs.Borrow.{Bor}
-use Rattle.std.specs.Char.{is_control}
-use Rattle.std.specs.Fmt.{◌++?◌, digits}
-use Rattle.std.specs.List.{flat_map}
-use Rattle.std.specs.Str.{bytes_eq, chars}
+use Rattle.std.specs.Fmt.{◌++?◌}
+use Rattle.std.specs.List.{ends_with}
+use Rattle.std.specs.Str.{bytes_eq}
 use Rattle.std.specs.declared.io.ErrorKind.{ErrorKind}
 use Rattle.std.specs.declared.io.ErrorKind.TheVariants.{NotFound, Other, Uncategorized}
 use Rattle.lbk_feed.specs.Text.{greatest_limit, longest_text}
@@ -15,6 +14,7 @@ use Rattle.lbk_passage.specs.declared.faults.PassageFault.{PassageFault}
 use Rattle.lbk_passage.specs.declared.faults.PassageFault.TheVariants as passage
 use Rattle.lbk_notation.specs.declared.findings.ReplayFault.TheVariants as replay
 use Rattle.lbk_args.specs.Command.{default_limit}
+use Rattle.lbk_args.specs.OneLine.{one_line}
 use Rattle.lbk_args.specs.declared.order.Engine.{Engine}
 use Rattle.lbk_args.specs.declared.order.Engine.TheVariants.{Mark, Show, Segment, Replay}
 use Rattle.lbk_args.specs.declared.order.FileName.{FileName}
@@ -35,14 +35,6 @@ use Rattle.lbk_cmd.specs.declared.message.Input.{Input}
 use Rattle.lbk_cmd.specs.declared.message.Input.TheVariants as of_input
 use Rattle.lbk_cmd.specs.declared.message.Name.{Name}
 use Rattle.lbk_cmd.specs.declared.message.Name.TheVariants as of_file
-
--- a control character is \u and its code in braces, any other character itself
-abbrev pub one_scalar : ℕ → List ℕ
-one_scalar c = if is_control c then 92 ∷ 117 ∷ 123 ∷ (digits 16 false c ++ 125 ∷ []) else encode_utf8 c
-
--- a name in one line
-abbrev pub one_line : List ℕ → List ℕ
-one_line name = flat_map one_scalar (chars name)
 
 -- the system's reason behind a colon, where the program words it; the kit says nothing of its own words
 abbrev pub why_text : Option ErrorKind → Option (List ℕ)
@@ -104,9 +96,14 @@ limit_of Call = None
 limit_of NoWords = Some default_limit
 limit_of (Words engine files) = limit_of_engine engine
 
+-- the greatest limit cannot be raised
+abbrev pub rest_of_limit : ℕ → List ℕ
+rest_of_limit limit = if nat_lt limit greatest_limit then codes " bytes; --limit raises the limit, up to " ++ decimal greatest_limit
+    else codes " bytes, the greatest limit"
+
 abbrev pub than_limit : Option ℕ → List ℕ
 than_limit None = codes "bytes than the limit"
-than_limit (Some limit) = codes "than " ++ (decimal limit ++ (codes " bytes; --limit raises the limit, up to " ++ decimal greatest_limit))
+than_limit (Some limit) = codes "than " ++ (decimal limit ++ rest_of_limit limit)
 
 abbrev pub invalid_text : Bool → List ℕ
 invalid_text is_utf16 =
@@ -117,10 +114,10 @@ abbrev pub failed_text : List ℕ → List ℕ → Option ErrorKind → Option (
 failed_text what did reason = Some what ++? (Some did ++? why_text reason)
 
 abbrev pub unread_text : Message → Option (List ℕ)
-unread_text m = failed_text (input_of m) (codes " cannot be read") m.reason
+unread_text m = failed_text (input_of m) (codes ": cannot be read") m.reason
 
 abbrev pub too_long_text : Message → List ℕ
-too_long_text m = input_of m ++ (codes " has more than " ++ (decimal longest_text ++ codes " bytes"))
+too_long_text m = input_of m ++ (codes ": more than " ++ (decimal longest_text ++ codes " bytes"))
 
 abbrev pub at_byte : Message → ℕ → List ℕ
 at_byte m at = input_of m ++ (codes ": byte " ++ (decimal at ++ codes ": "))
@@ -141,10 +138,32 @@ passage_text m (passage.ParagraphTooLong start) = Some (paragraph_text m start)
 passage_text m passage.Spent = Some (codes "an earlier call was refused")
 
 abbrev pub unwritten_text : Message → Option (List ℕ)
-unwritten_text m = failed_text (output_text m.caller) (codes " cannot be written") m.reason
+unwritten_text m = failed_text (output_text m.caller) (codes ": cannot be written") m.reason
+
+-- the folder that a property file is of, where the words name one
+abbrev pub folder_of_name : FileName → Option (List ℕ)
+folder_of_name (Given name) = None
+folder_of_name (InFolder folder) = Some folder.now
+
+abbrev pub folder_of : Caller → Which → Option (List ℕ)
+folder_of (Words engine files) which = folder_of_name (name_in files which)
+folder_of _ which = None
+
+-- how to go on where a file of a folder cannot be read; an archive is no folder
+abbrev pub advice_of_folder : List ℕ → List ℕ
+advice_of_folder folder = if ends_with nat_eq folder (codes ".zip") then codes "; unpack it, and name the folder"
+    else codes "; Debian's package unicode-data has the files: --ucd /usr/share/unicode"
+
+abbrev pub advice_of : Option (List ℕ) → List ℕ
+advice_of None = []
+advice_of (Some folder) = advice_of_folder folder
+
+abbrev pub advice_of_load : Caller → Which → List ℕ
+advice_of_load caller which = advice_of (folder_of caller which)
 
 abbrev pub unloaded_text : Message → Which → Option (List ℕ)
-unloaded_text m which = Some (fault_text (cells.Load which) (file_text m.caller which)) ++? why_text m.reason
+unloaded_text m which = Some (fault_text (cells.Load which) (file_text m.caller which))
+    ++? (why_text m.reason ++? Some (advice_of_load m.caller which))
 
 abbrev pub unpublished_text : Message → Which → ClaimCause → List ℕ
 unpublished_text m which cause = fault_text (cells.Claim which cause) (file_text m.caller which) ++ advice m.caller which cause

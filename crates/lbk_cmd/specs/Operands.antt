@@ -1,12 +1,12 @@
 -- What a run does over the texts that operands name.
-use Rattle.std.specs.Prelude.{◌≡◌, ◌≢◌, ◌⊎◌, ◌++◌, ℕ, true, false, List, [], ◌∷◌, Option, codes, option_map}
+use Rattle.std.specs.Prelude.{◌≡◌, ◌≢◌, ◌⊎◌, ◌++◌, ℕ, true, false, List, [], ◌∷◌, None, Option, Some, codes, option_map}
 use Rattle.lbk_feed.specs.declared.traits.Source.{Ghosts as SourceMembers}
 use Rattle.lbk_files.specs.FileStore.{AreLeft}
 use Rattle.lbk_files.specs.Store.{IsUnreadable}
 use Rattle.lbk_cmd.specs.Devices.{Devices}
 use Rattle.lbk_cmd.specs.Ending.{ending_after, is_last}
 use Rattle.lbk_cmd.specs.declared.ending.Ending.{Ending}
-use Rattle.lbk_cmd.specs.declared.ending.Ending.TheVariants.{Refused}
+use Rattle.lbk_cmd.specs.declared.ending.Ending.TheVariants.{Done, Refused}
 use Rattle.lbk_cmd.specs.declared.ending.RunFault.{RunFault}
 use Rattle.lbk_cmd.specs.declared.ending.RunFault.TheVariants.{Memory, Open}
 
@@ -62,17 +62,31 @@ refused_after refused name (Refused fault) = option_map (λ before. before ++ (n
 refused_after refused name _ = refused
 
 -- the texts in order, each once, up to the first that is the last; what was refused is reported, and the others go on
+abbrev pub ReadsEach : (List ℕ → Devices → Devices → Ending → Type 0) → List (List ℕ) → Standing → Standing → Type 0
+ReadsEach ReadsOne [] before after = after ≡ before
+ReadsEach ReadsOne (name ∷ names) before after =
+    (devices : Devices) × (ending : Ending) × ReadsOne name before.devices devices ending
+    × (((is_last ending ≡ true) × (after ≡ standing devices before.refused ending))
+    ⊎ ((is_last ending ≡ false) × ReadsEach ReadsOne names
+    (standing devices (refused_after before.refused name ending) (ending_after before.ending ending)) after))
+
 abbrev pub ReadsTexts : {F : Type 0} → SourceMembers F → (List ℕ → Option (Option (List ℕ))) → (Devices → Devices → Ending → Type 0)
     → List (List ℕ) → Standing → Standing → Type 0
-ReadsTexts source told Runs [] before after = after ≡ before
-ReadsTexts source told Runs (name ∷ names) before after =
-    (devices : Devices) × (ending : Ending) × ReadsText source told Runs name before.devices devices ending
-    × (((is_last ending ≡ true) × (after ≡ standing devices before.refused ending))
-    ⊎ ((is_last ending ≡ false) × ReadsTexts source told Runs names
-    (standing devices (refused_after before.refused name ending) (ending_after before.ending ending)) after))
+ReadsTexts source told Runs = ReadsEach (ReadsText source told Runs)
 
 -- the run's reader where no text is named, and else the texts
 abbrev pub Reads : {F : Type 0} → SourceMembers F → (List ℕ → Option (Option (List ℕ))) → (Devices → Devices → Ending → Type 0)
     → List (List ℕ) → Standing → Standing → Type 0
 Reads source told Runs [] before after = Runs before.devices after.devices after.ending × (after.refused ≡ before.refused)
 Reads source told Runs (name ∷ names) before after = ReadsTexts source told Runs (name ∷ names) before after
+
+-- where there are no files of text, none of these can be opened; `-` is the run's reader
+abbrev pub ReadsNoFile : (Devices → Devices → Ending → Type 0) → List ℕ → Devices → Devices → Ending → Type 0
+ReadsNoFile Runs name before after ending = ((name ≡ codes "-") × Runs before after ending)
+    ⊎ ((name ≢ codes "-") × IsUnopened (Some None) before after ending)
+
+-- the run's reader where no text is named, and else the texts, none of which is a file
+abbrev pub ReadsAlone : (Devices → Devices → Ending → Type 0) → List (List ℕ) → Devices → Devices → Ending → Type 0
+ReadsAlone Runs [] before after ending = Runs before after ending
+ReadsAlone Runs (name ∷ names) before after ending =
+    ReadsEach (ReadsNoFile Runs) (name ∷ names) (standing before None Done) (standing after None ending)

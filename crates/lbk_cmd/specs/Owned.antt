@@ -2,8 +2,8 @@
 use Rattle.std.specs.Prelude.{◌≡◌, ℕ, ◌+◌, List, [], ◌∷◌, map, filter, Option, IfSome, IsUtf8}
 use Rattle.std.specs.Str.{chars}
 use Rattle.lbk_ucd.specs.declared.tables.Files.{Files}
-use Rattle.lbk_uax14.specs.declared.breaks.Break.{Break}
-use Rattle.lbk_uax14.specs.declared.cells.Cell.{Cell}
+use Rattle.lbk_rules.specs.declared.Break.{Break}
+use Rattle.lbk_rules.specs.declared.Cell.{Cell}
 use Rattle.lbk_values.specs.declared.profile.Profile.{Profile}
 use Rattle.lbk_passage.specs.Laws.{break_at}
 use Rattle.lbk_passage.specs.Marks.{Marked, text_of}

@@ -1,9 +1,9 @@
 -- What is written of the parts of a text.
 use Rattle.std.specs.Prelude.{◌≡◌, ℕ, Bool, false, true, List, [], ◌∷◌, ◌++◌}
-use Rattle.lbk_uax14.specs.declared.cells.Cell.{Cell}
-use Rattle.lbk_uax14.specs.declared.verdicts.Rule.TheVariants.{Lb3}
+use Rattle.lbk_rules.specs.declared.Cell.{Cell}
+use Rattle.lbk_rules.specs.declared.Rule.TheVariants.{Lb3}
 use Rattle.lbk_values.specs.declared.profile.Profile.{Profile}
-use Rattle.lbk_uax14.specs.Labels.{label_of}
+use Rattle.lbk_rules.specs.Labels.{label_of}
 use Rattle.lbk_passage.specs.Joins.{end_before_more}
 use Rattle.lbk_passage.specs.Marks.{Marked}
 use Rattle.lbk_passage.specs.Parts.{passages_in}

@@ -6,7 +6,7 @@ use Rattle.lbk_feed.specs.Devices.{Reads, count_up}
 use Rattle.lbk_feed.specs.Runs.{IsStopped}
 use Rattle.lbk_feed.specs.Text.{longest_text, well_formed_prefix, counted, IsNotUtf8At, IsTooLong}
 use Rattle.lbk_feed.specs.View.{CanGoOn, IsStill}
-use Rattle.lbk_uax14.specs.declared.cells.Cell.{Cell}
+use Rattle.lbk_rules.specs.declared.Cell.{Cell}
 use Rattle.lbk_values.specs.declared.profile.Profile.{Profile}
 use Rattle.lbk_passage.specs.Marks.{Marked, scalars_of, text_of}
 use Rattle.lbk_passage.specs.Passages.{passages}

@@ -2,10 +2,10 @@
 -- decimal, and offsets count bytes of the whole text.
 use Rattle.std.specs.Prelude.{ℕ, ◌+◌, List, [], ◌∷◌, ◌++◌, length, codes, decimal, if◌then◌else◌}
 use Rattle.std.specs.List.{flat_map}
-use Rattle.lbk_uax14.specs.declared.cells.Cell.{Cell}
-use Rattle.lbk_uax14.specs.declared.verdicts.Kind.{Kind}
-use Rattle.lbk_uax14.specs.declared.verdicts.Kind.TheVariants.{No, May, Must}
-use Rattle.lbk_uax14.specs.Labels.{label_of}
+use Rattle.lbk_rules.specs.declared.Cell.{Cell}
+use Rattle.lbk_rules.specs.declared.Kind.{Kind}
+use Rattle.lbk_rules.specs.declared.Kind.TheVariants.{No, May, Must}
+use Rattle.lbk_rules.specs.Labels.{label_of}
 use Rattle.lbk_passage.specs.Marks.{Marked, text_of}
 use Rattle.lbk_passage.specs.Pieces.{pieces_of}
 use Rattle.lbk_passage.specs.Segments.{segments_of}

@@ -1,9 +1,9 @@
 -- What `show` writes of a passage: a line with its marks and scalars, and the rules that decided.
 use Rattle.std.specs.Prelude.{ℕ, List, [], ◌∷◌, ◌++◌, map}
 use Rattle.lbk_notation.specs.Shown.{passage_line}
-use Rattle.lbk_uax14.specs.declared.verdicts.Kind.TheVariants.{No}
-use Rattle.lbk_uax14.specs.declared.verdicts.Rule.TheVariants.{Lb2}
-use Rattle.lbk_uax14.specs.declared.verdicts.Verdict.{Verdict}
+use Rattle.lbk_rules.specs.declared.Kind.TheVariants.{No}
+use Rattle.lbk_rules.specs.declared.Rule.TheVariants.{Lb2}
+use Rattle.lbk_rules.specs.declared.Verdict.{Verdict}
 use Rattle.lbk_passage.specs.Marks.{Marked, scalars_of}
 
 -- no break stands before a passage, by rule 2

@@ -1,6 +1,6 @@
 -- A text that is written up to each of its breaks, with the break's sign behind it.
 use Rattle.std.specs.Prelude.{ℕ, ◌≤◌, List, [], ◌∷◌, ◌++◌, drop, slice_range}
-use Rattle.lbk_uax14.specs.declared.breaks.Break.{Break}
+use Rattle.lbk_rules.specs.declared.Break.{Break}
 use Rattle.lbk_cmd.specs.Mark.{sign}
 
 -- the breaks stand one behind another, from `at` to at most `len`

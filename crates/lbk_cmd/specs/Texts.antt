@@ -1,6 +1,6 @@
 -- What is written of the passages of a text: the lines of each, joined.
 use Rattle.std.specs.Prelude.{ℕ, ◌+◌, List, [], ◌∷◌, ◌++◌, length}
-use Rattle.lbk_uax14.specs.declared.cells.Cell.{Cell}
+use Rattle.lbk_rules.specs.declared.Cell.{Cell}
 use Rattle.lbk_passage.specs.Marks.{Marked, text_of}
 use Rattle.lbk_cmd.specs.Mark.{signed_passage}
 use Rattle.lbk_cmd.specs.Show.{shown_passage}

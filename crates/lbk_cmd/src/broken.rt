@@ -2,7 +2,7 @@
 //! that `show` writes.
 
 ghost use Rattle.std.specs.Prelude.{◌≡◌, ◌++◌, ◌∷◌, List, Ok, Err, IfNone, IfSome, IfOk, IfErr, OnOk};
-ghost use Rattle.lbk_steps.specs.CellPages.{page_cell};
+ghost use Rattle.lbk_rules.specs.CellPages.{page_cell};
 ghost use Rattle.lbk_notation.specs.Stream.{HasNoLineEnd};
 ghost use Rattle.lbk_passage.specs.Marks.{Marked};
 ghost use Rattle.lbk_cmd.specs.Acts.{Shows};

@@ -2,7 +2,6 @@
 
 ghost use Rattle.std.specs.Prelude.{◌≡◌};
 ghost use Rattle.lbk_cmd.specs.Ending.{ending_after, ending_of_files, ending_of_replay, ending_of_text, is_last, status_of};
-ghost use Rattle.lbk_cmd.specs.Message.{message_text, of_call};
 
 use super::faults::CmdFault;
 use super::message::Message;
@@ -10,11 +9,11 @@ use lbk_files::{CellsFault, ClaimCause, Stop};
 use lbk_notation::{ReplayFault, Report};
 use lbk_passage::PassageFault;
 use lbk_ucd::{UcdFault, Which};
-use std::error::Error;
-use std::fmt;
+use thiserror::Error;
 
-/// Why a run is refused.
-#[derive(Clone, Copy, Debug, PartialEq, Eq)]
+/// Why a run is refused. As text it is the `Message` of a call.
+#[derive(Clone, Copy, Debug, PartialEq, Eq, Error)]
+#[error("{}", Message::of_call(*self))]
 pub enum RunFault {
     /// A file of text cannot be opened.
     Open,
@@ -31,17 +30,6 @@ pub enum RunFault {
     /// Any other allocation was refused.
     Memory,
 }
-
-/// The message of a call of a library that ended so.
-impl fmt::Display for RunFault {
-    ghost output = { λ fault. message_text (of_call fault) };
-
-    fn fmt<W: fmt::Write>(&self, f: &mut fmt::Formatter<W>) -> fmt::Result {
-        Message::of_call(*self).fmt(f)
-    }
-}
-
-impl Error for RunFault {}
 
 /// How a run of the program ends.
 #[derive(Debug, Drop)]

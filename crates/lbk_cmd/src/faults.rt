@@ -2,19 +2,17 @@
 
 ghost use Rattle.std.specs.Prelude.{◌≡◌};
 ghost use Rattle.lbk_cmd.specs.declared.faults.CmdFault.TheVariants.{Memory, Passage as passage_fault, Write};
-ghost use Rattle.lbk_cmd.specs.declared.ending.RunFault.TheVariants.{Cmd};
-ghost use Rattle.lbk_cmd.specs.Message.{message_text, of_call};
 
 use super::ending::RunFault;
 use super::message::Message;
 use lbk_feed::Failed;
 use lbk_passage::PassageFault;
 use std::alloc::{AllocError, AllocFailed};
-use std::error::Error;
-use std::fmt;
+use thiserror::Error;
 
-/// Why an engine stopped.
-#[derive(Clone, Copy, Debug, PartialEq, Eq)]
+/// Why an engine stopped. As text it is the `Message` of a call.
+#[derive(Clone, Copy, Debug, PartialEq, Eq, Error)]
+#[error("{}", Message::of_call(RunFault::Cmd(*self)))]
 pub enum CmdFault {
     /// A passage was refused, or memory could not grow for it.
     Passage(PassageFault),
@@ -23,17 +21,6 @@ pub enum CmdFault {
     /// Memory could not grow for what is written.
     Memory,
 }
-
-/// The message of a call that ended so.
-impl fmt::Display for CmdFault {
-    ghost output = { λ fault. message_text (of_call (Cmd fault)) };
-
-    fn fmt<W: fmt::Write>(&self, f: &mut fmt::Formatter<W>) -> fmt::Result {
-        Message::of_call(RunFault::Cmd(*self)).fmt(f)
-    }
-}
-
-impl Error for CmdFault {}
 
 impl From<PassageFault> for CmdFault {
     ghost from_gives = { λ passage fault. fault ≡ passage_fault passage };

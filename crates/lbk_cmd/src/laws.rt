@@ -1,7 +1,7 @@
 //! What the calls amount to together, over definitions only. Each law is the contract of a function that does
 //! nothing.
 
-ghost use Rattle.std.specs.Prelude.{ℕ, ◌+◌, ◌*◌, ◌≤◌, ◌∷◌, List, Some, length, encode_utf8_all, ◌≡◌};
+ghost use Rattle.std.specs.Prelude.{ℕ, ◌+◌, ◌*◌, ◌≤◌, ◌↔◌, ◌∷◌, List, [], Option, Some, length, encode_utf8_all, ◌≡◌};
 ghost use Rattle.std.specs.Char.{IsScalar};
 ghost use Rattle.std.specs.List.{AllByRecursion, flat_map};
 ghost use Rattle.lbk_notation.specs.declared.marks.Form.TheVariants.{Kinds};
@@ -10,7 +10,7 @@ ghost use Rattle.lbk_notation.specs.Shown.{passage_line, passage_marks};
 ghost use Rattle.lbk_passage.specs.Marks.{Marked, scalars_of, text_of};
 ghost use Rattle.lbk_cmd.specs.Show.{shown_passage, verdicts_of};
 ghost use Rattle.lbk_ucd.specs.declared.tables.Files.{Files};
-ghost use Rattle.lbk_uax14.specs.declared.cells.Cell.{Cell};
+ghost use Rattle.lbk_rules.specs.declared.Cell.{Cell};
 ghost use Rattle.lbk_values.specs.declared.profile.Profile.{Profile};
 ghost use Rattle.lbk_passage.specs.Joins.{AreParts, of_parts};
 ghost use Rattle.lbk_passage.specs.Next.{IsPassage};
@@ -26,6 +26,12 @@ ghost use Rattle.lbk_cmd.specs.Ranges.{AreRanges, end_of_ranges, text_by_ranges,
 ghost use Rattle.lbk_cmd.specs.declared.engine.Lines.{Lines};
 ghost use Rattle.lbk_cmd.specs.Segment.{segmented_passage};
 ghost use Rattle.lbk_cmd.specs.Texts.{lines_from, segment_text, show_text, signed_text};
+ghost use Rattle.lbk_args.specs.Task.{Task};
+ghost use Rattle.lbk_files.specs.FileFault.{LoadCounts};
+ghost use Rattle.lbk_cmd.specs.Acts.{Performs, PerformsAlone};
+ghost use Rattle.lbk_cmd.specs.Operands.{Standing};
+
+use lbk_files::Opens;
 
 /// For all property files, every text and either profile: the passages joined are the text, their breaks are the
 /// positions, kinds and rules that the first matching rule gives on the whole text (UAX #14, section 6), and the line written
@@ -82,4 +88,14 @@ pub fn joined_ranges()
     ensures range { (lines : Lines) (profile : Profile) (cell : ℕ → Cell) (text : List ℕ) (from : ℕ) (tos : List ℕ) → AreRanges from tos
         → text_by_ranges (lines_of lines cell) from tos (passages profile cell text)
         ≡ text_within (lines_of lines cell) from (end_of_ranges from tos) (passages profile cell text) }
+{}
+
+/// A task that names no text has one meaning: with files of text, whatever they are, `run_over_texts` does what `run` does, and
+/// reports nothing of them.
+pub fn one_run_without_texts<T: Opens>(texts: &T)
+    ensures { (file : List ℕ → Option (Option (List ℕ))) (task : Task) (counts after_counts : LoadCounts) (before after : Standing)
+        → task.texts ≡ []
+        → (Performs T.File.Source file (T.contents texts.now) task counts after_counts before after
+        ↔ ((after.refused ≡ before.refused)
+        × PerformsAlone file task counts after_counts before.devices after.devices after.ending)) }
 {}

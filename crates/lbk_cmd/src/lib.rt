@@ -20,7 +20,7 @@ mod shown;
 mod signed;
 
 pub use broken::{BreakFault, break_text};
-pub use command::run;
+pub use command::{run, run_over_texts};
 pub use ending::{Ending, RunFault};
 pub use engine::{mark, segment, show};
 pub use faults::CmdFault;

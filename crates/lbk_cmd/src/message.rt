@@ -1,12 +1,12 @@
 //! What a person reads where a run is refused.
 
-ghost use Rattle.std.specs.Prelude.{◌≡◌, Some};
-ghost use Rattle.std.specs.Fmt.{DisplaysOnOk, WritesOnOk};
-ghost use Rattle.lbk_cmd.specs.Message.{at_byte, file_text, input_text, invalid_text, limit_of, message_text, name_in, not_utf8_text, of_call, one_line, one_scalar, option_of, output_text, paragraph_text, passage_text, text_of_input, text_of_name, than_limit, too_long_text, unloaded_text, unpublished_text, unread_text, unwritten_text, why_text};
+ghost use Rattle.std.specs.Prelude.{◌≡◌, Some, option_map};
+ghost use Rattle.std.specs.Fmt.{DisplaysOnOk};
+ghost use Rattle.lbk_cmd.specs.Message.{advice_of, advice_of_folder, at_byte, file_text, folder_of, input_text, invalid_text, limit_of, message_text, name_in, not_utf8_text, of_call, option_of, output_text, paragraph_text, passage_text, text_of_input, text_of_name, than_limit, too_long_text, unloaded_text, unpublished_text, unread_text, unwritten_text, why_text};
 
 use super::ending::RunFault;
 use super::faults::CmdFault;
-use lbk_args::{DEFAULT_LIMIT, Engine, FileName, FileNames};
+use lbk_args::{DEFAULT_LIMIT, Engine, FileName, FileNames, OneLine};
 use lbk_feed::TEXT_MAX;
 use lbk_files::{CellsFault, ClaimCause, NamedFault, file_name, name_in_database};
 use lbk_notation::ReplayFault;
@@ -67,7 +67,7 @@ impl<'a> fmt::Display for Message<'a> {
 
 impl<'a> Message<'a> {
     /// The message of a call of a library.
-    pub(crate) fn of_call(fault: RunFault) -> Message<'a>
+    pub fn of_call(fault: RunFault) -> Message<'a>
         ensures { result ≡ of_call fault }
     {
         Message {
@@ -95,6 +95,19 @@ impl<'a> Message<'a> {
         NamedFault { fault, name }
     }
 
+    /// The folder that a property file is of, where the words name one.
+    fn folder(&self, which: Which) -> Option<&'a str>
+        ensures { option_map (λ folder. folder.now) result ≡ folder_of self.now.caller which }
+    {
+        match self.caller {
+            Caller::Words { files, .. } => match name_in(files, which) {
+                FileName::InFolder(folder) => Some(folder),
+                FileName::Given(_) => None,
+            },
+            Caller::Call | Caller::NoWords => None,
+        }
+    }
+
     fn input(&self) -> Input<'a>
         ensures { text_of_input result ≡ input_text self.now.caller self.now.text }
     {
@@ -118,7 +131,8 @@ impl<'a> Message<'a> {
         ensures { DisplaysOnOk W.write_str_gives f.old result (unloaded_text self.now which) f.new }
     {
         let fault = self.named(CellsFault::Load(which), which);
-        write!(f, "{fault}{}", Why(self.reason))
+        let advice = FolderAdvice(self.folder(which));
+        write!(f, "{fault}{}{advice}", Why(self.reason))
     }
 
     fn unpublished<W: fmt::Write>(
@@ -143,19 +157,24 @@ impl<'a> Message<'a> {
     fn unwritten<W: fmt::Write>(&self, f: &mut fmt::Formatter<W>) -> fmt::Result
         ensures { DisplaysOnOk W.write_str_gives f.old result (unwritten_text self.now) f.new }
     {
-        write!(f, "{} cannot be written{}", self.output(), Why(self.reason))
+        write!(
+            f,
+            "{}: cannot be written{}",
+            self.output(),
+            Why(self.reason)
+        )
     }
 
     fn unread<W: fmt::Write>(&self, f: &mut fmt::Formatter<W>) -> fmt::Result
         ensures { DisplaysOnOk W.write_str_gives f.old result (unread_text self.now) f.new }
     {
-        write!(f, "{} cannot be read{}", self.input(), Why(self.reason))
+        write!(f, "{}: cannot be read{}", self.input(), Why(self.reason))
     }
 
     fn too_long<W: fmt::Write>(&self, f: &mut fmt::Formatter<W>) -> fmt::Result
         ensures { DisplaysOnOk W.write_str_gives f.old result (Some (too_long_text self.now)) f.new }
     {
-        write!(f, "{} has more than {TEXT_MAX} bytes", self.input())
+        write!(f, "{}: more than {TEXT_MAX} bytes", self.input())
     }
 
     fn passage_fault<W: fmt::Write>(
@@ -238,11 +257,23 @@ fn than_limit<W: fmt::Write>(f: &mut fmt::Formatter<W>, limit: Option<u32>) -> f
     ensures { DisplaysOnOk W.write_str_gives f.old result (Some (than_limit limit)) f.new }
 {
     match limit {
+        Some(limit) if limit >= LIMIT_MAX => write!(f, "than {limit} bytes, the greatest limit"),
         Some(limit) => write!(
             f,
             "than {limit} bytes; --limit raises the limit, up to {LIMIT_MAX}"
         ),
         None => f.write_str("bytes than the limit"),
+    }
+}
+
+/// How to go on where a file of a folder cannot be read.
+fn advice_of_folder(folder: &str) -> &'static str
+    ensures { result.now ≡ advice_of_folder folder.now }
+{
+    if folder.as_bytes().ends_with(b".zip") {
+        "; unpack it, and name the folder"
+    } else {
+        "; Debian's package unicode-data has the files: --ucd /usr/share/unicode"
     }
 }
 
@@ -281,6 +312,21 @@ impl fmt::Display for Why {
             None | Some(ErrorKind::Other | ErrorKind::Uncategorized) => Ok(()),
             Some(ErrorKind::NotFound) => write!(f, ": no such file"),
             Some(kind) => write!(f, ": {kind}"),
+        }
+    }
+}
+
+/// How to go on where a file cannot be read, of a folder if it is of one.
+#[derive(Clone, Copy)]
+struct FolderAdvice<'a>(Option<&'a str>);
+
+impl<'a> fmt::Display for FolderAdvice<'a> {
+    ghost output = { λ advice. Some (advice_of (option_map (λ folder. folder.now) advice.0)) };
+
+    fn fmt<W: fmt::Write>(&self, f: &mut fmt::Formatter<W>) -> fmt::Result {
+        match self.0 {
+            Some(folder) => f.write_str(advice_of_folder(folder)),
+            None => Ok(()),
         }
     }
 }
@@ -330,36 +376,5 @@ impl<'a> fmt::Display for Input<'a> {
             Input::Standard => f.write_str("standard input"),
             Input::Named(name) => write!(f, "{}", OneLine(name)),
         }
-    }
-}
-
-/// A name in one line: a control character, as a line end, is written as `\u` and its code in braces.
-#[derive(Clone, Copy)]
-struct OneLine<'a>(&'a str);
-
-impl<'a> fmt::Display for OneLine<'a> {
-    ghost output = { λ name. Some (one_line name.0.now) };
-
-    fn fmt<W: fmt::Write>(&self, f: &mut fmt::Formatter<W>) -> fmt::Result {
-        write_name(f, self.0)
-    }
-}
-
-fn write_name<W: fmt::Write>(f: &mut fmt::Formatter<W>, name: &str) -> fmt::Result
-    ensures { WritesOnOk W.write_str_gives f.old result (one_line name.now) f.new }
-{
-    for scalar in name.chars() {
-        write_scalar(f, scalar)?;
-    }
-    Ok(())
-}
-
-fn write_scalar<W: fmt::Write>(f: &mut fmt::Formatter<W>, scalar: char) -> fmt::Result
-    ensures { WritesOnOk W.write_str_gives f.old result (one_scalar scalar) f.new }
-{
-    if scalar.is_control() {
-        write!(f, "\\u{{{:x}}}", u32::from(scalar))
-    } else {
-        f.write_char(scalar)
     }
 }

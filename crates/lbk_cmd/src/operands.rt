@@ -1,18 +1,24 @@
 //! The texts that operands name.
 
-ghost use Rattle.std.specs.Prelude.{◌≡◌, ◌++◌, ◌∷◌, ℕ, List, [], Option, option_map};
+ghost use Rattle.std.specs.Prelude.{◌≡◌, ◌++◌, ◌∷◌, ℕ, List, [], None, Option, Some, option_map};
 ghost use Rattle.lbk_cmd.specs.declared.ending.RunFault.{RunFault};
 ghost use Rattle.lbk_cmd.specs.MemoryTexts.{Notes, refusals_told_by, told_by};
 
 use super::ending::RunFault;
+use lbk_args::Order;
 use lbk_feed::devices::MemorySource;
 use lbk_files::{LoadFault, MemoryStore, Opens};
 use std::alloc::Global;
 
 /// Files of text, and what is said of those that are refused.
-pub trait Texts: Opens {
+pub trait Texts<'a>: Opens {
     // The names that were refused, in order, each with its fault, where this is known.
     ghost refused: { Self → Option (List (List ℕ × RunFault)) };
+
+    /// Hears what the words ask for, before anything is opened.
+    fn begin(&mut self, order: &Order<'a>)
+        ensures refused { refused self.new ≡ refused self.old }
+        ensures contents { Self.contents self.new ≡ Self.contents self.old };
 
     /// Reports that the text of a name was refused, and why.
     fn refuse(&mut self, name: &str, fault: RunFault)
@@ -60,8 +66,10 @@ impl<'a> Opens for MemoryTexts<'a> {
     }
 }
 
-impl<'a> Texts for MemoryTexts<'a> {
+impl<'a> Texts<'a> for MemoryTexts<'_> {
     ghost refused = { λ texts. refusals_told_by texts };
+
+    fn begin(&mut self, _order: &Order<'a>) {}
 
     /// Notes the fault, as long as memory can grow for it.
     fn refuse(&mut self, _name: &str, fault: RunFault)
@@ -71,4 +79,26 @@ impl<'a> Texts for MemoryTexts<'a> {
     {
         let _ = self.refused.push(fault);
     }
+}
+
+/// No files of text: none can be opened, and of none is it said why.
+#[derive(Drop)]
+pub(crate) struct NoTexts;
+
+impl Opens for NoTexts {
+    type File = MemorySource<'static>;
+
+    ghost contents = { λ texts name. Some None };
+
+    fn open(&self, _name: &str) -> Result<MemorySource<'static>, LoadFault> {
+        Err(LoadFault::Unreadable)
+    }
+}
+
+impl<'a> Texts<'a> for NoTexts {
+    ghost refused = { λ texts. None };
+
+    fn begin(&mut self, _order: &Order<'a>) {}
+
+    fn refuse(&mut self, _name: &str, _fault: RunFault) {}
 }

@@ -1,7 +1,7 @@
 //! The passages of a text in one call: from the bytes of four property files and of a text to what the rules say of it.
 
 ghost use Rattle.std.specs.Prelude.{◌≡◌, [], Ok, Err, IfOk, IfErr, OnOk};
-ghost use Rattle.lbk_steps.specs.CellPages.{page_cell};
+ghost use Rattle.lbk_rules.specs.CellPages.{page_cell};
 ghost use Rattle.lbk_cmd.specs.Acts.{Shows};
 ghost use Rattle.lbk_cmd.specs.Broken.{IsBreakFault, ShowsBy};
 ghost use Rattle.lbk_cmd.specs.Devices.{reader_alone};

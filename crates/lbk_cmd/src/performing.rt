@@ -1,7 +1,7 @@
 //! What is ready, performed over the texts.
 
 ghost use Rattle.std.specs.Prelude.{◌≡◌, map};
-ghost use Rattle.lbk_steps.specs.CellPages.{page_cell};
+ghost use Rattle.lbk_rules.specs.CellPages.{page_cell};
 ghost use Rattle.lbk_cmd.specs.Acts.{EngineRuns, RangeEnds, RunsOver, form_of};
 ghost use Rattle.lbk_cmd.specs.Devices.{devices_of};
 ghost use Rattle.lbk_cmd.specs.Engines.{engine_of};
@@ -14,13 +14,13 @@ use super::operands::Texts;
 use super::ranges::write_range;
 use lbk_args::{Engine, Part};
 use lbk_feed::{Sink, Source};
-use lbk_files::{LoadFault, Ready};
+use lbk_files::{LoadFault, Opens, Ready};
 use lbk_notation::{Form, replay};
 use std::alloc::Global;
 
 /// Runs the engine that is ready over its texts, or over that of the reader where it has none.
 #[tactic(none)]
-pub(crate) fn perform<T: Texts, R: Source, W: Sink>(
+pub(crate) fn perform<'a, T: Texts<'a>, R: Source, W: Sink>(
     alloc: Global,
     ready: &Ready<'_>,
     texts: &mut T,
@@ -42,7 +42,7 @@ pub(crate) fn perform<T: Texts, R: Source, W: Sink>(
 }
 
 /// Runs the engine over each text in turn.
-fn perform_all<T: Texts, R: Source, W: Sink>(
+fn perform_all<'a, T: Texts<'a>, R: Source, W: Sink>(
     alloc: Global,
     ready: &Ready<'_>,
     names: &[&str],
@@ -69,7 +69,7 @@ fn perform_all<T: Texts, R: Source, W: Sink>(
 }
 
 /// Reports the text of a name, where it was refused.
-fn report<T: Texts>(texts: &mut T, name: &str, ending: &Ending)
+fn report<'a, T: Texts<'a>>(texts: &mut T, name: &str, ending: &Ending)
     ensures refused { T.refused texts.new ≡ refused_after (T.refused texts.old) name.now ending.now }
     ensures contents { T.contents texts.new ≡ T.contents texts.old }
 {
@@ -80,7 +80,7 @@ fn report<T: Texts>(texts: &mut T, name: &str, ending: &Ending)
 
 /// Runs the engine over the text of a name.
 #[tactic(none)]
-fn perform_named<T: Texts, R: Source, W: Sink>(
+fn perform_named<T: Opens, R: Source, W: Sink>(
     alloc: Global,
     ready: &Ready<'_>,
     name: &str,

@@ -7,7 +7,7 @@ ghost use Rattle.lbk_notation.specs.Shown.{passage_line, written_labels, passage
 ghost use Rattle.lbk_notation.specs.Written.{written_line};
 ghost use Rattle.lbk_notation.specs.declared.marks.Form.TheVariants.{Kinds};
 ghost use Rattle.lbk_passage.specs.Marks.{marks, ended};
-ghost use Rattle.lbk_uax14.specs.Answers.{written};
+ghost use Rattle.lbk_rules.specs.Answers.{written};
 ghost use Rattle.lbk_cmd.specs.Show.{verdicts_of};
 ghost use Rattle.lbk_cmd.specs.Deciding.{placed};
 

@@ -4,8 +4,8 @@ ghost use Rattle.std.specs.Prelude.{◌≡◌, ◌<◌, ◌≤◌, ◌^◌, ◌+
 ghost use Rattle.std.specs.List.{last_or};
 ghost use Rattle.std.specs.Option.{option_map_or};
 ghost use Rattle.std.specs.Str.{chars};
-ghost use Rattle.lbk_uax14.specs.Breaks.{breaks};
-ghost use Rattle.lbk_uax14.specs.declared.breaks.Break.{Break};
+ghost use Rattle.lbk_rules.specs.Breaks.{breaks};
+ghost use Rattle.lbk_rules.specs.declared.Break.{Break};
 ghost use Rattle.lbk_cmd.specs.Mark.{is_line_end, missing_line_end, sign};
 ghost use Rattle.lbk_cmd.specs.Signing.{IsCut, signed_from};
 
@@ -116,12 +116,8 @@ fn ends_in_line_end<C: CellSource>(cells: &C, text: &str) -> bool
     }
 }
 
-#[tactic(auto, unfolding(lbk_uax14::specs::Classes::is))]
 fn is_line_end(cell: Cell) -> bool
     ensures { result ≡ is_line_end cell }
 {
-    matches!(
-        cell.class,
-        Class::MandatoryBreak | Class::CarriageReturn | Class::LineFeed | Class::NextLine
-    )
+    cell.class.ends_line()
 }

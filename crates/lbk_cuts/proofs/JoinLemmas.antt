@@ -5,19 +5,19 @@ use Rattle.std.proofs.lemmas.Bool.{false≢true}
 use Rattle.std.proofs.lemmas.List.{drop-drop, drop_at, length-map, map-append, take_at}
 use Rattle.bstr.specs.Utf8.{Decoded, or_replacement, pieces}
 use Rattle.bstr.proofs.lemmas.PieceLemmas.{pieces-nil, sizes}
-use Rattle.lbk_uax14.specs.declared.breaks.Break.{Break}
-use Rattle.lbk_uax14.specs.declared.cells.Cell.{Cell}
-use Rattle.lbk_uax14.specs.declared.verdicts.Kind.TheVariants.{Must}
-use Rattle.lbk_uax14.specs.declared.verdicts.Rule.{Rule}
-use Rattle.lbk_uax14.specs.declared.verdicts.Verdict.{Verdict}
+use Rattle.lbk_rules.specs.declared.Break.{Break}
+use Rattle.lbk_rules.specs.declared.Cell.{Cell}
+use Rattle.lbk_rules.specs.declared.Kind.TheVariants.{Must}
+use Rattle.lbk_rules.specs.declared.Rule.{Rule}
+use Rattle.lbk_rules.specs.declared.Verdict.{Verdict}
 use Rattle.lbk_values.specs.declared.profile.Profile.{Profile}
-use Rattle.lbk_uax14.specs.Breaks.{break_by, is_no}
-use Rattle.lbk_uax14.specs.Ends.{end_after, end_of_text, ends_line}
-use Rattle.lbk_uax14.specs.Joins.{end_before_more, marks_in, moved}
-use Rattle.lbk_uax14.specs.Marks.{Marked, ended, marks, marks_behind}
-use Rattle.lbk_uax14.specs.Joins.{must_end_between}
-use Rattle.lbk_uax14.proofs.JoinLemmas.{end_before_more-must, joined-marks, map-moved, map-moved-none}
-use Rattle.lbk_uax14.proofs.MarkLemmas.{last-marks}
+use Rattle.lbk_rules.specs.Breaks.{break_by, is_no}
+use Rattle.lbk_rules.specs.Ends.{end_after, end_of_text, ends_line}
+use Rattle.lbk_rules.specs.Joins.{end_before_more, marks_in, moved}
+use Rattle.lbk_rules.specs.Marks.{Marked, ended, marks, marks_behind}
+use Rattle.lbk_rules.specs.Joins.{must_end_between}
+use Rattle.lbk_rules.proofs.JoinLemmas.{end_before_more-must, joined-marks, map-moved, map-moved-none}
+use Rattle.lbk_rules.proofs.MarkLemmas.{last-marks}
 use Rattle.lbk_bytes.specs.Bytes.{breaks_after, breaks_of_bytes, breaks_of_part, open_end}
 use Rattle.lbk_cuts.specs.Cuts.{AreByteParts, EndsBefore, JoinsAt, breaks_of_parts}
 use Rattle.lbk_cuts.proofs.PieceStartLemmas.{pieces-cut, sizes-append, sizes-front}

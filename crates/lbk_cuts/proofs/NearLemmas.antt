@@ -5,9 +5,9 @@ use Rattle.std.proofs.lemmas.List.{drop-append-le, get_or-append-add, take-appen
 use lib.Seq.{drop-append-add, take-append-add}
 use Rattle.bstr.specs.Utf8.{Decoded, IsLastPiece, bad, continues, decoded, lossy_chars, or_replacement}
 use Rattle.bstr.proofs.lemmas.PieceLemmas.{IsLastPiece-short_at, IsLastPiece-tail, IsLastPiece-whole_at, lossy_chars-last, lossy_chars-nil, lossy_chars-step, piece-bounds}
-use Rattle.lbk_uax14.specs.declared.cells.Cell.{Cell}
-use Rattle.lbk_uax14.specs.Ends.{ends_between}
-use Rattle.lbk_uax14.specs.Joins.{must_end_between}
+use Rattle.lbk_rules.specs.declared.Cell.{Cell}
+use Rattle.lbk_rules.specs.Ends.{ends_between}
+use Rattle.lbk_rules.specs.Joins.{must_end_between}
 use Rattle.lbk_cuts.specs.Cuts.{EndsBefore, HasNear, IsCutAfter, IsCutBefore, IsPieceStart, IsSafeCut}
 use Rattle.lbk_cuts.proofs.JoinLemmas.{must_end_between-later}
 use Rattle.lbk_cuts.proofs.PieceStartLemmas.{decoded-take, last-begins, last-whole, starts_next}

@@ -4,11 +4,11 @@ use Rattle.std.proofs.lemmas.Bool.{false≢true}
 use Rattle.std.proofs.lemmas.List.{map-append}
 use Rattle.bstr.specs.Utf8.{Decoded, IsLastPiece, decoded, lossy_chars, or_replacement, pieces}
 use Rattle.bstr.proofs.lemmas.PieceLemmas.{lossy_chars-last, lossy_chars-step}
-use Rattle.lbk_uax14.specs.declared.cells.Cell.{Cell}
-use Rattle.lbk_uax14.specs.declared.classes.Class.{Class}
+use Rattle.lbk_rules.specs.declared.Cell.{Cell}
+use Rattle.lbk_rules.specs.declared.Class.{Class}
 use Rattle.lbk_values.specs.declared.profile.Profile.{Profile}
-use Rattle.lbk_uax14.specs.Ends.{ends_between}
-use Rattle.lbk_uax14.specs.Joins.{must_end_between}
+use Rattle.lbk_rules.specs.Ends.{ends_between}
+use Rattle.lbk_rules.specs.Joins.{must_end_between}
 use Rattle.lbk_cuts.specs.Cuts.{EndsBefore, IsPieceStart, IsSafeCut, JoinsAt}
 use Rattle.lbk_cuts.specs.Looking.{LastIs, NextIs}
 use Rattle.lbk_cuts.proofs.PieceStartLemmas.{StartsNext, none-within}

@@ -1,8 +1,8 @@
 -- The classes on both sides of a byte of a text.
 use Rattle.std.specs.Prelude.{◌≡◌, ℕ, List, [], ◌∷◌, ◌++◌, take, drop}
 use Rattle.bstr.specs.Utf8.{decoded, lossy_chars, or_replacement}
-use Rattle.lbk_uax14.specs.declared.cells.Cell.{Cell}
-use Rattle.lbk_uax14.specs.declared.classes.Class.{Class}
+use Rattle.lbk_rules.specs.declared.Cell.{Cell}
+use Rattle.lbk_rules.specs.declared.Class.{Class}
 
 -- what begins at this byte is of this class
 abbrev pub NextIs : (ℕ → Cell) → List ℕ → ℕ → Class → Type 0

@@ -2,10 +2,10 @@
 
 ghost use Rattle.std.specs.Prelude.{◌≡◌, ℕ, ◌+◌, ◌-◌, ◌<◌, ◌≤◌, length, drop};
 ghost use Rattle.bstr.specs.Utf8.{decoded};
-ghost use Rattle.lbk_uax14.specs.declared.cells.Cell.{Cell};
+ghost use Rattle.lbk_rules.specs.declared.Cell.{Cell};
 ghost use Rattle.lbk_values.specs.declared.profile.Profile.{Profile};
-ghost use Rattle.lbk_uax14.specs.Ends.{ends_between};
-ghost use Rattle.lbk_steps.specs.FlatTable.{AreFlatKinds, IsFlatOf};
+ghost use Rattle.lbk_rules.specs.Ends.{ends_between};
+ghost use Rattle.lbk_rules.specs.FlatTable.{AreFlatKinds, IsFlatOf};
 ghost use Rattle.lbk_cuts.specs.Cuts.{IsCutAfter, IsCutBefore, IsPieceStart, IsSafeCut, JoinsAt};
 ghost use Rattle.lbk_cuts.specs.Looking.{LastIs, NextIs};
 
@@ -138,9 +138,8 @@ fn class_before(table: &FlatTable, text: &[u8], place: usize) -> (Class, usize)
 }
 
 /// Whether a line must end between scalars of these classes (rules LB4 and LB5).
-#[tactic(auto, unfolding(lbk_uax14::specs::Classes::is))]
 fn must_end(last: Class, next: Class) -> bool
     ensures { result ≡ ends_between last next }
 {
-    last.ends_line() && !(matches!(last, Class::CarriageReturn) && matches!(next, Class::LineFeed))
+    last.ends_line() && !(last.is(Class::CarriageReturn) && next.is(Class::LineFeed))
 }

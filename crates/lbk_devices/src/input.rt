@@ -7,31 +7,22 @@ ghost use Rattle.lbk_devices.specs.Within.{within_input};
 use crate::noting::Notes;
 use lbk_feed::{Failed, Source};
 
-/// What the input is read as.
-#[derive(Clone, Copy, Debug, PartialEq, Eq)]
-pub enum InputKind {
-    Text,
-    TestLines,
-}
-
-/// A source of which it is noted how it begins, and of test lines whether they have `!`. Each read is one read of the
+/// A source of which it is noted how it begins, and whether it has `!`, where that is wanted. Each read is one read of the
 /// source within, with its bytes and its failure.
 #[derive(Drop)]
 pub struct Input<'a, S> {
     inner: S,
-    kind: InputKind,
     notes: &'a Notes,
     has_begun: bool,
 }
 
 impl<'a, S> Input<'a, S> {
     /// The source `inner`, nothing of which was read yet.
-    pub fn new(inner: S, kind: InputKind, notes: &'a Notes) -> Input<'a, S>
+    pub fn new(inner: S, notes: &'a Notes) -> Input<'a, S>
         ensures { within_input result ≡ inner }
     {
         Input {
             inner,
-            kind,
             notes,
             has_begun: false,
         }
@@ -46,7 +37,7 @@ impl<'a, S> Input<'a, S> {
             let is_utf16 = matches!(bytes, [0xFF, 0xFE, ..] | [0xFE, 0xFF, ..]);
             self.notes.is_utf16.set(is_utf16);
         }
-        if self.kind == InputKind::TestLines && bytes.contains(&b'!') {
+        if self.notes.wants_kinds.get() && bytes.contains(&b'!') {
             self.notes.has_kinds.set(true);
         }
     }

@@ -6,6 +6,6 @@ mod input;
 mod noting;
 mod prompted;
 
-pub use input::{Input, InputKind};
+pub use input::Input;
 pub use noting::{Notes, Noting};
 pub use prompted::{Prompt, Prompted};

@@ -14,7 +14,9 @@ pub struct Notes {
     pub error: Cell<Option<ErrorKind>>,
     /// Whether the input begins with the byte order mark of UTF-16.
     pub is_utf16: Cell<bool>,
-    /// Whether test lines have `!`.
+    /// Whether it is noted that the input has `!`, as of test lines.
+    pub wants_kinds: Cell<bool>,
+    /// Whether the input has `!`.
     pub has_kinds: Cell<bool>,
 }
 
@@ -24,6 +26,7 @@ impl Notes {
         Notes {
             error: Cell::new(None),
             is_utf16: Cell::new(false),
+            wants_kinds: Cell::new(false),
             has_kinds: Cell::new(false),
         }
     }

@@ -5,8 +5,8 @@ use Rattle.lbk_ucd.specs.declared.tables.Files.{Files}
 use Rattle.lbk_ucd.specs.declared.which.Which.{Which}
 use Rattle.lbk_ucd.specs.declared.which.Which.TheVariants.{LineBreak, EastAsianWidth, Category, Emoji}
 use Rattle.lbk_ucd.specs.Files.{AreLawful, IsRefused}
-use Rattle.lbk_uax14.specs.declared.cells.Cell.{Cell}
-use Rattle.lbk_steps.specs.Cells.{AreCellsOf}
+use Rattle.lbk_rules.specs.declared.Cell.{Cell}
+use Rattle.lbk_rules.specs.Cells.{AreCellsOf}
 use Rattle.lbk_files.specs.Store.{IsFront, IsUnreadable}
 use Rattle.lbk_database.specs.Digests.{IsPublished}
 use Rattle.lbk_files.specs.Published.{IsClaimCause}

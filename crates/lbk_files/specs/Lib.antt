@@ -1,5 +1,5 @@
 -- What a reader has to believe.
-pub use Rattle.lbk_steps.specs.Cells
+pub use Rattle.lbk_rules.specs.Cells
 pub use Rattle.lbk_database.specs.Names
 pub mod CellsRefusal
 pub mod Store

@@ -1,6 +1,6 @@
 -- What the words of the program come to before an engine runs.
 use Rattle.std.specs.Prelude.{◌≡◌, ◌⊎◌, ℕ, List, Option, map}
-use Rattle.lbk_steps.specs.CellPages.{page_cell}
+use Rattle.lbk_rules.specs.CellPages.{page_cell}
 use Rattle.lbk_args.specs.Accepted.{faults_of}
 use Rattle.lbk_args.specs.Refusal.{HasFault, IsCallForHelp, IsMistake}
 use Rattle.lbk_args.specs.Task.{Task}
@@ -25,6 +25,10 @@ IsStoppedAt file task before after (Help text) = ⊥
 IsStoppedAt file task before after (Usage text) = ⊥
 IsStoppedAt file task before after (Refused fault) =
     ((fault ≡ Memory) × (after ≡ before)) ⊎ IsFileFault (files_of file task.files) before after fault
+
+-- out of memory, before any load
+abbrev pub IsWantOfMemory : Stop → Type 0
+IsWantOfMemory stop = stop ≡ Refused Memory
 
 -- words that are not accepted: help for a call for it, usage for a mistake, or want of memory
 abbrev pub IsStoppedByWords : List (List ℕ) → Stop → Type 0

@@ -2,7 +2,7 @@
 
 ghost use Rattle.std.specs.Prelude.{◌≡◌, IfOk, IfErr, OnOk, MatchResult};
 ghost use Rattle.lbk_ucd.specs.Files.{AreLawful};
-ghost use Rattle.lbk_steps.specs.CellPages.{page_cell};
+ghost use Rattle.lbk_rules.specs.CellPages.{page_cell};
 ghost use Rattle.lbk_files.specs.Cells.{AreCellsOf};
 ghost use Rattle.lbk_files.specs.CellsRefusal.{IsCellsRefusal};
 ghost use Rattle.lbk_files.specs.SampleFiles.{AreSampleCells, IsSampleFault};
@@ -28,7 +28,6 @@ pub const SAMPLE_FILES: Files<'static> = Files {
 /// ```rust
 /// let cells = read_cells(rt.alloc(), SAMPLE_FILES)?;
 /// ```
-#[tactic(auto, unfolding(lbk_steps::specs::CellOfTables::cell_of_tables))]
 pub fn read_cells(alloc: Global, files: Files<'_>) -> Result<CellPages, CellsFault>
     ensures lawful { OnOk result (AreLawful files.entry) }
     ensures cells { IfOk result (λ pages. AreCellsOf files.entry (page_cell pages)) }

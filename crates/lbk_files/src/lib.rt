@@ -25,5 +25,5 @@ pub use loading::load_cells;
 pub use memory_store::MemoryStore;
 pub use named_fault::NamedFault;
 pub use published::{ClaimCause, Version, check_claim};
-pub use readiness::{Ready, prepare};
+pub use readiness::{Ready, prepare, read_order};
 pub use store::{LoadFault, Store};

@@ -2,7 +2,7 @@
 
 ghost use Rattle.std.specs.Prelude.{◌≡◌, ◌+◌, ◌<◌, ◌≤◌, Err, MatchResult, OnOk, true};
 ghost use Rattle.lbk_feed.specs.Devices.{count_up};
-ghost use Rattle.lbk_steps.specs.CellPages.{page_cell};
+ghost use Rattle.lbk_rules.specs.CellPages.{page_cell};
 ghost use Rattle.lbk_files.specs.FileFault.{AreCellsFrom, IsFileFault, IsLoaded, counts_of, loads_to};
 ghost use Rattle.lbk_files.specs.Named.{IsOneFault, files_of, told_of};
 ghost use Rattle.lbk_files.specs.Places.{files_at, refusals_by, told_at};

@@ -2,10 +2,11 @@
 
 ghost use Rattle.std.specs.Prelude.{◌≡◌, ◌+◌, ◌<◌, ◌≤◌, Some, Err, MatchResult, map};
 ghost use Rattle.lbk_args.specs.Accepted.{AreAccepted};
-ghost use Rattle.lbk_args.specs.Task.{Task, task_by, task_of};
+ghost use Rattle.lbk_args.specs.Task.{Task, files_of_names, task_by, task_of};
 ghost use Rattle.lbk_args.specs.PlainWords.{IsPlainFor};
-ghost use Rattle.lbk_files.specs.FileFault.{counts_of};
-ghost use Rattle.lbk_files.specs.Ready.{IsReadyFor, IsStoppedAt, IsStoppedByWords};
+ghost use Rattle.lbk_files.specs.FileFault.{IsFileFault, counts_of};
+ghost use Rattle.lbk_files.specs.Named.{files_of};
+ghost use Rattle.lbk_files.specs.Ready.{IsReadyFor, IsStoppedByWords, IsWantOfMemory};
 
 use super::faults::{CellsFault, Stop};
 use super::loading::load_cells;
@@ -25,56 +26,48 @@ pub struct Ready<'a> {
     pub texts: Vec<&'a str>,
 }
 
-/// Reads the words, loads the files that they name, and reads these.
+/// Reads the words.
 ///
-/// `Help` and `Usage` come for words that are no order. `Refused` is the first step that fails: its `Memory` comes
-/// before any load, in a load, or for well-formed files once all four are loaded.
-pub fn prepare<'a, S: Store>(
-    alloc: Global,
-    words: &'a [&'a str],
-    store: &mut S,
-) -> Result<Ready<'a>, Stop>
+/// `Help` and `Usage` come for words that are no order, and `Refused` where an allocation was refused.
+pub fn read_order<'a>(alloc: Global, words: &'a [&'a str]) -> Result<Order<'a>, Stop>
     ensures plain { (task : Task) → IsPlainFor task (map (λ w. w.now) words.entry.now)
-        → MatchResult result (IsReadyFor (S.file store.old) task) (IsStoppedAt (S.file store.old) task
-        (counts_of (S.load_count store.old) (S.refusal_count store.old)) (counts_of (S.load_count store.new) (S.refusal_count store.new))) }
+        → MatchResult result (λ order. task_of order ≡ task) IsWantOfMemory }
     ensures accepted { (task : Task) → AreAccepted (map (λ w. w.now) words.entry.now)
         → task_by (map (λ w. w.now) words.entry.now) ≡ Some task
-        → MatchResult result (IsReadyFor (S.file store.old) task) (IsStoppedAt (S.file store.old) task
-        (counts_of (S.load_count store.old) (S.refusal_count store.old)) (counts_of (S.load_count store.new) (S.refusal_count store.new))) }
+        → MatchResult result (λ order. task_of order ≡ task) IsWantOfMemory }
     ensures others { ¬ (AreAccepted (map (λ w. w.now) words.entry.now))
-        → MatchResult result (λ ready. ⊥) (IsStoppedByWords (map (λ w. w.now) words.entry.now)) }
-    ensures refused { S.refusal_count store.old < S.refusal_count store.new → result ≡ Err (Stop.Refused CellsFault.Memory) }
-    ensures unloaded { ¬ (AreAccepted (map (λ w. w.now) words.entry.now)) → S.load_count store.new ≡ S.load_count store.old }
-    ensures loads { S.load_count store.new ≤ S.load_count store.old + 4 }
-    ensures files { S.file store.new ≡ S.file store.old }
+        → MatchResult result (λ order. ⊥) (IsStoppedByWords (map (λ w. w.now) words.entry.now)) }
 {
     match parse(alloc, words) {
-        Ok(order) => made_ready(alloc, order, store),
+        Ok(order) => Ok(order),
         Err(WordsFault::Help { text }) => Err(Stop::Help { text }),
         Err(WordsFault::Usage { text }) => Err(Stop::Usage { text }),
         Err(WordsFault::Memory) => Err(Stop::Refused(CellsFault::Memory)),
     }
 }
 
-fn made_ready<'a, S: Store>(
+/// Loads the files that an order names, and reads these.
+///
+/// The error is that of the first step that fails: `Memory` comes before any load, in a load, or for well-formed files once
+/// all four are loaded.
+pub fn prepare<'a, S: Store>(
     alloc: Global,
     order: Order<'a>,
     store: &mut S,
-) -> Result<Ready<'a>, Stop>
-    ensures made { MatchResult result (IsReadyFor (S.file store.old) (task_of order.entry)) (IsStoppedAt (S.file store.old) (task_of order.entry)
+) -> Result<Ready<'a>, CellsFault>
+    ensures made { MatchResult result (IsReadyFor (S.file store.old) (task_of order.entry))
+        (IsFileFault (files_of (S.file store.old) (files_of_names order.entry.files))
         (counts_of (S.load_count store.old) (S.refusal_count store.old)) (counts_of (S.load_count store.new) (S.refusal_count store.new))) }
-    ensures refused { S.refusal_count store.old < S.refusal_count store.new → result ≡ Err (Stop.Refused CellsFault.Memory) }
+    ensures refused { S.refusal_count store.old < S.refusal_count store.new → result ≡ Err CellsFault.Memory }
     ensures loads { S.load_count store.new ≤ S.load_count store.old + 4 }
     ensures files { S.file store.new ≡ S.file store.old }
 {
-    match load_cells(alloc, &order.files, store) {
-        Ok(cells) => Ok(Ready {
-            engine: order.engine,
-            profile: order.profile,
-            part: order.part,
-            cells,
-            texts: order.texts,
-        }),
-        Err(fault) => Err(Stop::Refused(fault)),
-    }
+    let cells = load_cells(alloc, &order.files, store)?;
+    Ok(Ready {
+        engine: order.engine,
+        profile: order.profile,
+        part: order.part,
+        cells,
+        texts: order.texts,
+    })
 }

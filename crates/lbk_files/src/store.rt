@@ -20,7 +20,7 @@ pub enum LoadFault {
 /// A count stays at `u64::MAX` once it is there.
 ///
 /// ```rust
-/// let ending = run(alloc, words, &mut store, &mut texts, reader, writer);
+/// let ending = run(alloc, words, &mut store, reader, writer);
 /// (ending, store.loads())
 /// ```
 pub trait Store {

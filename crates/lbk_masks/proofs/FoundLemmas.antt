@@ -61,7 +61,7 @@ left-behind sets before text zero some = absurd (omega arith)
 left-behind sets before text (suc i) some = ap (λ n. left_in sets (get_or text n 0)) (let e : i ≡ suc i - 1 = omega arith in e)
 
 -- before any byte is looked at
-none-bits : (is : ℕ → Bool) → AreBits 0 is 0
+pub none-bits : (is : ℕ → Bool) → AreBits 0 is 0
 none-bits is i few = set-none i ∙ sym (and_left (ltb i 0) (is i) (le-ltb i 0 (omega arith)))
 
 pub none-edges : (text : List ℕ) → AreEdges text 0 (record { wide = 0; first = 0 })

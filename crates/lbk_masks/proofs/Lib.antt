@@ -2,3 +2,4 @@ pub mod BitLemmas
 pub mod ClassLemmas
 pub mod EveryLemmas
 pub mod FoundLemmas
+pub mod KeptLemmas

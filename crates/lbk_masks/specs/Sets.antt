@@ -2,6 +2,7 @@
 use Rattle.std.specs.Prelude.{◌≡◌, ℕ, zero, suc, ◌<◌, ◌/◌, ◌%◌, ◌==◌, List, [], Bool, not, get_or, bit_and, if◌then◌else◌}
 use Rattle.std.specs.Int.{bit_at}
 use Rattle.lbk_masks.specs.declared.ByteSets.{ByteSets}
+use Rattle.lbk_masks.specs.declared.halves.HalfSets.{HalfSets}
 
 -- whether bit i of x is set
 abbrev pub is_set : ℕ → ℕ → Bool
@@ -41,3 +42,7 @@ right_in sets byte = picked sets.right (class_in sets.classes byte)
 abbrev pub left_before : ByteSets → ℕ → List ℕ → ℕ → ℕ
 left_before sets before text zero = before
 left_before sets before text (suc i) = left_in sets (get_or text i 0)
+
+-- whether a byte is in one of these sets, by its halves
+abbrev pub is_in : HalfSets → ℕ → ℕ → Bool
+is_in halves sets byte = meets (bit_and (picked halves.low byte) (picked halves.high (byte / 16))) sets

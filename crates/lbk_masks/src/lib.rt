@@ -11,9 +11,13 @@ ghost use Rattle.lbk_masks.specs.Found.{AreEdges, AreFound};
 ghost use Rattle.lbk_masks.specs.Sets.{HasLanes, chosen, class_in, is_set, left_before, left_in, meets, picked, right_in};
 ghost use Rattle.lbk_masks.specs.Strays.{is_stray};
 
+mod bits;
 mod found;
+mod halves;
 
+pub use bits::{first_set, kept_below, kept_from, without_first};
 use found::{Edges, Found, joined};
+pub use halves::{HalfSets, wide};
 use std::simd::prelude::*;
 
 /// How many bytes at most have a bit.

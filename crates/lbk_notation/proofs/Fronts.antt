@@ -8,8 +8,8 @@ use Rattle.lbk_notation.specs.declared.marks.Mark.{Mark}
 use Rattle.lbk_notation.specs.Grammar.{mark_bytes}
 use Rattle.lbk_notation.specs.Shown.{written_labels}
 use Rattle.lbk_notation.specs.Written.{HasPut, shown, token, written_after}
-use Rattle.lbk_uax14.specs.Labels.{label_of}
-use Rattle.lbk_uax14.specs.declared.verdicts.Verdict.{Verdict}
+use Rattle.lbk_rules.specs.Labels.{label_of}
+use Rattle.lbk_rules.specs.declared.Verdict.{Verdict}
 
 -- a list that goes on to what was to come, and in which all that was there stands
 pub HasPut-before : (old new bytes later : List ℕ) → new ++ later ≡ old ++ bytes → length old ≤ length new → HasPut old new bytes

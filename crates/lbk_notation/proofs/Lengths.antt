@@ -21,10 +21,10 @@ use Rattle.lbk_notation.specs.Marked.{mark_of}
 use Rattle.lbk_notation.specs.Shown.{written_labels, passage_line, passage_marks}
 use Rattle.lbk_notation.specs.Written.{shown, shown_line, digits_of, token, written_after, written_line, written_marks}
 use Rattle.lbk_notation.proofs.Writes.{AllScalars, written-IsLine}
-use Rattle.lbk_uax14.specs.declared.verdicts.Rule.{Rule}
-use Rattle.lbk_uax14.specs.declared.verdicts.Rule.TheVariants.{Lb2}
-use Rattle.lbk_uax14.specs.declared.verdicts.Verdict.{Verdict}
-use Rattle.lbk_uax14.specs.Labels.{label_of}
+use Rattle.lbk_rules.specs.declared.Rule.{Rule}
+use Rattle.lbk_rules.specs.declared.Rule.TheVariants.{Lb2}
+use Rattle.lbk_rules.specs.declared.Verdict.{Verdict}
+use Rattle.lbk_rules.specs.Labels.{label_of}
 
 -- four digits below 10000, and never more than six
 record Counted (scalar : ℕ) (digits : List ℕ) : Type 0 where

@@ -10,13 +10,13 @@ use Rattle.lbk_notation.specs.declared.marks.Mark.{Mark}
 use Rattle.lbk_notation.specs.declared.marks.Mark.TheVariants.{No}
 use Rattle.lbk_notation.specs.Marked.{mark_of, mark_at, marks_in}
 use Rattle.lbk_notation.specs.Put.{put, mark_now}
-use Rattle.lbk_uax14.specs.declared.cells.Cell.{Cell}
+use Rattle.lbk_rules.specs.declared.Cell.{Cell}
 use Rattle.lbk_values.specs.declared.profile.Profile.{Profile}
-use Rattle.lbk_uax14.specs.declared.verdicts.Verdict.{Verdict}
-use Rattle.lbk_uax14.specs.Held.{late_at, now_at, answer_at}
-use Rattle.lbk_uax14.specs.Verdict.{verdict_in}
-use Rattle.lbk_uax14.proofs.CoverLemmas.{late_at-below, answer_at-below}
-use Rattle.lbk_uax14.proofs.StepLemmas.{AllCome, AllCome-turn, AllCome-end, IsTaken, late_at-verdict, answer_at-verdict}
+use Rattle.lbk_rules.specs.declared.Verdict.{Verdict}
+use Rattle.lbk_rules.specs.Held.{late_at, now_at, answer_at}
+use Rattle.lbk_rules.specs.Verdict.{verdict_in}
+use Rattle.lbk_rules.proofs.CoverLemmas.{late_at-below, answer_at-below}
+use Rattle.lbk_rules.proofs.StepLemmas.{AllCome, AllCome-turn, AllCome-end, IsTaken, late_at-verdict, answer_at-verdict}
 
 -- the mark of position k is there
 abbrev pub Come : Profile → List Cell → List Mark → ℕ → Type 0

@@ -4,16 +4,16 @@ use Rattle.std.specs.List.{slice_get}
 use Rattle.std.specs.Option.{ForSome, option_map}
 use Rattle.std.proofs.lemmas.List.{length-map}
 use Rattle.std.proofs.lemmas.Bool.{cases_Bool, false≢true, ltb-false, ltb-true}
-use Rattle.lbk_uax14.specs.declared.cells.Cell.{Cell}
-use Rattle.lbk_uax14.specs.declared.verdicts.Kind.{Kind}
-use Rattle.lbk_uax14.specs.declared.verdicts.Kind.TheVariants as K
+use Rattle.lbk_rules.specs.declared.Cell.{Cell}
+use Rattle.lbk_rules.specs.declared.Kind.{Kind}
+use Rattle.lbk_rules.specs.declared.Kind.TheVariants as K
 use Rattle.lbk_values.specs.declared.profile.Profile.{Profile}
-use Rattle.lbk_uax14.specs.declared.verdicts.Verdict.{Verdict}
-use Rattle.lbk_uax14.specs.Held.{answer_at, is_held, late_at, now_at}
-use Rattle.lbk_uax14.specs.Verdict.{verdict_between_in, verdict_in}
-use Rattle.lbk_uax14.proofs.CoverLemmas.{answer_at-below, late_at-below}
-use Rattle.lbk_uax14.proofs.MachineLemmas.{verdict_in-append}
-use Rattle.lbk_uax14.proofs.StepLemmas.{AllCome, AllCome-end, AllCome-turn, IsTaken, answer_at-verdict, late_at-verdict}
+use Rattle.lbk_rules.specs.declared.Verdict.{Verdict}
+use Rattle.lbk_rules.specs.Held.{answer_at, is_held, late_at, now_at}
+use Rattle.lbk_rules.specs.Verdict.{verdict_between_in, verdict_in}
+use Rattle.lbk_rules.proofs.CoverLemmas.{answer_at-below, late_at-below}
+use Rattle.lbk_rules.proofs.MachineLemmas.{verdict_in-append}
+use Rattle.lbk_rules.proofs.StepLemmas.{AllCome, AllCome-end, AllCome-turn, IsTaken, answer_at-verdict, late_at-verdict}
 use Rattle.lbk_notation.specs.declared.findings.Outcome.{Outcome}
 use Rattle.lbk_notation.specs.declared.findings.Outcome.TheVariants.{Agree, Differ}
 use Rattle.lbk_notation.specs.declared.marks.Form.{Form}

@@ -7,7 +7,7 @@ use Rattle.std.proofs.Math.Seq.{take-append-add, take-append_seam}
 use Rattle.lbk_feed.specs.Devices.{KeepsIfTold, Reads}
 use Rattle.lbk_feed.specs.Runs.{Ran, Took}
 use Rattle.lbk_feed.specs.Runs.IsStopped.{midway, at_end}
-use Rattle.lbk_uax14.specs.declared.cells.Cell.{Cell}
+use Rattle.lbk_rules.specs.declared.Cell.{Cell}
 use Rattle.lbk_values.specs.declared.profile.Profile.{Profile}
 use Rattle.lbk_notation.specs.declared.findings.Report.{Report}
 use Rattle.lbk_notation.specs.declared.findings.ReplayFault.{ReplayFault}

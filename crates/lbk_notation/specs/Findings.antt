@@ -1,6 +1,6 @@
 -- What the lines of a test file come to.
 use Rattle.std.specs.Prelude.{ℕ, ◌≤◌, List, [], ◌∷◌, length, None, Some, ⊤}
-use Rattle.lbk_uax14.specs.declared.cells.Cell.{Cell}
+use Rattle.lbk_rules.specs.declared.Cell.{Cell}
 use Rattle.lbk_values.specs.declared.profile.Profile.{Profile}
 use Rattle.lbk_notation.specs.declared.faults.LineFault.TheVariants as Faults
 use Rattle.lbk_notation.specs.declared.findings.Finding.{Finding}

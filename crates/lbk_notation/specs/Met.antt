@@ -1,10 +1,10 @@
 -- The least difference so far, with the answers of a machine. Only proofs need this.
 use Rattle.std.specs.Prelude.{◌≡◌, ◌⊎◌, ℕ, ◌≤◌, Bool, true, false, nat_lt, ◌||◌, if◌then◌else◌, List, length, slice_get, Some, ⊤}
-use Rattle.lbk_uax14.specs.declared.cells.Cell.{Cell}
-use Rattle.lbk_uax14.specs.declared.verdicts.Kind.{Kind}
-use Rattle.lbk_uax14.specs.declared.verdicts.Kind.TheVariants as K
+use Rattle.lbk_rules.specs.declared.Cell.{Cell}
+use Rattle.lbk_rules.specs.declared.Kind.{Kind}
+use Rattle.lbk_rules.specs.declared.Kind.TheVariants as K
 use Rattle.lbk_values.specs.declared.profile.Profile.{Profile}
-use Rattle.lbk_uax14.specs.declared.verdicts.Verdict.{Verdict}
+use Rattle.lbk_rules.specs.declared.Verdict.{Verdict}
 use Rattle.lbk_notation.specs.declared.findings.Outcome.{Outcome}
 use Rattle.lbk_notation.specs.declared.findings.Outcome.TheVariants.{Agree, Differ}
 use Rattle.lbk_notation.specs.declared.marks.Form.{Form}

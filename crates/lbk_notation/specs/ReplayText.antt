@@ -1,7 +1,7 @@
 -- What a replay writes of the lines of a test file, and what it answers.
 use Rattle.std.specs.Prelude.{ℕ, ◌+◌, Bool, true, false, List, [], ◌∷◌, ◌++◌, count_by, codes, decimal}
 use Rattle.std.specs.List.{join_with_byte}
-use Rattle.lbk_uax14.specs.Labels.{label_of}
+use Rattle.lbk_rules.specs.Labels.{label_of}
 use Rattle.lbk_notation.specs.declared.findings.Finding.{Finding}
 use Rattle.lbk_notation.specs.declared.findings.Finding.TheVariants.{NoLine, Replayed, Bad, Long}
 use Rattle.lbk_notation.specs.declared.findings.Outcome.TheVariants.{Agree, Differ}

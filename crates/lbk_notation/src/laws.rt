@@ -12,7 +12,7 @@ ghost use Rattle.lbk_notation.specs.TestLine.{Line};
 ghost use Rattle.lbk_notation.specs.Shown.{passage_line, passage_marks};
 ghost use Rattle.lbk_notation.specs.Stream.{HasNoLineEnd};
 ghost use Rattle.lbk_notation.specs.Written.{digits_of, token, shown_line, written_line};
-ghost use Rattle.lbk_uax14.specs.declared.verdicts.Verdict.{Verdict};
+ghost use Rattle.lbk_rules.specs.declared.Verdict.{Verdict};
 
 /// What is written of a scalar is a token of four to six digits, it is read back as the scalar, and no
 /// other token is read as that scalar.

@@ -5,7 +5,7 @@ ghost use Rattle.lbk_notation.specs.declared.marks.Form.TheVariants.{Kinds};
 ghost use Rattle.lbk_notation.specs.Marked.{mark_of};
 ghost use Rattle.lbk_notation.specs.Shown.{passage_line, written_labels};
 ghost use Rattle.lbk_notation.specs.Written.{HasPut, written_marks};
-ghost use Rattle.lbk_uax14.specs.declared.verdicts.Verdict.{Verdict};
+ghost use Rattle.lbk_rules.specs.declared.Verdict.{Verdict};
 
 use super::marking::mark_of;
 use super::marks::Form;

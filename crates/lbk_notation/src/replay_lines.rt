@@ -1,7 +1,7 @@
 //! The lines that a replay writes.
 
 ghost use Rattle.std.specs.Prelude.{◌≡◌, ◌∷◌, ◌++◌, [], OnOk, decimal};
-ghost use Rattle.lbk_uax14.specs.Labels.{label_of};
+ghost use Rattle.lbk_rules.specs.Labels.{label_of};
 ghost use Rattle.lbk_notation.specs.Marked.{mark_of};
 ghost use Rattle.lbk_notation.specs.ReplayText.{finding_text, total_text};
 ghost use Rattle.lbk_notation.specs.Grammar.{mark_bytes};

@@ -35,7 +35,7 @@ pub struct ReplayState {
 }
 
 impl ReplayState {
-    ghost use Rattle.lbk_uax14.specs.declared.cells.Cell.{Cell};
+    ghost use Rattle.lbk_rules.specs.declared.Cell.{Cell};
     ghost use Rattle.lbk_values.specs.declared.profile.Profile.{Profile};
     ghost use Rattle.lbk_notation.specs.declared.marks.Form.{Form};
     ghost use Rattle.lbk_notation.specs.Fault.{HasMarks};

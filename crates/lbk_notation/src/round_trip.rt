@@ -12,7 +12,7 @@ ghost use Rattle.lbk_notation.specs.Shown.{passage_line, passage_marks};
 ghost use Rattle.lbk_notation.specs.TestLine.{Line};
 ghost use Rattle.lbk_notation.specs.Written.{shown_line, written_line};
 ghost use Rattle.lbk_notation.specs.declared.faults.LineFault.TheVariants.{LineTooLong, Memory};
-ghost use Rattle.lbk_uax14.specs.declared.verdicts.Verdict.{Verdict};
+ghost use Rattle.lbk_rules.specs.declared.Verdict.{Verdict};
 
 use super::faults::LineFault;
 use super::line_reading::read_line;

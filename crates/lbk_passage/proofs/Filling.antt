@@ -5,9 +5,9 @@ use Rattle.std.proofs.lemmas.Str.{chars-nil, encodes-chars}
 use Rattle.std.proofs.lemmas.Bool.{false≢true}
 use Rattle.lbk_feed.specs.Devices.{Reads}
 use Rattle.lbk_feed.specs.View.{BeginsWith, CanGoOn}
-use Rattle.lbk_uax14.specs.declared.cells.Cell.{Cell}
+use Rattle.lbk_rules.specs.declared.Cell.{Cell}
 use Rattle.lbk_values.specs.declared.profile.Profile.{Profile}
-use Rattle.lbk_uax14.specs.declared.verdicts.Verdict.{Verdict}
+use Rattle.lbk_rules.specs.declared.Verdict.{Verdict}
 use Rattle.lbk_passage.specs.State.{State, state_with, text_held}
 use Rattle.lbk_passage.specs.Stays.{IsWhole, IsWholeText, end_before, is_nil, last_class}
 use Rattle.lbk_passage.specs.Next.{fault_in, ends_run, IsDone, KeepsAhead, Stops, WereDue}

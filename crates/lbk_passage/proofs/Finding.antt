@@ -3,8 +3,8 @@ use Rattle.std.proofs.Common.{◌≡◌, ℕ, ◌+◌, ◌≤◌, Bool, true, fa
 use Rattle.std.proofs.Math.Utf8.{scalar, scalars}
 use Rattle.std.proofs.lemmas.Str.{scalars-chars, encodes-chars, encode_same, length-encode, len_utf8_bounds, IsUtf8-from_is_utf8}
 use Rattle.lbk_feed.specs.Text.{longest_text}
-use Rattle.lbk_uax14.specs.declared.verdicts.Verdict.{Verdict}
-use Rattle.lbk_uax14.specs.Ends.{ends_between, end_after, end_of_text}
+use Rattle.lbk_rules.specs.declared.Verdict.{Verdict}
+use Rattle.lbk_rules.specs.Ends.{ends_between, end_after, end_of_text}
 use Rattle.lbk_passage.specs.Marks.{marks, scalars_of, text_of, ended}
 use Rattle.lbk_passage.specs.Passages.{passages}
 use Rattle.lbk_passage.specs.Stays.{ends_at, stays, last_class, end_before, finds_end, is_nil, IsWholeText}
@@ -12,7 +12,7 @@ use Rattle.lbk_passage.specs.State.{State}
 use Rattle.lbk_passage.specs.Next.{IsDone}
 use Rattle.lbk_passage.specs.Gathering.{IsFirst, FillAnswers}
 use Rattle.lbk_passage.specs.declared.paragraph.Paragraph.{Paragraph}
-use Rattle.lbk_uax14.proofs.MarkLemmas.{last_in, scalars-behind, scalars-ended}
+use Rattle.lbk_rules.proofs.MarkLemmas.{last_in, scalars-behind, scalars-ended}
 use Rattle.lbk_passage.proofs.Marking.{last_class-in, first_passage, only_passage}
 use Rattle.lbk_passage.proofs.Booleans.{both-left, both-right}
 

@@ -2,9 +2,9 @@
 use Rattle.std.proofs.Common.{◌≡◌, ℕ, ◌+◌, ◌<◌, ◌≤◌, Bool, true, false, not, List, length, set, encode_utf8, slice_index_or, inl, inr, refl, sym, ap, ◌∙◌, arith, [], append-nil, get_or-set_same, get_or-set_other}
 use Rattle.std.proofs.lemmas.Bool.{cases_eq}
 use Rattle.std.proofs.lemmas.Str.{IsCharBoundary-start, char_from_byte, length-encode, len_utf8_bounds}
-use Rattle.lbk_uax14.specs.declared.cells.Cell.{Cell}
-use Rattle.lbk_uax14.specs.Ends.{ends_line}
-use Rattle.lbk_steps.specs.FirstBytes.{AreQuiet, first_byte}
+use Rattle.lbk_rules.specs.declared.Cell.{Cell}
+use Rattle.lbk_rules.specs.Ends.{ends_line}
+use Rattle.lbk_rules.specs.FirstBytes.{AreQuiet, first_byte}
 use Rattle.lbk_passage.specs.Flags.{AreLettersTo}
 use Rattle.lbk_passage.proofs.Finding.{IsUtf8-scalar}
 

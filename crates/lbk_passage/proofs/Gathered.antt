@@ -9,10 +9,10 @@ use Rattle.lbk_feed.specs.declared.faults.FeedFault.TheVariants as feed_fault
 use Rattle.lbk_feed.specs.Devices.{Reads}
 use Rattle.lbk_feed.specs.View.{View, IsFront, LendsFront, LiesIn, Steps}
 use Rattle.lbk_feed.specs.View as feed
-use Rattle.lbk_uax14.specs.declared.classes.Class.{Class}
-use Rattle.lbk_uax14.specs.declared.cells.Cell.{Cell}
+use Rattle.lbk_rules.specs.declared.Class.{Class}
+use Rattle.lbk_rules.specs.declared.Cell.{Cell}
 use Rattle.lbk_values.specs.declared.profile.Profile.{Profile}
-use Rattle.lbk_uax14.specs.declared.verdicts.Verdict.{Verdict}
+use Rattle.lbk_rules.specs.declared.Verdict.{Verdict}
 use Rattle.lbk_passage.specs.Faults.{passage_fault}
 use Rattle.lbk_passage.specs.Stays.{IsWholeText, ends_at, stays, last_class, end_before, finds_end, is_nil}
 use Rattle.lbk_passage.specs.State.{state_with, text_held}

@@ -4,9 +4,9 @@ use Rattle.std.proofs.lemmas.Str.{chars-nil, encodes-chars, IsUtf8-string_bytes}
 use Rattle.std.specs.Io.KnownBytes.{prepend_known}
 use Rattle.lbk_feed.specs.Devices.{Reads}
 use Rattle.lbk_feed.specs.View.{BeginsWith, IsStill}
-use Rattle.lbk_uax14.specs.declared.cells.Cell.{Cell}
+use Rattle.lbk_rules.specs.declared.Cell.{Cell}
 use Rattle.lbk_values.specs.declared.profile.Profile.{Profile}
-use Rattle.lbk_uax14.specs.declared.verdicts.Verdict.{Verdict}
+use Rattle.lbk_rules.specs.declared.Verdict.{Verdict}
 use Rattle.lbk_passage.specs.Marks.{Marked, marks, ended, scalars_of, text_of}
 use Rattle.lbk_passage.specs.Segments.{segments_of}
 use Rattle.lbk_passage.specs.Pieces.{pieces_of}
@@ -19,7 +19,7 @@ use Rattle.lbk_passage.specs.declared.faults.PassageFault.TheVariants.{Limit, Me
 use Rattle.lbk_passage.specs.declared.paragraph.Paragraph.{Paragraph}
 use Rattle.lbk_passage.specs.declared.passage.Passage.{Passage}
 use Rattle.lbk_passage.proofs.Finding.{Shows}
-use Rattle.lbk_uax14.proofs.MarkLemmas.{scalars-behind, scalars-ended}
+use Rattle.lbk_rules.proofs.MarkLemmas.{scalars-behind, scalars-ended}
 use Rattle.lbk_passage.proofs.Gathered.{Shows-of}
 use Rattle.lbk_passage.proofs.Taking.{string_len-is}
 

@@ -3,17 +3,17 @@ use Rattle.std.proofs.Common.{◌≡◌, ℕ, ◌+◌, Bool, true, false, cond, 
 use Rattle.std.specs.List.{AllByRecursion, flat_map}
 use Rattle.std.proofs.lemmas.Bool.{false≢true}
 use Rattle.std.proofs.lemmas.List.{map-append}
-use Rattle.lbk_uax14.specs.declared.cells.Cell.{Cell}
-use Rattle.lbk_uax14.specs.declared.verdicts.Kind.TheVariants.{Must}
-use Rattle.lbk_uax14.specs.declared.verdicts.Rule.{Rule}
-use Rattle.lbk_uax14.specs.declared.verdicts.Verdict.{Verdict}
+use Rattle.lbk_rules.specs.declared.Cell.{Cell}
+use Rattle.lbk_rules.specs.declared.Kind.TheVariants.{Must}
+use Rattle.lbk_rules.specs.declared.Rule.{Rule}
+use Rattle.lbk_rules.specs.declared.Verdict.{Verdict}
 use Rattle.lbk_values.specs.declared.profile.Profile.{Profile}
-use Rattle.lbk_uax14.specs.Breaks.{is_no}
-use Rattle.lbk_uax14.specs.Ends.{end_of_text}
-use Rattle.lbk_uax14.specs.Joins.{AreParts, end_before_more, must_end_between, of_parts, with_last}
-use Rattle.lbk_uax14.specs.Marks.{Marked, ended, marks, scalars_of, text_of}
-use Rattle.lbk_uax14.proofs.JoinLemmas.{JoinsTwo, end_before_more-must, joined-marks, joined-parts, with_last-snoc}
-use Rattle.lbk_uax14.proofs.MarkLemmas.{last-marks, scalars-ended}
+use Rattle.lbk_rules.specs.Breaks.{is_no}
+use Rattle.lbk_rules.specs.Ends.{end_of_text}
+use Rattle.lbk_rules.specs.Joins.{AreParts, end_before_more, must_end_between, of_parts, with_last}
+use Rattle.lbk_rules.specs.Marks.{Marked, ended, marks, scalars_of, text_of}
+use Rattle.lbk_rules.proofs.JoinLemmas.{JoinsTwo, end_before_more-must, joined-marks, joined-parts, with_last-snoc}
+use Rattle.lbk_rules.proofs.MarkLemmas.{last-marks, scalars-ended}
 use Rattle.lbk_passage.specs.Laws.{EndsOnce}
 use Rattle.lbk_passage.specs.Parts.{moved_piece, moved_segment, of_passages, passages_in, pieces_at, pieces_in, segment_by_rule, segments_at, segments_before, segments_in}
 use Rattle.lbk_passage.specs.Passages.{cut_after, ends_passage, join_first, passages}

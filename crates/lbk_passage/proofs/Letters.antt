@@ -6,7 +6,7 @@ use Rattle.std.proofs.lemmas.Bool.{cases_lt}
 use Rattle.std.proofs.lemmas.Bool.Decides.{nat_tests}
 use Rattle.std.proofs.Math.ListN.{drop_of_length-le}
 use Rattle.std.proofs.lemmas.Str.{byte_from_char, chars-nil, encodes-chars, length-encode}
-use Rattle.lbk_uax14.specs.declared.cells.Cell.{Cell}
+use Rattle.lbk_rules.specs.declared.Cell.{Cell}
 use Rattle.lbk_passage.specs.Flags.{AreLetters}
 use Rattle.lbk_passage.specs.Pieces.{is_word}
 use Rattle.lbk_passage.proofs.Passing.{chars-byte}

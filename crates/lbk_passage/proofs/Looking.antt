@@ -4,9 +4,9 @@ use Rattle.std.proofs.Math.Utf8.{scalars}
 use Rattle.std.proofs.lemmas.Str.{chars-nil, encodes-append, encodes-chars, scalars-chars}
 use Rattle.lbk_feed.specs.Text.{well_formed_prefix, counted}
 use Rattle.lbk_feed.specs.View.{IsFront, LendsFront}
-use Rattle.lbk_uax14.specs.declared.cells.Cell.{Cell}
+use Rattle.lbk_rules.specs.declared.Cell.{Cell}
 use Rattle.lbk_values.specs.declared.profile.Profile.{Profile}
-use Rattle.lbk_uax14.specs.declared.verdicts.Verdict.{Verdict}
+use Rattle.lbk_rules.specs.declared.Verdict.{Verdict}
 use Rattle.lbk_passage.specs.Gathering.{Reaches, StopsBefore, Takes}
 use Rattle.lbk_passage.specs.Next.{IsOpen}
 use Rattle.lbk_passage.specs.State.{State, state_with, text_held}

@@ -1,14 +1,14 @@
 -- The marks of a text, and where its first passage ends.
 use Rattle.std.proofs.Common.{◌≡◌, ◌⊎◌, ℕ, ◌<◌, ◌≤◌, Bool, true, false, not, List, [], ◌∷◌, ◌++◌, map, length, Some, None, refl, sym, ap, ◌∙◌, ⊎_elim, append_assoc, append-nil, arith}
 use Rattle.std.proofs.lemmas.List.{map-append}
-use Rattle.lbk_uax14.specs.declared.cells.Cell.{Cell}
-use Rattle.lbk_uax14.specs.declared.verdicts.Kind.{Kind}
-use Rattle.lbk_uax14.specs.declared.verdicts.Kind.TheVariants.{No, May, Must}
+use Rattle.lbk_rules.specs.declared.Cell.{Cell}
+use Rattle.lbk_rules.specs.declared.Kind.{Kind}
+use Rattle.lbk_rules.specs.declared.Kind.TheVariants.{No, May, Must}
 use Rattle.lbk_values.specs.declared.profile.Profile.{Profile}
-use Rattle.lbk_uax14.specs.Ends.{ends_between, end_after, end_of_text}
-use Rattle.lbk_uax14.specs.Verdict.{verdict_between_in}
-use Rattle.lbk_uax14.proofs.EndLemmas.{no_must_between}
-use Rattle.lbk_uax14.proofs.MarkLemmas.{MustStand, ends-marks, last-marks, last_in, marks-behind_line, marks-split, marks_between, must-stands, must_after_all, must_here, scalars-between}
+use Rattle.lbk_rules.specs.Ends.{ends_between, end_after, end_of_text}
+use Rattle.lbk_rules.specs.Verdict.{verdict_between_in}
+use Rattle.lbk_rules.proofs.EndLemmas.{no_must_between}
+use Rattle.lbk_rules.proofs.MarkLemmas.{MustStand, ends-marks, last-marks, last_in, marks-behind_line, marks-split, marks_between, must-stands, must_after_all, must_here, scalars-between}
 use Rattle.lbk_passage.specs.Marks.{marks_behind, marks, scalars_of, ended}
 use Rattle.lbk_passage.specs.Passages.{passages, cut_after, ends_passage, is_must}
 use Rattle.lbk_passage.specs.Laws.{IsBehind, IsPart}

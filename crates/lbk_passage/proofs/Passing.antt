@@ -6,10 +6,10 @@ use Rattle.std.proofs.Math.Utf8.{scalars}
 use Rattle.std.proofs.lemmas.Bool.{cases_lt, false≢true}
 use Rattle.std.proofs.lemmas.List.{drop_more, get_or-drop, get_or_append_left, length-take-le, take-append-drop}
 use Rattle.std.proofs.lemmas.Str.{encode_ascii, encode_same, encodes-append, encodes-chars, encodes_same, IsCharBoundary-at_seam, IsCharBoundary-from_drop, IsUtf8-between, IsUtf8-encode, IsUtf8-take}
-use Rattle.lbk_uax14.specs.Classes.{CR, LF}
-use Rattle.lbk_steps.specs.FirstBytes.{first_byte}
-use Rattle.lbk_uax14.specs.declared.classes.Class.{Class}
-use Rattle.lbk_uax14.specs.declared.cells.Cell.{Cell}
+use Rattle.lbk_rules.specs.Classes.{CR, LF}
+use Rattle.lbk_rules.specs.FirstBytes.{first_byte}
+use Rattle.lbk_rules.specs.declared.Class.{Class}
+use Rattle.lbk_rules.specs.declared.Cell.{Cell}
 use Rattle.lbk_breaks.proofs.FillingLemmas.{reads}
 use Rattle.lbk_passage.specs.Gathering.{Reaches, StopsBefore}
 use Rattle.lbk_passage.specs.Flags.{AreQuiet, ArePassed, Passes, is_end}

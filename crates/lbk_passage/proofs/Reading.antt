@@ -7,7 +7,7 @@ use Rattle.lbk_feed.specs.declared.faults.FeedFault.TheVariants as feed_fault
 use Rattle.lbk_feed.specs.Devices.{KeepsIfTold, Reads}
 use Rattle.lbk_feed.specs.View.{View, AreDue, BeginsWith, CanGoOn, IsStill, Steps, Pays}
 use Rattle.lbk_feed.specs.View as feed
-use Rattle.lbk_uax14.specs.declared.cells.Cell.{Cell}
+use Rattle.lbk_rules.specs.declared.Cell.{Cell}
 use Rattle.lbk_passage.specs.Faults.{passage_fault}
 use Rattle.lbk_passage.specs.Stays.{stays}
 use Rattle.lbk_passage.specs.Next.{KeepsAhead}

@@ -4,7 +4,7 @@ use Rattle.std.specs.List.{flat_map}
 use Rattle.std.proofs.Math.Utf8.{scalar, scalars}
 use Rattle.std.proofs.lemmas.Grind.{flat_map-append}
 use Rattle.std.proofs.lemmas.Str.{encode_same, encodes-chars, encodes_same, scalars-chars, length-encode, len_utf8_bounds}
-use Rattle.lbk_uax14.specs.declared.cells.Cell.{Cell}
+use Rattle.lbk_rules.specs.declared.Cell.{Cell}
 use Rattle.lbk_values.specs.declared.profile.Profile.{Profile}
 use Rattle.lbk_passage.specs.Marks.{Marked, scalars_of, text_of}
 use Rattle.lbk_passage.specs.Passages.{passages}

@@ -8,7 +8,7 @@ use Rattle.std.proofs.lemmas.Bool.{and_parts}
 use Rattle.std.proofs.lemmas.Str.{chars-encodes}
 use Rattle.unicode_segmentation.specs.Segments.{Rule, cut, prepend, segments}
 use Rattle.unicode_segmentation.specs.Word.{is_word_break}
-use Rattle.lbk_uax14.specs.declared.cells.Cell.{Cell}
+use Rattle.lbk_rules.specs.declared.Cell.{Cell}
 use Rattle.lbk_passage.specs.Pieces.{is_word, pieces_from, pieces_of}
 use Rattle.lbk_passage.specs.declared.passage.Piece.{Piece}
 

@@ -5,18 +5,18 @@ use Rattle.std.specs.Str.{IsUtf8, chars}
 use Rattle.std.proofs.lemmas.List.{append_cancel_left, length-append, length_push, map-append, take_at}
 use Rattle.std.proofs.lemmas.List.Elements.{All-cons, All-nil}
 use Rattle.std.proofs.lemmas.Str.{encodes-chars}
-use Rattle.lbk_uax14.specs.declared.breaks.Break.{Break}
-use Rattle.lbk_uax14.specs.declared.cells.Cell.{Cell}
+use Rattle.lbk_rules.specs.declared.Break.{Break}
+use Rattle.lbk_rules.specs.declared.Cell.{Cell}
 use Rattle.lbk_values.specs.declared.profile.Profile.{Profile}
-use Rattle.lbk_uax14.specs.declared.verdicts.Verdict.{Verdict}
-use Rattle.lbk_uax14.specs.Verdict.{verdict_between_in}
-use Rattle.lbk_uax14.proofs.EndLemmas.{must_at_end}
+use Rattle.lbk_rules.specs.declared.Verdict.{Verdict}
+use Rattle.lbk_rules.specs.Verdict.{verdict_between_in}
+use Rattle.lbk_rules.proofs.EndLemmas.{must_at_end}
 use Rattle.lbk_passage.specs.declared.passage.Segment.{Segment}
 use Rattle.lbk_passage.specs.Breaks.{break_by, breaks, breaks_from, is_no}
 use Rattle.lbk_passage.specs.Cuts.{cut_at, ending_by}
 use Rattle.lbk_passage.specs.Marks.{Marked, ended, marks, marks_behind, scalars_of}
 use Rattle.lbk_passage.specs.Segments.{segment_by, segments_from, segments_of}
-use Rattle.lbk_uax14.proofs.MarkLemmas.{scalars-behind}
+use Rattle.lbk_rules.proofs.MarkLemmas.{scalars-behind}
 
 -- The segments of some marks end at their breaks
 

@@ -1,8 +1,8 @@
 -- Scalars that stay in one paragraph, one more of them at a time.
 use Rattle.std.proofs.Common.{◌≡◌, ℕ, ◌+◌, true, false, not, List, [], ◌∷◌, ◌++◌, length, Option, Some, encode_utf8, encode_utf8_all, refl, ap, ◌∙◌, length-append, append-nil}
 use Rattle.std.proofs.lemmas.Str.{encodes-append}
-use Rattle.lbk_uax14.specs.declared.classes.Class.{Class}
-use Rattle.lbk_uax14.specs.declared.cells.Cell.{Cell}
+use Rattle.lbk_rules.specs.declared.Class.{Class}
+use Rattle.lbk_rules.specs.declared.Cell.{Cell}
 use Rattle.lbk_passage.specs.Stays.{ends_at, stays, last_class}
 use Rattle.lbk_passage.proofs.Booleans.{and-true, both-left, both-right}
 

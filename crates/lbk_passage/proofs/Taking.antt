@@ -5,8 +5,8 @@ use Rattle.std.proofs.Math.Utf8.{scalars}
 use Rattle.std.proofs.Math.Seq.{take-append_seam, drop-append_seam}
 use Rattle.std.proofs.lemmas.Str.{scalars-chars, chars-encodes, encodes-chars, encodes-append, chars-append, IsUtf8-string_bytes, IsCharBoundary-at_seam}
 use Rattle.lbk_feed.specs.View.{LendsFront}
-use Rattle.lbk_uax14.specs.declared.classes.Class.{Class}
-use Rattle.lbk_uax14.specs.declared.cells.Cell.{Cell}
+use Rattle.lbk_rules.specs.declared.Class.{Class}
+use Rattle.lbk_rules.specs.declared.Cell.{Cell}
 use Rattle.lbk_passage.specs.Gathering.{Reaches, Moves, Takes, StopsBefore}
 use Rattle.lbk_passage.specs.declared.paragraph.Paragraph.{Paragraph}
 use Rattle.lbk_passage.specs.declared.reach.Reach.{Reach}

@@ -2,15 +2,15 @@
 use Rattle.std.proofs.Common.{◌≡◌, ℕ, ◌+◌, true, false, cond, List, [], ◌∷◌, ◌++◌, map, length, encode_utf8, encode_utf8_all, chars, IsUtf8, refl, sym, ap, ◌∙◌, arith}
 use Rattle.std.specs.List.{AllByRecursion, flat_map}
 use Rattle.std.proofs.lemmas.Str.{encodes-append, encodes-chars}
-use Rattle.lbk_uax14.specs.declared.cells.Cell.{Cell}
+use Rattle.lbk_rules.specs.declared.Cell.{Cell}
 use Rattle.lbk_values.specs.declared.profile.Profile.{Profile}
 use Rattle.lbk_passage.specs.Breaks.{break_by, breaks, breaks_from, is_no}
 use Rattle.lbk_passage.specs.Laws.{EndsOnce, break_at, segment_breaks}
 use Rattle.lbk_passage.specs.Marks.{Marked, marks, scalars_of, text_of}
 use Rattle.lbk_passage.specs.Passages.{passages, ends_passage, cut_after}
 use Rattle.lbk_passage.specs.Segments.{segment_by, segments_from, segments_of}
-use Rattle.lbk_uax14.proofs.JoinLemmas.{breaks-joined}
-use Rattle.lbk_uax14.proofs.MarkLemmas.{scalars-behind}
+use Rattle.lbk_rules.proofs.JoinLemmas.{breaks-joined}
+use Rattle.lbk_rules.proofs.MarkLemmas.{scalars-behind}
 use Rattle.lbk_passage.proofs.Cutting.{cut_after-joined, cut_after-whole, cut_after-ends, cut_after-only}
 use Rattle.lbk_passage.proofs.Marking.{marks-closed}
 

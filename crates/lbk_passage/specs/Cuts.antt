@@ -1,9 +1,9 @@
 -- Segments between breaks.
 use Rattle.std.specs.Prelude.{ℕ, List, [], ◌∷◌, if◌then◌else◌}
-use Rattle.lbk_uax14.specs.declared.breaks.Break.{Break}
-use Rattle.lbk_uax14.specs.declared.verdicts.Verdict.{Verdict}
+use Rattle.lbk_rules.specs.declared.Break.{Break}
+use Rattle.lbk_rules.specs.declared.Verdict.{Verdict}
 use Rattle.lbk_passage.specs.declared.passage.Segment.{Segment}
-use Rattle.lbk_uax14.specs.Breaks.{is_no}
+use Rattle.lbk_rules.specs.Breaks.{is_no}
 use Rattle.lbk_passage.specs.Segments.{segment_by}
 
 -- those that end at these breaks, the first from `start` on

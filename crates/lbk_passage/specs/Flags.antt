@@ -1,10 +1,10 @@
 -- What bytes tell of scalars: that no line must end behind them, and that they are letters.
 use Rattle.std.specs.Prelude.{◌≡◌, ℕ, ◌<◌, ◌≤◌, Bool, true, false, List, ◌++◌, Option, Some, None, length, slice_index_or, encode_utf8_all, drop}
 use Rattle.std.specs.Str.{chars, IsCharBoundary}
-use Rattle.lbk_uax14.specs.declared.classes.Class.{Class}
-use Rattle.lbk_uax14.specs.declared.cells.Cell.{Cell}
-use Rattle.lbk_uax14.specs.Ends.{ends_line}
-use Rattle.lbk_steps.specs.FirstBytes as FirstBytes
+use Rattle.lbk_rules.specs.declared.Class.{Class}
+use Rattle.lbk_rules.specs.declared.Cell.{Cell}
+use Rattle.lbk_rules.specs.Ends.{ends_line}
+use Rattle.lbk_rules.specs.FirstBytes as FirstBytes
 use Rattle.lbk_passage.specs.Stays.{stays, last_class}
 
 -- a line must end behind no scalar whose first byte has true in the list, and each byte that continues a scalar has true

@@ -9,13 +9,13 @@ use Rattle.lbk_feed.specs.View.{View, Steps, Pays, BeginsWith, AfterEach, CanGoO
 use Rattle.lbk_feed.specs.Text.{longest_text}
 use Rattle.lbk_feed.specs.declared.faults.FeedFault.TheVariants.{Read as feed_read, Spent as feed_spent}
 use Rattle.lbk_feed.specs.View as feed
-use Rattle.lbk_uax14.specs.declared.classes.Class.{Class}
-use Rattle.lbk_uax14.specs.declared.cells.Cell.{Cell}
+use Rattle.lbk_rules.specs.declared.Class.{Class}
+use Rattle.lbk_rules.specs.declared.Cell.{Cell}
 use Rattle.lbk_values.specs.declared.profile.Profile.{Profile}
-use Rattle.lbk_uax14.specs.declared.verdicts.Verdict.{Verdict}
+use Rattle.lbk_rules.specs.declared.Verdict.{Verdict}
 use Rattle.lbk_passage.specs.Faults.{passage_fault}
-use Rattle.lbk_uax14.specs.Breaks.{is_no}
-use Rattle.lbk_uax14.specs.Marks.{marks, ended}
+use Rattle.lbk_rules.specs.Breaks.{is_no}
+use Rattle.lbk_rules.specs.Marks.{marks, ended}
 use Rattle.lbk_passage.specs.Stays.{ends_at, stays, last_class, IsWholeText}
 use Rattle.lbk_passage.specs.State.{State, state_with}
 use Rattle.lbk_passage.specs.Next.{fault_in, ends_run, KeepsAhead, IsDone, ComesFirst, Stops, Costs}

@@ -1,7 +1,7 @@
 -- What a reader has to believe.
-pub use Rattle.lbk_uax14.specs.Marks
+pub use Rattle.lbk_rules.specs.Marks
 pub mod Passages
-pub use Rattle.lbk_uax14.specs.Breaks
+pub use Rattle.lbk_rules.specs.Breaks
 pub mod Segments
 pub mod Pieces
 pub mod State
@@ -10,7 +10,7 @@ pub mod Next
 pub mod Passing
 pub mod Laws
 pub mod Runs
-pub use Rattle.lbk_uax14.specs.Joins
+pub use Rattle.lbk_rules.specs.Joins
 pub mod Parts
 -- What only carries proofs.
 pub mod Faults

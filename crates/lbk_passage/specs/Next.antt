@@ -4,7 +4,7 @@ use Rattle.std.specs.Io.KnownBytes.{prepend_known, Keeps, IsAtEnd}
 use Rattle.lbk_feed.specs.Devices.{KeepsIfTold, Reads, count_up}
 use Rattle.lbk_feed.specs.Text.{longest_text, well_formed_prefix, counted, IsNotUtf8At, IsTooLong}
 use Rattle.lbk_feed.specs.View.{AfterEach, BeginsWith, CanGoOn, IsStill}
-use Rattle.lbk_uax14.specs.Marks.{Marked, marks, ended, scalars_of, text_of}
+use Rattle.lbk_rules.specs.Marks.{Marked, marks, ended, scalars_of, text_of}
 use Rattle.lbk_passage.specs.Passages.{passages}
 use Rattle.lbk_passage.specs.Segments.{segments_of}
 use Rattle.lbk_passage.specs.Pieces.{pieces_of}

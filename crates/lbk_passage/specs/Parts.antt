@@ -1,10 +1,10 @@
 -- The passages, segments and pieces of a text that is decided in parts.
 use Rattle.std.specs.Prelude.{ℕ, ◌+◌, Bool, List, [], ◌∷◌, ◌++◌, length, map, if◌then◌else◌}
-use Rattle.lbk_uax14.specs.declared.cells.Cell.{Cell}
-use Rattle.lbk_uax14.specs.declared.verdicts.Rule.{Rule}
+use Rattle.lbk_rules.specs.declared.Cell.{Cell}
+use Rattle.lbk_rules.specs.declared.Rule.{Rule}
 use Rattle.lbk_values.specs.declared.profile.Profile.{Profile}
-use Rattle.lbk_uax14.specs.Joins.{end_before_more, with_last}
-use Rattle.lbk_uax14.specs.Marks.{Marked, ended, text_of}
+use Rattle.lbk_rules.specs.Joins.{end_before_more, with_last}
+use Rattle.lbk_rules.specs.Marks.{Marked, ended, text_of}
 use Rattle.lbk_passage.specs.Passages.{passages}
 use Rattle.lbk_passage.specs.Pieces.{pieces_of}
 use Rattle.lbk_passage.specs.Segments.{segments_of}

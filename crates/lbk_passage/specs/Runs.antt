@@ -1,9 +1,9 @@
 -- What the passages of a whole run are, one after another.
 use Rattle.std.specs.Prelude.{◌≡◌, ℕ, List, [], ◌∷◌, ◌++◌, IsUtf8, encode_utf8}
 use Rattle.std.specs.List.{flat_map}
-use Rattle.lbk_uax14.specs.declared.cells.Cell.{Cell}
+use Rattle.lbk_rules.specs.declared.Cell.{Cell}
 use Rattle.lbk_values.specs.declared.profile.Profile.{Profile}
-use Rattle.lbk_uax14.specs.Marks.{Marked, scalars_of}
+use Rattle.lbk_rules.specs.Marks.{Marked, scalars_of}
 use Rattle.lbk_passage.specs.Passages.{passages}
 
 -- the passages given, `before` being their scalars, are the first ones of every text that goes on with the scalar at

@@ -1,8 +1,8 @@
 -- The segments of a passage: its cutting at its breaks, each with the kind and rule at its end (UAX #14, section 3).
 use Rattle.std.specs.Prelude.{ℕ, ◌+◌, List, [], ◌∷◌, length, encode_utf8, if◌then◌else◌}
-use Rattle.lbk_uax14.specs.declared.verdicts.Verdict.{Verdict}
-use Rattle.lbk_uax14.specs.Marks.{Marked}
-use Rattle.lbk_uax14.specs.Breaks.{is_no}
+use Rattle.lbk_rules.specs.declared.Verdict.{Verdict}
+use Rattle.lbk_rules.specs.Marks.{Marked}
+use Rattle.lbk_rules.specs.Breaks.{is_no}
 use Rattle.lbk_passage.specs.declared.passage.Segment.{Segment}
 
 -- a segment of the bytes from `start` to `end` of its passage, which ends by this verdict

@@ -1,7 +1,7 @@
 -- The state of a segmenter.
 use Rattle.std.specs.Prelude.{ℕ, ◌≡◌, ◌⊎◌, ◌<◌, ◌≤◌, List, Option, Some, ◌++◌, length, string_capacity, vec_capacity}
-use Rattle.lbk_uax14.specs.declared.cells.Cell.{Cell}
-use Rattle.lbk_uax14.specs.Marks.{Marked, text_of}
+use Rattle.lbk_rules.specs.declared.Cell.{Cell}
+use Rattle.lbk_rules.specs.Marks.{Marked, text_of}
 use Rattle.lbk_passage.specs.Next.{ComesFirst}
 use Rattle.lbk_passage.specs.Pieces.{pieces_of}
 use Rattle.lbk_passage.specs.Segments.{segments_of}

@@ -1,7 +1,7 @@
 -- A segmenter as its callers see it.
 use Rattle.std.specs.Prelude.{ℕ, ◌-◌, ◌≤◌, Bool, false, ◌||◌, List, [], ◌++◌, length, string_bytes, if◌then◌else◌}
 use Rattle.lbk_feed.specs.Text.{greatest_limit}
-use Rattle.lbk_uax14.specs.declared.cells.Cell.{Cell}
+use Rattle.lbk_rules.specs.declared.Cell.{Cell}
 use Rattle.lbk_values.specs.declared.profile.Profile.{Profile}
 use Rattle.lbk_passage.specs.declared.paragraph.Paragraph.{Paragraph}
 

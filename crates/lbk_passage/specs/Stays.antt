@@ -2,10 +2,10 @@
 use Rattle.std.specs.Prelude.{◌≡◌, ℕ, ◌+◌, Bool, true, false, ◌&&◌, not, ◌≤◌, List, [], ◌∷◌, ◌++◌, length, drop, Option, Some, None, string_bytes}
 use Rattle.std.specs.Str.{chars, is_utf8}
 use Rattle.lbk_feed.specs.Text.{longest_text}
-use Rattle.lbk_uax14.specs.declared.classes.Class.{Class}
-use Rattle.lbk_uax14.specs.declared.cells.Cell.{Cell}
-use Rattle.lbk_uax14.specs.declared.verdicts.Verdict.{Verdict}
-use Rattle.lbk_uax14.specs.Ends.{ends_between, end_after, end_of_text}
+use Rattle.lbk_rules.specs.declared.Class.{Class}
+use Rattle.lbk_rules.specs.declared.Cell.{Cell}
+use Rattle.lbk_rules.specs.declared.Verdict.{Verdict}
+use Rattle.lbk_rules.specs.Ends.{ends_between, end_after, end_of_text}
 use Rattle.lbk_feed.specs.View.{View}
 use Rattle.lbk_passage.specs.declared.paragraph.Paragraph.{Paragraph}
 

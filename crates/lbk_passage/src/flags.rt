@@ -3,7 +3,6 @@
 ghost use Rattle.std.specs.Prelude.{◌≡◌, ◌+◌, ◌<◌, ◌≤◌, true, false, length, slice_index_or};
 ghost use Rattle.lbk_passage.specs.Flags.{AreLetters, AreQuiet, ArePassed};
 
-use crate::ends::ends_line;
 use lbk_rules::CellSource;
 
 /// How many bytes are a scalar by themselves.
@@ -36,7 +35,7 @@ impl ByteFlags {
         let mut byte = 0u8;
         while byte < ASCII {
             let cell = cells.cell(char::from(byte));
-            is_quiet[usize::from(byte)] = !ends_line(cell.class);
+            is_quiet[usize::from(byte)] = !cell.class.ends_line();
             is_letter[usize::from(byte)] = cell.letter;
             byte += 1;
         }

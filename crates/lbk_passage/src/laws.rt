@@ -4,10 +4,10 @@
 ghost use Rattle.std.specs.Prelude.{◌≡◌, ◌⊎◌, ℕ, ◌<◌, List, [], ◌∷◌, ◌++◌, false, true, length, map, encode_utf8_all, IsTrue, IsUtf8};
 ghost use Rattle.std.specs.List.{AllByRecursion, flat_map};
 ghost use Rattle.std.specs.Str.{chars};
-ghost use Rattle.lbk_uax14.specs.declared.cells.Cell.{Cell};
-ghost use Rattle.lbk_uax14.specs.declared.verdicts.Kind.TheVariants.{Must};
+ghost use Rattle.lbk_rules.specs.declared.Cell.{Cell};
+ghost use Rattle.lbk_rules.specs.declared.Kind.TheVariants.{Must};
 ghost use Rattle.lbk_values.specs.declared.profile.Profile.{Profile};
-ghost use Rattle.lbk_uax14.specs.Verdict.{verdict_between_in};
+ghost use Rattle.lbk_rules.specs.Verdict.{verdict_between_in};
 ghost use Rattle.lbk_passage.specs.declared.faults.PassageFault.{PassageFault};
 ghost use Rattle.lbk_passage.specs.Breaks.{breaks};
 ghost use Rattle.lbk_passage.specs.Laws.{EndsOnce, IsBehind, segment_breaks};

@@ -37,7 +37,7 @@ impl Paragraph {
     ghost use Rattle.lbk_passage.specs.Flags.{AreQuiet};
     ghost use Rattle.lbk_passage.specs.Gathering.{Reaches, Takes, Moves, Settles, Gathering, Gathers, Fills, IsSame};
     ghost use Rattle.lbk_passage.specs.Next.{IsDone, IsOpen, failures_with, fault_in};
-    ghost use Rattle.lbk_uax14.specs.declared.cells.Cell.{Cell};
+    ghost use Rattle.lbk_rules.specs.declared.Cell.{Cell};
     ghost use Rattle.lbk_values.specs.declared.profile.Profile.{Profile};
 
     /// A paragraph of at most `limit` bytes, for which room is reserved.

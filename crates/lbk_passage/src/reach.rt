@@ -1,10 +1,10 @@
 //! How far a paragraph reaches into a piece of text.
 
 ghost use Rattle.std.specs.Prelude.{◌≡◌, ℕ, ◌≤◌, IsCharBoundary, Option};
-ghost use Rattle.lbk_uax14.specs.declared.classes.Class.{Class};
+ghost use Rattle.lbk_rules.specs.declared.Class.{Class};
 ghost use Rattle.lbk_passage.specs.Flags.{AreQuiet, Passes, is_end};
 
-use crate::ends::{ends_at, ends_line};
+use crate::ends::ends_at;
 use crate::flags::ByteFlags;
 use lbk_rules::{CellSource, Class};
 
@@ -122,6 +122,6 @@ fn is_end(last: Option<Class>) -> bool
 {
     match last {
         None => false,
-        Some(class) => ends_line(class),
+        Some(class) => class.ends_line(),
     }
 }

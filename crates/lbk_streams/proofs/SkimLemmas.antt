@@ -3,15 +3,15 @@ use Rattle.std.proofs.Common.{◌≡◌, ℕ, ◌+◌, ◌-◌, ◌%◌, ◌^◌
 use Rattle.std.proofs.lemmas.List.{drop-append-le, map-append}
 use Rattle.bstr.specs.Utf8.{Decoded, or_replacement, pieces}
 use Rattle.bstr.proofs.lemmas.PieceLemmas.{pieces-sizes, sizes}
-use Rattle.lbk_uax14.specs.declared.breaks.Break.{Break}
-use Rattle.lbk_uax14.specs.declared.cells.Cell.{Cell}
-use Rattle.lbk_uax14.specs.declared.facts.Left.{Left}
+use Rattle.lbk_rules.specs.declared.Break.{Break}
+use Rattle.lbk_rules.specs.declared.Cell.{Cell}
+use Rattle.lbk_rules.specs.declared.Left.{Left}
 use Rattle.lbk_values.specs.declared.profile.Profile.{Profile}
-use Rattle.lbk_uax14.specs.declared.verdicts.Verdict.{Verdict}
-use Rattle.lbk_uax14.specs.Breaks.{break_by, is_no}
-use Rattle.lbk_uax14.specs.Ends.{end_after, ends_line}
-use Rattle.lbk_uax14.specs.Verdict.{verdict_between_in}
-use Rattle.lbk_steps.specs.FlatTable.{KnowsTaken}
+use Rattle.lbk_rules.specs.declared.Verdict.{Verdict}
+use Rattle.lbk_rules.specs.Breaks.{break_by, is_no}
+use Rattle.lbk_rules.specs.Ends.{end_after, ends_line}
+use Rattle.lbk_rules.specs.Verdict.{verdict_between_in}
+use Rattle.lbk_rules.specs.FlatTable.{KnowsTaken}
 use Rattle.lbk_bytes.specs.declared.fill_state.FillState.{FillState}
 use Rattle.lbk_streams.specs.declared.stream.Feeding.{Feeding}
 use Rattle.lbk_streams.specs.declared.stream.Place.{Place}

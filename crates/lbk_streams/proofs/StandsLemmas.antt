@@ -6,30 +6,30 @@ use Rattle.std.proofs.lemmas.Bool.Decides.{nat_tests}
 use Rattle.std.proofs.lemmas.List.{length-append, length-drop, map-append}
 use Rattle.bstr.specs.Utf8.{decoded, lossy_chars, or_replacement, pieces}
 use Rattle.bstr.proofs.lemmas.PieceLemmas.{lossy_chars-step, piece-bounds, pieces-step}
-use Rattle.lbk_uax14.specs.declared.breaks.Break.{Break}
-use Rattle.lbk_uax14.specs.declared.cells.Cell.{Cell}
-use Rattle.lbk_uax14.specs.declared.classes.Class.{Class}
-use Rattle.lbk_uax14.specs.declared.classes.Class.TheVariants.{CombiningMark, Quotation, ZWJ}
-use Rattle.lbk_uax14.specs.declared.facts.Left.{Left}
+use Rattle.lbk_rules.specs.declared.Break.{Break}
+use Rattle.lbk_rules.specs.declared.Cell.{Cell}
+use Rattle.lbk_rules.specs.declared.Class.{Class}
+use Rattle.lbk_rules.specs.declared.Class.TheVariants.{CombiningMark, Quotation, ZWJ}
+use Rattle.lbk_rules.specs.declared.Left.{Left}
 use Rattle.lbk_values.specs.declared.profile.Profile.{Profile}
 use Rattle.lbk_values.specs.declared.profile.Profile.TheVariants.{First, Second}
-use Rattle.lbk_uax14.specs.declared.verdicts.Verdict.{Verdict}
-use Rattle.lbk_uax14.specs.Breaks.{break_by, is_no}
-use Rattle.lbk_uax14.specs.Classes.{QU, closes_before, hard, is, mark}
-use Rattle.lbk_uax14.specs.Codes.{IsCode, verdict_coded}
-use Rattle.lbk_uax14.specs.Held.{is_15b, is_held}
-use Rattle.lbk_uax14.specs.Normal.{normal}
-use Rattle.lbk_uax14.specs.Sides.{leaves_closed}
-use Rattle.lbk_uax14.specs.Units.{heads, unit, units_after}
-use Rattle.lbk_uax14.specs.Verdict.{verdict_between_in}
-use Rattle.lbk_uax14.proofs.EndLemmas.{heads-joins, joins_no_break}
-use Rattle.lbk_uax14.proofs.HeldLemmas.{is_held-chain}
-use Rattle.lbk_steps.specs.declared.flat_table.FlatStep.{FlatStep}
-use Rattle.lbk_steps.specs.declared.flat_table.FlatTable.{FlatTable}
-use Rattle.lbk_steps.specs.declared.flat_table.TheConstants.{HELD}
-use Rattle.lbk_steps.specs.FlatTable.{IsFlatBy, KnowsTaken, no_flat_step}
-use Rattle.lbk_steps.specs.Kinds.{kind_cell}
-use Rattle.lbk_steps.specs.RowMachineFits.{normals}
+use Rattle.lbk_rules.specs.declared.Verdict.{Verdict}
+use Rattle.lbk_rules.specs.Breaks.{break_by, is_no}
+use Rattle.lbk_rules.specs.Classes.{QU, closes_before, hard, is, mark}
+use Rattle.lbk_rules.specs.Codes.{IsCode, verdict_coded}
+use Rattle.lbk_rules.specs.Held.{is_15b, is_held}
+use Rattle.lbk_rules.specs.Normal.{normal}
+use Rattle.lbk_rules.specs.Sides.{leaves_closed}
+use Rattle.lbk_rules.specs.Units.{heads, unit, units_after}
+use Rattle.lbk_rules.specs.Verdict.{verdict_between_in}
+use Rattle.lbk_rules.proofs.EndLemmas.{heads-joins, joins_no_break}
+use Rattle.lbk_rules.proofs.HeldLemmas.{is_held-chain}
+use Rattle.lbk_rules.specs.declared.FlatStep.{FlatStep}
+use Rattle.lbk_rules.specs.declared.FlatTable.{FlatTable}
+use Rattle.lbk_rules.specs.flat_table.TheConstants.{HELD}
+use Rattle.lbk_rules.specs.FlatTable.{IsFlatBy, KnowsTaken, no_flat_step}
+use Rattle.lbk_rules.specs.Kinds.{kind_cell}
+use Rattle.lbk_rules.specs.RowMachineFits.{normals}
 use Rattle.lbk_streams.specs.declared.stream.Place.{Place}
 use Rattle.lbk_bytes.specs.Bytes.{with_break}
 use Rattle.lbk_bytes.specs.Reached.{steps_in}

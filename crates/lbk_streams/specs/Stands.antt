@@ -1,17 +1,17 @@
 -- How far a call has come with a piece of a text, and what is to come from a stream on.
 use Rattle.std.specs.Prelude.{◌≡◌, ℕ, ◌+◌, min, ◌≤◌, ◌<◌, ◌%◌, ◌^◌, Bool, true, false, Some, List, [], ◌∷◌, ◌++◌, length, drop, take}
 use Rattle.bstr.specs.Utf8.{pieces}
-use Rattle.lbk_uax14.specs.declared.breaks.Break.{Break}
-use Rattle.lbk_uax14.specs.declared.cells.Cell.{Cell}
-use Rattle.lbk_uax14.specs.declared.facts.Left.{Left}
+use Rattle.lbk_rules.specs.declared.Break.{Break}
+use Rattle.lbk_rules.specs.declared.Cell.{Cell}
+use Rattle.lbk_rules.specs.declared.Left.{Left}
 use Rattle.lbk_values.specs.declared.profile.Profile.{Profile}
 use Rattle.lbk_values.specs.declared.profile.Profile.TheVariants.{Second}
-use Rattle.lbk_uax14.specs.Classes.{hard}
-use Rattle.lbk_uax14.specs.Breaks.{is_no}
-use Rattle.lbk_uax14.specs.Codes.{IsCode, verdict_coded}
-use Rattle.lbk_uax14.specs.Normal.{normal}
-use Rattle.lbk_steps.specs.declared.flat_table.FlatTable.{FlatTable}
-use Rattle.lbk_steps.specs.FlatTable.{IsFlatBy, KnowsTaken}
+use Rattle.lbk_rules.specs.Classes.{hard}
+use Rattle.lbk_rules.specs.Breaks.{is_no}
+use Rattle.lbk_rules.specs.Codes.{IsCode, verdict_coded}
+use Rattle.lbk_rules.specs.Normal.{normal}
+use Rattle.lbk_rules.specs.declared.FlatTable.{FlatTable}
+use Rattle.lbk_rules.specs.FlatTable.{IsFlatBy, KnowsTaken}
 use Rattle.lbk_streams.specs.declared.stream.Cut.{Cut}
 use Rattle.lbk_streams.specs.declared.stream.Fed.{Fed}
 use Rattle.lbk_streams.specs.declared.stream.Feeding.{Feeding}

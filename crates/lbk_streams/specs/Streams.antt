@@ -2,14 +2,14 @@
 use Rattle.std.specs.Prelude.{◌≡◌, ℕ, ◌+◌, ◌-◌, ◌^◌, ◌<◌, ◌≤◌, min, length, ◌==◌, ◌||◌, Bool, true, false, ◌⊎◌, List, [], ◌∷◌, ◌++◌, map, take, if◌then◌else◌}
 use Rattle.std.specs.List.{AllByRecursion}
 use Rattle.bstr.specs.Utf8.{lossy_chars}
-use Rattle.lbk_uax14.specs.declared.breaks.Break.{Break}
-use Rattle.lbk_uax14.specs.declared.cells.Cell.{Cell}
+use Rattle.lbk_rules.specs.declared.Break.{Break}
+use Rattle.lbk_rules.specs.declared.Cell.{Cell}
 use Rattle.lbk_values.specs.declared.profile.Profile.{Profile}
-use Rattle.lbk_uax14.specs.Breaks.{is_no}
-use Rattle.lbk_uax14.specs.Codes.{verdict_coded}
-use Rattle.lbk_uax14.specs.Normal.{normal}
-use Rattle.lbk_uax14.specs.Sides.{leaves_closed}
-use Rattle.lbk_uax14.specs.Units.{units_after}
+use Rattle.lbk_rules.specs.Breaks.{is_no}
+use Rattle.lbk_rules.specs.Codes.{verdict_coded}
+use Rattle.lbk_rules.specs.Normal.{normal}
+use Rattle.lbk_rules.specs.Sides.{leaves_closed}
+use Rattle.lbk_rules.specs.Units.{units_after}
 use Rattle.lbk_streams.specs.declared.stream.Place.{Place}
 use Rattle.lbk_streams.specs.declared.stream.Stream.{Stream}
 use Rattle.lbk_bytes.specs.Bytes.{with_break}

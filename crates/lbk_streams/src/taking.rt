@@ -2,15 +2,15 @@
 
 ghost use Rattle.std.specs.Prelude.{◌≡◌, ℕ, min, ◌+◌, ◌<◌, ◌≤◌, ◌%◌, ◌^◌, true, false, List, drop, length, if◌then◌else◌};
 ghost use Rattle.bstr.specs.Utf8.{decoded, or_replacement};
-ghost use Rattle.lbk_uax14.specs.declared.cells.Cell.{Cell};
-ghost use Rattle.lbk_uax14.specs.declared.facts.Left.{Left};
+ghost use Rattle.lbk_rules.specs.declared.Cell.{Cell};
+ghost use Rattle.lbk_rules.specs.declared.Left.{Left};
 ghost use Rattle.lbk_values.specs.declared.profile.Profile.{Profile};
 ghost use Rattle.lbk_values.specs.declared.profile.Profile.TheVariants.{Second};
-ghost use Rattle.lbk_uax14.specs.Breaks.{is_no};
-ghost use Rattle.lbk_uax14.specs.Classes.{mark};
-ghost use Rattle.lbk_uax14.specs.Codes.{verdict_coded};
-ghost use Rattle.lbk_uax14.specs.Normal.{normal};
-ghost use Rattle.lbk_steps.specs.FlatTable.{AreFlatKinds, IsFlatBy};
+ghost use Rattle.lbk_rules.specs.Breaks.{is_no};
+ghost use Rattle.lbk_rules.specs.Classes.{mark};
+ghost use Rattle.lbk_rules.specs.Codes.{verdict_coded};
+ghost use Rattle.lbk_rules.specs.Normal.{normal};
+ghost use Rattle.lbk_rules.specs.FlatTable.{AreFlatKinds, IsFlatBy};
 ghost use Rattle.lbk_bytes.specs.Order.{AreBreaks};
 ghost use Rattle.lbk_bytes.specs.Shown.{given_in};
 ghost use Rattle.lbk_streams.specs.Stands.{Ahead, IsPlaced, Stands};

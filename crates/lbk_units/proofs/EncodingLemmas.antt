@@ -10,14 +10,14 @@ use Rattle.std.proofs.lemmas.List.{length-append, take_at}
 use Rattle.std.proofs.lemmas.Str.{utf16_chars-nil, utf16_chars_lone, utf16_chars_pair}
 use lib.Utf8.{scalar, scalar_cases, scalars}
 use Rattle.bstr.specs.Utf8.{Decoded, bad, good, pieces}
-use Rattle.lbk_uax14.specs.declared.breaks.Break.{Break}
-use Rattle.lbk_uax14.specs.declared.cells.Cell.{Cell}
+use Rattle.lbk_rules.specs.declared.Break.{Break}
+use Rattle.lbk_rules.specs.declared.Cell.{Cell}
 use Rattle.lbk_values.specs.declared.profile.Profile.{Profile}
-use Rattle.lbk_uax14.specs.declared.verdicts.Verdict.{Verdict}
-use Rattle.lbk_uax14.specs.Breaks.{break_by, is_no}
-use Rattle.lbk_uax14.specs.Marks.{Marked, marks}
-use Rattle.lbk_uax14.specs.Verdict.{verdict_between_in}
-use Rattle.lbk_uax14.proofs.EndLemmas.{start_of_text}
+use Rattle.lbk_rules.specs.declared.Verdict.{Verdict}
+use Rattle.lbk_rules.specs.Breaks.{break_by, is_no}
+use Rattle.lbk_rules.specs.Marks.{Marked, marks}
+use Rattle.lbk_rules.specs.Verdict.{verdict_between_in}
+use Rattle.lbk_rules.proofs.EndLemmas.{start_of_text}
 use Rattle.lbk_words.proofs.WellFormedLemmas.{pieces-encode}
 use Rattle.lbk_bytes.specs.Bytes.{breaks_after, breaks_of_bytes, with_break}
 use Rattle.lbk_bytes.specs.Reached.{scalars_of}

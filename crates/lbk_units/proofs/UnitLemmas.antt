@@ -10,8 +10,8 @@ use Rattle.std.proofs.lemmas.Str.{utf16_chars_lone, utf16_chars_pair}
 use lib.Utf8.{scalar, scalar_cases}
 use Rattle.bstr.specs.Utf8.{Decoded, bad, decoded, good, or_replacement, pieces}
 use Rattle.bstr.proofs.lemmas.PieceLemmas.{piece-bounds, pieces-step}
-use Rattle.lbk_uax14.specs.declared.cells.Cell.{Cell}
-use Rattle.lbk_uax14.specs.Normal.{normal}
+use Rattle.lbk_rules.specs.declared.Cell.{Cell}
+use Rattle.lbk_rules.specs.Normal.{normal}
 use Rattle.lbk_bytes.specs.Reached.{scalars_of}
 use Rattle.lbk_units.specs.declared.unit.Piece.{Piece}
 use Rattle.lbk_units.specs.Front.{IsFront}

@@ -2,7 +2,7 @@
 use Rattle.std.specs.Prelude.{ℕ, List, length, take}
 use Rattle.std.specs.Char.Escape.{encode_utf16}
 use Rattle.std.specs.List.{flat_map}
-use Rattle.lbk_uax14.specs.declared.breaks.Break.{Break}
+use Rattle.lbk_rules.specs.declared.Break.{Break}
 
 -- the units of some scalars in UTF-16
 abbrev pub encode_utf16_all : List ℕ → List ℕ

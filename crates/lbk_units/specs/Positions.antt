@@ -3,12 +3,12 @@
 use Rattle.std.specs.Prelude.{ℕ, ◌+◌, List, [], ◌∷◌, map, not}
 use Rattle.std.specs.List.{filter}
 use Rattle.bstr.specs.Utf8.{Decoded, pieces}
-use Rattle.lbk_uax14.specs.declared.breaks.Break.{Break}
-use Rattle.lbk_uax14.specs.declared.cells.Cell.{Cell}
+use Rattle.lbk_rules.specs.declared.Break.{Break}
+use Rattle.lbk_rules.specs.declared.Cell.{Cell}
 use Rattle.lbk_values.specs.declared.profile.Profile.{Profile}
-use Rattle.lbk_uax14.specs.Breaks.{break_by, is_no}
-use Rattle.lbk_uax14.specs.Marks.{Marked, marks}
-use Rattle.lbk_uax14.specs.Verdict.{verdict_between_in}
+use Rattle.lbk_rules.specs.Breaks.{break_by, is_no}
+use Rattle.lbk_rules.specs.Marks.{Marked, marks}
+use Rattle.lbk_rules.specs.Verdict.{verdict_between_in}
 use Rattle.lbk_bytes.specs.Reached.{scalars_of}
 use Rattle.lbk_units.specs.Units.{pieces_of_utf16, pieces_of_utf32}
 

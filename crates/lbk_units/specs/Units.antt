@@ -5,10 +5,10 @@ use Rattle.std.specs.Char.Escape.{encode_utf16}
 use Rattle.std.specs.Char.Utf16.{utf16_chars}
 use lib.Utf8.{scalar}
 use Rattle.bstr.specs.Utf8.{Decoded, bad, good}
-use Rattle.lbk_uax14.specs.declared.breaks.Break.{Break}
-use Rattle.lbk_uax14.specs.declared.cells.Cell.{Cell}
+use Rattle.lbk_rules.specs.declared.Break.{Break}
+use Rattle.lbk_rules.specs.declared.Cell.{Cell}
 use Rattle.lbk_values.specs.declared.profile.Profile.{Profile}
-use Rattle.lbk_uax14.specs.Marks.{marks}
+use Rattle.lbk_rules.specs.Marks.{marks}
 use Rattle.lbk_bytes.specs.Bytes.{breaks_after}
 use Rattle.lbk_bytes.specs.Reached.{scalars_of}
 

@@ -1,16 +1,16 @@
 //! Positions that what follows decides.
 
 ghost use Rattle.std.specs.Prelude.{◌≡◌, ℕ, ◌<◌, ◌∷◌, List, map};
-ghost use Rattle.lbk_uax14.specs.declared.cells.Cell.{Cell};
-ghost use Rattle.lbk_uax14.specs.declared.facts.Left.{Left};
+ghost use Rattle.lbk_rules.specs.declared.Cell.{Cell};
+ghost use Rattle.lbk_rules.specs.declared.Left.{Left};
 ghost use Rattle.lbk_values.specs.declared.profile.Profile.TheVariants.{Second};
-ghost use Rattle.lbk_uax14.specs.Classes.{hard};
-ghost use Rattle.lbk_uax14.specs.Codes.{IsCode, verdict_coded};
-ghost use Rattle.lbk_steps.specs.FlatTable.{AreFlatKinds, IsFlatBy, KnowsTaken};
-ghost use Rattle.lbk_uax14.specs.Normal.{normal};
-ghost use Rattle.lbk_uax14.specs.Sides.{leaves_closed};
-ghost use Rattle.lbk_uax14.specs.Units.{units_after};
-ghost use Rattle.lbk_uax14.specs.Verdict.{verdict_between_in};
+ghost use Rattle.lbk_rules.specs.Classes.{hard};
+ghost use Rattle.lbk_rules.specs.Codes.{IsCode, verdict_coded};
+ghost use Rattle.lbk_rules.specs.FlatTable.{AreFlatKinds, IsFlatBy, KnowsTaken};
+ghost use Rattle.lbk_rules.specs.Normal.{normal};
+ghost use Rattle.lbk_rules.specs.Sides.{leaves_closed};
+ghost use Rattle.lbk_rules.specs.Units.{units_after};
+ghost use Rattle.lbk_rules.specs.Verdict.{verdict_between_in};
 ghost use Rattle.lbk_bytes.specs.Reached.{scalars_of};
 
 use crate::unit::Unit;

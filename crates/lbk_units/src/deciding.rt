@@ -1,9 +1,9 @@
 //! The position before one scalar, whatever it is.
 
 ghost use Rattle.std.specs.Prelude.{ℕ, ◌<◌, ◌≤◌, List, length};
-ghost use Rattle.lbk_uax14.specs.declared.cells.Cell.{Cell};
-ghost use Rattle.lbk_uax14.specs.declared.facts.Left.{Left};
-ghost use Rattle.lbk_steps.specs.FlatTable.{IsFlatBy, KnowsTaken};
+ghost use Rattle.lbk_rules.specs.declared.Cell.{Cell};
+ghost use Rattle.lbk_rules.specs.declared.Left.{Left};
+ghost use Rattle.lbk_rules.specs.FlatTable.{IsFlatBy, KnowsTaken};
 ghost use Rattle.lbk_units.specs.Reached.{IsUnitDecided, on_from};
 
 use crate::ahead::code_ahead;

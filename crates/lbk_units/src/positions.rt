@@ -1,12 +1,12 @@
 //! A block that is filled with positions.
 
 ghost use Rattle.std.specs.Prelude.{◌≡◌, ℕ, ◌+◌, ◌<◌, ◌≤◌, ◌++◌, [], ◌∷◌, List, length};
-ghost use Rattle.lbk_uax14.specs.declared.breaks.Break.{Break};
-ghost use Rattle.lbk_uax14.specs.declared.cells.Cell.{Cell};
-ghost use Rattle.lbk_uax14.specs.declared.facts.Left.{Left};
-ghost use Rattle.lbk_uax14.specs.Breaks.{break_by};
-ghost use Rattle.lbk_uax14.specs.Codes.{IsCode, verdict_coded};
-ghost use Rattle.lbk_steps.specs.FlatTable.{IsFlatBy};
+ghost use Rattle.lbk_rules.specs.declared.Break.{Break};
+ghost use Rattle.lbk_rules.specs.declared.Cell.{Cell};
+ghost use Rattle.lbk_rules.specs.declared.Left.{Left};
+ghost use Rattle.lbk_rules.specs.Breaks.{break_by};
+ghost use Rattle.lbk_rules.specs.Codes.{IsCode, verdict_coded};
+ghost use Rattle.lbk_rules.specs.FlatTable.{IsFlatBy};
 ghost use Rattle.lbk_bytes.specs.Order.{ArePositionsInOrder, IsPosition};
 ghost use Rattle.lbk_bytes.specs.Reached.{IsInOrderBy, onward_all};
 ghost use Rattle.lbk_bytes.specs.Shown.{given_in};

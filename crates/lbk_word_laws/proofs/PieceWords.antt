@@ -6,7 +6,7 @@ use Rattle.std.proofs.lemmas.Str.{chars-encodes, encodes-append}
 use lib.Utf8.{scalars}
 use Rattle.unicode_segmentation.specs.Segments.{segments}
 use Rattle.unicode_segmentation.specs.Word.{word_bounds}
-use Rattle.lbk_uax14.specs.declared.cells.Cell.{Cell}
+use Rattle.lbk_rules.specs.declared.Cell.{Cell}
 use Rattle.lbk_passage.specs.Pieces.{is_word, pieces_from, pieces_of}
 use Rattle.lbk_words.specs.declared.word.Word.{Word}
 use Rattle.lbk_words.specs.Letters.{has_letter}

@@ -10,14 +10,14 @@ use Rattle.unicode_segmentation.specs.Segments.{cut, prepend}
 use Rattle.unicode_segmentation.specs.Word.{break_by_pair, is_ignored, is_word_break, joins, joins_flag, significant, value_at}
 use Rattle.unicode_segmentation.proofs.SegmentsLemmas.{attach}
 use Rattle.unicode_segmentation.proofs.WordLemmas.{significant-ignored, significant-kept}
-use Rattle.lbk_uax14.specs.declared.cells.Cell.{Cell}
-use Rattle.lbk_uax14.specs.declared.verdicts.Kind.{Kind}
-use Rattle.lbk_uax14.specs.declared.verdicts.Kind.TheVariants.{No, May, Must}
+use Rattle.lbk_rules.specs.declared.Cell.{Cell}
+use Rattle.lbk_rules.specs.declared.Kind.{Kind}
+use Rattle.lbk_rules.specs.declared.Kind.TheVariants.{No, May, Must}
 use Rattle.lbk_values.specs.declared.profile.Profile.{Profile}
-use Rattle.lbk_uax14.specs.Ends.{ends_between}
-use Rattle.lbk_uax14.specs.Marks.{Marked, marks_behind, scalars_of}
-use Rattle.lbk_uax14.specs.Verdict.{verdict_between_in}
-use Rattle.lbk_uax14.proofs.EndLemmas.{only_must_between}
+use Rattle.lbk_rules.specs.Ends.{ends_between}
+use Rattle.lbk_rules.specs.Marks.{Marked, marks_behind, scalars_of}
+use Rattle.lbk_rules.specs.Verdict.{verdict_between_in}
+use Rattle.lbk_rules.proofs.EndLemmas.{only_must_between}
 use Rattle.lbk_passage.specs.Passages.{cut_after, ends_passage, is_must, join_first}
 use Rattle.lbk_words.specs.Words.{parts_of}
 use Rattle.lbk_words.proofs.ContextLemmas.{decided-end}

@@ -5,12 +5,12 @@ use Rattle.std.proofs.lemmas.List.{drop-append-le, length-map, map-append, take-
 use Rattle.std.proofs.lemmas.Grind.{flat_map-append}
 use Rattle.bstr.specs.Utf8.{Decoded, or_replacement, pieces}
 use Rattle.bstr.proofs.lemmas.PieceLemmas.{sizes}
-use Rattle.lbk_uax14.specs.declared.cells.Cell.{Cell}
-use Rattle.lbk_uax14.specs.declared.verdicts.Verdict.{Verdict}
+use Rattle.lbk_rules.specs.declared.Cell.{Cell}
+use Rattle.lbk_rules.specs.declared.Verdict.{Verdict}
 use Rattle.lbk_values.specs.declared.profile.Profile.TheVariants.{First}
-use Rattle.lbk_uax14.specs.Joins.{end_before_more, must_end_between, with_last}
-use Rattle.lbk_uax14.specs.Marks.{Marked, ended, scalars_of}
-use Rattle.lbk_uax14.proofs.MarkLemmas.{scalars-ended}
+use Rattle.lbk_rules.specs.Joins.{end_before_more, must_end_between, with_last}
+use Rattle.lbk_rules.specs.Marks.{Marked, ended, scalars_of}
+use Rattle.lbk_rules.proofs.MarkLemmas.{scalars-ended}
 use Rattle.lbk_passage.specs.Passages.{passages}
 use Rattle.lbk_passage.proofs.Joining.{joined-passages}
 use Rattle.lbk_cuts.specs.Cuts.{EndsBefore}

@@ -5,7 +5,7 @@
 
 ghost use Rattle.std.specs.Prelude.{◌≡◌, ℕ, ◌≤◌, List, ◌++◌, IsUtf8, drop, length, map, take};
 ghost use Rattle.std.specs.Str.{chars};
-ghost use Rattle.lbk_uax14.specs.declared.cells.Cell.{Cell};
+ghost use Rattle.lbk_rules.specs.declared.Cell.{Cell};
 ghost use Rattle.lbk_values.specs.declared.profile.Profile.{Profile};
 ghost use Rattle.lbk_passage.specs.Passages.{passages};
 ghost use Rattle.lbk_passage.specs.Pieces.{pieces_of};

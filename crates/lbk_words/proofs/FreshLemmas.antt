@@ -7,8 +7,7 @@ use Rattle.ucd_emoji.specs.Binary.{is_extended_pictographic}
 use Rattle.unicode_segmentation.specs.Segments.{cut, prepend}
 use Rattle.unicode_segmentation.specs.Word.{break_by_pair, is_ah_letter, is_double_quote, is_hebrew_letter, is_ignored, is_mid_letter, is_mid_num, is_numeric, is_regional, is_word_break, joins, significant, starts_with_half_flag, value_at}
 use Rattle.unicode_segmentation.proofs.WordLemmas.{significant-ignored, significant-kept}
-use Rattle.lbk_words.specs.declared.context.Context.{Context}
-use Rattle.lbk_words.specs.Contexts.{breaks_by, context_after, context_of}
+use Rattle.lbk_words.specs.Contexts.{Context, breaks_by, context_after, context_of}
 use Rattle.lbk_words.proofs.Booleans.{and-false, or_parts}
 use Rattle.lbk_words.proofs.ContextLemmas.{context-after, decided-inside}
 
@@ -95,9 +94,6 @@ pub record Alike (x y : Context) (cs : List ℕ) : Type 0 where
   pub flag : x.half_flag ≡ y.half_flag
   pub here : (more : WordBreak) → joins x.far_left x.left (value_at (significant cs) 0) more ≡ joins y.far_left y.left (value_at (significant cs) 0) more
   pub next : (left right far_right : WordBreak) → joins x.left left right far_right ≡ joins y.left left right far_right
-
-alike-same : (x : Context) (cs : List ℕ) → Alike x x cs
-alike-same x cs = record { last = refl; flag = refl; here = λ more. refl; next = λ left right far_right. refl }
 
 alike-breaks : (x y : Context) (c : ℕ) (cs : List ℕ) (far_right : WordBreak) → Alike x y (c ∷ cs) → breaks_by x c far_right ≡ breaks_by y c far_right
 alike-breaks x y c cs far_right alike =

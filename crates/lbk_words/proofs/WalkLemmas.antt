@@ -9,8 +9,8 @@ use Rattle.ucd_breaks.specs.WordBreak.{word_break}
 use Rattle.unicode_segmentation.specs.Segments.{cut, prepend}
 use Rattle.unicode_segmentation.specs.Word.{is_word_break, significant, value_at}
 use Rattle.unicode_segmentation.proofs.SegmentsLemmas.{attach}
-use Rattle.lbk_words.specs.declared.context.Context.{Context}
-use Rattle.lbk_words.specs.Contexts.{breaks_by, context_after, context_of}
+use Rattle.lbk_words.specs.Contexts.{Context, breaks_by, context_after, context_of}
+use Rattle.lbk_words.specs.Filling.{IsWalk, back}
 use Rattle.lbk_words.specs.Letters.{has_letter, is_letter_or_number}
 use Rattle.lbk_words.specs.Places.{IsFirstPiece, IsReadAt}
 use Rattle.lbk_words.specs.Words.{bytes_of, parts_of, scalars_of, scalars_on}
@@ -68,23 +68,6 @@ prepend-attach : (xs ys : List ℕ) (b : Bool) (parts : List (List ℕ)) → pre
 prepend-attach xs ys true parts = refl
 prepend-attach xs ys false [] = refl
 prepend-attach xs ys false (p ∷ ps) = ap (λ part. part ∷ ps) (sym (append_assoc xs ys p))
-
--- the scalars of a part, nearest first
-abbrev pub back : List Decoded → List ℕ
-back part = reverse (scalars_of part)
-
--- no boundary stands between the scalars from `start` up to `at`
-pub record IsWalk (text : List ℕ) (start at : ℕ) (context : Context) (is_word : Bool) : Type 0 where
-  pub part : List Decoded
-  pub grows : start < at
-  pub within : at ≤ length text
-  pub reads : pieces (drop start text) ≡ part ++ pieces (drop at text)
-  pub place : at ≡ start + bytes_of part
-  pub knows : context ≡ context_of (back part)
-  pub some : (last : ℕ) × (before : List ℕ) × (back part ≡ last ∷ before)
-  pub first : parts_of (scalars_on text start)
-      ≡ attach (is_word_break (back part) (scalars_on text at)) (scalars_of part) (cut is_word_break (back part) (scalars_on text at) [])
-  pub word : is_word ≡ has_letter (scalars_of part)
 
 pub walk-as : (text : List ℕ) (start at : ℕ) (x y : Context) (a b : Bool) → IsWalk text start at x a → x ≡ y → a ≡ b → IsWalk text start at y b
 walk-as text start at x y a b w same_context same_word =

@@ -4,8 +4,18 @@ use Rattle.ucd_breaks.specs.WordBreak.{word_break}
 use Rattle.ucd_breaks.specs.declared.WordBreak.{WordBreak}
 use Rattle.ucd_breaks.specs.declared.WordBreak.TheVariants.{Other}
 use Rattle.ucd_emoji.specs.Binary.{is_extended_pictographic}
-use Rattle.unicode_segmentation.specs.Word.{break_by_pair, is_ah_letter, is_double_quote, is_extend_num_let, is_hebrew_letter, is_ignored, is_katakana, is_mid_letter, is_mid_num, is_numeric, is_regional, is_single_quote, joins, significant, starts_with_half_flag, value_at}
-use Rattle.lbk_words.specs.declared.context.Context.{Context}
+use Rattle.unicode_segmentation.specs.Word.{break_by_pair, is_ignored, is_regional, joins, significant, starts_with_half_flag, value_at}
+
+-- The values of the last scalars. Where there are none, the values are `Other`, which no rule names.
+pub record Context : Type 0 where
+  -- of the last scalar
+  pub last : WordBreak
+  -- of the last that rule WB4 does not pass over
+  pub left : WordBreak
+  -- of the last but one of these
+  pub far_left : WordBreak
+  -- the last of these are an odd number of regional indicators (rules WB15 and WB16)
+  pub half_flag : Bool
 
 -- the value of the first of some scalars
 abbrev pub first_value : List ℕ → WordBreak
@@ -32,32 +42,3 @@ abbrev pub breaks_by : Context → ℕ → WordBreak → Bool
 breaks_by context next far_right =
     unwrap_or (break_by_pair context.last (word_break next) (is_extended_pictographic next))
     (not (joins context.far_left context.left (word_break next) far_right || (context.half_flag && is_regional (word_break next))))
-
--- a rule asks for the value behind these two
-abbrev pub asks_ahead : WordBreak → WordBreak → Bool
-asks_ahead left right =
-    (is_ah_letter left && is_mid_letter right) || (is_hebrew_letter left && is_double_quote right) || (is_numeric left && is_mid_num right)
-
--- the rules WB5 to WB7c, WB8 to WB12, and WB13 to WB13b
-abbrev pub joins_letters : WordBreak → WordBreak → WordBreak → WordBreak → Bool
-joins_letters far_left left right far_right =
-    (is_ah_letter left && is_ah_letter right)
-    || (is_ah_letter left && is_mid_letter right && is_ah_letter far_right)
-    || (is_ah_letter far_left && is_mid_letter left && is_ah_letter right)
-    || (is_hebrew_letter left && is_single_quote right)
-    || (is_hebrew_letter left && is_double_quote right && is_hebrew_letter far_right)
-    || (is_hebrew_letter far_left && is_double_quote left && is_hebrew_letter right)
-
-abbrev pub joins_numbers : WordBreak → WordBreak → WordBreak → WordBreak → Bool
-joins_numbers far_left left right far_right =
-    (is_numeric left && is_numeric right)
-    || (is_ah_letter left && is_numeric right)
-    || (is_numeric left && is_ah_letter right)
-    || (is_numeric far_left && is_mid_num left && is_numeric right)
-    || (is_numeric left && is_mid_num right && is_numeric far_right)
-
-abbrev pub joins_others : WordBreak → WordBreak → Bool
-joins_others left right =
-    (is_katakana left && is_katakana right)
-    || ((is_ah_letter left || is_numeric left || is_katakana left || is_extend_num_let left) && is_extend_num_let right)
-    || (is_extend_num_let left && (is_ah_letter right || is_numeric right || is_katakana right))

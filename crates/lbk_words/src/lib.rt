@@ -3,15 +3,19 @@
 //! The text may be any bytes. [`fill`] goes over it from any byte on, with no memory but the caller's block.
 #![tactic(auto)]
 
-mod context;
+mod blocks;
+mod calls;
+mod decoding;
 mod filling;
+mod kind_table;
+mod kinds;
 pub mod laws;
-mod letters;
-mod pieces;
-mod rules;
+mod parts;
 mod scalars;
-mod values;
+mod step_table;
+mod steps;
 mod word;
 
+pub use calls::{WordState, lbk_words};
 pub use filling::fill;
 pub use word::{Filled, Word};

@@ -1,53 +1,91 @@
 //! The scalars of a text, read from its bytes.
 
 ghost use Rattle.std.specs.Prelude.{◌≡◌, ◌<◌, length};
-ghost use Rattle.ucd_breaks.specs.WordBreak.{word_break};
 ghost use Rattle.unicode_segmentation.specs.Word.{significant, value_at};
-ghost use Rattle.lbk_words.specs.Words.{scalars_on};
 ghost use Rattle.lbk_words.specs.Places.{IsReadAt};
+ghost use Rattle.lbk_words.specs.Rows.{answer_number};
+ghost use Rattle.lbk_words.specs.Words.{scalars_on};
 
-use crate::values::is_ignored;
+use crate::decoding::{scalar_of_three, scalar_of_two};
+use crate::kinds::kind_of;
+use crate::step_table::ANSWERS;
 use bstr::decode_lossy;
-use ucd_breaks::WordBreak;
 
 /// A scalar of a text.
 #[derive(Clone, Copy)]
 pub(crate) struct Scalar {
-    /// The scalar.
-    pub(crate) c: char,
-    /// Its value of Word_Break.
-    pub(crate) value: WordBreak,
+    /// Its number.
+    pub(crate) code: u32,
     /// The byte after it.
     pub(crate) end: usize,
 }
 
-/// The scalar that is read at a byte of a text: U+FFFD for the longest piece there that begins none (Unicode Standard,
-/// section 3.9).
+/// The scalar at a byte of a text: U+FFFD for the longest piece there that begins none (Unicode Standard, section 3.9).
 #[inline(always)]
 pub(crate) fn scalar_at(text: &[u8], at: usize) -> Scalar
     requires { at < length text.now }
-    ensures read { IsReadAt text.now at result.c result.end }
-    ensures value { result.value ≡ word_break result.c }
+    ensures read { IsReadAt text.now at result.code result.end }
+    ensures code { result.code < 0x11_0000 }
+{
+    let byte = text[at];
+    if byte < 0x80 {
+        return Scalar {
+            code: u32::from(byte),
+            end: at + 1,
+        };
+    }
+    if text.len() - at < 3 {
+        return any_scalar_at(text, at);
+    }
+    if byte < 0xE0 {
+        let Some(scalar) = scalar_of_two(&text[at..]) else {
+            return any_scalar_at(text, at);
+        };
+        return Scalar {
+            code: scalar.code,
+            end: at + scalar.size,
+        };
+    }
+    let Some(scalar) = scalar_of_three(&text[at..]) else {
+        return any_scalar_at(text, at);
+    };
+    Scalar {
+        code: scalar.code,
+        end: at + scalar.size,
+    }
+}
+
+/// The same by a call, which serves scalars of four bytes and ill-formed text.
+#[inline(never)]
+fn any_scalar_at(text: &[u8], at: usize) -> Scalar
+    requires { at < length text.now }
+    ensures read { IsReadAt text.now at result.code result.end }
+    ensures code { result.code < 0x11_0000 }
 {
     let (c, size) = decode_lossy(&text[at..]);
     Scalar {
-        c,
-        value: WordBreak::for_char(c),
+        code: c as u32,
         end: at + size,
     }
 }
 
-/// The value of the first scalar from a byte on that rule WB4 does not pass over; `Other` where none is left.
-pub(crate) fn first_significant(text: &[u8], start: usize) -> WordBreak
-    ensures { result ≡ value_at (significant (scalars_on text.now start)) 0 }
+/// The answer of a kind that rule WB4 passes over.
+const PASSED_OVER: u8 = 4;
+
+/// What the rules ask of the first scalar from a byte on that rule WB4 does not pass over: 1 for an ALetter, 2 for a
+/// Hebrew_Letter, 3 for a Numeric, and 0 for any other or where none is left.
+pub(crate) fn answer_ahead(text: &[u8], start: usize) -> usize
+    ensures number { result ≡ answer_number (value_at (significant (scalars_on text.now start)) 0) }
+    ensures few { result < 4 }
 {
     let mut at = start;
     while at < text.len() {
         let scalar = scalar_at(text, at);
-        if !is_ignored(scalar.value) {
-            return scalar.value;
+        let answer = ANSWERS[kind_of(scalar.code) as usize];
+        if answer != PASSED_OVER {
+            return answer as usize;
         }
         at = scalar.end;
     }
-    WordBreak::Other
+    0
 }

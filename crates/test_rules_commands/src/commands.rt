@@ -1,7 +1,7 @@
 //! The program's runs by their words, over files, readers and writers in memory.
 
 use lbk_args::DEFAULT_LIMIT;
-use lbk_cmd::{CmdFault, Ending, MemoryStore, MemoryTexts, RunFault, SAMPLE_FILES, Store, run};
+use lbk_cmd::{CmdFault, Ending, MemoryStore, RunFault, SAMPLE_FILES, Store, run};
 use lbk_feed::devices::{MemorySink, MemorySource};
 use lbk_notation::Report;
 use lbk_passage::{LIMIT_MAX, PassageFault};
@@ -14,9 +14,6 @@ use test_support::property_files::words_with;
 
 /// Room for all that a run here writes.
 pub const ROOM: usize = 65_536;
-
-/// No files of text.
-pub static NO_TEXTS: [(&str, &[u8]); 0] = [];
 
 const BAD_ROW: &[u8] = b"0061;AK\n";
 
@@ -36,9 +33,7 @@ fn ended_into(
         ("B", BAD_ROW),
     ];
     let mut store = MemoryStore::new(files.as_slice());
-    let no_texts = MemoryStore::new(NO_TEXTS.as_slice());
-    let mut texts = MemoryTexts::new(alloc, no_texts);
-    let ending = run(alloc, words, &mut store, &mut texts, reader, writer);
+    let ending = run(alloc, words, &mut store, reader, writer);
     (ending, store.loads())
 }
 

@@ -1,6 +1,6 @@
 //! How the faults of a run are reported to a caller of the library, who knows no words of the program.
 
-use lbk_cmd::{BreakFault, CellsFault, ClaimCause, CmdFault, RunFault, Version};
+use lbk_cmd::{BreakFault, CellsFault, ClaimCause, CmdFault, Message, RunFault, Version};
 use lbk_notation::ReplayFault;
 use lbk_passage::PassageFault;
 use lbk_ucd::{UcdCause, UcdFault, Which};
@@ -80,10 +80,19 @@ fn faults_of_files(rt: HostRuntime) -> Result<(), Fail> {
     Ok(())
 }
 
-static OF_RUNS: [(RunFault, &str); 9] = [
+static OF_RUNS: [(RunFault, &str); 15] = [
+    (RunFault::Open, "the input: cannot be read"),
     (
         RunFault::Load(Which::LineBreak),
         "LineBreak.txt: the file cannot be read",
+    ),
+    (
+        RunFault::Claim(Which::Emoji, ClaimCause::Title),
+        "emoji-data.txt: this is not emoji-data.txt as Unicode 15.0 published it",
+    ),
+    (
+        RunFault::Tables(ROW),
+        "DerivedGeneralCategory.txt:7: a row before this one holds a code of this row",
     ),
     (
         RunFault::Cmd(CmdFault::Passage(PassageFault::Limit)),
@@ -91,7 +100,7 @@ static OF_RUNS: [(RunFault, &str); 9] = [
     ),
     (
         RunFault::Cmd(CmdFault::Passage(PassageFault::Read)),
-        "the input cannot be read",
+        "the input: cannot be read",
     ),
     (
         RunFault::Cmd(CmdFault::Passage(PassageFault::NotUtf8 { at: 70_000 })),
@@ -99,7 +108,7 @@ static OF_RUNS: [(RunFault, &str); 9] = [
     ),
     (
         RunFault::Cmd(CmdFault::Passage(PassageFault::TextTooLong)),
-        "the input has more than 1073741824 bytes",
+        "the input: more than 1073741824 bytes",
     ),
     (
         RunFault::Cmd(CmdFault::Passage(PassageFault::ParagraphTooLong { start: 70_000 })),
@@ -107,12 +116,21 @@ static OF_RUNS: [(RunFault, &str); 9] = [
     ),
     (
         RunFault::Cmd(CmdFault::Write),
-        "the output cannot be written",
+        "the output: cannot be written",
+    ),
+    (
+        RunFault::Replay(ReplayFault::Read),
+        "the input: cannot be read",
+    ),
+    (
+        RunFault::Replay(ReplayFault::Write),
+        "the output: cannot be written",
     ),
     (
         RunFault::Replay(ReplayFault::StreamTooLong),
-        "the input has more than 1073741824 bytes",
+        "the input: more than 1073741824 bytes",
     ),
+    (RunFault::Replay(ReplayFault::Memory), "out of memory"),
     (RunFault::Memory, "out of memory"),
 ];
 
@@ -120,6 +138,7 @@ static OF_RUNS: [(RunFault, &str); 9] = [
 fn faults_of_runs(rt: HostRuntime) -> Result<(), Fail> {
     for (fault, want) in &OF_RUNS {
         check(&rt, rt.alloc(), fault, want)?;
+        check(&rt, rt.alloc(), &Message::of_call(*fault), want)?;
     }
     Ok(())
 }
@@ -132,7 +151,7 @@ static OF_ENGINES: [(CmdFault, &str); 9] = [
     (CmdFault::Passage(PassageFault::Memory), "out of memory"),
     (
         CmdFault::Passage(PassageFault::Read),
-        "the input cannot be read",
+        "the input: cannot be read",
     ),
     (
         CmdFault::Passage(PassageFault::NotUtf8 { at: 9 }),
@@ -140,7 +159,7 @@ static OF_ENGINES: [(CmdFault, &str); 9] = [
     ),
     (
         CmdFault::Passage(PassageFault::TextTooLong),
-        "the input has more than 1073741824 bytes",
+        "the input: more than 1073741824 bytes",
     ),
     (
         CmdFault::Passage(PassageFault::ParagraphTooLong { start: 9 }),
@@ -150,7 +169,7 @@ static OF_ENGINES: [(CmdFault, &str); 9] = [
         CmdFault::Passage(PassageFault::Spent),
         "an earlier call was refused",
     ),
-    (CmdFault::Write, "the output cannot be written"),
+    (CmdFault::Write, "the output: cannot be written"),
     (CmdFault::Memory, "out of memory"),
 ];
 
@@ -174,6 +193,8 @@ static OF_TEXTS: [(BreakFault, &str); 4] = [
 fn faults_of_calls(rt: HostRuntime) -> Result<(), Fail> {
     for (fault, want) in &OF_ENGINES {
         check(&rt, rt.alloc(), fault, want)?;
+        let message = Message::of_call(RunFault::Cmd(*fault));
+        check(&rt, rt.alloc(), &message, want)?;
     }
     for (fault, want) in &OF_TEXTS {
         check(&rt, rt.alloc(), fault, want)?;

@@ -1,6 +1,6 @@
 //! Runs by a folder of the Unicode Character Database, and what its files have to say of themselves.
 
-use lbk_cmd::{ClaimCause, Ending, MemoryStore, MemoryTexts, RunFault, Version, run};
+use lbk_cmd::{ClaimCause, Ending, MemoryStore, RunFault, Version, run};
 use lbk_feed::devices::{MemorySink, MemorySource};
 use lbk_files::{check_claim, name_in_database};
 use lbk_ucd::Which;
@@ -40,15 +40,7 @@ fn marked(
     let mut store = MemoryStore::new(files.as_slice());
     let mut reader = MemorySource::new(b"ab cd".as_slice());
     let mut writer = MemorySink::new(alloc, ROOM)?;
-    let mut texts = MemoryTexts::new(alloc, MemoryStore::new(&[]));
-    let ending = run(
-        alloc,
-        words,
-        &mut store,
-        &mut texts,
-        &mut reader,
-        &mut writer,
-    );
+    let ending = run(alloc, words, &mut store, &mut reader, &mut writer);
     Ok((ending, writer))
 }
 

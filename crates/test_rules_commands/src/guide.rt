@@ -7,7 +7,7 @@ ghost use Rattle.lbk_cmd.specs.Texts.{show_text};
 ghost use Rattle.lbk_feed.specs.MemorySink.{sink_bytes};
 ghost use Rattle.lbk_passage.specs.Passages.{passages};
 ghost use Rattle.lbk_passage.specs.declared.passage.Segment.{Segment};
-ghost use Rattle.lbk_steps.specs.CellPages.{page_cell};
+ghost use Rattle.lbk_rules.specs.CellPages.{page_cell};
 
 use lbk_cmd::{CmdFault, SAMPLE_FILES, read_cells, show};
 use lbk_feed::devices::{MemorySink, MemorySource};

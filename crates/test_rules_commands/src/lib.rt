@@ -59,6 +59,8 @@ mod sizes_of_passages;
 #[cfg(test)]
 mod step_tables;
 #[cfg(test)]
+mod surface;
+#[cfg(test)]
 mod tables;
 #[cfg(test)]
 mod test_lines;

@@ -1,7 +1,7 @@
 //! Texts that operands name, over files in memory.
 
 use crate::commands::{ROOM, same};
-use lbk_cmd::{CmdFault, MemoryStore, MemoryTexts, RunFault, run};
+use lbk_cmd::{CmdFault, Ending, MemoryStore, MemoryTexts, RunFault, run, run_over_texts};
 use lbk_feed::devices::{MemorySink, MemorySource};
 use lbk_passage::PassageFault;
 use std::alloc::Global;
@@ -108,7 +108,7 @@ fn check(rt: &impl Abort, alloc: Global, row: &Row) -> Result<(), Fail> {
     let mut texts = MemoryTexts::new(alloc, MemoryStore::new(TEXTS.as_slice()));
     let mut reader = MemorySource::new(b"ef");
     let mut writer = MemorySink::new(alloc, ROOM)?;
-    let ending = run(
+    let ending = run_over_texts(
         alloc,
         &words,
         &mut store,
@@ -140,7 +140,7 @@ fn a_range_of_standard_input_twice(rt: HostRuntime) -> Result<(), Fail> {
         let mut texts = MemoryTexts::new(alloc, MemoryStore::new(TEXTS.as_slice()));
         let mut reader = MemorySource::cut(text, sizes);
         let mut writer = MemorySink::new(alloc, ROOM)?;
-        let ending = run(
+        let ending = run_over_texts(
             alloc,
             &words,
             &mut store,
@@ -150,6 +150,30 @@ fn a_range_of_standard_input_twice(rt: HostRuntime) -> Result<(), Fail> {
         );
         same(&rt, &writer.bytes(), &written.as_bytes(), &words);
         same(&rt, &ending.status(), &0, &words);
+    }
+    Ok(())
+}
+
+/// Without files of text each name but `-` is one that cannot be opened: operands, what is written, and the status.
+static ALONE: [(&[&str], &str, u8); 4] = [
+    (&[], "ef\n", 0),
+    (&["-"], "ef\n", 0),
+    (&["one"], "", 1),
+    (&["one", "-", ""], "ef\n", 1),
+];
+
+#[test]
+fn operands_without_files(rt: HostRuntime) -> Result<(), Fail> {
+    let alloc = rt.alloc();
+    for (operands, text, status) in &ALONE {
+        let words = words_with(alloc, "mark", operands)?;
+        let mut store = MemoryStore::new(NAMED_SAMPLES.as_slice());
+        let mut reader = MemorySource::new(b"ef");
+        let mut writer = MemorySink::new(alloc, ROOM)?;
+        let ending = run(alloc, &words, &mut store, &mut reader, &mut writer);
+        same(&rt, &writer.bytes(), &text.as_bytes(), &words);
+        same(&rt, &ending.status(), status, &words);
+        assert!(rt; matches!(ending, Ending::Reported) == (*status == 1));
     }
     Ok(())
 }

@@ -64,35 +64,40 @@ type Row = (
     &'static str,
 );
 
-static ROWS: [Row; 13] = [
-    (RunFault::Open, GIVEN, Some("x"), "x cannot be read"),
-    (READ, GIVEN, Some("x"), "x cannot be read"),
-    (READ, GIVEN, None, "standard input cannot be read"),
-    (READ, Caller::NoWords, None, "standard input cannot be read"),
-    (READ, Caller::Call, None, "the input cannot be read"),
+static ROWS: [Row; 12] = [
+    (RunFault::Open, GIVEN, Some("x"), "x: cannot be read"),
+    (READ, GIVEN, Some("x"), "x: cannot be read"),
+    (READ, GIVEN, None, "standard input: cannot be read"),
+    (
+        READ,
+        Caller::NoWords,
+        None,
+        "standard input: cannot be read",
+    ),
+    (READ, Caller::Call, None, "the input: cannot be read"),
     (
         RunFault::Replay(ReplayFault::Read),
         GIVEN,
         Some("-"),
-        "standard input cannot be read",
+        "standard input: cannot be read",
     ),
     (
         RunFault::Cmd(CmdFault::Write),
         GIVEN,
         None,
-        "standard output cannot be written",
+        "standard output: cannot be written",
     ),
     (
         RunFault::Replay(ReplayFault::Write),
         IN_FOLDER,
         None,
-        "standard output cannot be written",
+        "standard output: cannot be written",
     ),
     (
         RunFault::Cmd(CmdFault::Write),
         Caller::Call,
         None,
-        "the output cannot be written",
+        "the output: cannot be written",
     ),
     (
         RunFault::Load(Which::LineBreak),
@@ -105,12 +110,6 @@ static ROWS: [Row; 13] = [
         GIVEN,
         None,
         "C: the file cannot be read",
-    ),
-    (
-        RunFault::Load(Which::Emoji),
-        IN_FOLDER,
-        None,
-        "U/emoji/emoji-data.txt: the file cannot be read",
     ),
     (
         RunFault::Load(Which::EastAsianWidth),
@@ -132,6 +131,46 @@ fn check(rt: &impl Abort, alloc: Global, row: &Row, kind: ErrorKind) -> Result<(
     let told = format!(in alloc; "{message}")?;
     let want = format!(in alloc; "{front}: {kind}")?;
     assert_eq!(rt; told.as_str(), want.as_str());
+    Ok(())
+}
+
+/// A folder whose files cannot be read, and how to go on.
+static FOLDERS: [(&str, &str); 3] = [
+    (
+        "U",
+        "; Debian's package unicode-data has the files: --ucd /usr/share/unicode",
+    ),
+    ("x/UCD.zip", "; unpack it, and name the folder"),
+    (
+        "zip",
+        "; Debian's package unicode-data has the files: --ucd /usr/share/unicode",
+    ),
+];
+
+#[test]
+fn folders(rt: HostRuntime) -> Result<(), Fail> {
+    for (folder, advice) in &FOLDERS {
+        let message = Message {
+            fault: RunFault::Load(Which::Emoji),
+            caller: Caller::Words {
+                engine: Engine::Replay { kinds: false },
+                files: FileNames {
+                    line_break: FileName::Given("L"),
+                    east_asian: FileName::InFolder(folder),
+                    category: FileName::InFolder(folder),
+                    emoji: FileName::InFolder(folder),
+                },
+            },
+            text: None,
+            reason: Some(ErrorKind::NotFound),
+            is_utf16: false,
+        };
+        let told = format!(in rt.alloc(); "{message}")?;
+        let want = format!(in rt.alloc();
+            "{folder}/emoji/emoji-data.txt: the file cannot be read: no such file{advice}"
+        )?;
+        assert_eq!(&rt; told.as_str(), want.as_str());
+    }
     Ok(())
 }
 

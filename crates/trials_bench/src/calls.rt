@@ -256,7 +256,7 @@ pub fn prepare(
     store: &mut MemoryStore<'_>,
 ) -> Result<Ready<'static>, Stop> {
     begin(alloc);
-    let answer = lbk_files::prepare(alloc, words, store);
+    let answer = bare_prepare(alloc, words, store);
     end(alloc);
     answer
 }
@@ -302,7 +302,18 @@ fn bare_run(
     source: &mut MemorySource<'_>,
     sink: &mut MemorySink,
 ) -> Ending {
-    lbk_cmd::run(alloc, words, store, texts, source, sink)
+    lbk_cmd::run_over_texts(alloc, words, store, texts, source, sink)
+}
+
+fn bare_prepare(
+    alloc: Global,
+    words: Words,
+    store: &mut MemoryStore<'_>,
+) -> Result<Ready<'static>, Stop> {
+    match lbk_files::read_order(alloc, words) {
+        Ok(order) => lbk_files::prepare(alloc, order, store).map_err(Stop::Refused),
+        Err(stop) => Err(stop),
+    }
 }
 
 fn bare_parse(alloc: Global, words: Words) -> Result<Order<'static>, WordsFault> {

@@ -1,6 +1,6 @@
 //! Cells that have no table of steps, so that the rules themselves decide a text.
 
-ghost use Rattle.lbk_steps.specs.CellPages.{page_cell};
+ghost use Rattle.lbk_rules.specs.CellPages.{page_cell};
 
 use lbk_rules::{Cell, CellPages, CellSource};
 

@@ -72,3 +72,5 @@ class Columns(unittest.TestCase):
         self.assertEqual((places.dtype, places.tolist()), (numpy.int64, [2, 4, 5]))
         self.assertTrue(numpy.shares_memory(places, numpy.frombuffer(found.places, dtype=numpy.int64)))
         self.assertEqual(places[kinds == Kind.MUST].tolist(), [4, 5])
+        text = "é à\n一".encode()
+        self.assertEqual(list(self.table.breaks(numpy.frombuffer(text, numpy.uint8))), list(self.table.breaks(text)))

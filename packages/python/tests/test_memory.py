@@ -1,5 +1,6 @@
 """What is held while breaks are asked for, and that all of it is given back."""
 
+import copy
 import gc
 import mmap
 import sys
@@ -25,6 +26,10 @@ class Memory(unittest.TestCase):
         self.table.breaks(text)
         list(self.table.segments(text))
         next(self.table.segments(text), None)
+        found = self.table.breaks(text)
+        for _ in zip(range(3), found):
+            list(copy.copy(found))
+        found.__reduce__()
         self.table.break_columns(text)
         self.table.break_list_columns([text, text])
 

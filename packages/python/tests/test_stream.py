@@ -97,6 +97,10 @@ class Streams(unittest.TestCase):
         for piece in (bytearray(b"a b"), memoryview(b"a b"), array.array("B", b"a b")):
             self.assertEqual([one.at for one in self.found([piece])], [2, 3])
 
+    def test_what_is_no_table_is_refused(self):
+        for table in (None, "/usr/share/unicode", self.table.to_bytes()):
+            self.assertRaisesRegex(TypeError, f"a Table is required, and not '{type(table).__name__}'", Stream, table)
+
     def test_what_is_no_profile_is_refused(self):
         self.assertRaises(ValueError, Stream, self.table, 3)
         self.assertRaises(TypeError, Stream, self.table, "1")

@@ -190,6 +190,10 @@ class Kept(unittest.TestCase):
         self.assertNotEqual(other, self.table)
         self.assertNotEqual(self.table, None)
 
+    def test_representation(self):
+        digest = self.table.to_bytes()[8:16].hex()
+        self.assertEqual(repr(self.table), f"<lbk.Table: rules of Unicode {lbk.UNICODE_VERSION}, digest {digest}>")
+
     def test_versions(self):
         self.assertRegex(lbk.__version__, r"^\d+\.\d+\.\d+$")
         self.assertEqual(lbk.UNICODE_VERSION, "15.0")

@@ -1,11 +1,15 @@
 """What is taken for a text, and what is found in it."""
 
 import array
+import itertools
 import mmap
+import pathlib
+import subprocess
+import sys
 import tempfile
 import unittest
 
-from lbk import Break, Kind, Rule
+from lbk import Break, Cause, Fault, File, Kind, Rule, Table, _rule_texts
 
 import samples
 
@@ -146,6 +150,21 @@ class Breaks(unittest.TestCase):
         for other in (*others, (3, Kind.MAY, Rule.LB18), None):
             self.assertNotEqual(self.one, other)
 
+    def test_order(self):
+        fields = [(at, kind, rule) for at in (3, 1 << 40) for kind in (Kind.MAY, Kind.MUST) for rule in (Rule.LB3, Rule.LB18)]
+        ordered = [Break(*one) for one in fields]
+        self.assertEqual(sorted(reversed(ordered)), ordered)
+        for (k, one), (j, two) in itertools.product(enumerate(ordered), repeat=2):
+            self.assertEqual((one < two, one <= two, one > two, one >= two), (k < j, k <= j, k > j, k >= j))
+        with self.assertRaises(TypeError):
+            self.one < (3, Kind.MAY, Rule.LB18)
+
+    def test_items(self):
+        self.assertEqual((len(self.one), self.one[0], self.one[-2]), (3, 3, Kind.MAY))
+        self.assertIs(self.one[2], Rule.LB18)
+        for index in (3, -4):
+            self.assertRaises(IndexError, self.one.__getitem__, index)
+
     def test_what_is_no_break_is_refused(self):
         for fields in ((), (1,), (1, 2, 3, 4), ("1", 1, 1)):
             self.assertRaises(TypeError, Break, *fields)
@@ -162,3 +181,21 @@ class Rules(unittest.TestCase):
         self.assertEqual([f"LB{rule.label}" for rule in Rule], [rule.name for rule in Rule])
         self.assertIn("LB31", Rule.__members__)
         self.assertNotIn("LBs", Rule.__members__)
+
+    def test_a_rule_is_written_as_its_label(self):
+        self.assertEqual((str(Rule.LB18), f"{Rule.LB8a}", f"{Rule.LB8a:>4}"), ("18", "8a", "  8a"))
+        self.assertEqual((Rule.LB18 + 0, repr(Rule.LB18)), (144, "<Rule.LB18: 144>"))
+
+    def test_each_rule_says_what_it_says(self):
+        self.assertEqual(Rule.LB18.text, "A break is allowed after spaces.")
+        self.assertEqual(len({rule.text for rule in Rule}), len(Rule))
+
+    def test_what_rules_say_is_what_the_page_shows(self):
+        script = pathlib.Path(__file__).resolve().parents[3] / "scripts/rule-texts"
+        if not script.exists():
+            self.skipTest("the page is not there")
+        made = subprocess.run([sys.executable, script], capture_output=True, text=True, check=True)
+        self.assertEqual(pathlib.Path(_rule_texts.__file__).read_text(encoding="utf-8"), made.stdout)
+
+    def test_each_class_says_what_it_is(self):
+        self.assertEqual([one.__name__ for one in (Rule, Cause, File, Kind, Fault, Table, Break) if not one.__doc__], [])

@@ -1,10 +1,16 @@
-"""Many threads at once."""
+"""Many threads at once, and interpreters."""
 
+import os
+import pathlib
+import subprocess
+import sys
+import textwrap
 import threading
 import time
 import unittest
 from concurrent.futures import ThreadPoolExecutor
 
+import lbk
 import samples
 
 
@@ -71,3 +77,32 @@ class Threads(unittest.TestCase):
         for thread in threads:
             thread.join()
         self.assertEqual(sorted(places), samples.places(self.table, text))
+
+
+class Interpreters(unittest.TestCase):
+    @staticmethod
+    def run_in_another(create):
+        """What an interpreter that is made so raises where it imports the package and uses it, in a process of its own."""
+        program = f"""
+            try:
+                import _interpreters as interpreters
+            except ImportError:
+                import _xxsubinterpreters as interpreters
+            made = interpreters.create({create})
+            try:
+                raised = interpreters.run_string(made, "import lbk; assert [*lbk.words('a b')] == ['a', 'b']")
+                print(raised.formatted if raised else "")
+            except Exception as error:
+                print(error)
+        """
+        environment = {**os.environ, "PYTHONPATH": str(pathlib.Path(lbk.__file__).resolve().parents[1])}
+        command = [sys.executable, "-W", "ignore", "-c", textwrap.dedent(program)]
+        return subprocess.run(command, env=environment, capture_output=True, text=True, check=True).stdout.strip()
+
+    def test_interpreters_that_share_a_lock_can_import_it(self):
+        create = "'legacy'" if sys.version_info >= (3, 13) else "isolated=False"
+        self.assertEqual(self.run_in_another(create), "")
+
+    @unittest.skipUnless(sys.version_info >= (3, 12), "all interpreters share a lock")
+    def test_others_cannot(self):
+        self.assertRegex(self.run_in_another(""), "ImportError.*does not support loading in subinterpreters")

@@ -1,6 +1,8 @@
 //! What `lbk_cmd` exports: the engines, and a run of the program.
 
-use lbk_cmd::{CmdFault, Ending, LoadFault, MemoryStore, RunFault, Store, run, segment, show};
+use lbk_cmd::{
+    CmdFault, Ending, LoadFault, MemoryStore, RunFault, SAMPLE_FILES, Store, run, segment, show,
+};
 use lbk_feed::devices::{MemorySink, MemorySource};
 use lbk_feed::{Sink, Source};
 use lbk_notation::{ReplayFault, Report};
@@ -9,7 +11,7 @@ use lbk_rules::{CellPages, CellSource, Profile};
 use lbk_ucd::{UcdFault, Which};
 use std::alloc::Global;
 use std::test::Fail;
-use test_support::sample_pages;
+use test_support::calls::pages_by;
 
 fn fault(fault: CmdFault) -> bool {
     match fault {
@@ -107,7 +109,7 @@ fn loaded<S: Store>(alloc: Global, store: &mut S, name: &str) -> Result<Vec<u8>,
 
 #[test]
 fn engines(rt: HostRuntime) -> Result<(), Fail> {
-    let cells: CellPages = sample_pages(rt.alloc())?;
+    let cells: CellPages = pages_by(rt.alloc(), SAMPLE_FILES)?;
     let mut writer = MemorySink::new(rt.alloc(), 128)?;
     let mut reader = MemorySource::new(b"ab");
     assert_eq!(&rt;

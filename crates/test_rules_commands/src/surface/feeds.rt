@@ -17,12 +17,12 @@ fn sink<W: Sink>(writer: &mut W) -> Result<usize, Failed> {
     writer.write(bytes)
 }
 
-fn read_device<D: Read>(inner: D) -> Result<usize, Failed> {
+fn read_device<D: Read + Drop>(inner: D) -> Result<usize, Failed> {
     let mut device: Device<D> = Device::new(inner);
     source(&mut device)
 }
 
-fn write_device<D: Write>(inner: D) -> Result<usize, Failed> {
+fn write_device<D: Write + Drop>(inner: D) -> Result<usize, Failed> {
     let mut device: Device<D> = Device::new(inner);
     sink(&mut device)
 }
@@ -63,6 +63,6 @@ fn devices(rt: HostRuntime) -> Result<(), Fail> {
     let mut writer: MemorySink = MemorySink::new(rt.alloc(), 1)?;
     assert_eq!(&rt; sink(&mut writer), Ok(1));
     let written: &[u8] = writer.bytes();
-    assert_eq!(&rt; written, b"a");
+    assert_eq!(&rt; written, b"a".as_slice());
     Ok(())
 }

@@ -1,5 +1,6 @@
 //! What `lbk_notation` exports: lines of break tests, read, written and replayed.
 
+use lbk_cmd::SAMPLE_FILES;
 use lbk_feed::devices::{MemorySink, MemorySource};
 use lbk_feed::{Sink, Source};
 use lbk_notation::{
@@ -9,7 +10,7 @@ use lbk_notation::{
 use lbk_rules::{CellPages, CellSource, Profile, Verdict};
 use std::alloc::{AllocError, Global};
 use std::test::Fail;
-use test_support::sample_pages;
+use test_support::calls::pages_by;
 
 fn mark(value: Mark) -> bool {
     match value {
@@ -91,7 +92,7 @@ fn made(scalars: Vec<char>, marks: Vec<Mark>) -> Option<TestLine> {
 
 #[test]
 fn lines(rt: HostRuntime) -> Result<(), Fail> {
-    let cells: CellPages = sample_pages(rt.alloc())?;
+    let cells: CellPages = pages_by(rt.alloc(), SAMPLE_FILES)?;
     let line: TestLine = marked(rt.alloc(), &cells, "ab", Profile::First)?;
     let scalars: &[char] = line.scalars();
     let marks: &[Mark] = line.marks();
@@ -99,8 +100,8 @@ fn lines(rt: HostRuntime) -> Result<(), Fail> {
     let text: Vec<u8> = written(rt.alloc(), &line, Form::Plain)?;
     let again = read(rt.alloc(), text.as_slice(), Form::Plain);
     assert!(&rt; again.is_ok());
-    let bad = read(rt.alloc(), b"\xC3\x97 D800", Form::Plain);
-    assert_eq!(&rt; bad.map(|line| line.is_some()).map_err(line_fault), Err(6));
+    let bad = read(rt.alloc(), "× D800 ÷".as_bytes(), Form::Plain);
+    assert_eq!(&rt; bad.map(|line| line.is_some()).map_err(line_fault), Err(7));
     let same: Outcome = replayed_line(&cells, &line, Form::Kinds, Profile::First);
     assert!(&rt; outcome(same).is_none());
     assert!(&rt; made(Vec::new(rt.alloc()), Vec::new(rt.alloc())).is_none());
@@ -109,7 +110,7 @@ fn lines(rt: HostRuntime) -> Result<(), Fail> {
 
 #[test]
 fn files(rt: HostRuntime) -> Result<(), Fail> {
-    let cells: CellPages = sample_pages(rt.alloc())?;
+    let cells: CellPages = pages_by(rt.alloc(), SAMPLE_FILES)?;
     let mut reader = MemorySource::new("÷ 0061 ÷\n".as_bytes());
     let mut writer = MemorySink::new(rt.alloc(), 64)?;
     let found: Result<Report, ReplayFault> = replayed(

@@ -1,12 +1,13 @@
 //! What `lbk_passage` exports: the segmenter, and what it lends.
 
+use lbk_cmd::SAMPLE_FILES;
 use lbk_feed::Source;
 use lbk_feed::devices::MemorySource;
 use lbk_passage::{Passage, PassageFault, Piece, Segment, Segmenter};
 use lbk_rules::{CellPages, CellSource, Kind, Profile, Rule, Verdict};
 use std::alloc::Global;
 use std::test::Fail;
-use test_support::sample_pages;
+use test_support::calls::pages_by;
 
 fn fault(fault: PassageFault) -> u64 {
     match fault {
@@ -81,7 +82,7 @@ fn passage(
 
 #[test]
 fn passages(rt: HostRuntime) -> Result<(), Fail> {
-    let cells: CellPages = sample_pages(rt.alloc())?;
+    let cells: CellPages = pages_by(rt.alloc(), SAMPLE_FILES)?;
     let refused = new(rt.alloc(), &cells, 0, Profile::First);
     assert!(&rt; matches!(refused, Err(PassageFault::Limit)));
     let segmenter = new(rt.alloc(), &cells, 4, Profile::First);

@@ -1,6 +1,7 @@
 //! What `lbk_rules` exports: cells and their sources, the evaluator, and the machines.
 
 use crate::calls::{decided, decided_in, late_step};
+use lbk_cmd::SAMPLE_FILES;
 use lbk_rules::{
     Cell, CellPages, CellSource, Class, End, Kind, LateMachine, Machine, Out, Profile, Quote, Rule,
     Verdict, decide, decide_in, laws, resolve,
@@ -9,7 +10,7 @@ use lbk_ucd::{Category, EastAsian, LineBreak, Tables};
 use std::alloc::{AllocError, Global};
 use std::process::Abort;
 use std::test::Fail;
-use test_support::sample_tables;
+use test_support::calls::tables_of;
 
 fn class(value: Class) -> bool {
     use Class::*;
@@ -175,7 +176,7 @@ fn cells(rt: HostRuntime) -> Result<(), Fail> {
         letter,
     } = resolved;
     assert!(&rt; class(its_class) && !wide && !pict_cn && quote(its_quote) && letter);
-    let tables: Tables = sample_tables(rt.alloc())?;
+    let tables: Tables = tables_of(rt.alloc(), SAMPLE_FILES)?;
     let pages: CellPages = pages(rt.alloc(), &tables)?;
     assert_eq!(&rt; cell_of(&tables, 'a'), cell_of(&pages, 'a'));
     Ok(())

@@ -2,8 +2,6 @@
 
 #include "state.h"
 
-#include <stdbool.h>
-
 typedef struct {
     PyObject_HEAD
     lbk_break found;
@@ -102,13 +100,32 @@ static PyObject *repr(PyObject *self)
     return made;
 }
 
+static Py_ssize_t length(PyObject *Py_UNUSED(self))
+{
+    return 3;
+}
+
+static PyObject *item(PyObject *self, Py_ssize_t index)
+{
+    PyObject *all = fields(self);
+    PyObject *one = all == NULL ? NULL : Py_XNewRef(PyTuple_GetItem(all, index));
+    Py_XDECREF(all);
+    return one;
+}
+
+/* Below 0, 0 or above 0: by place, then by kind, then by rule. */
+static int order(const lbk_break *one, const lbk_break *two)
+{
+    if (one->at != two->at)
+        return one->at < two->at ? -1 : 1;
+    return one->kind != two->kind ? one->kind - two->kind : one->rule - two->rule;
+}
+
 static PyObject *compare(PyObject *self, PyObject *other, int operation)
 {
-    if (Py_TYPE(self) != Py_TYPE(other) || (operation != Py_EQ && operation != Py_NE))
+    if (Py_TYPE(self) != Py_TYPE(other))
         return Py_NewRef(Py_NotImplemented);
-    const lbk_break *one = found_in(self), *two = found_in(other);
-    bool same = one->at == two->at && one->kind == two->kind && one->rule == two->rule;
-    return PyBool_FromLong(same == (operation == Py_EQ));
+    Py_RETURN_RICHCOMPARE(order(found_in(self), found_in(other)), 0, operation);
 }
 
 static Py_hash_t hash(PyObject *self)
@@ -132,13 +149,13 @@ static PyMethodDef methods[] = {
 };
 
 static const char documentation[] =
-    "Break(at, kind, rule)\n--\n\nA place of a text where a line may or must end. It can be unpacked, compared and pickled.";
+    "Break(at, kind, rule)\n--\n\nA place of a text where a line may or must end. It can be unpacked, indexed, sorted and pickled.";
 
 static PyType_Slot slots[] = {
     {Py_tp_new, create},          {Py_tp_dealloc, dealloc}, {Py_tp_repr, repr},
     {Py_tp_richcompare, compare}, {Py_tp_hash, hash},       {Py_tp_iter, iterate},
     {Py_tp_getset, properties},   {Py_tp_methods, methods}, {Py_tp_doc, (void *)documentation},
-    {0, NULL},
+    {Py_sq_length, length},       {Py_sq_item, item},       {0, NULL},
 };
 
 static PyType_Spec spec = {

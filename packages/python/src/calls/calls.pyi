@@ -1,5 +1,5 @@
 from collections.abc import Iterable, Iterator
-from typing import Any, TypeAlias, final
+from typing import Any, Self, TypeAlias, final
 
 from ._numbers import Rule
 from ._results import Kind
@@ -17,25 +17,27 @@ SEGMENTS: int
 POSITIONS: int
 WORDS: int
 WORD_RANGES: int
+SHARED: str
 
+# A tuple to checkers alone, which take the types of `at, kind, rule = found` from nothing else. It has the length, the items
+# and the order of one, and equals none.
 @final
-class Break:
+class Break(tuple[int, Kind, Rule]):
     __match_args__ = ("at", "kind", "rule")
-    def __new__(cls, at: int, kind: Kind, rule: Rule) -> Break: ...
+    def __new__(cls, at: int, kind: Kind, rule: Rule) -> Self: ...
     @property
     def at(self) -> int: ...
     @property
     def kind(self) -> Kind: ...
     @property
     def rule(self) -> Rule: ...
-    def __iter__(self) -> Iterator[Any]: ...
-    def __hash__(self) -> int: ...
 
 @final
 class Found(Iterator[Any]):
     @classmethod
     def of(cls, table: _Buffer | None, text: str | _Buffer, profile: int, what: int, /) -> Found: ...
     def __next__(self) -> Any: ...
+    def __copy__(self) -> Found: ...
 
 def read(
     table: _Buffer, line_break: _Buffer, east_asian: _Buffer, category: _Buffer, emoji: _Buffer, are_published: bool, /

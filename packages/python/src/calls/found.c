@@ -4,6 +4,11 @@
 #include "places.h"
 #include "state.h"
 
+#include <string.h>
+
+/* What is said to all but one of the threads that use an iterator at the same time. */
+#define SHARED "another thread uses this iterator at this time: give each thread one of its own"
+
 /* What comes, one at a time. The Python modules know these numbers by their names. */
 enum { BREAKS, SEGMENTS, POSITIONS, WORDS, WORD_RANGES };
 
@@ -139,7 +144,7 @@ static PyObject *next(PyObject *self)
 {
     found *at = (found *)self;
     if (at->is_busy)
-        return PyErr_Format(PyExc_ValueError, "another thread goes on with this iterator");
+        return PyErr_Format(PyExc_ValueError, SHARED);
     if (at->next == at->count && (at->is_last || !refill(at) || at->count == 0))
         return NULL;
     const item *one = &at->block[at->next++];
@@ -158,6 +163,12 @@ static PyObject *next(PyObject *self)
     }
 }
 
+static found *new_found(PyTypeObject *type)
+{
+    allocfunc alloc = (allocfunc)PyType_GetSlot(type, Py_tp_alloc);
+    return (found *)alloc(type, 0);
+}
+
 /* of(table, text, profile, what) */
 static PyObject *of(PyObject *type, PyObject *const *given, Py_ssize_t count)
 {
@@ -167,8 +178,7 @@ static PyObject *of(PyObject *type, PyObject *const *given, Py_ssize_t count)
     long what = PyLong_AsLong(given[3]);
     if (what < BREAKS || what > WORD_RANGES)
         return PyErr_Occurred() ? NULL : PyErr_Format(PyExc_ValueError, "nothing has the number %ld", what);
-    allocfunc alloc = (allocfunc)PyType_GetSlot((PyTypeObject *)type, Py_tp_alloc);
-    found *at = (found *)alloc((PyTypeObject *)type, 0);
+    found *at = new_found((PyTypeObject *)type);
     if (at == NULL)
         return NULL;
     const module_state *state = PyType_GetModuleState((PyTypeObject *)type);
@@ -185,7 +195,53 @@ static PyObject *of(PyObject *type, PyObject *const *given, Py_ssize_t count)
     return (PyObject *)at;
 }
 
+/* __copy__: one that goes on from the same place. */
+static PyObject *copy(PyObject *self, PyObject *Py_UNUSED(none))
+{
+    const found *at = (found *)self;
+    if (at->is_busy)
+        return PyErr_Format(PyExc_ValueError, SHARED);
+    found *made = new_found(Py_TYPE(self));
+    if (made == NULL)
+        return NULL;
+    made->table = Py_XNewRef(at->table);
+    made->text = Py_XNewRef(at->text);
+    made->source = Py_XNewRef(at->source);
+    made->break_type = Py_XNewRef(at->break_type);
+    made->what = at->what;
+    made->in_code_points = at->in_code_points;
+    made->is_last = at->is_last;
+    made->from = at->from;
+    made->start = at->start;
+    if (at->block == NULL)
+        return (PyObject *)made;
+    made->block = at->block == at->first ? made->first : PyMem_Malloc(at->room * sizeof(item));
+    if (made->block == NULL) {
+        Py_DECREF(made);
+        return PyErr_NoMemory();
+    }
+    made->room = at->room;
+    made->count = at->count - at->next;
+    memcpy(made->block, at->block + at->next, made->count * sizeof(item));
+    return (PyObject *)made;
+}
+
+/* __reduce__: pickled it is a list of what is left. */
+static PyObject *reduce(PyObject *self, PyObject *Py_UNUSED(none))
+{
+    PyObject *rest = copy(self, NULL);
+    PyObject *list = rest == NULL ? NULL : PySequence_List(rest);
+    PyObject *iter = list == NULL ? NULL : PyMapping_GetItemString(PyEval_GetBuiltins(), "iter");
+    PyObject *made = iter == NULL ? NULL : Py_BuildValue("O(O)", iter, list);
+    Py_XDECREF(iter);
+    Py_XDECREF(list);
+    Py_XDECREF(rest);
+    return made;
+}
+
 static PyMethodDef methods[] = {
+    {"__copy__", copy, METH_NOARGS, NULL},
+    {"__reduce__", reduce, METH_NOARGS, NULL},
     {"of", (PyCFunction)(void (*)(void))of, METH_FASTCALL | METH_CLASS, NULL},
     {NULL, NULL, 0, NULL},
 };
@@ -208,6 +264,7 @@ PyObject *new_found_type(PyObject *module)
         && PyModule_AddIntConstant(module, "SEGMENTS", SEGMENTS) == 0
         && PyModule_AddIntConstant(module, "POSITIONS", POSITIONS) == 0
         && PyModule_AddIntConstant(module, "WORDS", WORDS) == 0
-        && PyModule_AddIntConstant(module, "WORD_RANGES", WORD_RANGES) == 0;
+        && PyModule_AddIntConstant(module, "WORD_RANGES", WORD_RANGES) == 0
+        && PyModule_AddStringConstant(module, "SHARED", SHARED) == 0;
     return added ? PyType_FromModuleAndSpec(module, &spec, NULL) : NULL;
 }

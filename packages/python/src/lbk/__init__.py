@@ -1,13 +1,13 @@
 """Line breaks by UAX #14, the Unicode Line Breaking Algorithm: where a line may end, and must.
 
-    >>> table = lbk.Table.load("/usr/share/unicode")
-    >>> list(table.segments("naïve text"))
+    >>> list(lbk.segments("naïve text"))
     ['naïve ', 'text']
-    >>> next(table.breaks("naïve text"))
+    >>> next(lbk.breaks("naïve text"))
     Break(at=6, kind=<Kind.MAY: 1>, rule=<Rule.LB18: 144>)
 
-A table is made once, of four files of the Unicode Character Database. Any number of threads may
-use it at the same time.
+Breaks are decided by a table, which is made of four files of the Unicode Character Database:
+`Table.load()` finds them where systems install them. A `Table` has more calls than those here. Any
+number of threads may use it at the same time.
 """
 
 from ._calls import UNICODE_VERSION, WORDS_UNICODE_VERSION, Break
@@ -16,13 +16,13 @@ from ._fault import Fault
 from ._numbers import Cause, File, Rule
 from ._results import Columns, Kind, ListColumns, Passage
 from ._stream import Stream
-from ._table import Table
+from ._table import Table, breaks, segments, words
 
 __all__ = [
     "UNICODE_VERSION", "WORDS_UNICODE_VERSION", "Break", "Cause", "Columns", "Fault", "File", "Kind", "ListColumns", "Passage",
-    "Rule", "Stream", "Table", "__version__",
+    "Rule", "Stream", "Table", "__version__", "breaks", "segments", "words",
 ]
 
 # These are known by the names that their users know, also in what was pickled.
-for _class in (Cause, Columns, Fault, File, Kind, ListColumns, Passage, Rule, Stream, Table):
-    _class.__module__ = __name__
+for _public in (Cause, Columns, Fault, File, Kind, ListColumns, Passage, Rule, Stream, Table, breaks, segments):
+    _public.__module__ = __name__

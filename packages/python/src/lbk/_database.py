@@ -1,10 +1,13 @@
-"""The four files in a folder of the Unicode Character Database."""
+"""The four files in a folder of the Unicode Character Database, and the folders that may have them."""
 
 import errno
 import os
 import zipfile
+import zlib
 from pathlib import Path
 from typing import TypeAlias
+
+from ._calls import UNICODE_VERSION
 
 Folder: TypeAlias = "str | os.PathLike[str]"
 
@@ -16,14 +19,33 @@ _PLACES = (
     ("emoji/emoji-data.txt", "emoji-data.txt"),
 )
 
+# Debian's folder and Fedora's.
+_SYSTEM = ("/usr/share/unicode", "/usr/share/unicode/ucd")
+
 
 def contents(folder: Folder) -> list[bytes]:
-    """The contents of the four files in a folder, in its folder `ucd`, or in an archive UCD.zip."""
-    top = Path(folder)
-    root: Path | zipfile.Path = zipfile.Path(str(top)) if zipfile.is_zipfile(top) else top
-    if not (root / _PLACES[0][0]).exists() and (root / "ucd").is_dir():
-        root = root / "ucd"
-    return [_first_of(root, places).read_bytes() for places in _PLACES]
+    """The contents of the four files in a folder, in its folder `ucd` or its archive UCD.zip, or in
+    such an archive itself."""
+    root = _root(Path(folder))
+    try:
+        return [_first_of(root, places).read_bytes() for places in _PLACES]
+    except (zipfile.BadZipFile, zlib.error) as error:
+        raise OSError(errno.EIO, f"the archive is damaged: {error}", str(root)) from error
+
+
+def _root(top: Path) -> Path | zipfile.Path:
+    first = _PLACES[0][0]
+    if zipfile.is_zipfile(top):
+        archive = zipfile.Path(str(top))
+        return archive if (archive / first).exists() or not (archive / "ucd").is_dir() else archive / "ucd"
+    if top.exists() and not top.is_dir():
+        raise NotADirectoryError(errno.ENOTDIR, "neither a folder nor a zip archive", str(top))
+    if not (top / first).exists():
+        if (top / "ucd").is_dir():
+            return top / "ucd"
+        if zipfile.is_zipfile(top / "UCD.zip"):
+            return _root(top / "UCD.zip")
+    return top
 
 
 def _first_of(root: Path | zipfile.Path, places: tuple[str, ...]) -> Path | zipfile.Path:
@@ -32,3 +54,23 @@ def _first_of(root: Path | zipfile.Path, places: tuple[str, ...]) -> Path | zipf
         if file.is_file():
             return file
     raise FileNotFoundError(errno.ENOENT, os.strerror(errno.ENOENT), str(root / places[0]))
+
+
+def folders() -> list[str]:
+    """The folders where the files are looked for: the one that UNICODE_DATA names, or else those of
+    the system and of the user."""
+    if named := os.environ.get("UNICODE_DATA"):
+        return [os.path.abspath(named)]
+    users = os.environ.get("XDG_DATA_HOME", ""), os.path.expanduser("~/.local/share")
+    return [*_SYSTEM, *dict.fromkeys(f"{one}/unicode" for one in users if os.path.isabs(one))]
+
+
+def not_found(refusals: list[str]) -> FileNotFoundError:
+    """Says what to do, and why each folder was refused."""
+    version = f"{UNICODE_VERSION}.0"
+    advice = (
+        f"found no files of Unicode {version}; install the package unicode-data (Debian 12), unpack UCD.zip of "
+        f"https://www.unicode.org/Public/{version}/ucd/ into ~/.local/share/unicode, or set UNICODE_DATA to a folder "
+        "that has them. Looked for:"
+    )
+    return FileNotFoundError("\n  ".join([advice, *refusals]))

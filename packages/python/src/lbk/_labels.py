@@ -3,12 +3,24 @@
 import enum
 
 from . import _calls
+from ._rule_texts import TEXTS
 
 
 class Labelled(enum.IntEnum):
-    """The rules of UAX #14, section 6."""
+    """Numbers that are written as the labels of rules."""
 
     @property
     def label(self) -> str:
         """The number of the rule in the standard, as "8a"."""
         return _calls.label(self)
+
+    @property
+    def text(self) -> str:
+        """What the rule says, in one line."""
+        return TEXTS[self.label]
+
+    def __str__(self) -> str:
+        return self.label
+
+    def __format__(self, form: str) -> str:
+        return format(self.label, form)

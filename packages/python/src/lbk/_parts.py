@@ -1,5 +1,8 @@
 """Parts of files: ranges of bytes that are broken apart, and how each is read by itself."""
 
+# What these need has types in some of its versions.
+# mypy: disable-error-code="import"
+
 import mmap
 import threading
 from dataclasses import dataclass

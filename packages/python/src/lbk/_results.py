@@ -1,8 +1,9 @@
 """What is found in a text."""
 
 import enum
+from array import array
 from collections.abc import Iterable
-from typing import AnyStr, Generic, NamedTuple
+from typing import Any, AnyStr, Generic, NamedTuple
 
 from . import _calls
 from ._numbers import Rule
@@ -16,6 +17,16 @@ class Kind(enum.IntEnum):
     MUST = _calls.LBK_MUST
 
 
+def _pickled(columns: tuple[Any, ...]) -> tuple[Any, ...]:
+    """Columns with each memoryview as an array, since it cannot be pickled."""
+    arrays = (array(one.format, one.tobytes()) if isinstance(one, memoryview) else one for one in columns)
+    return _unpickled, (type(columns), *arrays)
+
+
+def _unpickled(kind: type[Any], *arrays: Any) -> Any:
+    return kind(*(memoryview(one) if isinstance(one, array) else one for one in arrays))
+
+
 class Columns(NamedTuple):
     """The breaks of a text, in their order: numbers of the same place in each column belong
     together."""
@@ -27,6 +38,9 @@ class Columns(NamedTuple):
     rules: bytearray
     """The numbers of `Rule`."""
 
+    def __reduce__(self) -> tuple[Any, ...]:
+        return _pickled(self)
+
 
 class ListColumns(NamedTuple):
     """The breaks of many texts, one text after the other. Those of `texts[k]` stand at `offsets[k]`
@@ -37,6 +51,9 @@ class ListColumns(NamedTuple):
     places: memoryview
     kinds: bytearray
     rules: bytearray
+
+    def __reduce__(self) -> tuple[Any, ...]:
+        return _pickled(self)
 
 
 class Passage(NamedTuple, Generic[AnyStr]):

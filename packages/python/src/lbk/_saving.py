@@ -1,5 +1,8 @@
 """Results that are saved, a file for each partition."""
 
+# What these need has types in some of its versions.
+# mypy: disable-error-code="import"
+
 import io
 import json
 import os

@@ -25,6 +25,8 @@ class Stream:
     __slots__ = ("_table", "_state", "_is_str", "_ended")
 
     def __init__(self, table: Table, profile: int = 1) -> None:
+        if not isinstance(table, Table):
+            raise TypeError(f"a Table is required, and not {type(table).__name__!r}")
         self._table = table
         self._state = _calls.new_stream(profile)
         self._is_str: bool | None = None

@@ -1,11 +1,15 @@
 """The table of the rules, and what it finds."""
 
+import contextlib
+import copy
+import functools
 import mmap
 import os
+import threading
 from array import array
 from collections.abc import Iterable, Iterator
 from pathlib import Path
-from typing import Any, Self, TypeAlias, overload
+from typing import Any, Protocol, Self, TypeAlias, overload
 
 from . import _calls, _database
 from ._calls import Break
@@ -13,12 +17,28 @@ from ._fault import Fault
 from ._numbers import Cause
 from ._results import Columns, Kind, ListColumns, Passage
 
-# What `memoryview` takes.
-Bytes: TypeAlias = "bytes | bytearray | memoryview | mmap.mmap | array[int]"
+
+class _Buffer(Protocol):
+    """What `memoryview` takes, where checkers know it (PEP 688)."""
+
+    def __buffer__(self, flags: int, /) -> memoryview: ...
+
+
+class _NumpyArray(Protocol):
+    @property
+    def __array_interface__(self) -> dict[str, Any]: ...
+
+
+Bytes: TypeAlias = "bytes | bytearray | memoryview | mmap.mmap | array[int] | _Buffer | _NumpyArray"
 Text: TypeAlias = "str | Bytes"
 Name: TypeAlias = "str | bytes | os.PathLike[str] | os.PathLike[bytes]"
 
 _new = tuple.__new__
+
+# What load() without a folder found, and who looks for it. No process forks while another thread does.
+_found: "tuple[bytearray, str] | None" = None
+_finding = threading.Lock()
+os.register_at_fork(before=_finding.acquire, after_in_parent=_finding.release, after_in_child=_finding.release)
 
 
 class Table:
@@ -27,7 +47,8 @@ class Table:
 
     Make one by `load`, `from_files`, `read`, `from_bytes` or `open`. It never changes, so any
     number of threads may use it. Pickled it is its bytes; one that `open` mapped is the name of its
-    file.
+    file, and one of `load` its folder and digest: where the folder then gives another table,
+    ValueError names it.
 
     Texts are `str`, with places in code points, or objects of bytes in UTF-8, with places in bytes:
     `bytes`, `bytearray`, `memoryview`, `mmap`, and others with the buffer protocol and items of a
@@ -36,29 +57,37 @@ class Table:
     place of LB15. TypeError comes for what is no text, and ValueError for what is no profile.
     """
 
-    __slots__ = ("_memory", "_name")
+    __slots__ = ("_memory", "_origin")
     _memory: bytearray | mmap.mmap
-    _name: str | None
+    _origin: tuple[Any, ...]
+    """A call that makes the same table, and its arguments, or nothing."""
 
     def __init__(self) -> None:
         raise TypeError("a Table is made by load, from_files, read, from_bytes or open")
 
     @classmethod
-    def _of(cls, memory: bytearray | mmap.mmap, name: str | None = None) -> Self:
+    def _of(cls, memory: bytearray | mmap.mmap, call: Any = None, *arguments: str) -> Self:
         table = object.__new__(cls)
-        table._memory, table._name = memory, name
+        table._memory, table._origin = memory, (call, arguments) if call else ()
         return table
 
     @classmethod
-    def load(cls, folder: _database.Folder) -> Self:
+    def load(cls, folder: "_database.Folder | None" = None) -> Self:
         """The table of the Unicode Character Database in a folder: LineBreak.txt,
         EastAsianWidth.txt, extracted/DerivedGeneralCategory.txt and emoji/emoji-data.txt, or all
-        four beside each other, in the folder or in its folder `ucd`; or in the archive UCD.zip.
+        four beside each other, in the folder, in its folder `ucd` or its archive UCD.zip; or in
+        such an archive.
 
-        Raises OSError where a file cannot be read, and Fault where one is not that which Unicode
-        published for the version UNICODE_VERSION.
+        Without a folder it is the one that UNICODE_DATA names, or else the first that has the files
+        of /usr/share/unicode, its `ucd`, and `unicode` in XDG_DATA_HOME and ~/.local/share. It is
+        read once in a process.
+
+        Raises OSError where a file cannot be read, FileNotFoundError with all places where none is
+        found, and Fault where a file is not that which Unicode published for the version
+        UNICODE_VERSION.
         """
-        return cls._read(_database.contents(folder), True)
+        memory, place = _find() if folder is None else (_read(_database.contents(folder), True), os.path.abspath(folder))
+        return cls._of(memory, _load_again, place, _digest_of(memory))
 
     @classmethod
     def from_files(cls, line_break: Name, east_asian: Name, category: Name, emoji: Name) -> Self:
@@ -70,24 +99,13 @@ class Table:
     def read(cls, line_break: Bytes, east_asian: Bytes, category: Bytes, emoji: Bytes) -> Self:
         """The table of the contents of four files. Raises Fault at the first fault that they have,
         and MemoryError where memory is refused."""
-        return cls._read((line_break, east_asian, category, emoji), False)
-
-    @classmethod
-    def _read(cls, files: Iterable[Bytes], are_published: bool) -> Self:
-        line_break, east_asian, category, emoji = map(_unchanging, files)
-        memory = bytearray(_calls.TABLE_SIZE)
-        file, line, cause = _calls.read(memory, line_break, east_asian, category, emoji, are_published)
-        if cause == Cause.OUT_OF_MEMORY:
-            raise MemoryError
-        if cause != Cause.NONE:
-            raise Fault(file, line, cause)
-        return cls._of(memory)
+        return cls._of(_read((line_break, east_asian, category, emoji), False))
 
     @classmethod
     def from_bytes(cls, data: Bytes) -> Self:
         """The table of the bytes that `to_bytes` returned. Raises ValueError where they are no
         whole table of this version."""
-        memory = bytearray(memoryview(data))
+        memory = bytearray(_view(data))
         _check(memory, "the bytes")
         return cls._of(memory)
 
@@ -105,7 +123,7 @@ class Table:
                 raise ValueError(f"{path} is no table of this version")
             memory = mmap.mmap(file.fileno(), 0, access=mmap.ACCESS_READ)
         _check(memory, path)
-        return cls._of(memory, path)
+        return cls._of(memory, Table.open, path)
 
     def to_bytes(self) -> bytes:
         """The bytes of the table, for `from_bytes`."""
@@ -192,7 +210,14 @@ class Table:
         words."""
         breaks = self.breaks(text, profile)
         # These give a str or bytes as their slices.
-        return _passages(breaks, text if isinstance(text, (str, bytes, mmap.mmap)) else bytes(text))
+        return _Passages(breaks, text if isinstance(text, (str, bytes, mmap.mmap)) else bytes(text))
+
+    @property
+    def _digest(self) -> str:
+        return _digest_of(self._memory)
+
+    def __repr__(self) -> str:
+        return f"<lbk.Table: rules of Unicode {_calls.UNICODE_VERSION}, digest {self._digest}>"
 
     def __eq__(self, other: object) -> bool:
         if not isinstance(other, Table):
@@ -200,8 +225,7 @@ class Table:
         return memoryview(self._memory) == memoryview(other._memory)
 
     def __hash__(self) -> int:
-        # The layout and the digest, which stand first.
-        return hash(bytes(self._memory[:16]))
+        return hash(self._digest)
 
     def __copy__(self) -> Self:
         return self
@@ -210,23 +234,124 @@ class Table:
         return self
 
     def __reduce__(self) -> tuple[Any, ...]:
-        return (Table.open, (self._name,)) if self._name is not None else (Table.from_bytes, (self.to_bytes(),))
+        return self._origin or (Table.from_bytes, (self.to_bytes(),))
+
+
+def breaks(text: Text, profile: int = 1) -> Iterator[Break]:
+    """As `Table.breaks`, by the table that `Table.load()` finds."""
+    return Table.load().breaks(text, profile)
+
+
+@overload
+def segments(text: str, profile: int = 1) -> Iterator[str]: ...
+@overload
+def segments(text: Bytes, profile: int = 1) -> Iterator[bytes]: ...
+def segments(text: Any, profile: int = 1) -> Iterator[Any]:
+    """As `Table.segments`, by the table that `Table.load()` finds."""
+    return Table.load().segments(text, profile)
+
+
+words = Table.words
+
+
+def _read(files: Iterable[Bytes], are_published: bool) -> bytearray:
+    line_break, east_asian, category, emoji = map(_unchanging, files)
+    memory = bytearray(_calls.TABLE_SIZE)
+    file, line, cause = _calls.read(memory, line_break, east_asian, category, emoji, are_published)
+    if cause == Cause.OUT_OF_MEMORY:
+        raise MemoryError
+    if cause != Cause.NONE:
+        raise Fault(file, line, cause)
+    return memory
+
+
+def _digest_of(memory: bytearray | mmap.mmap) -> str:
+    return memory[8:16].hex()
+
+
+def _find() -> tuple[bytearray, str]:
+    global _found
+    if _found is None:
+        with _finding:
+            _found = _found or _first_found()
+    return _found
+
+
+def _first_found() -> tuple[bytearray, str]:
+    refusals = []
+    for folder in _database.folders():
+        try:
+            return _read(_database.contents(folder), True), folder
+        except OSError as error:
+            refusals.append(f"{error.filename}: {error.strerror}")
+        except Fault as fault:
+            refusals.append(f"{folder}/{fault}")
+    raise _database.not_found(refusals)
+
+
+def _load_again(folder: str, digest: str) -> Table:
+    """The table that was pickled as these. A process that takes many makes it once."""
+    changed = ValueError(f"the files in {folder} give another table than the one that was pickled")
+    try:
+        memory = _read_again(*_database.contents(folder))
+    except Fault as fault:
+        raise changed from fault
+    if _digest_of(memory) != digest:
+        raise changed
+    return Table._of(memory, _load_again, folder, digest)
+
+
+@functools.lru_cache(maxsize=1)
+def _read_again(*files: bytes) -> bytearray:
+    return _read(files, True)
 
 
 def _unchanging(data: Bytes) -> bytes:
-    return data if isinstance(data, bytes) else bytes(memoryview(data))
+    return data if isinstance(data, bytes) else bytes(_view(data))
 
 
-def _passages(breaks: Iterable[Break], text: Any) -> Iterator[Passage[Any]]:
-    start = last = 0
-    segments = []
-    for found in breaks:
-        segments.append(text[last : found.at])
-        last = found.at
-        if found.kind is Kind.MUST:
-            passage = text[start:last]
-            yield Passage(start, passage, segments, list(Table.words(passage)))
-            start, segments = last, []
+def _view(data: Any) -> memoryview:
+    return memoryview(data)
+
+
+class _Passages(Iterator[Passage[Any]]):
+    """The passages of a text, of its breaks."""
+
+    def __init__(self, breaks: Iterator[Break], text: Any) -> None:
+        self._breaks, self._text = breaks, text
+        self._start = self._last = 0
+        self._segments: list[Any] = []
+        self._turn = threading.Lock()
+
+    @contextlib.contextmanager
+    def _alone(self) -> Iterator[None]:
+        if not self._turn.acquire(blocking=False):
+            raise ValueError(_calls.SHARED)
+        try:
+            yield
+        finally:
+            self._turn.release()
+
+    def __next__(self) -> Passage[Any]:
+        with self._alone():
+            for found in self._breaks:
+                self._segments.append(self._text[self._last : found.at])
+                self._last = found.at
+                if found.kind is Kind.MUST:
+                    passage = self._text[self._start : self._last]
+                    made = Passage(self._start, passage, self._segments, list(Table.words(passage)))
+                    self._start, self._segments = self._last, []
+                    return made
+        raise StopIteration
+
+    def __copy__(self) -> "_Passages":
+        with self._alone():
+            same = _Passages(copy.copy(self._breaks), self._text)
+            same._start, same._last, same._segments = self._start, self._last, [*self._segments]
+        return same
+
+    def __reduce__(self) -> tuple[Any, ...]:
+        return iter, (list(copy.copy(self)),)
 
 
 def _check(memory: bytearray | mmap.mmap, what: str) -> None:

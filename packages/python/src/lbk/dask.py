@@ -15,12 +15,15 @@ goes on after its part (`goes_on` of `Table.break_columns`). That is the law of 
 (`joined_parts`), proved for any number of parts of any bytes.
 """
 
+# What these need has types in some of its versions.
+# mypy: disable-error-code="import", allow-subclassing-any, allow-untyped-calls
+
 import os
 from collections.abc import Callable, Iterable
 from pathlib import Path
 from typing import Any, Literal
 
-import dask.bag as db
+from dask.bag.core import Bag, from_sequence
 from dask.base import tokenize
 from dask.highlevelgraph import HighLevelGraph
 from dask.utils import parse_bytes
@@ -55,7 +58,7 @@ def broadcast(client: Any, table: Table) -> str:
     that come later. Each saves and maps it. Returns a name for the calls here."""
     from distributed import WorkerPlugin
 
-    class Receive(WorkerPlugin):  # type: ignore[misc]
+    class Receive(WorkerPlugin):
         def __init__(self, name: str, data: bytes) -> None:
             self.name, self.data = name, data
 
@@ -68,7 +71,7 @@ def broadcast(client: Any, table: Table) -> str:
             dask._broadcast[self.name] = str(path)
 
     data = table.to_bytes()
-    name = f"lbk-table-{data[8:16].hex()}"
+    name = f"lbk-table-{table._digest}"
     register = getattr(client, "register_plugin", None) or client.register_worker_plugin
     register(Receive(name, data))
     _broadcast_here(name, table)
@@ -101,7 +104,7 @@ def read_text(
     on_fault: Faults = "raise",
     compression: "str | None" = "infer",
     storage_options: "dict[str, Any] | None" = None,
-) -> db.Bag:
+) -> Bag:
     """A bag of the paragraphs of files, as str: the text up to each place where a line must end,
     its line end with it. Joined they are the texts.
 
@@ -128,7 +131,7 @@ def read_columns(
     on_fault: Faults = "raise",
     compression: "str | None" = "infer",
     storage_options: "dict[str, Any] | None" = None,
-) -> db.Bag:
+) -> Bag:
     """A bag with the PartColumns of each part of files: all breaks, with their places in bytes of
     the file. All else is as read_text has it."""
     _check_profile(profile)
@@ -142,7 +145,7 @@ def breaks(texts: Any, table: Name, profile: int = 1) -> Any:
     points. Each item is a text by itself, so its end is LB3. None stays None."""
     _check_profile(profile)
     name = _name_of(table)
-    if isinstance(texts, db.Bag):
+    if isinstance(texts, Bag):
         return texts.map_partitions(_map_texts, _all_breaks, name, profile)
     return _series(texts).map_partitions(_breaks_frame, name, profile, meta={column: object for column in Columns._fields})
 
@@ -159,12 +162,13 @@ def words(texts: Any) -> Any:
     return _lists(texts, _all_words, None, 1)
 
 
-def faults(bag: db.Bag) -> db.Bag:
+def faults(bag: Bag) -> Bag:
     """The faults in a bag that was read with `on_fault="keep"`."""
-    return bag.filter(_is_fault)
+    found: Bag = bag.filter(_is_fault)
+    return found
 
 
-def save(bag: db.Bag, folder: Name, format: "Format | None" = None) -> db.Bag:
+def save(bag: Bag, folder: Name, format: "Format | None" = None) -> Bag:
     """Saves each partition into a file of a folder, and gives a bag with a Saved for each.
 
     `format` is "parquet", "npz" or "jsonl". Left out it is "parquet" where pyarrow is there, else
@@ -175,8 +179,9 @@ def save(bag: db.Bag, folder: Name, format: "Format | None" = None) -> db.Bag:
     """
     if format not in (None, "parquet", "npz", "jsonl"):
         raise ValueError(f"the format is parquet, npz or jsonl, and not {format!r}")
-    numbers = db.from_sequence(range(bag.npartitions), npartitions=bag.npartitions)
-    return bag.map_partitions(save_items, numbers, os.fsdecode(folder), format)
+    numbers = from_sequence(range(bag.npartitions), npartitions=bag.npartitions)
+    saved: Bag = bag.map_partitions(save_items, numbers, os.fsdecode(folder), format)
+    return saved
 
 
 def _check_profile(profile: int) -> None:
@@ -194,12 +199,12 @@ def _plan(paths: Any, table: Name, blocksize: Any, compression: Any, storage_opt
     return parts
 
 
-def _bag_of(parts: list[Part], call: Any, *arguments: Any) -> db.Bag:
+def _bag_of(parts: list[Part], call: Any, *arguments: Any) -> Bag:
     """A bag with a partition for each part, and one task for each partition: parts that came from
     tasks of their own would cost the workers a question to the scheduler more."""
     name = f"lbk{call.__name__}-{tokenize(parts, *arguments)}"
     tasks = {(name, k): (call, part, *arguments) for k, part in enumerate(parts)}
-    return db.Bag(HighLevelGraph.from_collections(name, tasks), name, len(parts))
+    return Bag(HighLevelGraph.from_collections(name, tasks), name, len(parts))
 
 
 def _or_fault(call: "Callable[[], list[Any]]", on_fault: Faults) -> list[Any]:
@@ -239,7 +244,7 @@ def _all_breaks(texts: list[Any], table: Table, profile: int) -> Iterable[Column
     import numpy as np
 
     offsets, places, kinds, rules = table.break_list_columns(texts, profile)
-    columns = [np.frombuffer(places, np.int64), np.frombuffer(kinds, np.uint8), np.frombuffer(rules, np.uint8)]
+    columns: list[Any] = [np.frombuffer(places, np.int64), np.frombuffer(kinds, np.uint8), np.frombuffer(rules, np.uint8)]
     for start, end in zip(offsets, offsets[1:]):
         yield Columns(*(column[start:end] for column in columns))
 
@@ -259,7 +264,7 @@ def _series(texts: Any) -> Any:
 
 
 def _lists(texts: Any, call: Any, table: "str | None", profile: int) -> Any:
-    if isinstance(texts, db.Bag):
+    if isinstance(texts, Bag):
         return texts.map_partitions(_map_texts, call, table, profile)
     column = _series(texts)
     return column.map_partitions(_list_column, call, table, profile, meta=(column.name, object))

@@ -1,6 +1,6 @@
 use Rattle.std.proofs.Common.{◌≡◌, ◌-◌, ◌++◌, length, drop, take, refl, sym, ap, ◌∙◌, arith}
 use Rattle.std.specs.Char.{encode_utf8}
-use Rattle.lbk_steps.specs.AheadFits.{AheadFits}
+use Rattle.lbk_rules.specs.AheadFits.{AheadFits}
 use Rattle.lbk_breaks.proofs.FillingLemmas.{Filled-start, Filled-step, reads}
 use Rattle.lbk_breaks.proofs.by_rules.fill.Goals as goal
 

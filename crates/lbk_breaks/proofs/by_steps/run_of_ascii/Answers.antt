@@ -1,8 +1,8 @@
 use Rattle.std.proofs.Common.{◌≡◌, ◌+◌, ◌<◌, ◌∷◌, get_or, length, map, drop, take, ap, ◌∙◌, arith}
 use Rattle.std.specs.Str.{chars}
-use Rattle.lbk_steps.specs.RowMachineFits.{RowMachineFits}
+use Rattle.lbk_rules.specs.RowMachineFits.{RowMachineFits}
 use Rattle.lbk_breaks.proofs.FillingLemmas.{Filled-step, reads-byte}
-use Rattle.lbk_steps.proofs.AheadLemmas.{at-seam}
+use Rattle.lbk_rules.proofs.AheadLemmas.{at-seam}
 use Rattle.lbk_breaks.proofs.by_steps.run_of_ascii.Goals as goal
 
 pub loop-count-preserved : goal.loop-count-preserved

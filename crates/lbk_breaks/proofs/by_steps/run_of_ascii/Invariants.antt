@@ -1,8 +1,8 @@
 use Rattle.std.proofs.Common.{◌-◌, ◌≤◌, ℕ, List, length, take}
 use Rattle.std.specs.Str.{IsCharBoundary}
-use Rattle.lbk_uax14.specs.declared.cells.Cell.{Cell}
+use Rattle.lbk_rules.specs.declared.Cell.{Cell}
 use Rattle.lbk_values.specs.declared.profile.Profile.{Profile}
-use Rattle.lbk_steps.specs.RowMachineFits.{RowMachineFits}
+use Rattle.lbk_rules.specs.RowMachineFits.{RowMachineFits}
 use Rattle.lbk_breaks.specs.Onward.{Filled}
 use Rattle.lbk_breaks.proofs.by_steps.run_of_ascii.Given as goal
 

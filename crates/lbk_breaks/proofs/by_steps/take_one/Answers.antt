@@ -1,6 +1,6 @@
 use Rattle.std.proofs.Common.{◌≡◌, ◌-◌, ◌++◌, length, drop, take, sym, ap, ◌∙◌}
 use Rattle.std.specs.Char.{encode_utf8}
-use Rattle.lbk_steps.specs.RowMachineFits.{RowMachineFits}
+use Rattle.lbk_rules.specs.RowMachineFits.{RowMachineFits}
 use Rattle.lbk_breaks.proofs.FillingLemmas.{Filled-step, reads}
 use Rattle.lbk_breaks.proofs.by_steps.take_one.Goals as goal
 

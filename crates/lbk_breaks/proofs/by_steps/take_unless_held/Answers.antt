@@ -1,8 +1,8 @@
 use Rattle.std.proofs.Common.{◌≡◌, ◌-◌, ◌∷◌, ◌++◌, length, map, drop, take, sym, ap, ◌∙◌}
 use Rattle.std.specs.Char.{encode_utf8}
 use Rattle.std.specs.Str.{chars}
-use Rattle.lbk_steps.specs.RowMachineFits.{RowMachineFits}
-use Rattle.lbk_steps.proofs.AheadLemmas.{at-seam}
+use Rattle.lbk_rules.specs.RowMachineFits.{RowMachineFits}
+use Rattle.lbk_rules.proofs.AheadLemmas.{at-seam}
 use Rattle.lbk_breaks.proofs.FillingLemmas.{Filled-step, reads}
 use Rattle.lbk_breaks.proofs.by_steps.take_unless_held.Goals as goal
 

@@ -1,7 +1,7 @@
 use Rattle.std.proofs.Common.{◌≡◌, ◌+◌, take, not, ap, ◌∙◌, arith}
 use Rattle.std.specs.Int.{from_bool}
 use Rattle.std.proofs.Math.ListN.{set}
-use Rattle.lbk_uax14.specs.Breaks.{break_by, is_no}
+use Rattle.lbk_rules.specs.Breaks.{break_by, is_no}
 use Rattle.lbk_breaks.proofs.FillingLemmas.{at_most_one, written-more}
 use Rattle.lbk_breaks.proofs.filling.put.Goals as goal
 

@@ -2,11 +2,11 @@ use Rattle.std.proofs.Common.{◌≡◌, ◌+◌, Some, None, map, drop, sym, ap
 use Rattle.std.proofs.Math.ListN.{drop_of_length-le}
 use Rattle.bstr.specs.Utf8.{decoded, lossy_chars, or_replacement}
 use Rattle.bstr.proofs.lemmas.PieceLemmas.{lossy_chars-nil}
-use Rattle.lbk_uax14.specs.declared.cells.Cell.{Cell}
-use Rattle.lbk_uax14.specs.Classes.{hard}
-use Rattle.lbk_uax14.specs.Normal.{normal}
-use Rattle.lbk_uax14.specs.Sides.{leaves_closed}
-use Rattle.lbk_uax14.specs.Units.{units_after}
+use Rattle.lbk_rules.specs.declared.Cell.{Cell}
+use Rattle.lbk_rules.specs.Classes.{hard}
+use Rattle.lbk_rules.specs.Normal.{normal}
+use Rattle.lbk_rules.specs.Sides.{leaves_closed}
+use Rattle.lbk_rules.specs.Units.{units_after}
 use Rattle.lbk_bytes.proofs.AheadLemmas.{cells-next, cells_on, heads-tells, joins-leaves, told_by}
 use Rattle.lbk_bytes.proofs.PieceLemmas.{piece-within, rest-of}
 use Rattle.lbk_bytes.proofs.ahead.closes_ahead.Goals as goal

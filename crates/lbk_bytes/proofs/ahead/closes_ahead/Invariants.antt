@@ -1,11 +1,11 @@
 use Rattle.std.proofs.Common.{◌≡◌, ◌-◌, ◌≤◌, ℕ, length, map, drop}
 use Rattle.bstr.specs.Utf8.{lossy_chars}
-use Rattle.lbk_uax14.specs.declared.cells.Cell.{Cell}
-use Rattle.lbk_uax14.specs.Classes.{hard}
-use Rattle.lbk_steps.specs.FlatTable.{AreFlatKinds}
-use Rattle.lbk_uax14.specs.Normal.{normal}
-use Rattle.lbk_uax14.specs.Sides.{leaves_closed}
-use Rattle.lbk_uax14.specs.Units.{units_after}
+use Rattle.lbk_rules.specs.declared.Cell.{Cell}
+use Rattle.lbk_rules.specs.Classes.{hard}
+use Rattle.lbk_rules.specs.FlatTable.{AreFlatKinds}
+use Rattle.lbk_rules.specs.Normal.{normal}
+use Rattle.lbk_rules.specs.Sides.{leaves_closed}
+use Rattle.lbk_rules.specs.Units.{units_after}
 use Rattle.lbk_bytes.proofs.ahead.closes_ahead.Given as goal
 
 abbrev pub invariant-loop-at : goal.invariant-loop-at

@@ -1,6 +1,6 @@
 use Rattle.std.proofs.Common.{map, ap, sym, ◌∙◌, ◌∷◌}
 use Rattle.bstr.specs.Utf8.{lossy_chars}
-use Rattle.lbk_uax14.specs.Verdict.{verdict_between_in}
+use Rattle.lbk_rules.specs.Verdict.{verdict_between_in}
 use Rattle.lbk_bytes.proofs.StepLemmas.{decides-first}
 use Rattle.lbk_bytes.proofs.ahead.code_ahead.Goals as goal
 

@@ -1,6 +1,6 @@
 use Rattle.std.proofs.Common.{◌++◌, ◌≤◌, ℕ, List, length}
-use Rattle.lbk_uax14.specs.declared.cells.Cell.{Cell}
-use Rattle.lbk_uax14.specs.declared.facts.Left.{Left}
+use Rattle.lbk_rules.specs.declared.Cell.{Cell}
+use Rattle.lbk_rules.specs.declared.Left.{Left}
 use Rattle.lbk_values.specs.declared.profile.Profile.{Profile}
 use Rattle.lbk_bytes.specs.Blocks.{AreLeft, IsAhead, IsBlock, place_in}
 use Rattle.lbk_bytes.specs.Reached.{Ahead, IsInOrder, Reached}

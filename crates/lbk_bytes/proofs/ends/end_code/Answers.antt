@@ -1,6 +1,6 @@
 use Rattle.std.proofs.Common.{lit<, sym, ap, subst, ◌∙◌, arith}
 use Rattle.lbk_bytes.specs.Bytes.{end_in}
-use Rattle.lbk_steps.specs.FlatTable.{KnowsTaken}
+use Rattle.lbk_rules.specs.FlatTable.{KnowsTaken}
 use Rattle.lbk_bytes.proofs.EndLemmas.{end-none, end-some, none-known}
 use Rattle.lbk_bytes.proofs.ends.end_code.Goals as goal
 

@@ -6,7 +6,7 @@ use Rattle.lbk_bytes.proofs.StepLemmas.{swift-as, told-as}
 use Rattle.lbk_bytes.proofs.filling.few.Goals as goal
 
 pub returns-clause-reached : goal.returns-clause-reached
-returns-clause-reached c = λ cell lefts more all flat start.
+returns-clause-reached g c = λ cell lefts more all flat start.
     let table = c.args.table.now in
     let profile = c.args.profile in
     let steps = c.args.steps.now in

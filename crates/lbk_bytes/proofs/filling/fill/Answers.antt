@@ -7,7 +7,7 @@ use Rattle.lbk_bytes.proofs.StepLemmas.{swift-as}
 use Rattle.lbk_bytes.proofs.filling.fill.Goals as goal
 
 pub returns-then-here-out-clause-reached : goal.returns-then-here-out-clause-reached
-returns-then-here-out-clause-reached c = λ cell lefts all flat start.
+returns-then-here-out-clause-reached g c = λ cell lefts all flat start.
     let profile = c.args.profile in
     let text = c.args.text.now in
     let here = c.scalars-here in
@@ -18,7 +18,7 @@ returns-then-here-out-clause-reached c = λ cell lefts all flat start.
     (Reached-nothing profile cell lefts text all c.args.start (given_in c.args.out.now c.args.start.count) start)))
 
 pub returns-clause-reached : goal.returns-clause-reached
-returns-clause-reached c = λ cell lefts all flat start.
+returns-clause-reached g c = λ cell lefts all flat start.
     let profile = c.args.profile in
     let text = c.args.text.now in
     let here = c.scalars-here in

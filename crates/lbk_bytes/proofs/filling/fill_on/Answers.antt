@@ -2,7 +2,7 @@ use Rattle.std.proofs.Common.{arith}
 use Rattle.lbk_bytes.proofs.filling.fill_on.Goals as goal
 
 pub loop-here-preserved : goal.loop-here-preserved
-loop-here-preserved c =
+loop-here-preserved g c =
     let l = c.loop-here in
     let further = c.further-here in
     let within = further.ensures.within in

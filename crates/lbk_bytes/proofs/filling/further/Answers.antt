@@ -4,7 +4,7 @@ use Rattle.lbk_bytes.proofs.ReachedLemmas.{Reached-alone, Reached-nothing}
 use Rattle.lbk_bytes.proofs.filling.further.Goals as goal
 
 pub returns-then-part-out-clause-reached : goal.returns-then-part-out-clause-reached
-returns-then-part-out-clause-reached c = λ cell lefts all flat start.
+returns-then-part-out-clause-reached g c = λ cell lefts all flat start.
     let profile = c.args.profile in
     let text = c.args.text.now in
     let part = c.common_part-part in
@@ -15,7 +15,7 @@ returns-then-part-out-clause-reached c = λ cell lefts all flat start.
     (Reached-nothing profile cell lefts text all c.args.here (given_in c.args.out.now c.args.here.count) start)))
 
 pub returns-clause-reached : goal.returns-clause-reached
-returns-clause-reached c = λ cell lefts all flat start.
+returns-clause-reached g c = λ cell lefts all flat start.
     let profile = c.args.profile in
     let text = c.args.text.now in
     let part = c.common_part-part in

@@ -1,6 +1,6 @@
 use Rattle.std.proofs.Common.{◌+◌, ◌-◌, ◌==◌, ◌&&◌, ◌||◌, ◌≡◌, ap, ◌∙◌, arith}
 use Rattle.std.proofs.lemmas.Bool.{and_right, ne_eqb}
-use Rattle.lbk_uax14.specs.Codes.{verdict_coded}
+use Rattle.lbk_rules.specs.Codes.{verdict_coded}
 use Rattle.lbk_bytes.specs.Marks.{is_marked, stands_among}
 use Rattle.lbk_bytes.proofs.MarkLemmas.{break-among, or-false}
 use Rattle.lbk_bytes.proofs.marking.mark_end.Goals as goal

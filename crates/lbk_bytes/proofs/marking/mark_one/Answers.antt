@@ -1,7 +1,7 @@
 use Rattle.std.proofs.Common.{◌-◌, ◌==◌, ◌&&◌, ◌||◌, ◌≡◌, [], drop, refl, ap, ◌∙◌, arith}
 use Rattle.std.proofs.lemmas.Bool.{and_right, ne_eqb}
 use Rattle.bstr.specs.Utf8.{decoded}
-use Rattle.lbk_uax14.specs.Codes.{verdict_coded}
+use Rattle.lbk_rules.specs.Codes.{verdict_coded}
 use Rattle.lbk_bytes.specs.declared.fill_state.FillState.{FillState}
 use Rattle.lbk_bytes.specs.Bytes.{with_break}
 use Rattle.lbk_bytes.specs.Marking.{uncounted}

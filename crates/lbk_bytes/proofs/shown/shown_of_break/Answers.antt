@@ -1,9 +1,9 @@
 use Rattle.std.proofs.Common.{◌≡◌, true, refl, sym, ◌∙◌, arith}
-use Rattle.lbk_uax14.specs.declared.verdicts.Kind.TheVariants.{May}
-use Rattle.lbk_uax14.specs.declared.verdicts.Rule.TheVariants.{Lb31}
-use Rattle.lbk_uax14.specs.Breaks.{is_no}
-use Rattle.lbk_uax14.specs.Codes.{verdict_coded}
-use Rattle.lbk_uax14.proofs.CodeLemmas.{break-past}
+use Rattle.lbk_rules.specs.declared.Kind.TheVariants.{May}
+use Rattle.lbk_rules.specs.declared.Rule.TheVariants.{Lb31}
+use Rattle.lbk_rules.specs.Breaks.{is_no}
+use Rattle.lbk_rules.specs.Codes.{verdict_coded}
+use Rattle.lbk_rules.proofs.CodeLemmas.{break-past}
 use Rattle.lbk_bytes.proofs.ShownLemmas.{is-none, is-some, shown-at}
 use Rattle.lbk_bytes.proofs.shown.shown_of_break.Goals as goal
 use Rattle.lbk_bytes.proofs.shown.shown_of_break.Goals.{else-code-lt-VERDICTS-via-then-code-lt-VERDICTS+else-is_break, else-code-lt-VERDICTS-via-else-code-lt-VERDICTS}

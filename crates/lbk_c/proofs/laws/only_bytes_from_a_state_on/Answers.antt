@@ -1,9 +1,9 @@
 use Rattle.std.proofs.Common.{sym, ap, ◌∙◌}
 use Rattle.bstr.specs.Utf8.{pieces}
-use Rattle.lbk_c.specs.Coming.{onward_in}
+use Rattle.lbk_calls.specs.Coming.{onward_in}
 use Rattle.lbk_bytes.specs.Reached.{onward, onward_all}
 use Rattle.lbk_units.specs.Units.{pieces_of_utf16, pieces_of_utf32}
-use Rattle.lbk_c.proofs.UnitsComingLemmas.{units-other}
+use Rattle.lbk_calls.proofs.UnitsComingLemmas.{units-other}
 use Rattle.lbk_c.proofs.laws.only_bytes_from_a_state_on.Goals as goal
 
 pub returns-clause-breaks : goal.returns-clause-breaks

@@ -1,8 +1,8 @@
 use Rattle.std.proofs.Common.{◌+◌, ◌-◌, ◌*◌, ◌≡◌, ◌||◌, length, min, refl, ap, ◌∙◌, arith}
 use Rattle.lbk_bytes.specs.Bytes.{end_in}
 use Rattle.lbk_bytes.specs.Marks.{is_marked, stands_among}
-use Rattle.lbk_c.specs.State.{goes_on, plain}
-use Rattle.lbk_c.specs.declared.interface.State.{State}
+use Rattle.lbk_calls.specs.State.{goes_on, plain}
+use Rattle.lbk_calls.specs.declared.interface.State.{State}
 use Rattle.lbk_c.proofs.MarkLemmas.{Marks-ended, Marks-full}
 use Rattle.lbk_c.proofs.marking.go_on.Goals as goal
 

@@ -1,9 +1,9 @@
 use Rattle.std.proofs.Common.{◌+◌, ◌*◌, ◌≡◌, length, drop, ap, subst, sym, ◌∙◌, arith}
 use Rattle.lbk_bytes.specs.Marks.{boundary_from, from_on, stands_among}
-use Rattle.lbk_c.specs.Coming.{Comes, ComesBy, IsGoing, IsSpent, onward_in}
-use Rattle.lbk_c.specs.State.{plain, plain_number}
+use Rattle.lbk_calls.specs.Coming.{Comes, ComesBy, IsGoing, IsSpent, onward_in}
+use Rattle.lbk_calls.specs.State.{plain, plain_number}
 use Rattle.lbk_bytes.proofs.PartLemmas.{part-onward}
-use Rattle.lbk_c.proofs.ComingLemmas.{Comes-part, Comes-start, spent-none}
+use Rattle.lbk_calls.proofs.ComingLemmas.{Comes-part, Comes-start, spent-none}
 use Rattle.lbk_c.proofs.MarkLemmas.{Comes-behind, Comes-marks, Comes-unspent, never-spent}
 use Rattle.lbk_c.proofs.marking.lbk_marks.Goals as goal
 

@@ -1,5 +1,5 @@
 use Rattle.std.proofs.Common.{sym, ◌∙◌}
-use Rattle.lbk_steps.specs.CellOfTables.{cell_of_tables}
+use Rattle.lbk_rules.specs.CellOfTables.{cell_of_tables}
 use Rattle.lbk_c.specs.Faults.{files_of}
 use Rattle.lbk_c.proofs.TableLemmas.{cells-of-files, flat-same}
 use Rattle.lbk_c.proofs.table_reading.lbk_read.Goals as goal

@@ -1,6 +1,6 @@
 use Rattle.std.proofs.Common.{ap, subst, sym, ◌∙◌}
 use Rattle.std.proofs.lemmas.Result.{err_from_is_err_and}
-use Rattle.lbk_steps.specs.CellPages.{page_cell}
+use Rattle.lbk_rules.specs.CellPages.{page_cell}
 use Rattle.lbk_cmd.specs.Devices.{reader_alone}
 use Rattle.lbk_cmd.specs.ReadBack.{AreReadable, Say}
 use Rattle.lbk_cmd.specs.declared.broken.BreakFault.TheVariants.{Text as text_fault}

@@ -1,5 +1,5 @@
 use Rattle.std.proofs.Common.{rules, Err, refl, ap, ◌∙◌, inl, inr}
-use Rattle.lbk_steps.specs.CellPages.{page_cell}
+use Rattle.lbk_rules.specs.CellPages.{page_cell}
 use Rattle.lbk_cmd.specs.Engines.{showing}
 use Rattle.lbk_cmd.proofs.InMemory.{untold_unwritten}
 use Rattle.lbk_cmd.proofs.broken.shown_text.Goals as goal

@@ -1,5 +1,5 @@
 use Rattle.std.proofs.Common.{inl, inr, refl}
-use Rattle.lbk_steps.specs.CellPages.{page_cell}
+use Rattle.lbk_rules.specs.CellPages.{page_cell}
 use Rattle.lbk_cmd.proofs.command.show_samples.Goals as goal
 
 pub invariant_of-cells : goal.invariant_of-cells

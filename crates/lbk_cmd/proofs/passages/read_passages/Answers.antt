@@ -1,4 +1,4 @@
-use Rattle.lbk_steps.specs.CellPages.{page_cell}
+use Rattle.lbk_rules.specs.CellPages.{page_cell}
 use Rattle.lbk_cmd.proofs.Owning.{owned_read}
 use Rattle.lbk_cmd.proofs.passages.read_passages.Goals as goal
 

@@ -19,3 +19,6 @@ returns-else-is_empty-clause-reads g c =
 
 pub returns-else-is_empty-clause-contents : goal.returns-else-is_empty-clause-contents
 returns-else-is_empty-clause-contents g c = c.perform_all.ensures.contents
+
+pub perform_all-requires : goal.perform_all-requires
+perform_all-requires g c κs = (refl, tt)

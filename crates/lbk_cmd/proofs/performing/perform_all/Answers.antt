@@ -1,5 +1,5 @@
 use Rattle.std.proofs.Common.{◌∙◌, sym, refl, arith}
-use Rattle.lbk_steps.specs.CellPages.{page_cell}
+use Rattle.lbk_rules.specs.CellPages.{page_cell}
 use Rattle.lbk_cmd.specs.Acts.{RunsOver}
 use Rattle.lbk_cmd.specs.Devices.{devices_of}
 use Rattle.lbk_cmd.specs.Operands.{standing}

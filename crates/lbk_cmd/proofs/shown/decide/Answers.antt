@@ -1,9 +1,9 @@
 use Rattle.std.proofs.Common.{◌≡◌, ◌∷◌, [], ◌++◌, length, chars, ap, ◌∙◌}
 use Rattle.std.specs.Str.Iter.{chars_rest}
-use Rattle.lbk_uax14.specs.Answers.{written}
-use Rattle.lbk_uax14.specs.Held.{answer_at, late_at}
-use Rattle.lbk_steps.specs.StepperFits.{StepperFits}
-use Rattle.lbk_uax14.proofs.CoverLemmas.{answer_at-below, late_at-below}
+use Rattle.lbk_rules.specs.Answers.{written}
+use Rattle.lbk_rules.specs.Held.{answer_at, late_at}
+use Rattle.lbk_rules.specs.StepperFits.{StepperFits}
+use Rattle.lbk_rules.proofs.CoverLemmas.{answer_at-below, late_at-below}
 use Rattle.lbk_cmd.specs.Deciding.{placed}
 use Rattle.lbk_cmd.proofs.Deciding.{Decides-start, Decides-step, Decides-end, Decides-below, length-verdicts}
 use Rattle.lbk_cmd.proofs.shown.decide.Goals as goal

@@ -1,5 +1,5 @@
 use Rattle.std.specs.Str.Iter.{chars_rest}
-use Rattle.lbk_steps.specs.StepperFits.{StepperFits}
+use Rattle.lbk_rules.specs.StepperFits.{StepperFits}
 use Rattle.lbk_cmd.proofs.Deciding.{Decides}
 use Rattle.lbk_cmd.proofs.shown.decide.Given as goal
 

@@ -3,9 +3,9 @@ use Rattle.std.specs.Str.Iter.{chars_rest}
 use Rattle.lbk_notation.specs.Grammar.{mark_bytes}
 use Rattle.lbk_notation.specs.Written.{shown, token}
 use Rattle.lbk_notation.specs.declared.marks.Form.TheVariants.{Kinds}
-use Rattle.lbk_uax14.specs.declared.verdicts.Verdict.{Verdict}
-use Rattle.lbk_uax14.specs.declared.verdicts.Kind.TheVariants.{No}
-use Rattle.lbk_uax14.specs.declared.verdicts.Rule.TheVariants.{Lb2}
+use Rattle.lbk_rules.specs.declared.Verdict.{Verdict}
+use Rattle.lbk_rules.specs.declared.Kind.TheVariants.{No}
+use Rattle.lbk_rules.specs.declared.Rule.TheVariants.{Lb2}
 use Rattle.lbk_cmd.proofs.LineWriting.{Writes-step, Writes-end}
 use Rattle.lbk_cmd.proofs.shown.push_marks.Goals as goal
 

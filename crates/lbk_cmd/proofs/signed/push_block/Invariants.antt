@@ -1,5 +1,5 @@
 use Rattle.std.proofs.Common.{◌≡◌, ◌++◌, List, drop, length}
-use Rattle.lbk_uax14.specs.declared.breaks.Break.{Break}
+use Rattle.lbk_rules.specs.declared.Break.{Break}
 use Rattle.lbk_cmd.specs.Signing.{IsCut, signed_from}
 use Rattle.lbk_cmd.proofs.signed.push_block.Given as goal
 

@@ -1,5 +1,5 @@
 use Rattle.std.proofs.Common.{◌≡◌, ◌++◌, chars, length}
-use Rattle.lbk_uax14.specs.Breaks.{breaks}
+use Rattle.lbk_rules.specs.Breaks.{breaks}
 use Rattle.lbk_cmd.specs.Signing.{IsCut, signed_from}
 use Rattle.lbk_cmd.proofs.signed.push_text.Given as goal
 

@@ -1,7 +1,7 @@
 use Rattle.std.proofs.Common.{ap, ◌∙◌}
 use Rattle.bstr.specs.Utf8.{decoded, or_replacement}
-use Rattle.lbk_uax14.specs.declared.cells.Cell.{Cell}
-use Rattle.lbk_uax14.specs.Normal.{normal}
+use Rattle.lbk_rules.specs.declared.Cell.{Cell}
+use Rattle.lbk_rules.specs.Normal.{normal}
 use Rattle.lbk_bytes.proofs.PieceLemmas.{rest-of}
 use Rattle.lbk_cuts.proofs.safe_cuts.class_at.Goals as goal
 

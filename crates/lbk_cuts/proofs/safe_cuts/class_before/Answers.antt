@@ -1,7 +1,7 @@
 use Rattle.std.proofs.Common.{sym, ap, ◌∙◌}
 use Rattle.bstr.specs.Utf8.{Decoded, or_replacement}
-use Rattle.lbk_uax14.specs.declared.cells.Cell.{Cell}
-use Rattle.lbk_uax14.specs.Normal.{normal}
+use Rattle.lbk_rules.specs.declared.Cell.{Cell}
+use Rattle.lbk_rules.specs.Normal.{normal}
 use Rattle.lbk_cuts.proofs.PieceStartLemmas.{last-begins, last-whole}
 use Rattle.lbk_cuts.proofs.SafeLemmas.{found, found-last}
 use Rattle.lbk_cuts.proofs.safe_cuts.class_before.Goals as goal

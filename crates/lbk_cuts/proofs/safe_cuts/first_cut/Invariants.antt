@@ -1,7 +1,7 @@
 use Rattle.std.proofs.Common.{◌+◌, ◌-◌, ◌<◌, ◌≤◌, ℕ, length, drop}
 use Rattle.bstr.specs.Utf8.{decoded}
-use Rattle.lbk_uax14.specs.declared.cells.Cell.{Cell}
-use Rattle.lbk_steps.specs.FlatTable.{AreFlatKinds}
+use Rattle.lbk_rules.specs.declared.Cell.{Cell}
+use Rattle.lbk_rules.specs.FlatTable.{AreFlatKinds}
 use Rattle.lbk_cuts.specs.Cuts.{IsPieceStart, IsSafeCut}
 use Rattle.lbk_cuts.specs.Looking.{LastIs}
 use Rattle.lbk_cuts.proofs.safe_cuts.first_cut.Given as goal

@@ -1,6 +1,6 @@
 use Rattle.std.proofs.Common.{◌<◌, ◌≤◌, ℕ}
-use Rattle.lbk_uax14.specs.declared.cells.Cell.{Cell}
-use Rattle.lbk_steps.specs.FlatTable.{AreFlatKinds}
+use Rattle.lbk_rules.specs.declared.Cell.{Cell}
+use Rattle.lbk_rules.specs.FlatTable.{AreFlatKinds}
 use Rattle.lbk_cuts.specs.Cuts.{IsPieceStart, IsSafeCut}
 use Rattle.lbk_cuts.specs.Looking.{NextIs}
 use Rattle.lbk_cuts.proofs.safe_cuts.last_cut.Given as goal

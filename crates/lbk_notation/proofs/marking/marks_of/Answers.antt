@@ -1,9 +1,9 @@
 use Rattle.std.proofs.Common.{◌≡◌, ◌<◌, ◌∷◌, ◌++◌, ◌+◌, [], ℕ, List, take, drop, length, map, arith, sym, ap, subst, ◌∙◌}
 use Rattle.std.proofs.lemmas.List.{length-map, length_push, take_all}
-use Rattle.lbk_steps.specs.StepperFits.{StepperFits}
-use Rattle.lbk_uax14.specs.Verdict.{verdict_in}
-use Rattle.lbk_uax14.proofs.CoverLemmas.{answer_at-below, late_at-below}
-use Rattle.lbk_uax14.proofs.StepLemmas.{AllCome, AllCome-start}
+use Rattle.lbk_rules.specs.StepperFits.{StepperFits}
+use Rattle.lbk_rules.specs.Verdict.{verdict_in}
+use Rattle.lbk_rules.proofs.CoverLemmas.{answer_at-below, late_at-below}
+use Rattle.lbk_rules.proofs.StepLemmas.{AllCome, AllCome-start}
 use Rattle.lbk_notation.specs.Put.{put, mark_now}
 use Rattle.lbk_notation.specs.Marked.{mark_of}
 use Rattle.lbk_notation.proofs.Markings.{Come, around, length-before, length-put, marks_turn, marks_end, length-marks_in}

@@ -1,6 +1,6 @@
 use Rattle.std.proofs.Common.{◌≡◌, length, map, take}
-use Rattle.lbk_steps.specs.StepperFits.{StepperFits}
-use Rattle.lbk_uax14.proofs.StepLemmas.{AllCome}
+use Rattle.lbk_rules.specs.StepperFits.{StepperFits}
+use Rattle.lbk_rules.proofs.StepLemmas.{AllCome}
 use Rattle.lbk_notation.proofs.Markings.{Come}
 use Rattle.lbk_notation.proofs.marking.marks_of.Given as goal
 

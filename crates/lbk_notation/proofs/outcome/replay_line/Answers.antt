@@ -1,8 +1,8 @@
 use Rattle.std.proofs.Common.{◌≡◌, ◌+◌, ◌<◌, ◌≤◌, arith, ap, sym, subst, ◌∙◌, [], length, map, take, drop, get_or}
 use Rattle.std.proofs.lemmas.List.{length-map, take_all}
-use Rattle.lbk_steps.specs.StepperFits.{StepperFits}
-use Rattle.lbk_uax14.specs.Verdict.{verdict_in}
-use Rattle.lbk_uax14.proofs.CoverLemmas.{answer_at-below, late_at-below}
+use Rattle.lbk_rules.specs.StepperFits.{StepperFits}
+use Rattle.lbk_rules.specs.Verdict.{verdict_in}
+use Rattle.lbk_rules.proofs.CoverLemmas.{answer_at-below, late_at-below}
 use Rattle.lbk_notation.proofs.Markings.{around, length-before}
 use Rattle.lbk_notation.proofs.OutcomeLemmas.{Knows-turn, Knows-end, Met-at}
 use Rattle.lbk_notation.proofs.outcome.replay_line.Goals as goal

@@ -1,5 +1,5 @@
 use Rattle.std.proofs.Common.{map, take}
-use Rattle.lbk_steps.specs.StepperFits.{StepperFits}
+use Rattle.lbk_rules.specs.StepperFits.{StepperFits}
 use Rattle.lbk_notation.proofs.OutcomeLemmas.{Knows}
 use Rattle.lbk_notation.proofs.outcome.replay_line.Given as goal
 

@@ -3,9 +3,9 @@ use Rattle.std.proofs.lemmas.List.{drop_more}
 use Rattle.lbk_notation.specs.Marked.{mark_of}
 use Rattle.lbk_notation.specs.Written.{written_after}
 use Rattle.lbk_notation.specs.declared.marks.Form.TheVariants.{Kinds}
-use Rattle.lbk_uax14.specs.declared.verdicts.Verdict.{Verdict}
-use Rattle.lbk_uax14.specs.declared.verdicts.Kind.TheVariants.{No}
-use Rattle.lbk_uax14.specs.declared.verdicts.Rule.TheVariants.{Lb2}
+use Rattle.lbk_rules.specs.declared.Verdict.{Verdict}
+use Rattle.lbk_rules.specs.declared.Kind.TheVariants.{No}
+use Rattle.lbk_rules.specs.declared.Rule.TheVariants.{Lb2}
 use Rattle.lbk_notation.proofs.Fronts.{HasPut-within, on_err, written_after-more}
 use Rattle.lbk_notation.proofs.passages.push_kinds.Goals as goal
 

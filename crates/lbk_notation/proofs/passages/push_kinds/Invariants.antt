@@ -2,7 +2,7 @@ use Rattle.std.proofs.Common.{◌≡◌, ◌+◌, ◌++◌, ◌≤◌, drop, len
 use Rattle.lbk_notation.specs.declared.marks.Form.TheVariants.{Kinds}
 use Rattle.lbk_notation.specs.Marked.{mark_of}
 use Rattle.lbk_notation.specs.Written.{written_marks, written_after}
-use Rattle.lbk_uax14.specs.declared.verdicts.Verdict.{Verdict}
+use Rattle.lbk_rules.specs.declared.Verdict.{Verdict}
 use Rattle.lbk_notation.proofs.passages.push_kinds.Given as goal
 
 -- what is written so far, and then what stands behind the marks so far, is the whole

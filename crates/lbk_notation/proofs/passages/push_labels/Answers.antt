@@ -1,8 +1,8 @@
 use Rattle.std.proofs.Common.{◌∙◌}
 use Rattle.lbk_notation.proofs.Fronts.{HasPut-label, HasPut-labels, on_err}
-use Rattle.lbk_uax14.specs.declared.verdicts.Verdict.{Verdict}
-use Rattle.lbk_uax14.specs.declared.verdicts.Kind.TheVariants.{No}
-use Rattle.lbk_uax14.specs.declared.verdicts.Rule.TheVariants.{Lb2}
+use Rattle.lbk_rules.specs.declared.Verdict.{Verdict}
+use Rattle.lbk_rules.specs.declared.Kind.TheVariants.{No}
+use Rattle.lbk_rules.specs.declared.Rule.TheVariants.{Lb2}
 use Rattle.lbk_notation.proofs.passages.push_labels.Goals as goal
 
 pub returns-in_err-push-clause-refused : goal.returns-in_err-push-clause-refused

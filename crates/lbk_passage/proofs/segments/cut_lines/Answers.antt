@@ -2,7 +2,7 @@ use Rattle.std.proofs.Common.{◌≡◌, ◌≤◌, ◌++◌, length, vec_capaci
 use Rattle.std.specs.Str.{chars}
 use Rattle.std.proofs.lemmas.List.{append-nil}
 use Rattle.std.proofs.lemmas.Result.{err_from_is_err_and, on_ok_weaker, on_err_weaker}
-use Rattle.lbk_uax14.specs.Breaks.{breaks}
+use Rattle.lbk_rules.specs.Breaks.{breaks}
 use Rattle.lbk_passage.specs.Cuts.{cut_at}
 use Rattle.lbk_passage.proofs.SegmentLemmas.{segments-many, segments-none, segments-replaced}
 use Rattle.lbk_passage.proofs.segments.cut_lines.Goals as goal

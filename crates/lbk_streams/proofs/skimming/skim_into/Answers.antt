@@ -1,5 +1,5 @@
 use Rattle.std.proofs.Common.{◌≡◌, ◌+◌, ◌-◌, ◌%◌, ◌^◌, ◌++◌, [], List, map, ap, subst, ◌∙◌, arith}
-use Rattle.lbk_uax14.specs.declared.breaks.Break.{Break}
+use Rattle.lbk_rules.specs.declared.Break.{Break}
 use Rattle.lbk_bytes.specs.Bytes.{end_in}
 use Rattle.lbk_bytes.specs.declared.fill_state.FillState.{FillState}
 use Rattle.lbk_bytes.specs.Order.{AreInOrder}

@@ -1,7 +1,7 @@
 use Rattle.std.proofs.Common.{◌≡◌, ◌+◌, ◌-◌, ◌^◌, ◌<◌, ◌≤◌, ℕ, List, [], length}
-use Rattle.lbk_uax14.specs.declared.cells.Cell.{Cell}
-use Rattle.lbk_uax14.specs.declared.facts.Left.{Left}
-use Rattle.lbk_steps.specs.FlatTable.{IsFlatBy}
+use Rattle.lbk_rules.specs.declared.Cell.{Cell}
+use Rattle.lbk_rules.specs.declared.Left.{Left}
+use Rattle.lbk_rules.specs.FlatTable.{IsFlatBy}
 use Rattle.lbk_bytes.specs.Order.{AreBreaks}
 use Rattle.lbk_bytes.specs.Shown.{given_in}
 use Rattle.lbk_streams.specs.Stands.{Ahead, AreFew, Feeds, IsOrdered}

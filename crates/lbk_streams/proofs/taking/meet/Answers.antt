@@ -1,7 +1,7 @@
 use Rattle.std.proofs.Common.{◌≡◌, ◌<◌, ◌==◌, true, false, Some, refl, sym, ap, subst, ◌∙◌, arith}
 use Rattle.std.proofs.lemmas.Bool.Decides.{nat_tests}
 use Rattle.std.proofs.lemmas.List.{append-nil}
-use Rattle.lbk_uax14.specs.Normal.{normal}
+use Rattle.lbk_rules.specs.Normal.{normal}
 use Rattle.lbk_bytes.specs.Shown.{given_in}
 use Rattle.lbk_bytes.proofs.AheadLemmas.{told_by}
 use Rattle.lbk_bytes.specs.Reached.{IsInOrder}

@@ -1,9 +1,9 @@
 use Rattle.std.proofs.Common.{◌+◌, ◌%◌, ◌^◌, ◌<◌, ◌++◌, [], ◌∷◌, drop, get_or, map, sym, ap, subst, ◌∙◌, refl, arith}
 use Rattle.std.proofs.lemmas.List.{append-nil}
 use Rattle.bstr.specs.Utf8.{lossy_chars}
-use Rattle.lbk_uax14.specs.Codes.{verdict_coded}
-use Rattle.lbk_uax14.specs.Verdict.{verdict_between_in}
-use Rattle.lbk_steps.specs.FlatTable.{no_flat_step}
+use Rattle.lbk_rules.specs.Codes.{verdict_coded}
+use Rattle.lbk_rules.specs.Verdict.{verdict_between_in}
+use Rattle.lbk_rules.specs.FlatTable.{no_flat_step}
 use Rattle.lbk_streams.specs.declared.stream.Place.{Place}
 use Rattle.lbk_bytes.specs.Bytes.{with_break}
 use Rattle.lbk_bytes.specs.Reached.{IsInOrder, steps_in}

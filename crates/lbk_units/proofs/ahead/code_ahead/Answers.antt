@@ -1,5 +1,5 @@
 use Rattle.std.proofs.Common.{map, ap, sym, ◌∙◌, ◌∷◌}
-use Rattle.lbk_uax14.specs.Verdict.{verdict_between_in}
+use Rattle.lbk_rules.specs.Verdict.{verdict_between_in}
 use Rattle.lbk_bytes.specs.Reached.{scalars_of}
 use Rattle.lbk_bytes.proofs.StepLemmas.{decides-first}
 use Rattle.lbk_units.proofs.ahead.code_ahead.Goals as goal

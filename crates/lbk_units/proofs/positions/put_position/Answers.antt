@@ -1,8 +1,8 @@
 use Rattle.std.proofs.Common.{◌+◌, ◌%◌, ◌/◌, ◌∷◌, [], ◌++◌, map, take, refl, sym, ap, subst, ◌∙◌}
 use Rattle.std.proofs.Math.ListN.{set}
 use Rattle.std.proofs.lemmas.List.{map-append, take_more_set}
-use Rattle.lbk_uax14.specs.Breaks.{break_by}
-use Rattle.lbk_uax14.specs.Codes.{verdict_coded}
+use Rattle.lbk_rules.specs.Breaks.{break_by}
+use Rattle.lbk_rules.specs.Codes.{verdict_coded}
 use Rattle.lbk_bytes.specs.declared.raw_break.RawBreak.{RawBreak}
 use Rattle.lbk_bytes.specs.Order.{ArePositionsInOrder, IsPosition}
 use Rattle.lbk_bytes.specs.Shown.{shown}

@@ -1,21 +1,23 @@
-use Rattle.std.proofs.Common.{ap, ◌∙◌, arith}
-use Rattle.bstr.specs.Utf8.{decoded, or_replacement}
-use Rattle.lbk_words.proofs.WalkLemmas.{piece-there, rest-of}
+use Rattle.std.proofs.Common.{◌+◌, sym, subst, arith}
+use Rattle.lbk_words.specs.Places.{IsReadAt}
+use Rattle.lbk_words.proofs.ReadLemmas.{coded-read, one-read}
 use Rattle.lbk_words.proofs.scalars.scalar_at.Goals as goal
 
-pub overflow_add-result : goal.overflow_add-result
-overflow_add-result c =
-    let text = c.args.text.now in
-    let rest = rest-of text c.args.at in
-    let read = piece-there text c.args.at c.decode_lossy-c.result.0 c.decode_lossy-c.result.1 c.requires
-    (c.decode_lossy-c.ensures.char ∙ ap (λ bs. or_replacement (decoded bs).char) rest)
-    (c.decode_lossy-c.ensures.size ∙ ap (λ bs. (decoded bs).size) rest) in
+pub returns-then-byte-lt128-clause-read : goal.returns-then-byte-lt128-clause-read
+returns-then-byte-lt128-clause-read c =
+    subst (λ code. IsReadAt c.args.text.now c.args.at code (c.args.at + 1)) (sym c.from.ensures) (one-read c.args.text.now c.args.at c.requires c.if-byte-lt128.true)
+
+pub returns-then-byte-lt224-clause-read : goal.returns-then-byte-lt224-clause-read
+returns-then-byte-lt224-clause-read c =
+    coded-read c.args.text.now c.args.at c.in-Some.scalar.code c.in-Some.scalar.size c.requires c.in-Some.ensures.reads
+
+pub overflow_add-result-2 : goal.overflow_add-result-2
+overflow_add-result-2 c =
+    let three = c.in-Some-scalar_of_three in
+    let read = coded-read c.args.text.now c.args.at three.scalar.code three.scalar.size c.requires three.ensures.reads in
     omega (arith, read.within)
 
 pub returns-clause-read : goal.returns-clause-read
 returns-clause-read c =
-    let text = c.args.text.now in
-    let rest = rest-of text c.args.at in
-    piece-there text c.args.at c.decode_lossy-c.result.0 c.decode_lossy-c.result.1 c.requires
-    (c.decode_lossy-c.ensures.char ∙ ap (λ bs. or_replacement (decoded bs).char) rest)
-    (c.decode_lossy-c.ensures.size ∙ ap (λ bs. (decoded bs).size) rest)
+    let three = c.in-Some-scalar_of_three in
+    coded-read c.args.text.now c.args.at three.scalar.code three.scalar.size c.requires three.ensures.reads

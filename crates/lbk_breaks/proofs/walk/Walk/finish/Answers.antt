@@ -1,6 +1,6 @@
 use Rattle.std.proofs.Common.{subst, ◌∙◌}
 use Rattle.lbk_breaks.specs.Fits.{WalkFits}
-use Rattle.lbk_steps.proofs.AheadLemmas.{at-end}
+use Rattle.lbk_rules.proofs.AheadLemmas.{at-end}
 use Rattle.lbk_breaks.proofs.walk.Walk.finish.Goals as goal
 
 pub returns-in-BySteps : goal.returns-in-BySteps

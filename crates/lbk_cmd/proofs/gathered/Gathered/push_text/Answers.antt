@@ -1,7 +1,7 @@
 use Rattle.std.proofs.Common.{[], ◌∷◌, ◌++◌, chars, sym, ap, ap₂, ◌∙◌}
 use Rattle.std.proofs.lemmas.Result.{on_ok_weaker}
 use Rattle.lbk_notation.specs.Shown.{passage_line}
-use Rattle.lbk_uax14.specs.Breaks.{breaks}
+use Rattle.lbk_rules.specs.Breaks.{breaks}
 use Rattle.lbk_passage.specs.Marks.{marks, ended}
 use Rattle.lbk_passage.specs.Passages.{is_must}
 use Rattle.lbk_cmd.specs.Engines.{lines_of}

@@ -1,7 +1,7 @@
 use Rattle.std.proofs.Common.{◌≡◌, ◌<◌, false, true, not, length, set, slice_index_or, ◌+◌, sym, ap, subst, ◌∙◌, arith, rules}
 use Rattle.std.proofs.lemmas.List.{get_or-replicate, length-replicate, length-set}
-use Rattle.lbk_uax14.specs.Ends.{ends_line}
-use Rattle.lbk_steps.specs.FirstBytes.{AreQuiet}
+use Rattle.lbk_rules.specs.Ends.{ends_line}
+use Rattle.lbk_rules.specs.FirstBytes.{AreQuiet}
 use Rattle.lbk_passage.specs.Flags.{AreLettersTo}
 use Rattle.lbk_passage.proofs.FlagLemmas.{AreLetters-more, AreQuiet-ascii, AreQuiet-later, later-more}
 use Rattle.lbk_passage.proofs.flags.ByteFlags.of.Goals as goal

@@ -1,5 +1,5 @@
 use Rattle.std.proofs.Common.{◌≡◌, ℕ, ◌-◌, ◌<◌, ◌≤◌, true, false, length, slice_index_or}
-use Rattle.lbk_steps.specs.FirstBytes.{AreQuiet}
+use Rattle.lbk_rules.specs.FirstBytes.{AreQuiet}
 use Rattle.lbk_passage.specs.Flags.{AreLettersTo}
 use Rattle.lbk_passage.proofs.flags.ByteFlags.of.Given as goal
 

@@ -1,0 +1,78 @@
+//! What is said of arguments that are no order.
+
+use super::one_line::{OneLine, is_escaped};
+use super::options::command;
+use clap::Error;
+use clap::error::ErrorKind;
+use std::alloc::{AllocError, Global};
+
+/// What is said of arguments that `clap` refuses: its words, and how to go on.
+pub(crate) fn usage_text(
+    alloc: Global,
+    words: &[&str],
+    error: &Error,
+) -> Result<String, AllocError> {
+    let told = told(alloc, words, error)?;
+    let told = told.as_str();
+    let mut text = String::from_str(alloc, "lbk: ")?;
+    text.push_str(told.strip_prefix("error: ").unwrap_or(told))?;
+    push_hint(&mut text, words, error.kind())?;
+    Ok(text)
+}
+
+/// The words of `clap`. Those of the arguments are in them as they are, so it is asked again where one of these is not to be
+/// shown so.
+fn told(alloc: Global, words: &[&str], error: &Error) -> Result<String, AllocError> {
+    if !words.iter().any(|word| word.contains(is_escaped)) {
+        return format!(in alloc; "{error}");
+    }
+    let mut shown = Vec::new(alloc);
+    for word in words {
+        shown.push(format!(in alloc; "{}", OneLine(word))?)?;
+    }
+    match command(alloc)?.try_get_matches_from(shown.as_slice()) {
+        Err(error) => format!(in alloc; "{error}"),
+        Ok(_) => format!(in alloc; "{}\n", error.kind()),
+    }
+}
+
+/// How to go on, where the kind of a mistake tells.
+fn push_hint(text: &mut String, words: &[&str], kind: ErrorKind) -> Result<(), AllocError> {
+    match kind {
+        ErrorKind::InvalidSubcommand => push_hint_of_file(text, words),
+        ErrorKind::ValueValidation => push_hint_of_numbers(text),
+        ErrorKind::InvalidValue | ErrorKind::UnknownArgument if has_negative(words) => {
+            push_hint_of_numbers(text)
+        }
+        _ => Ok(()),
+    }
+}
+
+/// How a file is marked, where the first word looks like the name of one.
+fn push_hint_of_file(text: &mut String, words: &[&str]) -> Result<(), AllocError> {
+    match words.first() {
+        Some(word) if word.contains(is_of_names) => {
+            let name = OneLine(word);
+            write!(text, "\nTo mark a file: lbk mark --ucd FOLDER {name}\n")
+        }
+        _ => Ok(()),
+    }
+}
+
+fn push_hint_of_numbers(text: &mut String) -> Result<(), AllocError> {
+    text.push_str(
+        "\nNumbers are decimal digits: --limit 1 to 16777216, --from and --to 0 to\n4294967295, --profile 1 or 2.\n",
+    )
+}
+
+/// Whether a character stands in names of files, and in no subcommand.
+fn is_of_names(scalar: char) -> bool {
+    scalar == '.' || scalar == '/'
+}
+
+/// Whether a word is a hyphen with a digit behind it.
+fn has_negative(words: &[&str]) -> bool {
+    words
+        .iter()
+        .any(|word| matches!(word.as_bytes(), [b'-', b'0'..=b'9', ..]))
+}

@@ -1,0 +1,175 @@
+-- The breaks or the positions of a text of units from its start on, and some of them given.
+use Rattle.std.proofs.Common.{◌≡◌, ℕ, ◌+◌, ◌<◌, ◌≤◌, false, true, inl, inr, List, [], ◌++◌, length, map, drop, refl, sym, ap, subst, ◌∙◌, arith}
+use Rattle.std.specs.Str.{encode_utf8_all}
+use Rattle.std.proofs.lemmas.List.{append-nil}
+use Rattle.std.proofs.lemmas.Str.{chars-encodes}
+use Rattle.std.proofs.Math.Seq.{drop-length}
+use lib.Utf8.{scalars}
+use Rattle.bstr.specs.Utf8.{Decoded}
+use Rattle.lbk_rules.specs.declared.Break.{Break}
+use Rattle.lbk_rules.specs.declared.Cell.{Cell}
+use Rattle.lbk_rules.specs.declared.Left.{Left}
+use Rattle.lbk_rules.specs.declared.FlatTable.{FlatTable}
+use Rattle.lbk_values.specs.declared.profile.Profile.{Profile}
+use Rattle.lbk_rules.specs.Breaks.{breaks}
+use Rattle.lbk_rules.specs.Joins.{moved}
+use Rattle.lbk_rules.specs.FlatTable.{IsFlatBy, IsFlatOf, KnowsTaken}
+use Rattle.lbk_bytes.specs.declared.fill_state.FillState.{FillState}
+use Rattle.lbk_bytes.specs.declared.raw_break.RawBreak.{RawBreak}
+use Rattle.lbk_bytes.specs.Reached.{Onward, onward}
+use Rattle.lbk_bytes.specs.Shown.{given_in}
+use Rattle.lbk_units.specs.Encodings.{placed_in}
+use Rattle.lbk_units.specs.Reached.{UnitsReachedBy, on_from}
+use Rattle.lbk_units.specs.Units.{breaks_of_pieces, breaks_of_utf32}
+use Rattle.lbk_units.proofs.EncodingLemmas as encoding
+use Rattle.lbk_calls.specs.declared.interface.State.{State}
+use Rattle.lbk_calls.specs.Coming.{IsGoing, IsSpent, from_state}
+use Rattle.lbk_calls.specs.State.{part_start, profile_numbered, start_in}
+use Rattle.lbk_calls.specs.UnitsComing.{UnitsComeBy, UnitsGo}
+use Rattle.lbk_calls.proofs.ComingLemmas.{breaks-utf8, gives, same-profile}
+use Rattle.lbk_bytes.proofs.PartLemmas.{onward-moved}
+use Rattle.lbk_bytes.proofs.ReachedLemmas.{given-many, onward-start, profile-same}
+
+module _ {A : Type 0} (from : Onward) (pieces_of : List A → List Decoded) where
+  pub units-part : (cell : ℕ → Cell) (table : FlatTable) (text : List A) (profile : Profile) (at : ℕ) (state : State) (to_come : List Break) → IsFlatOf table cell → at ≤ length text
+      → state ≡ part_start false profile at → to_come ≡ from profile cell [] at (pieces_of (drop at text))
+      → UnitsComeBy from pieces_of cell table text state to_come
+  units-part cell table text profile at state to_come flat within starts whole =
+      subst (λ s. UnitsComeBy from pieces_of cell table text s to_come) (sym starts) (record {
+        profile = profile;
+        named = profile-same profile;
+        lefts = flat.0;
+        flat = flat.1;
+        onto = record {
+          within = within;
+          goes_on = λ _. record {
+            taken = [];
+            knows = (flat.1.begins, flat.1.start);
+            some = λ more. absurd (omega arith);
+            joined = whole;
+          };
+          none_come = λ more. absurd (omega arith);
+        };
+      })
+
+  pub units-start : (cell : ℕ → Cell) (table : FlatTable) (text : List A) (profile : Profile) (state : State) (to_come : List Break) → IsFlatOf table cell → state ≡ start_in profile
+      → to_come ≡ from profile cell [] 0 (pieces_of text)
+      → UnitsComeBy from pieces_of cell table text state to_come
+  units-start cell table text profile state to_come flat starts whole = units-part cell table text profile 0 state to_come flat (omega arith) starts whole
+
+  -- whatever stands before the state's place
+  pub units-other : (cell : ℕ → Cell) (table : FlatTable) (text other : List A) (state : State) (to_come : List Break)
+      → UnitsComeBy from pieces_of cell table text state to_come → state.at ≤ length other → drop state.at other ≡ drop state.at text
+      → UnitsComeBy from pieces_of cell table other state to_come
+  units-other cell table text other state to_come comes within same = record {
+    profile = comes.profile;
+    named = comes.named;
+    lefts = comes.lefts;
+    flat = comes.flat;
+    onto = record {
+      within = within;
+      goes_on = λ goes.
+          let r = comes.onto.goes_on goes in
+          record {
+            taken = r.taken;
+            knows = r.knows;
+            some = r.some;
+            joined = r.joined ∙ ap (λ units. from comes.profile cell r.taken state.at (pieces_of units)) (sym same);
+          };
+      none_come = comes.onto.none_come;
+    };
+  }
+
+  -- the block is full
+  pub units-full : (profile : Profile) (cell : ℕ → Cell) (lefts : List Left) (text : List A) (to_come : List Break) (here : FillState) (state : State) (block : List RawBreak) (room : ℕ)
+      → UnitsReachedBy from profile cell lefts (on_from pieces_of text) to_come here (given_in block here.count) → here.at ≤ length text → state.at ≡ here.at → state.row ≡ here.row
+      → state.ended ≡ 0 → here.count ≤ length block → here.count ≡ room
+      → UnitsGo from pieces_of profile cell lefts text to_come state (given_in block here.count) here.count room
+  units-full profile cell lefts text to_come here state block room r within at_same row_same unended few full =
+      let on = on_from pieces_of text in
+      let more = from profile cell r.taken here.at (on here.at) in
+      let g = gives to_come (given_in block here.count) more here.count room r.joined (given-many block here.count few) (omega arith) (inl full) in
+      record {
+        counted = g.counted;
+        front = g.same;
+        onto = record {
+          within = omega arith;
+          goes_on = λ _. record {
+            taken = r.taken;
+            knows = subst (λ n. KnowsTaken cell lefts n r.taken) (sym row_same) r.knows;
+            some = λ more. r.some (omega arith);
+            joined = g.left ∙ ap (λ n. from profile cell r.taken n (on n)) (sym at_same);
+          };
+          none_come = λ ended. absurd (omega arith);
+        };
+      }
+
+  -- all were given, and the text is at its end
+  pub units-ended : (profile : Profile) (cell : ℕ → Cell) (lefts : List Left) (text : List A) (to_come : List Break) (here : FillState) (state : State) (before block : List RawBreak)
+      (count room : ℕ)
+      → pieces_of [] ≡ [] → UnitsReachedBy from profile cell lefts (on_from pieces_of text) to_come here (given_in before here.count) → here.at ≡ length text → state.at ≡ here.at → state.ended ≡ 1
+      → ((taken : List ℕ) → KnowsTaken cell lefts here.row taken → (0 < here.row → 0 < length taken)
+      → given_in block count ≡ given_in before here.count ++ from profile cell taken (length text) [])
+      → count ≤ length block → length block ≡ room
+      → UnitsGo from pieces_of profile cell lefts text to_come state (given_in block count) count room
+  units-ended profile cell lefts text to_come here state before block count room empty r ends at_same ended put few same_room =
+      let at = here.at in
+      let none_left : pieces_of (drop at text) ≡ [] = ap (λ n. pieces_of (drop n text)) ends ∙ ap pieces_of (drop-length text) ∙ empty in
+      let all : to_come ≡ given_in block count =
+      r.joined ∙ ap (λ ps. given_in before here.count ++ from profile cell r.taken at ps) none_left
+      ∙ ap (λ n. given_in before here.count ++ from profile cell r.taken n []) ends ∙ sym (put r.taken r.knows r.some) in
+      let g = gives to_come (given_in block count) [] count room (all ∙ sym (append-nil (given_in block count))) (given-many block count few) (omega arith) (inr refl) in
+      record {
+        counted = g.counted;
+        front = g.same;
+        onto = record {
+          within = omega arith;
+          goes_on = λ unended. absurd (omega arith);
+          none_come = λ _. g.left;
+        };
+      }
+
+  -- from a spent state nothing comes
+  pub units-none : (cell : ℕ → Cell) (table : FlatTable) (text : List A) (state : State) (to_come : List Break)
+      → IsSpent state (length text) → UnitsComeBy from pieces_of cell table text state to_come → to_come ≡ []
+  units-none cell table text state to_come (inl unnamed) c = absurd (let no : ⊥ = (let named = c.named in cc) in no)
+  units-none cell table text state to_come (inr (inl ended)) c = c.onto.none_come ended
+  units-none cell table text state to_come (inr (inr past)) c = absurd (let within = c.onto.within in omega arith)
+
+  -- what a call gives of the breaks to come
+  pub units-go : (profile : Profile) (cell : ℕ → Cell) (table : FlatTable) (text : List A) (old new : State) (to_come given : List Break) (count room : ℕ)
+      → ((cell : ℕ → Cell) (lefts : List Left) (to_come : List Break) → IsFlatBy lefts table cell
+      → UnitsReachedBy from profile cell lefts (on_from pieces_of text) to_come (from_state old) []
+      → UnitsGo from pieces_of profile cell lefts text to_come new given count room)
+      → IsGoing profile old (length text) → (c : UnitsComeBy from pieces_of cell table text old to_come)
+      → UnitsGo from pieces_of profile cell c.lefts text to_come new given count room
+  units-go profile cell table text old new to_come given count room goes going c =
+      let same = same-profile c.profile profile old c.named going.named in
+      goes cell c.lefts to_come c.flat
+      (subst (λ p. UnitsReachedBy from p cell c.lefts (on_from pieces_of text) to_come (from_state old) []) same (c.onto.goes_on going.unended))
+
+  -- and the others come from the next state on
+  pub units-next : (profile : Profile) (cell : ℕ → Cell) (table : FlatTable) (text : List A) (old new : State) (to_come given : List Break) (count room : ℕ)
+      → IsGoing profile old (length text) → new.profile ≡ old.profile → (c : UnitsComeBy from pieces_of cell table text old to_come)
+      → UnitsGo from pieces_of profile cell c.lefts text to_come new given count room
+      → UnitsComeBy from pieces_of cell table text new (drop count to_come)
+  units-next profile cell table text old new to_come given count room going kept c goes = record {
+    profile = profile;
+    named = ap profile_numbered kept ∙ going.named;
+    lefts = c.lefts;
+    flat = c.flat;
+    onto = goes.onto;
+  }
+
+-- the breaks of a part, at their places in the text
+pub pieces-part : (profile : Profile) (cell : ℕ → Cell) (at : ℕ) (ps : List Decoded) → map (moved at) (breaks_of_pieces profile cell ps) ≡ onward profile cell [] at ps
+pieces-part profile cell at ps =
+    let place : at + 0 ≡ at = omega arith in
+    ap (map (moved at)) (onward-start profile cell ps) ∙ onward-moved false profile cell [] at 0 ps ∙ ap (λ n. onward profile cell [] n ps) place
+
+-- the breaks of scalars, by their places in UTF-8
+pub breaks-scalars : (profile : Profile) (cell : ℕ → Cell) (cs : List ℕ) → scalars cs ≡ true
+    → breaks profile cell cs ≡ map (placed_in encode_utf8_all cs) (breaks_of_utf32 profile cell cs)
+breaks-scalars profile cell cs all =
+    sym (breaks-utf8 profile cell (encode_utf8_all cs) (cs, (all, refl)) ∙ ap (λ l. breaks profile cell l) (chars-encodes cs all))
+    ∙ encoding.breaks-utf8 profile cell cs all

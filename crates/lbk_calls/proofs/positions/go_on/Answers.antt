@@ -1,0 +1,70 @@
+use Rattle.std.proofs.Common.{◌≡◌, length, inl, refl, subst, arith}
+use Rattle.lbk_calls.specs.declared.interface.State.{State}
+use Rattle.lbk_bytes.specs.Order.{IsPosition}
+use Rattle.lbk_bytes.specs.Reached.{IsInOrderBy, onward_all}
+use Rattle.lbk_bytes.specs.Shown.{given_in}
+use Rattle.lbk_calls.proofs.UnitsComingLemmas.{units-ended, units-full}
+use Rattle.lbk_bytes.proofs.OrderLemmas.{AreInOrder-none, AreInOrder-wider}
+use Rattle.lbk_calls.proofs.PositionLemmas.{put-end, put-start}
+use Rattle.lbk_calls.proofs.positions.go_on.Goals as goal
+use Rattle.lbk_calls.proofs.positions.go_on.Goals.{then-row-eq0, else-row-eq0}
+
+pub returns-then-here-out-clause-goes : goal.returns-then-here-out-clause-goes
+returns-then-here-out-clause-goes g c = λ cell lefts to_come flat start.
+    let fill = c.fill_positions-here in
+    let within = fill.ensures.within in
+    let old = c.args.state.now in
+    let state : State = record { at = fill.result.at; row = fill.result.row; profile = old.profile; ended = old.ended } in
+    units-full onward_all g.U.Unit.pieces_of c.args.profile cell lefts c.args.text.now to_come fill.result state fill.new.out (length c.args.out.now)
+    (fill.ensures.reached cell lefts to_come flat start) within.2 refl refl c.requires.unended (omega (arith, within.0)) (omega arith)
+
+pub returns-clause-goes : goal.returns-clause-goes
+returns-clause-goes g c = λ cell lefts to_come flat start.
+    let fill = c.fill_positions-here in
+    let put = c.put_position in
+    let text = c.args.text.now in
+    let old = c.args.state.now in
+    let given = given_in fill.new.out fill.result.count in
+    let state : State = record { at = fill.result.at; row = fill.result.row; profile = old.profile; ended = 1 } in
+    let ends : fill.result.at ≡ length text = fill.ensures.stops (omega arith) in
+    units-ended onward_all g.U.Unit.pieces_of c.args.profile cell lefts text to_come fill.result state fill.new.out put.new.out put.result (length c.args.out.now)
+    g.met.U.Unit.ends (fill.ensures.reached cell lefts to_come flat start) ends refl refl
+    (λ taken knows some. elim c.if-row-eq0.branch [
+      | then-row-eq0 w ↦ put-start c.args.profile cell lefts c.args.table.now taken given (given_in put.new.out put.result) (length text) fill.result.row c.if-row-eq0.code
+          flat knows (omega arith) w.code-is put.ensures.front
+      | else-row-eq0 w ↦ put-end c.args.profile cell given (given_in put.new.out put.result) (length text) c.if-row-eq0.code taken (some (omega arith)) w.code-is put.ensures.front
+    ])
+    (omega arith) (omega arith)
+
+pub returns-then-here-out-clause-in_order : goal.returns-then-here-out-clause-in_order
+returns-then-here-out-clause-in_order g c =
+    let fill = c.fill_positions-here in
+    let order = fill.ensures.in_order c.args.state.now.at (omega arith, AreInOrder-none c.args.out.now c.args.state.now.at c.args.state.now.at) in
+    AreInOrder-wider fill.new.out fill.result.count c.args.state.now.at fill.result.at _ (omega (arith, fill.ensures.within.2)) order.1
+
+pub returns-then-here-out-clause-before_state : goal.returns-then-here-out-clause-before_state
+returns-then-here-out-clause-before_state g c = λ going.
+    (c.fill_positions-here.ensures.in_order c.args.state.now.at (omega arith, AreInOrder-none c.args.out.now c.args.state.now.at c.args.state.now.at)).1
+
+pub returns-then-here-out-clause-forward : goal.returns-then-here-out-clause-forward
+returns-then-here-out-clause-forward g c = λ some.
+    let order = c.fill_positions-here.ensures.in_order c.args.state.now.at (omega arith, AreInOrder-none c.args.out.now c.args.state.now.at c.args.state.now.at) in
+    let first = order.1.within 0 some in
+    inl (omega (arith, first.0, first.1))
+
+pub returns-then-here-out-clause-onward : goal.returns-then-here-out-clause-onward
+returns-then-here-out-clause-onward g c =
+    let order = c.fill_positions-here.ensures.in_order c.args.state.now.at (omega arith, AreInOrder-none c.args.out.now c.args.state.now.at c.args.state.now.at) in
+    (order.0, c.fill_positions-here.ensures.within.2)
+
+pub returns-clause-in_order : goal.returns-clause-in_order
+returns-clause-in_order g c =
+    let fill = c.fill_positions-here in
+    let order = fill.ensures.in_order c.args.state.now.at (omega arith, AreInOrder-none c.args.out.now c.args.state.now.at c.args.state.now.at) in
+    let ends = fill.ensures.stops (omega arith) in
+    c.put_position.ensures.in_order c.args.state.now.at _ (omega arith) (subst (λ n. IsInOrderBy IsPosition fill.new.out fill.result.count c.args.state.now.at n) ends order)
+
+pub returns-clause-onward : goal.returns-clause-onward
+returns-clause-onward g c =
+    let order = c.fill_positions-here.ensures.in_order c.args.state.now.at (omega arith, AreInOrder-none c.args.out.now c.args.state.now.at c.args.state.now.at) in
+    (order.0, c.fill_positions-here.ensures.within.2)

@@ -1,0 +1,176 @@
+//! The breaks of a text, a block at a time.
+
+ghost use Rattle.std.specs.Prelude.{◌≡◌, ℕ, Bool, suc, ◌<◌, ◌≤◌, ◌⊎◌, [], List, MatchOption, drop, length, map, min, take};
+ghost use Rattle.std.specs.Str.{IsUtf8, chars};
+ghost use Rattle.lbk_rules.specs.declared.Break.{Break};
+ghost use Rattle.lbk_rules.specs.declared.Cell.{Cell};
+ghost use Rattle.lbk_rules.specs.declared.Left.{Left};
+ghost use Rattle.lbk_values.specs.declared.profile.Profile.{Profile};
+ghost use Rattle.lbk_rules.specs.Breaks.{breaks};
+ghost use Rattle.lbk_rules.specs.Joins.{moved};
+ghost use Rattle.lbk_rules.specs.FlatTable.{IsFlatBy, IsFlatOf};
+ghost use Rattle.lbk_bytes.specs.Bytes.{breaks_of_bytes, breaks_of_part};
+ghost use Rattle.lbk_bytes.specs.Order.{AreInOrder};
+ghost use Rattle.lbk_bytes.specs.Reached.{ReachedBy};
+ghost use Rattle.lbk_calls.specs.Coming.{Comes, GoesBy, IsGoing, IsSpent, from_state, onward_in};
+ghost use Rattle.lbk_bytes.specs.Shown.{given_in};
+ghost use Rattle.lbk_calls.specs.State.{part_start, plain, profile_numbered, start_in};
+
+use crate::interface::State;
+use lbk_bytes::{FillState, RawBreak, fill, goes_on, plain_number, profile_numbered, put_end};
+use lbk_rules::{FlatTable, Profile};
+
+/// Puts the next breaks of a text (UAX #14, section 3) into the front of the block, from the state on, and returns how many:
+/// as many as the block holds, or all that are left. The text may be any bytes: each longest piece that begins no scalar is
+/// read as U+FFFD (Unicode Standard, section 3.9).
+///
+/// Where the block has no room, or the state is past the text or at its end, or names no profile, the state stays and no break
+/// comes. What stands in the block after the breaks is unspecified. Whatever the table and the state hold, the breaks are
+/// breaks of rules, in order, from the state's place on, and the state goes forward with them.
+#[unsafe(no_mangle)]
+pub extern "C" fn lbk_breaks(
+    table: &FlatTable,
+    state: &mut State,
+    text: &[u8],
+    out: &mut [RawBreak],
+) -> usize
+    ensures within { result ≤ length out.old }
+    ensures profile_same { state.new.profile ≡ state.old.profile }
+    ensures in_order { AreInOrder out.new result state.old.at (suc (length text.now)) }
+    ensures before_state { state.new.ended ≡ 0 → AreInOrder out.new result state.old.at state.new.at }
+    ensures forward { 0 < result → (state.old.at < state.new.at) ⊎ (0 < state.new.ended) }
+    ensures onward { state.old.at ≤ state.new.at }
+    ensures inside { state.old.at ≤ length text.now → state.new.at ≤ length text.now }
+    ensures at_end { state.old.ended ≡ 0 → 0 < state.new.ended → state.new.at ≡ length text.now }
+    ensures all { state.old.profile ≤ 3 → state.old.at ≤ length text.now → result < length out.old → 0 < state.new.ended }
+    ensures start { (cell : ℕ → Cell) (profile : Profile) → IsFlatOf table.now cell → state.old ≡ start_in profile
+        → Comes cell table.now text.now state.old (breaks_of_bytes profile cell text.now) }
+    // A part of the text that begins at any of its bytes, and after which the text may go on. Cut where lbk_cut says, the breaks of
+    // the parts are those of the text, one after another.
+    ensures part { (cell : ℕ → Cell) (profile : Profile) (goes_on : Bool) (at : ℕ) → IsFlatOf table.now cell → at ≤ length text.now
+        → state.old ≡ part_start goes_on profile at
+        → Comes cell table.now text.now state.old (map (moved at) (breaks_of_part goes_on profile cell (drop at text.now))) }
+    ensures count { (cell : ℕ → Cell) (to_come : List Break) → Comes cell table.now text.now state.old to_come
+        → result ≡ min (length out.old) (length to_come) }
+    ensures front { (cell : ℕ → Cell) (to_come : List Break) → Comes cell table.now text.now state.old to_come
+        → given_in out.new result ≡ take result to_come }
+    ensures rest { (cell : ℕ → Cell) (to_come : List Break) → Comes cell table.now text.now state.old to_come
+        → Comes cell table.now text.now state.new (drop result to_come) }
+    ensures well_formed { (cell : ℕ → Cell) (profile : Profile) → IsUtf8 text.now
+        → breaks_of_bytes profile cell text.now ≡ breaks profile cell (chars text.now) }
+    ensures ended { 0 < state.old.ended → (result ≡ 0) × (state.new ≡ state.old) }
+    ensures past { length text.now < state.old.at → (result ≡ 0) × (state.new ≡ state.old) }
+    ensures unknown { 3 < state.old.profile → (result ≡ 0) × (state.new ≡ state.old) }
+    ensures no_room { length out.old ≡ 0 → (result ≡ 0) × (state.new ≡ state.old) }
+{
+    give_breaks::<false>(table, state, text, out)
+}
+
+/// Puts the next breaks of a text (UAX #14, section 3) into the front of the block, from the state on, and returns how many:
+/// as many as the block holds, or all that are left. The text may be any bytes: each longest piece that begins no scalar is
+/// read as U+FFFD (Unicode Standard, section 3.9).
+///
+/// Where the block has no room, or the state is past the text or at its end, or names no profile, the state stays and no break
+/// comes. What stands in the block after the breaks is unspecified. Whatever the table and the state hold, the breaks are
+/// breaks of rules, in order, from the state's place on, and the state goes forward with them.
+pub fn give_breaks<const MASKS: bool>(
+    table: &FlatTable,
+    state: &mut State,
+    text: &[u8],
+    out: &mut [RawBreak],
+) -> usize
+    ensures within { result ≤ length out.old }
+    ensures profile_same { state.new.profile ≡ state.old.profile }
+    ensures in_order { AreInOrder out.new result state.old.at (suc (length text.now)) }
+    ensures before_state { state.new.ended ≡ 0 → AreInOrder out.new result state.old.at state.new.at }
+    ensures forward { 0 < result → (state.old.at < state.new.at) ⊎ (0 < state.new.ended) }
+    ensures onward { state.old.at ≤ state.new.at }
+    ensures inside { state.old.at ≤ length text.now → state.new.at ≤ length text.now }
+    ensures at_end { state.old.ended ≡ 0 → 0 < state.new.ended → state.new.at ≡ length text.now }
+    ensures all { state.old.profile ≤ 3 → state.old.at ≤ length text.now → result < length out.old → 0 < state.new.ended }
+    ensures start { (cell : ℕ → Cell) (profile : Profile) → IsFlatOf table.now cell → state.old ≡ start_in profile
+        → Comes cell table.now text.now state.old (breaks_of_bytes profile cell text.now) }
+    // A part of the text that begins at any of its bytes, and after which the text may go on. Cut where lbk_cut says, the breaks of
+    // the parts are those of the text, one after another.
+    ensures part { (cell : ℕ → Cell) (profile : Profile) (goes_on : Bool) (at : ℕ) → IsFlatOf table.now cell → at ≤ length text.now
+        → state.old ≡ part_start goes_on profile at
+        → Comes cell table.now text.now state.old (map (moved at) (breaks_of_part goes_on profile cell (drop at text.now))) }
+    ensures count { (cell : ℕ → Cell) (to_come : List Break) → Comes cell table.now text.now state.old to_come
+        → result ≡ min (length out.old) (length to_come) }
+    ensures front { (cell : ℕ → Cell) (to_come : List Break) → Comes cell table.now text.now state.old to_come
+        → given_in out.new result ≡ take result to_come }
+    ensures rest { (cell : ℕ → Cell) (to_come : List Break) → Comes cell table.now text.now state.old to_come
+        → Comes cell table.now text.now state.new (drop result to_come) }
+    ensures well_formed { (cell : ℕ → Cell) (profile : Profile) → IsUtf8 text.now
+        → breaks_of_bytes profile cell text.now ≡ breaks profile cell (chars text.now) }
+    ensures ended { 0 < state.old.ended → (result ≡ 0) × (state.new ≡ state.old) }
+    ensures past { length text.now < state.old.at → (result ≡ 0) × (state.new ≡ state.old) }
+    ensures unknown { 3 < state.old.profile → (result ≡ 0) × (state.new ≡ state.old) }
+    ensures no_room { length out.old ≡ 0 → (result ≡ 0) × (state.new ≡ state.old) }
+{
+    let Some(profile) = going_profile(&plain(state), text.len()) else {
+        return 0;
+    };
+    go_on::<MASKS>(table, profile, state, text, out)
+}
+
+/// The state with only the profile in its number.
+pub fn plain(state: &State) -> State
+    ensures { result ≡ plain state.now }
+{
+    let profile = plain_number(state.profile);
+    State { profile, ..*state }
+}
+
+/// The profile of a state from which breaks may come of a text of this length: none where the state names no profile, has
+/// given all, or is past the text.
+pub fn going_profile(state: &State, len: usize) -> Option<Profile>
+    ensures { MatchOption result (IsSpent state.now len) (λ profile. IsGoing profile state.now len) }
+{
+    let profile = profile_numbered(state.profile)?;
+    if state.ended != 0 {
+        return None;
+    }
+    if len < state.at {
+        return None;
+    }
+    Some(profile)
+}
+
+/// Puts the next breaks into the front of the block, and returns how many.
+fn go_on<const MASKS: bool>(
+    table: &FlatTable,
+    profile: Profile,
+    state: &mut State,
+    text: &[u8],
+    out: &mut [RawBreak],
+) -> usize
+    requires { IsGoing profile (plain state.old) (length text.now) }
+    ensures within { result ≤ length out.old }
+    ensures profile_same { state.new.profile ≡ state.old.profile }
+    ensures in_order { AreInOrder out.new result state.old.at (suc (length text.now)) }
+    ensures before_state { state.new.ended ≡ 0 → AreInOrder out.new result state.old.at state.new.at }
+    ensures forward { 0 < result → (state.old.at < state.new.at) ⊎ (0 < state.new.ended) }
+    ensures onward { (state.old.at ≤ state.new.at) × (state.new.at ≤ length text.now) }
+    ensures at_end { 0 < state.new.ended → state.new.at ≡ length text.now }
+    ensures all { result < length out.old → 0 < state.new.ended }
+    ensures goes { (cell : ℕ → Cell) (lefts : List Left) (to_come : List Break) → IsFlatBy lefts table.now cell
+        → ReachedBy (onward_in state.old.profile) profile cell lefts text.now to_come (from_state (plain state.old)) []
+        → GoesBy (onward_in state.old.profile) profile cell lefts text.now to_come (plain state.new) (given_in out.new result) result (length out.old) }
+    ensures no_room { length out.old ≡ 0 → (result ≡ 0) × (state.new ≡ state.old) }
+{
+    let start = FillState {
+        count: 0,
+        row: state.row as usize,
+        at: state.at,
+    };
+    let here = fill::<MASKS>(table, profile, start, text, out);
+    state.row = here.row as u16;
+    state.at = here.at;
+    if here.count == out.len() {
+        return here.count;
+    }
+    state.ended = 1;
+    let goes_on = goes_on(state.profile);
+    put_end(table, goes_on, here.row, out, here.count, text.len())
+}

@@ -1,0 +1,47 @@
+use Rattle.std.proofs.Common.{◌∙◌, ap, inl, inr, refl}
+use Rattle.lbk_args.specs.Task.{task_of}
+use Rattle.lbk_files.specs.declared.faults.Stop.TheVariants.{Refused}
+use Rattle.lbk_cmd.specs.Ending.{ending_of_files}
+use Rattle.lbk_cmd.proofs.Runs.{ready_performs, same_fault}
+use Rattle.lbk_cmd.proofs.command.perform_order.Goals as goal
+
+pub invariant_of-ready : goal.invariant_of-ready
+invariant_of-ready g c =
+    let cells = c.in-Ok.ready.cells in record { complete = cells.complete; numbered = cells.numbered; distinct = cells.distinct; given = cells.given; same = cells.same; quiet = cells.quiet }
+
+pub returns-in-Ok-clause-performs : goal.returns-in-Ok-clause-performs
+returns-in-Ok-clause-performs g c =
+    ready_performs g.T.File.Source (g.S.Store.file c.args.store.now) _ (task_of c.args.order) _ _ c.in-Ok.ready _ _
+    c.in-Ok.ensures.made c.perform.ensures.reads
+
+pub returns-in-Err-clause-performs : goal.returns-in-Err-clause-performs
+returns-in-Err-clause-performs g c =
+    inl ((Refused c.in-Err.fault, inr c.in-Err.ensures.made, c.of_files.ensures, refl), refl)
+
+pub returns-in-Ok-clause-texts : goal.returns-in-Ok-clause-texts
+returns-in-Ok-clause-texts g c = c.perform.ensures.contents
+
+pub returns-in-Err-clause-texts : goal.returns-in-Err-clause-texts
+returns-in-Err-clause-texts g c = refl
+
+pub returns-in-Ok-clause-refused : goal.returns-in-Ok-clause-refused
+returns-in-Ok-clause-refused g c more = let other = c.in-Ok.ensures.refused more in absurd (cc other)
+
+pub returns-in-Err-clause-refused : goal.returns-in-Err-clause-refused
+returns-in-Err-clause-refused g c more =
+    c.of_files.ensures ∙ ap ending_of_files (same_fault _ _ _ refl (c.in-Err.ensures.refused more))
+
+pub returns-in-Ok-clause-loads : goal.returns-in-Ok-clause-loads
+returns-in-Ok-clause-loads g c = c.in-Ok.ensures.loads
+
+pub returns-in-Err-clause-loads : goal.returns-in-Err-clause-loads
+returns-in-Err-clause-loads g c = c.in-Err.ensures.loads
+
+pub returns-in-Ok-clause-files : goal.returns-in-Ok-clause-files
+returns-in-Ok-clause-files g c = c.in-Ok.ensures.files
+
+pub returns-in-Err-clause-files : goal.returns-in-Err-clause-files
+returns-in-Err-clause-files g c = c.in-Err.ensures.files
+
+pub perform-requires : goal.perform-requires
+perform-requires g c κs = (refl, tt)

@@ -1,0 +1,55 @@
+//! Sets of bytes, told by the halves of a byte.
+
+ghost use Rattle.std.specs.Prelude.{◌≡◌, ℕ, ◌<◌, ◌≤◌, ◌&&◌, length, get_or, nat_le, nat_lt};
+ghost use Rattle.lbk_masks.specs.Sets.{is_in, is_set};
+
+use crate::found::joined;
+use crate::{block_of, both, high_halves, least, meeting, picked};
+use std::simd::prelude::*;
+
+/// Eight sets of bytes, a bit each. A byte is in those that its two halves have in common.
+#[derive(Clone, Copy)]
+pub struct HalfSets {
+    /// What each low half has.
+    pub low: [u8; 16],
+    /// What each high half has.
+    pub high: [u8; 16],
+}
+
+impl HalfSets {
+    /// Which of the first 64 bytes of a text are in one of these sets, a bit each.
+    #[inline(always)]
+    pub fn members(&self, sets: u8, text: &[u8]) -> u64
+        requires { 64 ≤ length text.now }
+        ensures { (i : ℕ) → i < 64 → is_set result i ≡ is_in self.now sets (get_or text.now i 0) }
+    {
+        let one = joined(0, 0, self.members_of(sets, block_of(text)));
+        let two = joined(one, 16, self.members_of(sets, block_of(&text[16..])));
+        let three = joined(two, 32, self.members_of(sets, block_of(&text[32..])));
+        joined(three, 48, self.members_of(sets, block_of(&text[48..])))
+    }
+
+    /// Which of 16 bytes are in one of these sets.
+    #[inline(always)]
+    fn members_of(&self, sets: u8, block: u8x16) -> u64
+        ensures { (i : ℕ) → is_set result i ≡ (nat_lt i 16 && is_in self.now sets (get_or block i 0)) }
+    {
+        let common = both(
+            picked(self.low, block),
+            picked(self.high, high_halves(block)),
+        );
+        meeting(common, u8x16::splat(sets))
+    }
+}
+
+/// Which of the first 64 bytes of a text are from 128 on, a bit each.
+#[inline(always)]
+pub fn wide(text: &[u8]) -> u64
+    requires { 64 ≤ length text.now }
+    ensures { (i : ℕ) → i < 64 → is_set result i ≡ nat_le 128 (get_or text.now i 0) }
+{
+    let one = joined(0, 0, least(128, block_of(text)));
+    let two = joined(one, 16, least(128, block_of(&text[16..])));
+    let three = joined(two, 32, least(128, block_of(&text[32..])));
+    joined(three, 48, least(128, block_of(&text[48..])))
+}

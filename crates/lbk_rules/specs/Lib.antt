@@ -1,0 +1,44 @@
+-- What a reader has to believe.
+pub use Rattle.lbk_uax14.specs.Classes
+pub use Rattle.lbk_uax14.specs.Sides
+pub use Rattle.lbk_uax14.specs.Units
+pub use Rattle.lbk_uax14.specs.Rules
+pub use Rattle.lbk_uax14.specs.Verdict
+pub use Rattle.lbk_uax14.specs.Marks
+pub use Rattle.lbk_uax14.specs.Breaks
+pub use Rattle.lbk_uax14.specs.Resolve
+pub use Rattle.lbk_uax14.specs.Labels
+pub use Rattle.lbk_uax14.specs.Held
+pub use Rattle.lbk_uax14.specs.Annex
+pub use Rattle.lbk_uax14.specs.Ends
+pub use Rattle.lbk_uax14.specs.Joins
+pub use Rattle.lbk_uax14.specs.Once
+pub use Rattle.lbk_uax14.specs.Normal
+pub use Rattle.lbk_steps.specs.Cells
+pub use Rattle.lbk_steps.specs.ClassLabels
+-- What only carries proofs.
+pub use Rattle.lbk_uax14.specs.Answers
+pub use Rattle.lbk_uax14.specs.Asked
+pub use Rattle.lbk_uax14.specs.Chain
+pub use Rattle.lbk_uax14.specs.Codes
+pub use Rattle.lbk_uax14.specs.Facts
+pub use Rattle.lbk_uax14.specs.Fits
+pub use Rattle.lbk_uax14.specs.LateFits
+pub use Rattle.lbk_steps.specs.AheadFits
+pub use Rattle.lbk_steps.specs.CellOfTables
+pub use Rattle.lbk_steps.specs.CellPages
+pub use Rattle.lbk_steps.specs.EnoughRows
+pub use Rattle.lbk_steps.specs.FirstBytes
+pub use Rattle.lbk_steps.specs.FlatStep
+pub use Rattle.lbk_steps.specs.FlatTable
+-- (the constants of its layout)
+pub use Rattle.lbk_steps.specs.declared.flat_table
+pub use Rattle.lbk_steps.specs.KindTable
+pub use Rattle.lbk_steps.specs.Kinds
+pub use Rattle.lbk_steps.specs.Neighbours
+pub use Rattle.lbk_steps.specs.Pages
+pub use Rattle.lbk_steps.specs.RowFits
+pub use Rattle.lbk_steps.specs.RowMachineFits
+pub use Rattle.lbk_steps.specs.RowStepperFits
+pub use Rattle.lbk_steps.specs.StepperFits
+pub use Rattle.lbk_steps.specs.Steps

@@ -1,0 +1,23 @@
+-- Scalars of few bytes, as they are read.
+use Rattle.std.proofs.Common.{◌≡◌, ℕ, ◌+◌, ◌-◌, ◌<◌, List, drop, length, slice_index, take, sym, ap, ◌∙◌, arith}
+use Rattle.std.proofs.lemmas.List.{get_or-drop, length-drop}
+use Rattle.bstr.specs.Utf8.{decoded, good, or_replacement}
+use Rattle.bstr.proofs.lemmas.PieceLemmas.{value-1}
+use Rattle.lbk_words.specs.Places.{IsReadAt}
+use Rattle.lbk_words.proofs.WalkLemmas.{piece-there, rest-of}
+
+-- a byte below 128 is read as a scalar of its own
+pub one-read : (text : List ℕ) (at : ℕ) → at < length text → slice_index text at < 128 → IsReadAt text at (slice_index text at) (at + 1)
+one-read text at inside low =
+    let rest = drop at text in
+    let some : 0 < length rest = omega (arith, length-drop at text) in
+    let same : slice_index rest 0 ≡ slice_index text at = get_or-drop at text 0 0 ∙ ap (λ n. slice_index text n) (let e : at + 0 ≡ at = omega arith in e) in
+    let read : decoded rest ≡ good (slice_index text at) 1 =
+    value-1 (length rest) (slice_index rest 0) (slice_index rest 1) (slice_index rest 2) (slice_index rest 3) (some, omega arith) ∙ ap (λ c. good c 1) same in
+    piece-there text at (slice_index text at) 1 inside (sym (ap (λ d. or_replacement d.char) read)) (sym (ap (λ d. d.size) read))
+
+-- what the bytes from one on are decoded to
+pub coded-read : (text : List ℕ) (at code size : ℕ) → at < length text → decoded (take (length text - at) (drop at text)) ≡ good code size → IsReadAt text at code (at + size)
+coded-read text at code size inside coded =
+    let read : decoded (drop at text) ≡ good code size = ap decoded (sym (rest-of text at)) ∙ coded in
+    piece-there text at code size inside (sym (ap (λ d. or_replacement d.char) read)) (sym (ap (λ d. d.size) read))

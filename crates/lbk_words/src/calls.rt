@@ -1,0 +1,41 @@
+//! The words of a text, a block at a time, for a caller in another language. The function under `no_mangle` is the export of the
+//! module for JavaScript that `scripts/module` builds of this crate.
+
+ghost use Rattle.std.specs.Prelude.{◌≡◌, ◌<◌, ◌≤◌, drop, length, min, take};
+ghost use Rattle.lbk_words.specs.Words.{AreRising, IsBoundary, words_on};
+
+use crate::filling::fill;
+use crate::word::Word;
+
+/// How far the words of a text were asked for. One of zeros stands at the start of a text.
+#[repr(C)]
+#[derive(Clone, Copy)]
+pub struct WordState {
+    /// The byte from which the next words come. The text after it is taken as a text of its own.
+    pub at: usize,
+}
+
+/// Puts the next words of a text (UAX #29, section 4) into the front of the block, from the state
+/// on, and returns how many: as many as the block holds, or all that are left. The text may be any
+/// bytes: each longest piece that begins no scalar is read as U+FFFD (Unicode Standard, section
+/// 3.9).
+///
+/// Where the block has no room, or the state is at the text's end or past it, the state stays and
+/// no word comes. What stands in the block after the words is unspecified.
+#[unsafe(no_mangle)]
+pub extern "C" fn lbk_words(state: &mut WordState, text: &[u8], out: &mut [Word]) -> usize
+    ensures count { result ≡ min (length out.old) (length (words_on text.now state.old.at)) }
+    ensures front { take result out.new ≡ take result (words_on text.now state.old.at) }
+    ensures rest { words_on text.now state.new.at ≡ drop result (words_on text.now state.old.at) }
+    ensures onward { state.old.at ≤ state.new.at }
+    ensures boundary { IsBoundary text.now state.old.at state.new.at }
+    ensures rising { AreRising state.old.at state.new.at (take result out.new) }
+    ensures within { state.old.at ≤ length text.now → state.new.at ≤ length text.now }
+    ensures all { result < length out.old → state.old.at ≤ length text.now → state.new.at ≡ length text.now }
+    ensures ended { length text.now ≤ state.old.at → (result ≡ 0) × (state.new ≡ state.old) }
+    ensures no_room { length out.old ≡ 0 → (result ≡ 0) × (state.new ≡ state.old) }
+{
+    let filled = fill::<false>(text, state.at, out);
+    state.at = filled.at;
+    filled.count
+}

@@ -1,0 +1,99 @@
+//! The scalars of two and three bytes, read without a call.
+
+ghost use Rattle.std.specs.Prelude.{◌≡◌, ◌<◌, ◌≤◌, ◌⊎◌, true, length, IfSome};
+ghost use Rattle.bstr.specs.Utf8.{code_of_2, code_of_3, continues, decoded, good};
+
+/// A scalar value and how many bytes it takes.
+#[derive(Clone, Copy)]
+pub(crate) struct Coded {
+    pub(crate) code: u32,
+    pub(crate) size: usize,
+}
+
+/// The scalar of two bytes at the front of some bytes.
+#[inline(always)]
+pub(crate) fn scalar_of_two(bytes: &[u8]) -> Option<Coded>
+    requires { 1 < length bytes.now }
+    ensures reads { IfSome result (λ scalar. decoded bytes.now ≡ good scalar.code scalar.size) }
+    ensures code { IfSome result (λ scalar. scalar.code < 0x11_0000) }
+{
+    let first = bytes[0];
+    if first < 0xC2 {
+        return None;
+    }
+    if 0xDF < first {
+        return None;
+    }
+    let next = bytes[1];
+    if !is_continuation(next) {
+        return None;
+    }
+    Some(Coded {
+        code: code_of_two(first, next),
+        size: 2,
+    })
+}
+
+/// The scalar of three bytes at the front of some bytes.
+#[inline(always)]
+pub(crate) fn scalar_of_three(bytes: &[u8]) -> Option<Coded>
+    requires { 2 < length bytes.now }
+    ensures reads { IfSome result (λ scalar. decoded bytes.now ≡ good scalar.code scalar.size) }
+    ensures code { IfSome result (λ scalar. scalar.code < 0x11_0000) }
+{
+    let first = bytes[0];
+    if first < 0xE0 {
+        return None;
+    }
+    if 0xEF < first {
+        return None;
+    }
+    let next = bytes[1];
+    if !is_continuation(next) {
+        return None;
+    }
+    let last = bytes[2];
+    if !is_continuation(last) {
+        return None;
+    }
+    let code = code_of_three(first, next, last);
+    if !takes_three(code) {
+        return None;
+    }
+    Some(Coded { code, size: 3 })
+}
+
+/// Whether a byte may stand after the first of a scalar.
+#[inline(always)]
+fn is_continuation(byte: u8) -> bool
+    ensures { result ≡ continues byte }
+{
+    0x7F < byte && byte < 0xC0
+}
+
+/// Whether a scalar that three bytes spell takes three: it is of no fewer, and no surrogate.
+#[inline(always)]
+fn takes_three(code: u32) -> bool
+    ensures { result ≡ true → (0x800 ≤ code) × (code < 0xD800 ⊎ 0xE000 ≤ code) }
+{
+    (0x7FF < code && code < 0xD800) || 0xDFFF < code
+}
+
+#[inline(always)]
+fn code_of_two(first: u8, next: u8) -> u32
+    requires first { (0xC0 ≤ first) × (first < 0xE0) }
+    requires next { continues next ≡ true }
+    ensures { result ≡ code_of_2 first next }
+{
+    (u32::from(first) - 0xC0) * 64 + (u32::from(next) - 0x80)
+}
+
+#[inline(always)]
+fn code_of_three(first: u8, next: u8, last: u8) -> u32
+    requires first { (0xE0 ≤ first) × (first < 0xF0) }
+    requires next { 0x80 ≤ next }
+    requires last { continues last ≡ true }
+    ensures { result ≡ code_of_3 first next last }
+{
+    ((u32::from(first) - 0xE0) * 64 + (u32::from(next) - 0x80)) * 64 + (u32::from(last) - 0x80)
+}

@@ -1,0 +1,116 @@
+//! Words found scalar by scalar.
+
+ghost use Rattle.std.specs.Prelude.{◌≡◌, ◌<◌, ◌≤◌, ◌+◌, ◌⊎◌, ℕ, List, length, if◌then◌else◌};
+ghost use Rattle.unicode_segmentation.specs.Word.{significant, value_at};
+ghost use Rattle.lbk_words.specs.Filling.{IsFilled, IsFilling};
+ghost use Rattle.lbk_words.specs.Places.{IsReadAt};
+ghost use Rattle.lbk_words.specs.Rows.{IsStep};
+ghost use Rattle.lbk_words.specs.Words.{scalars_on};
+
+use crate::scalars::scalar_at;
+use crate::steps::{Step, first_row, is_word, step_of, step_of_byte};
+use crate::word::{Filled, Word};
+
+/// How far a block is filled, and the part of the text that is being read.
+#[derive(Clone, Copy)]
+pub(crate) struct Filling {
+    /// How many words are in the front of the block.
+    pub(crate) count: usize,
+    /// The boundary at which the part begins.
+    pub(crate) begin: usize,
+    /// The byte after the scalars of the part so far.
+    pub(crate) at: usize,
+    /// The row of the part so far.
+    pub(crate) row: usize,
+}
+
+/// Goes on filling a block from a boundary, up to the first boundary from `stop` on, or as far as there is room.
+pub(crate) fn fill_by_scalars(text: &[u8], here: Filled, stop: usize, out: &mut [Word]) -> Filled
+    requires { (here.count < length out.old) × (here.at < stop) × (stop ≤ length text.now) }
+    ensures filled { (start : ℕ) → IsFilled text.now start here.at here.count out.old → IsFilled text.now start result.at result.count out.new }
+    ensures onward { (here.at ≤ result.at) × (here.count ≤ result.count) }
+    ensures within { (result.at ≤ length text.now) × (result.count ≤ length out.old) }
+    ensures far { result.count < length out.old → stop ≤ result.at }
+{
+    let first = scalar_at(text, here.at);
+    let mut part = Filling {
+        count: here.count,
+        begin: here.at,
+        at: first.end,
+        row: first_row(first.code),
+    };
+    'scalars: while part.count < out.len() && part.begin < stop && part.at < text.len() {
+        let next = scalar_at(text, part.at);
+        let step = step_of(part.row, next.code, next.end, text);
+        part = taken(part, step, next.end, out);
+        let from = part.at;
+        'bytes: while part.count < out.len() && part.at < stop {
+            let byte = text[part.at];
+            if 0x80 <= byte {
+                break;
+            }
+            let step = step_of_byte(part.row, byte);
+            if step.asks {
+                break;
+            }
+            part = taken(part, step, part.at + 1, out);
+        }
+    }
+    if part.count < out.len() && part.begin < stop {
+        return ended(part, out);
+    }
+    Filled {
+        count: part.count,
+        at: part.begin,
+    }
+}
+
+/// Takes one more scalar, which ends at a byte. It writes the part so far whether the part ends there or not, so that
+/// no branch depends on it.
+#[inline(always)]
+fn taken(part: Filling, step: Step, end: usize, out: &mut [Word]) -> Filling
+    requires { part.count < length out.old }
+    ensures filling { (text : List ℕ) (start code : ℕ) → IsFilling text start part out.old → IsReadAt text part.at code end
+        → IsStep part.row code (value_at (significant (scalars_on text end)) 0) step → IsFilling text start result out.new }
+    ensures at { result.at ≡ end }
+    ensures row { result.row ≡ step.next }
+    ensures count { (part.count ≤ result.count) × (result.count ≤ part.count + 1) }
+    ensures begin { (result.begin ≡ part.begin) ⊎ (result.begin ≡ part.at) }
+{
+    out[part.count] = Word {
+        start: part.begin,
+        end: part.at,
+    };
+    Filling {
+        count: part.count + usize::from(step.counts),
+        begin: one_of(step.cuts, part.at, part.begin),
+        at: end,
+        row: step.next,
+    }
+}
+
+/// Ends the part where the text ends.
+#[inline(always)]
+fn ended(part: Filling, out: &mut [Word]) -> Filled
+    requires { (part.count < length out.old) × (part.row < 43) }
+    ensures filled { (text : List ℕ) (start : ℕ) → IsFilling text start part out.old → length text ≤ part.at → IsFilled text start result.at result.count out.new }
+    ensures at { result.at ≡ part.at }
+    ensures count { (part.count ≤ result.count) × (result.count ≤ part.count + 1) }
+{
+    out[part.count] = Word {
+        start: part.begin,
+        end: part.at,
+    };
+    Filled {
+        count: part.count + usize::from(is_word(part.row)),
+        at: part.at,
+    }
+}
+
+/// One of two places.
+#[inline(always)]
+fn one_of(is_first: bool, first: usize, second: usize) -> usize
+    ensures { result ≡ (if is_first then first else second) }
+{
+    if is_first { first } else { second }
+}

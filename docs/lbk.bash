@@ -1,0 +1,36 @@
+# Completes the words of lbk in bash. scripts/completion makes it of the program's help.
+_lbk() {
+    local word=${COMP_WORDS[COMP_CWORD]} before=${COMP_WORDS[COMP_CWORD - 1]} options=
+    COMPREPLY=()
+    if [ "$COMP_CWORD" = 1 ]; then
+        mapfile -t COMPREPLY < <(compgen -W "mark show segment replay help --help --version" -- "$word")
+        return
+    fi
+    case ${COMP_WORDS[1]} in
+    mark) options="--ucd --line-break --east-asian --category --emoji --limit --from --to --profile --help" ;;
+    show) options="--ucd --line-break --east-asian --category --emoji --limit --from --to --profile --help" ;;
+    segment) options="--ucd --line-break --east-asian --category --emoji --limit --from --to --profile --help" ;;
+    replay) options="--ucd --line-break --east-asian --category --emoji --kinds --profile --help" ;;
+    help)
+        mapfile -t COMPREPLY < <(compgen -W "mark show segment replay" -- "$word")
+        return
+        ;;
+    *) return ;;
+    esac
+    case $before in
+    --ucd)
+        compopt -o filenames
+        mapfile -t COMPREPLY < <(compgen -d -- "$word")
+        return
+        ;;
+    --limit|--from|--to|--profile) return ;;
+    esac
+    case $word in
+    -*) mapfile -t COMPREPLY < <(compgen -W "$options" -- "$word") ;;
+    *)
+        compopt -o filenames
+        mapfile -t COMPREPLY < <(compgen -f -- "$word")
+        ;;
+    esac
+}
+complete -F _lbk lbk

@@ -1,0 +1,244 @@
+"""Looks at the arguments of the program before it is built: what it would say of them, and which files they name.
+
+It reads arguments as the program does, and knows what the program says of the mistakes that are made most; of others it says
+nothing, so that the program itself does. scripts/check first-look compares both.
+"""
+import os
+from typing import NamedTuple
+
+TOP = os.path.dirname(os.path.dirname(os.path.abspath(__file__)))
+TASKS = ("mark", "show", "segment", "replay")
+FILES = {"line-break": "FILE", "east-asian": "FILE", "category": "FILE", "emoji": "FILE"}
+NUMBERS = {"limit": ("NUMBER", 1, 16_777_216), "from": ("BYTE", 0, 2**32 - 1), "to": ("BYTE", 0, 2**32 - 1)}
+OF_FOLDER = {
+    "line-break": "LineBreak.txt",
+    "east-asian": "EastAsianWidth.txt",
+    "category": "extracted/DerivedGeneralCategory.txt",
+    "emoji": "emoji/emoji-data.txt",
+}
+MORE = "\nFor more information, try '--help'.\n"
+DIGITS = """
+Numbers are decimal digits: --limit 1 to 16777216, --from and --to 0 to
+4294967295, --profile 1 or 2.
+"""
+UNNAMED = """the property files are not named: give --ucd <FOLDER>, or each of
+  --line-break <FILE>
+  --east-asian <FILE>
+  --category <FILE>
+  --emoji <FILE>
+Debian's package unicode-data has them: --ucd /usr/share/unicode"""
+
+
+class Told(Exception):
+    """The program would write this, to standard output where the status is 0, and end so."""
+
+    def __init__(self, status, text):
+        super().__init__(text)
+        self.status, self.text = status, text
+
+
+class Unsure(Exception):
+    """The program has to say what is wrong."""
+
+
+class Order(NamedTuple):
+    """The subcommand, the values of the options by their names, and the operands; no subcommand stands for no arguments."""
+
+    task: str
+    given: dict
+    texts: list
+
+    def reads_input(self):
+        return not self.texts or "-" in self.texts
+
+
+def one_line(word):
+    """A word as the program shows it in one line."""
+    return "".join(f"\\u{{{ord(it):x}}}" if is_escaped(ord(it)) else it for it in word)
+
+
+def is_escaped(code):
+    turns = code == 0x61C or 0x200E <= code <= 0x200F or 0x2028 <= code <= 0x202E or 0x2066 <= code <= 0x2069
+    return code < 0x20 or 0x7F <= code < 0xA0 or turns
+
+
+def stored_text(run):
+    """What the program writes in a stored run, which scripts/check stored-runs compares."""
+    with open(os.path.join(TOP, "crates/lbk/runs", run, "stdout"), encoding="utf-8", newline="") as it:
+        return it.read()
+
+
+def help_of(task=None):
+    raise Told(0, stored_text(f"help_of_{task}" if task else "help"))
+
+
+def refuse(text, task=None, has_usage=True, hint=""):
+    usage = f"\nUsage: lbk {task} --ucd <FOLDER> [OPTIONS] [FILE]...\n" if task else "\nUsage: lbk <COMMAND>\n"
+    raise Told(2, f"lbk: {text}\n{usage if has_usage else ''}{MORE}{hint}")
+
+
+def options_of(task):
+    """The options with values of a subcommand, each with the name of its value."""
+    named = {"ucd": "FOLDER", **FILES, "profile": "NUMBER"}
+    return named if task == "replay" else {**named, **{name: it[0] for name, it in NUMBERS.items()}}
+
+
+def read(words):
+    """The order that the words are, or Told or Unsure."""
+    if not words:
+        return Order("", {}, [])
+    first, rest = words[0], words[1:]
+    if first in TASKS:
+        return read_task(first, rest)
+    if first in ("-h", "--help"):
+        help_of()
+    if first in ("-V", "--version"):
+        raise Told(0, stored_text("version"))
+    if first == "help":
+        look_at_help(rest[:-1] if rest and rest[-1] in ("-h", "--help") else rest)
+    if first.startswith("-"):
+        refuse_first_option(first)
+    hint = f"\nTo mark a file: lbk mark --ucd FOLDER {one_line(first)}\n" if "." in first or "/" in first else ""
+    refuse(f"unrecognized subcommand '{one_line(first)}'{tip('subcommand', first, [*TASKS, 'help'])}", hint=hint)
+
+
+def look_at_help(names):
+    if not names:
+        help_of()
+    if len(names) == 1 and names[0] in TASKS:
+        help_of(names[0])
+    if len(names) > 1 or names[0] == "help":
+        raise Unsure
+    refuse(f"unrecognized subcommand '{one_line(names[0])}'")
+
+
+def refuse_first_option(word):
+    """A word before any subcommand that looks like an option, and is none."""
+    is_long, name = word.startswith("--"), word[2:]
+    if is_long and (not name or "=" in name) or not is_long and len(word) != 2:
+        raise Unsure
+    alike = most_alike(name, ["help", "version"]) if is_long else None
+    said = f"unexpected argument '{one_line(word)}' found"
+    if alike:
+        raise Told(2, f"lbk: {said}\n\n  tip: a similar argument exists: '--{alike}'\n\nUsage: lbk --{alike} <COMMAND>\n{MORE}")
+    refuse(said, hint=DIGITS if word[1].isascii() and word[1].isdigit() else "")
+
+
+def read_task(task, words):
+    options, given, texts, rest = options_of(task), {}, [], list(words)
+    while rest:
+        word = rest.pop(0)
+        name, is_joined, value = word[2:].partition("=")
+        if word == "--":
+            texts += rest
+            break
+        if word == "-" or not word.startswith("-"):
+            texts.append(word)
+        elif word in ("-h", "--help"):
+            help_of(task)
+        elif word == "--kinds" and task == "replay":
+            add(given, task, name, "--kinds", "")
+        elif word.startswith("--") and name in options:
+            shown = f"--{name} <{options[name]}>"
+            if not is_joined:
+                if not rest or rest[0].startswith("-") and rest[0] != "-":
+                    take_no_value(task, shown, rest)
+                value = rest.pop(0)
+            add(given, task, name, shown, value)
+            look_at_number(name, shown, value)
+        else:
+            refuse_option(task, word, name, is_joined)
+    look_at_whole(task, given)
+    return Order(task, given, texts)
+
+
+def add(given, task, name, shown, value):
+    if name in given:
+        refuse(f"the argument '{shown}' cannot be used multiple times", task)
+    given[name] = value
+
+
+def take_no_value(task, shown, rest):
+    """An option stands last, or before a word that looks like another option."""
+    if not rest or rest[0].startswith("--"):
+        raise Told(2, f"lbk: a value is required for '{shown}' but none was supplied\n{MORE}")
+    refuse_option(task, rest[0], "", False)
+
+
+def refuse_option(task, word, name, is_joined):
+    if task == "replay" and name == "kinds":
+        refuse(f"unexpected value '{one_line(word.partition('=')[2])}' for '--kinds' found; no more were expected", task)
+    if is_joined or not word.startswith("--") and len(word) > 2:
+        raise Unsure
+    shown = one_line(word)
+    known = [*options_of(task), *(["kinds"] if task == "replay" else []), "help"]
+    alike = most_alike(name, known) if word.startswith("--") else None
+    if alike:
+        refuse(f"unexpected argument '{shown}' found\n\n  tip: a similar argument exists: '--{alike}'", task)
+    hint = DIGITS if word[1:2].isascii() and word[1:2].isdigit() else ""
+    refuse(f"unexpected argument '{shown}' found\n\n  tip: to pass '{shown}' as a value, use '-- {shown}'", task, hint=hint)
+
+
+def look_at_number(name, shown, value):
+    if name not in NUMBERS and name != "profile":
+        return
+    _, least, most = NUMBERS.get(name, ("", 1, 2))
+    digits = value[1:] if value.startswith("+") else value
+    if not value:
+        why = "cannot parse integer from empty string"
+    elif not (digits.isascii() and digits.isdigit()):
+        why = "invalid digit found in string"
+    elif int(digits) >= 2**64:
+        why = "number too large to fit in target type"
+    elif not least <= int(digits) <= most:
+        why = f"{int(digits)} is not in {least}..={most}"
+    else:
+        return
+    refuse(f"invalid value '{one_line(value)}' for '{shown}': {why}", has_usage=False, hint=DIGITS)
+
+
+def look_at_whole(task, given):
+    if not given.get("ucd") and not all(it in given for it in FILES):
+        refuse(UNNAMED, task)
+    if int(given.get("from", 0)) > int(given.get("to", 2**32 - 1)):
+        refuse("--from <BYTE> is greater than --to <BYTE>", task)
+
+
+def most_alike(word, others):
+    """The one of these that the program names beside a word that is none of them, or None."""
+    found = [it for it in others if jaro(word, it) > 0.7]
+    return max(found, key=lambda it: jaro(word, it)) if found else None
+
+
+def tip(what, word, others):
+    """What the program says of those that are like a word."""
+    found = [it for it in others if jaro(word, it) > 0.7]
+    if len(found) > 1:
+        raise Unsure
+    return f"\n\n  tip: a similar {what} exists: '{found[0]}'" if found else ""
+
+
+def jaro(one, other):
+    """How alike two words are, 0 to 1, by the measure of Jaro."""
+    if not one or not other:
+        return float(one == other)
+    reach = max(max(len(one), len(other)) // 2 - 1, 0)
+    taken, found = [False] * len(other), []
+    for i, it in enumerate(one):
+        for j in range(max(0, i - reach), min(len(other), i + reach + 1)):
+            if not taken[j] and other[j] == it:
+                taken[j] = True
+                found.append(it)
+                break
+    if not found:
+        return 0.0
+    same = [it for it, is_taken in zip(other, taken) if is_taken]
+    swapped = sum(a != b for a, b in zip(found, same)) / 2
+    count = len(found)
+    return (count / len(one) + count / len(other) + (count - swapped) / count) / 3
+
+
+def files_of(order):
+    """The four property files that an order names, each with the words that the program shows of it."""
+    folder = order.given.get("ucd", "")
+    return {it: order.given.get(it, f"{folder}/{inside}") for it, inside in OF_FOLDER.items()}
