@@ -183,10 +183,10 @@ def faults(runs, words):
     runs.ends("ill-formed bytes", show(*words, given=b"a\nb\xff"), 1, "^lbk: standard input: byte 3: ")
     (room / "two").write_bytes(b"ab cd")
     closed = ["bash", "-c", '"$@" < two >&-', "bash", runs.program, "show", *words]
-    runs.ends("a closed output", run_program(closed, cwd=room), 1, "^lbk: standard output ")
+    runs.ends("a closed output", run_program(closed, cwd=room), 1, "^lbk: standard output: ")
     if os.access("/dev/full", os.W_OK):
         full = ["bash", "-c", '"$@" < two > /dev/full', "bash", runs.program, "segment", *words]
-        runs.ends("a full output", run_program(full, cwd=room), 1, "^lbk: standard output ")
+        runs.ends("a full output", run_program(full, cwd=room), 1, "^lbk: standard output: ")
     else:
         runs.tally.leave_out("a full output: /dev/full")
 
