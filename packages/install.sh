@@ -27,6 +27,14 @@ absolute() {
     *) printf '%s\n' "$PWD/$1" ;;
     esac
 }
+case "$*" in
+*[\"\'\`\$\;\\]* | *"
+"*)
+    echo "install.sh: PREFIX or LIBDIR has a quotation mark, backslash, dollar sign, semicolon or line end, which pkg-config or" \
+        "CMake would misread; choose another folder" >&2
+    exit 2
+    ;;
+esac
 prefix=$(absolute "$1")
 libdir=$(absolute "${2:-$prefix/lib}")
 cd "$(dirname "$0")"
@@ -52,7 +60,9 @@ for shared in lib/liblbk.so.*; do
     ln -sf "$full" "$lib/$name"
     ln -sf "$name" "$lib/liblbk.so"
 done
-filled() { sed -e "s|@PREFIX@|$prefix|; s|@LIBDIR@|$libdir|" "$1"; }
+# `&` and `|` have a meaning in what sed puts in.
+quoted() { printf '%s\n' "$1" | sed 's/[&|]/\\&/g'; }
+filled() { sed -e "s|@PREFIX@|$(quoted "$prefix")|; s|@LIBDIR@|$(quoted "$libdir")|" "$1"; }
 filled lib/lbk.pc.in > "$lib/pkgconfig/lbk.pc"
 filled lib/lbk-config.cmake.in > "$lib/cmake/lbk/lbk-config.cmake"
 cp lib/lbk-config-version.cmake "$lib/cmake/lbk"
@@ -62,4 +72,7 @@ if [ -e bin/lbk ]; then
     install -m 755 bin/lbk "$to/bin"
     install -m 644 share/lbk.1 "$to/share/man/man1"
     install -m 644 share/lbk.bash "$to/share/bash-completion/completions/lbk"
+fi
+if [ -z "${DESTDIR:-}" ]; then
+    echo "install.sh: programs find liblbk.so.0 after \`ldconfig\`, if it knows $libdir, or with LD_LIBRARY_PATH='$libdir'"
 fi
