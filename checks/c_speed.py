@@ -17,7 +17,8 @@ SIZE = 500_000
 HELD = "held positions"
 
 # A text, a call, and the least ratio of its speed to the loop's. `-2` is the second profile, `-8` eight bytes a call, `-60` a
-# line of at most sixty. Without blocks of 64 bytes 0.2 to 0.4 was left of the pages and of letters of two bytes.
+# line of at most sixty, `lbk_cut` a call for each 4,096 bytes: over a text without a cut, where each call reads to the end, 0.006
+# was measured. Without blocks of 64 bytes 0.2 to 0.4 was left of the pages and of letters of two bytes.
 BOUNDS = [
     ("the pages", "lbk_breaks", 0.45),
     ("the pages", "lbk_breaks-2", 0.45),
@@ -28,6 +29,12 @@ BOUNDS = [
     ("the pages", "lbk_positions", 0.15),
     ("the pages", "lbk_marks", 0.45),
     ("the pages", "lbk_words", 0.02),
+    ("the pages", "lbk_cut", 3),
+    ("the pages", "lbk_cut_before", 3),
+    ("the pages", "lbk_breaks_utf16", 0.2),
+    ("the pages", "lbk_breaks_utf32", 0.2),
+    ("the pages", "lbk_positions_utf16", 0.14),
+    ("the pages", "lbk_positions_utf32", 0.14),
     ("letters of two bytes", "lbk_breaks", 0.35),
     ("letters of two bytes", "lbk_breaks-2", 0.35),
     ("letters of two bytes", "lbk_breaks-8", 0.06),
@@ -35,6 +42,12 @@ BOUNDS = [
     ("letters of two bytes", "lbk_feed", 0.35),
     ("letters of two bytes", "lbk_marks", 0.5),
     ("letters of two bytes", "lbk_words", 0.03),
+    ("letters of two bytes", "lbk_cut", 3),
+    ("letters of two bytes", "lbk_cut_before", 3),
+    ("letters of two bytes", "lbk_breaks_utf16", 0.35),
+    ("letters of two bytes", "lbk_breaks_utf32", 0.35),
+    ("letters of two bytes", "lbk_positions_utf16", 0.22),
+    ("letters of two bytes", "lbk_positions_utf32", 0.22),
     ("letters of three bytes", "lbk_breaks", 0.17),
     ("letters of three bytes", "lbk_breaks-2", 0.17),
     ("letters of three bytes", "lbk_breaks-8", 0.06),
@@ -42,6 +55,12 @@ BOUNDS = [
     ("letters of three bytes", "lbk_feed", 0.17),
     ("letters of three bytes", "lbk_marks", 0.12),
     ("letters of three bytes", "lbk_words", 0.03),
+    ("letters of three bytes", "lbk_cut", 2),
+    ("letters of three bytes", "lbk_cut_before", 2),
+    ("letters of three bytes", "lbk_breaks_utf16", 0.45),
+    ("letters of three bytes", "lbk_breaks_utf32", 0.45),
+    ("letters of three bytes", "lbk_positions_utf16", 0.3),
+    ("letters of three bytes", "lbk_positions_utf32", 0.3),
     # Without the loop of steps 0.033 was left, and of `lbk_feed` 0.029; with it 0.056 was the least, beside other load.
     (HELD, "lbk_breaks-2", 0.045),
     (HELD, "lbk_feed", 0.17),

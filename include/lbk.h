@@ -418,12 +418,12 @@ size_t lbk_words(lbk_word_state *state, const char *text, size_t size, lbk_word 
  * The table decides where lines end, so no part begins between CR and LF. Whatever it has, none begins within a scalar, or
  * within ill-formed bytes that are read as one U+FFFD. Of a table of property files, what is returned depends only on the bytes
  * from four before `at` to four after the cut: some bytes of a text that have these, or all that are there, are
- * cut where the text is. The call reads no others. Takes no memory from the heap. */
+ * cut where the text is. Its time does not grow with the text (measured). Takes no memory from the heap. */
 size_t lbk_cut(const lbk_table *table, const char *text, size_t size, size_t at);
 
 /* Returns the last such byte at or before `at`: no break after it depends on the bytes before it.
  * Returns the size for an `at` that is not below it. It depends only on the bytes from four before the
- * cut to four after `at`, and the call reads no others. Takes no memory from the heap. */
+ * cut to four after `at`. Its time does not grow with the text (measured). Takes no memory from the heap. */
 size_t lbk_cut_before(const lbk_table *table, const char *text, size_t size, size_t at);
 
 /* The name of a rule by its number; an empty name for a number that no rule has. */

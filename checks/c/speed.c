@@ -11,13 +11,16 @@
 
 #include <time.h>
 
-enum { ROOM = 256, RUNS = 40, SHORT = 8, LINE = 60, PIECE = 4096, MOST_LINES = 1 << 20 };
+enum { ROOM = 256, RUNS = 40, SHORT = 8, LINE = 60, PIECE = 4096, MOST_LINES = 1 << 20, MOST_UNITS = 1 << 20 };
 
 static lbk_table table;
 static lbk_break block[ROOM];
 static lbk_word words[ROOM];
 static size_t line_ends[MOST_LINES];
 static size_t lines;
+static uint16_t units_16[2 * MOST_UNITS];
+static uint32_t units_32[MOST_UNITS];
+static size_t size_16, size_32;
 static uint8_t small[256][4];
 static volatile uint64_t kept;
 
@@ -163,6 +166,64 @@ static uint64_t go_words(const char *text, size_t size)
     return sum;
 }
 
+/* A call for each PIECE bytes, which has to find a cut near by and to read no more. */
+static uint64_t go_cuts(const char *text, size_t size)
+{
+    uint64_t sum = 0;
+    for (size_t at = 0; at < size; at += PIECE)
+        sum += lbk_cut(&table, text, size, at);
+    return sum;
+}
+
+static uint64_t go_cuts_before(const char *text, size_t size)
+{
+    uint64_t sum = 0;
+    for (size_t at = 0; at < size; at += PIECE)
+        sum += lbk_cut_before(&table, text, size, at);
+    return sum;
+}
+
+/* The scalars of a well-formed text as units of 32 and of 16 bits, made before. */
+static void find_units(const bytes *text)
+{
+    const unsigned char *at = (const unsigned char *)text->at, *end = at + text->size;
+    size_32 = size_16 = 0;
+    while (at < end && size_32 < MOST_UNITS) {
+        unsigned more = *at < 0xC0 ? 0 : *at < 0xE0 ? 1 : *at < 0xF0 ? 2 : 3;
+        uint32_t scalar = more ? *at & (0x3Fu >> more) : *at;
+        at++;
+        for (; more && at < end; more--)
+            scalar = scalar << 6 | (*at++ & 0x3F);
+        units_32[size_32++] = scalar;
+        if (scalar > 0xFFFF) {
+            units_16[size_16++] = (uint16_t)(0xD7C0 + (scalar >> 10));
+            units_16[size_16++] = (uint16_t)(0xDC00 | (scalar & 0x3FF));
+        } else {
+            units_16[size_16++] = (uint16_t)scalar;
+        }
+    }
+}
+
+#define GO_UNITS(name, call, units, size_of)                                           \
+    static uint64_t name(const char *text, size_t size)                               \
+    {                                                                                 \
+        lbk_state state = {0};                                                        \
+        uint64_t sum = 0;                                                             \
+        size_t count;                                                                 \
+        (void)text;                                                                   \
+        (void)size;                                                                   \
+        do {                                                                          \
+            count = call(&table, &state, units, size_of, block, ROOM);                \
+            sum += count;                                                             \
+        } while (count == ROOM);                                                      \
+        return sum;                                                                   \
+    }
+
+GO_UNITS(go_breaks_16, lbk_breaks_utf16, units_16, size_16)
+GO_UNITS(go_breaks_32, lbk_breaks_utf32, units_32, size_32)
+GO_UNITS(go_positions_16, lbk_positions_utf16, units_16, size_16)
+GO_UNITS(go_positions_32, lbk_positions_utf32, units_32, size_32)
+
 static double seconds_of(uint64_t (*go)(const char *, size_t), const bytes *text)
 {
     double start = now();
@@ -191,7 +252,9 @@ int main(int count, char **word)
     } calls[] = {
         {"lbk_breaks", go_first},   {"lbk_breaks-2", go_second}, {"lbk_breaks-8", go_short}, {"lbk_breaks-60", go_lines},
         {"lbk_feed", go_feed},      {"lbk_feed-8", go_feed_short}, {"lbk_positions", go_positions}, {"lbk_marks", go_marks},
-        {"lbk_words", go_words},
+        {"lbk_words", go_words},    {"lbk_cut", go_cuts},        {"lbk_cut_before", go_cuts_before},
+        {"lbk_breaks_utf16", go_breaks_16}, {"lbk_breaks_utf32", go_breaks_32},
+        {"lbk_positions_utf16", go_positions_16}, {"lbk_positions_utf32", go_positions_32},
     };
     if (count < 6) {
         fprintf(stderr, "usage: speed LINE_BREAK EAST_ASIAN CATEGORY EMOJI TEXT..\n");
@@ -203,6 +266,7 @@ int main(int count, char **word)
     for (int k = 5; k < count; k++) {
         bytes text = load(word[k]);
         find_lines(&text);
+        find_units(&text);
         for (size_t call = 0; call < sizeof calls / sizeof *calls; call++)
             printf("%s %s %.4f\n", word[k], calls[call].name, ratio_of(calls[call].go, &text));
         free(text.at);
