@@ -8,3 +8,7 @@ pub mod EnoughRowsLemmas
 pub mod RowMachineLemmas
 pub mod HoldsLemmas
 pub mod NeighboursLemmas
+pub mod AlikeLemmas
+pub mod RowChecks
+pub mod RowLemmas
+pub mod ShownLemmas

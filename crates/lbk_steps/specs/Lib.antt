@@ -2,7 +2,6 @@
 pub mod Cells
 pub mod ClassLabels
 -- What only carries proofs.
-pub mod AheadFits
 pub mod CellOfTables
 pub mod CellPages
 pub mod EnoughRows
@@ -13,8 +12,7 @@ pub mod KindTable
 pub mod Kinds
 pub mod Neighbours
 pub mod Pages
-pub mod RowFits
 pub mod RowMachineFits
-pub mod RowStepperFits
+pub mod Rows
 pub mod StepperFits
 pub mod Steps

@@ -9,7 +9,7 @@ ghost use Rattle.lbk_uax14.specs.Classes.{hard};
 ghost use Rattle.lbk_steps.specs.EnoughRows.{AreDifferent, IsKnown, RowsSuffice};
 ghost use Rattle.lbk_uax14.specs.Facts.{facts};
 ghost use Rattle.lbk_uax14.specs.Sides.{Side, leaves_closed};
-ghost use Rattle.lbk_steps.specs.Steps.{AreSteps, Extends, IsStart, left_at, steps_in};
+ghost use Rattle.lbk_steps.specs.Steps.{AreSteps, Extends, IsStart, left_at};
 ghost use Rattle.lbk_uax14.specs.Units.{units_after};
 
 use crate::flat_table::STEPS;
@@ -55,10 +55,6 @@ const NO_STEP: Step = Step {
 };
 
 impl StepRows {
-    ghost use Rattle.lbk_uax14.specs.declared.cells.Cell.{Cell};
-    ghost use Rattle.lbk_steps.specs.RowFits.{IsRowOf, RowFits};
-    ghost use Rattle.std.specs.Prelude.{reverse};
-
     /// The rows that the rules need. None comes where there are more than a place can name, an error where memory was
     /// refused.
     pub(crate) fn build(alloc: Global) -> Result<Option<StepRows>, AllocError>
@@ -95,26 +91,6 @@ impl StepRows {
             first,
             second,
         }))
-    }
-
-    /// The steps of a profile.
-    pub(crate) fn steps(&self, profile: Profile) -> &[Step]
-        ensures { result.now ≡ steps_in profile self.now.first.items self.now.second.items }
-    {
-        match profile {
-            Profile::First => &self.first,
-            Profile::Second => &self.second,
-        }
-    }
-
-    /// What the row knows of the cells.
-    #[inline]
-    #[tactic(auto, unfolding(crate::specs::RowFits::RowFits))]
-    pub(crate) fn left(&self, row: usize) -> Left
-        requires { IsRowOf self.now row }
-        ensures { (cells : List Cell) → RowFits self.now row cells → facts (reverse cells) ≡ result }
-    {
-        self.lefts[row / KINDS]
     }
 }
 
