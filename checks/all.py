@@ -19,6 +19,7 @@ NAMES = [
     "man-page",
     "completion",
     "word-tables",
+    "row-steps",
     "refused-allocations",
     "failing-streams",
     "files-and-pipes",

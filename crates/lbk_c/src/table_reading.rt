@@ -8,7 +8,7 @@ ghost use Rattle.lbk_rules.specs.FlatTable.{IsFlatOf, IsWhole};
 ghost use Rattle.lbk_database.specs.Digests.{ArePublished};
 ghost use Rattle.lbk_c.specs.Faults.{IsFaultOf, IsFaultOfPublished, files_of, no_fault};
 
-use crate::faults::{NO_FAULT, given_fault, unmade_fault, unpublished_fault};
+use crate::faults::{NO_FAULT, UNMADE_FAULT, given_fault, unpublished_fault};
 use crate::interface::Fault;
 use lbk_database::first_unpublished;
 use lbk_rules::FlatTable;
@@ -18,8 +18,8 @@ use std::alloc::Global;
 /// Fills the table by the four property files LineBreak.txt, EastAsianWidth.txt, DerivedGeneralCategory.txt and
 /// emoji-data.txt (UAX #44, section 4.2), and returns zeros; or the first fault of the first file that has one.
 ///
-/// Cause 8 comes where an allocation was refused: at a line of a file, or at none while the table was made. Cause 9
-/// comes only where the rules need more rows than a table has room for. After a fault the table is as it was.
+/// Cause 8 comes where an allocation was refused: at a line of a file, or at none while the table was made. After a fault
+/// the table is as it was.
 #[unsafe(no_mangle)]
 pub extern "C" fn lbk_read(
     alloc: Global,
@@ -49,7 +49,7 @@ pub extern "C" fn lbk_read(
     };
     match table.fill(alloc, &tables) {
         Ok(()) => NO_FAULT,
-        Err(error) => unmade_fault(error),
+        Err(_) => UNMADE_FAULT,
     }
 }
 

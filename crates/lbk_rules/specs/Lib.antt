@@ -26,7 +26,6 @@ pub use Rattle.lbk_uax14.specs.Fits
 pub use Rattle.lbk_uax14.specs.LateFits
 pub use Rattle.lbk_steps.specs.CellOfTables
 pub use Rattle.lbk_steps.specs.CellPages
-pub use Rattle.lbk_steps.specs.EnoughRows
 pub use Rattle.lbk_steps.specs.FirstBytes
 pub use Rattle.lbk_steps.specs.FlatStep
 pub use Rattle.lbk_steps.specs.FlatTable

@@ -13,7 +13,7 @@ use Rattle.lbk_uax14.specs.Classes.{hard, mark, none_of, closes_before}
 use Rattle.lbk_uax14.specs.Facts.{closes_in}
 use Rattle.lbk_uax14.specs.Normal.{normal, normals}
 use Rattle.lbk_uax14.specs.Verdict.{verdict_between_in, verdict_in}
-use Rattle.lbk_uax14.specs.Sides.{Side, leaves_closed}
+use Rattle.lbk_uax14.specs.Sides.{leaves_closed}
 use Rattle.lbk_uax14.specs.Units.{letter, unit, units_after}
 use Rattle.lbk_uax14.proofs.ChainLemmas.{verdict_between-chain}
 use Rattle.lbk_uax14.proofs.MachineLemmas.{verdict_in-append}

@@ -4,13 +4,12 @@ use Rattle.std.proofs.lemmas.Bool.{true≢false}
 use Rattle.lbk_uax14.specs.declared.cells.Cell.{Cell}
 use Rattle.lbk_uax14.specs.declared.classes.Class.{Class}
 use Rattle.lbk_uax14.specs.declared.facts.Before.{Before}
-use Rattle.lbk_uax14.specs.declared.facts.Left.{Left}
 use Rattle.lbk_uax14.specs.declared.verdicts.Verdict.{Verdict}
 use Rattle.lbk_values.specs.declared.profile.Profile.{Profile}
 use Rattle.lbk_values.specs.declared.profile.Profile.TheVariants.{First, Second}
 use Rattle.lbk_uax14.specs.Asked.{asked_before_spaces, asked_of_cell, asked_of_unit}
 use Rattle.lbk_uax14.specs.Chain.{choose, from_11, from_14, from_15, from_16, from_19, from_23, from_25, from_26, from_28, from_cells}
-use Rattle.lbk_uax14.specs.Classes.{◌or◌, B2, BA, CL, CP, HL, HY, OP, QU, RI, SP, ZW, hard, mark, none_of, opens_after}
+use Rattle.lbk_uax14.specs.Classes.{◌or◌, BA, HL, HY, RI, SP, ZW, hard, mark, none_of, opens_after}
 use Rattle.lbk_uax14.specs.Facts.{Sees, class_cell, facts, facts_of_units, units_before}
 use Rattle.lbk_uax14.specs.Rules.{cell_rules, joining_rules, opening_rules, quotation_rules, space_rules, hyphen_rules, affix_rules, number_rules, syllable_rules, letter_rules}
 use Rattle.lbk_uax14.specs.Sides.{Side, before_spaces, opening, past_spaces}

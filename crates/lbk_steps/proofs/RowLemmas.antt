@@ -1,14 +1,12 @@
 -- The tables have the steps of all rows, and each list of cells has a row.
-use Rattle.std.proofs.Common.{◌≡◌, ℕ, ◌+◌, ◌-◌, ◌*◌, ◌/◌, ◌%◌, ◌<◌, ◌≤◌, Bool, true, ◌&&◌, ◌==◌, nat_lt, zero, suc, List, [], ◌∷◌, map, inl, inr, refl, sym, ap, subst, ◌∙◌, arith, eqb-true, ltb-true, lit<, not-suc-le-zero}
+use Rattle.std.proofs.Common.{◌≡◌, ℕ, ◌+◌, ◌-◌, ◌*◌, ◌/◌, ◌%◌, ◌<◌, ◌≤◌, Bool, true, zero, suc, List, [], ◌∷◌, map, inl, inr, refl, sym, ap, subst, ◌∙◌, arith, eqb-true, ltb-true, lit<, not-suc-le-zero}
 use Rattle.std.proofs.lemmas.Bool.{and_parts, cases_lt}
-use Rattle.lbk_uax14.specs.contracts.facts.LeftPartialEq.TheImpl.{eq-value as left_eq}
 use Rattle.lbk_uax14.specs.declared.cells.Cell.{Cell}
 use Rattle.lbk_values.specs.declared.profile.Profile.{Profile}
 use Rattle.lbk_values.specs.declared.profile.Profile.TheVariants.{First, Second}
 use Rattle.lbk_uax14.specs.Chain.{from_cells}
 use Rattle.lbk_uax14.specs.Facts.{facts}
 use Rattle.lbk_uax14.specs.Normal.{normal}
-use Rattle.lbk_uax14.specs.Sides.{Side}
 use Rattle.lbk_steps.specs.declared.steps.Step.{Step}
 use Rattle.lbk_steps.specs.Kinds.{kind_cell, kind_of}
 use Rattle.lbk_steps.specs.Rows.{IsPlace, IsStepFrom, left_at, row_left, sample, shown_of, step_of}
@@ -75,12 +73,12 @@ shows : (profile : Profile) (row kind : ℕ) → row < 114 → kind < 84
 shows First row kind few is_kind = eqb-true _ _ (each_below-at (shows_right First row) 84 kind (is-right row few).first is_kind)
 shows Second row kind few is_kind = eqb-true _ _ (each_below-at (shows_right Second row) 84 kind (is-right row few).second is_kind)
 
-next-same : (profile : Profile) (row kind : ℕ) → row < 114 → kind < 84 → (step_of profile row kind).next ≡ (step_of First row kind).next
+pub next-same : (profile : Profile) (row kind : ℕ) → row < 114 → kind < 84 → (step_of profile row kind).next ≡ (step_of First row kind).next
 next-same First row kind few is_kind = refl
 next-same Second row kind few is_kind = eqb-true _ _ (each_below-at (same_next row) 84 kind (is-right row few).same is_kind)
 
 -- the step by a kind, for these cells and for all that are like them
-step-of : (profile : Profile) (place kind : ℕ) → place / 128 < 114 → kind < 84 → IsStepFrom profile place kind (step_of profile (place / 128) kind)
+pub step-of : (profile : Profile) (place kind : ℕ) → place / 128 < 114 → kind < 84 → IsStepFrom profile place kind (step_of profile (place / 128) kind)
 unfolding left_at row_left
 step-of profile place kind few is_kind =
     let row = place / 128 in

@@ -4,7 +4,6 @@ pub mod ClassLabels
 -- What only carries proofs.
 pub mod CellOfTables
 pub mod CellPages
-pub mod EnoughRows
 pub mod FirstBytes
 pub mod FlatStep
 pub mod FlatTable

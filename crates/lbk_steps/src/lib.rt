@@ -17,7 +17,6 @@ mod row_machine;
 mod row_steps;
 mod runs;
 mod source;
-mod step_rows;
 mod stepper;
 mod steps;
 
@@ -28,7 +27,7 @@ pub use source::CellSource;
 pub use stepper::Stepper;
 
 // What `lbk_breaks` and `lbk_c` step by.
-pub use flat_table::{FlatStep, FlatTable, HELD, LAYOUT, STEPS, TableError};
+pub use flat_table::{FlatStep, FlatTable, HELD, LAYOUT, STEPS};
 pub use neighbours::Neighbours;
 pub use row_machine::RowMachine;
-pub use steps::{Rows, Step, WIDTH, is_held, rows_of, step_from, verdict_of};
+pub use steps::{Rows, Step, WIDTH, each_side_has_a_row, is_held, rows_of, step_from, verdict_of};

@@ -1,10 +1,11 @@
 //! Steps: what happens at a cell of some kind after some cells, in either profile.
 
-ghost use Rattle.std.specs.Prelude.{◌≡◌, ◌%◌};
+ghost use Rattle.std.specs.Prelude.{◌≡◌, ◌%◌, ℕ, map};
 ghost use Rattle.lbk_uax14.specs.declared.verdicts.Verdict.{Verdict};
 ghost use Rattle.lbk_uax14.specs.Codes.{kind_numbered, rule_numbered};
 ghost use Rattle.lbk_uax14.specs.Facts.{facts};
 ghost use Rattle.lbk_uax14.specs.Held.{is_15b};
+ghost use Rattle.lbk_uax14.specs.Normal.{normal};
 ghost use Rattle.lbk_uax14.specs.Sides.{Side};
 ghost use Rattle.lbk_steps.specs.declared.kinds.TheConstants.{KINDS};
 ghost use Rattle.lbk_steps.specs.declared.steps.TheConstants.{WIDTH};
@@ -81,6 +82,11 @@ fn with_kind(left: Left, kind: u8) -> Left
         left
     }
 }
+
+/// Whatever the cells on the left are, some row knows what the rules ask of them: no text needs a row more.
+pub fn each_side_has_a_row()
+    ensures { (side : Side) → (place : ℕ) × IsPlace place × (facts (map normal side) ≡ left_at place) }
+{}
 
 /// The verdict of a number.
 #[inline(always)]

@@ -1,6 +1,6 @@
-use Rattle.std.proofs.Common.{◌≡◌, ℕ, ◌<◌, ◌/◌, ◌%◌, List, [], slice_index_or, sym, ap, subst, ◌∙◌, arith}
+use Rattle.std.proofs.Common.{◌≡◌, ℕ, ◌/◌, ◌%◌, List, [], slice_index_or, sym, ap, subst, ◌∙◌, arith}
 use Rattle.lbk_steps.specs.declared.steps.Step.{Step}
-use Rattle.lbk_steps.specs.Rows.{IsStepFrom, no_step, step_of, steps_in}
+use Rattle.lbk_steps.specs.Rows.{IsStepFrom, no_step, step_of}
 use Rattle.lbk_steps.proofs.RowLemmas.{step-by}
 use Rattle.lbk_steps.proofs.steps.step_from.Goals as goal
 

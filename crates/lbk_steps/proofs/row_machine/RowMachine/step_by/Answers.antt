@@ -1,4 +1,4 @@
-use Rattle.std.proofs.Common.{◌≡◌, ◌∷◌, [], ◌%◌, map, reverse, refl, sym, ap, ◌∙◌}
+use Rattle.std.proofs.Common.{◌∷◌, [], ◌%◌, reverse, refl, sym, ap, ◌∙◌}
 use Rattle.lbk_uax14.specs.Chain.{from_cells}
 use Rattle.lbk_uax14.specs.Facts.{facts}
 use Rattle.lbk_uax14.specs.Normal.{normal, normals}
