@@ -2,9 +2,9 @@
 
 ghost use Rattle.std.specs.Prelude.{◌≡◌, ◌<◌, ℕ};
 ghost use Rattle.lbk_ucd.specs.Files.{AreLawful};
-ghost use Rattle.lbk_rules.specs.Cells.{AreCellsOf};
+ghost use Rattle.lbk_rules.specs.Cells.{AreCellsOf, cell_of_files};
 ghost use Rattle.lbk_rules.specs.declared.Cell.{Cell};
-ghost use Rattle.lbk_rules.specs.FlatTable.{IsFlatOf, IsWhole};
+ghost use Rattle.lbk_rules.specs.FlatTable.{AreKindsAlone, AreStepsAlone, IsFlatOf, IsWhole};
 ghost use Rattle.lbk_database.specs.Digests.{ArePublished};
 ghost use Rattle.lbk_c.specs.Faults.{IsFaultOf, IsFaultOfPublished, files_of, no_fault};
 
@@ -33,6 +33,8 @@ pub extern "C" fn lbk_read(
     ensures table { result.cause ≡ 0 → (cell : ℕ → Cell) → AreCellsOf (files_of line_break.entry east_asian.entry category.entry emoji.entry) cell
         → IsFlatOf table.new cell }
     ensures whole { result.cause ≡ 0 → IsWhole table.new }
+    ensures steps { result.cause ≡ 0 → AreStepsAlone table.new }
+    ensures kinds { result.cause ≡ 0 → AreKindsAlone table.new (cell_of_files (files_of line_break.entry east_asian.entry category.entry emoji.entry)) }
     ensures none { result.cause ≡ 0 → result ≡ no_fault }
     ensures refused { 0 < result.cause → IsFaultOf (files_of line_break.entry east_asian.entry category.entry emoji.entry) result }
     ensures untouched { 0 < result.cause → table.new ≡ table.old }
@@ -70,6 +72,8 @@ pub extern "C" fn lbk_read_published(
     ensures table { result.cause ≡ 0 → (cell : ℕ → Cell) → AreCellsOf (files_of line_break.entry east_asian.entry category.entry emoji.entry) cell
         → IsFlatOf table.new cell }
     ensures whole { result.cause ≡ 0 → IsWhole table.new }
+    ensures steps { result.cause ≡ 0 → AreStepsAlone table.new }
+    ensures kinds { result.cause ≡ 0 → AreKindsAlone table.new (cell_of_files (files_of line_break.entry east_asian.entry category.entry emoji.entry)) }
     ensures none { result.cause ≡ 0 → result ≡ no_fault }
     ensures refused { 0 < result.cause → IsFaultOfPublished (files_of line_break.entry east_asian.entry category.entry emoji.entry) result }
     ensures untouched { 0 < result.cause → table.new ≡ table.old }

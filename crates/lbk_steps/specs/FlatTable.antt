@@ -19,11 +19,11 @@ use Rattle.lbk_uax14.specs.Codes.{verdict_coded}
 use Rattle.lbk_uax14.specs.Facts.{facts}
 use Rattle.lbk_uax14.specs.Held.{is_15b}
 pub use Rattle.lbk_steps.specs.FlatStep.{digest_with, no_flat_step}
-use Rattle.lbk_steps.specs.Kinds.{kind_cell}
+use Rattle.lbk_steps.specs.Kinds.{kind_cell, kind_of}
 use Rattle.lbk_steps.specs.Neighbours.{AreTold, digest_of_neighbours}
 use Rattle.lbk_uax14.specs.Normal.{normal, normals}
 use Rattle.lbk_uax14.specs.Sides.{Side, leaves_closed}
-use Rattle.lbk_steps.specs.Rows.{cells_of, no_step, shown_of}
+use Rattle.lbk_steps.specs.Rows.{cells_of, no_step, shown_of, steps_in}
 use Rattle.lbk_steps.specs.Steps.{IsStart, left_at}
 use Rattle.lbk_uax14.specs.Units.{units_after}
 
@@ -81,6 +81,14 @@ AreFlatSteps lefts first second =
 abbrev pub AreFlatKinds : List ℕ → (ℕ → Cell) → Type 0
 AreFlatKinds kinds cell = (code : ℕ) → IsScalar code
     → (slice_index kinds code < KINDS) × (kind_cell (slice_index kinds code) ≡ normal (cell code))
+
+-- each number of the steps is that of the rules, and none stands behind the last row
+abbrev pub AreStepsAlone : FlatTable → Type 0
+AreStepsAlone table = AreNumbered (steps_in First) table.first × AreNumbered (steps_in Second) table.second
+
+-- each kind is that of the cell of its code, also where the code is no scalar value
+abbrev pub AreKindsAlone : FlatTable → (ℕ → Cell) → Type 0
+AreKindsAlone table cell = (code : ℕ) → code < 0x11_0000 → slice_index table.kinds code ≡ kind_of (cell code)
 
 -- the table is over these cells, and its rows know this; the first knows of no cell
 pub record IsFlatBy (lefts : List Left) (table : FlatTable) (cell : ℕ → Cell) : Type 0 where

@@ -2,8 +2,7 @@
 
 ghost use Rattle.std.specs.Prelude.{◌≡◌, ◌+◌, ◌*◌, ◌/◌, ◌%◌, ◌^◌, ◌<◌, ◌≤◌, ℕ, ◌↔◌, IsTrue, IfOk, OnErr, fold, length, slice_index};
 ghost use Rattle.lbk_uax14.specs.declared.cells.Cell.{Cell};
-ghost use Rattle.lbk_steps.specs.declared.row_steps.TheConstants.{FIRST_STEPS, SECOND_STEPS};
-ghost use Rattle.lbk_steps.specs.FlatTable.{AreFlatKinds, AreNumbered, IsFlatOf, IsNumbered, IsNumberedAt, IsWhole, digest_of, digest_with, digest_with_step};
+ghost use Rattle.lbk_steps.specs.FlatTable.{AreFlatKinds, AreKindsAlone, AreNumbered, AreStepsAlone, IsFlatOf, IsNumbered, IsNumberedAt, IsWhole, digest_of, digest_with, digest_with_step};
 ghost use Rattle.lbk_uax14.specs.Normal.{normal};
 ghost use Rattle.lbk_steps.specs.CellOfTables.{cell_of_tables};
 
@@ -75,7 +74,8 @@ impl FlatTable {
     pub fn fill(&mut self, alloc: Global, tables: &Tables) -> Result<(), AllocError>
         ensures table { IfOk result (λ _. IsFlatOf self.new (cell_of_tables tables.now)) }
         ensures whole { IfOk result (λ _. IsWhole self.new) }
-        ensures steps { IfOk result (λ _. AreNumbered FIRST_STEPS self.new.first × AreNumbered SECOND_STEPS self.new.second) }
+        ensures steps { IfOk result (λ _. AreStepsAlone self.new) }
+        ensures kinds { IfOk result (λ _. AreKindsAlone self.new (cell_of_tables tables.now)) }
         ensures untouched { OnErr result (self.new ≡ self.old) }
     {
         self.fill_over(alloc, tables)
@@ -85,7 +85,8 @@ impl FlatTable {
     fn fill_over<C: CellRuns>(&mut self, alloc: Global, source: &C) -> Result<(), AllocError>
         ensures table { IfOk result (λ _. IsFlatOf self.new (C.cell_at source.now)) }
         ensures whole { IfOk result (λ _. IsWhole self.new) }
-        ensures steps { IfOk result (λ _. AreNumbered FIRST_STEPS self.new.first × AreNumbered SECOND_STEPS self.new.second) }
+        ensures steps { IfOk result (λ _. AreStepsAlone self.new) }
+        ensures kinds { IfOk result (λ _. AreKindsAlone self.new (C.cell_at source.now)) }
         ensures untouched { OnErr result (self.new ≡ self.old) }
     {
         let kinds = KindTable::build(alloc, source)?;

@@ -1,7 +1,6 @@
 //! The kinds of all scalar values, for a look-up of one read.
 
 ghost use Rattle.std.specs.Prelude.{◌≡◌, ℕ, ◌<◌, length, slice_index, IfOk};
-ghost use Rattle.std.specs.Char.{IsScalar};
 ghost use Rattle.lbk_steps.specs.Kinds.{kind_of};
 
 use crate::flat_table::CODES;
@@ -21,10 +20,10 @@ pub(crate) struct KindTable {
 impl KindTable {
     ghost use Rattle.lbk_steps.specs.KindTable.{kind_at};
 
-    /// The kinds of the cells that the source gives the scalar values. An error comes only where
+    /// The kinds of the cells that the source gives the codes. An error comes only where
     /// memory was refused.
     pub(crate) fn build<C: CellRuns>(alloc: Global, source: &C) -> Result<KindTable, AllocError>
-        ensures { IfOk result (λ table. (code : ℕ) → IsScalar code
+        ensures { IfOk result (λ table. (code : ℕ) → code < 0x11_0000
             → kind_at table code ≡ kind_of (C.cell_at source.now code)) }
     {
         let mut kinds = Vec::with_capacity(alloc, CODES)?;

@@ -4,7 +4,7 @@ use Rattle.lbk_steps.specs.CellPages.{page_cell}
 use Rattle.lbk_uax14.specs.Ends.{ends_line}
 use Rattle.lbk_steps.specs.Pages.{cell_in}
 use Rattle.lbk_steps.specs.Kinds.{kind_of}
-use Rattle.lbk_steps.proofs.PagesLemmas.{cell_in-filled, filled_more, next_page-same}
+use Rattle.lbk_steps.proofs.PagesLemmas.{cell_in-filled, filled_more, next_page-same, scalar_below}
 use Rattle.lbk_steps.proofs.pages.CellPages.build_over.Goals as goal
 use Rattle.lbk_steps.proofs.pages.CellPages.build_over.Goals.{then-run-first+then-first-run+in_ok-push, else-run-first+in_ok-number_of+in_ok-push-2}
 
@@ -50,7 +50,7 @@ invariant_of-result-clause-same g c = λ code scalar.
     let filled : cell_in c.loop-k.numbers.items c.into_pages.result.items code ≡ cell_of code =
     rw c.into_pages.ensures.kept
     (cell_in-filled cell_of c.loop-k.numbers.items c.loop-k.kept.pages.items c.loop-k.k (omega arith) c.loop-k.invariant.filled code scalar) in
-    c.in_ok-kinds.ensures code scalar ∙ ap kind_of (sym filled)
+    c.in_ok-kinds.ensures code (let below = scalar_below code scalar in omega arith) ∙ ap kind_of (sym filled)
 
 pub invariant_of-result-clause-quiet : goal.invariant_of-result-clause-quiet
 invariant_of-result-clause-quiet g c = λ code scalar on.
