@@ -19,6 +19,7 @@ NAMES = [
     "man-page",
     "completion",
     "word-tables",
+    "row-steps",
     "header",
     "refused-allocations",
     "failing-streams",

@@ -6,9 +6,9 @@ import shutil
 import tempfile
 from pathlib import Path
 
-from checks.harness import built_crate, built_program
+from checks.harness import built_program
 from checks.program import run as run_program
-from checks.unicode_files import MISSING, NAMES, layers_input, options, published
+from checks.unicode_files import MISSING, NAMES, options, published
 
 ALL_OF_THE_TEST = b"T 7654 7620 34 0"
 
@@ -49,12 +49,6 @@ def without_files(runs):
     runs.ends("no files", runs.run(b"ab cd", "show"), 2, "the property files are not named")
     usage = runs.run(b"ab cd", "show").err
     runs.tally.equal("no files: the folder of Debian's package is named", b"--ucd /usr/share/unicode\n" in usage, True)
-
-
-def steps(runs, files):
-    """The program that measures refuses cells without a table of steps."""
-    ended = run_program([built_crate("trials_bench"), "layers", "two"], layers_input(files, b"ab cd"))
-    runs.ends("the published files have a table of steps", ended, 0)
 
 
 def replay(runs, folder, words):
@@ -201,7 +195,6 @@ def run(tally, _arguments):
             return
         files = [folder / it for it in NAMES]
         words = options(files)
-        steps(runs, files)
         replay(runs, folder, words)
         large_text(runs, folder, words)
         folders(runs, folder)

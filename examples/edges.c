@@ -67,6 +67,16 @@ static void try_nothing(void)
     told("an empty text that is not null", lbk_breaks(&table, &state, "", 0, block, 1) == 0);
 }
 
+/* A table is made of its files alone: nothing in it is left of what its memory held. */
+static void try_memory(void)
+{
+    static lbk_table used, clear;
+    memset(&used, 0xA5, sizeof used);
+    int both = read_lines(&used, LINE_BREAKS, CATEGORIES).cause == LBK_CAUSE_NONE
+               && read_lines(&clear, LINE_BREAKS, CATEGORIES).cause == LBK_CAUSE_NONE;
+    told("no byte of a table is one that its memory held", both && memcmp(&used, &clear, sizeof used) == 0);
+}
+
 static void try_rooms(void)
 {
     const char text[] = "a b (a) \xE4\xB8\x80\n\"b\" a";
@@ -360,7 +370,7 @@ static void try_texts(void)
     for (uint32_t k = 0; k < 5; k++)
         told("the name of a file", is_text(lbk_file_name(k), names[k]));
     for (uint32_t k = 0; k <= LBK_CAUSE_NOT_PUBLISHED; k++)
-        told("a cause has a text", lbk_cause_text(k).text[0] != 0 && lbk_cause_text(k).text[95] == 0);
+        told("a cause has a text", (lbk_cause_text(k).text[0] == 0) == (k == 9) && lbk_cause_text(k).text[95] == 0);
     told("a cause's text", is_text(lbk_cause_text(LBK_CAUSE_OUT_OF_MEMORY), "out of memory"));
     for (uint32_t k = 1; k != 0; k <<= 1) {
         told("a number of no file", k < 5 || is_text(lbk_file_name(k), ""));
@@ -373,6 +383,7 @@ int main(void)
 {
     told("the small files are read", read_lines(&table, LINE_BREAKS, CATEGORIES).cause == LBK_CAUSE_NONE);
     try_nothing();
+    try_memory();
     try_rooms();
     try_states();
     try_profiles();

@@ -141,8 +141,7 @@ enum {
     LBK_CAUSE_OVERLAP = 6,       /* the row shares a code with an earlier row of the file */
     LBK_CAUSE_TOO_MANY_ROWS = 7, /* the line would be the 65,537th row or default of the file */
     LBK_CAUSE_OUT_OF_MEMORY = 8, /* out of memory, at this line, or when all files were read (file and line are 0) */
-    LBK_CAUSE_TABLE_TOO_LARGE = 9, /* the rules need more steps than a table has; those of this version do not, whatever the files
-                                      (tested and not proved). File and line are 0 */
+    /* 9 is unused: it stood for a table with too little room for the steps of the rules, and none is */
     LBK_CAUSE_NOT_PUBLISHED = 10 /* only of lbk_read_published: the file is not the one that Unicode 15.0.0 published; line is 0 */
 };
 

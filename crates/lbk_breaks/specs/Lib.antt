@@ -1,3 +1,2 @@
 -- What only carries proofs.
-pub mod Fits
 pub mod Onward

@@ -5,8 +5,8 @@ ghost use Rattle.std.specs.Iterator.{YieldsFirst, item_count};
 ghost use Rattle.std.specs.Str.{chars};
 ghost use Rattle.lbk_rules.specs.Breaks.{breaks};
 
-use crate::walk::Walk;
-use lbk_rules::{Break, CellSource, Kind, Profile, Rule};
+use crate::walk::fill;
+use lbk_rules::{Break, CellSource, Kind, Profile, RowMachine, Rule};
 use std::marker::Model;
 
 /// The breaks of a text: its positions after the first where a line may or must end (UAX #14, section 3), the last
@@ -27,7 +27,7 @@ pub struct Breaks<'a, C: CellSource> {
     text: &'a str,
     /// How many bytes of the text were taken.
     taken: usize,
-    walk: Walk<'a, C>,
+    machine: RowMachine<'a, C>,
     /// How many were given.
     given: usize,
     /// Whether the end was given.
@@ -39,7 +39,7 @@ impl<'a, C: CellSource> Model for Breaks<'a, C> {
     ghost use Rattle.std.specs.Prelude.{List, drop};
     ghost use Rattle.std.specs.Str.{chars};
     ghost use Rattle.lbk_rules.specs.declared.Break.{Break};
-    ghost use Rattle.lbk_breaks.specs.Fits.{WalkFits};
+    ghost use Rattle.lbk_rules.specs.RowMachineFits.{RowMachineFits};
     ghost use Rattle.lbk_rules.specs.Breaks.{breaks};
     ghost use Rattle.lbk_breaks.specs.Onward.{IsKept};
 
@@ -47,7 +47,7 @@ impl<'a, C: CellSource> Model for Breaks<'a, C> {
 
     ghost view = { λ b. drop b.given (breaks b.profile (C.cell_of b.cells.now) (chars b.text.now)) };
 
-    ghost invariant = { λ b. IsKept (WalkFits C.cell_of b.walk) b.profile (C.cell_of b.cells.now) b.text.now b.taken b.given b.ended };
+    ghost invariant = { λ b. IsKept (RowMachineFits C.cell_of b.machine) b.profile (C.cell_of b.cells.now) b.text.now b.taken b.given b.ended };
 }
 
 impl<'a, C: CellSource> Breaks<'a, C> {
@@ -61,7 +61,7 @@ impl<'a, C: CellSource> Breaks<'a, C> {
             profile,
             text,
             taken: 0,
-            walk: Walk::start(cells, profile),
+            machine: RowMachine::start(cells, profile),
             given: 0,
             ended: false,
         }
@@ -77,7 +77,7 @@ impl<'a, C: CellSource> Breaks<'a, C> {
         if self.ended {
             return 0;
         }
-        let filling = self.walk.fill(self.text, self.taken, block);
+        let filling = fill(&mut self.machine, self.text, self.taken, block);
         self.taken = filling.at;
         self.ended = filling.ended;
         self.given += filling.count;

@@ -5,8 +5,6 @@
 #![tactic(auto)]
 
 mod breaks;
-mod by_rules;
-mod by_steps;
 mod filling;
 mod walk;
 

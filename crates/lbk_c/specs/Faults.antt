@@ -9,9 +9,6 @@ use Rattle.lbk_ucd.specs.declared.which.Which.{Which}
 use Rattle.lbk_ucd.specs.declared.which.Which.TheVariants.{LineBreak, EastAsianWidth, Category, Emoji}
 use Rattle.lbk_ucd.specs.Files.{AreLawful, IsRefused}
 use Rattle.lbk_database.specs.Digests.{ArePublished, IsFirstUnpublished}
-use Rattle.lbk_rules.specs.declared.TableError.{TableError}
-use Rattle.lbk_rules.specs.declared.TableError.TheVariants as refused
-use Rattle.lbk_rules.specs.EnoughRows.{HasReason}
 use Rattle.lbk_c.specs.declared.interface.Fault.{Fault}
 
 -- the number of a property file
@@ -39,10 +36,9 @@ given_fault fault = record { file = file_number fault.file; line = fault.line; c
 abbrev pub no_fault : Fault
 no_fault = record { file = 0; line = 0; cause = 0 }
 
--- of lawful files no table was made: a growth of memory was refused, or there are more rows than places can name
-abbrev pub unmade_fault : TableError → Fault
-unmade_fault refused.Memory = record { file = 0; line = 0; cause = 8 }
-unmade_fault refused.TooManyRows = record { file = 0; line = 0; cause = 9 }
+-- of lawful files no table was made: a growth of memory was refused
+abbrev pub unmade_fault : Fault
+unmade_fault = record { file = 0; line = 0; cause = 8 }
 
 -- the four files of a call
 abbrev pub files_of : Bor (List ℕ) → Bor (List ℕ) → Bor (List ℕ) → Bor (List ℕ) → Files
@@ -57,7 +53,7 @@ files_of line_break east_asian category emoji = record {
 abbrev pub IsFaultOf : Files → Fault → Type 0
 IsFaultOf files fault =
     ((found : UcdFault) × IsRefused files found × (fault ≡ given_fault found))
-    ⊎ (AreLawful files × ((error : TableError) × HasReason error × (fault ≡ unmade_fault error)))
+    ⊎ (AreLawful files × (fault ≡ unmade_fault))
 
 -- a file is not the published one
 abbrev pub unpublished_fault : Which → Fault

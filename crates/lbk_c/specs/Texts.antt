@@ -22,7 +22,6 @@ cause_numbered number =
     else if number == cause_number Overlap then cause_text Overlap
     else if number == cause_number TooManyRows then cause_text TooManyRows
     else if number == cause_number Memory then cause_text Memory
-    else if number == 9 then codes "the rules need more steps than a table has"
     else if number == 10 then codes "the file is not the one that Unicode 15.0.0 published"
     else []
 

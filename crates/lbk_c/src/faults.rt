@@ -1,10 +1,9 @@
 //! The numbers of faults.
 
 ghost use Rattle.std.specs.Prelude.{◌≡◌};
-ghost use Rattle.lbk_c.specs.Faults.{cause_number, file_number, given_fault, unmade_fault, unpublished_fault};
+ghost use Rattle.lbk_c.specs.Faults.{cause_number, file_number, given_fault, unpublished_fault};
 
 use crate::interface::Fault;
-use lbk_rules::TableError;
 use lbk_ucd::{UcdCause, UcdFault, Which};
 
 /// No fault.
@@ -25,20 +24,12 @@ pub(crate) fn given_fault(fault: UcdFault) -> Fault
     }
 }
 
-/// Why no table was made of well-formed files.
-pub(crate) fn unmade_fault(error: TableError) -> Fault
-    ensures { result ≡ unmade_fault error }
-{
-    let cause = match error {
-        TableError::Memory => 8,
-        TableError::TooManyRows => 9,
-    };
-    Fault {
-        file: 0,
-        line: 0,
-        cause,
-    }
-}
+/// That memory was refused while a table was made of well-formed files.
+pub(crate) const UNMADE_FAULT: Fault = Fault {
+    file: 0,
+    line: 0,
+    cause: 8,
+};
 
 /// That a file is not the published one.
 pub(crate) fn unpublished_fault(which: Which) -> Fault

@@ -2,13 +2,13 @@
 
 ghost use Rattle.std.specs.Prelude.{◌≡◌, ◌<◌, ℕ};
 ghost use Rattle.lbk_ucd.specs.Files.{AreLawful};
-ghost use Rattle.lbk_rules.specs.Cells.{AreCellsOf};
+ghost use Rattle.lbk_rules.specs.Cells.{AreCellsOf, cell_of_files};
 ghost use Rattle.lbk_rules.specs.declared.Cell.{Cell};
-ghost use Rattle.lbk_rules.specs.FlatTable.{IsFlatOf, IsWhole};
+ghost use Rattle.lbk_rules.specs.FlatTable.{AreKindsAlone, AreStepsAlone, IsFlatOf, IsWhole};
 ghost use Rattle.lbk_database.specs.Digests.{ArePublished};
 ghost use Rattle.lbk_c.specs.Faults.{IsFaultOf, IsFaultOfPublished, files_of, no_fault};
 
-use crate::faults::{NO_FAULT, given_fault, unmade_fault, unpublished_fault};
+use crate::faults::{NO_FAULT, UNMADE_FAULT, given_fault, unpublished_fault};
 use crate::interface::Fault;
 use lbk_database::first_unpublished;
 use lbk_rules::FlatTable;
@@ -18,8 +18,8 @@ use std::alloc::Global;
 /// Fills the table by the four property files LineBreak.txt, EastAsianWidth.txt, DerivedGeneralCategory.txt and
 /// emoji-data.txt (UAX #44, section 4.2), and returns zeros; or the first fault of the first file that has one.
 ///
-/// Cause 8 comes where an allocation was refused: at a line of a file, or at none while the table was made. Cause 9
-/// comes only where the rules need more rows than a table has room for. After a fault the table is as it was.
+/// Cause 8 comes where an allocation was refused: at a line of a file, or at none while the table was made. After a fault
+/// the table is as it was.
 #[unsafe(no_mangle)]
 pub extern "C" fn lbk_read(
     alloc: Global,
@@ -33,6 +33,8 @@ pub extern "C" fn lbk_read(
     ensures table { result.cause ≡ 0 → (cell : ℕ → Cell) → AreCellsOf (files_of line_break.entry east_asian.entry category.entry emoji.entry) cell
         → IsFlatOf table.new cell }
     ensures whole { result.cause ≡ 0 → IsWhole table.new }
+    ensures steps { result.cause ≡ 0 → AreStepsAlone table.new }
+    ensures kinds { result.cause ≡ 0 → AreKindsAlone table.new (cell_of_files (files_of line_break.entry east_asian.entry category.entry emoji.entry)) }
     ensures none { result.cause ≡ 0 → result ≡ no_fault }
     ensures refused { 0 < result.cause → IsFaultOf (files_of line_break.entry east_asian.entry category.entry emoji.entry) result }
     ensures untouched { 0 < result.cause → table.new ≡ table.old }
@@ -49,7 +51,7 @@ pub extern "C" fn lbk_read(
     };
     match table.fill(alloc, &tables) {
         Ok(()) => NO_FAULT,
-        Err(error) => unmade_fault(error),
+        Err(_) => UNMADE_FAULT,
     }
 }
 
@@ -70,6 +72,8 @@ pub extern "C" fn lbk_read_published(
     ensures table { result.cause ≡ 0 → (cell : ℕ → Cell) → AreCellsOf (files_of line_break.entry east_asian.entry category.entry emoji.entry) cell
         → IsFlatOf table.new cell }
     ensures whole { result.cause ≡ 0 → IsWhole table.new }
+    ensures steps { result.cause ≡ 0 → AreStepsAlone table.new }
+    ensures kinds { result.cause ≡ 0 → AreKindsAlone table.new (cell_of_files (files_of line_break.entry east_asian.entry category.entry emoji.entry)) }
     ensures none { result.cause ≡ 0 → result ≡ no_fault }
     ensures refused { 0 < result.cause → IsFaultOfPublished (files_of line_break.entry east_asian.entry category.entry emoji.entry) result }
     ensures untouched { 0 < result.cause → table.new ≡ table.old }

@@ -52,7 +52,6 @@ fn cause_numbered(number: u32) -> &'static str
         6 => cause_text(UcdCause::Overlap),
         7 => cause_text(UcdCause::TooManyRows),
         8 => cause_text(UcdCause::Memory),
-        9 => "the rules need more steps than a table has",
         10 => "the file is not the one that Unicode 15.0.0 published",
         _ => "",
     }

@@ -21,8 +21,6 @@ pub use Rattle.lbk_steps.proofs.PagesOfText
 pub use Rattle.lbk_steps.proofs.KindsLemmas
 pub use Rattle.lbk_steps.proofs.AheadLemmas
 pub use Rattle.lbk_steps.proofs.LeftLemmas
-pub use Rattle.lbk_steps.proofs.StepRowsLemmas
-pub use Rattle.lbk_steps.proofs.EnoughRowsLemmas
 pub use Rattle.lbk_steps.proofs.RowMachineLemmas
 pub use Rattle.lbk_steps.proofs.HoldsLemmas
 pub use Rattle.lbk_steps.proofs.NeighboursLemmas

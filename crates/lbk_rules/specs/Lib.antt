@@ -24,10 +24,8 @@ pub use Rattle.lbk_uax14.specs.Codes
 pub use Rattle.lbk_uax14.specs.Facts
 pub use Rattle.lbk_uax14.specs.Fits
 pub use Rattle.lbk_uax14.specs.LateFits
-pub use Rattle.lbk_steps.specs.AheadFits
 pub use Rattle.lbk_steps.specs.CellOfTables
 pub use Rattle.lbk_steps.specs.CellPages
-pub use Rattle.lbk_steps.specs.EnoughRows
 pub use Rattle.lbk_steps.specs.FirstBytes
 pub use Rattle.lbk_steps.specs.FlatStep
 pub use Rattle.lbk_steps.specs.FlatTable
@@ -37,8 +35,7 @@ pub use Rattle.lbk_steps.specs.KindTable
 pub use Rattle.lbk_steps.specs.Kinds
 pub use Rattle.lbk_steps.specs.Neighbours
 pub use Rattle.lbk_steps.specs.Pages
-pub use Rattle.lbk_steps.specs.RowFits
 pub use Rattle.lbk_steps.specs.RowMachineFits
-pub use Rattle.lbk_steps.specs.RowStepperFits
+pub use Rattle.lbk_steps.specs.Rows
 pub use Rattle.lbk_steps.specs.StepperFits
 pub use Rattle.lbk_steps.specs.Steps

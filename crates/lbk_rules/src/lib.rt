@@ -20,7 +20,7 @@ pub use lbk_uax14::{
 
 // What `lbk_breaks` and `lbk_c` step by.
 pub use lbk_steps::{
-    AheadMachine, FlatStep, FlatTable, HELD, LAYOUT, Neighbours, RowMachine, RowStepper, STEPS,
-    StepTable, TableError,
+    FlatStep, FlatTable, HELD, LAYOUT, Neighbours, RowMachine, Rows, STEPS, Step, WIDTH, is_held,
+    rows_of, step_from, verdict_of,
 };
 pub use lbk_uax14::{Before, Left, RULES, VERDICTS, code_of, is_break, is_second, unless_held};

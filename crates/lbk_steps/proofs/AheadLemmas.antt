@@ -2,7 +2,6 @@
 use Rattle.std.proofs.Common.{◌≡◌, ℕ, ◌||◌, Bool, true, false, cond, List, [], ◌∷◌, ◌++◌, drop, length, map, reverse, refl, sym, ap, subst, ◌∙◌}
 use Rattle.std.specs.Char.{encode_utf8}
 use Rattle.std.specs.Str.{IsUtf8, chars}
-use Rattle.std.proofs.lemmas.Bool.{false≢true}
 use Rattle.std.proofs.lemmas.List.{length-map}
 use Rattle.std.proofs.lemmas.Str.{IsUtf8-past_char, chars-nil, chars_past_char}
 use Rattle.std.proofs.Math.Seq.{drop-length, take-length}
@@ -12,21 +11,13 @@ use Rattle.lbk_values.specs.declared.profile.Profile.TheVariants.{First, Second}
 use Rattle.lbk_uax14.specs.Chain.{from_cells}
 use Rattle.lbk_uax14.specs.Classes.{hard, mark, none_of, closes_before}
 use Rattle.lbk_uax14.specs.Facts.{closes_in}
-use Rattle.lbk_uax14.specs.Held.{is_15b}
-use Rattle.lbk_steps.specs.declared.kind_table.KindTable.{KindTable}
-use Rattle.lbk_steps.specs.Kinds.{kind_cell}
-use Rattle.lbk_steps.specs.KindTable.{kind_at}
-use Rattle.lbk_uax14.specs.Normal.{normal}
-use Rattle.lbk_steps.specs.RowFits.{AreKindsOf}
-use Rattle.lbk_steps.specs.RowMachineFits.{normals}
+use Rattle.lbk_uax14.specs.Normal.{normal, normals}
 use Rattle.lbk_uax14.specs.Verdict.{verdict_between_in, verdict_in}
-use Rattle.lbk_uax14.specs.Sides.{Side, leaves_closed}
-use Rattle.lbk_uax14.specs.Units.{unit, units_after}
+use Rattle.lbk_uax14.specs.Sides.{leaves_closed}
+use Rattle.lbk_uax14.specs.Units.{letter, unit, units_after}
 use Rattle.lbk_uax14.proofs.ChainLemmas.{verdict_between-chain}
-use Rattle.lbk_uax14.proofs.HeldLemmas.{from_cells-first}
 use Rattle.lbk_uax14.proofs.MachineLemmas.{verdict_in-append}
 use Rattle.lbk_uax14.proofs.NormalLemmas.{between-normal}
-use Rattle.lbk_steps.proofs.PagesOfText.{cells_of_text-same}
 
 -- what is left of the text, behind a cell that leaves the next one fresh or not, tells what the whole told
 pub record AheadLoop (cell : ℕ → Cell) (fresh : Bool) (rest : List ℕ) (closes : Bool) : Type 0 where
@@ -72,25 +63,25 @@ pub AheadLoop-end : (cell : ℕ → Cell) (fresh : Bool) (rest : List ℕ) (clos
 AheadLoop-end cell fresh rest closes none l =
     sym (ap (λ cs. leaves_closed (units_after fresh (map cell cs))) (ap chars none ∙ chars-nil)) ∙ l.same
 
--- a verdict that rule 15b gives is one of the second profile, which asks what follows
-pub closes_asked : (profile : Profile) (side : Side) (cell : Cell) (more : List Cell) → is_15b (from_cells profile side (cell ∷ [])).rule ≡ true
-    → closes_in profile (units_after (hard cell.class) more) ≡ leaves_closed (units_after (hard cell.class) more)
-closes_asked First side cell more held = absurd (false≢true (sym (from_cells-first side (cell ∷ [])) ∙ held))
-closes_asked Second side cell more held = refl
-
 -- By rows
 
-map-both : (cell : ℕ → Cell) (cs : List ℕ) → map (λ code. normal (cell code)) cs ≡ map normal (map cell cs)
-map-both cell [] = refl
-map-both cell (c ∷ cs) = ap (λ l. normal (cell c) ∷ l) (map-both cell cs)
+class-normal : (cell : Cell) → (unit (normal cell)).class ≡ (unit cell).class
+unfolding normal
+class-normal cell = elim (mark cell.class) as (λ v. (cond v letter (normal cell)).class ≡ (cond v letter cell).class) [ true ↦ refl | false ↦ refl ]
 
--- the kinds of a text's scalars stand for their cells
-pub kinds_of_text : (kinds : KindTable) (cell : ℕ → Cell) (text : List ℕ) → AreKindsOf kinds cell → IsUtf8 text
-    → map (λ code. kind_cell (kind_at kinds code)) (chars text) ≡ map normal (map cell (chars text))
-unfolding AreKindsOf
-kinds_of_text kinds cell text same utf8 =
-    cells_of_text-same (λ code. kind_cell (kind_at kinds code)) (λ code. normal (cell code)) same text utf8
-    ∙ map-both cell (chars text)
+closes-normal : (fresh : Bool) (cells : List Cell) → leaves_closed (units_after fresh (map normal cells)) ≡ leaves_closed (units_after fresh cells)
+unfolding normal
+closes-normal fresh [] = refl
+closes-normal fresh (cell ∷ cells) =
+    elim (fresh || none_of mark cell.class)
+    as (λ v. leaves_closed (cond v (unit (normal cell) ∷ units_after (hard cell.class) (map normal cells)) (units_after (hard cell.class) (map normal cells)))
+    ≡ leaves_closed (cond v (unit cell ∷ units_after (hard cell.class) cells) (units_after (hard cell.class) cells)))
+    [ true ↦ ap closes_before (class-normal cell) | false ↦ closes-normal (hard cell.class) cells ]
+
+pub closes_in-normal : (profile : Profile) (fresh : Bool) (cells : List Cell)
+    → closes_in profile (units_after fresh (map normal cells)) ≡ closes_in profile (units_after fresh cells)
+closes_in-normal First fresh cells = refl
+closes_in-normal Second fresh cells = closes-normal fresh cells
 
 pub ahead-normal : (profile : Profile) (cell : ℕ → Cell) (taken : List ℕ) (right : List Cell)
     → from_cells profile (reverse (normals cell taken)) (map normal right) ≡ verdict_between_in profile (map cell taken) right

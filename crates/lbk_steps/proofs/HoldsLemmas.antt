@@ -1,11 +1,11 @@
--- What a row stepper holds is what waits.
+-- What a stepper holds is what waits.
 use Rattle.std.proofs.Common.{◌≡◌, ℕ, Bool, true, false, cond, not, Option, Some, None, List, [], ◌∷◌, length, reverse, refl, sym, ap, ◌∙◌}
 use Rattle.std.specs.Option.{is_some}
 use Rattle.std.proofs.lemmas.Bool.{false≢true}
 use Rattle.lbk_uax14.specs.declared.cells.Cell.{Cell}
 use Rattle.lbk_uax14.specs.declared.facts.Left.{Left}
 use Rattle.lbk_uax14.specs.declared.late_machine.Held.{Held}
-use Rattle.lbk_steps.specs.declared.row_stepper.HeldRow.{HeldRow}
+use Rattle.lbk_steps.specs.declared.stepper.HeldRow.{HeldRow}
 use Rattle.lbk_values.specs.declared.profile.Profile.{Profile}
 use Rattle.lbk_values.specs.declared.profile.Profile.TheVariants.{Second}
 use Rattle.lbk_uax14.specs.declared.verdicts.Verdict.{Verdict}
@@ -14,7 +14,7 @@ use Rattle.lbk_uax14.specs.Classes.{closes_before, hard}
 use Rattle.lbk_uax14.specs.Facts.{closes_in, facts}
 use Rattle.lbk_uax14.specs.Held.{answer_at, is_15b, late_at, unanswered}
 use Rattle.lbk_uax14.specs.LateFits.{waiting}
-use Rattle.lbk_steps.specs.RowStepperFits.{Holds, IsAnswer, IsHeldRow}
+use Rattle.lbk_steps.specs.StepperFits.{Holds, IsAnswer, IsHeldRow}
 use Rattle.lbk_uax14.specs.Sides.{Side}
 use Rattle.lbk_uax14.specs.Units.{heads, nearest, unit, units_after}
 use Rattle.lbk_uax14.proofs.WaitingLemmas.{answer-none, answer-waiting, position_of, unanswered-waiting}

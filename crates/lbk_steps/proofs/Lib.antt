@@ -3,8 +3,11 @@ pub mod PagesOfText
 pub mod KindsLemmas
 pub mod AheadLemmas
 pub mod LeftLemmas
-pub mod StepRowsLemmas
-pub mod EnoughRowsLemmas
 pub mod RowMachineLemmas
 pub mod HoldsLemmas
 pub mod NeighboursLemmas
+pub mod AlikeLemmas
+pub mod RowChecks
+pub mod RowLemmas
+pub mod ShownLemmas
+pub mod FlatLemmas

@@ -1,28 +1,26 @@
 -- What follows for the cells of scalars from what a row knows of their normal cells.
-use Rattle.std.proofs.Common.{◌≡◌, ℕ, true, false, cond, Some, None, List, [], ◌∷◌, ◌++◌, length, map, reverse, refl, sym, ap, ◌∙◌}
-use Rattle.std.specs.Char.{IsScalar}
+use Rattle.std.proofs.Common.{◌≡◌, ℕ, ◌%◌, true, false, cond, Some, None, List, [], ◌∷◌, ◌++◌, length, map, reverse, refl, sym, ap, ◌∙◌, arith}
 use Rattle.std.proofs.lemmas.List.{length-map, map-append}
 use Rattle.lbk_uax14.specs.declared.cells.Cell.{Cell}
-use Rattle.lbk_steps.specs.declared.kind_table.KindTable.{KindTable}
 use Rattle.lbk_values.specs.declared.profile.Profile.{Profile}
 use Rattle.lbk_uax14.specs.declared.verdicts.Verdict.{Verdict}
 use Rattle.lbk_uax14.specs.Chain.{from_cells}
 use Rattle.lbk_uax14.specs.Held.{is_15b, is_held, now_at}
-use Rattle.lbk_steps.specs.KindTable.{kind_at}
-use Rattle.lbk_steps.specs.Kinds.{kind_cell}
-use Rattle.lbk_uax14.specs.Normal.{normal}
-use Rattle.lbk_steps.specs.RowFits.{AreKindsOf}
-use Rattle.lbk_steps.specs.RowMachineFits.{normals}
+use Rattle.lbk_steps.specs.Kinds.{kind_cell, kind_of}
+use Rattle.lbk_uax14.specs.Normal.{normal, normals}
 use Rattle.lbk_uax14.specs.Verdict.{verdict_in, verdict_between_in}
+use Rattle.lbk_steps.proofs.KindsLemmas.{kind-cell, kind-few}
 use Rattle.lbk_uax14.proofs.HeldLemmas.{from_cells-settled, is_held-chain}
 use Rattle.lbk_uax14.proofs.MachineLemmas.{reverse-snoc, verdict_in-append, verdict_in-chain, verdict_in-end}
 use Rattle.lbk_uax14.proofs.NormalLemmas.{from_cells-normal, held-normal, reverse-map, verdict-normal}
 
 -- the cell of the kind of a scalar
-pub kind_same : (kinds : KindTable) (cell : ℕ → Cell) (c kind : ℕ) → AreKindsOf kinds cell → IsScalar c → kind ≡ kind_at kinds c
-    → kind_cell kind ≡ normal (cell c)
-unfolding AreKindsOf
-kind_same kinds cell c kind same scalar known = ap kind_cell known ∙ same c scalar
+pub kind_same : (cell source : ℕ → Cell) (c kind : ℕ) → cell ≡ source → kind ≡ kind_of (source c)
+    → kind_cell (kind % 128 % 84) ≡ normal (cell c)
+kind_same cell source c kind same is =
+    let few = kind-few (source c) in
+    let back : kind % 128 % 84 ≡ kind_of (source c) = omega (arith, few, is) in
+    ap kind_cell back ∙ kind-cell (source c) ∙ ap (λ (f : ℕ → Cell). normal (f c)) (sym same)
 
 pub normals-snoc : (cell : ℕ → Cell) (taken : List ℕ) (c : ℕ) → normals cell (taken ++ c ∷ []) ≡ normals cell taken ++ normal (cell c) ∷ []
 normals-snoc cell taken c =

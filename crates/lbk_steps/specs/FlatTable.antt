@@ -1,5 +1,5 @@
 -- The table of steps as plain numbers: the kinds of all codes, and what happens at a cell of each kind in both profiles.
-use Rattle.std.specs.Prelude.{◌≡◌, ◌⊎◌, ℕ, ◌+◌, ◌*◌, ◌<◌, ◌%◌, true, false, List, [], ◌∷◌, fold, length, slice_index, slice_index_or, reverse}
+use Rattle.std.specs.Prelude.{◌≡◌, ◌⊎◌, ℕ, ◌+◌, ◌*◌, ◌<◌, ◌≤◌, ◌/◌, ◌%◌, true, false, List, [], ◌∷◌, fold, length, map, slice_index, slice_index_or, reverse}
 use Rattle.std.specs.Char.{IsScalar}
 use Rattle.lbk_uax14.specs.declared.cells.Cell.{Cell}
 use Rattle.lbk_uax14.specs.declared.codes.TheConstants.{VERDICTS}
@@ -8,7 +8,10 @@ use Rattle.lbk_steps.specs.declared.flat_table.FlatStep.{FlatStep}
 use Rattle.lbk_steps.specs.declared.flat_table.FlatTable.{FlatTable}
 use Rattle.lbk_steps.specs.declared.flat_table.TheConstants.{HELD, LAYOUT}
 use Rattle.lbk_steps.specs.declared.kinds.TheConstants.{KINDS}
-use Rattle.lbk_steps.specs.declared.step_rows.Step.{Step}
+use Rattle.lbk_steps.specs.declared.row_steps.TheConstants.{ROWS, SAMPLES}
+use Rattle.lbk_steps.specs.declared.steps.Step.{Step}
+use Rattle.lbk_steps.specs.declared.steps.TheConstants.{WIDTH}
+use Rattle.lbk_uax14.specs.declared.verdicts.Verdict.{Verdict}
 use Rattle.lbk_values.specs.declared.profile.Profile.TheVariants.{First, Second}
 use Rattle.lbk_uax14.specs.Chain.{from_cells}
 use Rattle.lbk_uax14.specs.Classes.{hard}
@@ -16,11 +19,12 @@ use Rattle.lbk_uax14.specs.Codes.{verdict_coded}
 use Rattle.lbk_uax14.specs.Facts.{facts}
 use Rattle.lbk_uax14.specs.Held.{is_15b}
 pub use Rattle.lbk_steps.specs.FlatStep.{digest_with, no_flat_step}
-use Rattle.lbk_steps.specs.Kinds.{kind_cell}
+use Rattle.lbk_steps.specs.Kinds.{kind_cell, kind_of}
 use Rattle.lbk_steps.specs.Neighbours.{AreTold, digest_of_neighbours}
 use Rattle.lbk_uax14.specs.Normal.{normal, normals}
 use Rattle.lbk_uax14.specs.Sides.{Side, leaves_closed}
-use Rattle.lbk_steps.specs.Steps.{IsStart, left_at, no_step}
+use Rattle.lbk_steps.specs.Rows.{cells_of, no_step, shown_of, steps_in}
+use Rattle.lbk_steps.specs.Steps.{IsStart, left_at}
 use Rattle.lbk_uax14.specs.Units.{units_after}
 
 -- a number that a table of steps has for a verdict: the first that it has, and `HELD` by rule 15b
@@ -46,17 +50,25 @@ pub record IsFlatStep (lefts : List Left) (left : Left) (cell : Cell) (one other
       → verdict_coded one.code ≡ from_cells Second side (cell ∷ more)
   pub held : is_15b (verdict_coded other.code).rule ≡ true → other.code ≡ HELD
 
+-- what the rows know, as a list
+abbrev pub row_lefts : List Left
+row_lefts = map (λ kinds. facts (cells_of kinds)) SAMPLES
+
 -- the step by number is the other, and each verdict has but one number
 pub record IsNumbered (step : Step) (flat : FlatStep) : Type 0 where
-  pub coded : IsStepCode flat.code
-  pub same : flat.next ≡ step.next
-  pub held : is_15b step.verdict.rule ≡ true → flat.code ≡ HELD
-  pub told : is_15b step.verdict.rule ≡ false → verdict_coded flat.code ≡ step.verdict
+  pub same : flat.next ≡ KINDS * (step.next / WIDTH)
+  pub coded : (verdict : Verdict) → step.shown ≡ shown_of verdict → IsStepCode flat.code
+  pub held : (verdict : Verdict) → step.shown ≡ shown_of verdict → is_15b verdict.rule ≡ true → flat.code ≡ HELD
+  pub told : (verdict : Verdict) → step.shown ≡ shown_of verdict → is_15b verdict.rule ≡ false → verdict_coded flat.code ≡ verdict
+
+-- at a place is the step of its row and of its kind, and none behind the last row
+pub record IsNumberedAt (rows : List (List Step)) (place : ℕ) (flat : FlatStep) : Type 0 where
+  pub here : place < KINDS * ROWS → IsNumbered (slice_index_or (slice_index_or rows (place / KINDS) []) (place % KINDS) no_step) flat
+  pub behind : KINDS * ROWS ≤ place → flat ≡ no_flat_step
 
 -- so it is of all these steps
-abbrev pub AreNumbered : List Step → List FlatStep → Type 0
-AreNumbered steps flat =
-    (place : ℕ) → place < length steps → IsNumbered (slice_index_or steps place no_step) (slice_index_or flat place no_flat_step)
+abbrev pub AreNumbered : List (List Step) → List FlatStep → Type 0
+AreNumbered rows flat = (place : ℕ) → place < length flat → IsNumberedAt rows place (slice_index_or flat place no_flat_step)
 
 -- at the places of all rows is the step of its row and of its kind, in both profiles
 abbrev pub AreFlatSteps : List Left → List FlatStep → List FlatStep → Type 0
@@ -69,6 +81,14 @@ AreFlatSteps lefts first second =
 abbrev pub AreFlatKinds : List ℕ → (ℕ → Cell) → Type 0
 AreFlatKinds kinds cell = (code : ℕ) → IsScalar code
     → (slice_index kinds code < KINDS) × (kind_cell (slice_index kinds code) ≡ normal (cell code))
+
+-- each number of the steps is that of the rules, and none stands behind the last row
+abbrev pub AreStepsAlone : FlatTable → Type 0
+AreStepsAlone table = AreNumbered (steps_in First) table.first × AreNumbered (steps_in Second) table.second
+
+-- each kind is that of the cell of its code, also where the code is no scalar value
+abbrev pub AreKindsAlone : FlatTable → (ℕ → Cell) → Type 0
+AreKindsAlone table cell = (code : ℕ) → code < 0x11_0000 → slice_index table.kinds code ≡ kind_of (cell code)
 
 -- the table is over these cells, and its rows know this; the first knows of no cell
 pub record IsFlatBy (lefts : List Left) (table : FlatTable) (cell : ℕ → Cell) : Type 0 where

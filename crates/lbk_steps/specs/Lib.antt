@@ -2,10 +2,8 @@
 pub mod Cells
 pub mod ClassLabels
 -- What only carries proofs.
-pub mod AheadFits
 pub mod CellOfTables
 pub mod CellPages
-pub mod EnoughRows
 pub mod FirstBytes
 pub mod FlatStep
 pub mod FlatTable
@@ -13,8 +11,7 @@ pub mod KindTable
 pub mod Kinds
 pub mod Neighbours
 pub mod Pages
-pub mod RowFits
 pub mod RowMachineFits
-pub mod RowStepperFits
+pub mod Rows
 pub mod StepperFits
 pub mod Steps

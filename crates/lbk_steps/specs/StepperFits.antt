@@ -1,18 +1,40 @@
 -- What a stepper knows of the scalars that it has taken.
-use Rattle.std.specs.Prelude.{◌≡◌, ℕ, List, map, Option, Some, None}
+use Rattle.std.specs.Prelude.{◌≡◌, ℕ, Bool, true, false, List, ◌∷◌, length, reverse, Option, Some, None}
 use Rattle.lbk_uax14.specs.declared.cells.Cell.{Cell}
-use Rattle.lbk_uax14.specs.declared.late_machine.LateMachine.{LateMachine}
-use Rattle.lbk_steps.specs.declared.row_stepper.RowStepper.{RowStepper}
+use Rattle.lbk_uax14.specs.declared.late_machine.Held.{Held}
+use Rattle.lbk_steps.specs.declared.stepper.HeldRow.{HeldRow}
 use Rattle.lbk_steps.specs.declared.stepper.Stepper.{Stepper}
 use Rattle.lbk_values.specs.declared.profile.Profile.{Profile}
-use Rattle.lbk_uax14.specs.LateFits.{LateFits}
-use Rattle.lbk_steps.specs.RowStepperFits.{RowStepperFits}
+use Rattle.lbk_uax14.specs.declared.verdicts.Verdict.{Verdict}
+use Rattle.lbk_uax14.specs.Chain.{from_cells}
+use Rattle.lbk_uax14.specs.Classes.{hard}
+use Rattle.lbk_uax14.specs.Facts.{closes_in, facts}
+use Rattle.lbk_uax14.specs.LateFits.{waiting}
+use Rattle.lbk_steps.specs.RowMachineFits.{RowMachineFits, normals}
+use Rattle.lbk_uax14.specs.Sides.{Side}
+use Rattle.lbk_uax14.specs.Units.{units_after}
 
--- by rows, it knows of the scalars taken what their cells ask; by rules, of their cells, which are those of its source
-abbrev pub WayFits : (ℕ → Cell) → Option RowStepper → LateMachine → Profile → (ℕ → Cell) → List ℕ → Type 0
-WayFits source (Some rows) rules profile cell taken = RowStepperFits rows profile cell taken
-WayFits source None rules profile cell taken = (cell ≡ source) × LateFits rules profile (map cell taken)
+-- the verdict of the position that waits, where the unit after its quotation mark leaves that closed or not
+abbrev pub IsAnswer : Profile → Held → Bool → Verdict → Type 0
+IsAnswer profile waits closes verdict =
+    (side more : Side) → facts side ≡ waits.left
+    → closes_in profile (units_after (hard waits.quotation.class) more) ≡ closes
+    → verdict ≡ from_cells profile side (waits.quotation ∷ more)
 
--- it sees the scalars by these cells, and has taken these
-unfoldable pub StepperFits : {C : Type 0} → (C → ℕ → Cell) → Stepper C → Profile → (ℕ → Cell) → List ℕ → Type 0
-StepperFits cell_of stepper profile cell taken = WayFits (cell_of stepper.cells.now) stepper.rows stepper.rules profile cell taken
+-- the position that waits, with both its answers
+pub record IsHeldRow (profile : Profile) (held : HeldRow) (waits : Held) : Type 0 where
+  pub position_same : held.position ≡ waits.position
+  pub if_closed : IsAnswer profile waits true held.if_closed
+  pub if_open : IsAnswer profile waits false held.if_open
+
+-- what is held is what waits, if anything does
+abbrev pub Holds : Profile → Option HeldRow → Option Held → Type 0
+Holds profile None None = Unit {0}
+Holds profile (Some held) (Some waits) = IsHeldRow profile held waits
+Holds profile _ _ = ⊥
+
+-- its machine fits, its steps are counted, and it holds the position that waits
+pub record StepperFits {C : Type 0} (cell_of : C → ℕ → Cell) (stepper : Stepper C) (profile : Profile) (cell : ℕ → Cell) (taken : List ℕ) : Type 0 where
+  pub machine_fits : RowMachineFits cell_of stepper.machine profile cell taken
+  pub steps_same : stepper.steps ≡ length taken
+  pub held_same : Holds profile stepper.held (waiting profile (reverse (normals cell taken)))

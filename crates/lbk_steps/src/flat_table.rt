@@ -1,19 +1,18 @@
 //! The table of steps as plain numbers in one block, which a caller may keep where it likes.
 
-ghost use Rattle.std.specs.Prelude.{◌≡◌, ◌+◌, ◌*◌, ◌^◌, ℕ, ◌↔◌, IsTrue, IfErr, IfOk, OnErr, fold, length, slice_index};
+ghost use Rattle.std.specs.Prelude.{◌≡◌, ◌+◌, ◌*◌, ◌/◌, ◌%◌, ◌^◌, ◌<◌, ◌≤◌, ℕ, ◌↔◌, IsTrue, IfOk, OnErr, fold, length, slice_index};
 ghost use Rattle.lbk_uax14.specs.declared.cells.Cell.{Cell};
-ghost use Rattle.lbk_steps.specs.declared.flat_table.TableError.TheVariants.{Memory};
-ghost use Rattle.lbk_steps.specs.EnoughRows.{HasReason};
-ghost use Rattle.lbk_steps.specs.FlatTable.{AreFlatKinds, AreNumbered, IsFlatOf, IsNumbered, IsWhole, digest_of, digest_with, digest_with_step};
+ghost use Rattle.lbk_steps.specs.FlatTable.{AreFlatKinds, AreKindsAlone, AreNumbered, AreStepsAlone, IsFlatOf, IsNumbered, IsNumberedAt, IsWhole, digest_of, digest_with, digest_with_step};
 ghost use Rattle.lbk_uax14.specs.Normal.{normal};
 ghost use Rattle.lbk_steps.specs.CellOfTables.{cell_of_tables};
 
 use crate::kind_table::KindTable;
 use crate::kinds::{KINDS, cell_of_kind};
 use crate::neighbours::Neighbours;
+use crate::row_steps::ROWS;
 use crate::runs::CellRuns;
-use crate::step_rows::{Step, StepRows};
-use lbk_uax14::{Cell, VERDICTS, code_of};
+use crate::steps::{Rows, Step, WIDTH, is_held, rows_of, verdict_of};
+use lbk_uax14::{Cell, Profile, VERDICTS, code_of};
 use lbk_ucd::Tables;
 use std::alloc::{AllocError, Global};
 
@@ -69,48 +68,30 @@ pub struct FlatTable {
     pub kinds: [u8; CODES],
 }
 
-/// Why no table was made.
-#[derive(Clone, Copy, PartialEq, Eq, Debug)]
-pub enum TableError {
-    /// Memory was refused.
-    Memory,
-    /// There are more rows than places can name. It comes only then, and the rules of this version have fewer.
-    TooManyRows,
-}
-
-impl From<AllocError> for TableError {
-    ghost from_gives = { λ _ error. error ≡ Memory };
-
-    fn from(_error: AllocError) -> TableError {
-        TableError::Memory
-    }
-}
-
 impl FlatTable {
     /// Makes it the table of the cells that these property tables give (UAX #14, section 6), whole. An error comes only
-    /// where memory was refused, or there are more rows than places can name; the table then stays as it was.
-    pub fn fill(&mut self, alloc: Global, tables: &Tables) -> Result<(), TableError>
+    /// where memory was refused; the table then stays as it was.
+    pub fn fill(&mut self, alloc: Global, tables: &Tables) -> Result<(), AllocError>
         ensures table { IfOk result (λ _. IsFlatOf self.new (cell_of_tables tables.now)) }
         ensures whole { IfOk result (λ _. IsWhole self.new) }
+        ensures steps { IfOk result (λ _. AreStepsAlone self.new) }
+        ensures kinds { IfOk result (λ _. AreKindsAlone self.new (cell_of_tables tables.now)) }
         ensures untouched { OnErr result (self.new ≡ self.old) }
-        ensures refused { IfErr result HasReason }
     {
         self.fill_over(alloc, tables)
     }
 
     /// The same over any source.
-    fn fill_over<C: CellRuns>(&mut self, alloc: Global, source: &C) -> Result<(), TableError>
+    fn fill_over<C: CellRuns>(&mut self, alloc: Global, source: &C) -> Result<(), AllocError>
         ensures table { IfOk result (λ _. IsFlatOf self.new (C.cell_at source.now)) }
         ensures whole { IfOk result (λ _. IsWhole self.new) }
+        ensures steps { IfOk result (λ _. AreStepsAlone self.new) }
+        ensures kinds { IfOk result (λ _. AreKindsAlone self.new (C.cell_at source.now)) }
         ensures untouched { OnErr result (self.new ≡ self.old) }
-        ensures refused { IfErr result HasReason }
     {
         let kinds = KindTable::build(alloc, source)?;
-        let Some(rows) = StepRows::build(alloc)? else {
-            return Err(TableError::TooManyRows);
-        };
-        number_steps(&rows.first, &mut self.first);
-        number_steps(&rows.second, &mut self.second);
+        number_steps(rows_of(Profile::First), &mut self.first);
+        number_steps(rows_of(Profile::Second), &mut self.second);
         self.kinds.copy_from_slice(&kinds.kinds);
         self.first_pairs = Neighbours::of_steps(&self.first, &self.kinds);
         self.second_pairs = Neighbours::of_steps(&self.second, &self.kinds);
@@ -146,13 +127,27 @@ impl FlatTable {
     }
 }
 
-/// Puts the steps with the numbers of their verdicts.
-fn number_steps(steps: &[Step], flat: &mut [FlatStep])
-    requires { length flat.old ≡ length steps.now }
-    ensures { AreNumbered steps.now flat.new }
+/// What stands after the steps of the last row.
+const NO_STEP: FlatStep = FlatStep { code: 0, next: 0 };
+
+/// Puts the steps of a profile with the numbers of their verdicts.
+fn number_steps(rows: &Rows, flat: &mut [FlatStep])
+    ensures numbered { AreNumbered rows.now flat.new }
+    ensures whole { length flat.new ≡ length flat.old }
 {
     for (place, step) in flat.iter_mut().enumerate() {
-        *step = numbered(steps[place]);
+        *step = numbered_at(rows, place);
+    }
+}
+
+/// The step at a place, with the number of its verdict.
+fn numbered_at(rows: &Rows, place: usize) -> FlatStep
+    ensures { IsNumberedAt rows.now place result }
+{
+    if place < KINDS * ROWS {
+        numbered(rows[place / KINDS][place % KINDS])
+    } else {
+        NO_STEP
     }
 }
 
@@ -160,14 +155,15 @@ fn number_steps(steps: &[Step], flat: &mut [FlatStep])
 fn numbered(step: Step) -> FlatStep
     ensures { IsNumbered step result }
 {
-    let code = if step.verdict.rule.is_15b() {
+    let code = if is_held(step.shown) {
         HELD
     } else {
-        code_of(step.verdict)
+        code_of(verdict_of(step.shown))
     };
+    let row = usize::from(step.next) / WIDTH;
     FlatStep {
         code,
-        next: step.next,
+        next: (KINDS * row) as u16,
     }
 }
 

@@ -1,15 +1,11 @@
 //! The kinds of all scalar values, for a look-up of one read.
 
 ghost use Rattle.std.specs.Prelude.{◌≡◌, ℕ, ◌<◌, length, slice_index, IfOk};
-ghost use Rattle.std.specs.Char.{IsScalar};
-ghost use Rattle.lbk_steps.specs.Kinds.{kind_cell};
-ghost use Rattle.lbk_uax14.specs.Normal.{normal};
+ghost use Rattle.lbk_steps.specs.Kinds.{kind_of};
 
 use crate::flat_table::CODES;
-use crate::kinds::{KINDS, cell_of_kind, kind_of};
+use crate::kinds::{KINDS, kind_of};
 use crate::runs::CellRuns;
-use crate::source::CellSource;
-use lbk_uax14::Cell;
 use lbk_ucd::Places;
 use std::alloc::{AllocError, Global};
 
@@ -24,11 +20,11 @@ pub(crate) struct KindTable {
 impl KindTable {
     ghost use Rattle.lbk_steps.specs.KindTable.{kind_at};
 
-    /// The kinds of the cells that the source gives the scalar values. An error comes only where
+    /// The kinds of the cells that the source gives the codes. An error comes only where
     /// memory was refused.
     pub(crate) fn build<C: CellRuns>(alloc: Global, source: &C) -> Result<KindTable, AllocError>
-        ensures { IfOk result (λ table. (code : ℕ) → IsScalar code
-            → kind_cell (kind_at table code) ≡ normal (C.cell_at source.now code)) }
+        ensures { IfOk result (λ table. (code : ℕ) → code < 0x11_0000
+            → kind_at table code ≡ kind_of (C.cell_at source.now code)) }
     {
         let mut kinds = Vec::with_capacity(alloc, CODES)?;
         let mut places = Places::START;
@@ -48,17 +44,5 @@ impl KindTable {
         ensures few { result < KINDS }
     {
         self.kinds[c as usize]
-    }
-}
-
-/// The cells of the kinds, which have nothing that no rule asks for.
-impl CellSource for KindTable {
-    ghost use Rattle.lbk_steps.specs.Kinds.{kind_cell};
-    ghost use Rattle.lbk_steps.specs.KindTable.{kind_at};
-
-    ghost cell_of = { λ kinds code. kind_cell (kind_at kinds code) };
-
-    fn cell(&self, c: char) -> Cell {
-        cell_of_kind(self.of(c))
     }
 }

@@ -5,7 +5,7 @@
 //! a text in memory, and is faster.
 #![tactic(auto)]
 
-mod ahead_machine;
+mod ahead;
 mod class_labels;
 mod first_bytes;
 mod flat_table;
@@ -14,12 +14,11 @@ mod kinds;
 mod neighbours;
 mod pages;
 mod row_machine;
-mod row_stepper;
+mod row_steps;
 mod runs;
 mod source;
-mod step_rows;
-mod step_table;
 mod stepper;
+mod steps;
 
 // What callers name.
 pub use class_labels::class_label;
@@ -28,9 +27,7 @@ pub use source::CellSource;
 pub use stepper::Stepper;
 
 // What `lbk_breaks` and `lbk_c` step by.
-pub use ahead_machine::AheadMachine;
-pub use flat_table::{FlatStep, FlatTable, HELD, LAYOUT, STEPS, TableError};
+pub use flat_table::{FlatStep, FlatTable, HELD, LAYOUT, STEPS};
 pub use neighbours::Neighbours;
 pub use row_machine::RowMachine;
-pub use row_stepper::RowStepper;
-pub use step_table::StepTable;
+pub use steps::{Rows, Step, WIDTH, each_side_has_a_row, is_held, rows_of, step_from, verdict_of};

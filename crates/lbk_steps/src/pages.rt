@@ -1,20 +1,18 @@
 //! The cells of all scalar values, in pages of 256 that are kept once where they are equal.
 
-ghost use Rattle.std.specs.Prelude.{◌≡◌, ℕ, ◌+◌, ◌*◌, ◌<◌, ◌≤◌, length, slice_index, None, Some, IfNone, IfOk, IfSome};
+ghost use Rattle.std.specs.Prelude.{◌≡◌, ℕ, ◌+◌, ◌*◌, ◌<◌, ◌≤◌, length, slice_index, IfOk};
 ghost use Rattle.std.specs.Char.{IsScalar};
 ghost use Rattle.lbk_steps.specs.Pages.{AreDistinct, AreSame, IsPageOf, cell_in};
 ghost use Rattle.lbk_steps.specs.FirstBytes.{AreQuiet};
-ghost use Rattle.lbk_steps.specs.declared.step_table.StepTable.{StepTable};
-ghost use Rattle.lbk_steps.specs.EnoughRows.{RowsSuffice};
-ghost use Rattle.lbk_uax14.specs.Normal.{normal};
-ghost use Rattle.lbk_steps.specs.RowMachineFits.{normal_in};
+ghost use Rattle.lbk_steps.specs.KindTable.{kind_at};
+ghost use Rattle.lbk_steps.specs.Kinds.{kind_of};
 
 mod kept;
 
 use crate::first_bytes::quiet_first_bytes;
+use crate::kind_table::KindTable;
 use crate::runs::{CellRun, CellRuns};
 use crate::source::CellSource;
-use crate::step_table::StepTable;
 use kept::Kept;
 use lbk_uax14::Cell;
 use lbk_ucd::{Places, Tables};
@@ -30,22 +28,19 @@ const PAGE_COUNT: u32 = 4352;
 type Page = [Cell; PAGE_LENGTH];
 
 /// The cells of all scalar values, for a look-up of two reads: the number of a page, and a cell in
-/// it. Equal pages are kept once. Beside them the table of steps over these cells, by which positions
-/// are decided fast.
+/// it. Equal pages are kept once. Beside them the kinds of these cells, by which positions are decided
+/// fast.
 #[derive(Debug, Drop)]
 pub struct CellPages {
     numbers: Vec<u16>,
     pages: Vec<Page>,
-    /// None comes only if there were more rows than a table can name.
-    table: Option<StepTable>,
+    kinds: KindTable,
     /// For each byte whether a line must end after no scalar that begins with it.
     quiet_first_bytes: [bool; 256],
     ghost complete: { length numbers.items ≡ 4352 },
     ghost numbered: { (k : ℕ) → k < 4352 → slice_index numbers.items k < length pages.items },
     ghost distinct: { AreDistinct pages.items },
-    ghost given: { table ≡ None → ¬ RowsSuffice },
-    ghost same: { (t : StepTable) (code : ℕ) → table ≡ Some t → IsScalar code
-        → normal_in t code ≡ normal (cell_in numbers.items pages.items code) },
+    ghost same: { (code : ℕ) → IsScalar code → kind_at kinds code ≡ kind_of (cell_in numbers.items pages.items code) },
     ghost quiet: { AreQuiet (cell_in numbers.items pages.items) quiet_first_bytes },
 }
 
@@ -82,11 +77,11 @@ impl CellPages {
                 numbers.push(kept.number_of(&page)?)?;
             }
         }
-        let table = StepTable::build(alloc, source)?;
+        let kinds = KindTable::build(alloc, source)?;
         Ok(CellPages {
             numbers,
             pages: kept.into_pages(),
-            table,
+            kinds,
             quiet_first_bytes: quiet_first_bytes(source),
         })
     }
@@ -94,7 +89,6 @@ impl CellPages {
 
 impl CellSource for CellPages {
     ghost use Rattle.lbk_steps.specs.CellPages.{page_cell};
-    ghost use Rattle.lbk_steps.specs.RowMachineFits.{IsTableOf};
 
     ghost cell_of = { page_cell };
 
@@ -105,15 +99,9 @@ impl CellSource for CellPages {
         self.pages[usize::from(number)][code % PAGE_LENGTH]
     }
 
-    #[tactic(auto, unfolding(crate::specs::CellPages::page_cell, crate::specs::RowFits::AreKindsOf, crate::specs::RowMachineFits::IsTableOf, crate::specs::RowMachineFits::normal_in))]
-    fn step_table(&self) -> Option<&StepTable>
-        ensures over { IfSome result (λ table. IsTableOf table.now (page_cell self.now)) }
-        ensures none { IfNone result (¬ RowsSuffice) }
-    {
-        match &self.table {
-            Some(table) => Some(table),
-            None => None,
-        }
+    #[tactic(auto, unfolding(crate::specs::CellPages::page_cell))]
+    fn kind(&self, c: char) -> u8 {
+        self.kinds.of(c)
     }
 
     #[tactic(auto, unfolding(crate::specs::CellPages::page_cell))]

@@ -1,61 +1,71 @@
-//! The machine that steps by a table of steps.
+//! The machine that steps by the rows of steps.
 
-ghost use Rattle.std.specs.Prelude.{◌≡◌, ◌+◌, ◌<◌, ℕ, List, [], ◌∷◌, ◌++◌, length, map, reverse, slice_index_or, true, false, IfNone, IfSome};
-ghost use Rattle.lbk_steps.specs.RowFits.{IsRowOf};
-ghost use Rattle.lbk_steps.specs.Steps.{no_step, steps_in};
+ghost use Rattle.std.specs.Prelude.{◌≡◌, ◌+◌, ◌<◌, ℕ, List, [], ◌∷◌, ◌++◌, length, map, reverse, true, false, ⊤, IfNone, IfSome};
+ghost use Rattle.lbk_steps.specs.Rows.{IsPlace, steps_in};
 
-use crate::ahead_machine::closes_in;
-use crate::kind_table::KindTable;
-use crate::kinds::{KINDS, cell_of_kind};
-use crate::step_rows::{Step, StepRows};
+use crate::ahead::closes_in;
+use crate::kinds::cell_of_kind;
+use crate::source::CellSource;
+use crate::steps::{Rows, Step, is_held, left_of, rows_of, step_from, verdict_of};
 use lbk_uax14::{Cell, Left, Profile, Verdict};
+use std::alloc::AllocError;
 
-/// Decides the positions of a text one after another by a table of steps: two reads a scalar (UAX #14, section 6). It
-/// is what hot loops step by. It holds no position: where rule 15b may decide, the caller looks ahead or waits.
-#[derive(Clone, Copy, Debug)]
-pub struct RowMachine<'a> {
-    kinds: &'a KindTable,
-    /// The kinds of all codes, kept here so that a loop reads them without asking the table where they are.
-    kind_of_code: &'a [u8],
-    rows: &'a StepRows,
+/// A row of steps in a profile.
+#[derive(Clone, Copy)]
+struct Row {
     profile: Profile,
     /// The steps of the profile.
-    steps: &'a [Step],
-    row: usize,
-    ghost of_kinds: { kind_of_code.now ≡ kinds.now.kinds.items },
-    ghost in_rows: { IsRowOf rows.now row },
-    ghost of_profile: { steps.now ≡ steps_in profile rows.now.first.items rows.now.second.items },
+    steps: &'static Rows,
+    /// The place of the row.
+    place: u16,
+    ghost of_profile: { steps.now ≡ steps_in profile },
+    ghost begins: { IsPlace place },
 }
 
-impl<'a> RowMachine<'a> {
+/// Decides the positions of a text one after another by the rows of steps: two reads a scalar (UAX #14, section 6). It
+/// is what hot loops step by. It holds no position: where rule 15b may decide, the caller looks ahead or waits.
+pub struct RowMachine<'a, C: CellSource> {
+    cells: &'a C,
+    /// The row that knows what the rules ask of the cells taken.
+    row: Row,
+}
+
+impl<'a, C: CellSource> Copy for RowMachine<'a, C> {}
+
+impl<'a, C: CellSource> Clone for RowMachine<'a, C> {
+    ghost is_clone = { λ x y. y ≡ x };
+
+    ghost is_infallible = { λ _. ⊤ };
+
+    fn clone(&self) -> Result<Self, AllocError> {
+        Ok(*self)
+    }
+}
+
+impl<'a, C: CellSource> RowMachine<'a, C> {
     ghost use Rattle.lbk_uax14.specs.declared.cells.Cell.{Cell};
     ghost use Rattle.lbk_values.specs.declared.profile.Profile.{Profile};
     ghost use Rattle.lbk_uax14.specs.Chain.{from_cells};
     ghost use Rattle.lbk_uax14.specs.Facts.{facts};
     ghost use Rattle.lbk_uax14.specs.Held.{is_15b, is_held};
-    ghost use Rattle.lbk_steps.specs.KindTable.{kind_at};
     ghost use Rattle.lbk_uax14.specs.Normal.{normal};
-    ghost use Rattle.lbk_steps.specs.RowFits.{AreKindsOf, RowFits};
+    ghost use Rattle.lbk_steps.specs.Rows.{left_at, shown_of};
+    ghost use Rattle.lbk_steps.specs.Kinds.{kind_of};
     ghost use Rattle.lbk_steps.specs.RowMachineFits.{RowMachineFits, normals};
     ghost use Rattle.lbk_uax14.specs.Verdict.{verdict_between_in, verdict_in};
     ghost use Rattle.std.specs.Str.{chars};
 
-    /// A machine of this profile that has taken no scalar, by the kinds of all scalar values and the rows of both profiles.
-    #[tactic(auto, unfolding(crate::specs::RowFits::RowFits))]
-    pub(crate) fn start(
-        kinds: &'a KindTable,
-        rows: &'a StepRows,
-        profile: Profile,
-    ) -> RowMachine<'a>
-        ensures { (cell : ℕ → Cell) → AreKindsOf kinds.now cell → RowMachineFits result profile cell [] }
+    /// A machine of this profile that has taken no scalar.
+    pub fn start(cells: &'a C, profile: Profile) -> RowMachine<'a, C>
+        ensures { RowMachineFits C.cell_of result profile (C.cell_of cells.now) [] }
     {
         RowMachine {
-            kinds,
-            kind_of_code: &kinds.kinds,
-            rows,
-            profile,
-            steps: rows.steps(profile),
-            row: 0,
+            cells,
+            row: Row {
+                profile,
+                steps: rows_of(profile),
+                place: 0,
+            },
         }
     }
 
@@ -64,18 +74,18 @@ impl<'a> RowMachine<'a> {
     #[inline]
     pub fn step(&mut self, c: char) -> Verdict
         ensures held { (profile : Profile) (cell : ℕ → Cell) (taken : List ℕ) (more : List Cell)
-            → RowMachineFits self.old profile cell taken
+            → RowMachineFits C.cell_of self.old profile cell taken
             → is_held profile (map cell taken) (cell c ∷ more) ≡ is_15b result.rule }
         ensures decides { (profile : Profile) (cell : ℕ → Cell) (taken : List ℕ) (more : List Cell)
-            → RowMachineFits self.old profile cell taken → is_15b result.rule ≡ false
+            → RowMachineFits C.cell_of self.old profile cell taken → is_15b result.rule ≡ false
             → result ≡ verdict_in profile (map cell taken ++ cell c ∷ more) (length taken) }
         ensures fits { (profile : Profile) (cell : ℕ → Cell) (taken : List ℕ)
-            → RowMachineFits self.old profile cell taken
-            → RowMachineFits self.new profile cell (taken ++ c ∷ []) }
+            → RowMachineFits C.cell_of self.old profile cell taken
+            → RowMachineFits C.cell_of self.new profile cell (taken ++ c ∷ []) }
     {
         let step = self.step_by(c);
-        self.row = step.next as usize;
-        step.verdict
+        self.row.place = step.next;
+        verdict_of(step.shown)
     }
 
     /// Takes the next scalar, if what follows does not decide the position before it: the verdict there. None comes where
@@ -83,80 +93,70 @@ impl<'a> RowMachine<'a> {
     #[inline]
     pub fn step_unless_held(&mut self, c: char) -> Option<Verdict>
         ensures decides { (profile : Profile) (cell : ℕ → Cell) (taken : List ℕ) (more : List Cell)
-            → RowMachineFits self.old profile cell taken
+            → RowMachineFits C.cell_of self.old profile cell taken
             → IfSome result (λ verdict. verdict ≡ verdict_in profile (map cell taken ++ cell c ∷ more) (length taken)) }
         ensures fits { (profile : Profile) (cell : ℕ → Cell) (taken : List ℕ)
-            → RowMachineFits self.old profile cell taken
-            → IfSome result (λ _. RowMachineFits self.new profile cell (taken ++ c ∷ [])) }
+            → RowMachineFits C.cell_of self.old profile cell taken
+            → IfSome result (λ _. RowMachineFits C.cell_of self.new profile cell (taken ++ c ∷ [])) }
         ensures held { (profile : Profile) (cell : ℕ → Cell) (taken : List ℕ) (more : List Cell)
-            → RowMachineFits self.old profile cell taken
+            → RowMachineFits C.cell_of self.old profile cell taken
             → IfNone result (is_held profile (map cell taken) (cell c ∷ more) ≡ true) }
         ensures stays { IfNone result (self.new ≡ self.old) }
     {
         let step = self.step_by(c);
-        if step.verdict.rule.is_15b() {
+        if is_held(step.shown) {
             return None;
         }
-        self.row = step.next as usize;
-        Some(step.verdict)
+        self.row.place = step.next;
+        Some(verdict_of(step.shown))
     }
 
-    /// The step by `c`, of which the verdict is that where nothing follows. It is not copied, so that only the row is read.
+    /// The step by `c`, with the number of the verdict where nothing follows.
     #[inline(always)]
-    fn step_by(&self, c: char) -> &'a Step
-        ensures row { IsRowOf self.now.rows.now result.now.next }
+    fn step_by(&self, c: char) -> Step
+        ensures row { IsPlace result.next }
         ensures leads { (profile : Profile) (cell : ℕ → Cell) (taken : List ℕ)
-            → RowMachineFits self.now profile cell taken
-            → RowFits self.now.rows.now result.now.next (normals cell (taken ++ c ∷ [])) }
-        ensures so_far { (profile : Profile) (cell : ℕ → Cell) (taken : List ℕ)
-            → RowMachineFits self.now profile cell taken
-            → result.now.verdict ≡ from_cells profile (reverse (map cell taken)) (cell c ∷ []) }
+            → RowMachineFits C.cell_of self.now profile cell taken
+            → facts (reverse (normals cell (taken ++ c ∷ []))) ≡ left_at result.next }
+        ensures shows { (profile : Profile) (cell : ℕ → Cell) (taken : List ℕ)
+            → RowMachineFits C.cell_of self.now profile cell taken
+            → result.shown ≡ shown_of (from_cells profile (reverse (map cell taken)) (cell c ∷ [])) }
     {
-        step_of(self.steps, self.row, self.kind(c) as usize)
-    }
-
-    /// The kind of `c`.
-    #[inline(always)]
-    #[tactic(auto, unfolding(crate::specs::KindTable::kind_at))]
-    fn kind(&self, c: char) -> u8
-        ensures kind { result ≡ kind_at self.now.kinds.now c }
-        ensures few { result < KINDS }
-    {
-        self.kind_of_code[c as usize]
+        step_from(self.row.steps, self.row.place, self.cells.kind(c))
     }
 
     /// What it knows of the cells that it has taken.
     pub(crate) fn left(&self) -> Left
         ensures { (profile : Profile) (cell : ℕ → Cell) (taken : List ℕ)
-            → RowMachineFits self.now profile cell taken
+            → RowMachineFits C.cell_of self.now profile cell taken
             → facts (reverse (normals cell taken)) ≡ result }
     {
-        self.rows.left(self.row)
+        left_of(self.row.place)
     }
 
     /// The cell of the kind of `c`.
     pub(crate) fn cell(&self, c: char) -> Cell
         ensures { (profile : Profile) (cell : ℕ → Cell) (taken : List ℕ)
-            → RowMachineFits self.now profile cell taken
+            → RowMachineFits C.cell_of self.now profile cell taken
             → result ≡ normal (cell c) }
     {
-        cell_of_kind(self.kinds.of(c))
+        cell_of_kind(self.cells.kind(c))
     }
 
     /// The profile whose verdicts it gives.
     pub(crate) fn profile(&self) -> Profile
         ensures { (profile : Profile) (cell : ℕ → Cell) (taken : List ℕ)
-            → RowMachineFits self.now profile cell taken
+            → RowMachineFits C.cell_of self.now profile cell taken
             → result ≡ profile }
     {
-        self.profile
+        self.row.profile
     }
 
     /// The verdict of the position before `c`, where `rest` is the text after it, up to its end: also where the
     /// position is held.
     pub fn look_ahead(&self, c: char, rest: &str) -> Verdict
         ensures { (profile : Profile) (cell : ℕ → Cell) (taken : List ℕ)
-            → RowMachineFits self.now profile cell taken
+            → RowMachineFits C.cell_of self.now profile cell taken
             → result ≡ verdict_between_in profile (map cell taken) (cell c ∷ map cell (chars rest.now)) }
     {
         let mut machine = *self;
@@ -165,25 +165,16 @@ impl<'a> RowMachine<'a> {
         }
         let profile = self.profile();
         let cell = self.cell(c);
-        let closes = closes_in(profile, self.kinds, cell.class, rest);
+        let closes = closes_in(profile, self.cells, cell.class, rest);
         self.left().verdict(profile, cell, closes)
     }
 
     /// The verdict of the position after all scalars taken, where the text ends.
     pub fn finish(&self) -> Verdict
         ensures { (profile : Profile) (cell : ℕ → Cell) (taken : List ℕ)
-            → RowMachineFits self.now profile cell taken
+            → RowMachineFits C.cell_of self.now profile cell taken
             → result ≡ verdict_in profile (map cell taken) (length taken) }
     {
-        self.rows.left(self.row).verdict_at_end()
+        self.left().verdict_at_end()
     }
-}
-
-/// The step of a kind in a row. The kind is counted first, so that only the read itself waits for the row.
-#[inline(always)]
-fn step_of(steps: &[Step], row: usize, kind: usize) -> &Step
-    requires { row + kind < length steps.now }
-    ensures { result.now ≡ slice_index_or steps.now (row + kind) no_step }
-{
-    &steps[kind..][row]
 }

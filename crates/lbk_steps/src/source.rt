@@ -1,8 +1,8 @@
 //! Sources of cells: what knows the cell of each scalar value.
 
-ghost use Rattle.std.specs.Prelude.{◌≡◌, ℕ, IfSome};
+ghost use Rattle.std.specs.Prelude.{◌≡◌, ℕ};
 
-use crate::step_table::StepTable;
+use crate::kinds::kind_of;
 use lbk_uax14::{Cell, resolve};
 use lbk_ucd::Tables;
 
@@ -10,7 +10,7 @@ use lbk_ucd::Tables;
 pub trait CellSource {
     ghost use Rattle.lbk_uax14.specs.declared.cells.Cell.{Cell};
     ghost use Rattle.lbk_steps.specs.FirstBytes.{AreQuiet};
-    ghost use Rattle.lbk_steps.specs.RowMachineFits.{IsTableOf};
+    ghost use Rattle.lbk_steps.specs.Kinds.{kind_of};
 
     ghost cell_of: { Self → ℕ → Cell };
 
@@ -18,11 +18,12 @@ pub trait CellSource {
     fn cell(&self, c: char) -> Cell
         ensures { result ≡ cell_of self.now c };
 
-    /// The table of steps over these cells, if there is one. A text is decided without it too, only slower.
-    fn step_table(&self) -> Option<&StepTable>
-        ensures { IfSome result (λ table. IsTableOf table.now (cell_of self.now)) }
+    /// The kind of `c`: a number for all that the rules ask of its cell. It is one read where a source keeps the kinds.
+    #[inline]
+    fn kind(&self, c: char) -> u8
+        ensures { result ≡ kind_of (cell_of self.now c) }
     {
-        None
+        kind_of(self.cell(c))
     }
 
     /// For each byte whether it is known that a line must end after no scalar that begins with it (UAX #14, rules LB4 and

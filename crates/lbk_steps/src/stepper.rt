@@ -1,19 +1,38 @@
 //! The positions of a text, decided scalar by scalar.
 
-ghost use Rattle.std.specs.Prelude.{◌≡◌, ℕ, ◌<◌, List, [], ◌∷◌, ◌++◌, length, map};
-ghost use Rattle.lbk_uax14.specs.declared.cells.Cell.{Cell};
-ghost use Rattle.lbk_values.specs.declared.profile.Profile.{Profile};
-ghost use Rattle.lbk_uax14.specs.Held.{answer_at, late_at, now_at};
-ghost use Rattle.lbk_uax14.specs.LateFits.{LateFits};
+ghost use Rattle.std.specs.Prelude.{◌≡◌, ℕ, ◌<◌, List, [], ◌∷◌, ◌++◌, length, map, reverse, None, ⊤, if◌then◌else◌};
+ghost use Rattle.lbk_uax14.specs.Held.{answer_at, is_15b, is_held, late_at, now_at};
 ghost use Rattle.lbk_uax14.specs.Verdict.{verdict_in};
 
-use crate::row_stepper::RowStepper;
+use crate::row_machine::RowMachine;
 use crate::source::CellSource;
-use lbk_uax14::{End, LateMachine, Out, Profile};
+use lbk_uax14::{End, Out, Profile, Verdict, unless_held};
+use std::alloc::AllocError;
+
+/// A position whose verdict waits for the unit after a closing quotation mark, with both its verdicts:
+/// where that unit leaves the mark closed, or none comes, and where it does not.
+#[derive(Clone, Copy, PartialEq, Eq, Debug)]
+struct HeldRow {
+    position: u64,
+    if_closed: Verdict,
+    if_open: Verdict,
+}
+
+impl HeldRow {
+    /// Its position and the verdict there.
+    fn answer(self, closes: bool) -> (u64, Verdict)
+        ensures { result ≡ (self.position, if closes then self.if_closed else self.if_open) }
+    {
+        if closes {
+            (self.position, self.if_closed)
+        } else {
+            (self.position, self.if_open)
+        }
+    }
+}
 
 /// Decides the positions of a text one after another in either profile, scalar by scalar and without looking back,
-/// by the cells of a source (UAX #14, section 6): by its table of steps, if it has one, and else by the plain rules. In
-/// the second profile it may hold a position open until the unit after a closing quotation mark begins. Positions count
+/// by the cells of a source and the rows of steps (UAX #14, section 6). In the second profile it may hold a position open until the unit after a closing quotation mark begins. Positions count
 /// scalars from 0.
 ///
 /// ```rust
@@ -25,33 +44,50 @@ use lbk_uax14::{End, LateMachine, Out, Profile};
 /// }
 /// let end = stepper.finish();
 /// ```
-#[derive(Drop)]
 pub struct Stepper<'a, C: CellSource> {
-    cells: &'a C,
-    /// Decides, if the source has a table of steps.
-    rows: Option<RowStepper<'a>>,
-    /// Decides where it has none. The two are fields of their own, so that a loop that steps has each in registers.
-    rules: LateMachine,
+    machine: RowMachine<'a, C>,
+    steps: u64,
+    held: Option<HeldRow>,
+}
+
+impl<'a, C: CellSource> Copy for Stepper<'a, C> {}
+
+impl<'a, C: CellSource> Clone for Stepper<'a, C> {
+    ghost is_clone = { λ x y. y ≡ x };
+
+    ghost is_infallible = { λ _. ⊤ };
+
+    fn clone(&self) -> Result<Self, AllocError> {
+        Ok(*self)
+    }
 }
 
 impl<'a, C: CellSource> Stepper<'a, C> {
-    ghost use Rattle.lbk_steps.specs.StepperFits.{StepperFits};
+    ghost use Rattle.lbk_uax14.specs.declared.cells.Cell.{Cell};
+    ghost use Rattle.lbk_values.specs.declared.profile.Profile.{Profile};
+    ghost use Rattle.lbk_values.specs.declared.profile.Profile.TheVariants.{Second};
+    ghost use Rattle.lbk_uax14.specs.Classes.{hard};
+    ghost use Rattle.lbk_uax14.specs.Facts.{closes_in, facts};
+    ghost use Rattle.lbk_uax14.specs.LateFits.{waiting};
+    ghost use Rattle.lbk_uax14.specs.Normal.{normal};
+    ghost use Rattle.lbk_steps.specs.RowMachineFits.{normals};
+    ghost use Rattle.lbk_steps.specs.StepperFits.{Holds, IsHeldRow, StepperFits};
+    ghost use Rattle.lbk_uax14.specs.Units.{nearest, units_after};
 
     /// A stepper of this profile that has taken no scalar.
     pub fn start(cells: &'a C, profile: Profile) -> Stepper<'a, C>
         ensures { StepperFits C.cell_of result profile (C.cell_of cells.now) [] }
     {
-        let rows = match cells.step_table() {
-            Some(table) => Some(RowStepper::new(table.machine(profile), 0)),
-            None => None,
-        };
-        let rules = LateMachine::start(profile);
-        Stepper { cells, rows, rules }
+        Stepper {
+            machine: RowMachine::start(cells, profile),
+            steps: 0,
+            held: None,
+        }
     }
 
-    /// Takes the next scalar: the verdict of the position before it, unless that is held, and that of the position
-    /// that was held until now, where the scalar heads the unit after its quotation mark. It does so for the first
-    /// 18,446,744,073,709,551,615 scalars of a text.
+    /// Takes the next scalar: the verdict of the position before it, unless that is held, and that of
+    /// the position that was held until now, where the scalar heads the unit after its quotation mark. It does so for
+    /// the first 18,446,744,073,709,551,615 scalars of a text.
     #[inline(always)]
     pub fn step(&mut self, c: char) -> Out
         ensures now { (profile : Profile) (cell : ℕ → Cell) (taken : List ℕ) (more : List Cell)
@@ -64,34 +100,45 @@ impl<'a, C: CellSource> Stepper<'a, C> {
             → StepperFits C.cell_of self.old profile cell taken → length taken < 18446744073709551615
             → StepperFits C.cell_of self.new profile cell (taken ++ c ∷ []) }
     {
-        match &mut self.rows {
-            Some(stepper) => stepper.step(c),
-            None => self.step_by_rules(c),
+        let mut machine = self.machine;
+        let verdict = machine.step(c);
+        if self.held.is_none() && !verdict.rule.is_15b() {
+            self.machine = machine;
+            self.steps = self.steps.wrapping_add(1);
+            return Out {
+                now: Some(verdict),
+                late: None,
+            };
+        }
+        self.step_with_held(c)
+    }
+
+    /// The same where a position is held before the step or after it, which is rare. Its values are set up here, and not in
+    /// `step`; and `holding` and `late`, which it calls, take the stepper by value, so that a loop has its own in registers.
+    #[inline(always)]
+    fn step_with_held(&mut self, c: char) -> Out
+        ensures now { (profile : Profile) (cell : ℕ → Cell) (taken : List ℕ) (more : List Cell)
+            → StepperFits C.cell_of self.old profile cell taken
+            → result.now ≡ now_at profile (map cell taken) (cell c ∷ more) }
+        ensures late { (profile : Profile) (cell : ℕ → Cell) (taken : List ℕ) (more : List Cell)
+            → StepperFits C.cell_of self.old profile cell taken
+            → result.late ≡ late_at profile (map cell taken) (cell c) more }
+        ensures fits { (profile : Profile) (cell : ℕ → Cell) (taken : List ℕ)
+            → StepperFits C.cell_of self.old profile cell taken → length taken < 18446744073709551615
+            → StepperFits C.cell_of self.new profile cell (taken ++ c ∷ []) }
+    {
+        let before = *self;
+        let verdict = self.machine.step(c);
+        self.steps = self.steps.wrapping_add(1);
+        self.held = before.holding(c, verdict.rule.is_15b());
+        Out {
+            now: unless_held(verdict),
+            late: before.late(c),
         }
     }
 
-    /// The same where the source has no table of steps. Its values are set up here, and not in `step`.
-    #[inline(always)]
-    fn step_by_rules(&mut self, c: char) -> Out
-        ensures now { (profile : Profile) (taken more : List Cell)
-            → LateFits self.old.rules profile taken → length taken < 18446744073709551615
-            → result.now ≡ now_at profile taken (C.cell_of self.old.cells.now c ∷ more) }
-        ensures late { (profile : Profile) (taken more : List Cell)
-            → LateFits self.old.rules profile taken → length taken < 18446744073709551615
-            → result.late ≡ late_at profile taken (C.cell_of self.old.cells.now c) more }
-        ensures fits { (profile : Profile) (taken : List Cell)
-            → LateFits self.old.rules profile taken → length taken < 18446744073709551615
-            → LateFits self.new.rules profile (taken ++ C.cell_of self.old.cells.now c ∷ []) }
-        ensures cells { self.new.cells.now ≡ self.old.cells.now }
-        ensures rows { self.new.rows ≡ self.old.rows }
-    {
-        let (rules, out) = next_by_rules(self.cells, self.rules, c);
-        self.rules = rules;
-        out
-    }
-
-    /// The verdict of the position after all scalars taken, where the text ends, and that of the position that was
-    /// held until now.
+    /// The verdict of the position after all scalars taken, where the text ends, and that of the
+    /// position that was held until now.
     pub fn finish(&self) -> End
         ensures late { (profile : Profile) (cell : ℕ → Cell) (taken : List ℕ)
             → StepperFits C.cell_of self.now profile cell taken
@@ -100,38 +147,84 @@ impl<'a, C: CellSource> Stepper<'a, C> {
             → StepperFits C.cell_of self.now profile cell taken
             → result.end ≡ verdict_in profile (map cell taken) (length taken) }
     {
-        match &self.rows {
-            Some(stepper) => stepper.finish(),
-            None => self.rules.finish(),
+        End {
+            late: self.answer(true),
+            end: self.machine.finish(),
         }
     }
-}
 
-/// A step by the plain rules: the machine after it, and what it decides. The machine is passed by value, so that a loop that
-/// steps has its stepper in registers.
-#[cold]
-#[inline(never)]
-fn next_by_rules<C: CellSource>(cells: &C, before: LateMachine, c: char) -> (LateMachine, Out)
-    ensures now { (profile : Profile) (taken more : List Cell)
-        → LateFits before profile taken → length taken < 18446744073709551615
-        → result.1.now ≡ now_at profile taken (C.cell_of cells.now c ∷ more) }
-    ensures late { (profile : Profile) (taken more : List Cell)
-        → LateFits before profile taken → length taken < 18446744073709551615
-        → result.1.late ≡ late_at profile taken (C.cell_of cells.now c) more }
-    ensures fits { (profile : Profile) (taken : List Cell)
-        → LateFits before profile taken → length taken < 18446744073709551615
-        → LateFits result.0 profile (taken ++ C.cell_of cells.now c ∷ []) }
-{
-    let mut machine = before;
-    if machine.steps() == u64::MAX {
-        return (
-            machine,
-            Out {
-                now: None,
-                late: None,
-            },
-        );
+    /// The position that was held until now, and its verdict. `closes`: the unit that comes leaves the
+    /// quotation mark closed, or none comes.
+    fn answer(&self, closes: bool) -> Option<(u64, Verdict)>
+        ensures { (profile : Profile) (cell : ℕ → Cell) (taken : List ℕ) (more : List Cell)
+            → StepperFits C.cell_of self.now profile cell taken
+            → closes_in Second (units_after (hard (nearest (reverse (normals cell taken))).class) more) ≡ closes
+            → result ≡ answer_at profile (normals cell taken) more }
+    {
+        match self.held {
+            None => None,
+            Some(held) => Some(held.answer(closes)),
+        }
     }
-    let out = machine.step(cells.cell(c));
-    (machine, out)
+
+    /// The verdict that `c` settles: none, if it heads no unit.
+    #[cold]
+    #[inline(never)]
+    fn late(self, c: char) -> Option<(u64, Verdict)>
+        ensures { (profile : Profile) (cell : ℕ → Cell) (taken : List ℕ) (more : List Cell)
+            → StepperFits C.cell_of self.entry profile cell taken
+            → result ≡ late_at profile (map cell taken) (cell c) more }
+    {
+        if self.held.is_none() {
+            return None;
+        }
+        let cell = self.machine.cell(c);
+        if !self.machine.left().heads(cell) {
+            return None;
+        }
+        self.answer(cell.unit().class.closes_before())
+    }
+
+    /// What it holds once `c` was taken. `holds`: the position before `c` is held.
+    #[cold]
+    #[inline(never)]
+    fn holding(self, c: char, holds: bool) -> Option<HeldRow>
+        ensures { (profile : Profile) (cell : ℕ → Cell) (taken : List ℕ)
+            → StepperFits C.cell_of self.entry profile cell taken
+            → is_held profile (map cell taken) (cell c ∷ []) ≡ holds
+            → Holds profile result (waiting profile (normal (cell c) ∷ reverse (normals cell taken))) }
+    {
+        if holds {
+            return Some(self.held_before(c));
+        }
+        if self.held.is_none() {
+            return None;
+        }
+        if self.machine.left().heads(self.machine.cell(c)) {
+            return None;
+        }
+        self.held
+    }
+
+    /// The position before `c` with both its verdicts.
+    fn held_before(&self, c: char) -> HeldRow
+        ensures { (profile : Profile) (cell : ℕ → Cell) (taken : List ℕ)
+            → StepperFits C.cell_of self.now profile cell taken
+            → IsHeldRow profile result (record {
+              position = length (reverse (normals cell taken));
+              left = facts (reverse (normals cell taken));
+              quotation = normal (cell c);
+            }) }
+    {
+        let left = self.machine.left();
+        let cell = self.machine.cell(c);
+        let profile = self.machine.profile();
+        let if_closed = left.verdict(profile, cell, true);
+        let if_open = left.verdict(profile, cell, false);
+        HeldRow {
+            position: self.steps,
+            if_closed,
+            if_open,
+        }
+    }
 }

@@ -14,7 +14,7 @@ use lbk_ucd::Tables;
 use std::alloc::{AllocError, Global};
 use std::fmt::Write;
 use std::test::Fail;
-use test_support::calls::{has_step_table, tables_of};
+use test_support::calls::tables_of;
 use test_support::checks::same;
 use test_support::property_files::SAMPLES;
 use test_support::texts::{FIRST, SECOND};
@@ -270,8 +270,6 @@ fn check_rows(
 }
 
 fn check_all_rows(alloc: Global, tables: &Tables, pages: &CellPages) -> Result<(), Fail> {
-    same(&has_step_table(tables), &false, &"tables")?;
-    same(&has_step_table(pages), &true, &"pages")?;
     check_rows(alloc, tables, pages, &FIRST)?;
     check_rows(alloc, tables, pages, &SECOND)
 }
@@ -281,9 +279,9 @@ fn check_tables(alloc: Global, tables: &Tables) -> Result<(), Fail> {
     check_all_rows(alloc, tables, &pages)
 }
 
-/// The tables have no table of steps, and the pages have one.
+/// Tables ask for each property of a scalar, and pages keep kinds: both give the same passages.
 #[test]
-fn without_a_table_of_steps(rt: HostRuntime) -> Result<(), Fail> {
+fn passages_by_tables_and_by_pages(rt: HostRuntime) -> Result<(), Fail> {
     let alloc = rt.alloc();
     let tables = tables_of(alloc, SAMPLES)?;
     check_tables(alloc, &tables)

@@ -1,5 +1,5 @@
-//! The breaks of texts in memory over the sample files, in both profiles, from sources with and without a table of
-//! steps and in blocks of all sizes.
+//! The breaks of texts in memory over the sample files, in both profiles, from pages and from tables and in blocks
+//! of all sizes.
 
 use lbk_breaks::{Break, Breaks};
 use lbk_rules::{CellSource, Kind, Profile, Rule, Verdict, decide_in};
@@ -7,7 +7,7 @@ use std::alloc::{AllocError, Global};
 use std::fmt::Write;
 use std::process::Abort;
 use std::test::Fail;
-use test_support::calls::{has_step_table, pages_by, tables_of};
+use test_support::calls::{pages_by, tables_of};
 use test_support::cells::cells_of;
 use test_support::checks::same;
 use test_support::property_files::SAMPLES;
@@ -212,7 +212,6 @@ fn check_source<C: CellSource>(rt: &impl Abort, alloc: Global, source: &C) -> Re
 #[test]
 fn breaks_of_texts(rt: HostRuntime) -> Result<(), Fail> {
     let pages = pages_by(rt.alloc(), SAMPLES)?;
-    assert!(&rt; has_step_table(&pages));
     check_source(&rt, rt.alloc(), &pages)?;
     Ok(())
 }

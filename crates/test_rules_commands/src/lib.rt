@@ -57,7 +57,6 @@ mod sample_ranges;
 #[cfg(test)]
 mod sizes_of_passages;
 #[cfg(test)]
-mod step_tables;
 #[cfg(test)]
 mod surface;
 #[cfg(test)]

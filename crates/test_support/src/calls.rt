@@ -23,7 +23,3 @@ pub fn pages_by(alloc: Global, files: Files<'_>) -> Result<CellPages, Fail> {
 pub fn cell_of<C: CellSource>(source: &C, c: char) -> Cell {
     source.cell(c)
 }
-
-pub fn has_step_table<C: CellSource>(cells: &C) -> bool {
-    cells.step_table().is_some()
-}

@@ -1,6 +1,6 @@
 //! Texts of three scalars of which each has another class or flag, and property files by which they have these.
 
-use crate::calls::{cell_of, has_step_table, pages_by};
+use crate::calls::{cell_of, pages_by};
 use crate::cells::{mark, pictograph, plain, wide};
 use crate::checks::same;
 use lbk_rules::{Cell, CellPages, Class, Quote};
@@ -150,10 +150,9 @@ const EACH_ONCE: Files<'static> = Files {
     emoji: b"0128;Extended_Pictographic\n",
 };
 
-/// The pages of these files, which have the cells of these scalars, and a table of steps.
+/// The pages of these files, which have the cells of these scalars.
 pub fn pages_with(alloc: Global, files: Files<'_>, scalars: &[Scalar]) -> Result<CellPages, Fail> {
     let pages = pages_by(alloc, files)?;
-    same(&has_step_table(&pages), &true, &"a table of steps")?;
     check_cells(&pages, scalars)?;
     Ok(pages)
 }

@@ -55,15 +55,6 @@ pub fn front_of(text: &str) -> &str {
         .unwrap_or(text)
 }
 
-/// The cells of these tables, with a table of steps: without it each layer would count the same, and be slow.
-pub fn cells_of(alloc: Global, tables: &Tables) -> Result<CellPages> {
-    let cells = CellPages::build(alloc, tables)?;
-    if cells.step_table().is_none() {
-        bail!("the property files have no table of steps");
-    }
-    Ok(cells)
-}
-
 pub fn passages_of(alloc: Global, cells: &CellPages, text: &str) -> Result<Vec<(usize, usize)>> {
     let mut source = MemorySource::new(text.as_bytes());
     let Ok(mut segmenter) = Segmenter::new(alloc, cells, LIMIT_MAX, Profile::First) else {

@@ -2,7 +2,7 @@
 
 use crate::inputs::tables_of;
 use crate::layers::{LAYERS, Layer};
-use crate::material::{Material, cells_of, front_of, parts_of, passages_of, shown_of};
+use crate::material::{Material, front_of, parts_of, passages_of, shown_of};
 use anyhow::Result;
 use lbk_ucd::Files;
 use std::io;
@@ -30,7 +30,7 @@ pub fn print(rt: &HostRuntime, name: &str) -> Result<()> {
 
 fn print_front(rt: &HostRuntime, name: &str, files: Files<'_>, text: &str) -> Result<()> {
     let tables = tables_of(rt.alloc(), files)?;
-    let cells = cells_of(rt.alloc(), &tables)?;
+    let cells = CellPages::build(rt.alloc(), &tables)?;
     print_with_passages(
         rt,
         name,

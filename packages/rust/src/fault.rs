@@ -65,10 +65,8 @@ pub enum Cause {
     TooManyRows,
     /// The heap refused memory.
     OutOfMemory,
-    /// The rules need more steps than a table has. No files that were tested make them.
-    TableTooLarge,
     /// The file is not the one that Unicode published; only of [`Table::read_published`](crate::Table::read_published).
-    NotPublished,
+    NotPublished = 9,
 }
 
 impl Cause {
@@ -83,7 +81,6 @@ impl Cause {
             6 => Some(Cause::Overlap),
             7 => Some(Cause::TooManyRows),
             8 => Some(Cause::OutOfMemory),
-            9 => Some(Cause::TableTooLarge),
             _ => Some(Cause::NotPublished),
         }
     }

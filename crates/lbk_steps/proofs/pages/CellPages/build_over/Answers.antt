@@ -1,13 +1,10 @@
-use Rattle.std.proofs.Common.{◌≡◌, ℕ, ◌-◌, ◌∙◌, [], Some, IfSome, get_or, ap, refl, subst, sym, arith}
+use Rattle.std.proofs.Common.{◌≡◌, ◌-◌, ◌∙◌, [], get_or, ap, refl, sym, arith}
 use Rattle.std.proofs.lemmas.List.{get_or_default}
-use Rattle.std.specs.Char.{IsScalar}
 use Rattle.lbk_steps.specs.CellPages.{page_cell}
 use Rattle.lbk_uax14.specs.Ends.{ends_line}
-use Rattle.lbk_uax14.specs.Normal.{normal}
 use Rattle.lbk_steps.specs.Pages.{cell_in}
-use Rattle.lbk_steps.specs.RowFits.{AreKindsOf}
-use Rattle.lbk_steps.specs.RowMachineFits.{IsTableOf, normal_in}
-use Rattle.lbk_steps.proofs.PagesLemmas.{cell_in-filled, filled_more, next_page-same}
+use Rattle.lbk_steps.specs.Kinds.{kind_of}
+use Rattle.lbk_steps.proofs.PagesLemmas.{cell_in-filled, filled_more, next_page-same, scalar_below}
 use Rattle.lbk_steps.proofs.pages.CellPages.build_over.Goals as goal
 use Rattle.lbk_steps.proofs.pages.CellPages.build_over.Goals.{then-run-first+then-first-run+in_ok-push, else-run-first+in_ok-number_of+in_ok-push-2}
 
@@ -48,17 +45,12 @@ invariant_of-result-clause-numbered g c = λ k below.
     rw c.into_pages.ensures.kept (c.loop-k.invariant.numbered k (omega arith))
 
 pub invariant_of-result-clause-same : goal.invariant_of-result-clause-same
-unfolding IsTableOf AreKindsOf normal_in
-invariant_of-result-clause-same g c =
-    let numbers = c.loop-k.numbers.items in
-    let pages = c.into_pages.result.items in
+invariant_of-result-clause-same g c = λ code scalar.
     let cell_of = g.C.CellRuns.cell_at c.args.source.now in
-    let filled : (code : ℕ) → IsScalar code → cell_in numbers pages code ≡ cell_of code = λ code scalar.
+    let filled : cell_in c.loop-k.numbers.items c.into_pages.result.items code ≡ cell_of code =
     rw c.into_pages.ensures.kept
-    (cell_in-filled cell_of numbers c.loop-k.kept.pages.items c.loop-k.k (omega arith) c.loop-k.invariant.filled code scalar) in
-    λ table code is scalar.
-    let built : IfSome (Some table) (λ t. IsTableOf t cell_of) = subst (λ o. IfSome o (λ t. IsTableOf t cell_of)) is c.in_ok-table.ensures.table in
-    built code scalar ∙ ap normal (sym (filled code scalar))
+    (cell_in-filled cell_of c.loop-k.numbers.items c.loop-k.kept.pages.items c.loop-k.k (omega arith) c.loop-k.invariant.filled code scalar) in
+    c.in_ok-kinds.ensures code (let below = scalar_below code scalar in omega arith) ∙ ap kind_of (sym filled)
 
 pub invariant_of-result-clause-quiet : goal.invariant_of-result-clause-quiet
 invariant_of-result-clause-quiet g c = λ code scalar on.

@@ -1,8 +1,14 @@
-use Rattle.std.proofs.Common.{◌∙◌}
-use Rattle.lbk_steps.proofs.RowMachineLemmas.{kind_same}
+use Rattle.std.proofs.Common.{ℕ, ◌<◌, sym, ap, subst, ◌∙◌}
+use Rattle.lbk_uax14.specs.declared.cells.Cell.{Cell}
+use Rattle.lbk_steps.specs.Kinds.{kind_cell, kind_of}
+use Rattle.lbk_steps.proofs.KindsLemmas.{kind-cell, kind-few}
 use Rattle.lbk_steps.proofs.row_machine.RowMachine.cell.Goals as goal
 
 pub returns : goal.returns
-returns c = λ profile cell taken fits.
+returns g c = λ profile cell taken fits.
     c.cell_of_kind.ensures
-    ∙ kind_same c.args.self.now.kinds.now cell c.args.c c.of.result fits.kinds_same c.ranges.c.0 c.of.ensures.kind
+    ∙ ap kind_cell (c.kind.ensures ∙ ap (λ (f : ℕ → Cell). kind_of (f c.args.c)) (sym fits.cell_same))
+    ∙ kind-cell (cell c.args.c)
+
+pub cell_of_kind-requires : goal.cell_of_kind-requires
+cell_of_kind-requires g c = subst (λ n. n < 84) (sym c.kind.ensures) (kind-few (g.C.CellSource.cell_of c.args.self.now.cells.now c.args.c))

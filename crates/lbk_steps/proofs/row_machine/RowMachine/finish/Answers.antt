@@ -4,6 +4,6 @@ use Rattle.lbk_steps.proofs.RowMachineLemmas.{end-normal}
 use Rattle.lbk_steps.proofs.row_machine.RowMachine.finish.Goals as goal
 
 pub returns : goal.returns
-returns c = λ profile cell taken fits.
+returns g c = λ profile cell taken fits.
     end-normal profile cell taken c.verdict_at_end.result
-    (c.verdict_at_end.ensures profile (reverse (normals cell taken)) (c.left.ensures (normals cell taken) fits.row_same))
+    (c.verdict_at_end.ensures profile (reverse (normals cell taken)) (c.left.ensures profile cell taken fits))

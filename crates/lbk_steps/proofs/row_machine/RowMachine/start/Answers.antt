@@ -1,7 +1,7 @@
 use Rattle.std.proofs.Common.{refl}
-use Rattle.lbk_steps.specs.RowFits.{RowFits}
+use Rattle.lbk_steps.specs.Rows.{left_at, row_left}
 use Rattle.lbk_steps.proofs.row_machine.RowMachine.start.Goals as goal
 
 pub returns : goal.returns
-unfolding RowFits
-returns c = λ cell same. record { kinds_same = same; profile_same = refl; row_same = c.args.rows.now.start }
+unfolding left_at row_left
+returns g c = record { cell_same = refl; profile_same = refl; row_same = refl }

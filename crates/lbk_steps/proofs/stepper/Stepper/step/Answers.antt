@@ -1,61 +1,46 @@
-use Rattle.std.proofs.Common.{◌≡◌, ◌<◌, ℕ, [], ◌∷◌, ◌++◌, Option, map, sym, ap, subst, ◌∙◌}
-use Rattle.std.proofs.lemmas.List.{length-map, map-append}
-use Rattle.lbk_uax14.specs.declared.cells.Cell.{Cell}
-use Rattle.lbk_steps.specs.declared.row_stepper.RowStepper.{RowStepper}
-use Rattle.lbk_uax14.specs.Held.{late_at, now_at}
-use Rattle.lbk_uax14.specs.LateFits.{LateFits}
-use Rattle.lbk_steps.specs.StepperFits.{StepperFits, WayFits}
+use Rattle.std.proofs.Common.{◌≡◌, false, cond, Some, None, [], ◌∷◌, ◌++◌, map, reverse, sym, ap, subst, ◌∙◌, arith}
+use Rattle.std.proofs.lemmas.List.{length_push}
+use Rattle.lbk_uax14.specs.Held.{is_15b}
+use Rattle.lbk_uax14.specs.LateFits.{waiting}
+use Rattle.lbk_uax14.specs.Normal.{normal}
+use Rattle.lbk_steps.specs.RowMachineFits.{normals}
+use Rattle.lbk_steps.specs.StepperFits.{Holds}
+use Rattle.lbk_steps.proofs.HoldsLemmas.{Holds-calm, Holds-no_late, none-held}
+use Rattle.lbk_uax14.proofs.NormalLemmas.{late-normal}
+use Rattle.lbk_steps.proofs.RowMachineLemmas.{held-chain-normal, normals-back, now-told}
 use Rattle.lbk_steps.proofs.stepper.Stepper.step.Goals as goal
 
-pub returns-in-Some-clause-now : goal.returns-in-Some-clause-now
-unfolding StepperFits
-returns-in-Some-clause-now g c = λ profile cell taken more fits few.
-    let source = g.C.CellSource.cell_of c.args.self.now.cells.now in
-    c.step.ensures.now profile cell taken more
-    (subst (λ (w : Option RowStepper). WayFits source w c.args.self.now.rules profile cell taken) c.in-Some.is fits)
+pub returns-then-not-is_15b-clause-now : goal.returns-then-not-is_15b-clause-now
+returns-then-not-is_15b-clause-now g c = λ profile cell taken more fits few.
+    let verdict = c.step-verdict.result in
+    let settled : is_15b verdict.rule ≡ false = sym c.is_15b.ensures ∙ c.if-not-is_15b.true in
+    sym (ap (λ v. cond v None (Some verdict)) settled)
+    ∙ now-told profile cell taken c.args.c more verdict
+    (c.step-verdict.ensures.held profile cell taken more fits.machine_fits)
+    (c.step-verdict.ensures.decides profile cell taken more fits.machine_fits)
 
-pub returns-in-Some-clause-late : goal.returns-in-Some-clause-late
-unfolding StepperFits
-returns-in-Some-clause-late g c = λ profile cell taken more fits few.
-    let source = g.C.CellSource.cell_of c.args.self.now.cells.now in
-    c.step.ensures.late profile cell taken more
-    (subst (λ (w : Option RowStepper). WayFits source w c.args.self.now.rules profile cell taken) c.in-Some.is fits)
+pub returns-then-not-is_15b-clause-late : goal.returns-then-not-is_15b-clause-late
+returns-then-not-is_15b-clause-late g c = λ profile cell taken more fits few.
+    let waits = waiting profile (reverse (normals cell taken)) in
+    let none = none-held c.args.self.now.held c.is_none.result c.is_none.ensures c.if-is_none.true in
+    Holds-no_late profile (normals cell taken) (normal (cell c.args.c)) (map normal more)
+    (subst (λ h. Holds profile h waits) none fits.held_same)
+    ∙ late-normal profile (map cell taken) (cell c.args.c) more
 
-pub returns-in-Some-clause-fits : goal.returns-in-Some-clause-fits
-unfolding StepperFits
-returns-in-Some-clause-fits g c = λ profile cell taken fits few.
-    let source = g.C.CellSource.cell_of c.args.self.now.cells.now in
-    c.step.ensures.fits profile cell taken
-    (subst (λ (w : Option RowStepper). WayFits source w c.args.self.now.rules profile cell taken) c.in-Some.is fits) few
-
-pub returns-in-None-clause-now : goal.returns-in-None-clause-now
-unfolding StepperFits
-returns-in-None-clause-now g c = λ profile cell taken more fits few.
-    let source = g.C.CellSource.cell_of c.args.self.now.cells.now in
-    let fit = subst (λ (w : Option RowStepper). WayFits source w c.args.self.now.rules profile cell taken) c.in-None.is fits in
-    let count = subst (λ n. n < 18446744073709551615) (sym (length-map taken cell)) few in
-    let same : source c.args.c ≡ cell c.args.c = ap (λ (f : ℕ → Cell). f c.args.c) (sym fit.0) in
-    c.step_by_rules.ensures.now profile (map cell taken) more fit.1 count ∙ ap (λ x. now_at profile (map cell taken) (x ∷ more)) same
-
-pub returns-in-None-clause-late : goal.returns-in-None-clause-late
-unfolding StepperFits
-returns-in-None-clause-late g c = λ profile cell taken more fits few.
-    let source = g.C.CellSource.cell_of c.args.self.now.cells.now in
-    let fit = subst (λ (w : Option RowStepper). WayFits source w c.args.self.now.rules profile cell taken) c.in-None.is fits in
-    let count = subst (λ n. n < 18446744073709551615) (sym (length-map taken cell)) few in
-    let same : source c.args.c ≡ cell c.args.c = ap (λ (f : ℕ → Cell). f c.args.c) (sym fit.0) in
-    c.step_by_rules.ensures.late profile (map cell taken) more fit.1 count ∙ ap (λ x. late_at profile (map cell taken) x more) same
-
-pub returns-in-None-clause-fits : goal.returns-in-None-clause-fits
-unfolding StepperFits
-returns-in-None-clause-fits g c = λ profile cell taken fits few.
-    let source = g.C.CellSource.cell_of c.args.self.now.cells.now in
-    let fit = subst (λ (w : Option RowStepper). WayFits source w c.args.self.now.rules profile cell taken) c.in-None.is fits in
-    let count = subst (λ n. n < 18446744073709551615) (sym (length-map taken cell)) few in
-    let same : source c.args.c ≡ cell c.args.c = ap (λ (f : ℕ → Cell). f c.args.c) (sym fit.0) in
-    let joined = ap (λ x. map cell taken ++ x ∷ []) same ∙ sym (map-append cell taken (c.args.c ∷ [])) in
-    let self = c.step_by_rules.new.self in
-    let after = subst (LateFits self.rules profile) joined (c.step_by_rules.ensures.fits profile (map cell taken) fit.1 count) in
-    let fits-by = λ (source : ℕ → Cell) (w : Option RowStepper). WayFits source w self.rules profile cell (taken ++ c.args.c ∷ []) in
-    subst (λ s. fits-by (g.C.CellSource.cell_of s) self.rows) (sym c.step_by_rules.ensures.cells)
-    (subst (fits-by source) (sym (c.step_by_rules.ensures.rows ∙ c.in-None.is)) (fit.0, after))
+pub returns-then-not-is_15b-clause-fits : goal.returns-then-not-is_15b-clause-fits
+returns-then-not-is_15b-clause-fits g c = λ profile cell taken fits few.
+    let side = reverse (normals cell taken) in
+    let counted = fits.steps_same in
+    let more = length_push taken c.args.c in
+    let none = none-held c.args.self.now.held c.is_none.result c.is_none.ensures c.if-is_none.true in
+    let settled = held-chain-normal profile cell taken c.args.c
+    ∙ c.step-verdict.ensures.held profile cell taken [] fits.machine_fits
+    ∙ sym c.is_15b.ensures ∙ c.if-not-is_15b.true in
+    let calm = Holds-calm profile side (normal (cell c.args.c)) settled
+    (subst (λ h. Holds profile h (waiting profile side)) none fits.held_same) in
+    record {
+      machine_fits = c.step-verdict.ensures.fits profile cell taken fits.machine_fits;
+      steps_same = omega arith;
+      held_same = subst (λ h. Holds profile h (waiting profile (reverse (normals cell (taken ++ c.args.c ∷ []))))) (sym none)
+          (subst (λ s. Holds profile None (waiting profile s)) (sym (normals-back cell taken c.args.c)) calm);
+    }

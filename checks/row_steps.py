@@ -1,0 +1,7 @@
+"""The rows of steps of lbk_steps are what scripts/row-steps writes from the rules."""
+
+from checks.harness import TOP, run_script
+
+
+def run(tally, _arguments):
+    run_script(tally, [TOP / "scripts/row-steps", "--check"])

@@ -1,0 +1,128 @@
+//! Steps: what happens at a cell of some kind after some cells, in either profile.
+
+ghost use Rattle.std.specs.Prelude.{◌≡◌, ◌%◌, ℕ, map};
+ghost use Rattle.lbk_uax14.specs.declared.verdicts.Verdict.{Verdict};
+ghost use Rattle.lbk_uax14.specs.Codes.{kind_numbered, rule_numbered};
+ghost use Rattle.lbk_uax14.specs.Facts.{facts};
+ghost use Rattle.lbk_uax14.specs.Held.{is_15b};
+ghost use Rattle.lbk_uax14.specs.Normal.{normal};
+ghost use Rattle.lbk_uax14.specs.Sides.{Side};
+ghost use Rattle.lbk_steps.specs.declared.kinds.TheConstants.{KINDS};
+ghost use Rattle.lbk_steps.specs.declared.steps.TheConstants.{WIDTH};
+ghost use Rattle.lbk_steps.specs.Rows.{IsPlace, IsStepFrom, cells_of, left_at, shown_of, steps_in, with_kind};
+ghost use Rattle.lbk_values.specs.declared.profile.Profile.{Profile};
+
+use crate::kinds::{KINDS, cell_of_kind};
+use crate::row_steps::{FIRST_STEPS, ROWS, SAMPLES, SECOND_STEPS};
+use lbk_uax14::{Kind, Left, Profile, Rule, Verdict};
+
+/// How many steps a row has: one for each number that 7 bits have, so that any number is that of one, once it is masked.
+pub const WIDTH: usize = 128;
+
+/// The number of rule 15b.
+const RULE_15B: u16 = 8 * 15 + 2;
+
+/// What happens at a cell of some kind after some cells. Each row of steps knows what the rules ask of some cells, and is named
+/// by its place: 128 times its number among the rows. The row at 0 knows of no cell.
+#[repr(C)]
+#[derive(Clone, Copy, PartialEq, Eq, Debug)]
+pub struct Step {
+    /// The number of the verdict before the cell: 256 times that of its rule, and that of its kind. In the second profile, of the
+    /// verdict where what follows leaves a closing quotation mark closed.
+    pub shown: u16,
+    /// The place of the row after the cell.
+    pub next: u16,
+}
+
+/// The steps of a profile, from each row.
+pub type Rows = [[Step; WIDTH]; ROWS];
+
+/// The steps of a profile.
+pub fn rows_of(profile: Profile) -> &'static Rows
+    ensures { result.now ≡ steps_in profile }
+{
+    match profile {
+        Profile::First => &FIRST_STEPS,
+        Profile::Second => &SECOND_STEPS,
+    }
+}
+
+/// The step from the row at a place by a kind. A number that is no kind's is masked, and then is that of one.
+#[inline(always)]
+pub fn step_from(rows: &Rows, place: u16, kind: u8) -> Step
+    requires { IsPlace place }
+    ensures { (profile : Profile) → rows.now ≡ steps_in profile → IsStepFrom profile place (kind % WIDTH % KINDS) result }
+{
+    rows[usize::from(place) / WIDTH][usize::from(kind) % WIDTH]
+}
+
+/// What the row at a place knows. It is asked for seldom, and is found from the row's sample.
+pub(crate) fn left_of(place: u16) -> Left
+    requires { IsPlace place }
+    ensures { result ≡ left_at place }
+{
+    known_of(&SAMPLES[usize::from(place) / WIDTH])
+}
+
+/// What is known of the cells of these kinds.
+fn known_of(kinds: &[u8; 3]) -> Left
+    ensures { result ≡ facts (cells_of kinds.now) }
+{
+    let far = with_kind(Left::start(), kinds[2]);
+    with_kind(with_kind(far, kinds[1]), kinds[0])
+}
+
+/// What is known once a cell of a kind follows. A number that is no kind's stands for none.
+fn with_kind(left: Left, kind: u8) -> Left
+    ensures { (side : Side) → facts side ≡ left → result ≡ facts (with_kind kind side) }
+{
+    if usize::from(kind) < KINDS {
+        left.then(cell_of_kind(kind))
+    } else {
+        left
+    }
+}
+
+/// Whatever the cells on the left are, some row knows what the rules ask of them: no text needs a row more.
+pub fn each_side_has_a_row()
+    ensures { (side : Side) → (place : ℕ) × IsPlace place × (facts (map normal side) ≡ left_at place) }
+{}
+
+/// The verdict of a number.
+#[inline(always)]
+pub fn verdict_of(shown: u16) -> Verdict
+    ensures { (verdict : Verdict) → shown ≡ shown_of verdict → result ≡ verdict }
+{
+    Verdict {
+        kind: kind_numbered(shown % 256),
+        rule: rule_numbered((shown / 256) as u8),
+    }
+}
+
+/// Whether it is the number of a verdict by rule 15b.
+#[inline(always)]
+pub fn is_held(shown: u16) -> bool
+    ensures { (verdict : Verdict) → shown ≡ shown_of verdict → result ≡ is_15b verdict.rule }
+{
+    shown / 256 == RULE_15B
+}
+
+/// The kind of a number.
+#[inline(always)]
+fn kind_numbered(number: u16) -> Kind
+    ensures { result ≡ kind_numbered number }
+{
+    match number {
+        1 => Kind::May,
+        2 => Kind::Must,
+        _ => Kind::No,
+    }
+}
+
+/// The rule of a number, rule 2 for one that no rule has.
+#[inline(always)]
+fn rule_numbered(number: u8) -> Rule
+    ensures { result ≡ rule_numbered number }
+{
+    Rule::numbered(number).unwrap_or(Rule::Lb2)
+}
