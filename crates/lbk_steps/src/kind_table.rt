@@ -37,7 +37,7 @@ impl KindTable {
     }
 
     /// The kind of `c`.
-    #[inline]
+    #[inline(always)]
     #[tactic(auto, unfolding(crate::specs::KindTable::kind_at))]
     pub(crate) fn of(&self, c: char) -> u8
         ensures kind { result ≡ kind_at self.now c }

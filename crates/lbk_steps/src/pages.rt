@@ -99,6 +99,7 @@ impl CellSource for CellPages {
         self.pages[usize::from(number)][code % PAGE_LENGTH]
     }
 
+    #[inline(always)]
     #[tactic(auto, unfolding(crate::specs::CellPages::page_cell))]
     fn kind(&self, c: char) -> u8 {
         self.kinds.of(c)

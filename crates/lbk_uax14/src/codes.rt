@@ -16,6 +16,7 @@ pub const VERDICTS: u16 = 3 * RULES;
 impl Rule {
     /// The rule of a number, which is 8 times its own and the place of its letter: 65 for rule 8a. None comes for a number
     /// that no rule has.
+    #[inline(always)]
     pub fn numbered(number: u8) -> Option<Rule>
         ensures { result ≡ find (λ rule. rule_number rule == number) rules }
     {

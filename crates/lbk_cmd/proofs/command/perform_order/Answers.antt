@@ -5,10 +5,6 @@ use Rattle.lbk_cmd.specs.Ending.{ending_of_files}
 use Rattle.lbk_cmd.proofs.Runs.{ready_performs, same_fault}
 use Rattle.lbk_cmd.proofs.command.perform_order.Goals as goal
 
-pub invariant_of-ready : goal.invariant_of-ready
-invariant_of-ready g c =
-    let cells = c.in-Ok.ready.cells in record { complete = cells.complete; numbered = cells.numbered; distinct = cells.distinct; given = cells.given; same = cells.same; quiet = cells.quiet }
-
 pub returns-in-Ok-clause-performs : goal.returns-in-Ok-clause-performs
 returns-in-Ok-clause-performs g c =
     ready_performs g.T.File.Source (g.S.Store.file c.args.store.now) _ (task_of c.args.order) _ _ c.in-Ok.ready _ _

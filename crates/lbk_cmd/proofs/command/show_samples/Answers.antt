@@ -2,10 +2,6 @@ use Rattle.std.proofs.Common.{inl, inr, refl}
 use Rattle.lbk_rules.specs.CellPages.{page_cell}
 use Rattle.lbk_cmd.proofs.command.show_samples.Goals as goal
 
-pub invariant_of-cells : goal.invariant_of-cells
-invariant_of-cells g c =
-    let cells = c.in-Ok.cells in record { complete = cells.complete; numbered = cells.numbered; distinct = cells.distinct; given = cells.given; same = cells.same; quiet = cells.quiet }
-
 pub returns-in-Ok : goal.returns-in-Ok
 returns-in-Ok g c = inr (
   page_cell c.in-Ok.cells,
