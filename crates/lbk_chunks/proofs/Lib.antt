@@ -6,3 +6,4 @@ pub mod EndLemmas
 pub mod StartLemmas
 pub mod GivenLemmas
 pub mod TextLemmas
+pub mod LawLemmas

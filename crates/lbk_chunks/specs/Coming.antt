@@ -21,6 +21,7 @@ use Rattle.lbk_chunks.specs.declared.cursor.NextBreak.{NextBreak}
 use Rattle.lbk_chunks.specs.declared.chunking.Given.{Given}
 use Rattle.lbk_chunks.specs.Chunks.{AreChunks, Here, after, are_limits, chunk_to, cuts_past, end_of, fits, fitting, last_early, last_of}
 use Rattle.lbk_chunks.specs.Cuts.{cuts_among}
+pub use Rattle.lbk_chunks.specs.Cuts.{AreCutsPast}
 
 -- the word that was read and not passed
 abbrev pub held : Word → ℕ
@@ -50,14 +51,10 @@ abbrev pub AreOnward : ℕ → List Word → Type 0
 AreOnward from [] = Unit {0}
 AreOnward from (w ∷ ws) = (from ≤ w.start) × (w.start ≤ w.end) × AreOnward w.end ws
 
--- breaks stand one behind the other, past a byte; and cuts
+-- breaks stand one behind the other, past a byte
 abbrev pub AreBreaksPast : ℕ → List Break → Type 0
 AreBreaksPast at [] = Unit {0}
 AreBreaksPast at (b ∷ bs) = (at < b.at) × AreBreaksPast b.at bs
-
-abbrev pub AreCutsPast : ℕ → List Cut → Type 0
-AreCutsPast at [] = Unit {0}
-AreCutsPast at (c ∷ cs) = (at < c.at) × AreCutsPast c.at cs
 
 -- no word was passed twice, and those to come stand one behind the other
 pub record AreCounted (text : List ℕ) (place : Place) : Type 0 where

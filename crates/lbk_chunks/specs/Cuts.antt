@@ -1,5 +1,5 @@
 -- The cuts of a text: its breaks (UAX #14, section 3) that stand within no word of it (UAX #29, section 4).
-use Rattle.std.specs.Prelude.{ℕ, ◌+◌, ◌&&◌, Bool, nat_le, nat_lt, List, [], ◌∷◌, count_by, if◌then◌else◌}
+use Rattle.std.specs.Prelude.{ℕ, ◌+◌, ◌<◌, ◌&&◌, Bool, nat_le, nat_lt, List, [], ◌∷◌, count_by, if◌then◌else◌}
 use Rattle.std.specs.List.{list_any}
 use Rattle.lbk_rules.specs.declared.Break.{Break}
 use Rattle.lbk_rules.specs.declared.Cell.{Cell}
@@ -28,3 +28,8 @@ cuts_among count words (b ∷ bs) =
 
 abbrev pub cuts_of : Profile → (ℕ → Cell) → List ℕ → List Cut
 cuts_of profile cell text = cuts_among 0 (words_of text) (breaks_of_bytes profile cell text)
+
+-- cuts stand one behind the other, past a byte
+abbrev pub AreCutsPast : ℕ → List Cut → Type 0
+AreCutsPast at [] = Unit {0}
+AreCutsPast at (c ∷ cs) = (at < c.at) × AreCutsPast c.at cs

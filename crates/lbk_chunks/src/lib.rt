@@ -5,8 +5,10 @@ mod chunk;
 mod chunking;
 mod cursor;
 mod cut;
+mod laws;
 mod words_behind;
 
 pub use chunk::{Chunk, ChunkState, Limits};
 pub use chunking::chunks;
 pub use cut::{Cut, Place};
+pub use laws::chunks_of_cuts;
