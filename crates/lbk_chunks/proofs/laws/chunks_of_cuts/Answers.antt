@@ -1,4 +1,4 @@
-use Rattle.lbk_chunks.proofs.LawLemmas.{chunks-exist, chunks-joined, chunks-whole, chunks-within}
+use Rattle.lbk_chunks.proofs.LawLemmas.{chunks-exist, chunks-full, chunks-joined, chunks-start-past, chunks-whole, chunks-within}
 use Rattle.lbk_chunks.proofs.TextLemmas.{text-rising}
 use Rattle.lbk_chunks.proofs.laws.chunks_of_cuts.Goals as goal
 
@@ -16,3 +16,9 @@ returns-clause-within c = chunks-within
 
 pub returns-clause-joined : goal.returns-clause-joined
 returns-clause-joined c = chunks-joined
+
+pub returns-clause-starts : goal.returns-clause-starts
+returns-clause-starts c = chunks-start-past
+
+pub returns-clause-full : goal.returns-clause-full
+returns-clause-full c = chunks-full
