@@ -144,6 +144,29 @@ static void try_bad_limits(void)
     }
 }
 
+/* The chunks that docs/c.md shows. */
+static void try_shown(void)
+{
+    static const char text[] = "one two. three\nfour five six";
+    static const struct {
+        lbk_limits limits;
+        size_t count, places[8];
+    } shown[] = {
+        {{.most = 12, .least = 12}, 3, {0, 9, 9, 20, 20, 28}},
+        {{.most = 12, .least = 6}, 4, {0, 9, 9, 15, 15, 25, 25, 28}},
+        {{.most = 12, .least = 12, .overlap = 5}, 4, {0, 9, 9, 20, 15, 25, 20, 28}},
+    };
+    for (size_t k = 0; k < sizeof shown / sizeof *shown; k++) {
+        lbk_chunk_state state = {0};
+        lbk_chunk block[MOST_CHUNKS];
+        size_t count = lbk_chunks(&real, &shown[k].limits, &state, text, sizeof text - 1, block, MOST_CHUNKS);
+        int same = count == shown[k].count;
+        for (size_t i = 0; same && i < count; i++)
+            same = block[i].start == shown[k].places[2 * i] && block[i].end == shown[k].places[2 * i + 1];
+        told("the chunks of the page", same);
+    }
+}
+
 /* Any table, limits and state: the call returns, and the chunks go through the text. */
 static void try_any_table(const lbk_table *any)
 {
@@ -195,6 +218,7 @@ int main(int words, char **word)
     blocks = fence(MOST_CHUNKS * sizeof(lbk_chunk));
     states = fence(sizeof(lbk_chunk_state));
     try_bad_limits();
+    try_shown();
     for (int k = 7; k < words; k++)
         try_file(word[k]);
     for (unsigned long round = 0; round < rounds; round++) {

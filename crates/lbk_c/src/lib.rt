@@ -32,7 +32,7 @@ pub use labels::lbk_label;
 pub use laws::{no_step_leads_two_to_one, only_bytes_from_a_state_on};
 pub use lbk_bytes::RawBreak;
 pub use lbk_calls::{ClassLabel, RuleLabel, State};
-pub use lbk_chunks::{Chunk, ChunkState, Limits, Place};
+pub use lbk_chunks::{Chunk, ChunkState, Limits, Place, chunks_of_cuts};
 pub use lbk_cuts::{joined_parts, only_bytes_near_a_cut};
 pub use lbk_streams::{Fed, Stream, bytes_that_could_go_on};
 pub use lbk_units::same_in_each_encoding;
