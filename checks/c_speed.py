@@ -28,8 +28,6 @@ BOUNDS = [
     ("the pages", "lbk_positions", 0.15),
     ("the pages", "lbk_marks", 0.45),
     ("the pages", "lbk_words", 0.02),
-    ("the pages", "lbk_chunks", 0.03),
-    ("the pages", "lbk_chunks-100", 0.015),
     ("letters of two bytes", "lbk_breaks", 0.35),
     ("letters of two bytes", "lbk_breaks-2", 0.35),
     ("letters of two bytes", "lbk_breaks-8", 0.06),
@@ -37,8 +35,6 @@ BOUNDS = [
     ("letters of two bytes", "lbk_feed", 0.35),
     ("letters of two bytes", "lbk_marks", 0.5),
     ("letters of two bytes", "lbk_words", 0.03),
-    ("letters of two bytes", "lbk_chunks", 0.04),
-    ("letters of two bytes", "lbk_chunks-100", 0.02),
     ("letters of three bytes", "lbk_breaks", 0.17),
     ("letters of three bytes", "lbk_breaks-2", 0.17),
     ("letters of three bytes", "lbk_breaks-8", 0.06),
@@ -46,11 +42,16 @@ BOUNDS = [
     ("letters of three bytes", "lbk_feed", 0.17),
     ("letters of three bytes", "lbk_marks", 0.12),
     ("letters of three bytes", "lbk_words", 0.03),
-    ("letters of three bytes", "lbk_chunks", 0.028),
-    ("letters of three bytes", "lbk_chunks-100", 0.014),
     # Without the loop of steps 0.033 was left, and of `lbk_feed` 0.029; with it 0.056 was the least, beside other load.
     (HELD, "lbk_breaks-2", 0.045),
     (HELD, "lbk_feed", 0.17),
+    # Chunks of at most 500 bytes, and with an overlap of 100.
+    ("the pages", "lbk_chunks", 0.03),
+    ("the pages", "lbk_chunks-100", 0.015),
+    ("letters of two bytes", "lbk_chunks", 0.04),
+    ("letters of two bytes", "lbk_chunks-100", 0.02),
+    ("letters of three bytes", "lbk_chunks", 0.028),
+    ("letters of three bytes", "lbk_chunks-100", 0.014),
 ]
 
 
