@@ -187,7 +187,7 @@ try_c() {
     for name in breaks save_table utf16 words; do
         tried "$1: $name.c" "$1" -std=c99 "${warnings[@]}" "${flags[@]}" "$top/examples/$name.c" "${links[@]}" -o "$here/built/$name-$1"
     done
-    for name in blocks edges hurt marks published streams cuts units; do
+    for name in blocks chunks edges hurt marks published streams cuts units; do
         tried "$1: $name.c" "$1" -std=c99 "${warnings[@]}" "${checks[@]}" "${flags[@]}" "$top/examples/$name.c" "${links[@]}" \
             -o "$here/built/$name-$1"
     done
@@ -208,6 +208,7 @@ try_c() {
     count "$1: cuts.c" "$here/built/cuts-$1" 5000 1 "${files[@]}"
     count "$1: units.c" "$here/built/units-$1" 20000 1 "${files[@]}" ${published:+"$here/test-lines"}
     count "$1: marks.c" "$here/built/marks-$1" 20000 1 "${files[@]}" "${texts[@]}"
+    count "$1: chunks.c" "$here/built/chunks-$1" 100000 1 "${files[@]}" "${texts[@]}"
     if [ -n "$published" ]; then count "$1: published.c" "$here/built/published-$1" "${files[@]}"; fi
     count "$1: refused.c, each allocation refused" "$here/built/refused-$1" "${files[@]}"
     count "$1: threads.c" "$here/built/threads-$1" "${files[@]}"

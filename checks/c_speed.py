@@ -64,6 +64,13 @@ BOUNDS = [
     # Without the loop of steps 0.033 was left, and of `lbk_feed` 0.029; with it 0.056 was the least, beside other load.
     (HELD, "lbk_breaks-2", 0.045),
     (HELD, "lbk_feed", 0.17),
+    # Chunks of at most 500 bytes, and with an overlap of 100.
+    ("the pages", "lbk_chunks", 0.03),
+    ("the pages", "lbk_chunks-100", 0.015),
+    ("letters of two bytes", "lbk_chunks", 0.04),
+    ("letters of two bytes", "lbk_chunks-100", 0.02),
+    ("letters of three bytes", "lbk_chunks", 0.028),
+    ("letters of three bytes", "lbk_chunks-100", 0.014),
 ]
 
 

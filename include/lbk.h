@@ -226,6 +226,36 @@ typedef struct lbk_word {
     size_t start, end; /* counted from the text's start */
 } lbk_word;
 
+/* What a chunk may hold. lbk_chunks gives none where `most` is 0, `least` is over `most`, or `overlap`
+ * is over half of `most`. */
+typedef struct lbk_limits {
+    size_t most;    /* at most so many bytes */
+    size_t words;   /* at most so many words; 0: any number */
+    size_t least;   /* where a line must end, a chunk may end early, once it has so many bytes that no chunk before it has */
+    size_t overlap; /* the next chunk may begin with at most so many bytes of this one, and with at most half of it */
+} lbk_limits;
+
+/* How far a text was cut into chunks. All zeros are the start of a text in the first profile; set
+ * breaks.profile for the second. As lbk_state it is a value, and holds of each text that has the same
+ * bytes. Callers read `start` and `told`; the others are numbers of the library's own. */
+typedef struct lbk_chunk_state {
+    lbk_state breaks; /* behind the last cut that was read */
+    size_t from;      /* the byte from which words were not read */
+    lbk_word word;    /* the word that was read last, if it is not behind the cut */
+    size_t words;     /* how many words are behind the cut */
+    size_t start;     /* where the next chunk starts */
+    size_t told;      /* where the last one ended */
+} lbk_chunk_state;
+
+/* A chunk of a text: the bytes from `start` up to `end`, not counting that one. */
+typedef struct lbk_chunk {
+    size_t start, end; /* counted from the text's start */
+    size_t words;      /* how many words it has */
+    uint8_t kind;      /* LBK_MAY or LBK_MUST: whether the line may or must end at its end */
+    uint8_t rule;      /* the rule that decided there */
+    bool alone;        /* it is larger than the limits: it has no cut at which it could have ended */
+} lbk_chunk;
+
 /* The name of a rule without `LB`, as "8a": ASCII, and zeros up to the end. The last byte is always zero. */
 typedef struct lbk_rule_label {
     char text[4];
@@ -401,6 +431,38 @@ size_t lbk_positions_utf32(const lbk_table *table, lbk_state *state, const uint3
  * block past the returned count are unspecified. Takes no memory from the heap. */
 size_t lbk_words(lbk_word_state *state, const char *text, size_t size, lbk_word *block, size_t room);
 
+/* Puts the next chunks of a text into the front of a block with room for `room` chunks, and returns how
+ * many. Fewer than `room` says that these were all:
+ *
+ *     lbk_limits limits = {.most = 500, .least = 250, .overlap = 100};
+ *     lbk_chunk_state state = {0};                   the start of a text
+ *     lbk_chunk block[64];
+ *     size_t count;
+ *     do {
+ *         count = lbk_chunks(&table, &limits, &state, text, size, block, 64);
+ *         for (size_t k = 0; k < count; k++)
+ *             .. text + block[k].start, block[k].end - block[k].start ..
+ *     } while (count == 64);
+ *
+ * A cut is a break of lbk_breaks that stands within no word of lbk_words, and so is the text's end.
+ * Each chunk ends at a cut, and starts at one or at the text's start. A chunk is as long as the
+ * limits allow, but ends at the last place within them where a line must end, if it has `least` bytes
+ * up to there that no chunk before it has, unless all that is left fits. What has no cut within the
+ * limits is a chunk of its own, and `alone`. The next chunk starts where this one ends, or, with
+ * an overlap, at the first cut of this one from which it has no more of it than lbk_limits says, and
+ * from which the next cut behind its end is within the limits. Without overlap the chunks, one after
+ * another, are the text.
+ *
+ * `text`, `size` and ill-formed bytes are as lbk_breaks has them. `text` is the whole text at each call. All
+ * calls for a text take time in proportion to its size, whatever the limits are; each call goes over the last
+ * chunk and what comes after it up to the limits once more. Returns 0 and leaves the state
+ * unchanged where `room` is 0, where no chunk is left, and for limits that lbk_limits excludes. Whatever
+ * the table and the state hold, each chunk starts at `told`, that is, the end of the chunk before it, or
+ * earlier, and ends past it and within the text. Entries of the block past the returned count are
+ * unspecified. Takes no memory from the heap. */
+size_t lbk_chunks(const lbk_table *table, const lbk_limits *limits, lbk_chunk_state *state, const char *text, size_t size,
+                  lbk_chunk *block, size_t room);
+
 /* Returns the first byte at or after `at` where a part of the text may begin: one before which a line
  * must end, or the text's size where there is none. Returns 0 for 0, and the size for an `at` that is
  * not below it.
@@ -457,6 +519,9 @@ LBK_ASSERT(a_fed_has_16_bytes, sizeof(lbk_fed) == 16);
 LBK_ASSERT(a_break_has_16_bytes, sizeof(lbk_break) == 16);
 LBK_ASSERT(a_word_state_has_8_bytes, sizeof(lbk_word_state) == 8);
 LBK_ASSERT(a_word_has_16_bytes, sizeof(lbk_word) == 16);
+LBK_ASSERT(limits_have_32_bytes, sizeof(lbk_limits) == 32);
+LBK_ASSERT(a_chunk_state_has_64_bytes, sizeof(lbk_chunk_state) == 64);
+LBK_ASSERT(a_chunk_has_32_bytes, sizeof(lbk_chunk) == 32);
 LBK_ASSERT(a_fault_has_12_bytes, sizeof(lbk_fault) == 12);
 LBK_ASSERT(a_label_has_4_bytes, sizeof(lbk_rule_label) == 4);
 LBK_ASSERT(a_class_label_has_4_bytes, sizeof(lbk_class_label) == 4);

@@ -123,6 +123,9 @@ static void try_others(void)
     lbk_break block[4], others[4];
     lbk_word words[4];
     uint64_t bits[1];
+    lbk_chunk_state of_chunks = {0};
+    lbk_limits limits = {.most = size};
+    lbk_chunk chunks[4];
     allocations = 0, refused_number = 1, refuses_later = 1, is_counting = 1;
     size_t count = lbk_breaks(&table, &state, text, size, block, 4);
     lbk_fed fed = lbk_feed(&table, &stream, text, size, true, others, 4);
@@ -133,6 +136,7 @@ static void try_others(void)
     size_t at_scalars = lbk_positions_utf32(&table, &of_scalar_positions, scalars, 3, others, 4);
     size_t places = lbk_marks(&table, &of_marks, text, size, bits, 1);
     size_t of_text = lbk_words(&of_words, text, size, words, 4);
+    size_t pieces = lbk_chunks(&table, &limits, &of_chunks, text, size, chunks, 4);
     size_t cut = lbk_cut(&table, text, size, 1), cut_before = lbk_cut_before(&table, text, size, size - 1);
     lbk_rule_label label = lbk_label(block[0].rule);
     lbk_class_label class = lbk_class(&table, 'a');
@@ -142,7 +146,7 @@ static void try_others(void)
     told("the other calls take no memory", 0, allocations == 0);
     told("they give what they give", 0,
          count == 4 && fed.count == 4 && positions == 4 && in_units == 2 && in_scalars == 2 && at_units == 4 && at_scalars == 4 && places == size + 1
-             && of_text == 4 && cut == 6 && cut_before == 6
+             && of_text == 4 && pieces == 1 && cut == 6 && cut_before == 6
              && label.text[0] != 0 && class.text[0] != 0 && cause.text[0] != 0 && file.text[0] != 0 && version.text[0] != 0 && whole);
 }
 

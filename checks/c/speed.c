@@ -131,6 +131,30 @@ static uint64_t go_marks(const char *text, size_t size)
     return sum;
 }
 
+static uint64_t chunks_of(const char *text, size_t size, size_t overlap)
+{
+    lbk_limits limits = {.most = 500, .least = 250, .overlap = overlap};
+    lbk_chunk_state state = {0};
+    static lbk_chunk chunks[ROOM];
+    uint64_t sum = 0;
+    size_t count;
+    do {
+        count = lbk_chunks(&table, &limits, &state, text, size, chunks, ROOM);
+        sum += count;
+    } while (count == ROOM);
+    return sum;
+}
+
+static uint64_t go_chunks(const char *text, size_t size)
+{
+    return chunks_of(text, size, 0);
+}
+
+static uint64_t go_overlaps(const char *text, size_t size)
+{
+    return chunks_of(text, size, 100);
+}
+
 static uint64_t feed_of(const char *text, size_t size, size_t most)
 {
     lbk_stream stream = {0};
@@ -250,6 +274,7 @@ int main(int count, char **word)
         const char *name;
         uint64_t (*go)(const char *, size_t);
     } calls[] = {
+        {"lbk_chunks", go_chunks},  {"lbk_chunks-100", go_overlaps},
         {"lbk_breaks", go_first},   {"lbk_breaks-2", go_second}, {"lbk_breaks-8", go_short}, {"lbk_breaks-60", go_lines},
         {"lbk_feed", go_feed},      {"lbk_feed-8", go_feed_short}, {"lbk_positions", go_positions}, {"lbk_marks", go_marks},
         {"lbk_words", go_words},    {"lbk_cut", go_cuts},        {"lbk_cut_before", go_cuts_before},

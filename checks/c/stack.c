@@ -167,6 +167,19 @@ static void *do_words(void *none)
     return none;
 }
 
+static void *do_chunks(void *none)
+{
+    static const lbk_limits limits = {.most = 500, .words = 60, .least = 250, .overlap = 100};
+    static lbk_chunk chunks[ROOM];
+    lbk_chunk_state state = {.breaks = {.profile = profile}};
+    size_t count;
+    do {
+        count = lbk_chunks(&table, &limits, &state, text.at, text.size, chunks, ROOM);
+        total += count;
+    } while (count == ROOM);
+    return none;
+}
+
 static void *do_cuts(void *none)
 {
     for (size_t from = 0; from < text.size; from = lbk_cut(&table, text.at, text.size, from + 1))
@@ -219,6 +232,8 @@ static void try_text(void)
         told("lbk_feed gives as many breaks as lbk_breaks", total == breaks);
         run_in_thread("lbk_marks", do_marks);
         told("lbk_marks sets as many bits as lbk_breaks gives breaks", total == breaks);
+        run_in_thread("lbk_chunks", do_chunks);
+        told("lbk_chunks gives chunks", total > 0 || text.size == 0);
         run_in_thread("lbk_positions", do_positions);
         told("lbk_positions gives positions", total > breaks);
         run_in_thread("UTF-16, UTF-32", do_units);

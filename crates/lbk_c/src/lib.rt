@@ -7,6 +7,7 @@
 
 mod breaking;
 mod checking;
+mod chunking;
 mod class_labels;
 mod cuts;
 mod faults;
@@ -23,6 +24,7 @@ mod words;
 
 pub use breaking::lbk_breaks;
 pub use checking::lbk_check;
+pub use chunking::lbk_chunks;
 pub use class_labels::lbk_class;
 pub use cuts::{lbk_cut, lbk_cut_before};
 pub use interface::{Fault, Text};
@@ -30,6 +32,7 @@ pub use labels::lbk_label;
 pub use laws::{no_step_leads_two_to_one, only_bytes_from_a_state_on};
 pub use lbk_bytes::RawBreak;
 pub use lbk_calls::{ClassLabel, RuleLabel, State};
+pub use lbk_chunks::{Chunk, ChunkState, Limits, Place, chunks_of_cuts};
 pub use lbk_cuts::{joined_parts, only_bytes_near_a_cut};
 pub use lbk_streams::{Fed, Stream, bytes_that_could_go_on};
 pub use lbk_units::same_in_each_encoding;

@@ -1,0 +1,109 @@
+-- Chunks given, one after another.
+use Rattle.std.proofs.Common.{◌≡◌, ℕ, zero, suc, ◌+◌, ◌-◌, Bool, not, ◌<◌, ◌≤◌, List, [], ◌∷◌, ◌++◌, length, take, drop, refl, sym, ap, ap₂, subst, ◌∙◌, arith}
+use Rattle.lbk_rules.specs.declared.Cell.{Cell}
+use Rattle.lbk_rules.specs.declared.FlatTable.{FlatTable}
+use Rattle.lbk_chunks.specs.declared.chunk.Chunk.{Chunk}
+use Rattle.lbk_chunks.specs.declared.chunk.ChunkState.{ChunkState}
+use Rattle.lbk_chunks.specs.declared.chunk.Limits.{Limits}
+use Rattle.lbk_chunks.specs.declared.chunking.Given.{Given}
+use Rattle.lbk_chunks.specs.declared.cut.Cut.{Cut}
+use Rattle.lbk_chunks.specs.Chunks.{AreChunks, AreTold, Here, after, chunk_to, cuts_past, end_of, fits}
+use Rattle.lbk_chunks.specs.Coming.{ChunksCome, IsAt, IsGiven, here_of}
+
+-- the elements in front, and one more
+pub take-next : (n : ℕ) (xs : List Chunk) (x : Chunk) (rest : List Chunk) → drop n xs ≡ x ∷ rest
+    → (take (suc n) xs ≡ take n xs ++ x ∷ []) × (drop (suc n) xs ≡ rest) × (suc n ≤ length xs)
+take-next zero [] x rest is = absurd (let no : ⊥ = cc in no)
+take-next (suc n) [] x rest is = absurd (let no : ⊥ = cc in no)
+take-next zero (y ∷ ys) x rest is =
+    let same : y ≡ x = cc in
+    let others : ys ≡ rest = cc in
+    (ap (λ v. v ∷ []) same, others, omega arith)
+take-next (suc n) (y ∷ ys) x rest is =
+    let more = take-next n ys x rest is in
+    (ap (λ l. y ∷ l) more.0, more.1, omega (arith, more.2))
+
+pub one-more : (n : ℕ) (xs : List Chunk) (x : Chunk) (rest : List Chunk) → drop n xs ≡ x ∷ rest
+    → (take (n + 1) xs ≡ take n xs ++ x ∷ []) × (drop (n + 1) xs ≡ rest) × (n + 1 ≤ length xs)
+one-more n xs x rest is =
+    let more = take-next n xs x rest is in
+    let same : suc n ≡ n + 1 = omega arith in
+    subst (λ k. (take k xs ≡ take n xs ++ x ∷ []) × (drop k xs ≡ rest) × (k ≤ length xs)) same more
+
+pub chunk-same : (limits : Limits) (h : Here) (end : Cut) (words : ℕ) (alone : Bool) → words ≡ end.words - h.words → alone ≡ not (fits limits h end)
+    → record { start = h.start; end = end.at; words = words; kind = end.kind; rule = end.rule; alone = alone } ≡ chunk_to limits h end
+chunk-same limits h end words alone same_words same_alone =
+    let made : ℕ → Bool → Chunk = λ w a. record { start = h.start; end = end.at; words = w; kind = end.kind; rule = end.rule; alone = a } in
+    ap₂ made same_words same_alone
+
+-- the first of the chunks to come
+pub record IsFirstChunk (limits : Limits) (cuts : List Cut) (given : Given) (chunks : List Chunk) : Type 0 where
+  pub rest : List Chunk
+  pub joined : chunks ≡ given.chunk ∷ rest
+  pub onward : AreChunks limits cuts (here_of given.state) rest
+
+pub first-chunk : (cell : ℕ → Cell) (table : FlatTable) (text : List ℕ) (limits : Limits) (cuts : List Cut) (state : ChunkState) (given : Given) (chunks : List Chunk)
+    → IsGiven cell table text limits cuts state given → AreChunks limits cuts (here_of state) chunks → IsFirstChunk limits cuts given chunks
+first-chunk cell table text limits cuts state given [] g are = absurd (let joined = g.ends.joined in let no : ⊥ = cc in no)
+first-chunk cell table text limits cuts state given (chunk ∷ chunks) g are =
+    let h = here_of state in
+    let joined : are.0 ∷ are.1 ≡ g.ends.first ∷ cuts_past g.ends.first.at cuts = sym are.2 ∙ g.ends.joined in
+    let same_first : are.0 ≡ g.ends.first = cc in
+    let same_more : are.1 ≡ cuts_past g.ends.first.at cuts = cc in
+    let same : end_of limits h are.0 are.1 ≡ g.end = ap₂ (end_of limits h) same_first same_more ∙ sym g.ends.is in
+    record {
+      rest = chunks;
+      joined = ap (λ c. c ∷ chunks) (are.3 ∙ ap (chunk_to limits h) same ∙ sym g.chunk);
+      onward = subst (λ x. AreChunks limits cuts x chunks) (ap (after limits cuts h) same ∙ sym g.next) are.4;
+    }
+
+-- no chunk comes where no cut does
+pub no-chunk : (limits : Limits) (cuts : List Cut) (h : Here) (chunks : List Chunk) → cuts_past h.told cuts ≡ [] → AreChunks limits cuts h chunks → chunks ≡ []
+no-chunk limits cuts h [] none are = refl
+no-chunk limits cuts h (chunk ∷ chunks) none are = absurd (let joined = are.2 in let no : ⊥ = cc in no)
+
+-- a chunk more is told
+pub told-more : (from to size : ℕ) (cs : List Chunk) (c : Chunk) → AreTold from to size cs → c.start ≤ to → to < c.end → c.end ≤ size → AreTold from c.end size (cs ++ c ∷ [])
+told-more from to size [] c told start end within = (omega (arith, told), omega (arith, told), within, refl)
+told-more from to size (d ∷ ds) c told start end within = (told.0, told.1, told.2, told-more d.end to size ds c told.3 start end within)
+
+-- how many were given where none is left
+pub none-left : (count : ℕ) (xs : List Chunk) → count ≤ length xs → drop count xs ≡ [] → count ≡ length xs
+none-left zero [] few none = refl
+none-left zero (x ∷ xs) few none = absurd (let no : ⊥ = cc in no)
+none-left (suc n) [] few none = absurd (omega arith)
+none-left (suc n) (x ∷ xs) few none = (let more = none-left n xs (omega arith) none in omega arith)
+
+-- what was given of the chunks to come
+pub record AreGiven (cell : ℕ → Cell) (table : FlatTable) (text : List ℕ) (limits : Limits) (to_come : List Chunk) (count : ℕ) (out : List Chunk) (state : ChunkState) : Type 0 where
+  pub few : count ≤ length to_come
+  pub front : take count out ≡ take count to_come
+  pub rest : ChunksCome cell table text limits state (drop count to_come)
+
+pub give-more : (cell : ℕ → Cell) (table : FlatTable) (text : List ℕ) (limits : Limits) (to_come : List Chunk) (count : ℕ) (before out : List Chunk) (state : ChunkState) (given : Given)
+    → AreGiven cell table text limits to_come count before state
+    → ((cuts : List Cut) → IsAt cell table text cuts state → IsGiven cell table text limits cuts state given)
+    → take (count + 1) out ≡ take count before ++ given.chunk ∷ []
+    → AreGiven cell table text limits to_come (count + 1) out given.state
+give-more cell table text limits to_come count before out state given were gives more =
+    let g = gives were.rest.cuts were.rest.stands in
+    let first = first-chunk cell table text limits were.rest.cuts state given (drop count to_come) g were.rest.chunks in
+    let one = one-more count to_come given.chunk first.rest first.joined in
+    record {
+      few = one.2;
+      front = more ∙ ap (λ l. l ++ given.chunk ∷ []) were.front ∙ sym one.0;
+      rest = record {
+        in_range = were.rest.in_range;
+        cuts = were.rest.cuts;
+        stands = g.stands;
+        chunks = subst (AreChunks limits were.rest.cuts (here_of given.state)) (sym one.1) first.onward;
+      };
+    }
+
+pub none-more : (cell : ℕ → Cell) (table : FlatTable) (text : List ℕ) (limits : Limits) (to_come : List Chunk) (count : ℕ) (out : List Chunk) (state : ChunkState)
+    → AreGiven cell table text limits to_come count out state
+    → ((cuts : List Cut) → IsAt cell table text cuts state → cuts_past state.told cuts ≡ [])
+    → count ≡ length to_come
+none-more cell table text limits to_come count out state were none =
+    none-left count to_come were.few
+    (no-chunk limits were.rest.cuts (here_of state) (drop count to_come) (none were.rest.cuts were.rest.stands) were.rest.chunks)

@@ -1,0 +1,12 @@
+use Rattle.std.proofs.Common.{◌≡◌, []}
+use Rattle.lbk_chunks.specs.Coming.{IsPassed, left, words_ahead}
+use Rattle.lbk_chunks.proofs.words_behind.pass_words.Given as goal
+
+abbrev pub invariant-loop-here : goal.invariant-loop-here
+invariant-loop-here l = record {
+  passed : IsPassed l.text l.at l.fn.place l.here;
+  none : l.here.word.end ≡ 0 → words_ahead l.text l.here ≡ [];
+}
+
+abbrev pub decreases-loop-here : goal.decreases-loop-here
+decreases-loop-here l = left l.text l.here

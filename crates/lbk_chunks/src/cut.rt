@@ -1,0 +1,31 @@
+//! Cuts of a text, and the places behind them.
+
+use lbk_calls::State;
+use lbk_words::Word;
+
+/// A cut of a text: a break that stands within no word.
+#[derive(Clone, Copy)]
+pub struct Cut {
+    /// The byte that it stands before.
+    pub at: usize,
+    /// How many words are before it.
+    pub words: usize,
+    /// Whether the line may or must end there: 1 for May, 2 for Must.
+    pub kind: u8,
+    /// The number of the rule that decided there.
+    pub rule: u8,
+}
+
+/// How far the breaks and the words of a text were read. One of zeros stands at the start of a text.
+#[repr(C)]
+#[derive(Clone, Copy)]
+pub struct Place {
+    /// The state behind the last break that was read.
+    pub breaks: State,
+    /// The byte from which the words come that were not read.
+    pub from: usize,
+    /// The word that was read and not passed, if its end is not 0.
+    pub word: Word,
+    /// How many words were passed.
+    pub words: usize,
+}

@@ -1,0 +1,14 @@
+//! Chunks: a text cut for search and retrieval, where a line may end and no word does not.
+#![tactic(auto)]
+
+mod chunk;
+mod chunking;
+mod cursor;
+mod cut;
+mod laws;
+mod words_behind;
+
+pub use chunk::{Chunk, ChunkState, Limits};
+pub use chunking::chunks;
+pub use cut::{Cut, Place};
+pub use laws::chunks_of_cuts;
