@@ -7,8 +7,8 @@ ghost use Rattle.lbk_passage.specs.Pieces.{is_word, pieces_of};
 use crate::flags::ByteFlags;
 use crate::passage::Piece;
 use lbk_rules::CellSource;
+use lbk_words::PartEnds;
 use std::alloc::AllocError;
-use unicode_segmentation::UnicodeSegmentation;
 
 /// Writes the pieces of a text in place of what the list held (UAX #29, section 4). Where memory could not grow the
 /// list holds some of them.
@@ -25,11 +25,16 @@ pub fn cut_words<C: CellSource>(
     ensures full { OnErr result (vec_capacity pieces.old < length (pieces_of (C.cell_of cells.now) text.now)) }
 {
     pieces.clear();
+    let bytes = text.as_bytes();
+    let mut ends = PartEnds::none();
     let mut start = 0;
-    for piece in text.split_word_bounds() {
-        let end = start + piece.len() as u32;
-        let word = is_word(cells, flags, piece);
-        pieces.push(Piece { start, end, word })?;
+    while start < bytes.len() {
+        let end = ends.end_of(bytes, start);
+        pieces.push(Piece {
+            start: start as u32,
+            end: end as u32,
+            word: is_word(cells, flags, &text[start..end]),
+        })?;
         start = end;
     }
     Ok(())

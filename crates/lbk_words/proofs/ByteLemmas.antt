@@ -50,7 +50,8 @@ same_class-true c d same =
     ∙ ap (made d.letter d.digit d.low_line d.mid_letter) (same_from_beq _ _ mids.1)
 
 abbrev byte_right : ℕ → ℕ → Bool
-byte_right byte k = is_plain k && same_class (class_of byte) (kind_class k)
+byte_right byte k =
+    is_plain k && (same_class (class_of byte) (kind_class k) && (beq (byte == 13) (k == 0) && (beq (byte == 10) (k == 8) && beq (byte == 32) (k == 16))))
 
 bytes_right : passes_below kind_at kind_stepped byte_right 128 ≡ true
 unfolding all_below tables word_break_stepped general_category_stepped is_extended_pictographic_stepped
@@ -59,11 +60,23 @@ bytes_right = refl
 pub record IsByte (byte : ℕ) : Type 0 where
   pub plain : is_plain (kind_at byte) ≡ true
   pub class : class_of byte ≡ kind_class (kind_at byte)
+  pub return : (byte == 13) ≡ (kind_at byte == 0)
+  pub feed : (byte == 10) ≡ (kind_at byte == 8)
+  pub space : (byte == 32) ≡ (kind_at byte == 16)
 
 pub is-byte : (byte : ℕ) → byte < 128 → IsByte byte
 is-byte byte low =
-    let parts = and_parts _ _ (Stepped-below kind_at kind_stepped byte_right 128 bytes_right byte low) in
-    record { plain = parts.0; class = same_class-true _ _ parts.1 }
+    let plain = and_parts _ _ (Stepped-below kind_at kind_stepped byte_right 128 bytes_right byte low) in
+    let class = and_parts _ _ plain.1 in
+    let return = and_parts _ _ class.1 in
+    let feed = and_parts _ _ return.1 in
+    record {
+      plain = plain.0;
+      class = same_class-true _ _ class.0;
+      return = same_from_beq _ _ return.0;
+      feed = same_from_beq _ _ feed.0;
+      space = same_from_beq _ _ feed.1;
+    }
 
 -- the step from a row by a kind before another
 abbrev pub stepped : ℕ → ℕ → ℕ → Step
@@ -137,6 +150,26 @@ first_right k =
 firsts_right : each first_right ≡ true
 unfolding all_below
 firsts_right = refl
+
+-- the row behind a byte that is of no run
+abbrev pub other_row : ℕ → ℕ
+other_row k = cond (k == 0) 0 (cond (k == 16) 9 (cond (k == 8 || k == 12) 6 1))
+
+-- CR LF, and two spaces
+abbrev pub pair_kinds : ℕ → ℕ → Bool
+pair_kinds k a = (k == 0 && a == 8) || (k == 16 && a == 16)
+
+abbrev other_right : ℕ → ℕ → ℕ → Bool
+other_right k a b =
+    let step = stepped (other_row k) a b in
+    beq step.cuts (not (pair_kinds k a)) && (not (pair_kinds k a) || (step.next == other_row a))
+
+abbrev others_right_at : ℕ → Bool
+others_right_at k = goes_on (kind_class k) || ((slice_index FIRST_ROWS k == other_row k) && each (λ a. each (other_right k a)))
+
+others_right : each others_right_at ≡ true
+unfolding all_below
+others_right = refl
 
 -- What they say
 
@@ -227,3 +260,31 @@ first-outside k plain other = by (begins (kind_class k)) (kind_class k).low_line
     by false false none right = right
     by true low none right = absurd (let never : ⊥ = cc in never)
     by false true none right = absurd (let never : ⊥ = cc in never)
+
+other-at : (k : ℕ) → is_plain k ≡ true → goes_on (kind_class k) ≡ false → ((slice_index FIRST_ROWS k == other_row k) && each (λ a. each (other_right k a))) ≡ true
+other-at k plain other =
+    sym (ap (λ b. b || ((slice_index FIRST_ROWS k == other_row k) && each (λ a. each (other_right k a)))) other) ∙ each-at others_right_at k others_right plain
+
+pub first-other : (k : ℕ) → is_plain k ≡ true → goes_on (kind_class k) ≡ false → slice_index FIRST_ROWS k ≡ other_row k
+first-other k plain other = eqb-true _ _ (and_parts _ _ (other-at k plain other)).0
+
+other-step : (k a b : ℕ) → is_plain k ≡ true → is_plain a ≡ true → is_plain b ≡ true → goes_on (kind_class k) ≡ false → other_right k a b ≡ true
+other-step k a b pk pa pb other =
+    each-at (other_right k a) b (each-at (λ a. each (other_right k a)) a (and_parts _ _ (other-at k pk other)).1 pa) pb
+
+pub other-ends : (k a b : ℕ) → is_plain k ≡ true → is_plain a ≡ true → is_plain b ≡ true → goes_on (kind_class k) ≡ false → pair_kinds k a ≡ false
+    → (stepped (other_row k) a b).cuts ≡ true
+other-ends k a b pk pa pb other apart = same_from_beq _ _ (and_parts _ _ (other-step k a b pk pa pb other)).0 ∙ ap not apart
+
+pub record IsPaired (k a b : ℕ) : Type 0 where
+  pub joins : (stepped (other_row k) a b).cuts ≡ false
+  pub row : (stepped (other_row k) a b).next ≡ other_row a
+
+pub other-pair : (k a b : ℕ) → is_plain k ≡ true → is_plain a ≡ true → is_plain b ≡ true → goes_on (kind_class k) ≡ false → pair_kinds k a ≡ true → IsPaired k a b
+other-pair k a b pk pa pb other pair =
+    let step = stepped (other_row k) a b in
+    let parts = and_parts _ _ (other-step k a b pk pa pb other) in
+    record {
+      joins = same_from_beq _ _ parts.0 ∙ ap not pair;
+      row = eqb-true _ _ (sym (ap (λ p. not p || (step.next == other_row a)) pair) ∙ parts.1);
+    }

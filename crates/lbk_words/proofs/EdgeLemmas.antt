@@ -89,7 +89,7 @@ mark-between (suc i) mid before after apart = ap (λ b. mid && ((b && before) &&
 
 -- Edges
 
-not-false : (b : Bool) → not b ≡ false → b ≡ true
+pub not-false : (b : Bool) → not b ≡ false → b ≡ true
 not-false true e = refl
 not-false false e = absurd (let never : ⊥ = cc in never)
 

@@ -12,4 +12,6 @@ pub mod ByteLemmas
 pub mod RunLemmas
 pub mod EdgeLemmas
 pub mod TakenLemmas
+pub mod PairLemmas
+pub mod EndLemmas
 pub mod WellFormedLemmas

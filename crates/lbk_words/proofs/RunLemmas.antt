@@ -22,13 +22,13 @@ use Rattle.lbk_words.proofs.RowLemmas.{few-answers, first-row, step-asked}
 use Rattle.lbk_words.proofs.StepLemmas.{filled-part, first-in_row, row-begins, row-ends, row-goes-on}
 use Rattle.lbk_words.proofs.WalkLemmas.{scalars-next}
 
-abbrev byte : List ℕ → ℕ → ℕ
+abbrev pub byte : List ℕ → ℕ → ℕ
 byte text p = slice_index text p
 
-abbrev kind : List ℕ → ℕ → ℕ
+abbrev pub kind : List ℕ → ℕ → ℕ
 kind text p = kind_at (byte text p)
 
-abbrev class : List ℕ → ℕ → Class
+abbrev pub class : List ℕ → ℕ → Class
 class text p = class_of (byte text p)
 
 -- this byte and the next one are below 128
@@ -37,7 +37,7 @@ pub record IsPlain (text : List ℕ) (p : ℕ) : Type 0 where
   pub one : byte text p < 128
   pub two : byte text (p + 1) < 128
 
-read-plain : (text : List ℕ) (p : ℕ) → IsPlain text p → IsReadAt text p (byte text p) (p + 1)
+pub read-plain : (text : List ℕ) (p : ℕ) → IsPlain text p → IsReadAt text p (byte text p) (p + 1)
 read-plain text p plain = (let within = plain.within in one-read text p (omega arith) plain.one)
 
 -- what is ahead of the first is the second
@@ -50,7 +50,7 @@ ahead-plain text p plain =
     ap (λ l. value_at (significant l) 0) (scalars-next text (p + 1) b (p + 1 + 1) read)
     ∙ ap (λ l. value_at l 0) (significant-kept b (scalars_on text (p + 1 + 1)) kept) ∙ sym is.value
 
-step-plain : (text : List ℕ) (p row : ℕ) → IsPlain text p → row < 43
+pub step-plain : (text : List ℕ) (p row : ℕ) → IsPlain text p → row < 43
     → IsStep row (byte text p) (value_at (significant (scalars_on text (p + 1))) 0) (stepped row (kind text p) (kind text (p + 1)))
 step-plain text p row plain few =
     let b = byte text p in
@@ -58,7 +58,7 @@ step-plain text p row plain few =
     subst (λ v. IsStep row b far (told (step_number (answer_number v) row (kind_at b)))) (ahead-plain text p plain)
     (step-asked row b (kind_at b) far few (is-kind b (let one = plain.one in omega arith)) (few-answers far))
 
-first-plain : (text : List ℕ) (p row : ℕ) → IsPlain text p → slice_index FIRST_ROWS (kind text p) ≡ row → IsInRow text p (p + 1) row
+pub first-plain : (text : List ℕ) (p row : ℕ) → IsPlain text p → slice_index FIRST_ROWS (kind text p) ≡ row → IsInRow text p (p + 1) row
 first-plain text p row plain same =
     let b = byte text p in
     subst (IsInRow text p (p + 1)) same

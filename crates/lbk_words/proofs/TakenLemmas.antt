@@ -9,19 +9,19 @@ use Rattle.lbk_words.proofs.Booleans.{or_parts}
 use Rattle.lbk_words.proofs.EdgeLemmas.{IsRun}
 use Rattle.lbk_words.proofs.RunLemmas.{IsPlain, run-written}
 
-there : (text : List ℕ) (base q : ℕ) → base ≤ q → get_or (drop base text) (q - base) 0 ≡ slice_index text q
+pub there : (text : List ℕ) (base q : ℕ) → base ≤ q → get_or (drop base text) (q - base) 0 ≡ slice_index text q
 there text base q after = get_or-drop base text (q - base) 0 ∙ ap (λ n. slice_index text n) (let e : base + (q - base) ≡ q = omega arith in e)
 
-class-there : (text : List ℕ) (base q i : ℕ) → base ≤ q → i ≡ q - base → class_at (drop base text) i ≡ class_of (slice_index text q)
+pub class-there : (text : List ℕ) (base q i : ℕ) → base ≤ q → i ≡ q - base → class_at (drop base text) i ≡ class_of (slice_index text q)
 class-there text base q i after place = ap (class_at (drop base text)) place ∙ ap class_of (there text base q after)
 
-runs-there : (text : List ℕ) (base q : ℕ) → base < q
+pub runs-there : (text : List ℕ) (base q : ℕ) → base < q
     → runs_at (drop base text) (q - base) ≡ is_joined (class_of (slice_index text (q - 1))) (class_of (slice_index text q)) (class_of (slice_index text (q + 1)))
 runs-there text base q after =
     ap₂ (λ a b. is_joined a b (class_at (drop base text) (q - base + 1))) (class-there text base (q - 1) (q - base - 1) (omega arith) (omega arith)) (class-there text base q (q - base) (omega arith) (omega arith))
     ∙ ap (is_joined (class_of (slice_index text (q - 1))) (class_of (slice_index text q))) (class-there text base (q + 1) (q - base + 1) (omega arith) (omega arith))
 
-plain-there : (text : List ℕ) (base q : ℕ) → base ≤ q → q + 1 < length text → ArePlain (drop base text) (q - base) → IsPlain text q
+pub plain-there : (text : List ℕ) (base q : ℕ) → base ≤ q → q + 1 < length text → ArePlain (drop base text) (q - base) → IsPlain text q
 plain-there text base q after inside plain = record {
   within = inside;
   one = subst (λ b. b < 128) (there text base q after) plain.0;

@@ -1,21 +1,22 @@
 -- Well-formed text.
-use Rattle.std.proofs.Common.{◌≡◌, ℕ, ◌+◌, ◌<◌, true, false, cond, ◌&&◌, append_assoc, List, [], ◌∷◌, ◌++◌, drop, length, map, take, refl, sym, ap, ap₂, subst, ◌∙◌, arith}
+use Rattle.std.proofs.Common.{◌≡◌, ℕ, ◌+◌, ◌-◌, ◌<◌, Bool, true, false, cond, ◌&&◌, append_assoc, List, [], ◌∷◌, ◌++◌, drop, length, map, take, refl, sym, ap, ap₂, subst, ◌∙◌, arith}
 use Rattle.std.specs.Char.{encode_utf8}
 use Rattle.std.specs.List.{concat}
 use Rattle.std.specs.Str.{IsUtf8, chars, encode_utf8_all}
 use Rattle.std.proofs.lemmas.Bool.{and_parts}
 use Rattle.std.proofs.lemmas.Bool.Decides.{nat_tests}
 use Rattle.std.proofs.lemmas.List.{length-append, length-map, map-append, take_at}
-use Rattle.std.proofs.lemmas.Str.{chars-encodes}
-use Rattle.std.proofs.Math.Seq.{drop-append_seam}
+use Rattle.std.proofs.lemmas.Str.{chars-encodes, encodes-append}
+use Rattle.std.proofs.Math.Seq.{drop-append_seam, drop-drop}
 use lib.Utf8.{scalar, scalars}
-use Rattle.bstr.specs.Utf8.{Decoded, good, pieces}
+use Rattle.bstr.specs.Utf8.{Decoded, good, or_replacement, pieces}
 use Rattle.bstr.proofs.lemmas.EncodeLemmas.{decoded-encode}
 use Rattle.bstr.proofs.lemmas.PieceLemmas.{pieces-nil, pieces-step}
 use Rattle.unicode_segmentation.specs.Segments.{cut, prepend, segments}
 use Rattle.unicode_segmentation.specs.Word.{is_word_break, word_bounds}
 use Rattle.lbk_words.specs.Letters.{has_letter}
-use Rattle.lbk_words.specs.Words.{bytes_of, parts_of, scalars_of, words_among, words_in, words_of}
+use Rattle.lbk_words.specs.Places.{IsFirstPiece}
+use Rattle.lbk_words.specs.Words.{bytes_of, parts_of, scalars_of, scalars_on, words_among, words_in, words_of}
 
 -- a scalar as it is read from its own bytes
 abbrev pub good_of : ℕ → Decoded
@@ -99,3 +100,64 @@ encoded-words cs all =
 -- of well-formed text the words are those among the pieces that it is cut into
 pub words-utf8 : (text : List ℕ) → IsUtf8 text → words_of text ≡ words_in 0 (word_bounds text)
 words-utf8 text utf8 = subst (λ t. words_of t ≡ words_in 0 (word_bounds t)) utf8.1.1 (encoded-words utf8.0 utf8.1.0)
+
+-- of well-formed text the first part is the first piece, and what is behind it is well-formed too
+pub record IsFirstBound (text : List ℕ) (start end : ℕ) : Type 0 where
+  pub utf8 : IsUtf8 (drop end text)
+  pub bounds : word_bounds (drop start text) ≡ take (end - start) (drop start text) ∷ word_bounds (drop end text)
+
+pub first-bound : (text : List ℕ) (start end : ℕ) (is_word : Bool) → IsUtf8 (drop start text) → IsFirstPiece text start end is_word → IsFirstBound text start end
+unfolding segments
+first-bound text start end is_word utf8 first = record {
+  utf8 = (behind, (both.1, rest));
+  bounds =
+      ap word_bounds (sym utf8.1.1)
+      ∙ ap (λ l. map encode_utf8_all (parts_of l)) (chars-encodes cs utf8.1.0 ∙ sym read)
+      ∙ ap (map encode_utf8_all) first.first
+      ∙ ap₂ (λ x xs. x ∷ xs) (sym front) (ap (λ l. map encode_utf8_all (parts_of l)) (sym (chars-encodes behind both.1)) ∙ ap word_bounds rest);
+}
+  where
+    cs : List ℕ
+    cs = utf8.0
+
+    own : List ℕ
+    own = scalars_of first.part
+
+    behind : List ℕ
+    behind = scalars_on text end
+
+    -- the scalars that are read are those of the text
+    whole : pieces (drop start text) ≡ map good_of cs
+    whole = ap pieces (sym utf8.1.1) ∙ pieces-encode cs utf8.1.0
+
+    read : scalars_on text start ≡ cs
+    read = ap scalars_of whole ∙ scalars-good cs
+
+    split : own ++ behind ≡ cs
+    split = sym (map-append (λ (p : Decoded). or_replacement p.char) first.part (pieces (drop end text))) ∙ ap scalars_of (sym first.reads) ∙ read
+
+    both : (scalars own ≡ true) × (scalars behind ≡ true)
+    both = scalars-split own behind (ap scalars split ∙ utf8.1.0)
+
+    part : map good_of own ≡ first.part
+    part =
+        let count : length first.part ≡ length own = sym (length-map first.part (λ (p : Decoded). or_replacement p.char)) in
+        sym (take_at (map good_of own) (map good_of behind) (length first.part) (length-map own good_of ∙ sym count))
+        ∙ ap (take (length first.part)) (sym (map-append good_of own behind) ∙ ap (map good_of) split ∙ sym whole ∙ first.reads)
+        ∙ take_at first.part (pieces (drop end text)) (length first.part) refl
+
+    size : end - start ≡ length (encode_utf8_all own)
+    size = (let taken = sym (bytes-good own) ∙ ap bytes_of part in omega (arith, first.place))
+
+    bytes : drop start text ≡ encode_utf8_all own ++ encode_utf8_all behind
+    bytes = sym utf8.1.1 ∙ ap encode_utf8_all (sym split) ∙ encodes-append own behind
+
+    front : take (end - start) (drop start text) ≡ encode_utf8_all own
+    front = ap (take (end - start)) bytes ∙ take_at (encode_utf8_all own) (encode_utf8_all behind) (end - start) (sym size)
+
+    rest : encode_utf8_all behind ≡ drop end text
+    rest =
+        sym (drop-append_seam (encode_utf8_all own) (encode_utf8_all behind))
+        ∙ ap₂ (λ n l. drop n l) (sym size) (sym bytes)
+        ∙ drop-drop (end - start) start text
+        ∙ ap (λ n. drop n text) (let grows = first.grows in let e : start + (end - start) ≡ end = omega arith in e)

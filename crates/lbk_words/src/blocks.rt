@@ -59,7 +59,7 @@ pub(crate) struct Edges {
 
 /// The marks of the first 64 bytes.
 #[inline(always)]
-fn marks_of(bytes: &[u8]) -> Marks
+pub(crate) fn marks_of(bytes: &[u8]) -> Marks
     requires { 64 ≤ length bytes.now }
     ensures { AreMarks bytes.now result }
 {

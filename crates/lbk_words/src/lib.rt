@@ -6,6 +6,7 @@
 mod blocks;
 mod calls;
 mod decoding;
+mod ends;
 mod filling;
 mod kind_table;
 mod kinds;
@@ -17,5 +18,6 @@ mod steps;
 mod word;
 
 pub use calls::{WordState, lbk_words};
+pub use ends::PartEnds;
 pub use filling::fill;
 pub use word::{Filled, Word};

@@ -1,9 +1,9 @@
 //! Words found scalar by scalar.
 
-ghost use Rattle.std.specs.Prelude.{◌≡◌, ◌<◌, ◌≤◌, ◌+◌, ◌⊎◌, ℕ, List, length, if◌then◌else◌};
+ghost use Rattle.std.specs.Prelude.{◌≡◌, ◌<◌, ◌≤◌, ◌+◌, ◌⊎◌, ℕ, Bool, List, length, if◌then◌else◌};
 ghost use Rattle.unicode_segmentation.specs.Word.{significant, value_at};
 ghost use Rattle.lbk_words.specs.Filling.{IsFilled, IsFilling};
-ghost use Rattle.lbk_words.specs.Places.{IsReadAt};
+ghost use Rattle.lbk_words.specs.Places.{IsFirstPiece, IsReadAt};
 ghost use Rattle.lbk_words.specs.Rows.{IsStep};
 ghost use Rattle.lbk_words.specs.Words.{scalars_on};
 
@@ -63,6 +63,26 @@ pub(crate) fn fill_by_scalars(text: &[u8], here: Filled, stop: usize, out: &mut 
         count: part.count,
         at: part.begin,
     }
+}
+
+/// The end of the part that begins at a byte.
+pub(crate) fn part_end(text: &[u8], start: usize) -> usize
+    requires { start < length text.now }
+    ensures { (is_word : Bool) × IsFirstPiece text.now start result is_word }
+{
+    let first = scalar_at(text, start);
+    let mut at = first.end;
+    let mut row = first_row(first.code);
+    while at < text.len() {
+        let next = scalar_at(text, at);
+        let step = step_of(row, next.code, next.end, text);
+        if step.cuts {
+            return at;
+        }
+        at = next.end;
+        row = step.next;
+    }
+    at
 }
 
 /// Takes one more scalar, which ends at a byte. It writes the part so far whether the part ends there or not, so that
