@@ -16,7 +16,10 @@ ROWS = [
     ("replay --", "--ucd --line-break --east-asian --category --emoji --kinds --profile --help"),
     ("mark --ucd f", "folder"),
     ("mark --ucd folder f", "folder file"),
+    ("mark --s", "--sign"),
+    ("segment --s", ""),
     ("segment --from ", ""),
+    ("mark --sign ", ""),
     ("bogus ", ""),
 ]
 TRIED = """. "$1"; shift

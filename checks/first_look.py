@@ -26,6 +26,8 @@ WORDS = [
     ["mark", "--limit=99999999999999999999"], ["mark", "--profile", "3"], ["mark", "--no\x1b[1m"], ["segment", "--from", "+5", "--to", "4"],
     ["mark", *FILES, "--from", "5", "--to", "4"], ["mark", "--ucd", "none"], ["mark", "--ucd", "U.zip"], ["replay", "--ucd", "a\u2066\nb"],
     ["mark", *FILES, "none", "fo\u200flder"], ["mark", *FILES, "--", "--limit", "-x"], ["show", *FILES[:7], "none"],
+    ["mark", *FILES, "--sign", "ninebytes"], ["mark", *FILES, "--sign="], ["mark", *FILES, "--sign", "a\u2028"], ["show", *FILES, "--sign", "|"],
+    ["mark", *FILES, "--sign", "|", "--sign", "+"], ["mark", *FILES, "--sign"],
 ]  # fmt: skip
 SECONDS = 1  # of processor time
 STAND_IN = """#!/bin/sh

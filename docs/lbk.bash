@@ -7,7 +7,7 @@ _lbk() {
         return
     fi
     case ${COMP_WORDS[1]} in
-    mark) options="--ucd --line-break --east-asian --category --emoji --limit --from --to --profile --help" ;;
+    mark) options="--ucd --line-break --east-asian --category --emoji --limit --from --to --profile --sign --help" ;;
     show) options="--ucd --line-break --east-asian --category --emoji --limit --from --to --profile --help" ;;
     segment) options="--ucd --line-break --east-asian --category --emoji --limit --from --to --profile --help" ;;
     replay) options="--ucd --line-break --east-asian --category --emoji --kinds --profile --help" ;;
@@ -23,7 +23,7 @@ _lbk() {
         mapfile -t COMPREPLY < <(compgen -d -- "$word")
         return
         ;;
-    --limit|--from|--to|--profile) return ;;
+    --limit|--from|--to|--profile|--sign) return ;;
     esac
     case $word in
     -*) mapfile -t COMPREPLY < <(compgen -W "$options" -- "$word") ;;

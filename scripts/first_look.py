@@ -80,7 +80,10 @@ def refuse(text, task=None, has_usage=True, hint=""):
 def options_of(task):
     """The options with values of a subcommand, each with the name of its value."""
     named = {"ucd": "FOLDER", **FILES, "profile": "NUMBER"}
-    return named if task == "replay" else {**named, **{name: it[0] for name, it in NUMBERS.items()}}
+    if task == "replay":
+        return named
+    limited = {**named, **{name: it[0] for name, it in NUMBERS.items()}}
+    return {**limited, "sign": "TEXT"} if task == "mark" else limited
 
 
 def read(words):
@@ -202,6 +205,12 @@ def look_at_whole(task, given):
         refuse(UNNAMED, task)
     if int(given.get("from", 0)) > int(given.get("to", 2**32 - 1)):
         refuse("--from <BYTE> is greater than --to <BYTE>", task)
+    if not is_sign(given.get("sign", "÷")):
+        refuse("--sign <TEXT> is 1 to 8 bytes of UTF-8 without a line end", task)
+
+
+def is_sign(text):
+    return 1 <= len(text.encode()) <= 8 and not any(it in text for it in "\n\v\f\r\x85\u2028\u2029")
 
 
 def most_alike(word, others):

@@ -16,6 +16,7 @@ Numbers are decimal digits: --limit 1 to 16777216, --from and --to 0 to
 4294967295, --profile 1 or 2.
 """
 LIMIT_OPTION, FROM_OPTION = "--limit <NUMBER>", "--from <BYTE>"
+SIGN = "--sign <TEXT> is 1 to 8 bytes of UTF-8 without a line end"
 
 # Arguments behind those that name the files, and what is said of them, as the library clap words it for Rust; whether the usage
 # follows.
@@ -42,6 +43,9 @@ MISTAKES = [
     ("mark", "--version", UNEXPECTED.format("--version"), True),
     ("segment", "-é", UNEXPECTED.format("-é"), True),
     ("show", "--from 5 --to 4", "--from <BYTE> is greater than --to <BYTE>", True),
+    ("mark", "--sign ninebytes", SIGN, True),
+    ("mark", "--sign=", SIGN, True),
+    ("segment", "--sign +", UNEXPECTED.format("--sign"), True),
 ]
 
 

@@ -2,6 +2,7 @@
 use Rattle.std.proofs.Common.{◌≡◌, ◌∙◌, ℕ, Bool, true, false, List, [], ◌∷◌, ◌++◌, Option, Some, None, inl, inr, refl, sym, ap, ap₂, subst, codes, arith}
 use Rattle.std.specs.Prelude.{◌==◌, ◌⊎◌, if◌then◌else◌, option_and_then, option_map}
 use Rattle.std.specs.Fmt.{decimal}
+use Rattle.std.specs.Str.{chars}
 use Rattle.clap.specs.Faults.{fault_of}
 use Rattle.clap.specs.Kinds.{Kinds, or_else, value_kinds}
 use Rattle.clap.specs.Simple.{Shape, built, built_leaf, filled, inherited, marked_built, with_index, with_leaf_noted}
@@ -16,9 +17,10 @@ use Rattle.lbk_args.specs.declared.order.Engine.TheVariants.{Mark, Show, Segment
 use Rattle.lbk_args.specs.declared.order.Part.{Part}
 use Rattle.lbk_args.specs.Accepted.{faults_of, task_fault}
 use Rattle.lbk_feed.specs.Text.{greatest_limit}
-use Rattle.lbk_args.specs.Command.{default_limit, default_limit_text, flag_rule, lbk_app, limited_app, number_rule, profile_rule, replay_app, value_rule}
+use Rattle.lbk_args.specs.Command.{default_limit, default_limit_text, flag_rule, lbk_app, limited_app, mark_app, number_rule, profile_rule, replay_app, value_rule}
 use Rattle.lbk_args.specs.PlainWords.{AreEngineWords, AreFolderWords, AreFourWords, AreKindsWords, AreLimitWords, AreProfileWords, IsPlainFor, IsPlainName, folder_files, given_files, name_of_engine, profile_word}
-use Rattle.lbk_args.specs.Task.{NamedFiles, Task, files_in, limit_in, number_or, part_in, profile_in, task_by, task_in, texts_in}
+use Rattle.lbk_args.specs.Task.{NamedFiles, Task, files_in, limit_in, number_or, part_in, profile_in, sign_in, task_by, task_in, texts_in}
+use Rattle.lbk_args.specs.Sign.{default_sign}
 use Rattle.lbk_args.proofs.Numerals.{limit_plain, limit_read, limit_taken}
 use Rattle.lbk_args.proofs.Steps.{Enters, Takes, Walks, between, done, entered_clean, entered_rows, pair, step, taken}
 
@@ -138,27 +140,33 @@ enters_replay : Enters (built lbk_app) (codes "replay")
 unfolding clap_on_literals
 enters_replay = record { walks = refl; clean = refl; defaults = refl }
 
-abbrev limited_shape : Text → Shape
-limited_shape name = sub (limited_app name).top
+-- the subcommands over texts: `mark`, and those without a sign
+data Sub : Type 0 where
+  marks : Sub
+  limits : Text → Sub
+
+abbrev limited_shape : Sub → Shape
+limited_shape marks = sub mark_app.top
+limited_shape (limits name) = sub (limited_app name).top
 
 abbrev replay_shape : Shape
 replay_shape = sub replay_app.top
 
-mark_performs : (words : List Text) (rows : List Row) (task : Task) → Takes (limited_shape (codes "mark")) words rows
+mark_performs : (words : List Text) (rows : List Row) (task : Task) → Takes (limited_shape marks) words rows
     → task_in (codes "mark", rows) ≡ Some task → task_fault (Some task) ≡ [] → Performs (codes "mark" ∷ words) task
 mark_performs words rows task takes same fits =
     performs (codes "mark" ∷ words) task (entered_clean (built lbk_app) (codes "mark") words enters_mark takes.clean refl)
     (ap (option_and_then task_in)
     (entered_rows (built lbk_app) (codes "mark") words enters_mark ∙ ap (λ (r : List Row). Some (codes "mark", r)) takes.rows_are) ∙ same) fits
 
-show_performs : (words : List Text) (rows : List Row) (task : Task) → Takes (limited_shape (codes "show")) words rows
+show_performs : (words : List Text) (rows : List Row) (task : Task) → Takes (limited_shape (limits (codes "show"))) words rows
     → task_in (codes "show", rows) ≡ Some task → task_fault (Some task) ≡ [] → Performs (codes "show" ∷ words) task
 show_performs words rows task takes same fits =
     performs (codes "show" ∷ words) task (entered_clean (built lbk_app) (codes "show") words enters_show takes.clean refl)
     (ap (option_and_then task_in)
     (entered_rows (built lbk_app) (codes "show") words enters_show ∙ ap (λ (r : List Row). Some (codes "show", r)) takes.rows_are) ∙ same) fits
 
-segment_performs : (words : List Text) (rows : List Row) (task : Task) → Takes (limited_shape (codes "segment")) words rows
+segment_performs : (words : List Text) (rows : List Row) (task : Task) → Takes (limited_shape (limits (codes "segment"))) words rows
     → task_in (codes "segment", rows) ≡ Some task → task_fault (Some task) ≡ [] → Performs (codes "segment" ∷ words) task
 segment_performs words rows task takes same fits =
     performs (codes "segment" ∷ words) task (entered_clean (built lbk_app) (codes "segment") words enters_segment takes.clean refl)
@@ -221,63 +229,109 @@ limit_rows fs d = file_rows fs ++ found limit_rule d ∷ []
 abbrev kinds_rows : Files → List Row
 kinds_rows fs = file_rows fs ++ found kinds_rule (codes "true") ∷ []
 
-limited_alone : (name : Text) (fs : Files) → ArePlain fs
-    → Takes (limited_shape name) (words_before fs []) (finished (limited_shape name).rules (behind fs))
+limited_alone : (which : Sub) (fs : Files) → ArePlain fs
+    → Takes (limited_shape which) (words_before fs []) (finished (limited_shape which).rules (behind fs))
 unfolding clap_on_literals
-limited_alone name (folder u) plain =
-    taken (limited_shape name) (words_before (folder u) []) (between (behind (folder u)) idle)
-    (walked_files (limited_shape name) _ (folder u) [] _ plain (done (limited_shape name) _)) refl refl refl
-limited_alone name (four l e c m) plain =
-    taken (limited_shape name) (words_before (four l e c m) []) (between (behind (four l e c m)) idle)
-    (walked_files (limited_shape name) _ (four l e c m) [] _ plain (done (limited_shape name) _)) refl refl refl
+limited_alone marks (folder u) plain =
+    taken (limited_shape marks) (words_before (folder u) []) (between (behind (folder u)) idle)
+    (walked_files (limited_shape marks) _ (folder u) [] _ plain (done (limited_shape marks) _)) refl refl refl
+limited_alone (limits name) (folder u) plain =
+    taken (limited_shape (limits name)) (words_before (folder u) []) (between (behind (folder u)) idle)
+    (walked_files (limited_shape (limits name)) _ (folder u) [] _ plain (done (limited_shape (limits name)) _)) refl refl refl
+limited_alone marks (four l e c m) plain =
+    taken (limited_shape marks) (words_before (four l e c m) []) (between (behind (four l e c m)) idle)
+    (walked_files (limited_shape marks) _ (four l e c m) [] _ plain (done (limited_shape marks) _)) refl refl refl
+limited_alone (limits name) (four l e c m) plain =
+    taken (limited_shape (limits name)) (words_before (four l e c m) []) (between (behind (four l e c m)) idle)
+    (walked_files (limited_shape (limits name)) _ (four l e c m) [] _ plain (done (limited_shape (limits name)) _)) refl refl refl
 
-limited_profile : (name : Text) (fs : Files) (p : Text) → ArePlain fs → IsPlainName p → IsProfileText p
-    → Takes (limited_shape name) (words_before fs (codes "--profile" ∷ p ∷ []))
-    (finished (limited_shape name).rules (behind_profile (file_rows fs) p))
+limited_profile : (which : Sub) (fs : Files) (p : Text) → ArePlain fs → IsPlainName p → IsProfileText p
+    → Takes (limited_shape which) (words_before fs (codes "--profile" ∷ p ∷ []))
+    (finished (limited_shape which).rules (behind_profile (file_rows fs) p))
 unfolding clap_on_literals
-limited_profile name (folder u) p plain pp good =
-    let s = limited_shape name in
+limited_profile marks (folder u) p plain pp good =
+    let s = limited_shape marks in
     taken s (words_before (folder u) (codes "--profile" ∷ p ∷ [])) (between (behind_profile (file_rows (folder u)) p) idle)
     (walked_files s _ (folder u) _ _ plain
     (pair s (behind (folder u)) (pending (file_rows (folder u)) (codes "profile") []) (behind_profile (file_rows (folder u)) p) (codes "profile") (codes "--profile")
     p [] _ refl refl pp refl (done s _))) (ap (λ (ks : Kinds). or_else ks []) good) refl refl
-limited_profile name (four l e c m) p plain pp good =
-    let s = limited_shape name in
+limited_profile (limits name) (folder u) p plain pp good =
+    let s = limited_shape (limits name) in
+    taken s (words_before (folder u) (codes "--profile" ∷ p ∷ [])) (between (behind_profile (file_rows (folder u)) p) idle)
+    (walked_files s _ (folder u) _ _ plain
+    (pair s (behind (folder u)) (pending (file_rows (folder u)) (codes "profile") []) (behind_profile (file_rows (folder u)) p) (codes "profile") (codes "--profile")
+    p [] _ refl refl pp refl (done s _))) (ap (λ (ks : Kinds). or_else ks []) good) refl refl
+limited_profile marks (four l e c m) p plain pp good =
+    let s = limited_shape marks in
+    taken s (words_before (four l e c m) (codes "--profile" ∷ p ∷ [])) (between (behind_profile (file_rows (four l e c m)) p) idle)
+    (walked_files s _ (four l e c m) _ _ plain
+    (pair s (behind (four l e c m)) (pending (file_rows (four l e c m)) (codes "profile") []) (behind_profile (file_rows (four l e c m)) p) (codes "profile") (codes "--profile")
+    p [] _ refl refl pp refl (done s _))) (ap (λ (ks : Kinds). or_else ks []) good) refl refl
+limited_profile (limits name) (four l e c m) p plain pp good =
+    let s = limited_shape (limits name) in
     taken s (words_before (four l e c m) (codes "--profile" ∷ p ∷ [])) (between (behind_profile (file_rows (four l e c m)) p) idle)
     (walked_files s _ (four l e c m) _ _ plain
     (pair s (behind (four l e c m)) (pending (file_rows (four l e c m)) (codes "profile") []) (behind_profile (file_rows (four l e c m)) p) (codes "profile") (codes "--profile")
     p [] _ refl refl pp refl (done s _))) (ap (λ (ks : Kinds). or_else ks []) good) refl refl
 
-limited_limit : (name : Text) (fs : Files) (d : Text) → ArePlain fs → IsPlainName d → IsLimitText d
-    → Takes (limited_shape name) (words_before fs (codes "--limit" ∷ d ∷ [])) (finished (limited_shape name).rules (behind_limit fs d))
+limited_limit : (which : Sub) (fs : Files) (d : Text) → ArePlain fs → IsPlainName d → IsLimitText d
+    → Takes (limited_shape which) (words_before fs (codes "--limit" ∷ d ∷ [])) (finished (limited_shape which).rules (behind_limit fs d))
 unfolding clap_on_literals
-limited_limit name (folder u) d plain pd good =
-    let s = limited_shape name in
+limited_limit marks (folder u) d plain pd good =
+    let s = limited_shape marks in
     taken s (words_before (folder u) (codes "--limit" ∷ d ∷ [])) (between (behind_limit (folder u) d) idle)
     (walked_files s _ (folder u) _ _ plain
     (pair s (behind (folder u)) (pending (file_rows (folder u)) (codes "limit") []) (behind_limit (folder u) d) (codes "limit") (codes "--limit")
     d [] _ refl refl pd refl (done s _))) (ap (λ (ks : Kinds). or_else ks []) good) refl refl
-limited_limit name (four l e c m) d plain pd good =
-    let s = limited_shape name in
+limited_limit (limits name) (folder u) d plain pd good =
+    let s = limited_shape (limits name) in
+    taken s (words_before (folder u) (codes "--limit" ∷ d ∷ [])) (between (behind_limit (folder u) d) idle)
+    (walked_files s _ (folder u) _ _ plain
+    (pair s (behind (folder u)) (pending (file_rows (folder u)) (codes "limit") []) (behind_limit (folder u) d) (codes "limit") (codes "--limit")
+    d [] _ refl refl pd refl (done s _))) (ap (λ (ks : Kinds). or_else ks []) good) refl refl
+limited_limit marks (four l e c m) d plain pd good =
+    let s = limited_shape marks in
+    taken s (words_before (four l e c m) (codes "--limit" ∷ d ∷ [])) (between (behind_limit (four l e c m) d) idle)
+    (walked_files s _ (four l e c m) _ _ plain
+    (pair s (behind (four l e c m)) (pending (file_rows (four l e c m)) (codes "limit") []) (behind_limit (four l e c m) d) (codes "limit") (codes "--limit")
+    d [] _ refl refl pd refl (done s _))) (ap (λ (ks : Kinds). or_else ks []) good) refl refl
+limited_limit (limits name) (four l e c m) d plain pd good =
+    let s = limited_shape (limits name) in
     taken s (words_before (four l e c m) (codes "--limit" ∷ d ∷ [])) (between (behind_limit (four l e c m) d) idle)
     (walked_files s _ (four l e c m) _ _ plain
     (pair s (behind (four l e c m)) (pending (file_rows (four l e c m)) (codes "limit") []) (behind_limit (four l e c m) d) (codes "limit") (codes "--limit")
     d [] _ refl refl pd refl (done s _))) (ap (λ (ks : Kinds). or_else ks []) good) refl refl
 
-limited_both : (name : Text) (fs : Files) (d p : Text) → ArePlain fs → IsPlainName d → IsLimitText d → IsPlainName p → IsProfileText p
-    → Takes (limited_shape name) (words_before fs (codes "--limit" ∷ d ∷ codes "--profile" ∷ p ∷ []))
-    (finished (limited_shape name).rules (behind_profile (limit_rows fs d) p))
+limited_both : (which : Sub) (fs : Files) (d p : Text) → ArePlain fs → IsPlainName d → IsLimitText d → IsPlainName p → IsProfileText p
+    → Takes (limited_shape which) (words_before fs (codes "--limit" ∷ d ∷ codes "--profile" ∷ p ∷ []))
+    (finished (limited_shape which).rules (behind_profile (limit_rows fs d) p))
 unfolding clap_on_literals
-limited_both name (folder u) d p plain pd good pp fits =
-    let s = limited_shape name in
+limited_both marks (folder u) d p plain pd good pp fits =
+    let s = limited_shape marks in
     taken s (words_before (folder u) (codes "--limit" ∷ d ∷ codes "--profile" ∷ p ∷ [])) (between (behind_profile (limit_rows (folder u) d) p) idle)
     (walked_files s _ (folder u) _ _ plain
     (pair s (behind (folder u)) (pending (file_rows (folder u)) (codes "limit") []) (behind_limit (folder u) d) (codes "limit") (codes "--limit")
     d _ _ refl refl pd refl
     (pair s (behind_limit (folder u) d) (pending (limit_rows (folder u) d) (codes "profile") []) (behind_profile (limit_rows (folder u) d) p) (codes "profile") (codes "--profile")
     p [] _ refl (ap (λ (ks : Kinds). or_else (or_else ks []) []) good) pp refl (done s _)))) (ap (λ (ks : Kinds). or_else ks []) fits) refl refl
-limited_both name (four l e c m) d p plain pd good pp fits =
-    let s = limited_shape name in
+limited_both (limits name) (folder u) d p plain pd good pp fits =
+    let s = limited_shape (limits name) in
+    taken s (words_before (folder u) (codes "--limit" ∷ d ∷ codes "--profile" ∷ p ∷ [])) (between (behind_profile (limit_rows (folder u) d) p) idle)
+    (walked_files s _ (folder u) _ _ plain
+    (pair s (behind (folder u)) (pending (file_rows (folder u)) (codes "limit") []) (behind_limit (folder u) d) (codes "limit") (codes "--limit")
+    d _ _ refl refl pd refl
+    (pair s (behind_limit (folder u) d) (pending (limit_rows (folder u) d) (codes "profile") []) (behind_profile (limit_rows (folder u) d) p) (codes "profile") (codes "--profile")
+    p [] _ refl (ap (λ (ks : Kinds). or_else (or_else ks []) []) good) pp refl (done s _)))) (ap (λ (ks : Kinds). or_else ks []) fits) refl refl
+limited_both marks (four l e c m) d p plain pd good pp fits =
+    let s = limited_shape marks in
+    taken s (words_before (four l e c m) (codes "--limit" ∷ d ∷ codes "--profile" ∷ p ∷ [])) (between (behind_profile (limit_rows (four l e c m) d) p) idle)
+    (walked_files s _ (four l e c m) _ _ plain
+    (pair s (behind (four l e c m)) (pending (file_rows (four l e c m)) (codes "limit") []) (behind_limit (four l e c m) d) (codes "limit") (codes "--limit")
+    d _ _ refl refl pd refl
+    (pair s (behind_limit (four l e c m) d) (pending (limit_rows (four l e c m) d) (codes "profile") []) (behind_profile (limit_rows (four l e c m) d) p) (codes "profile") (codes "--profile")
+    p [] _ refl (ap (λ (ks : Kinds). or_else (or_else ks []) []) good) pp refl (done s _)))) (ap (λ (ks : Kinds). or_else ks []) fits) refl refl
+limited_both (limits name) (four l e c m) d p plain pd good pp fits =
+    let s = limited_shape (limits name) in
     taken s (words_before (four l e c m) (codes "--limit" ∷ d ∷ codes "--profile" ∷ p ∷ [])) (between (behind_profile (limit_rows (four l e c m) d) p) idle)
     (walked_files s _ (four l e c m) _ _ plain
     (pair s (behind (four l e c m)) (pending (file_rows (four l e c m)) (codes "limit") []) (behind_limit (four l e c m) d) (codes "limit") (codes "--limit")
@@ -346,95 +400,106 @@ replay_both (four l e c m) p plain pp good =
 -- ---- all plain words
 
 abbrev task_with : Engine → Files → Profile → Task
-task_with engine fs profile = record { engine = engine; files = files_of fs; profile = profile; part = None; texts = [] }
+task_with engine fs profile =
+    record { engine = engine; files = files_of fs; profile = profile; part = None; sign = default_sign; texts = [] }
+
+-- nothing is wrong in it
+nothing_wrong : (engine : Engine) (fs : Files) (profile : Profile) → task_fault (Some (task_with engine fs profile)) ≡ []
+unfolding chars
+nothing_wrong engine fs profile = refl
 
 -- what `mark`, `show` or `segment` finds behind its name
-record Finds (name : Text) (words : List Text) (fs : Files) (limit : ℕ) (profile : Profile) : Type 0 where
-  rows : List Row
-  takes : Takes (limited_shape name) words rows
-  files_are : files_in rows ≡ Some (files_of fs)
-  limit_is : limit_in rows ≡ limit
-  profile_is : profile_in rows ≡ profile
-  part_is : part_in rows ≡ None
-  texts_are : texts_in rows ≡ []
+abbrev task_found : (ℕ → Engine) → List Row → Option Task
+task_found engine rows = option_map (λ files. record {
+  engine = engine (limit_in rows);
+  files = files;
+  profile = profile_in rows;
+  part = part_in rows;
+  sign = sign_in rows;
+  texts = texts_in rows;
+}) (files_in rows)
 
-limited_plain : (name : Text) (fs : Files) (limit : ℕ) (profile : Profile) (own last : List Text) → ArePlain fs
-    → AreLimitWords limit own → AreProfileWords profile last → Finds name (words_before fs (own ++ last)) fs limit profile
+record Finds (which : Sub) (words : List Text) (fs : Files) (limit : ℕ) (profile : Profile) : Type 0 where
+  rows : List Row
+  takes : Takes (limited_shape which) words rows
+  asks : (engine : ℕ → Engine) → task_found engine rows ≡ Some (task_with (engine limit) fs profile)
+
+limited_plain : (which : Sub) (fs : Files) (limit : ℕ) (profile : Profile) (own last : List Text) → ArePlain fs
+    → AreLimitWords limit own → AreProfileWords profile last → Finds which (words_before fs (own ++ last)) fs limit profile
 unfolding clap_on_literals
-limited_plain name (folder []) limit profile own last plain given more = absurd plain
-limited_plain name (folder (u ∷ us)) limit profile own last plain (inl none) (inl first) = rw (none.0, first.0, none.1, first.1) (record {
+limited_plain marks (folder []) limit profile own last plain given more = absurd plain
+limited_plain marks (folder (u ∷ us)) limit profile own last plain (inl none) (inl first) = rw (none.0, first.0, none.1, first.1)
+    (record { rows = _; takes = limited_alone marks (folder (u ∷ us)) plain; asks = λ engine. refl })
+limited_plain marks (folder (u ∷ us)) limit profile own last plain (inl none) (inr given) = rw (none.0, given, none.1) (record {
   rows = _;
-  takes = limited_alone name (folder (u ∷ us)) plain;
-  files_are = refl;
-  limit_is = refl;
-  profile_is = refl;
-  part_is = refl;
-  texts_are = refl;
+  takes = limited_profile marks (folder (u ∷ us)) (profile_word profile) plain (profile_plain profile) (profile_taken profile);
+  asks = λ engine. ap (λ (p : Profile). Some (task_with (engine default_limit) (folder (u ∷ us)) p)) (profile_read profile);
 })
-limited_plain name (folder (u ∷ us)) limit profile own last plain (inl none) (inr given) = rw (none.0, given, none.1) (record {
+limited_plain marks (folder (u ∷ us)) limit profile own last plain (inr number) (inl first) = rw (number.0, first.0, first.1) (record {
   rows = _;
-  takes = limited_profile name (folder (u ∷ us)) (profile_word profile) plain (profile_plain profile) (profile_taken profile);
-  files_are = refl;
-  limit_is = refl;
-  profile_is = profile_read profile;
-  part_is = refl;
-  texts_are = refl;
+  takes = limited_limit marks (folder (u ∷ us)) (decimal limit) plain (limit_plain limit number.2) (limit_taken limit number.1 number.2);
+  asks = λ engine. ap (λ (n : ℕ). Some (task_with (engine n) (folder (u ∷ us)) First)) (sym (limit_read default_limit limit number.2));
 })
-limited_plain name (folder (u ∷ us)) limit profile own last plain (inr number) (inl first) = rw (number.0, first.0, first.1) (record {
+limited_plain marks (folder (u ∷ us)) limit profile own last plain (inr number) (inr given) = rw (number.0, given) (record {
   rows = _;
-  takes = limited_limit name (folder (u ∷ us)) (decimal limit) plain (limit_plain limit number.2) (limit_taken limit number.1 number.2);
-  files_are = refl;
-  limit_is = sym (limit_read default_limit limit number.2);
-  profile_is = refl;
-  part_is = refl;
-  texts_are = refl;
-})
-limited_plain name (folder (u ∷ us)) limit profile own last plain (inr number) (inr given) = rw (number.0, given) (record {
-  rows = _;
-  takes = limited_both name (folder (u ∷ us)) (decimal limit) (profile_word profile) plain (limit_plain limit number.2) (limit_taken limit number.1 number.2)
+  takes = limited_both marks (folder (u ∷ us)) (decimal limit) (profile_word profile) plain (limit_plain limit number.2) (limit_taken limit number.1 number.2)
       (profile_plain profile) (profile_taken profile);
-  files_are = refl;
-  limit_is = sym (limit_read default_limit limit number.2);
-  profile_is = profile_read profile;
-  part_is = refl;
-  texts_are = refl;
+  asks = λ engine. ap₂ (λ (n : ℕ) (p : Profile). Some (task_with (engine n) (folder (u ∷ us)) p)) (sym (limit_read default_limit limit number.2)) (profile_read profile);
 })
-limited_plain name (four l e c m) limit profile own last plain (inl none) (inl first) = rw (none.0, first.0, none.1, first.1) (record {
+limited_plain marks (four l e c m) limit profile own last plain (inl none) (inl first) = rw (none.0, first.0, none.1, first.1)
+    (record { rows = _; takes = limited_alone marks (four l e c m) plain; asks = λ engine. refl })
+limited_plain marks (four l e c m) limit profile own last plain (inl none) (inr given) = rw (none.0, given, none.1) (record {
   rows = _;
-  takes = limited_alone name (four l e c m) plain;
-  files_are = refl;
-  limit_is = refl;
-  profile_is = refl;
-  part_is = refl;
-  texts_are = refl;
+  takes = limited_profile marks (four l e c m) (profile_word profile) plain (profile_plain profile) (profile_taken profile);
+  asks = λ engine. ap (λ (p : Profile). Some (task_with (engine default_limit) (four l e c m) p)) (profile_read profile);
 })
-limited_plain name (four l e c m) limit profile own last plain (inl none) (inr given) = rw (none.0, given, none.1) (record {
+limited_plain marks (four l e c m) limit profile own last plain (inr number) (inl first) = rw (number.0, first.0, first.1) (record {
   rows = _;
-  takes = limited_profile name (four l e c m) (profile_word profile) plain (profile_plain profile) (profile_taken profile);
-  files_are = refl;
-  limit_is = refl;
-  profile_is = profile_read profile;
-  part_is = refl;
-  texts_are = refl;
+  takes = limited_limit marks (four l e c m) (decimal limit) plain (limit_plain limit number.2) (limit_taken limit number.1 number.2);
+  asks = λ engine. ap (λ (n : ℕ). Some (task_with (engine n) (four l e c m) First)) (sym (limit_read default_limit limit number.2));
 })
-limited_plain name (four l e c m) limit profile own last plain (inr number) (inl first) = rw (number.0, first.0, first.1) (record {
+limited_plain marks (four l e c m) limit profile own last plain (inr number) (inr given) = rw (number.0, given) (record {
   rows = _;
-  takes = limited_limit name (four l e c m) (decimal limit) plain (limit_plain limit number.2) (limit_taken limit number.1 number.2);
-  files_are = refl;
-  limit_is = sym (limit_read default_limit limit number.2);
-  profile_is = refl;
-  part_is = refl;
-  texts_are = refl;
-})
-limited_plain name (four l e c m) limit profile own last plain (inr number) (inr given) = rw (number.0, given) (record {
-  rows = _;
-  takes = limited_both name (four l e c m) (decimal limit) (profile_word profile) plain (limit_plain limit number.2) (limit_taken limit number.1 number.2)
+  takes = limited_both marks (four l e c m) (decimal limit) (profile_word profile) plain (limit_plain limit number.2) (limit_taken limit number.1 number.2)
       (profile_plain profile) (profile_taken profile);
-  files_are = refl;
-  limit_is = sym (limit_read default_limit limit number.2);
-  profile_is = profile_read profile;
-  part_is = refl;
-  texts_are = refl;
+  asks = λ engine. ap₂ (λ (n : ℕ) (p : Profile). Some (task_with (engine n) (four l e c m) p)) (sym (limit_read default_limit limit number.2)) (profile_read profile);
+})
+limited_plain (limits name) (folder []) limit profile own last plain given more = absurd plain
+limited_plain (limits name) (folder (u ∷ us)) limit profile own last plain (inl none) (inl first) = rw (none.0, first.0, none.1, first.1)
+    (record { rows = _; takes = limited_alone (limits name) (folder (u ∷ us)) plain; asks = λ engine. refl })
+limited_plain (limits name) (folder (u ∷ us)) limit profile own last plain (inl none) (inr given) = rw (none.0, given, none.1) (record {
+  rows = _;
+  takes = limited_profile (limits name) (folder (u ∷ us)) (profile_word profile) plain (profile_plain profile) (profile_taken profile);
+  asks = λ engine. ap (λ (p : Profile). Some (task_with (engine default_limit) (folder (u ∷ us)) p)) (profile_read profile);
+})
+limited_plain (limits name) (folder (u ∷ us)) limit profile own last plain (inr number) (inl first) = rw (number.0, first.0, first.1) (record {
+  rows = _;
+  takes = limited_limit (limits name) (folder (u ∷ us)) (decimal limit) plain (limit_plain limit number.2) (limit_taken limit number.1 number.2);
+  asks = λ engine. ap (λ (n : ℕ). Some (task_with (engine n) (folder (u ∷ us)) First)) (sym (limit_read default_limit limit number.2));
+})
+limited_plain (limits name) (folder (u ∷ us)) limit profile own last plain (inr number) (inr given) = rw (number.0, given) (record {
+  rows = _;
+  takes = limited_both (limits name) (folder (u ∷ us)) (decimal limit) (profile_word profile) plain (limit_plain limit number.2) (limit_taken limit number.1 number.2)
+      (profile_plain profile) (profile_taken profile);
+  asks = λ engine. ap₂ (λ (n : ℕ) (p : Profile). Some (task_with (engine n) (folder (u ∷ us)) p)) (sym (limit_read default_limit limit number.2)) (profile_read profile);
+})
+limited_plain (limits name) (four l e c m) limit profile own last plain (inl none) (inl first) = rw (none.0, first.0, none.1, first.1)
+    (record { rows = _; takes = limited_alone (limits name) (four l e c m) plain; asks = λ engine. refl })
+limited_plain (limits name) (four l e c m) limit profile own last plain (inl none) (inr given) = rw (none.0, given, none.1) (record {
+  rows = _;
+  takes = limited_profile (limits name) (four l e c m) (profile_word profile) plain (profile_plain profile) (profile_taken profile);
+  asks = λ engine. ap (λ (p : Profile). Some (task_with (engine default_limit) (four l e c m) p)) (profile_read profile);
+})
+limited_plain (limits name) (four l e c m) limit profile own last plain (inr number) (inl first) = rw (number.0, first.0, first.1) (record {
+  rows = _;
+  takes = limited_limit (limits name) (four l e c m) (decimal limit) plain (limit_plain limit number.2) (limit_taken limit number.1 number.2);
+  asks = λ engine. ap (λ (n : ℕ). Some (task_with (engine n) (four l e c m) First)) (sym (limit_read default_limit limit number.2));
+})
+limited_plain (limits name) (four l e c m) limit profile own last plain (inr number) (inr given) = rw (number.0, given) (record {
+  rows = _;
+  takes = limited_both (limits name) (four l e c m) (decimal limit) (profile_word profile) plain (limit_plain limit number.2) (limit_taken limit number.1 number.2)
+      (profile_plain profile) (profile_taken profile);
+  asks = λ engine. ap₂ (λ (n : ℕ) (p : Profile). Some (task_with (engine n) (four l e c m) p)) (sym (limit_read default_limit limit number.2)) (profile_read profile);
 })
 
 replay_plain : (fs : Files) (kinds : Bool) (profile : Profile) (own last : List Text) → ArePlain fs → AreKindsWords kinds own
@@ -442,40 +507,37 @@ replay_plain : (fs : Files) (kinds : Bool) (profile : Profile) (own last : List 
 unfolding clap_on_literals
 replay_plain (folder []) kinds profile own last plain given more = absurd plain
 replay_plain (folder (u ∷ us)) kinds profile own last plain (inl none) (inl first) =
-    rw (none.0, first.0, none.1, first.1) (replay_performs _ _ _ (replay_alone (folder (u ∷ us)) plain) refl refl)
+    rw (none.0, first.0, none.1, first.1) (replay_performs _ _ _ (replay_alone (folder (u ∷ us)) plain) refl (nothing_wrong (Replay false) (folder (u ∷ us)) First))
 replay_plain (folder (u ∷ us)) kinds profile own last plain (inl none) (inr given) =
     rw (none.0, given, none.1) (replay_performs _ _ _ (replay_profile (folder (u ∷ us)) (profile_word profile) plain (profile_plain profile) (profile_taken profile))
-    (ap (λ (p : Profile). Some (task_with (Replay false) (folder (u ∷ us)) p)) (profile_read profile)) refl)
+    (ap (λ (p : Profile). Some (task_with (Replay false) (folder (u ∷ us)) p)) (profile_read profile)) (nothing_wrong (Replay false) (folder (u ∷ us)) profile))
 replay_plain (folder (u ∷ us)) kinds profile own last plain (inr flag) (inl first) =
-    rw (flag.0, first.0, flag.1, first.1) (replay_performs _ _ _ (replay_kinds (folder (u ∷ us)) plain) refl refl)
+    rw (flag.0, first.0, flag.1, first.1) (replay_performs _ _ _ (replay_kinds (folder (u ∷ us)) plain) refl (nothing_wrong (Replay true) (folder (u ∷ us)) First))
 replay_plain (folder (u ∷ us)) kinds profile own last plain (inr flag) (inr given) =
     rw (flag.0, given, flag.1) (replay_performs _ _ _ (replay_both (folder (u ∷ us)) (profile_word profile) plain (profile_plain profile) (profile_taken profile))
-    (ap (λ (p : Profile). Some (task_with (Replay true) (folder (u ∷ us)) p)) (profile_read profile)) refl)
+    (ap (λ (p : Profile). Some (task_with (Replay true) (folder (u ∷ us)) p)) (profile_read profile)) (nothing_wrong (Replay true) (folder (u ∷ us)) profile))
 replay_plain (four l e c m) kinds profile own last plain (inl none) (inl first) =
-    rw (none.0, first.0, none.1, first.1) (replay_performs _ _ _ (replay_alone (four l e c m) plain) refl refl)
+    rw (none.0, first.0, none.1, first.1) (replay_performs _ _ _ (replay_alone (four l e c m) plain) refl (nothing_wrong (Replay false) (four l e c m) First))
 replay_plain (four l e c m) kinds profile own last plain (inl none) (inr given) =
     rw (none.0, given, none.1) (replay_performs _ _ _ (replay_profile (four l e c m) (profile_word profile) plain (profile_plain profile) (profile_taken profile))
-    (ap (λ (p : Profile). Some (task_with (Replay false) (four l e c m) p)) (profile_read profile)) refl)
+    (ap (λ (p : Profile). Some (task_with (Replay false) (four l e c m) p)) (profile_read profile)) (nothing_wrong (Replay false) (four l e c m) profile))
 replay_plain (four l e c m) kinds profile own last plain (inr flag) (inl first) =
-    rw (flag.0, first.0, flag.1, first.1) (replay_performs _ _ _ (replay_kinds (four l e c m) plain) refl refl)
+    rw (flag.0, first.0, flag.1, first.1) (replay_performs _ _ _ (replay_kinds (four l e c m) plain) refl (nothing_wrong (Replay true) (four l e c m) First))
 replay_plain (four l e c m) kinds profile own last plain (inr flag) (inr given) =
     rw (flag.0, given, flag.1) (replay_performs _ _ _ (replay_both (four l e c m) (profile_word profile) plain (profile_plain profile) (profile_taken profile))
-    (ap (λ (p : Profile). Some (task_with (Replay true) (four l e c m) p)) (profile_read profile)) refl)
+    (ap (λ (p : Profile). Some (task_with (Replay true) (four l e c m) p)) (profile_read profile)) (nothing_wrong (Replay true) (four l e c m) profile))
 
 engine_plain : (fs : Files) (engine : Engine) (profile : Profile) (own last : List Text) → ArePlain fs → AreEngineWords engine own
     → AreProfileWords profile last → Performs (name_of_engine engine ∷ words_before fs (own ++ last)) (task_with engine fs profile)
 engine_plain fs (Mark limit) profile own last plain given more =
-    let f = limited_plain (codes "mark") fs limit profile own last plain given more in
-    mark_performs (words_before fs (own ++ last)) f.rows (task_with (Mark limit) fs profile) f.takes
-    (λ i. option_map (λ files. record { engine = Mark (f.limit_is i); files = files; profile = f.profile_is i; part = f.part_is i; texts = f.texts_are i }) (f.files_are i)) refl
+    let f = limited_plain marks fs limit profile own last plain given more in
+    mark_performs (words_before fs (own ++ last)) f.rows (task_with (Mark limit) fs profile) f.takes (f.asks Mark) (nothing_wrong (Mark limit) fs profile)
 engine_plain fs (Show limit) profile own last plain given more =
-    let f = limited_plain (codes "show") fs limit profile own last plain given more in
-    show_performs (words_before fs (own ++ last)) f.rows (task_with (Show limit) fs profile) f.takes
-    (λ i. option_map (λ files. record { engine = Show (f.limit_is i); files = files; profile = f.profile_is i; part = f.part_is i; texts = f.texts_are i }) (f.files_are i)) refl
+    let f = limited_plain (limits (codes "show")) fs limit profile own last plain given more in
+    show_performs (words_before fs (own ++ last)) f.rows (task_with (Show limit) fs profile) f.takes (f.asks Show) (nothing_wrong (Show limit) fs profile)
 engine_plain fs (Segment limit) profile own last plain given more =
-    let f = limited_plain (codes "segment") fs limit profile own last plain given more in
-    segment_performs (words_before fs (own ++ last)) f.rows (task_with (Segment limit) fs profile) f.takes
-    (λ i. option_map (λ files. record { engine = Segment (f.limit_is i); files = files; profile = f.profile_is i; part = f.part_is i; texts = f.texts_are i }) (f.files_are i)) refl
+    let f = limited_plain (limits (codes "segment")) fs limit profile own last plain given more in
+    segment_performs (words_before fs (own ++ last)) f.rows (task_with (Segment limit) fs profile) f.takes (f.asks Segment) (nothing_wrong (Segment limit) fs profile)
 engine_plain fs (Replay kinds) profile own last plain given more = replay_plain fs kinds profile own last plain given more
 
 -- the words of the files are those of a folder or of four names
@@ -505,9 +567,11 @@ plain_performs task words plain =
     subst (λ (ws : List Text). Performs ws task)
     (sym (plain.are ∙ ap (λ (ws : List Text). name_of_engine task.engine ∷ ws) (r.before (plain.engine_words ++ plain.profile_words))))
     (subst (λ (texts : List Text). Performs (name_of_engine task.engine ∷ words_before r.fs (plain.engine_words ++ plain.profile_words))
-    (record { engine = task.engine; files = task.files; profile = task.profile; part = task.part; texts = texts })) (sym plain.texts)
+    (record { engine = task.engine; files = task.files; profile = task.profile; part = task.part; sign = task.sign; texts = texts })) (sym plain.texts)
     (subst (λ (part : Option Part). Performs (name_of_engine task.engine ∷ words_before r.fs (plain.engine_words ++ plain.profile_words))
-    (record { engine = task.engine; files = task.files; profile = task.profile; part = part; texts = [] })) (sym plain.part)
+    (record { engine = task.engine; files = task.files; profile = task.profile; part = part; sign = task.sign; texts = [] })) (sym plain.part)
+    (subst (λ (sign : Text). Performs (name_of_engine task.engine ∷ words_before r.fs (plain.engine_words ++ plain.profile_words))
+    (record { engine = task.engine; files = task.files; profile = task.profile; part = None; sign = sign; texts = [] })) (sym plain.sign)
     (subst (λ (files : NamedFiles). Performs (name_of_engine task.engine ∷ words_before r.fs (plain.engine_words ++ plain.profile_words))
-    (record { engine = task.engine; files = files; profile = task.profile; part = None; texts = [] })) (sym r.files_are)
-    (engine_plain r.fs task.engine task.profile plain.engine_words plain.profile_words r.plain plain.engine plain.profile))))
+    (record { engine = task.engine; files = files; profile = task.profile; part = None; sign = default_sign; texts = [] })) (sym r.files_are)
+    (engine_plain r.fs task.engine task.profile plain.engine_words plain.profile_words r.plain plain.engine plain.profile)))))

@@ -1,9 +1,10 @@
 -- Which words are a command line of the program, and what is wrong with others.
-use Rattle.std.specs.Prelude.{◌≡◌, Bool, true, not, List, [], ◌∷◌, Option, None, Some, if◌then◌else◌, nat_lt}
+use Rattle.std.specs.Prelude.{◌≡◌, ◌&&◌, Bool, true, not, List, [], ◌∷◌, Option, None, Some, if◌then◌else◌, nat_lt}
 use Rattle.clap.specs.Kinds.{or_else}
 use Rattle.clap.specs.Words.{Kinds, Text, fault_of}
 use Rattle.clap.specs.declared.error.kind.ErrorKind.TheVariants.{MissingRequiredArgument, ValueValidation}
 use Rattle.lbk_args.specs.Command.{lbk_app}
+use Rattle.lbk_args.specs.Sign.{is_sign}
 use Rattle.lbk_args.specs.Task.{Task, task_by}
 use Rattle.lbk_args.specs.declared.order.Part.{Part}
 
@@ -13,10 +14,10 @@ is_range None = true
 is_range (Some part) = not (nat_lt part.to part.from)
 
 -- words that `clap` takes ask for no task where a property file is not named, and for one that is refused where a range ends
--- before it begins
+-- before it begins, or where a sign is none
 abbrev pub task_fault : Option Task → Kinds
 task_fault None = MissingRequiredArgument ∷ []
-task_fault (Some task) = if is_range task.part then [] else ValueValidation ∷ []
+task_fault (Some task) = if is_range task.part && is_sign task.sign then [] else ValueValidation ∷ []
 
 -- what is wrong with the words, or what they ask for in place of work, as `clap` sorts it; else what is with their task
 abbrev pub faults_of : List Text → Kinds

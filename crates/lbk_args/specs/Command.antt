@@ -59,11 +59,15 @@ files_app name = with_rule (with_rule (widths_app name)
 abbrev pub profile_rule : Rule
 profile_rule = number_rule (codes "profile") 2 (codes "1")
 
--- `mark`, `show` and `segment`
+-- `show` and `segment`, and `mark`, which has one more
 abbrev pub limited_app : Text → App
 limited_app name = with_rule (with_rule (with_rule (with_rule (with_rule (files_app name)
     (number_rule (codes "limit") greatest_limit default_limit_text)) (byte_rule (codes "from"))) (byte_rule (codes "to")))
     profile_rule) texts_rule
+
+-- `mark`
+abbrev pub mark_app : App
+mark_app = with_rule (limited_app (codes "mark")) (value_rule (codes "sign"))
 
 -- `replay`
 abbrev pub replay_app : App
@@ -78,7 +82,7 @@ bare_app = record {
 
 -- the program with its subcommands, each added behind those before it
 abbrev pub app_to_mark : App
-app_to_mark = with_subcommand bare_app (limited_app (codes "mark")).top
+app_to_mark = with_subcommand bare_app mark_app.top
 
 abbrev pub app_to_show : App
 app_to_show = with_subcommand app_to_mark (limited_app (codes "show")).top

@@ -1,5 +1,6 @@
 -- What a reader has to believe.
 pub mod Command
+pub mod Sign
 pub mod Task
 pub mod Accepted
 pub mod PlainWords

@@ -6,6 +6,7 @@ use Rattle.lbk_values.specs.declared.profile.Profile.{Profile}
 use Rattle.lbk_values.specs.declared.profile.Profile.TheVariants.{First, Second}
 use Rattle.lbk_feed.specs.Text.{greatest_limit}
 use Rattle.lbk_args.specs.Command.{default_limit}
+use Rattle.lbk_args.specs.Sign.{default_sign}
 use Rattle.lbk_args.specs.Task.{NamedFiles, Task, given, in_folder}
 use Rattle.lbk_args.specs.declared.order.Engine.{Engine}
 use Rattle.lbk_args.specs.declared.order.Engine.TheVariants.{Mark, Show, Segment, Replay}
@@ -88,7 +89,7 @@ pub record AreFourWords (files : NamedFiles) (words : List Text) : Type 0 where
   pub are : words ≡ four_words line_break east_asian category emoji
   pub files_are : files ≡ given_files line_break east_asian category emoji
 
--- the subcommand, the files, the engine's own option and the profile, and no range and no operand
+-- the subcommand, the files, the engine's own option and the profile, and no range, no sign and no operand
 pub record IsPlainFor (task : Task) (words : List Text) : Type 0 where
   pub file_words : List Text
   pub engine_words : List Text
@@ -98,4 +99,5 @@ pub record IsPlainFor (task : Task) (words : List Text) : Type 0 where
   pub engine : AreEngineWords task.engine engine_words
   pub profile : AreProfileWords task.profile profile_words
   pub part : task.part ≡ None
+  pub sign : task.sign ≡ default_sign
   pub texts : task.texts ≡ []

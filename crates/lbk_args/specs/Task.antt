@@ -7,6 +7,7 @@ use Rattle.clap.specs.ValueTests.{is_numeral}
 use Rattle.lbk_values.specs.declared.profile.Profile.{Profile}
 use Rattle.lbk_values.specs.declared.profile.Profile.TheVariants.{First, Second}
 use Rattle.lbk_args.specs.Command.{lbk_app, default_limit, greatest_byte}
+use Rattle.lbk_args.specs.Sign.{default_sign}
 use Rattle.lbk_args.specs.declared.order.Engine.{Engine}
 use Rattle.lbk_args.specs.declared.order.Engine.TheVariants.{Mark, Show, Segment, Replay}
 use Rattle.lbk_args.specs.declared.order.FileName.{FileName}
@@ -27,12 +28,14 @@ pub record NamedFiles : Type 0 where
   pub category : Named
   pub emoji : Named
 
--- an engine with its option, the names of the four files, the profile, which passages of each text, and the names of the texts
+-- an engine with its option, the names of the four files, the profile, which passages of each text, the sign of `mark`, and the
+-- names of the texts
 pub record Task : Type 0 where
   pub engine : Engine
   pub files : NamedFiles
   pub profile : Profile
   pub part : Option Part
+  pub sign : Text
   pub texts : List Text
 
 abbrev pub named_of : FileName → Named
@@ -54,6 +57,7 @@ task_of o = record {
   files = files_of_names o.files;
   profile = o.profile;
   part = o.part;
+  sign = o.sign.now;
   texts = map (λ name. name.now) o.texts.items;
 }
 
@@ -107,6 +111,10 @@ part_by from to = if (from == 0) && (to == greatest_byte) then None else Some (r
 abbrev pub part_in : List Row → Option Part
 part_in rows = part_by (number_or 0 (one_of (codes "from") rows)) (number_or greatest_byte (one_of (codes "to") rows))
 
+-- the sign of `mark`, which no other subcommand has an option for
+abbrev pub sign_in : List Row → Text
+sign_in rows = unwrap_or (first_of (codes "sign") rows) default_sign
+
 -- the names of the texts, in the order of the words
 abbrev pub texts_in : List Row → List Text
 texts_in rows = unwrap_or (all_of (codes "text") rows) []
@@ -133,6 +141,7 @@ task_in found = option_map (λ files. record {
   files = files;
   profile = profile_in found.1;
   part = part_in found.1;
+  sign = sign_in found.1;
   texts = texts_in found.1;
 }) (files_in found.1)
 

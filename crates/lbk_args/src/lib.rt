@@ -6,8 +6,10 @@ mod one_line;
 mod options;
 mod order;
 mod parsing;
+mod sign;
 mod usage;
 
 pub use one_line::OneLine;
 pub use order::{Engine, FileName, FileNames, Order, Part, WordsFault};
 pub use parsing::{DEFAULT_LIMIT, parse};
+pub use sign::DEFAULT_SIGN;

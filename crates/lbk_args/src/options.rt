@@ -4,7 +4,7 @@ ghost use Rattle.std.specs.Prelude.{◌≡◌, false, IfOk, codes};
 ghost use Rattle.clap.specs.Words.{App, Rule, app_of, rule_of, with_rule, with_subcommand};
 ghost use Rattle.lbk_feed.specs.Text.{greatest_limit};
 ghost use Rattle.lbk_args.specs.Local.{IsLocal, IsMade};
-ghost use Rattle.lbk_args.specs.Command.{byte_rule, long_rule, value_rule, number_rule, default_limit_text, flag_rule, profile_rule, texts_rule, files_app, limited_app, replay_app, bare_app, lbk_app};
+ghost use Rattle.lbk_args.specs.Command.{byte_rule, long_rule, value_rule, number_rule, default_limit_text, flag_rule, profile_rule, texts_rule, files_app, limited_app, mark_app, replay_app, bare_app, lbk_app};
 
 use clap::builder::ValueParser;
 use clap::{Arg, ArgAction, Command};
@@ -161,6 +161,13 @@ fn kinds_option<'a>(alloc: Global) -> Arg<'a>
         .help("Marks tell ! from ÷, which stands for both without it")
 }
 
+fn sign_option<'a>(alloc: Global) -> Arg<'a>
+    ensures rule { rule_of result ≡ value_rule (codes "sign") }
+    ensures local { result.global ≡ false }
+{
+    value_option(alloc, "sign", "TEXT").help("In place of ÷, 1 to 8 bytes without a line end")
+}
+
 /// The operands, which name the texts.
 fn texts_operand<'a>(alloc: Global) -> Arg<'a>
     ensures rule { rule_of result ≡ texts_rule }
@@ -236,9 +243,10 @@ fn limited<'a>(alloc: Global, name: &'a str) -> Made<'a>
 }
 
 fn mark<'a>(alloc: Global) -> Made<'a>
-    ensures { IsMade (limited_app (codes "mark")) result }
+    ensures { IsMade mark_app result }
 {
-    described(limited(alloc, "mark"), MARK_USAGE, MARK_ABOUT, MARK_AFTER)
+    let command = with_option(limited(alloc, "mark"), sign_option(alloc));
+    described(command, MARK_USAGE, MARK_ABOUT, MARK_AFTER)
 }
 
 fn show<'a>(alloc: Global) -> Made<'a>

@@ -50,6 +50,8 @@ pub struct Order<'a> {
     pub profile: Profile,
     /// Which passages of each text; all of them without one.
     pub part: Option<Part>,
+    /// What `mark` writes where a line may end.
+    pub sign: &'a str,
     /// The names of the texts, in order; none stands for standard input, as `-` does.
     pub texts: Vec<&'a str>,
 }

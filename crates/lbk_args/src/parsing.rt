@@ -4,12 +4,14 @@ ghost use Rattle.std.specs.Prelude.{◌≡◌, [], ◌∷◌, None, Some, IfOk, 
 ghost use Rattle.clap.specs.Words.{first_of, found_of, kind_of, one_of, rows_of};
 ghost use Rattle.clap.specs.declared.error.kind.ErrorKind.{ErrorKind};
 ghost use Rattle.lbk_args.specs.Accepted.{AreAccepted, faults_of, is_range, task_fault};
-ghost use Rattle.lbk_args.specs.Task.{Task, engine_in, files_in, files_of_names, kinds_in, limit_in, named_folder, named_in, named_of, number_or, own_or_folder, part_in, profile_in, task_by, task_in, task_of, texts_in};
+ghost use Rattle.lbk_args.specs.Task.{Task, engine_in, files_in, files_of_names, kinds_in, limit_in, named_folder, named_in, named_of, number_or, own_or_folder, part_in, profile_in, sign_in, task_by, task_in, task_of, texts_in};
 ghost use Rattle.lbk_args.specs.PlainWords.{IsPlainFor};
+ghost use Rattle.lbk_args.specs.Sign.{is_sign};
 ghost use Rattle.lbk_args.specs.Refusal.{IsMistake, IsRefusalBy};
 
 use super::options::command;
 use super::order::{Engine, FileName, FileNames, Order, Part, WordsFault};
+use super::sign::{DEFAULT_SIGN, is_sign};
 use super::usage::usage_text;
 use clap::error::ErrorKind;
 use clap::{ArgMatches, Error};
@@ -30,6 +32,9 @@ Debian's package unicode-data has them: --ucd /usr/share/unicode";
 
 /// What is said of a range that ends before it begins.
 const TURNED_ROUND: &str = "--from <BYTE> is greater than --to <BYTE>";
+
+/// What is said of a sign that is none.
+const NO_SIGN: &str = "--sign <TEXT> is 1 to 8 bytes of UTF-8 without a line end";
 
 /// Reads the arguments after the program's name.
 ///
@@ -57,7 +62,7 @@ pub fn parse<'a>(alloc: Global, words: &'a [&'a str]) -> Result<Order<'a>, Words
     }
 }
 
-/// An order, if the property files are named and its range does not end before it begins.
+/// An order, if the property files are named, its range does not end before it begins, and its sign is one.
 fn accepted<'a>(
     alloc: Global,
     name: &str,
@@ -70,11 +75,13 @@ fn accepted<'a>(
     let Some(order) = order else {
         return Err(mistake(alloc, name, UNNAMED));
     };
-    if is_range(order.part) {
-        Ok(order)
-    } else {
-        Err(mistake(alloc, name, TURNED_ROUND))
+    if !is_range(order.part) {
+        return Err(mistake(alloc, name, TURNED_ROUND));
     }
+    if !is_sign(order.sign) {
+        return Err(mistake(alloc, name, NO_SIGN));
+    }
+    Ok(order)
 }
 
 /// Whether a range does not end before it begins.
@@ -98,6 +105,7 @@ fn order<'a>(name: &str, given: &ArgMatches<'a>, texts: Vec<&'a str>) -> Option<
         files,
         profile: profile(given),
         part: part(given),
+        sign: sign(given),
         texts,
     })
 }
@@ -199,6 +207,13 @@ fn part(given: &ArgMatches<'_>) -> Option<Part>
     } else {
         Some(Part { from, to })
     }
+}
+
+/// The sign of `mark`.
+fn sign<'a>(given: &ArgMatches<'a>) -> &'a str
+    ensures { result.now ≡ sign_in (rows_of (found_of given.now)) }
+{
+    text(given, "sign").unwrap_or(DEFAULT_SIGN)
 }
 
 /// The names of the texts.

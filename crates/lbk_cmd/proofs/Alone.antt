@@ -40,15 +40,15 @@ module _ {F : Type 0} (source : SourceMembers F) where
       → PerformsAlone file task counts counts' before after ending
   performs_alone file task counts counts' before after ending (inl stops) = inl stops.0
   performs_alone file task counts counts' before after ending (inr (cell, cells, reads)) =
-      inr (cell, cells, reads_alone (RunsOver task.part task.engine task.profile cell) task.texts before after ending reads)
+      inr (cell, cells, reads_alone (RunsOver task.part task.engine task.sign task.profile cell) task.texts before after ending reads)
 
   by_reader : (told file : List ℕ → Option (Option (List ℕ))) (task : Task) (counts counts' : LoadCounts) (before after : Standing)
       → task.texts ≡ [] → Performs source file told task counts counts' before after
       → (after.refused ≡ before.refused) × PerformsAlone file task counts counts' before.devices after.devices after.ending
   by_reader told file task counts counts' before after none (inl (stops, same)) = (same, inl stops)
   by_reader told file task counts counts' before after none (inr (cell, cells, reads)) =
-      let whole = subst (λ (names : List (List ℕ)). Reads source told (RunsOver task.part task.engine task.profile cell) names before after) none reads in
-      let alone = subst (λ (names : List (List ℕ)). ReadsAlone (RunsOver task.part task.engine task.profile cell) names before.devices after.devices after.ending)
+      let whole = subst (λ (names : List (List ℕ)). Reads source told (RunsOver task.part task.engine task.sign task.profile cell) names before after) none reads in
+      let alone = subst (λ (names : List (List ℕ)). ReadsAlone (RunsOver task.part task.engine task.sign task.profile cell) names before.devices after.devices after.ending)
       (sym none) whole.0 in
       (whole.1, inr (cell, cells, alone))
 
@@ -58,9 +58,9 @@ module _ {F : Type 0} (source : SourceMembers F) where
       → Performs source file told task counts counts' before after
   over_texts told file task counts counts' before after none (same, inl stops) = inl (stops, same)
   over_texts told file task counts counts' before after none (same, inr (cell, cells, alone)) =
-      let whole = subst (λ (names : List (List ℕ)). ReadsAlone (RunsOver task.part task.engine task.profile cell) names before.devices after.devices after.ending)
+      let whole = subst (λ (names : List (List ℕ)). ReadsAlone (RunsOver task.part task.engine task.sign task.profile cell) names before.devices after.devices after.ending)
       none alone in
-      let reads = subst (λ (names : List (List ℕ)). Reads source told (RunsOver task.part task.engine task.profile cell) names before after)
+      let reads = subst (λ (names : List (List ℕ)). Reads source told (RunsOver task.part task.engine task.sign task.profile cell) names before after)
       (sym none) (whole, same) in
       inr (cell, cells, reads)
 

@@ -36,15 +36,16 @@ joined-lines lines profile cell parts are =
 
 -- `mark` writes the same, whether another part follows
 
-signed-ended : (v : Verdict) (ms : List Marked) → v.kind ≡ Must → EndsOnce ms → flat_map signed (ended v ms) ≡ flat_map signed ms
-signed-ended v [] must ends = refl
-signed-ended v (m ∷ []) must ends =
-    ap (λ k. (encode_utf8 m.scalar ++ sign k) ++ []) (must ∙ sym (is_must-kind m.after.kind ends))
-signed-ended v (m ∷ n ∷ ms) must ends = ap (λ l. signed m ++ l) (signed-ended v (n ∷ ms) must ends.1)
+signed-ended : (mark : List ℕ) (v : Verdict) (ms : List Marked) → v.kind ≡ Must → EndsOnce ms
+    → flat_map (signed mark) (ended v ms) ≡ flat_map (signed mark) ms
+signed-ended mark v [] must ends = refl
+signed-ended mark v (m ∷ []) must ends =
+    ap (λ k. (encode_utf8 m.scalar ++ sign mark k) ++ []) (must ∙ sym (is_must-kind m.after.kind ends))
+signed-ended mark v (m ∷ n ∷ ms) must ends = ap (λ l. signed mark m ++ l) (signed-ended mark v (n ∷ ms) must ends.1)
 
-module _ (profile : Profile) (cell : ℕ → Cell) where
+module _ (mark : List ℕ) (profile : Profile) (cell : ℕ → Cell) where
   abbrev signed_lines : ℕ → List Marked → List ℕ
-  signed_lines start ms = signed_passage cell ms
+  signed_lines start ms = signed_passage mark cell ms
 
   signed-in : (at : ℕ) (part : List ℕ) → lines_in signed_lines profile cell at true part ≡ lines_from signed_lines at (passages profile cell part)
   unfolding passages
@@ -54,24 +55,24 @@ module _ (profile : Profile) (cell : ℕ → Cell) where
       lines-of_passages signed_lines at (passages_in profile cell true (c ∷ cs))
       ∙ of_passages-with_last signed_lines end
       (λ start ms ends. ap₂ (λ text scalars. text ++ missing_line_end cell scalars)
-      (signed-ended end ms (ap (λ v. v.kind) (end_before_more-must cell c cs)) ends) (scalars-ended end ms))
+      (signed-ended mark end ms (ap (λ v. v.kind) (end_before_more-must cell c cs)) ends) (scalars-ended end ms))
       at (passages profile cell (c ∷ cs)) (passages-end profile cell (c ∷ cs))
       ∙ sym (lines-of_passages signed_lines at (passages profile cell (c ∷ cs)))
 
   -- nor does it matter where it begins
-  signed-moved : (at : ℕ) (ps : List (List Marked)) → lines_from signed_lines at ps ≡ signed_text cell ps
+  signed-moved : (at : ℕ) (ps : List (List Marked)) → lines_from signed_lines at ps ≡ signed_text mark cell ps
   signed-moved at ps = by at 0 ps
     where
       by : (at there : ℕ) (ps : List (List Marked)) → lines_from signed_lines at ps ≡ lines_from signed_lines there ps
       by at there [] = refl
-      by at there (ms ∷ ps) = ap (λ l. signed_passage cell ms ++ l) (by (at + length (text_of ms)) (there + length (text_of ms)) ps)
+      by at there (ms ∷ ps) = ap (λ l. signed_passage mark cell ms ++ l) (by (at + length (text_of ms)) (there + length (text_of ms)) ps)
 
-  signed-parts : (at : ℕ) (parts : List (List ℕ)) → of_parts (lines_in signed_lines profile cell) at parts ≡ flat_map (λ part. signed_text cell (passages profile cell part)) parts
+  signed-parts : (at : ℕ) (parts : List (List ℕ)) → of_parts (lines_in signed_lines profile cell) at parts ≡ flat_map (λ part. signed_text mark cell (passages profile cell part)) parts
   signed-parts at [] = refl
-  signed-parts at (part ∷ []) = signed-moved at (passages profile cell part) ∙ sym (append-nil (signed_text cell (passages profile cell part)))
+  signed-parts at (part ∷ []) = signed-moved at (passages profile cell part) ∙ sym (append-nil (signed_text mark cell (passages profile cell part)))
   signed-parts at (part ∷ next ∷ parts) =
       ap₂ (λ a b. a ++ b) (signed-in at part ∙ signed-moved at (passages profile cell part)) (signed-parts (at + length (encode_utf8_all part)) (next ∷ parts))
 
   pub joined-signed : (parts : List (List ℕ)) → AreParts cell parts
-      → signed_text cell (passages profile cell (flat_map (λ part. part) parts)) ≡ flat_map (λ part. signed_text cell (passages profile cell part)) parts
+      → signed_text mark cell (passages profile cell (flat_map (λ part. part) parts)) ≡ flat_map (λ part. signed_text mark cell (passages profile cell part)) parts
   joined-signed parts are = joined-lines signed_lines profile cell parts are ∙ signed-parts 0 parts

@@ -23,16 +23,17 @@ use Rattle.lbk_cmd.specs.Acts.{RunsOver, Performs}
 -- an engine that runs on what is ready for a task performs it
 pub ready_performs : {F : Type 0} (source : SourceMembers F) (file text : List ℕ → Option (Option (List ℕ))) (task : Task) (counts counts' : LoadCounts) (ready : Ready)
     (before after : Standing) → IsReadyFor file task ready
-    → Reads source text (RunsOver ready.part ready.engine ready.profile (page_cell ready.cells)) (map (λ name. name.now) ready.texts.items) before after
+    → Reads source text (RunsOver ready.part ready.engine ready.sign.now ready.profile (page_cell ready.cells)) (map (λ name. name.now) ready.texts.items) before after
     → Performs source file text task counts counts' before after
 ready_performs source file text task counts counts' ready before after is reads = inr (
   page_cell ready.cells,
   is.cells,
-  subst (λ (part : Option Part). Reads source text (RunsOver part task.engine task.profile (page_cell ready.cells)) task.texts before after) is.part
-      (subst (λ (engine : Engine). Reads source text (RunsOver ready.part engine task.profile (page_cell ready.cells)) task.texts before after) is.engine
-      (subst (λ (profile : Profile). Reads source text (RunsOver ready.part ready.engine profile (page_cell ready.cells)) task.texts before after) is.profile
-      (subst (λ (names : List (List ℕ)). Reads source text (RunsOver ready.part ready.engine ready.profile (page_cell ready.cells)) names before after) is.texts
-      reads))),
+  subst (λ (part : Option Part). Reads source text (RunsOver part task.engine task.sign task.profile (page_cell ready.cells)) task.texts before after) is.part
+      (subst (λ (engine : Engine). Reads source text (RunsOver ready.part engine task.sign task.profile (page_cell ready.cells)) task.texts before after) is.engine
+      (subst (λ (mark : List ℕ). Reads source text (RunsOver ready.part ready.engine mark task.profile (page_cell ready.cells)) task.texts before after) is.sign
+      (subst (λ (profile : Profile). Reads source text (RunsOver ready.part ready.engine ready.sign.now profile (page_cell ready.cells)) task.texts before after) is.profile
+      (subst (λ (names : List (List ℕ)). Reads source text (RunsOver ready.part ready.engine ready.sign.now ready.profile (page_cell ready.cells)) names before after) is.texts
+      reads)))),
 )
 
 -- what is performed, by what the texts told before they heard what is asked for

@@ -34,12 +34,12 @@ part-is before here behind text start end is first last =
     ∙ take-append_seam here behind
 
 -- the text from `start` on, where the bytes `here` stand before the scalars of the marks and behind the last break
-signed-is : (ms : List Marked) (before here text : List ℕ) (start at : ℕ) → text ≡ before ++ (here ++ text_of ms)
+signed-is : (mark : List ℕ) (ms : List Marked) (before here text : List ℕ) (start at : ℕ) → text ≡ before ++ (here ++ text_of ms)
     → start ≡ length before → at ≡ length before + length here
-    → signed_from text start (breaks_from at ms) ≡ here ++ flat_map signed ms
-signed-is [] before here text start at is first last =
+    → signed_from mark text start (breaks_from at ms) ≡ here ++ flat_map (signed mark) ms
+signed-is mark [] before here text start at is first last =
     ap₂ (λ n l. drop n l) first is ∙ drop-append_seam before (here ++ [])
-signed-is (m ∷ ms) before here text start at is first last =
+signed-is mark (m ∷ ms) before here text start at is first last =
     let bytes = encode_utf8 m.scalar in
     let end = at + length bytes in
     let more : text ≡ before ++ ((here ++ bytes) ++ text_of ms) = is ∙ ap (λ l. before ++ l) (sym (append_assoc here bytes (text_of ms))) in
@@ -47,17 +47,17 @@ signed-is (m ∷ ms) before here text start at is first last =
     let far : end ≡ length before + length (here ++ bytes) = omega (arith, wide, last) in
     let beyond : text ≡ (before ++ (here ++ bytes)) ++ ([] ++ text_of ms) = more ∙ sym (append_assoc before (here ++ bytes) (text_of ms)) in
     let seam : end ≡ length (before ++ (here ++ bytes)) = omega (arith, far, length-append before (here ++ bytes)) in
-    let further : signed_from text end (breaks_from end ms) ≡ flat_map signed ms =
-    signed-is ms (before ++ (here ++ bytes)) [] text end end beyond seam (omega (arith, seam)) in
+    let further : signed_from mark text end (breaks_from end ms) ≡ flat_map (signed mark) ms =
+    signed-is mark ms (before ++ (here ++ bytes)) [] text end end beyond seam (omega (arith, seam)) in
     let piece : slice_range text start end ≡ here ++ bytes = part-is before (here ++ bytes) (text_of ms) text start end more first far in
     let regroup : (tail rest : List ℕ) → (here ++ bytes) ++ (tail ++ rest) ≡ here ++ ((bytes ++ tail) ++ rest) =
     λ tail rest. append_assoc here bytes (tail ++ rest) ∙ ap (λ l. here ++ l) (sym (append_assoc bytes tail rest)) in
-    elim m.after.kind as (λ k. signed_from text start
+    elim m.after.kind as (λ k. signed_from mark text start
     (if is_no k then breaks_from end ms else record { at = end; kind = k; rule = m.after.rule } ∷ breaks_from end ms)
-    ≡ here ++ ((bytes ++ sign k) ++ flat_map signed ms)) [
-      | No ↦ signed-is ms before (here ++ bytes) text start end more first far ∙ regroup [] (flat_map signed ms)
-      | May ↦ ap₂ (λ l r. l ++ (sign May ++ r)) piece further ∙ regroup (sign May) (flat_map signed ms)
-      | Must ↦ ap₂ (λ l r. l ++ (sign Must ++ r)) piece further ∙ regroup (sign Must) (flat_map signed ms)
+    ≡ here ++ ((bytes ++ sign mark k) ++ flat_map (signed mark) ms)) [
+      | No ↦ signed-is mark ms before (here ++ bytes) text start end more first far ∙ regroup [] (flat_map (signed mark) ms)
+      | May ↦ ap₂ (λ l r. l ++ (sign mark May ++ r)) piece further ∙ regroup (sign mark May) (flat_map (signed mark) ms)
+      | Must ↦ ap₂ (λ l r. l ++ (sign mark Must ++ r)) piece further ∙ regroup (sign mark Must) (flat_map (signed mark) ms)
     ]
 
 -- the breaks after some marks stand one behind another
@@ -96,20 +96,23 @@ module _ (profile : Profile) (cell : ℕ → Cell) (text : List ℕ) (utf8 : IsU
   pub text_cut : IsCut 0 (length text) (breaks profile cell (chars text))
   text_cut = cut-is (marks profile cell (chars text)) 0 0 (length text) (omega arith) (omega (arith, ap length text_is))
 
-  pub text_signed : signed_from text 0 (breaks profile cell (chars text)) ++ missing_line_end cell (chars text) ≡ signed_passage cell (marks profile cell (chars text))
-  text_signed = ap₂ (λ l cs. l ++ missing_line_end cell cs)
-      (signed-is (marks profile cell (chars text)) [] [] text 0 0 (sym text_is) refl refl) (sym scalars_are)
+  pub text_signed : (mark : List ℕ) → signed_from mark text 0 (breaks profile cell (chars text)) ++ missing_line_end cell (chars text)
+      ≡ signed_passage mark cell (marks profile cell (chars text))
+  text_signed mark = ap₂ (λ l cs. l ++ missing_line_end cell cs)
+      (signed-is mark (marks profile cell (chars text)) [] [] text 0 0 (sym text_is) refl refl) (sym scalars_are)
 
 -- a line must end behind the text of a passage, and no sign stands there
-must-sign : (k : Kind) → is_must k ≡ true → sign k ≡ []
-must-sign No must = cc
-must-sign May must = cc
-must-sign Must must = refl
+must-sign : (mark : List ℕ) (k : Kind) → is_must k ≡ true → sign mark k ≡ []
+must-sign mark No must = cc
+must-sign mark May must = cc
+must-sign mark Must must = refl
 
-signed-ended : (end : Verdict) (ms : List Marked) → IsClosed ends_passage ms → is_must end.kind ≡ true → flat_map signed (ended end ms) ≡ flat_map signed ms
-signed-ended end [] closed must = refl
-signed-ended end (m ∷ []) closed must = ap (λ l. (encode_utf8 m.scalar ++ l) ++ []) (must-sign end.kind must ∙ sym (must-sign m.after.kind closed))
-signed-ended end (m ∷ n ∷ ms) closed must = ap (λ l. signed m ++ l) (signed-ended end (n ∷ ms) closed must)
+signed-ended : (mark : List ℕ) (end : Verdict) (ms : List Marked) → IsClosed ends_passage ms → is_must end.kind ≡ true
+    → flat_map (signed mark) (ended end ms) ≡ flat_map (signed mark) ms
+signed-ended mark end [] closed must = refl
+signed-ended mark end (m ∷ []) closed must =
+    ap (λ l. (encode_utf8 m.scalar ++ l) ++ []) (must-sign mark end.kind must ∙ sym (must-sign mark m.after.kind closed))
+signed-ended mark end (m ∷ n ∷ ms) closed must = ap (λ l. signed mark m ++ l) (signed-ended mark end (n ∷ ms) closed must)
 
 must_end : (end : Verdict) (ms : List Marked) → IsPart ends_passage (ended end ms) → is_must end.kind ≡ true
 must_end end [] part = absurd part
@@ -118,15 +121,16 @@ must_end end (m ∷ n ∷ []) part = part.1
 must_end end (m ∷ n ∷ o ∷ ms) part = must_end end (n ∷ o ∷ ms) part.1
 
 -- what is written of a passage, by its text alone
-pub passage_signed : (s : State) (ms : List Marked) (p : Passage) (cell : ℕ → Cell) (profile : Profile) → s.cell ≡ cell → s.profile ≡ profile
-    → IsPassage s ms p → is_must p.end.kind ≡ true → signed_passage cell (marks profile cell (chars p.text.now)) ≡ signed_passage cell ms
-passage_signed s ms p cell profile cell_is profile_is of must =
+pub passage_signed : (mark : List ℕ) (s : State) (ms : List Marked) (p : Passage) (cell : ℕ → Cell) (profile : Profile) → s.cell ≡ cell → s.profile ≡ profile
+    → IsPassage s ms p → is_must p.end.kind ≡ true
+    → signed_passage mark cell (marks profile cell (chars p.text.now)) ≡ signed_passage mark cell ms
+passage_signed mark s ms p cell profile cell_is profile_is of must =
     let cs = chars p.text.now in
     let scalars_of_it : cs ≡ scalars_of ms = sym (chars_from_encodes (scalars_of ms) p.text.now of.utf8 (sym of.text)) in
     let all : ended p.end (marks profile cell cs) ≡ ms =
     ap (λ l. ended p.end (marks profile cell l)) scalars_of_it
     ∙ ap₂ (λ f g. ended p.end (marks f g (scalars_of ms))) (sym profile_is) (sym cell_is) ∙ sym of.alone in
-    ap₂ (λ l cs. l ++ missing_line_end cell cs) (sym (signed-ended p.end (marks profile cell cs) (marks-closed profile cell [] cs) must) ∙ ap (flat_map signed) all)
+    ap₂ (λ l cs. l ++ missing_line_end cell cs) (sym (signed-ended mark p.end (marks profile cell cs) (marks-closed profile cell [] cs) must) ∙ ap (flat_map (signed mark)) all)
     (scalars-behind profile cell [] cs ∙ scalars_of_it)
 
 -- a line must end behind a passage that was lent

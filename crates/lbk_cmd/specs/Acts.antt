@@ -54,8 +54,8 @@ abbrev pub Writes : Lines → (ℕ → Cell) → ℕ → Profile → Devices →
 Writes lines cell limit profile =
     TextRuns (λ input. lines_from (lines_of lines cell) 0 (passages profile cell (chars input))) (engine_of lines cell profile limit)
 
-abbrev pub Marks : (ℕ → Cell) → ℕ → Profile → Devices → Devices → Result (Unit {0}) CmdFault → Type 0
-Marks cell limit profile = TextRuns (λ input. signed_text cell (passages profile cell (chars input))) (marking cell profile limit)
+abbrev pub Marks : List ℕ → (ℕ → Cell) → ℕ → Profile → Devices → Devices → Result (Unit {0}) CmdFault → Type 0
+Marks mark cell limit profile = TextRuns (λ input. signed_text mark cell (passages profile cell (chars input))) (marking mark cell profile limit)
 
 abbrev pub Shows : (ℕ → Cell) → ℕ → Profile → Devices → Devices → Result (Unit {0}) CmdFault → Type 0
 Shows cell limit profile = TextRuns (λ input. show_text (passages profile cell (chars input))) (showing cell profile limit)
@@ -89,15 +89,15 @@ ShowsSamples before after ending =
     ⊎ ((cell : ℕ → Cell) × AreSampleCells cell
     × ((answer : Result (Unit {0}) CmdFault) × Shows cell default_limit First before after answer × (ending ≡ ending_of_text answer)))
 
--- the engine runs with its option, and the run ends as its answer says
-abbrev pub EngineRuns : Engine → Profile → (ℕ → Cell) → Devices → Devices → Ending → Type 0
-EngineRuns (Mark limit) profile cell before after ending =
-    (answer : Result (Unit {0}) CmdFault) × Marks cell limit profile before after answer × (ending ≡ ending_of_text answer)
-EngineRuns (Show limit) profile cell before after ending =
+-- the engine runs with its option, `mark` with this sign, and the run ends as its answer says
+abbrev pub EngineRuns : Engine → List ℕ → Profile → (ℕ → Cell) → Devices → Devices → Ending → Type 0
+EngineRuns (Mark limit) mark profile cell before after ending =
+    (answer : Result (Unit {0}) CmdFault) × Marks mark cell limit profile before after answer × (ending ≡ ending_of_text answer)
+EngineRuns (Show limit) mark profile cell before after ending =
     (answer : Result (Unit {0}) CmdFault) × Shows cell limit profile before after answer × (ending ≡ ending_of_text answer)
-EngineRuns (Segment limit) profile cell before after ending =
+EngineRuns (Segment limit) mark profile cell before after ending =
     (answer : Result (Unit {0}) CmdFault) × Segments cell limit profile before after answer × (ending ≡ ending_of_text answer)
-EngineRuns (Replay kinds) profile cell before after ending =
+EngineRuns (Replay kinds) mark profile cell before after ending =
     (answer : Result Report ReplayFault) × Replays cell (form_of kinds) profile before after answer × (ending ≡ ending_of_replay answer)
 
 -- an engine writes of the passages of a range, and the run ends as its answer says
@@ -106,12 +106,12 @@ RangeEnds part engine before after ending =
     (answer : Result (Unit {0}) CmdFault) × RangeRuns part engine before after answer × (ending ≡ ending_of_text answer)
 
 -- the engine runs over a text, or over a range of it, which `replay` has none of
-abbrev pub RunsOver : Option Part → Engine → Profile → (ℕ → Cell) → Devices → Devices → Ending → Type 0
-RunsOver None engine profile cell = EngineRuns engine profile cell
-RunsOver (Some part) (Mark limit) profile cell = RangeEnds part (marking cell profile limit)
-RunsOver (Some part) (Show limit) profile cell = RangeEnds part (showing cell profile limit)
-RunsOver (Some part) (Segment limit) profile cell = RangeEnds part (segmenting cell profile limit)
-RunsOver (Some part) (Replay kinds) profile cell = EngineRuns (Replay kinds) profile cell
+abbrev pub RunsOver : Option Part → Engine → List ℕ → Profile → (ℕ → Cell) → Devices → Devices → Ending → Type 0
+RunsOver None engine mark profile cell = EngineRuns engine mark profile cell
+RunsOver (Some part) (Mark limit) mark profile cell = RangeEnds part (marking mark cell profile limit)
+RunsOver (Some part) (Show limit) mark profile cell = RangeEnds part (showing cell profile limit)
+RunsOver (Some part) (Segment limit) mark profile cell = RangeEnds part (segmenting cell profile limit)
+RunsOver (Some part) (Replay kinds) mark profile cell = EngineRuns (Replay kinds) mark profile cell
 
 -- a task: its files stop the run and no text is opened, or its engine runs with its option and profile on the cells of the
 -- files, over its texts, or over its range of each
@@ -120,11 +120,11 @@ abbrev pub Performs : {F : Type 0} → SourceMembers F → (List ℕ → Option 
 Performs source file text task counts counts' before after =
     (StopsBefore (IsStoppedAt file task counts counts') before.devices after.devices after.ending × (after.refused ≡ before.refused))
     ⊎ ((cell : ℕ → Cell) × AreCellsFrom (files_of file task.files) cell
-    × Reads source text (RunsOver task.part task.engine task.profile cell) task.texts before after)
+    × Reads source text (RunsOver task.part task.engine task.sign task.profile cell) task.texts before after)
 
 -- a task, where there are no files of text
 abbrev pub PerformsAlone : (List ℕ → Option (Option (List ℕ))) → Task → LoadCounts → LoadCounts → Devices → Devices → Ending → Type 0
 PerformsAlone file task counts counts' before after ending =
     StopsBefore (IsStoppedAt file task counts counts') before after ending
     ⊎ ((cell : ℕ → Cell) × AreCellsFrom (files_of file task.files) cell
-    × ReadsAlone (RunsOver task.part task.engine task.profile cell) task.texts before after ending)
+    × ReadsAlone (RunsOver task.part task.engine task.sign task.profile cell) task.texts before after ending)

@@ -10,10 +10,10 @@ use Rattle.lbk_cmd.specs.Show.{shown_passage}
 use Rattle.lbk_cmd.specs.declared.engine.Lines.{Lines}
 use Rattle.lbk_cmd.specs.declared.engine.Lines.TheVariants.{Signed, Shown, Segmented}
 
--- that of `mark`
-abbrev pub marking : (ℕ → Cell) → Profile → ℕ → Engine
-marking cell profile limit =
-    record { lines = λ start ms. signed_passage cell ms; cell = cell; profile = profile; limit = limit }
+-- that of `mark`, with this sign
+abbrev pub marking : List ℕ → (ℕ → Cell) → Profile → ℕ → Engine
+marking mark cell profile limit =
+    record { lines = λ start ms. signed_passage mark cell ms; cell = cell; profile = profile; limit = limit }
 
 -- that of `show`
 abbrev pub showing : (ℕ → Cell) → Profile → ℕ → Engine
@@ -25,7 +25,7 @@ segmenting cell profile limit = record { lines = segmented_passage cell; cell = 
 
 -- the lines that each writes
 abbrev pub lines_of : Lines → (ℕ → Cell) → ℕ → List Marked → List ℕ
-lines_of Signed cell start ms = signed_passage cell ms
+lines_of (Signed mark) cell start ms = signed_passage mark.now cell ms
 lines_of Shown cell start ms = shown_passage ms
 lines_of Segmented cell start ms = segmented_passage cell start ms
 

@@ -9,6 +9,6 @@ IsCut at len [] = at ≤ len
 IsCut at len (b ∷ bs) = (at ≤ b.at) × (b.at ≤ len) × IsCut b.at len bs
 
 -- the text from `at` on, with the signs of the breaks in it
-abbrev pub signed_from : List ℕ → ℕ → List Break → List ℕ
-signed_from text at [] = drop at text
-signed_from text at (b ∷ bs) = slice_range text at b.at ++ (sign b.kind ++ signed_from text b.at bs)
+abbrev pub signed_from : List ℕ → List ℕ → ℕ → List Break → List ℕ
+signed_from mark text at [] = drop at text
+signed_from mark text at (b ∷ bs) = slice_range text at b.at ++ (sign mark b.kind ++ signed_from mark text b.at bs)

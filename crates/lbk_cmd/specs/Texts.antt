@@ -12,9 +12,9 @@ abbrev pub lines_from : (ℕ → List Marked → List ℕ) → ℕ → List (Lis
 lines_from lines start [] = []
 lines_from lines start (ms ∷ passages) = lines start ms ++ lines_from lines (start + length (text_of ms)) passages
 
--- what `mark` writes of some passages
-abbrev pub signed_text : (ℕ → Cell) → List (List Marked) → List ℕ
-signed_text cell passages = lines_from (λ start ms. signed_passage cell ms) 0 passages
+-- what `mark` writes of some passages, with this sign
+abbrev pub signed_text : List ℕ → (ℕ → Cell) → List (List Marked) → List ℕ
+signed_text mark cell passages = lines_from (λ start ms. signed_passage mark cell ms) 0 passages
 
 -- what `show` writes of some passages
 abbrev pub show_text : List (List Marked) → List ℕ

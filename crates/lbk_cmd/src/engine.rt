@@ -1,10 +1,12 @@
 //! The engines: each reads a text to its end, and writes its lines of every passage.
 
 ghost use Rattle.lbk_cmd.specs.Acts.{Marks, Segments, Shows, Writes};
+ghost use Rattle.lbk_args.specs.Sign.{default_sign};
 ghost use Rattle.lbk_cmd.specs.Devices.{devices_of};
 
 use super::faults::CmdFault;
 use super::gathered::{Gathered, end_of};
+use lbk_args::DEFAULT_SIGN;
 use lbk_feed::{Sink, Source};
 use lbk_passage::Segmenter;
 use lbk_rules::{CellSource, Profile};
@@ -22,10 +24,34 @@ pub fn mark<R: Source, W: Sink, C: CellSource>(
     limit: u32,
     profile: Profile,
 ) -> Result<(), CmdFault>
-    ensures { Marks (C.cell_of cells.now) limit profile
+    ensures { Marks default_sign (C.cell_of cells.now) limit profile
         (devices_of R.Source W.Sink reader.old writer.old) (devices_of R.Source W.Sink reader.new writer.new) result }
 {
-    write_lines(Lines::Signed, alloc, reader, writer, cells, limit, profile)
+    mark_with(DEFAULT_SIGN, alloc, reader, writer, cells, limit, profile)
+}
+
+/// `mark` with this sign in place of `÷`.
+pub fn mark_with<R: Source, W: Sink, C: CellSource>(
+    sign: &str,
+    alloc: Global,
+    reader: &mut R,
+    writer: &mut W,
+    cells: &C,
+    limit: u32,
+    profile: Profile,
+) -> Result<(), CmdFault>
+    ensures { Marks sign.now (C.cell_of cells.now) limit profile
+        (devices_of R.Source W.Sink reader.old writer.old) (devices_of R.Source W.Sink reader.new writer.new) result }
+{
+    write_lines(
+        Lines::Signed { sign },
+        alloc,
+        reader,
+        writer,
+        cells,
+        limit,
+        profile,
+    )
 }
 
 /// Writes the marks, scalars and rules of a text (UAX #14, section 6), each passage in a line of its own: the marks
@@ -78,9 +104,9 @@ pub fn segment<R: Source, W: Sink, C: CellSource>(
 
 /// What is written of a passage.
 #[derive(Clone, Copy)]
-pub(crate) enum Lines {
+pub(crate) enum Lines<'a> {
     /// Its text, with a sign at each position where a line may end.
-    Signed,
+    Signed { sign: &'a str },
     /// Its marks, scalars and rules, in one line.
     Shown,
     /// Itself, its segments and its words.
@@ -89,7 +115,7 @@ pub(crate) enum Lines {
 
 /// Reads a text to its end, and writes the lines of each passage before the next read that is due.
 fn write_lines<R: Source, W: Sink, C: CellSource>(
-    lines: Lines,
+    lines: Lines<'_>,
     alloc: Global,
     reader: &mut R,
     writer: &mut W,
@@ -97,7 +123,7 @@ fn write_lines<R: Source, W: Sink, C: CellSource>(
     limit: u32,
     profile: Profile,
 ) -> Result<(), CmdFault>
-    ensures { Writes lines (C.cell_of cells.now) limit profile
+    ensures { Writes lines.entry (C.cell_of cells.now) limit profile
         (devices_of R.Source W.Sink reader.old writer.old) (devices_of R.Source W.Sink reader.new writer.new) result }
 {
     let mut segmenter = Segmenter::new(alloc, cells, limit, profile)?;

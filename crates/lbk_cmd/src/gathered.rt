@@ -105,13 +105,13 @@ impl Gathered {
     /// stand there.
     pub fn put_next<R: Source, C: CellSource>(
         &mut self,
-        lines: Lines,
+        lines: Lines<'_>,
         segmenter: &mut Segmenter<'_, C>,
         reader: &mut R,
         cells: &C,
         profile: Profile,
     ) -> Result<bool, CmdFault>
-        ensures puts { (limit : ℕ) → PutsNext (engine_of lines (C.cell_of cells.now) profile limit)
+        ensures puts { (limit : ℕ) → PutsNext (engine_of lines.entry (C.cell_of cells.now) profile limit)
             (state_of C.cell_of segmenter.old) (state_of C.cell_of segmenter.new)
             (R.unread reader.old) (R.unread reader.new) (R.has_ended reader.old) (R.has_ended reader.new)
             (R.reads_made reader.old) (R.reads_made reader.new) (R.failure_count reader.old) (R.failure_count reader.new)
@@ -120,7 +120,9 @@ impl Gathered {
     {
         match lines {
             Lines::Segmented => self.put_segmented(segmenter, reader),
-            Lines::Signed | Lines::Shown => self.put_text(lines, segmenter, reader, cells, profile),
+            Lines::Signed { .. } | Lines::Shown => self.put_text(
+                lines, segmenter, reader, cells, profile,
+            ),
         }
     }
 
@@ -150,14 +152,14 @@ impl Gathered {
     /// Those of its text, for which neither segments nor words are found.
     fn put_text<R: Source, C: CellSource>(
         &mut self,
-        lines: Lines,
+        lines: Lines<'_>,
         segmenter: &mut Segmenter<'_, C>,
         reader: &mut R,
         cells: &C,
         profile: Profile,
     ) -> Result<bool, CmdFault>
         requires { ¬ (lines ≡ kinds.Segmented) }
-        ensures puts { (limit : ℕ) → PutsNext (engine_of lines (C.cell_of cells.now) profile limit)
+        ensures puts { (limit : ℕ) → PutsNext (engine_of lines.entry (C.cell_of cells.now) profile limit)
             (state_of C.cell_of segmenter.old) (state_of C.cell_of segmenter.new)
             (R.unread reader.old) (R.unread reader.new) (R.has_ended reader.old) (R.has_ended reader.new)
             (R.reads_made reader.old) (R.reads_made reader.new) (R.failure_count reader.old) (R.failure_count reader.new)
@@ -178,7 +180,7 @@ impl Gathered {
     /// stand there.
     fn push_text<C: CellSource>(
         &mut self,
-        lines: Lines,
+        lines: Lines<'_>,
         cells: &C,
         profile: Profile,
         text: &str,
@@ -190,14 +192,19 @@ impl Gathered {
         requires empty { self.old.passage.items ≡ [] }
         ensures text { OnOk result ((s : State) (ms : List Marked) (p : Passage) → s.cell ≡ C.cell_of cells.now → s.profile ≡ profile
             → IsPassage s ms p → p.text.now ≡ text.now → p.end ≡ end → is_must end.kind ≡ true
-            → self.new.passage.items ≡ lines_of lines (C.cell_of cells.now) p.start ms) }
+            → self.new.passage.items ≡ lines_of lines.entry (C.cell_of cells.now) p.start ms) }
         ensures lines { self.new.lines ≡ self.old.lines }
         ensures at { self.new.at ≡ self.old.at }
     {
         match lines {
-            Lines::Signed => {
-                push_signed(&mut self.passage, cells, profile, text, &mut self.block)
-            }
+            Lines::Signed { sign } => push_signed(
+                &mut self.passage,
+                sign,
+                cells,
+                profile,
+                text,
+                &mut self.block,
+            ),
             Lines::Shown => {
                 decide(cells, profile, text, end, &mut self.verdicts)?;
                 push_shown(&mut self.passage, text, &self.verdicts)
@@ -210,7 +217,7 @@ impl Gathered {
     pub fn put_within<R: Source, C: CellSource>(
         &mut self,
         part: Part,
-        lines: Lines,
+        lines: Lines<'_>,
         segmenter: &mut Segmenter<'_, C>,
         reader: &mut R,
         cells: &C,
@@ -218,7 +225,7 @@ impl Gathered {
     ) -> Result<bool, CmdFault>
         requires start { self.old.at ≡ (state_of C.cell_of segmenter.old).start }
         requires early { self.old.at < part.to }
-        ensures puts { (limit : ℕ) → PutsNext (within part (engine_of lines (C.cell_of cells.now) profile limit))
+        ensures puts { (limit : ℕ) → PutsNext (within part (engine_of lines.entry (C.cell_of cells.now) profile limit))
             (state_of C.cell_of segmenter.old) (state_of C.cell_of segmenter.new)
             (R.unread reader.old) (R.unread reader.new) (R.has_ended reader.old) (R.has_ended reader.new)
             (R.reads_made reader.old) (R.reads_made reader.new) (R.failure_count reader.old) (R.failure_count reader.new)

@@ -68,9 +68,9 @@ pub fn shown_lines()
 /// of each part what it writes of the part by itself. So does `show`, except the last label of a part: it is 3 of a part by itself,
 /// and 4 or 5 where another follows. `segment` writes that rule too, and the places of the whole text.
 pub fn joined_lines()
-    ensures mark { (profile : Profile) (cell : ℕ → Cell) (parts : List (List ℕ)) → AreParts cell parts
-        → signed_text cell (passages profile cell (flat_map (λ part. part) parts))
-        ≡ flat_map (λ part. signed_text cell (passages profile cell part)) parts }
+    ensures mark { (sign : List ℕ) (profile : Profile) (cell : ℕ → Cell) (parts : List (List ℕ)) → AreParts cell parts
+        → signed_text sign cell (passages profile cell (flat_map (λ part. part) parts))
+        ≡ flat_map (λ part. signed_text sign cell (passages profile cell part)) parts }
     ensures show { (profile : Profile) (cell : ℕ → Cell) (parts : List (List ℕ)) → AreParts cell parts
         → show_text (passages profile cell (flat_map (λ part. part) parts)) ≡ of_parts (shown_in profile cell) 0 parts }
     ensures segment { (profile : Profile) (cell : ℕ → Cell) (parts : List (List ℕ)) → AreParts cell parts

@@ -22,7 +22,7 @@ mod signed;
 pub use broken::{BreakFault, break_text};
 pub use command::{run, run_over_texts};
 pub use ending::{Ending, RunFault};
-pub use engine::{mark, segment, show};
+pub use engine::{mark, mark_with, segment, show};
 pub use faults::CmdFault;
 pub use lbk_files::{
     CellsFault, ClaimCause, LoadFault, MemoryStore, SAMPLE_FILES, Store, Version, read_cells,

@@ -9,7 +9,7 @@ ghost use Rattle.lbk_cmd.specs.Operands.{Reads, ReadsText, ReadsTexts, refused_a
 ghost use Rattle.lbk_cmd.specs.declared.ending.Ending.TheVariants.{Done};
 
 use super::ending::{Ending, RunFault};
-use super::engine::{Lines, mark, segment, show};
+use super::engine::{Lines, mark_with, segment, show};
 use super::operands::Texts;
 use super::ranges::write_range;
 use lbk_args::{Engine, Part};
@@ -27,7 +27,7 @@ pub(crate) fn perform<'a, T: Texts<'a>, R: Source, W: Sink>(
     reader: &mut R,
     writer: &mut W,
 ) -> Ending
-    ensures reads { Reads T.File.Source (T.contents texts.old) (RunsOver ready.now.part ready.now.engine ready.now.profile (page_cell ready.now.cells))
+    ensures reads { Reads T.File.Source (T.contents texts.old) (RunsOver ready.now.part ready.now.engine ready.now.sign.now ready.now.profile (page_cell ready.now.cells))
         (map (λ name. name.now) ready.now.texts.items)
         (standing (devices_of R.Source W.Sink reader.old writer.old) (T.refused texts.old) Done)
         (standing (devices_of R.Source W.Sink reader.new writer.new) (T.refused texts.new) result) }
@@ -50,7 +50,7 @@ fn perform_all<'a, T: Texts<'a>, R: Source, W: Sink>(
     reader: &mut R,
     writer: &mut W,
 ) -> Ending
-    ensures reads { ReadsTexts T.File.Source (T.contents texts.old) (RunsOver ready.now.part ready.now.engine ready.now.profile (page_cell ready.now.cells))
+    ensures reads { ReadsTexts T.File.Source (T.contents texts.old) (RunsOver ready.now.part ready.now.engine ready.now.sign.now ready.now.profile (page_cell ready.now.cells))
         (map (λ name. name.now) names.now)
         (standing (devices_of R.Source W.Sink reader.old writer.old) (T.refused texts.old) Done)
         (standing (devices_of R.Source W.Sink reader.new writer.new) (T.refused texts.new) result) }
@@ -88,7 +88,7 @@ fn perform_named<T: Opens, R: Source, W: Sink>(
     reader: &mut R,
     writer: &mut W,
 ) -> Ending
-    ensures { ReadsText T.File.Source (T.contents texts.now) (RunsOver ready.now.part ready.now.engine ready.now.profile (page_cell ready.now.cells)) name.now
+    ensures { ReadsText T.File.Source (T.contents texts.now) (RunsOver ready.now.part ready.now.engine ready.now.sign.now ready.now.profile (page_cell ready.now.cells)) name.now
         (devices_of R.Source W.Sink reader.old writer.old) (devices_of R.Source W.Sink reader.new writer.new) result }
 {
     if name == "-" {
@@ -109,7 +109,7 @@ fn perform_one<R: Source, W: Sink>(
     reader: &mut R,
     writer: &mut W,
 ) -> Ending
-    ensures { RunsOver ready.now.part ready.now.engine ready.now.profile (page_cell ready.now.cells)
+    ensures { RunsOver ready.now.part ready.now.engine ready.now.sign.now ready.now.profile (page_cell ready.now.cells)
         (devices_of R.Source W.Sink reader.old writer.old) (devices_of R.Source W.Sink reader.new writer.new) result }
 {
     let Some(part) = ready.part else {
@@ -118,7 +118,7 @@ fn perform_one<R: Source, W: Sink>(
     match ready.engine {
         Engine::Mark { limit } => perform_range(
             alloc,
-            Lines::Signed,
+            Lines::Signed { sign: ready.sign },
             part,
             limit,
             ready,
@@ -151,14 +151,14 @@ fn perform_one<R: Source, W: Sink>(
 #[tactic(none)]
 fn perform_range<R: Source, W: Sink>(
     alloc: Global,
-    lines: Lines,
+    lines: Lines<'_>,
     part: Part,
     limit: u32,
     ready: &Ready<'_>,
     reader: &mut R,
     writer: &mut W,
 ) -> Ending
-    ensures { RangeEnds part (engine_of lines (page_cell ready.now.cells) ready.now.profile limit)
+    ensures { RangeEnds part (engine_of lines.entry (page_cell ready.now.cells) ready.now.profile limit)
         (devices_of R.Source W.Sink reader.old writer.old) (devices_of R.Source W.Sink reader.new writer.new) result }
 {
     Ending::of_text(write_range(
@@ -181,12 +181,13 @@ fn perform_whole<R: Source, W: Sink>(
     reader: &mut R,
     writer: &mut W,
 ) -> Ending
-    ensures { EngineRuns ready.now.engine ready.now.profile (page_cell ready.now.cells)
+    ensures { EngineRuns ready.now.engine ready.now.sign.now ready.now.profile (page_cell ready.now.cells)
         (devices_of R.Source W.Sink reader.old writer.old) (devices_of R.Source W.Sink reader.new writer.new) result }
 {
     let cells = &ready.cells;
     match ready.engine {
-        Engine::Mark { limit } => Ending::of_text(mark(
+        Engine::Mark { limit } => Ending::of_text(mark_with(
+            ready.sign,
             alloc,
             reader,
             writer,

@@ -18,7 +18,7 @@ use std::alloc::Global;
 ///
 /// `limit` and the faults are those of `show`: what stands before the range is refused as in a run over the whole text.
 pub fn write_range<R: Source, W: Sink, C: CellSource>(
-    lines: Lines,
+    lines: Lines<'_>,
     part: Part,
     alloc: Global,
     reader: &mut R,
@@ -27,7 +27,7 @@ pub fn write_range<R: Source, W: Sink, C: CellSource>(
     limit: u32,
     profile: Profile,
 ) -> Result<(), CmdFault>
-    ensures { RangeRuns part (engine_of lines (C.cell_of cells.now) profile limit)
+    ensures { RangeRuns part (engine_of lines.entry (C.cell_of cells.now) profile limit)
         (devices_of R.Source W.Sink reader.old writer.old) (devices_of R.Source W.Sink reader.new writer.new) result }
 {
     let mut segmenter = Segmenter::new(alloc, cells, limit, profile)?;

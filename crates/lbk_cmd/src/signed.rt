@@ -23,19 +23,20 @@ pub const NO_BREAKS: [Break; BLOCK] = [Break {
     rule: Rule::Lb31,
 }; BLOCK];
 
-/// Puts the text of a passage at the end of `out`, with `÷` at each position where a line may end, and with a line end where
+/// Puts the text of a passage at the end of `out`, with a mark at each position where a line may end, and with a line end where
 /// the text has none. `block` is a list to work in. After an error some of it may stand there.
 pub fn push_signed<C: CellSource>(
     out: &mut Vec<u8>,
+    mark: &str,
     cells: &C,
     profile: Profile,
     text: &str,
     block: &mut [Break; BLOCK],
 ) -> Result<(), AllocError>
     ensures { OnOk result (out.new.items ≡ out.old.items
-        ++ (signed_from text.now 0 (breaks profile (C.cell_of cells.now) (chars text.now)) ++ missing_line_end (C.cell_of cells.now) (chars text.now))) }
+        ++ (signed_from mark.now text.now 0 (breaks profile (C.cell_of cells.now) (chars text.now)) ++ missing_line_end (C.cell_of cells.now) (chars text.now))) }
 {
-    push_text(out, cells, profile, text, block)?;
+    push_text(out, mark, cells, profile, text, block)?;
     if !ends_in_line_end(cells, text) {
         out.push(b'\n')?;
     }
@@ -45,20 +46,21 @@ pub fn push_signed<C: CellSource>(
 /// Puts a text at the end of `out`, with its signs.
 fn push_text<C: CellSource>(
     out: &mut Vec<u8>,
+    mark: &str,
     cells: &C,
     profile: Profile,
     text: &str,
     block: &mut [Break; BLOCK],
 ) -> Result<(), AllocError>
     ensures { OnOk result (out.new.items
-        ≡ out.old.items ++ signed_from text.now 0 (breaks profile (C.cell_of cells.now) (chars text.now))) }
+        ≡ out.old.items ++ signed_from mark.now text.now 0 (breaks profile (C.cell_of cells.now) (chars text.now))) }
 {
     let bytes = text.as_bytes();
     let mut breaks = Breaks::new(cells, text, profile);
     let mut done = 0;
     loop {
         let count = breaks.fill(block);
-        done = push_block(out, bytes, &block[..count], done)?;
+        done = push_block(out, mark, bytes, &block[..count], done)?;
         if count < BLOCK {
             return push_rest(out, bytes, done);
         }
@@ -77,13 +79,14 @@ fn push_rest(out: &mut Vec<u8>, text: &[u8], start: usize) -> Result<(), AllocEr
 /// where the rest begins.
 fn push_block(
     out: &mut Vec<u8>,
+    mark: &str,
     text: &[u8],
     block: &[Break],
     start: usize,
 ) -> Result<usize, AllocError>
     requires { IsCut start (length text.now) block.now }
     ensures put { IfOk result (λ next. (more : List Break)
-        → out.new.items ++ signed_from text.now next more ≡ out.old.items ++ signed_from text.now start (block.now ++ more)) }
+        → out.new.items ++ signed_from mark.now text.now next more ≡ out.old.items ++ signed_from mark.now text.now start (block.now ++ more)) }
     ensures cut { IfOk result (λ next. (more : List Break)
         → IsCut start (length text.now) (block.now ++ more) → IsCut next (length text.now) more) }
 {
@@ -91,17 +94,17 @@ fn push_block(
     for one in block {
         let end = one.at;
         out.extend_from_slice(&text[done..end])?;
-        out.extend_from_slice(sign(one.kind).as_bytes())?;
+        out.extend_from_slice(sign(mark, one.kind).as_bytes())?;
         done = end;
     }
     Ok(done)
 }
 
-fn sign(kind: Kind) -> &'static str
-    ensures { result.now ≡ sign kind }
+fn sign<'a>(mark: &'a str, kind: Kind) -> &'a str
+    ensures { result.now ≡ sign mark.entry.now kind }
 {
     match kind {
-        Kind::May => "÷",
+        Kind::May => mark,
         Kind::No | Kind::Must => "",
     }
 }

@@ -12,5 +12,11 @@ unfit = ((λ e. absurd (cc)), (λ e. absurd (cc)), λ e. absurd (cc))
 pub returns-in_default-clause-refused : goal.returns-in_default-clause-refused
 returns-in_default-clause-refused c = rw c.in_default.is (c.mistake.ensures MissingRequiredArgument missing)
 
-pub returns-clause-refused : goal.returns-clause-refused
-returns-clause-refused c = rw (c.in-Some.is, sym c.is_range.ensures ∙ c.if-is_range.false) (c.mistake-else-is_range.ensures ValueValidation unfit)
+pub returns-then-not-is_range-clause-refused : goal.returns-then-not-is_range-clause-refused
+returns-then-not-is_range-clause-refused c =
+    rw (c.in-Some.is, sym c.is_range.ensures ∙ c.if-not-is_range.true) (c.mistake-then-not-is_range.ensures ValueValidation unfit)
+
+pub returns-then-not-is_sign-clause-refused : goal.returns-then-not-is_sign-clause-refused
+returns-then-not-is_sign-clause-refused c =
+    rw (c.in-Some.is, sym c.is_range.ensures ∙ c.if-not-is_range.false, sym c.is_sign.ensures ∙ c.if-not-is_sign.true)
+    (c.mistake-then-not-is_sign.ensures ValueValidation unfit)

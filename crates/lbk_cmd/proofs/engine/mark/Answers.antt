@@ -1,4 +1,4 @@
 use Rattle.lbk_cmd.proofs.engine.mark.Goals as goal
 
 pub returns : goal.returns
-returns g c = c.write_lines.ensures
+returns g c = c.mark_with.ensures

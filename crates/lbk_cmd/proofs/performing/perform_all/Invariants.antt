@@ -10,10 +10,10 @@ use Rattle.lbk_cmd.proofs.performing.perform_all.Given as goal
 abbrev pub invariant-loop-name : goal.invariant-loop-name
 invariant-loop-name g l = record {
   reads : (after : Standing)
-      → ReadsTexts g.T.File.Source (g.T.Opens.contents l.fn.texts) (RunsOver l.ready.part l.ready.engine l.ready.profile (page_cell l.ready.cells))
+      → ReadsTexts g.T.File.Source (g.T.Opens.contents l.fn.texts) (RunsOver l.ready.part l.ready.engine l.ready.sign.now l.ready.profile (page_cell l.ready.cells))
       (map (λ name. name.now) (drop l.name-index l.names))
       (standing (devices_of g.R.Source g.W.Sink l.reader l.writer) (g.T.Texts.refused l.texts) l.so_far) after
-      → ReadsTexts g.T.File.Source (g.T.Opens.contents l.fn.texts) (RunsOver l.ready.part l.ready.engine l.ready.profile (page_cell l.ready.cells))
+      → ReadsTexts g.T.File.Source (g.T.Opens.contents l.fn.texts) (RunsOver l.ready.part l.ready.engine l.ready.sign.now l.ready.profile (page_cell l.ready.cells))
       (map (λ name. name.now) l.names)
       (standing (devices_of g.R.Source g.W.Sink l.fn.reader l.fn.writer) (g.T.Texts.refused l.fn.texts) Done) after;
   contents : g.T.Opens.contents l.texts ≡ g.T.Opens.contents l.fn.texts;

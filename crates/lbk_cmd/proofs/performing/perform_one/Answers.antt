@@ -1,3 +1,4 @@
+use Rattle.std.proofs.Common.{rules}
 use Rattle.lbk_cmd.proofs.performing.perform_one.Goals as goal
 
 pub returns-in_default : goal.returns-in_default
@@ -14,3 +15,6 @@ returns-in-Segment g c = rw (c.in-Some.is, c.in-Segment.is) c.perform_range-in-S
 
 pub returns-in-Replay : goal.returns-in-Replay
 returns-in-Replay g c = rw (c.in-Some.is, c.in-Replay.is) (rw c.in-Replay.is at c.perform_whole-in-Replay.ensures)
+
+pub fact_in-perform_range : goal.fact_in-perform_range
+fact_in-perform_range g c = search rules

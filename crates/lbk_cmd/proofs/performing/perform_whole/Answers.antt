@@ -1,9 +1,10 @@
+use Rattle.std.proofs.Common.{rules}
 use Rattle.lbk_cmd.proofs.performing.perform_whole.Goals as goal
 
 pub returns-in-Mark : goal.returns-in-Mark
 returns-in-Mark g c = rw c.in-Mark.is (
-  c.mark.result,
-  c.mark.ensures,
+  c.mark_with.result,
+  c.mark_with.ensures,
   c.of_text.ensures,
 )
 
@@ -34,3 +35,6 @@ returns-in-Replay g c = rw (c.in-Replay.is, ← c.form.ensures) (
   },
   c.of_replay.ensures,
 )
+
+pub mark_with-requires-text-sign : goal.mark_with-requires-text-sign
+mark_with-requires-text-sign g c κs within = search rules

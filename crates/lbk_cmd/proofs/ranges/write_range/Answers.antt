@@ -24,8 +24,8 @@ returns-in_err-segmenter g c =
       failed_writes = search rules;
     }
 
-pub loop-lines-init : goal.loop-lines-init
-loop-lines-init g c =
+pub loop-part-init : goal.loop-part-init
+loop-part-init g c =
     let e = engine_in c.args.part c.args.lines (g.C.CellSource.cell_of c.args.cells.now) c.args.profile c.args.limit in
     let s = state_of g.C.CellSource.cell_of c.in_ok-segmenter.segmenter in
     let u = g.R.Source.unread c.args.reader.now in
@@ -47,7 +47,7 @@ returns-in_err-write_due g c =
     let e = engine_in c.args.part c.args.lines (g.C.CellSource.cell_of c.args.cells.now) c.args.profile c.args.limit in
     let exit = err_from_is_err_and c.from_residual-in_err-write_due.result c.from_residual-in_err-write_due.ensures.1 in
     let is = exit.1 ∙ ap Err exit.2 in
-    let l = c.loop-lines in
+    let l = c.loop-part in
     let front = c.in_err-write_due.ensures.front in
     rw is (record {
       shown = tt;
@@ -64,7 +64,7 @@ returns-in_err-write g c =
     let e = engine_in c.args.part c.args.lines (g.C.CellSource.cell_of c.args.cells.now) c.args.profile c.args.limit in
     let exit = err_from_is_err_and c.from_residual-in_err-write.result c.from_residual-in_err-write.ensures.1 in
     let is = exit.1 ∙ ap Err exit.2 in
-    let l = c.loop-lines in
+    let l = c.loop-part in
     let d = due e _ _ _ (state_of g.C.CellSource.cell_of l.segmenter) (state_of g.C.CellSource.cell_of c.write_due.new.segmenter) _ _ _ _ _ _ _ l.invariant.going
     c.write_due.ensures.state (⊎_elim inl (λ k. inr (k.0, ap g.W.Sink.written k.1, k.2)) c.in_ok-write_due.ensures.due) in
     let put = c.put_within-put.ensures.puts c.args.limit in
@@ -76,7 +76,7 @@ returns-in_err-write g c =
       shown = tt;
       run = range_run (held_back e _ _ _ _ _ _ _ _ _ _ _ _ _ _ _ _ _ _ d.going d.wait put c.in-Some.answer answer settled _ front.0 front.1)
           c.args.part.from c.args.part.to
-          (omega (arith, d.start, l.invariant.at, c.loop-lines-test.true, c.at.ensures, c.from.ensures), d.before c.args.part.to l.invariant.before);
+          (omega (arith, d.start, l.invariant.at, c.loop-part-test.true, c.at.ensures, c.from.ensures), d.before c.args.part.to l.invariant.before);
       reads = most e _ _ _ _ _ _ _ _ _ _ _ _ _ _ _ _ _ _ d.going d.wait put;
       limit = limit_kept c.args.limit c.new.result c.in_ok-segmenter.segmenter c.in_ok-segmenter.was c.new.ensures.limit _ (λ same. cc);
       failed_reads = ap g.R.Source.failure_count (c.put_within-put.ensures.settled settled) ∙ l.invariant.read_failures;
@@ -87,14 +87,14 @@ returns-in_err-write g c =
 pub returns-in-Some : goal.returns-in-Some
 returns-in-Some g c =
     let e = engine_in c.args.part c.args.lines (g.C.CellSource.cell_of c.args.cells.now) c.args.profile c.args.limit in
-    let l = c.loop-lines in
+    let l = c.loop-part in
     let d = due e _ _ _ (state_of g.C.CellSource.cell_of l.segmenter) (state_of g.C.CellSource.cell_of c.write_due.new.segmenter) _ _ _ _ _ _ _ l.invariant.going
     c.write_due.ensures.state (⊎_elim inl (λ k. inr (k.0, ap g.W.Sink.written k.1, k.2)) c.in_ok-write_due.ensures.due) in
     let put = c.put_within-put.ensures.puts c.args.limit in
     let answer = sym c.end_of.ensures ∙ c.in-Some.is in
     let run = range_run (ends e _ _ _ _ _ _ _ _ _ _ _ _ _ _ _ _ _ _ d.going d.wait put c.in-Some.answer answer _ c.in_ok-write.ensures.written.1)
     c.args.part.from c.args.part.to (
-      (omega (arith, d.start, l.invariant.at, c.loop-lines-test.true, c.at.ensures, c.from.ensures), d.before c.args.part.to l.invariant.before),
+      (omega (arith, d.start, l.invariant.at, c.loop-part-test.true, c.at.ensures, c.from.ensures), d.before c.args.part.to l.invariant.before),
       λ full. (let late = c.put_within-put.ensures.memory full in omega (arith, late, c.write_due.ensures.at, l.invariant.at, d.start)),
     ) in
     record {
@@ -110,26 +110,26 @@ returns-in-Some g c =
           ∙ no_failed_write e _ _ _ _ _ _ _ _ _ _ _ _ _ _ _ _ _ _ d.going d.wait put c.in-Some.answer answer (g.W.Sink.failure_count c.args.writer.now);
     }
 
-pub loop-lines-smaller : goal.loop-lines-smaller
-loop-lines-smaller g c =
+pub loop-part-smaller : goal.loop-part-smaller
+loop-part-smaller g c =
     let e = engine_in c.args.part c.args.lines (g.C.CellSource.cell_of c.args.cells.now) c.args.profile c.args.limit in
-    let l = c.loop-lines in
+    let l = c.loop-part in
     let d = due e _ _ _ (state_of g.C.CellSource.cell_of l.segmenter) (state_of g.C.CellSource.cell_of c.write_due.new.segmenter) _ _ _ _ _ _ _ l.invariant.going
     c.write_due.ensures.state (⊎_elim inl (λ k. inr (k.0, ap g.W.Sink.written k.1, k.2)) c.in_ok-write_due.ensures.due) in
     let more = on e _ _ _ _ _ _ _ _ _ _ _ _ _ _ _ _ _ _ d.going d.wait (c.put_within-put.ensures.puts c.args.limit) (sym c.end_of.ensures ∙ c.in_default.is) in
     omega (arith, d.start, more.onward, more.few)
 
-pub loop-lines-preserved : goal.loop-lines-preserved
-loop-lines-preserved g c =
+pub loop-part-preserved : goal.loop-part-preserved
+loop-part-preserved g c =
     let e = engine_in c.args.part c.args.lines (g.C.CellSource.cell_of c.args.cells.now) c.args.profile c.args.limit in
-    let l = c.loop-lines in
+    let l = c.loop-part in
     let d = due e _ _ _ (state_of g.C.CellSource.cell_of l.segmenter) (state_of g.C.CellSource.cell_of c.write_due.new.segmenter) _ _ _ _ _ _ _ l.invariant.going
     c.write_due.ensures.state (⊎_elim inl (λ k. inr (k.0, ap g.W.Sink.written k.1, k.2)) c.in_ok-write_due.ensures.due) in
     let more = on e _ _ _ _ _ _ _ _ _ _ _ _ _ _ _ _ _ _ d.going d.wait (c.put_within-put.ensures.puts c.args.limit) (sym c.end_of.ensures ∙ c.in_default.is) in
     record {
       going = more.going;
       before = more.before c.args.part.to
-          (omega (arith, d.start, l.invariant.at, c.loop-lines-test.true, c.at.ensures, c.from.ensures), d.before c.args.part.to l.invariant.before);
+          (omega (arith, d.start, l.invariant.at, c.loop-part-test.true, c.at.ensures, c.from.ensures), d.before c.args.part.to l.invariant.before);
       read_failures = more.none_failed ∙ l.invariant.read_failures;
       write_failures = c.write_due.ensures.failures ∙ ap (failures_after (g.W.Sink.failure_count l.writer)) c.in_ok-write_due.was ∙ l.invariant.write_failures;
       at = more.is;
@@ -140,7 +140,7 @@ returns-in_err-write-2 g c =
     let e = engine_in c.args.part c.args.lines (g.C.CellSource.cell_of c.args.cells.now) c.args.profile c.args.limit in
     let exit = err_from_is_err_and c.from_residual-in_err-write-2.result c.from_residual-in_err-write-2.ensures.1 in
     let is = exit.1 ∙ ap Err exit.2 in
-    let l = c.loop-lines in
+    let l = c.loop-part in
     let front = c.in_err-write-2.ensures.front in
     rw is (record {
       shown = tt;
@@ -155,9 +155,9 @@ returns-in_err-write-2 g c =
 pub returns : goal.returns
 returns g c =
     let e = engine_in c.args.part c.args.lines (g.C.CellSource.cell_of c.args.cells.now) c.args.profile c.args.limit in
-    let l = c.loop-lines in
+    let l = c.loop-part in
     let run = range_passed e _ _ _ _ _ _ _ _ _ c.args.part.from c.args.part.to l.invariant.going l.invariant.before
-    (omega (arith, l.invariant.at, c.loop-lines-test.false, c.at.ensures, c.from.ensures)) _ c.in_ok-write-2.ensures.written.1 in
+    (omega (arith, l.invariant.at, c.loop-part-test.false, c.at.ensures, c.from.ensures)) _ c.in_ok-write-2.ensures.written.1 in
     record {
       shown = known_range c.args.part _ _ _ _ (Ok (tt {0})) _ _ _ _ run;
       run = run;

@@ -6,8 +6,8 @@ use Rattle.lbk_cmd.specs.Ranges.{ReadsBefore, within}
 use Rattle.lbk_cmd.proofs.Looping.{Going}
 use Rattle.lbk_cmd.proofs.ranges.write_range.Given as goal
 
-abbrev pub invariant-loop-lines : goal.invariant-loop-lines
-invariant-loop-lines g l = record {
+abbrev pub invariant-loop-part : goal.invariant-loop-part
+invariant-loop-part g l = record {
   going : Going (within l.fn.part (engine_of l.fn.lines (g.C.CellSource.cell_of l.cells) l.fn.profile l.fn.limit))
       (g.R.Source.unread l.fn.reader) (g.W.Sink.written l.fn.writer) (g.R.Source.reads_made l.fn.reader)
       (state_of g.C.CellSource.cell_of l.segmenter)
@@ -19,5 +19,5 @@ invariant-loop-lines g l = record {
   at : l.gathered.at ≡ (state_of g.C.CellSource.cell_of l.segmenter).start;
 }
 
-abbrev pub decreases-loop-lines : goal.decreases-loop-lines
-decreases-loop-lines g l = longest_text + 1 - (state_of g.C.CellSource.cell_of l.segmenter).start
+abbrev pub decreases-loop-part : goal.decreases-loop-part
+decreases-loop-part g l = longest_text + 1 - (state_of g.C.CellSource.cell_of l.segmenter).start

@@ -7,7 +7,7 @@ use Rattle.lbk_cmd.proofs.signed.push_block.Given as goal
 abbrev pub invariant-loop-one : goal.invariant-loop-one
 invariant-loop-one l = record {
   cut : IsCut l.done (length l.text) (drop l.one-index l.block);
-  put : (more : List Break) → l.out.items ++ signed_from l.text l.done (drop l.one-index l.block ++ more)
-      ≡ l.fn.out.items ++ signed_from l.text l.fn.start (l.block ++ more);
+  put : (more : List Break) → l.out.items ++ signed_from l.mark l.text l.done (drop l.one-index l.block ++ more)
+      ≡ l.fn.out.items ++ signed_from l.mark l.text l.fn.start (l.block ++ more);
   on : (more : List Break) → IsCut l.fn.start (length l.text) (l.block ++ more) → IsCut l.done (length l.text) (drop l.one-index l.block ++ more);
 }

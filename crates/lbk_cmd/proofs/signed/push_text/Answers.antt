@@ -9,7 +9,7 @@ pub loop-done-init : goal.loop-done-init
 loop-done-init g c =
     let cell = g.C.CellSource.cell_of c.args.cells.now in
     let same = c.new-breaks.ensures in record {
-      put = ap (λ bs. c.args.out.now.items ++ signed_from c.args.text.now 0 bs) same;
+      put = ap (λ bs. c.args.out.now.items ++ signed_from c.args.mark.now c.args.text.now 0 bs) same;
       cut = subst (IsCut 0 (length c.args.text.now)) (sym same) (text_cut c.args.profile cell c.args.text.now c.utf8.text);
     }
 
@@ -40,7 +40,7 @@ returns-then-count-lt-BLOCK g c =
     let whole = append-nil (take count c.fill-count.new.block) ∙ c.fill-count.ensures.front ∙ take_all count l.breaks all in
     on_ok_weaker c.push_rest.result
     (λ is. is ∙ c.in_ok-done.ensures.put []
-    ∙ ap (λ bs. l.out.items ++ signed_from c.as_bytes-bytes.result.now l.done bs) whole
-    ∙ ap (λ t. l.out.items ++ signed_from t l.done l.breaks) c.as_bytes-bytes.ensures.value
+    ∙ ap (λ bs. l.out.items ++ signed_from c.args.mark.now c.as_bytes-bytes.result.now l.done bs) whole
+    ∙ ap (λ t. l.out.items ++ signed_from c.args.mark.now t l.done l.breaks) c.as_bytes-bytes.ensures.value
     ∙ l.invariant.put)
     c.push_rest.ensures

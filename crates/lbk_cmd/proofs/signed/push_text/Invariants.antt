@@ -5,8 +5,8 @@ use Rattle.lbk_cmd.proofs.signed.push_text.Given as goal
 
 abbrev pub invariant-loop-done : goal.invariant-loop-done
 invariant-loop-done g l = record {
-  put : l.out.items ++ signed_from l.text l.done l.breaks
-      ≡ l.fn.out.items ++ signed_from l.text 0 (breaks l.fn.profile (g.C.CellSource.cell_of l.cells) (chars l.text));
+  put : l.out.items ++ signed_from l.mark l.text l.done l.breaks
+      ≡ l.fn.out.items ++ signed_from l.mark l.text 0 (breaks l.fn.profile (g.C.CellSource.cell_of l.cells) (chars l.text));
   cut : IsCut l.done (length l.text) l.breaks;
 }
 

@@ -17,13 +17,14 @@ returns-in-Signed-clause-text g c =
     let cell = g.C.CellSource.cell_of c.args.cells.now in
     let profile = c.args.profile in
     let text = c.args.text.now in
+    let mark = c.in-Signed.sign.now in
     on_ok_weaker c.push_signed.result
     (λ is s ms p cell_is profile_is of bytes end must.
     is
-    ∙ ap (λ l. l ++ (signed_from text 0 (breaks profile cell (chars text)) ++ missing_line_end cell (chars text))) c.requires.empty
-    ∙ text_signed profile cell text c.utf8.text
-    ∙ ap (λ l. signed_passage cell (marks profile cell (chars l))) (sym bytes)
-    ∙ passage_signed s ms p cell profile cell_is profile_is of (ap (λ v. is_must v.kind) end ∙ must)
+    ∙ ap (λ l. l ++ (signed_from mark text 0 (breaks profile cell (chars text)) ++ missing_line_end cell (chars text))) c.requires.empty
+    ∙ text_signed profile cell text c.utf8.text mark
+    ∙ ap (λ l. signed_passage mark cell (marks profile cell (chars l))) (sym bytes)
+    ∙ passage_signed mark s ms p cell profile cell_is profile_is of (ap (λ v. is_must v.kind) end ∙ must)
     ∙ ap (λ k. lines_of k cell p.start ms) (sym c.in-Signed.is))
     c.push_signed.ensures
 
