@@ -27,6 +27,8 @@ mod breaks;
 mod calls;
 mod cuts;
 mod fault;
+#[cfg(feature = "std")]
+mod find;
 mod found;
 #[cfg(feature = "std")]
 mod load;
@@ -40,6 +42,8 @@ mod words;
 
 pub use breaks::{Break, Breaks, Kind, Position, Positions, Profile, Rule, Segment, Segments};
 pub use fault::{Cause, Fault, File};
+#[cfg(feature = "std")]
+pub use find::NotFound;
 #[cfg(feature = "std")]
 pub use load::LoadError;
 #[cfg(feature = "std")]
