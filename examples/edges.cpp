@@ -9,6 +9,7 @@
 
 #include <algorithm>
 #include <cstdio>
+#include <cstdlib>
 #include <cstring>
 #include <memory>
 #include <string>
@@ -297,6 +298,36 @@ static void try_files(const lbk::table &table, const std::string &folder)
                                     && refused(why, reason::not_a_table));
 }
 
+/// Where tables are looked for, and what is said where none is there.
+static void try_not_found(const std::string &folder)
+{
+    std::string why, none = folder + "/none";
+    ::setenv("UNICODE_DATA", none.c_str(), 1);
+    told("where UNICODE_DATA names no folder none is found", lbk::table::try_find(why) == nullptr);
+    told("it says what to do", why.find("found no files of Unicode 15.0.0; install the package unicode-data") == 0);
+    told("it says where it looked", why.find("Looked for:\n  " + none + "/LineBreak.txt: ") != std::string::npos);
+    ::unsetenv("UNICODE_DATA");
+    ::setenv("XDG_DATA_HOME", "/of/data", 1);
+    ::setenv("HOME", "/home", 1);
+    const std::vector<std::string> wanted = {"/usr/share/unicode", "/usr/share/unicode/ucd", "/of/data/unicode",
+                                             "/home/.local/share/unicode"};
+    told("it looks into Debian's, Fedora's and the user's folders", lbk::detail::folders() == wanted);
+    ::setenv("XDG_DATA_HOME", "data", 1);
+    ::unsetenv("HOME");
+    told("a user's folder is an absolute one", lbk::detail::folders().size() == 2);
+}
+
+/// A table that is found is read once.
+static void try_found(const std::string &folder)
+{
+    std::string why;
+    ::setenv("UNICODE_DATA", folder.c_str(), 1);
+    const lbk::table *found = lbk::table::try_find(why);
+    told("the folder of UNICODE_DATA is found", found != nullptr && why.empty());
+    ::setenv("UNICODE_DATA", "/none", 1);
+    told("it is read once", found != nullptr && lbk::table::try_find(why) == found);
+}
+
 static void try_database(const std::string &folder)
 {
     lbk::error why;
@@ -340,8 +371,11 @@ int main(int words, char **word)
         try_bytes(*table);
         try_files(*table, word[1]);
         try_exceptions(*table, word[1]);
-        if (words == 3)
+        try_not_found(word[1]);
+        if (words == 3) {
             try_database(word[2]);
+            try_found(word[2]);
+        }
     }
     std::printf("%u passed, %u failed\n", passed, failed);
     return failed == 0 ? 0 : 1;

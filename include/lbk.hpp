@@ -18,6 +18,7 @@
 #include <cstring>
 #include <iterator>
 #include <memory>
+#include <mutex>
 #include <new>
 #include <optional>
 #include <stdexcept>
@@ -99,17 +100,29 @@ private:
 
 namespace detail {
 
+/// The path FOLDER/BELOW NAME; empty where it is too long.
+struct file_path {
+    char text[4096];
+
+    file_path(const char *folder, const char *below, const char *name) noexcept
+    {
+        int length = std::snprintf(text, sizeof text, "%s/%s%s", folder, below, name);
+        if (length < 0 || static_cast<std::size_t>(length) >= sizeof text)
+            text[0] = 0;
+    }
+
+    bool is_there() const noexcept { return ::access(text, F_OK) == 0; }
+};
+
 /// The bytes of a file.
 class file_bytes {
 public:
-    /// Reads the file FOLDER/BELOW NAME whole. Returns 0, or the errno of what failed.
-    int read(const char *folder, const char *below, const char *name) noexcept
+    /// Reads a file whole. Returns 0, or the errno of what failed.
+    int read(const file_path &path) noexcept
     {
-        char path[4096];
-        int length = std::snprintf(path, sizeof path, "%s/%s%s", folder, below, name);
-        if (length < 0 || static_cast<std::size_t>(length) >= sizeof path)
+        if (path.text[0] == 0)
             return ENAMETOOLONG;
-        std::FILE *file = std::fopen(path, "rb");
+        std::FILE *file = std::fopen(path.text, "rb");
         if (file == nullptr)
             return errno;
         int status = read_all(file);
@@ -145,6 +158,24 @@ private:
     }
 };
 
+/// Where the files are looked for: in the folder that UNICODE_DATA names, or else in those of the system (Debian's and Fedora's) and of
+/// the user.
+inline std::vector<std::string> folders()
+{
+    auto variable = [](const char *name) {
+        const char *value = std::getenv(name);
+        return std::string(value == nullptr ? "" : value);
+    };
+    std::string named = variable("UNICODE_DATA"), home = variable("HOME");
+    if (!named.empty())
+        return {named};
+    std::vector<std::string> all = {"/usr/share/unicode", "/usr/share/unicode/ucd"};
+    for (const std::string &users : {variable("XDG_DATA_HOME"), home.empty() ? home : home + "/.local/share"})
+        if (users[0] == '/' && all.back() != users + "/unicode")
+            all.push_back(users + "/unicode");
+    return all;
+}
+
 } // namespace detail
 
 /// The table that these bytes are, which is not copied; null where they are no whole table of this version, or are not aligned as
@@ -169,23 +200,50 @@ public:
     }
 
     /// From a folder of the Unicode Character Database, as "/usr/share/unicode": its LineBreak.txt, EastAsianWidth.txt,
-    /// extracted/DerivedGeneralCategory.txt and emoji/emoji-data.txt; the last two may also lie in the folder itself. They have
-    /// to be those that Unicode published for LBK_UNICODE_VERSION.
+    /// extracted/DerivedGeneralCategory.txt and emoji/emoji-data.txt; the last two may also lie in the folder itself, and all four
+    /// in its folder ucd. (An archive UCD.zip has to be unpacked first.) They have to be those that Unicode published for
+    /// LBK_UNICODE_VERSION.
     static std::optional<table> try_load(const std::string &folder, error &why) noexcept
     {
         static const char *const names[] = {"LineBreak.txt", "EastAsianWidth.txt", "DerivedGeneralCategory.txt", "emoji-data.txt"};
         static const char *const below[] = {"", "", "extracted/", "emoji/"};
+        const detail::file_path ucd(folder.c_str(), "ucd", "");
+        const bool is_below = !detail::file_path(folder.c_str(), "", names[0]).is_there() && ucd.is_there();
+        const char *root = is_below ? ucd.text : folder.c_str();
         detail::file_bytes files[4];
         for (std::uint32_t k = 0; k < 4; k++) {
-            int status = files[k].read(folder.c_str(), below[k], names[k]);
+            int status = files[k].read({root, below[k], names[k]});
             if (status == ENOENT)
-                status = files[k].read(folder.c_str(), "", names[k]);
+                status = files[k].read({root, "", names[k]});
             if (status == ENOMEM)
                 return none(why, error::reason::out_of_memory);
             if (status != 0)
                 return none(why, error::reason::unreadable, status, {k + 1, 0, LBK_CAUSE_NONE});
         }
         return read_by(lbk_read_published, files[0].view(), files[1].view(), files[2].view(), files[3].view(), why);
+    }
+
+    /// Of the folder that UNICODE_DATA names, or else of the first that has the files of /usr/share/unicode, its ucd, and unicode in
+    /// XDG_DATA_HOME and ~/.local/share. They are read once in a process, where they are found. Null where they are not: `why` says
+    /// what to do, and why each folder was refused.
+    static const table *try_find(std::string &why)
+    {
+        static std::mutex alone;
+        static const table *found; // (never freed, so that threads may use it while the process ends)
+        const std::lock_guard<std::mutex> held(alone);
+        why.clear();
+        std::string refusals;
+        for (const std::string &folder : found != nullptr ? std::vector<std::string>() : detail::folders()) {
+            error refused;
+            if (std::optional<table> made = try_load(folder, refused))
+                return found = new table(std::move(*made));
+            refusals += "\n  " + folder + (refused.why == error::reason::out_of_memory ? ": " : "/") + refused.message();
+        }
+        if (found == nullptr)
+            why = "found no files of Unicode " LBK_UNICODE_VERSION ".0; install the package unicode-data (Debian 12), unpack UCD.zip of "
+                  "https://www.unicode.org/Public/" LBK_UNICODE_VERSION ".0/ucd/ into ~/.local/share/unicode, or set UNICODE_DATA to a "
+                  "folder that has them. Looked for:" + refusals;
+        return found;
     }
 
     /// From the bytes of a table, as bytes() gave them. They are copied.
@@ -237,6 +295,15 @@ public:
     {
         error why;
         return or_throw(try_load(folder, why), why);
+    }
+
+    /// As try_find, and throws a std::runtime_error where they are not found.
+    static const table &find()
+    {
+        std::string why;
+        if (const table *found = try_find(why))
+            return *found;
+        throw std::runtime_error(why);
     }
 
     static table copy(std::string_view bytes)
