@@ -38,9 +38,13 @@ fn folders() -> Vec<PathBuf> {
     if let Some(named) = variable("UNICODE_DATA") {
         return Vec::from([named]);
     }
-    let home = variable("HOME").map(|home| home.join(".local/share"));
-    let users = [variable("XDG_DATA_HOME"), home].into_iter().flatten();
+    let users = [
+        variable("XDG_DATA_HOME"),
+        variable("HOME").map(|home| home.join(".local/share")),
+    ];
     let users = users
+        .into_iter()
+        .flatten()
         .filter(|folder| folder.is_absolute())
         .map(|folder| folder.join("unicode"));
     let mut all: Vec<PathBuf> = SYSTEM.iter().map(PathBuf::from).chain(users).collect();
