@@ -194,6 +194,13 @@ static void try_cuts(const lbk_table &table)
     told("no cut of no text", lbk::cut(table, "", 0) == 0 && lbk::cut_before(table, {}, 3) == 0);
 }
 
+static void try_safe_breaks(const lbk_table &table)
+{
+    auto safe = [&](std::string_view text) { return lbk::safe_break(table, text); };
+    told("safe breaks", safe("ab c d") == 5 && safe("ab\ncd") == 3 && safe("ab\n") == 0 && safe("ab") == 0 && safe("") == 0);
+    told("classes", lbk::class_of(table, U'a') == "AL" && lbk::class_of(table, 0xd800).empty() && lbk::class_of(table, 0x110000).empty());
+}
+
 static void try_words()
 {
     std::string many, joined, wanted;
@@ -366,6 +373,7 @@ int main(int words, char **word)
         try_iterators(*table);
         try_positions(*table);
         try_cuts(*table);
+        try_safe_breaks(*table);
         try_words();
         try_streams(*table);
         try_bytes(*table);

@@ -591,6 +591,28 @@ inline std::size_t cut_before(const lbk_table &by, std::string_view text, std::s
     return lbk_cut_before(&by, text.data(), text.size(), at);
 }
 
+/// The last break before the end of a text after which the breaks are those of the text that begins there; 0 where there is none. It
+/// goes over the last line of the text.
+inline std::size_t safe_break(const lbk_table &by, std::string_view text, profile rules = profile::first) noexcept
+{
+    const std::uint8_t number = static_cast<std::uint8_t>(rules);
+    std::size_t safe = cut_before(by, text, text.empty() ? 0 : text.size() - 1);
+    lbk_state state = {safe, 0, number, 0};
+    lbk_break found = {}, same = {};
+    bool is_more = lbk_breaks(&by, &state, text.data(), text.size(), &found, 1) == 1;
+    while (is_more && found.at < text.size()) {
+        const std::size_t at = found.at;
+        lbk_state fresh = {at, 0, number, 0};
+        is_more = lbk_breaks(&by, &state, text.data(), text.size(), &found, 1) == 1;
+        const bool is_same = lbk_breaks(&by, &fresh, text.data(), text.size(), &same, 1) == 1 && same.at == found.at
+                             && same.kind == found.kind && same.rule == found.rule;
+        // Where both come to the same state, all that is left is the same.
+        if (is_more && is_same && fresh.at == state.at && fresh.row == state.row && fresh.ended == state.ended)
+            safe = at;
+    }
+    return safe;
+}
+
 /// The words of a text in their order, as the bytes that each has: a view that can be gone through any number of times. It needs no
 /// table.
 class words {
@@ -685,6 +707,9 @@ private:
 
 /// The name of a rule without `LB`, as "8a"; empty for a number that no rule has.
 inline std::string label(std::uint8_t rule) { return lbk_label(rule).text; }
+
+/// The name of a scalar's line breaking class once rule LB1 has resolved it, as "AL"; empty for what is no scalar.
+inline std::string class_of(const lbk_table &by, char32_t scalar) { return lbk_class(&by, scalar).text; }
 
 namespace detail {
 

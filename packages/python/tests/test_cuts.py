@@ -30,6 +30,31 @@ class Cuts(unittest.TestCase):
         self.assertEqual(table.cut("", 0), 0)
         self.assertEqual(table.cut_before(b"", 3), 0)
 
+    def test_breaks_after_a_safe_break(self):
+        table = samples.table()
+        self.assertEqual([table.safe_break(text) for text in ("ab c d", "ab\ncd", "ab\n", "ab", "", "é c d", "é c d".encode())], [5, 3, 0, 0, 0, 4, 5])
+        chance = samples.chance(12)
+        for make in (samples.random_text, samples.random_bytes):
+            for _ in range(200):
+                text, profile = make(chance, 40), chance.choice((1, 2))
+                safe = table.safe_break(text, profile)
+                after = [(safe + at, kind, rule) for at, kind, rule in table.breaks(text[safe:], profile)]
+                self.assertEqual(after, [one for one in samples.found(table, text, profile) if one[0] > safe])
+        with self.assertRaises(ValueError):
+            table.safe_break("a", 3)
+        with self.assertRaises(TypeError):
+            table.safe_break(3)
+
+    def test_classes(self):
+        table = samples.table()
+        self.assertEqual([table.class_of(one) for one in ("a", " ", 0x4E00, "\n", 0xD800)], ["AL", "SP", "ID", "LF", ""])
+        for wrong in (-1, 0x110000):
+            with self.assertRaises(ValueError):
+                table.class_of(wrong)
+        for wrong in ("", "ab", None):
+            with self.assertRaises(TypeError):
+                table.class_of(wrong)
+
     def test_the_table_decides(self):
         table = Table.read(*OTHER)
         self.assertEqual([table.cut(b"b\nbab\n", at) for at in range(7)], [0, 4, 4, 4, 4, 6, 6])

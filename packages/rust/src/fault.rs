@@ -1,8 +1,8 @@
 //! Why files are refused.
 
-use core::{fmt, str};
+use core::fmt;
 
-use crate::calls;
+use crate::calls::{self, shown};
 
 /// Why four files are refused: the first fault that they have.
 #[derive(Clone, Copy, PartialEq, Eq, Debug)]
@@ -99,14 +99,14 @@ impl fmt::Display for Fault {
                 calls::lbk_cause_text(1 + self.cause as u32),
             )
         };
-        write!(f, "{}:{}: {}", shown(&file), self.line, shown(&cause))
+        write!(
+            f,
+            "{}:{}: {}",
+            shown(&file.text),
+            self.line,
+            shown(&cause.text)
+        )
     }
-}
-
-/// The text without the zeros at its end.
-fn shown(text: &calls::Text) -> &str {
-    let end = text.text.iter().position(|&byte| byte == 0);
-    str::from_utf8(&text.text[..end.unwrap_or(0)]).unwrap_or("")
 }
 
 #[cfg(feature = "std")]

@@ -40,7 +40,9 @@ mod table;
 mod units;
 mod words;
 
-pub use breaks::{Break, Breaks, Kind, Position, Positions, Profile, Rule, Segment, Segments};
+pub use breaks::{
+    Break, Breaks, Class, Kind, Position, Positions, Profile, Rule, Segment, Segments,
+};
 pub use fault::{Cause, Fault, File};
 #[cfg(feature = "std")]
 pub use find::NotFound;

@@ -95,6 +95,14 @@ fn the_breaks_after_a_safe_break_are_those_of_the_text_from_there_on() {
 }
 
 #[test]
+fn classes_of_characters() {
+    let table = table(USUAL);
+    let names = ['a', '一', ' ', '\n'].map(|it| table.class_of(it).to_string());
+    assert_eq!(names, ["AL", "ID", "SP", "LF"]);
+    assert_eq!(table.class_of('a'), table.class_of('z'));
+}
+
+#[test]
 fn positions_of_a_text() {
     let table = table(USUAL);
     let shown: Vec<String> = table

@@ -5,6 +5,7 @@ import copy
 import functools
 import mmap
 import os
+import sys
 import threading
 from array import array
 from collections.abc import Iterable, Iterator
@@ -183,6 +184,19 @@ class Table:
     def cut_before(self, text: Text, at: int) -> int:
         """The last such place at or before `at`: no break after it depends on the text before it."""
         return _calls.cut_before(self._memory, text, at)
+
+    def safe_break(self, text: Text, profile: int = 1) -> int:
+        """The last break before the end of a text after which the breaks are those of the text that
+        begins there; 0 where there is none. It goes over the last line of the text."""
+        return _calls.safe_break(self._memory, text, profile)
+
+    def class_of(self, character: str | int) -> str:
+        """The line breaking class of a character or a code point, as "AL", once LB1 has resolved
+        it; "" for a surrogate. Raises ValueError for a number that is no code point."""
+        code = ord(character) if isinstance(character, str) else character
+        if not 0 <= code <= sys.maxunicode:
+            raise ValueError(f"a code point is 0 to 0x10FFFF, and not {code}")
+        return _calls.class_of(self._memory, code)
 
     @overload
     @staticmethod
