@@ -45,6 +45,21 @@ class Cuts(unittest.TestCase):
         with self.assertRaises(TypeError):
             table.safe_break(3)
 
+    def test_files_that_were_cut(self):
+        head, end = b"# LineBreak-15.0.0.txt\n", b"\n# EOF\n"
+        whole = Table.read(head + samples.LINE_BREAK + end, *samples.FILES[1:])
+        self.assertEqual(whole, samples.table())
+        names = (head, b"# EastAsianWidth-15.1.0.txt\n", b"# DerivedGeneralCategory-15.0.0.txt\r\n", b"# emoji-data.txt\n")
+        for number, name in enumerate(names, 1):
+            files = list(samples.FILES)
+            files[number - 1] = name + files[number - 1]
+            with self.assertRaises(lbk.Fault) as caught:
+                Table.read(*files)
+            self.assertEqual((caught.exception.file, caught.exception.cause), (number, lbk.Cause.NOT_PUBLISHED))
+            self.assertEqual(Table.read(*files, strict=False), whole)
+            files[number - 1] += b"\n#EOF\n\n"
+            self.assertEqual(Table.read(*files), whole)
+
     def test_classes(self):
         table = samples.table()
         self.assertEqual([table.class_of(one) for one in ("a", " ", 0x4E00, "\n", 0xD800)], ["AL", "SP", "ID", "LF", ""])

@@ -3,6 +3,7 @@
 use core::fmt;
 
 use crate::calls::{self, shown};
+use crate::table::Files;
 
 /// Why four files are refused: the first fault that they have.
 #[derive(Clone, Copy, PartialEq, Eq, Debug)]
@@ -15,6 +16,22 @@ pub struct Fault {
 }
 
 impl Fault {
+    /// The first of the files that was cut.
+    pub(crate) fn of_a_cut_file(files: &Files<'_>) -> Option<Fault> {
+        let all = [
+            (File::LineBreak, files.line_break),
+            (File::EastAsian, files.east_asian),
+            (File::Category, files.category),
+            (File::Emoji, files.emoji),
+        ];
+        let (file, _) = all.into_iter().find(|(_, bytes)| is_cut(bytes))?;
+        Some(Fault {
+            file: Some(file),
+            line: 0,
+            cause: Cause::NotPublished,
+        })
+    }
+
     /// `None` where the call has no fault.
     pub(crate) fn from_c(fault: calls::Fault) -> Option<Fault> {
         Some(Fault {
@@ -23,6 +40,26 @@ impl Fault {
             cause: Cause::numbered(fault.cause)?,
         })
     }
+}
+
+/// What the first lines of published files begin with.
+const CLAIMS: [&[u8]; 4] = [
+    b"# LineBreak-",
+    b"# EastAsianWidth-",
+    b"# DerivedGeneralCategory-",
+    b"# emoji-data.",
+];
+
+/// Whether the first line claims a name that Unicode published, and the last is not its end.
+fn is_cut(file: &[u8]) -> bool {
+    let blank = |byte: &u8| byte.is_ascii_whitespace();
+    let size = file
+        .iter()
+        .rposition(|byte| !blank(byte))
+        .map_or(0, |at| at + 1);
+    let last = file[..size].rsplit(|&byte| byte == b'\n').next();
+    let is_end = last == Some(b"# EOF") || last == Some(b"#EOF");
+    CLAIMS.iter().any(|claim| file.starts_with(claim)) && !is_end
 }
 
 /// One of the four files.
@@ -67,7 +104,7 @@ pub enum Cause {
     OutOfMemory,
     /// The rules need more steps than a table has. No files that were tested make them.
     TableTooLarge,
-    /// The file is not the one that Unicode published; only of [`Table::read_published`](crate::Table::read_published).
+    /// The file is not the one that Unicode published; of [`Table::read`](crate::Table::read) only where it was cut.
     NotPublished,
 }
 

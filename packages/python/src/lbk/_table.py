@@ -91,16 +91,23 @@ class Table:
         return cls._of(memory, _load_again, place, _digest_of(memory))
 
     @classmethod
-    def from_files(cls, line_break: Name, east_asian: Name, category: Name, emoji: Name) -> Self:
+    def from_files(cls, line_break: Name, east_asian: Name, category: Name, emoji: Name, *, strict: bool = True) -> Self:
         """The table of four files of any origin, given by their names. Raises OSError where one
         cannot be read, and Fault as `read` does."""
-        return cls.read(*(Path(os.fsdecode(name)).read_bytes() for name in (line_break, east_asian, category, emoji)))
+        files = [Path(os.fsdecode(name)).read_bytes() for name in (line_break, east_asian, category, emoji)]
+        return cls.read(*files, strict=strict)
 
     @classmethod
-    def read(cls, line_break: Bytes, east_asian: Bytes, category: Bytes, emoji: Bytes) -> Self:
+    def read(cls, line_break: Bytes, east_asian: Bytes, category: Bytes, emoji: Bytes, *, strict: bool = True) -> Self:
         """The table of the contents of four files. Raises Fault at the first fault that they have,
-        and MemoryError where memory is refused."""
-        return cls._of(_read((line_break, east_asian, category, emoji), False))
+        and MemoryError where memory is refused. With `strict` a file that was cut is a fault
+        (NOT_PUBLISHED), too: its first line claims a name that Unicode published, as
+        `# LineBreak-15.0.0.txt`, and its last is not `# EOF`."""
+        files = [_unchanging(one) for one in (line_break, east_asian, category, emoji)]
+        cut = next((number for number, one in enumerate(files, 1) if _database.is_cut(one)), None) if strict else None
+        if cut is not None:
+            raise Fault(cut, 0, Cause.NOT_PUBLISHED)
+        return cls._of(_read(files, False))
 
     @classmethod
     def from_bytes(cls, data: Bytes) -> Self:
