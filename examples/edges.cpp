@@ -194,6 +194,19 @@ static void try_cuts(const lbk_table &table)
     told("no cut of no text", lbk::cut(table, "", 0) == 0 && lbk::cut_before(table, {}, 3) == 0);
 }
 
+/// A file that was cut is refused, and taken where that is asked for.
+static void try_cut_files(const lbk::table &table)
+{
+    lbk::error why;
+    const std::string head = "# LineBreak-15.0.0.txt\n", cut = head + LINE_BREAKS, whole = cut + "# EOF\r\n\n";
+    auto is_same = [&](const std::optional<lbk::table> &made) { return made && made->bytes() == table.bytes(); };
+    told("a whole file is taken", is_same(lbk::table::try_read(whole, "# emoji-data.txt\n#EOF", CATEGORIES, "", why)));
+    told("a file that was cut is refused", !lbk::table::try_read(cut, "", CATEGORIES, "", why) && why.fault.file == LBK_LINE_BREAK
+                                               && why.fault.cause == LBK_CAUSE_NOT_PUBLISHED);
+    told("and the last of the four", !lbk::table::try_read(whole, "", CATEGORIES, "# emoji-data.txt", why) && why.fault.file == LBK_EMOJI);
+    told("it is taken where that is asked for", is_same(lbk::table::try_read(cut, "", CATEGORIES, "", why, false)) && !why);
+}
+
 static void try_safe_breaks(const lbk_table &table)
 {
     auto safe = [&](std::string_view text) { return lbk::safe_break(table, text); };
@@ -374,6 +387,7 @@ int main(int words, char **word)
         try_positions(*table);
         try_cuts(*table);
         try_safe_breaks(*table);
+        try_cut_files(*table);
         try_words();
         try_streams(*table);
         try_bytes(*table);

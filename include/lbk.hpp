@@ -158,6 +158,18 @@ private:
     }
 };
 
+/// Whether the first line of a file claims a name that Unicode published, and the last is not its end.
+inline bool is_cut(std::string_view file) noexcept
+{
+    bool is_claimed = false;
+    for (std::string_view claim : {"# LineBreak-", "# EastAsianWidth-", "# DerivedGeneralCategory-", "# emoji-data."})
+        is_claimed = is_claimed || file.substr(0, claim.size()) == claim;
+    // (npos + 1 is 0)
+    file = file.substr(0, file.find_last_not_of(" \t\r\n") + 1);
+    const std::string_view last = file.substr(file.rfind('\n') + 1);
+    return is_claimed && last != "# EOF" && last != "#EOF";
+}
+
 /// Where the files are looked for: in the folder that UNICODE_DATA names, or else in those of the system (Debian's and Fedora's) and of
 /// the user.
 inline std::vector<std::string> folders()
@@ -192,10 +204,15 @@ inline const lbk_table *table_in(std::string_view bytes) noexcept
 /// Each way to make one has a form that throws std::bad_alloc or table_error, and a form try_.. that gives no value and an error.
 class table {
 public:
-    /// From the bytes of four files of any origin.
+    /// From the bytes of four files of any origin. Where it is strict a file that was cut is refused (LBK_CAUSE_NOT_PUBLISHED): its
+    /// first line claims a name that Unicode published, as `# LineBreak-15.0.0.txt`, and its last is not `# EOF`.
     static std::optional<table> try_read(std::string_view line_break, std::string_view east_asian, std::string_view category,
-                                         std::string_view emoji, error &why) noexcept
+                                         std::string_view emoji, error &why, bool is_strict = true) noexcept
     {
+        const std::string_view files[] = {line_break, east_asian, category, emoji};
+        for (std::uint32_t k = 0; is_strict && k < 4; k++)
+            if (detail::is_cut(files[k]))
+                return none(why, error::reason::refused, 0, {k + 1, 0, LBK_CAUSE_NOT_PUBLISHED});
         return read_by(lbk_read, line_break, east_asian, category, emoji, why);
     }
 
@@ -285,10 +302,11 @@ public:
     }
 
 #if defined(__cpp_exceptions)
-    static table read(std::string_view line_break, std::string_view east_asian, std::string_view category, std::string_view emoji)
+    static table read(std::string_view line_break, std::string_view east_asian, std::string_view category, std::string_view emoji,
+                      bool is_strict = true)
     {
         error why;
-        return or_throw(try_read(line_break, east_asian, category, emoji, why), why);
+        return or_throw(try_read(line_break, east_asian, category, emoji, why, is_strict), why);
     }
 
     static table load(const std::string &folder)
