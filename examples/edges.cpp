@@ -43,6 +43,8 @@ static_assert(!std::is_constructible_v<lbk::breaks_utf32, lbk::table &, std::u32
 static_assert(!std::is_convertible_v<lbk::table, const lbk_table &>);
 
 static_assert(!std::is_constructible_v<lbk::positions, lbk::table, std::string_view>);
+static_assert(!std::is_constructible_v<lbk::segments, lbk::table, std::string_view>);
+static_assert(!std::is_constructible_v<lbk::segments, lbk::table &, std::string>);
 static_assert(std::is_constructible_v<lbk::positions_utf16, lbk::table &, std::u16string &, lbk::profile>);
 static_assert(!std::is_constructible_v<lbk::positions_utf32, lbk::table &, std::u32string>);
 static_assert(std::is_constructible_v<lbk::words, std::string &> && !std::is_constructible_v<lbk::words, std::string>);
@@ -51,6 +53,7 @@ static_assert(std::is_constructible_v<lbk::stream, lbk::table &> && !std::is_con
 #if defined(__cpp_lib_ranges)
 static_assert(std::ranges::view<lbk::positions> && std::ranges::borrowed_range<lbk::positions>);
 static_assert(std::ranges::view<lbk::positions_utf16> && std::ranges::borrowed_range<lbk::breaks_wide>);
+static_assert(std::ranges::view<lbk::segments> && std::ranges::forward_range<lbk::segments>);
 static_assert(std::ranges::view<lbk::words> && std::ranges::borrowed_range<lbk::words>);
 static_assert(std::forward_iterator<iterator>);
 static_assert(std::ranges::forward_range<lbk::breaks> && std::ranges::common_range<lbk::breaks>);
@@ -205,6 +208,20 @@ static void try_cut_files(const lbk::table &table)
                                                && why.fault.cause == LBK_CAUSE_NOT_PUBLISHED);
     told("and the last of the four", !lbk::table::try_read(whole, "", CATEGORIES, "# emoji-data.txt", why) && why.fault.file == LBK_EMOJI);
     told("it is taken where that is asked for", is_same(lbk::table::try_read(cut, "", CATEGORIES, "", why, false)) && !why);
+}
+
+static void try_segments(const lbk_table &table)
+{
+    const std::string text = "ab cd\nef";
+    std::string shown;
+    for (lbk::segment it : lbk::segments(table, text))
+        shown += std::to_string(it.start) + ' ' + std::string(it.text) + ' ' + std::to_string(it.kind) + ' ' + lbk::label(it.rule) + '|';
+    told("segments", shown == "0 ab  1 18|3 cd\n 2 5|6 ef 2 3|");
+    const lbk::segments none(table, "");
+    told("no segments of an empty text", none.begin() == none.end());
+    lbk::segments all(table, text);
+    lbk::segments::iterator first = all.begin(), same = first++;
+    told("an iterator of segments is a value", same == all.begin() && first != same && (*first).start == 3 && (*same).start == 0);
 }
 
 static void try_safe_breaks(const lbk_table &table)
@@ -386,6 +403,7 @@ int main(int words, char **word)
         try_iterators(*table);
         try_positions(*table);
         try_cuts(*table);
+        try_segments(*table);
         try_safe_breaks(*table);
         try_cut_files(*table);
         try_words();

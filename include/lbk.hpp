@@ -585,6 +585,81 @@ using breaks = detail::break_view<&lbk_breaks>;
 /// that are no break is LBK_NO.
 using positions = detail::break_view<&lbk_positions>;
 
+/// A part of a text between two breaks.
+struct segment {
+    std::size_t start;
+    std::string_view text;
+    std::uint8_t kind, rule; ///< of the break at its end
+};
+
+/// The segments of a text in their order: a view that can be gone through any number of times. Joined they are the text.
+class segments {
+public:
+    class iterator {
+    public:
+        using value_type = segment;
+        using iterator_concept = std::forward_iterator_tag;
+        using iterator_category = std::input_iterator_tag;
+        using difference_type = std::ptrdiff_t;
+        using pointer = void;
+        using reference = segment;
+
+        /// The end of any range.
+        iterator() noexcept = default;
+
+        iterator(std::string_view text, breaks::iterator next) noexcept : text_(text), next_(next) {}
+
+        segment operator*() const noexcept
+        {
+            const lbk_break end = *next_;
+            return {start_, text_.substr(start_, end.at - start_), end.kind, end.rule};
+        }
+
+        iterator &operator++() noexcept
+        {
+            start_ = (*next_).at;
+            ++next_;
+            return *this;
+        }
+
+        iterator operator++(int) noexcept
+        {
+            iterator before = *this;
+            ++*this;
+            return before;
+        }
+
+        friend bool operator==(const iterator &a, const iterator &b) noexcept { return a.next_ == b.next_; }
+        friend bool operator!=(const iterator &a, const iterator &b) noexcept { return a.next_ != b.next_; }
+
+    private:
+        std::string_view text_;
+        std::size_t start_ = 0;
+        breaks::iterator next_;
+    };
+
+    using const_iterator = iterator;
+    using value_type = segment;
+
+    segments(const lbk_table &by, std::string_view text, profile rules = profile::first) noexcept
+        : text_(text), breaks_(by, text, rules)
+    {
+    }
+
+    /// A temporary would be gone before the range is gone through.
+    segments(const lbk_table &&, std::string_view, profile = profile::first) = delete;
+    segments(const table &&, std::string_view, profile = profile::first) = delete;
+    template <typename Text, typename = std::enable_if_t<std::is_same_v<Text, std::string>>>
+    segments(const lbk_table &, Text &&, profile = profile::first) = delete;
+
+    iterator begin() const noexcept { return iterator(text_, breaks_.begin()); }
+    iterator end() const noexcept { return iterator(); }
+
+private:
+    std::string_view text_;
+    breaks breaks_;
+};
+
 /// A bit for each byte of a text and one for its end, in words of 64 with the lowest first: set where `breaks` has a break.
 inline std::vector<std::uint64_t> marks(const lbk_table &by, std::string_view text, profile rules = profile::first,
                                         follows after = follows::nothing)
@@ -812,6 +887,10 @@ template <lbk::detail::break_call Next>
 inline constexpr bool std::ranges::enable_view<lbk::detail::break_view<Next>> = true;
 template <lbk::detail::break_call Next>
 inline constexpr bool std::ranges::enable_borrowed_range<lbk::detail::break_view<Next>> = true;
+template <>
+inline constexpr bool std::ranges::enable_view<lbk::segments> = true;
+template <>
+inline constexpr bool std::ranges::enable_borrowed_range<lbk::segments> = true;
 template <>
 inline constexpr bool std::ranges::enable_view<lbk::words> = true;
 template <>

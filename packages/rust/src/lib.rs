@@ -32,6 +32,7 @@ mod find;
 mod found;
 #[cfg(feature = "std")]
 mod load;
+mod passages;
 mod processor;
 #[cfg(feature = "std")]
 mod reader;
@@ -48,6 +49,7 @@ pub use fault::{Cause, Fault, File};
 pub use find::NotFound;
 #[cfg(feature = "std")]
 pub use load::LoadError;
+pub use passages::{Passage, Passages};
 #[cfg(feature = "std")]
 pub use reader::ReaderBreaks;
 pub use stream::Stream;

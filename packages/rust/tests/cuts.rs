@@ -125,6 +125,20 @@ fn files_that_were_cut_are_refused() {
 }
 
 #[test]
+fn passages_are_the_segments_up_to_the_ends_of_lines() {
+    let table = table(USUAL);
+    let text = "ab 一\r\n\nc d";
+    let passages: Vec<_> = table.passages(text).collect();
+    let shown: Vec<_> = passages.iter().map(|it| (it.start, it.text)).collect();
+    assert_eq!(shown, [(0, "ab 一\r\n"), (8, "\n"), (9, "c d")]);
+    let segments: Vec<_> = passages.iter().flat_map(|it| it.segments.clone()).collect();
+    assert_eq!(segments, table.segments(text).collect::<Vec<_>>());
+    let words: Vec<_> = passages.iter().map(|it| it.words().count()).collect();
+    assert_eq!(words, [2, 0, 2]);
+    assert_eq!(table.passages("").next(), None);
+}
+
+#[test]
 fn classes_of_characters() {
     let table = table(USUAL);
     let names = ['a', '一', ' ', '\n'].map(|it| table.class_of(it).to_string());
