@@ -2,6 +2,7 @@
 
 import array
 import mmap
+import pickle
 import tempfile
 import unittest
 
@@ -36,6 +37,16 @@ class Words(unittest.TestCase):
             data = text.encode()
             ranges = [(len(data[:start].decode()), len(data[:end].decode())) for start, end in Table.word_ranges(data)]
             self.assertEqual(list(Table.word_ranges(text)), ranges)
+
+    def test_columns_are_the_ranges(self):
+        chance = samples.chance(8)
+        texts = [make(chance, 60) for make in (samples.random_text, samples.random_bytes) for _ in range(200)]
+        for text in [*texts, "", b"", 100_000 * "ab é ", 3000 * "?!" + 3000 * "a "]:
+            columns = Table.word_columns(text)
+            self.assertEqual(list(zip(*columns)), list(Table.word_ranges(text)))
+            self.assertEqual(pickle.loads(pickle.dumps(columns)), columns)
+        for wrong in (3, None, ["a"]):
+            self.assertRaises(TypeError, Table.word_columns, wrong)
 
     def test_each_object_of_bytes_and_nothing_else(self):
         for text in (bytearray(b"ab cd"), memoryview(b"ab cd"), array.array("B", b"ab cd")):

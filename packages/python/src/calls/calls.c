@@ -6,6 +6,7 @@
 #include "places.h"
 #include "state.h"
 #include "stream.h"
+#include "words.h"
 
 /* read(table, line_break, east_asian, category, emoji, are_published): fills a writable table,
  * of the files that Unicode published or of any, and returns (file, line, cause). */
@@ -186,6 +187,7 @@ static PyMethodDef methods[] = {
     {"class_of", (PyCFunction)(void (*)(void))class_of, METH_FASTCALL, NULL},
     {"columns", (PyCFunction)(void (*)(void))text_columns, METH_FASTCALL, NULL},
     {"list_columns", (PyCFunction)(void (*)(void))list_columns, METH_FASTCALL, NULL},
+    {"word_columns", word_columns, METH_O, NULL},
     {"new_stream", new_stream, METH_O, NULL},
     {"feed", (PyCFunction)(void (*)(void))feed, METH_FASTCALL, NULL},
     {NULL, NULL, 0, NULL},

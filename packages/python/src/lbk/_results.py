@@ -56,6 +56,17 @@ class ListColumns(NamedTuple):
         return _pickled(self)
 
 
+class WordColumns(NamedTuple):
+    """The words of a text, in their order: `starts[k]` up to `ends[k]`, not counting that."""
+
+    starts: memoryview
+    """Numbers of the format "q"."""
+    ends: memoryview
+
+    def __reduce__(self) -> tuple[Any, ...]:
+        return _pickled(self)
+
+
 class Passage(NamedTuple, Generic[AnyStr]):
     """A part of a text up to a place where a line must end: a paragraph with its line end."""
 

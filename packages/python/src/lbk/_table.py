@@ -16,7 +16,7 @@ from . import _calls, _database
 from ._calls import Break
 from ._fault import Fault
 from ._numbers import Cause
-from ._results import Columns, Kind, ListColumns, Passage
+from ._results import Columns, Kind, ListColumns, Passage, WordColumns
 
 
 class _Buffer(Protocol):
@@ -232,6 +232,12 @@ class Table:
         breaks = self.breaks(text, profile)
         # These give a str or bytes as their slices.
         return _Passages(breaks, text if isinstance(text, (str, bytes, mmap.mmap)) else bytes(text))
+
+    @staticmethod
+    def word_columns(text: Text) -> WordColumns:
+        """Where each word starts and ends, as `word_ranges` has it, in columns."""
+        starts, ends = _calls.word_columns(text)
+        return WordColumns(memoryview(starts).cast("q"), memoryview(ends).cast("q"))
 
     @property
     def _digest(self) -> str:
