@@ -3,6 +3,7 @@
 #include "break.h"
 #include "columns.h"
 #include "found.h"
+#include "passages.h"
 #include "places.h"
 #include "state.h"
 #include "stream.h"
@@ -187,6 +188,7 @@ static PyMethodDef methods[] = {
     {"class_of", (PyCFunction)(void (*)(void))class_of, METH_FASTCALL, NULL},
     {"columns", (PyCFunction)(void (*)(void))text_columns, METH_FASTCALL, NULL},
     {"list_columns", (PyCFunction)(void (*)(void))list_columns, METH_FASTCALL, NULL},
+    {"passage_columns", (PyCFunction)(void (*)(void))passage_columns, METH_FASTCALL, NULL},
     {"word_columns", word_columns, METH_O, NULL},
     {"new_stream", new_stream, METH_O, NULL},
     {"feed", (PyCFunction)(void (*)(void))feed, METH_FASTCALL, NULL},

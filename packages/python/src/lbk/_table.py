@@ -16,7 +16,7 @@ from . import _calls, _database
 from ._calls import Break
 from ._fault import Fault
 from ._numbers import Cause
-from ._results import Columns, Kind, ListColumns, Passage, WordColumns
+from ._results import Columns, Kind, ListColumns, Passage, PassageColumns, WordColumns
 
 
 class _Buffer(Protocol):
@@ -238,6 +238,11 @@ class Table:
         """Where each word starts and ends, as `word_ranges` has it, in columns."""
         starts, ends = _calls.word_columns(text)
         return WordColumns(memoryview(starts).cast("q"), memoryview(ends).cast("q"))
+
+    def passage_columns(self, text: Text, profile: int = 1) -> PassageColumns:
+        """The passages, their segments and their words, as `passages` has them, in columns."""
+        columns = _calls.passage_columns(self._memory, text, profile)
+        return PassageColumns(*(memoryview(one).cast("q") for one in columns))
 
     @property
     def _digest(self) -> str:
