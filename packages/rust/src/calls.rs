@@ -117,7 +117,7 @@ pub struct ClassLabel {
 /// A text without the zeros at its end.
 pub fn shown(text: &[u8]) -> &str {
     let end = text.iter().position(|&byte| byte == 0);
-    str::from_utf8(&text[..end.unwrap_or(text.len())]).unwrap_or("")
+    core::str::from_utf8(&text[..end.unwrap_or(text.len())]).unwrap_or("")
 }
 
 #[repr(C)]
