@@ -16,6 +16,7 @@ NAMES = [
     "shown-commands",
     "page-references",
     "quoted-contracts",
+    "bindings",
     "man-page",
     "completion",
     "word-tables",

@@ -301,7 +301,10 @@ told 'save_table.c: a mapped table gives as many breaks' "${wrong:-yes}"
 # libunibreak's calls, by a table and a folder that are whole, and then by those that are not.
 # try_no_table WHAT TABLE LINE: without a table each mark has to say so, and the line to name the file and what to do.
 try_no_table() {
-    tried "packages/unibreak: build for $1" "$top/packages/unibreak/build" --later "$2" "$here/without"
+    local made=
+    [ -e "$2" ] || { : > "$2" && made=yes; }
+    tried "packages/unibreak: build for $1" "$top/packages/unibreak/build" "$2" "$here/without"
+    [ -z "$made" ] || rm "$2"
     count "packages/unibreak: $1" env LD_LIBRARY_PATH="$here/without/lib" "$here/built/unibreak" no-table
     told "packages/unibreak: $1 is named once" "$([ "$(grep '^linebreak: ' "$here/log")" = "linebreak: $3" ] && echo yes || cat "$here/log")"
 }

@@ -9,6 +9,7 @@
 
 #include <algorithm>
 #include <cstdio>
+#include <cstdlib>
 #include <cstring>
 #include <memory>
 #include <string>
@@ -42,6 +43,8 @@ static_assert(!std::is_constructible_v<lbk::breaks_utf32, lbk::table &, std::u32
 static_assert(!std::is_convertible_v<lbk::table, const lbk_table &>);
 
 static_assert(!std::is_constructible_v<lbk::positions, lbk::table, std::string_view>);
+static_assert(!std::is_constructible_v<lbk::segments, lbk::table, std::string_view>);
+static_assert(!std::is_constructible_v<lbk::segments, lbk::table &, std::string>);
 static_assert(std::is_constructible_v<lbk::positions_utf16, lbk::table &, std::u16string &, lbk::profile>);
 static_assert(!std::is_constructible_v<lbk::positions_utf32, lbk::table &, std::u32string>);
 static_assert(std::is_constructible_v<lbk::words, std::string &> && !std::is_constructible_v<lbk::words, std::string>);
@@ -50,6 +53,7 @@ static_assert(std::is_constructible_v<lbk::stream, lbk::table &> && !std::is_con
 #if defined(__cpp_lib_ranges)
 static_assert(std::ranges::view<lbk::positions> && std::ranges::borrowed_range<lbk::positions>);
 static_assert(std::ranges::view<lbk::positions_utf16> && std::ranges::borrowed_range<lbk::breaks_wide>);
+static_assert(std::ranges::view<lbk::segments> && std::ranges::forward_range<lbk::segments>);
 static_assert(std::ranges::view<lbk::words> && std::ranges::borrowed_range<lbk::words>);
 static_assert(std::forward_iterator<iterator>);
 static_assert(std::ranges::forward_range<lbk::breaks> && std::ranges::common_range<lbk::breaks>);
@@ -193,6 +197,40 @@ static void try_cuts(const lbk_table &table)
     told("no cut of no text", lbk::cut(table, "", 0) == 0 && lbk::cut_before(table, {}, 3) == 0);
 }
 
+/// A file that was cut is refused, and taken where that is asked for.
+static void try_cut_files(const lbk::table &table)
+{
+    lbk::error why;
+    const std::string head = "# LineBreak-15.0.0.txt\n", cut = head + LINE_BREAKS, whole = cut + "# EOF\r\n\n";
+    auto is_same = [&](const std::optional<lbk::table> &made) { return made && made->bytes() == table.bytes(); };
+    told("a whole file is taken", is_same(lbk::table::try_read(whole, "# emoji-data.txt\n#EOF", CATEGORIES, "", why)));
+    told("a file that was cut is refused", !lbk::table::try_read(cut, "", CATEGORIES, "", why) && why.fault.file == LBK_LINE_BREAK
+                                               && why.fault.cause == LBK_CAUSE_NOT_PUBLISHED);
+    told("and the last of the four", !lbk::table::try_read(whole, "", CATEGORIES, "# emoji-data.txt", why) && why.fault.file == LBK_EMOJI);
+    told("it is taken where that is asked for", is_same(lbk::table::try_read(cut, "", CATEGORIES, "", why, false)) && !why);
+}
+
+static void try_segments(const lbk_table &table)
+{
+    const std::string text = "ab cd\nef";
+    std::string shown;
+    for (lbk::segment it : lbk::segments(table, text))
+        shown += std::to_string(it.start) + ' ' + std::string(it.text) + ' ' + std::to_string(it.kind) + ' ' + lbk::label(it.rule) + '|';
+    told("segments", shown == "0 ab  1 18|3 cd\n 2 5|6 ef 2 3|");
+    const lbk::segments none(table, "");
+    told("no segments of an empty text", none.begin() == none.end());
+    lbk::segments all(table, text);
+    lbk::segments::iterator first = all.begin(), same = first++;
+    told("an iterator of segments is a value", same == all.begin() && first != same && (*first).start == 3 && (*same).start == 0);
+}
+
+static void try_safe_breaks(const lbk_table &table)
+{
+    auto safe = [&](std::string_view text) { return lbk::safe_break(table, text); };
+    told("safe breaks", safe("ab c d") == 5 && safe("ab\ncd") == 3 && safe("ab\n") == 0 && safe("ab") == 0 && safe("") == 0);
+    told("classes", lbk::class_of(table, U'a') == "AL" && lbk::class_of(table, 0xd800).empty() && lbk::class_of(table, 0x110000).empty());
+}
+
 static void try_words()
 {
     std::string many, joined, wanted;
@@ -297,6 +335,36 @@ static void try_files(const lbk::table &table, const std::string &folder)
                                     && refused(why, reason::not_a_table));
 }
 
+/// Where tables are looked for, and what is said where none is there.
+static void try_not_found(const std::string &folder)
+{
+    std::string why, none = folder + "/none";
+    ::setenv("UNICODE_DATA", none.c_str(), 1);
+    told("where UNICODE_DATA names no folder none is found", lbk::table::try_find(why) == nullptr);
+    told("it says what to do", why.find("found no files of Unicode 15.0.0; install the package unicode-data") == 0);
+    told("it says where it looked", why.find("Looked for:\n  " + none + "/LineBreak.txt: ") != std::string::npos);
+    ::unsetenv("UNICODE_DATA");
+    ::setenv("XDG_DATA_HOME", "/of/data", 1);
+    ::setenv("HOME", "/home", 1);
+    const std::vector<std::string> wanted = {"/usr/share/unicode", "/usr/share/unicode/ucd", "/of/data/unicode",
+                                             "/home/.local/share/unicode"};
+    told("it looks into Debian's, Fedora's and the user's folders", lbk::detail::folders() == wanted);
+    ::setenv("XDG_DATA_HOME", "data", 1);
+    ::unsetenv("HOME");
+    told("a user's folder is an absolute one", lbk::detail::folders().size() == 2);
+}
+
+/// A table that is found is read once.
+static void try_found(const std::string &folder)
+{
+    std::string why;
+    ::setenv("UNICODE_DATA", folder.c_str(), 1);
+    const lbk::table *found = lbk::table::try_find(why);
+    told("the folder of UNICODE_DATA is found", found != nullptr && why.empty());
+    ::setenv("UNICODE_DATA", "/none", 1);
+    told("it is read once", found != nullptr && lbk::table::try_find(why) == found);
+}
+
 static void try_database(const std::string &folder)
 {
     lbk::error why;
@@ -335,13 +403,19 @@ int main(int words, char **word)
         try_iterators(*table);
         try_positions(*table);
         try_cuts(*table);
+        try_segments(*table);
+        try_safe_breaks(*table);
+        try_cut_files(*table);
         try_words();
         try_streams(*table);
         try_bytes(*table);
         try_files(*table, word[1]);
         try_exceptions(*table, word[1]);
-        if (words == 3)
+        try_not_found(word[1]);
+        if (words == 3) {
             try_database(word[2]);
+            try_found(word[2]);
+        }
     }
     std::printf("%u passed, %u failed\n", passed, failed);
     return failed == 0 ? 0 : 1;

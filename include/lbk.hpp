@@ -18,6 +18,7 @@
 #include <cstring>
 #include <iterator>
 #include <memory>
+#include <mutex>
 #include <new>
 #include <optional>
 #include <stdexcept>
@@ -99,17 +100,29 @@ private:
 
 namespace detail {
 
+/// The path FOLDER/BELOW NAME; empty where it is too long.
+struct file_path {
+    char text[4096];
+
+    file_path(const char *folder, const char *below, const char *name) noexcept
+    {
+        int length = std::snprintf(text, sizeof text, "%s/%s%s", folder, below, name);
+        if (length < 0 || static_cast<std::size_t>(length) >= sizeof text)
+            text[0] = 0;
+    }
+
+    bool is_there() const noexcept { return ::access(text, F_OK) == 0; }
+};
+
 /// The bytes of a file.
 class file_bytes {
 public:
-    /// Reads the file FOLDER/BELOW NAME whole. Returns 0, or the errno of what failed.
-    int read(const char *folder, const char *below, const char *name) noexcept
+    /// Reads a file whole. Returns 0, or the errno of what failed.
+    int read(const file_path &path) noexcept
     {
-        char path[4096];
-        int length = std::snprintf(path, sizeof path, "%s/%s%s", folder, below, name);
-        if (length < 0 || static_cast<std::size_t>(length) >= sizeof path)
+        if (path.text[0] == 0)
             return ENAMETOOLONG;
-        std::FILE *file = std::fopen(path, "rb");
+        std::FILE *file = std::fopen(path.text, "rb");
         if (file == nullptr)
             return errno;
         int status = read_all(file);
@@ -145,6 +158,36 @@ private:
     }
 };
 
+/// Whether the first line of a file claims a name that Unicode published, and the last is not its end.
+inline bool is_cut(std::string_view file) noexcept
+{
+    bool is_claimed = false;
+    for (std::string_view claim : {"# LineBreak-", "# EastAsianWidth-", "# DerivedGeneralCategory-", "# emoji-data."})
+        is_claimed = is_claimed || file.substr(0, claim.size()) == claim;
+    // (npos + 1 is 0)
+    file = file.substr(0, file.find_last_not_of(" \t\r\n") + 1);
+    const std::string_view last = file.substr(file.rfind('\n') + 1);
+    return is_claimed && last != "# EOF" && last != "#EOF";
+}
+
+/// Where the files are looked for: in the folder that UNICODE_DATA names, or else in those of the system (Debian's and Fedora's) and of
+/// the user.
+inline std::vector<std::string> folders()
+{
+    auto variable = [](const char *name) {
+        const char *value = std::getenv(name);
+        return std::string(value == nullptr ? "" : value);
+    };
+    std::string named = variable("UNICODE_DATA"), home = variable("HOME");
+    if (!named.empty())
+        return {named};
+    std::vector<std::string> all = {"/usr/share/unicode", "/usr/share/unicode/ucd"};
+    for (const std::string &users : {variable("XDG_DATA_HOME"), home.empty() ? home : home + "/.local/share"})
+        if (users[0] == '/' && all.back() != users + "/unicode")
+            all.push_back(users + "/unicode");
+    return all;
+}
+
 } // namespace detail
 
 /// The table that these bytes are, which is not copied; null where they are no whole table of this version, or are not aligned as
@@ -161,31 +204,63 @@ inline const lbk_table *table_in(std::string_view bytes) noexcept
 /// Each way to make one has a form that throws std::bad_alloc or table_error, and a form try_.. that gives no value and an error.
 class table {
 public:
-    /// From the bytes of four files of any origin.
+    /// From the bytes of four files of any origin. Where it is strict a file that was cut is refused (LBK_CAUSE_NOT_PUBLISHED): its
+    /// first line claims a name that Unicode published, as `# LineBreak-15.0.0.txt`, and its last is not `# EOF`.
     static std::optional<table> try_read(std::string_view line_break, std::string_view east_asian, std::string_view category,
-                                         std::string_view emoji, error &why) noexcept
+                                         std::string_view emoji, error &why, bool is_strict = true) noexcept
     {
+        const std::string_view files[] = {line_break, east_asian, category, emoji};
+        for (std::uint32_t k = 0; is_strict && k < 4; k++)
+            if (detail::is_cut(files[k]))
+                return none(why, error::reason::refused, 0, {k + 1, 0, LBK_CAUSE_NOT_PUBLISHED});
         return read_by(lbk_read, line_break, east_asian, category, emoji, why);
     }
 
     /// From a folder of the Unicode Character Database, as "/usr/share/unicode": its LineBreak.txt, EastAsianWidth.txt,
-    /// extracted/DerivedGeneralCategory.txt and emoji/emoji-data.txt; the last two may also lie in the folder itself. They have
-    /// to be those that Unicode published for LBK_UNICODE_VERSION.
+    /// extracted/DerivedGeneralCategory.txt and emoji/emoji-data.txt; the last two may also lie in the folder itself, and all four
+    /// in its folder ucd. (An archive UCD.zip has to be unpacked first.) They have to be those that Unicode published for
+    /// LBK_UNICODE_VERSION.
     static std::optional<table> try_load(const std::string &folder, error &why) noexcept
     {
         static const char *const names[] = {"LineBreak.txt", "EastAsianWidth.txt", "DerivedGeneralCategory.txt", "emoji-data.txt"};
         static const char *const below[] = {"", "", "extracted/", "emoji/"};
+        const detail::file_path ucd(folder.c_str(), "ucd", "");
+        const bool is_below = !detail::file_path(folder.c_str(), "", names[0]).is_there() && ucd.is_there();
+        const char *root = is_below ? ucd.text : folder.c_str();
         detail::file_bytes files[4];
         for (std::uint32_t k = 0; k < 4; k++) {
-            int status = files[k].read(folder.c_str(), below[k], names[k]);
+            int status = files[k].read({root, below[k], names[k]});
             if (status == ENOENT)
-                status = files[k].read(folder.c_str(), "", names[k]);
+                status = files[k].read({root, "", names[k]});
             if (status == ENOMEM)
                 return none(why, error::reason::out_of_memory);
             if (status != 0)
                 return none(why, error::reason::unreadable, status, {k + 1, 0, LBK_CAUSE_NONE});
         }
         return read_by(lbk_read_published, files[0].view(), files[1].view(), files[2].view(), files[3].view(), why);
+    }
+
+    /// Of the folder that UNICODE_DATA names, or else of the first that has the files of /usr/share/unicode, its ucd, and unicode in
+    /// XDG_DATA_HOME and ~/.local/share. They are read once in a process, where they are found. Null where they are not: `why` says
+    /// what to do, and why each folder was refused.
+    static const table *try_find(std::string &why)
+    {
+        static std::mutex alone;
+        static const table *found; // (never freed, so that threads may use it while the process ends)
+        const std::lock_guard<std::mutex> held(alone);
+        why.clear();
+        std::string refusals;
+        for (const std::string &folder : found != nullptr ? std::vector<std::string>() : detail::folders()) {
+            error refused;
+            if (std::optional<table> made = try_load(folder, refused))
+                return found = new table(std::move(*made));
+            refusals += "\n  " + folder + (refused.why == error::reason::out_of_memory ? ": " : "/") + refused.message();
+        }
+        if (found == nullptr)
+            why = "found no files of Unicode " LBK_UNICODE_VERSION ".0; install the package unicode-data (Debian 12), unpack UCD.zip of "
+                  "https://www.unicode.org/Public/" LBK_UNICODE_VERSION ".0/ucd/ into ~/.local/share/unicode, or set UNICODE_DATA to a "
+                  "folder that has them. Looked for:" + refusals;
+        return found;
     }
 
     /// From the bytes of a table, as bytes() gave them. They are copied.
@@ -227,16 +302,26 @@ public:
     }
 
 #if defined(__cpp_exceptions)
-    static table read(std::string_view line_break, std::string_view east_asian, std::string_view category, std::string_view emoji)
+    static table read(std::string_view line_break, std::string_view east_asian, std::string_view category, std::string_view emoji,
+                      bool is_strict = true)
     {
         error why;
-        return or_throw(try_read(line_break, east_asian, category, emoji, why), why);
+        return or_throw(try_read(line_break, east_asian, category, emoji, why, is_strict), why);
     }
 
     static table load(const std::string &folder)
     {
         error why;
         return or_throw(try_load(folder, why), why);
+    }
+
+    /// As try_find, and throws a std::runtime_error where they are not found.
+    static const table &find()
+    {
+        std::string why;
+        if (const table *found = try_find(why))
+            return *found;
+        throw std::runtime_error(why);
     }
 
     static table copy(std::string_view bytes)
@@ -500,6 +585,81 @@ using breaks = detail::break_view<&lbk_breaks>;
 /// that are no break is LBK_NO.
 using positions = detail::break_view<&lbk_positions>;
 
+/// A part of a text between two breaks.
+struct segment {
+    std::size_t start;
+    std::string_view text;
+    std::uint8_t kind, rule; ///< of the break at its end
+};
+
+/// The segments of a text in their order: a view that can be gone through any number of times. Joined they are the text.
+class segments {
+public:
+    class iterator {
+    public:
+        using value_type = segment;
+        using iterator_concept = std::forward_iterator_tag;
+        using iterator_category = std::input_iterator_tag;
+        using difference_type = std::ptrdiff_t;
+        using pointer = void;
+        using reference = segment;
+
+        /// The end of any range.
+        iterator() noexcept = default;
+
+        iterator(std::string_view text, breaks::iterator next) noexcept : text_(text), next_(next) {}
+
+        segment operator*() const noexcept
+        {
+            const lbk_break end = *next_;
+            return {start_, text_.substr(start_, end.at - start_), end.kind, end.rule};
+        }
+
+        iterator &operator++() noexcept
+        {
+            start_ = (*next_).at;
+            ++next_;
+            return *this;
+        }
+
+        iterator operator++(int) noexcept
+        {
+            iterator before = *this;
+            ++*this;
+            return before;
+        }
+
+        friend bool operator==(const iterator &a, const iterator &b) noexcept { return a.next_ == b.next_; }
+        friend bool operator!=(const iterator &a, const iterator &b) noexcept { return a.next_ != b.next_; }
+
+    private:
+        std::string_view text_;
+        std::size_t start_ = 0;
+        breaks::iterator next_;
+    };
+
+    using const_iterator = iterator;
+    using value_type = segment;
+
+    segments(const lbk_table &by, std::string_view text, profile rules = profile::first) noexcept
+        : text_(text), breaks_(by, text, rules)
+    {
+    }
+
+    /// A temporary would be gone before the range is gone through.
+    segments(const lbk_table &&, std::string_view, profile = profile::first) = delete;
+    segments(const table &&, std::string_view, profile = profile::first) = delete;
+    template <typename Text, typename = std::enable_if_t<std::is_same_v<Text, std::string>>>
+    segments(const lbk_table &, Text &&, profile = profile::first) = delete;
+
+    iterator begin() const noexcept { return iterator(text_, breaks_.begin()); }
+    iterator end() const noexcept { return iterator(); }
+
+private:
+    std::string_view text_;
+    breaks breaks_;
+};
+
 /// A bit for each byte of a text and one for its end, in words of 64 with the lowest first: set where `breaks` has a break.
 inline std::vector<std::uint64_t> marks(const lbk_table &by, std::string_view text, profile rules = profile::first,
                                         follows after = follows::nothing)
@@ -522,6 +682,28 @@ inline std::size_t cut(const lbk_table &by, std::string_view text, std::size_t a
 inline std::size_t cut_before(const lbk_table &by, std::string_view text, std::size_t at) noexcept
 {
     return lbk_cut_before(&by, text.data(), text.size(), at);
+}
+
+/// The last break before the end of a text after which the breaks are those of the text that begins there; 0 where there is none. It
+/// goes over the last line of the text.
+inline std::size_t safe_break(const lbk_table &by, std::string_view text, profile rules = profile::first) noexcept
+{
+    const std::uint8_t number = static_cast<std::uint8_t>(rules);
+    std::size_t safe = cut_before(by, text, text.empty() ? 0 : text.size() - 1);
+    lbk_state state = {safe, 0, number, 0};
+    lbk_break found = {}, same = {};
+    bool is_more = lbk_breaks(&by, &state, text.data(), text.size(), &found, 1) == 1;
+    while (is_more && found.at < text.size()) {
+        const std::size_t at = found.at;
+        lbk_state fresh = {at, 0, number, 0};
+        is_more = lbk_breaks(&by, &state, text.data(), text.size(), &found, 1) == 1;
+        const bool is_same = lbk_breaks(&by, &fresh, text.data(), text.size(), &same, 1) == 1 && same.at == found.at
+                             && same.kind == found.kind && same.rule == found.rule;
+        // Where both come to the same state, all that is left is the same.
+        if (is_more && is_same && fresh.at == state.at && fresh.row == state.row && fresh.ended == state.ended)
+            safe = at;
+    }
+    return safe;
 }
 
 /// The words of a text in their order, as the bytes that each has: a view that can be gone through any number of times. It needs no
@@ -619,6 +801,9 @@ private:
 /// The name of a rule without `LB`, as "8a"; empty for a number that no rule has.
 inline std::string label(std::uint8_t rule) { return lbk_label(rule).text; }
 
+/// The name of a scalar's line breaking class once rule LB1 has resolved it, as "AL"; empty for what is no scalar.
+inline std::string class_of(const lbk_table &by, char32_t scalar) { return lbk_class(&by, scalar).text; }
+
 namespace detail {
 
 /// What a call gives of a text of units, as break_view does of one in UTF-8. Places are in units, each of which is a Number to C.
@@ -702,6 +887,10 @@ template <lbk::detail::break_call Next>
 inline constexpr bool std::ranges::enable_view<lbk::detail::break_view<Next>> = true;
 template <lbk::detail::break_call Next>
 inline constexpr bool std::ranges::enable_borrowed_range<lbk::detail::break_view<Next>> = true;
+template <>
+inline constexpr bool std::ranges::enable_view<lbk::segments> = true;
+template <>
+inline constexpr bool std::ranges::enable_borrowed_range<lbk::segments> = true;
 template <>
 inline constexpr bool std::ranges::enable_view<lbk::words> = true;
 template <>

@@ -12,7 +12,7 @@
 #     PREFIX/share/bash-completion/completions/lbk    the completion of its words
 #
 # LIBDIR is PREFIX/lib unless it is given. Both are taken as the places where the files will be used; DESTDIR, where it is set, stands
-# in front of them while they are copied.
+# in front of them while they are copied. They may have spaces, and none of the signs that pkg-config or CMake read as their own.
 #
 # Without DESTDIR this machine has to be one that the code is for; on x86-64 its processor needs SSE4.2, which nearly all since 2009
 # have.
@@ -27,16 +27,14 @@ absolute() {
     *) printf '%s\n' "$PWD/$1" ;;
     esac
 }
-case "$*" in
-*[\"\'\`\$\;\\]* | *"
-"*)
-    echo "install.sh: PREFIX or LIBDIR has a quotation mark, backslash, dollar sign, semicolon or line end, which pkg-config or" \
-        "CMake would misread; choose another folder" >&2
+prefix=$(absolute "$1")
+libdir=$(absolute "${2:-$prefix/lib}")
+case $prefix$libdir in
+*[\"\'\\\$\`\#\;]*)
+    echo "install.sh: a folder has one of \" ' \\ \$ \` # ; in its name, which lbk.pc cannot name; choose another: $prefix $libdir" >&2
     exit 2
     ;;
 esac
-prefix=$(absolute "$1")
-libdir=$(absolute "${2:-$prefix/lib}")
 cd "$(dirname "$0")"
 machine=$(cat machine)
 if [ -z "${DESTDIR:-}" ] && [ "$(uname -m)" != "$machine" ]; then
@@ -60,9 +58,9 @@ for shared in lib/liblbk.so.*; do
     ln -sf "$full" "$lib/$name"
     ln -sf "$name" "$lib/liblbk.so"
 done
-# `&` and `|` have a meaning in what sed puts in.
-quoted() { printf '%s\n' "$1" | sed 's/[&|]/\\&/g'; }
-filled() { sed -e "s|@PREFIX@|$(quoted "$prefix")|; s|@LIBDIR@|$(quoted "$libdir")|" "$1"; }
+# (& and | have a meaning to sed)
+escaped() { printf '%s\n' "$1" | sed 's/[&|]/\\&/g'; }
+filled() { sed -e "s|@PREFIX@|$(escaped "$prefix")|; s|@LIBDIR@|$(escaped "$libdir")|" "$1"; }
 filled lib/lbk.pc.in > "$lib/pkgconfig/lbk.pc"
 filled lib/lbk-config.cmake.in > "$lib/cmake/lbk/lbk-config.cmake"
 cp lib/lbk-config-version.cmake "$lib/cmake/lbk"
@@ -72,7 +70,4 @@ if [ -e bin/lbk ]; then
     install -m 755 bin/lbk "$to/bin"
     install -m 644 share/lbk.1 "$to/share/man/man1"
     install -m 644 share/lbk.bash "$to/share/bash-completion/completions/lbk"
-fi
-if [ -z "${DESTDIR:-}" ]; then
-    echo "install.sh: programs find liblbk.so.0 after \`ldconfig\`, if it knows $libdir, or with LD_LIBRARY_PATH='$libdir'"
 fi

@@ -59,10 +59,18 @@ export class Table {
   static fromBytes(saved: Source, module?: Source): Promise<Table>;
 
   /**
+   * The table of the first folder of this machine that has the property files, in Node: of the one that UNICODE_DATA names, or else
+   * of /usr/share/unicode, its `ucd`, and `unicode` in XDG_DATA_HOME and ~/.local/share. It is read once in a process.
+   * @throws Error where none is found: it says what to do, and why each folder was refused.
+   */
+  static find(): Promise<Table>;
+
+  /**
    * A table of the four property files that Unicode 15.0 published: LineBreak.txt, EastAsianWidth.txt,
    * DerivedGeneralCategory.txt and emoji-data.txt. It is, byte for byte, the one that the library for C makes of them.
    * @param files The URL or, in Node, the path of a folder with `LineBreak.txt`, `EastAsianWidth.txt`,
-   *   `extracted/DerivedGeneralCategory.txt` and `emoji/emoji-data.txt`; or these four files, in this order.
+   *   `extracted/DerivedGeneralCategory.txt` and `emoji/emoji-data.txt`; or these four files, in this order. In Node the folder
+   *   may have them side by side, or in its folder `ucd` or its archive UCD.zip, and the path may be that of such an archive.
    * @param module The module `lbk.wasm`; the one beside this file unless given.
    * @throws RangeError if that would make another table of the files than of those published.
    */

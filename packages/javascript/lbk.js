@@ -6,7 +6,7 @@
 //
 // lbk.wasm does the work. It is proved, and has no imports. This file is tested and not proved: it copies text into the
 // module's memory and positions out of it, and counts the places of strings in UTF-16 code units.
-import { ModuleMemory, UnitCounter, bytesOf, checkText, guarded, isAscii, unzipped } from "./module_memory.js";
+import { ModuleMemory, UnitCounter, bytesOf, checkText, guarded, isAscii, isLocal, unzipped } from "./module_memory.js";
 import { TABLE_SIZE, unpackTable } from "./packed_table.js";
 
 /** How many breaks or positions a call of the module has room for. */
@@ -165,8 +165,10 @@ export class Table {
   #module;
   #machine;
   #labels;
+  static #found;
 
   constructor(module, machine) {
+    if (!(machine instanceof Machine)) throw new TypeError("a Table is made by Table.find, Table.fromFiles or Table.fromBytes");
     this.#module = module;
     this.#machine = machine;
     this.#labels = Array.from({ length: RULE_NUMBERS }, (_, number) => machine.ruleLabel(number));
@@ -182,9 +184,40 @@ export class Table {
     return new Table(compiled, machine);
   }
 
+  static find() {
+    Table.#found ??= Table.#firstFound().catch((error) => {
+      Table.#found = undefined;
+      throw error;
+    });
+    return Table.#found;
+  }
+
+  static async #firstFound() {
+    if (!isLocal("")) throw new Error("a browser has no folder of property files: use Table.fromFiles or Table.fromBytes");
+    const { folders, notFound } = await import("./found.js");
+    const refusals = [];
+    for (const folder of folders()) {
+      try {
+        return await Table.fromFiles(folder);
+      } catch (error) {
+        refusals.push(error.message.includes(folder) ? error.message : `${folder}: ${error.message}`);
+      }
+    }
+    throw notFound(refusals);
+  }
+
+  static async #sources(files) {
+    if (Array.isArray(files)) return files;
+    if (typeof files !== "string" && !(files instanceof URL)) {
+      throw new TypeError("the files are the path or URL of a folder, or an array of the four files");
+    }
+    if (isLocal(files)) return (await import("./found.js")).contents(files);
+    return (await import("./property_files.js")).FILES.map((name) => inFolder(files, name));
+  }
+
   static async fromFiles(files, module) {
-    const { FILES, tableOf } = await import("./property_files.js");
-    const sources = Array.isArray(files) ? files : FILES.map((name) => inFolder(files, name));
+    const { tableOf } = await import("./property_files.js");
+    const sources = await Table.#sources(files);
     const steps = new URL("lbk.steps.gz", import.meta.url);
     const [known, ...given] = await Promise.all([steps, ...sources].map((it) => bytesOf(it).then(unzipped)));
     try {
@@ -216,18 +249,23 @@ export class Table {
     return this.#columns(text, options, (profile) => this.#wholeText(text, profile));
   }
 
-  *breaks(text, options) {
-    yield* this.#rows(this.breakColumns(text, options));
+  // (these look at their arguments when they are called, and not in the first step)
+  breaks(text, options) {
+    return this.#rows(this.breakColumns(text, options));
   }
 
-  *positions(text, options) {
-    yield* this.#rows(this.positionColumns(text, options));
+  positions(text, options) {
+    return this.#rows(this.positionColumns(text, options));
   }
 
-  *segments(text, options) {
+  segments(text, options) {
     if (typeof text !== "string") throw new TypeError("the segments are those of a string");
+    return this.#pieces(text, this.breaks(text, options));
+  }
+
+  *#pieces(text, breaks) {
     let index = 0;
-    for (const { at, kind, rule } of this.breaks(text, options)) {
+    for (const { at, kind, rule } of breaks) {
       yield { segment: text.slice(index, at), index, kind, rule };
       index = at;
     }

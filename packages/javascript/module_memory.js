@@ -2,13 +2,21 @@
 
 const isNode = typeof process === "object" && process.versions?.node !== undefined;
 
+/** Whether a source, a string or a URL, is a path of this machine, which Node reads. */
+export function isLocal(source) {
+  return isNode && (typeof source === "string" || source.protocol === "file:");
+}
+
 /** The bytes of a source, as `Source` in lbk.d.ts says. */
 export async function bytesOf(source) {
   if (ArrayBuffer.isView(source)) {
     return new Uint8Array(source.buffer, source.byteOffset, source.byteLength);
   }
   if (source instanceof ArrayBuffer) return new Uint8Array(source);
-  if (isNode && (typeof source === "string" || source.protocol === "file:")) {
+  if (!(source instanceof Response || source instanceof URL || typeof source === "string")) {
+    throw new TypeError("bytes are expected, or a Response, a URL or a string that names them");
+  }
+  if (isLocal(source)) {
     const { readFile } = await import("node:fs/promises");
     return readFile(source);
   }

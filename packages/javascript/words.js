@@ -53,9 +53,12 @@ export class Words {
     return guarded(() => this.#find(text), () => this.#startAgain());
   }
 
-  *words(text) {
+  words(text) {
     if (typeof text !== "string") throw new TypeError("the words are those of a string");
-    const { start, end } = this.wordColumns(text);
+    return this.#rows(text, this.wordColumns(text));
+  }
+
+  *#rows(text, { start, end }) {
     for (let k = 0; k < start.length; k++) yield { word: text.slice(start[k], end[k]), at: start[k] };
   }
 

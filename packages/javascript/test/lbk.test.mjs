@@ -84,6 +84,14 @@ test("50 MB in pieces have the breaks that their parts have, in memory that does
   assert.equal(table.memorySize, ofStrings);
 });
 
+test("arguments are looked at in the call, and not in the first step", () => {
+  for (const call of ["breaks", "positions", "segments"]) {
+    for (const text of [null, undefined, 3, ["a"]]) assert.throws(() => table[call](text), TypeError);
+    assert.throws(() => table[call]("a", { profile: 3 }), RangeError);
+  }
+  assert.throws(() => words.words(null), TypeError);
+});
+
 test("the words of a string", () => {
   assert.deepEqual([...words.words("😀 naïve, 3.14")], [{ word: "naïve", at: 3 }, { word: "3.14", at: 10 }]);
   assert.deepEqual([...words.words("")], []);

@@ -30,6 +30,46 @@ class Cuts(unittest.TestCase):
         self.assertEqual(table.cut("", 0), 0)
         self.assertEqual(table.cut_before(b"", 3), 0)
 
+    def test_breaks_after_a_safe_break(self):
+        table = samples.table()
+        self.assertEqual([table.safe_break(text) for text in ("ab c d", "ab\ncd", "ab\n", "ab", "", "é c d", "é c d".encode())], [5, 3, 0, 0, 0, 4, 5])
+        chance = samples.chance(12)
+        for make in (samples.random_text, samples.random_bytes):
+            for _ in range(200):
+                text, profile = make(chance, 40), chance.choice((1, 2))
+                safe = table.safe_break(text, profile)
+                after = [(safe + at, kind, rule) for at, kind, rule in table.breaks(text[safe:], profile)]
+                self.assertEqual(after, [one for one in samples.found(table, text, profile) if one[0] > safe])
+        with self.assertRaises(ValueError):
+            table.safe_break("a", 3)
+        with self.assertRaises(TypeError):
+            table.safe_break(3)
+
+    def test_files_that_were_cut(self):
+        head, end = b"# LineBreak-15.0.0.txt\n", b"\n# EOF\n"
+        whole = Table.read(head + samples.LINE_BREAK + end, *samples.FILES[1:])
+        self.assertEqual(whole, samples.table())
+        names = (head, b"# EastAsianWidth-15.1.0.txt\n", b"# DerivedGeneralCategory-15.0.0.txt\r\n", b"# emoji-data.txt\n")
+        for number, name in enumerate(names, 1):
+            files = list(samples.FILES)
+            files[number - 1] = name + files[number - 1]
+            with self.assertRaises(lbk.Fault) as caught:
+                Table.read(*files)
+            self.assertEqual((caught.exception.file, caught.exception.cause), (number, lbk.Cause.NOT_PUBLISHED))
+            self.assertEqual(Table.read(*files, strict=False), whole)
+            files[number - 1] += b"\n#EOF\n\n"
+            self.assertEqual(Table.read(*files), whole)
+
+    def test_classes(self):
+        table = samples.table()
+        self.assertEqual([table.class_of(one) for one in ("a", " ", 0x4E00, "\n", 0xD800)], ["AL", "SP", "ID", "LF", ""])
+        for wrong in (-1, 0x110000):
+            with self.assertRaises(ValueError):
+                table.class_of(wrong)
+        for wrong in ("", "ab", None):
+            with self.assertRaises(TypeError):
+                table.class_of(wrong)
+
     def test_the_table_decides(self):
         table = Table.read(*OTHER)
         self.assertEqual([table.cut(b"b\nbab\n", at) for at in range(7)], [0, 4, 4, 4, 4, 6, 6])

@@ -2,11 +2,24 @@
 
 import array
 import mmap
+import pickle
 import tempfile
 import unittest
 
 import samples
 from lbk import Passage, Table
+
+
+def listed(text, columns):
+    """The passages that columns have."""
+    offsets, places, word_offsets, starts, ends = columns
+    found = []
+    for k in range(len(offsets) - 1):
+        first, last = offsets[k], offsets[k + 1]
+        segments = [text[places[i] : places[i + 1]] for i in range(first, last)]
+        words = [text[starts[j] : ends[j]] for j in range(word_offsets[k], word_offsets[k + 1])]
+        found.append(Passage(places[first], text[places[first] : places[last]], segments, words))
+    return found
 
 
 class Words(unittest.TestCase):
@@ -37,6 +50,16 @@ class Words(unittest.TestCase):
             ranges = [(len(data[:start].decode()), len(data[:end].decode())) for start, end in Table.word_ranges(data)]
             self.assertEqual(list(Table.word_ranges(text)), ranges)
 
+    def test_columns_are_the_ranges(self):
+        chance = samples.chance(8)
+        texts = [make(chance, 60) for make in (samples.random_text, samples.random_bytes) for _ in range(200)]
+        for text in [*texts, "", b"", 100_000 * "ab é ", 3000 * "?!" + 3000 * "a "]:
+            columns = Table.word_columns(text)
+            self.assertEqual(list(zip(*columns)), list(Table.word_ranges(text)))
+            self.assertEqual(pickle.loads(pickle.dumps(columns)), columns)
+        for wrong in (3, None, ["a"]):
+            self.assertRaises(TypeError, Table.word_columns, wrong)
+
     def test_each_object_of_bytes_and_nothing_else(self):
         for text in (bytearray(b"ab cd"), memoryview(b"ab cd"), array.array("B", b"ab cd")):
             self.assertEqual(list(Table.words(text)), [b"ab", b"cd"])
@@ -49,6 +72,19 @@ class Passages(unittest.TestCase):
     @classmethod
     def setUpClass(cls):
         cls.table = samples.table()
+
+    def test_columns_are_the_passages(self):
+        chance = samples.chance(9)
+        texts = [make(chance, 60) for make in (samples.random_text, samples.random_bytes) for _ in range(300)]
+        for text in [*texts, "", b"", 1000 * "ab é\n", "a " * 1000]:
+            text = text.encode("utf-8", "replace").decode() if isinstance(text, str) else text
+            for profile in (1, 2):
+                found = self.table.passage_columns(text, profile)
+                self.assertEqual(listed(text, found), list(self.table.passages(text, profile)))
+                self.assertEqual(pickle.loads(pickle.dumps(found)), found)
+        for wrong in (3, None):
+            self.assertRaises(TypeError, self.table.passage_columns, wrong)
+        self.assertRaises(ValueError, self.table.passage_columns, "a", 3)
 
     def test_passages_of_a_text(self):
         found = list(self.table.passages("é cd.\r\n\nef"))

@@ -39,18 +39,44 @@ impl fmt::Display for Rule {
     fn fmt(&self, f: &mut fmt::Formatter<'_>) -> fmt::Result {
         // SAFETY: the call takes any number.
         let label = unsafe { calls::lbk_label(self.0) };
-        let end = label
-            .text
-            .iter()
-            .position(|&byte| byte == 0)
-            .unwrap_or(label.text.len());
-        f.pad(str::from_utf8(&label.text[..end]).unwrap_or(""))
+        f.pad(calls::shown(&label.text))
     }
 }
 
 impl fmt::Debug for Rule {
     fn fmt(&self, f: &mut fmt::Formatter<'_>) -> fmt::Result {
         write!(f, "LB{}", self)
+    }
+}
+
+/// A line breaking class. It is shown by its name, as `AL`.
+#[derive(Clone, Copy, PartialEq, Eq, Hash)]
+pub struct Class([u8; 4]);
+
+impl Class {
+    /// The class's name in the standard, once rule LB1 has resolved it.
+    pub fn name(&self) -> &str {
+        calls::shown(&self.0)
+    }
+}
+
+impl fmt::Display for Class {
+    fn fmt(&self, f: &mut fmt::Formatter<'_>) -> fmt::Result {
+        f.pad(self.name())
+    }
+}
+
+impl fmt::Debug for Class {
+    fn fmt(&self, f: &mut fmt::Formatter<'_>) -> fmt::Result {
+        f.write_str(self.name())
+    }
+}
+
+impl Table {
+    /// The line breaking class of a character.
+    pub fn class_of(&self, character: char) -> Class {
+        // SAFETY: the table is borrowed for reading, and the call takes any number.
+        Class(unsafe { calls::lbk_class(&self.0, character.into()) }.text)
     }
 }
 

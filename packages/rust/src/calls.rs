@@ -109,6 +109,18 @@ pub struct RuleLabel {
 }
 
 #[repr(C)]
+#[derive(Clone, Copy)]
+pub struct ClassLabel {
+    pub text: [u8; 4],
+}
+
+/// A text without the zeros at its end.
+pub fn shown(text: &[u8]) -> &str {
+    let end = text.iter().position(|&byte| byte == 0);
+    core::str::from_utf8(&text[..end.unwrap_or(text.len())]).unwrap_or("")
+}
+
+#[repr(C)]
 pub struct Text {
     pub text: [u8; 96],
 }
@@ -122,6 +134,7 @@ const _: () = assert!(size_of::<WordState>() == 8);
 const _: () = assert!(size_of::<Word>() == 16);
 const _: () = assert!(size_of::<Fault>() == 12);
 const _: () = assert!(size_of::<RuleLabel>() == 4);
+const _: () = assert!(size_of::<ClassLabel>() == 4);
 
 /// A call that reads four files.
 pub type Reading = unsafe extern "C" fn(
@@ -206,6 +219,7 @@ extern "C" {
         room: usize,
     ) -> usize;
     pub fn lbk_label(rule: u8) -> RuleLabel;
+    pub fn lbk_class(table: *const Table, scalar: u32) -> ClassLabel;
     pub fn lbk_check(table: *const Table) -> bool;
     pub fn lbk_breaks_utf16(
         table: *const Table,

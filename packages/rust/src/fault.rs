@@ -1,8 +1,9 @@
 //! Why files are refused.
 
-use core::{fmt, str};
+use core::fmt;
 
-use crate::calls;
+use crate::calls::{self, shown};
+use crate::table::Files;
 
 /// Why four files are refused: the first fault that they have.
 #[derive(Clone, Copy, PartialEq, Eq, Debug)]
@@ -15,6 +16,22 @@ pub struct Fault {
 }
 
 impl Fault {
+    /// The first of the files that was cut.
+    pub(crate) fn of_a_cut_file(files: &Files<'_>) -> Option<Fault> {
+        let all = [
+            (File::LineBreak, files.line_break),
+            (File::EastAsian, files.east_asian),
+            (File::Category, files.category),
+            (File::Emoji, files.emoji),
+        ];
+        let (file, _) = all.into_iter().find(|(_, bytes)| is_cut(bytes))?;
+        Some(Fault {
+            file: Some(file),
+            line: 0,
+            cause: Cause::NotPublished,
+        })
+    }
+
     /// `None` where the call has no fault.
     pub(crate) fn from_c(fault: calls::Fault) -> Option<Fault> {
         Some(Fault {
@@ -23,6 +40,26 @@ impl Fault {
             cause: Cause::numbered(fault.cause)?,
         })
     }
+}
+
+/// What the first lines of published files begin with.
+const CLAIMS: [&[u8]; 4] = [
+    b"# LineBreak-",
+    b"# EastAsianWidth-",
+    b"# DerivedGeneralCategory-",
+    b"# emoji-data.",
+];
+
+/// Whether the first line claims a name that Unicode published, and the last is not its end.
+fn is_cut(file: &[u8]) -> bool {
+    let blank = |byte: &u8| byte.is_ascii_whitespace();
+    let size = file
+        .iter()
+        .rposition(|byte| !blank(byte))
+        .map_or(0, |at| at + 1);
+    let last = file[..size].rsplit(|&byte| byte == b'\n').next();
+    let is_end = last == Some(b"# EOF") || last == Some(b"#EOF");
+    CLAIMS.iter().any(|claim| file.starts_with(claim)) && !is_end
 }
 
 /// One of the four files.
@@ -65,7 +102,7 @@ pub enum Cause {
     TooManyRows,
     /// The heap refused memory.
     OutOfMemory,
-    /// The file is not the one that Unicode published; only of [`Table::read_published`](crate::Table::read_published).
+    /// The file is not the one that Unicode published; of [`Table::read`](crate::Table::read) only where it was cut.
     NotPublished = 9,
 }
 
@@ -96,14 +133,14 @@ impl fmt::Display for Fault {
                 calls::lbk_cause_text(1 + self.cause as u32),
             )
         };
-        write!(f, "{}:{}: {}", shown(&file), self.line, shown(&cause))
+        write!(
+            f,
+            "{}:{}: {}",
+            shown(&file.text),
+            self.line,
+            shown(&cause.text)
+        )
     }
-}
-
-/// The text without the zeros at its end.
-fn shown(text: &calls::Text) -> &str {
-    let end = text.text.iter().position(|&byte| byte == 0);
-    str::from_utf8(&text.text[..end.unwrap_or(0)]).unwrap_or("")
 }
 
 #[cfg(feature = "std")]

@@ -27,9 +27,12 @@ mod breaks;
 mod calls;
 mod cuts;
 mod fault;
+#[cfg(feature = "std")]
+mod find;
 mod found;
 #[cfg(feature = "std")]
 mod load;
+mod passages;
 mod processor;
 #[cfg(feature = "std")]
 mod reader;
@@ -38,10 +41,15 @@ mod table;
 mod units;
 mod words;
 
-pub use breaks::{Break, Breaks, Kind, Position, Positions, Profile, Rule, Segment, Segments};
+pub use breaks::{
+    Break, Breaks, Class, Kind, Position, Positions, Profile, Rule, Segment, Segments,
+};
 pub use fault::{Cause, Fault, File};
 #[cfg(feature = "std")]
+pub use find::NotFound;
+#[cfg(feature = "std")]
 pub use load::LoadError;
+pub use passages::{Passage, Passages};
 #[cfg(feature = "std")]
 pub use reader::ReaderBreaks;
 pub use stream::Stream;

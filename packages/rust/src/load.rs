@@ -12,9 +12,10 @@ use crate::table::{Files, Table};
 impl Table {
     /// The table of a folder of the Unicode Character Database, such as `/usr/share/unicode`: of its `LineBreak.txt`,
     /// `EastAsianWidth.txt`, `extracted/DerivedGeneralCategory.txt` and `emoji/emoji-data.txt`. The last two may also lie in
-    /// the folder itself. They have to be those that Unicode published for version 15.0.
+    /// the folder itself, and all four in its folder `ucd`; an archive `UCD.zip` has to be unpacked first. They have to be those
+    /// that Unicode published for version 15.0.
     pub fn load(folder: impl AsRef<Path>) -> Result<Box<Table>, LoadError> {
-        let folder = folder.as_ref();
+        let folder = &root(folder.as_ref());
         let files = Files {
             line_break: &read(folder, "", "LineBreak.txt")?,
             east_asian: &read(folder, "", "EastAsianWidth.txt")?,
@@ -23,6 +24,15 @@ impl Table {
         };
         Table::read_published(files).map_err(|fault| LoadError::Refused(folder.into(), fault))
     }
+}
+
+/// The folder itself, or else its folder `ucd` where that has the files.
+fn root(folder: &Path) -> PathBuf {
+    let below = folder.join("ucd");
+    if !folder.join("LineBreak.txt").exists() && below.is_dir() {
+        return below;
+    }
+    folder.into()
 }
 
 /// The bytes of a file of the database, which lies below a subfolder or else in the folder itself.
@@ -49,6 +59,9 @@ impl fmt::Display for LoadError {
     fn fmt(&self, f: &mut fmt::Formatter<'_>) -> fmt::Result {
         match self {
             LoadError::Unreadable(path, error) => write!(f, "{}: {}", path.display(), error),
+            LoadError::Refused(folder, fault) if fault.file.is_some() => {
+                write!(f, "{}/{}", folder.display(), fault)
+            }
             LoadError::Refused(folder, fault) => write!(f, "{}: {}", folder.display(), fault),
         }
     }

@@ -30,13 +30,22 @@ pub struct Table(pub(crate) calls::Table);
 
 impl Table {
     /// The table of four files of any origin. Returns their first fault where they have one, or that memory was refused.
+    ///
+    /// A file that was cut is refused, too ([`Cause::NotPublished`](crate::Cause::NotPublished)): its first line claims a name that Unicode published, as
+    /// `# LineBreak-15.0.0.txt`, and its last is not `# EOF`. [`Table::read_lenient`] takes it.
     pub fn read(files: Files<'_>) -> Result<Box<Table>, Fault> {
+        match Fault::of_a_cut_file(&files) {
+            Some(fault) => Err(fault),
+            None => Table::read_lenient(files),
+        }
+    }
+
+    /// The same, and of files that were cut, too, so that the characters in what was cut off have other breaks.
+    pub fn read_lenient(files: Files<'_>) -> Result<Box<Table>, Fault> {
         Table::read_by(calls::lbk_read, files)
     }
 
-    /// The same of the files that Unicode published for version 15.0, and of no others ([`Cause::NotPublished`]).
-    ///
-    /// [`Cause::NotPublished`]: crate::Cause::NotPublished
+    /// The table of the files that Unicode published for version 15.0, and of no others ([`Cause::NotPublished`](crate::Cause::NotPublished)).
     pub fn read_published(files: Files<'_>) -> Result<Box<Table>, Fault> {
         Table::read_by(calls::lbk_read_published, files)
     }

@@ -1,6 +1,6 @@
 //! Where a text may be cut, and positions that are no breaks.
 
-use lbk::{Break, Files, Kind, Profile, Table};
+use lbk::{Break, Cause, Fault, File, Files, Kind, Profile, Table};
 
 /// By `line_break`, and CR and LF are line ends in it or not.
 fn table(line_break: &[u8]) -> Box<Table> {
@@ -92,6 +92,58 @@ fn the_breaks_after_a_safe_break_are_those_of_the_text_from_there_on() {
     let safe = |text: &[u8]| table.safe_break(Profile::First, text);
     assert_eq!((safe(b"ab c d"), safe(b"ab\ncd"), safe(b"ab\n")), (5, 3, 0));
     assert_eq!((safe(b"ab"), safe(b"")), (0, 0));
+}
+
+#[test]
+fn files_that_were_cut_are_refused() {
+    let read = |line_break: &[u8], by: fn(Files<'_>) -> _| -> Result<Box<Table>, Fault> {
+        by(Files {
+            line_break,
+            east_asian: b"# EastAsianWidth-15.0.0.txt\r\n# EOF\r\n",
+            category: b"",
+            emoji: b"# emoji-data.txt\n#EOF",
+        })
+    };
+    let whole = [b"# LineBreak-15.0.0.txt\n", USUAL, b"# EOF\n\n"].concat();
+    let cut = &whole[..whole.len() - 5];
+    let refused = read(cut, Table::read).expect_err("it was cut");
+    assert_eq!(
+        (refused.file, refused.cause),
+        (Some(File::LineBreak), Cause::NotPublished)
+    );
+    let tables = [
+        read(&whole, Table::read),
+        read(cut, Table::read_lenient),
+        read(USUAL, Table::read),
+    ];
+    for made in tables {
+        assert_eq!(
+            made.expect("it is taken").as_bytes(),
+            table(USUAL).as_bytes()
+        );
+    }
+}
+
+#[test]
+fn passages_are_the_segments_up_to_the_ends_of_lines() {
+    let table = table(USUAL);
+    let text = "ab 一\r\n\nc d";
+    let passages: Vec<_> = table.passages(text).collect();
+    let shown: Vec<_> = passages.iter().map(|it| (it.start, it.text)).collect();
+    assert_eq!(shown, [(0, "ab 一\r\n"), (8, "\n"), (9, "c d")]);
+    let segments: Vec<_> = passages.iter().flat_map(|it| it.segments.clone()).collect();
+    assert_eq!(segments, table.segments(text).collect::<Vec<_>>());
+    let words: Vec<_> = passages.iter().map(|it| it.words().count()).collect();
+    assert_eq!(words, [2, 0, 2]);
+    assert_eq!(table.passages("").next(), None);
+}
+
+#[test]
+fn classes_of_characters() {
+    let table = table(USUAL);
+    let names = ['a', '一', ' ', '\n'].map(|it| table.class_of(it).to_string());
+    assert_eq!(names, ["AL", "ID", "SP", "LF"]);
+    assert_eq!(table.class_of('a'), table.class_of('z'));
 }
 
 #[test]

@@ -3,9 +3,11 @@
 #include "break.h"
 #include "columns.h"
 #include "found.h"
+#include "passages.h"
 #include "places.h"
 #include "state.h"
 #include "stream.h"
+#include "words.h"
 
 /* read(table, line_break, east_asian, category, emoji, are_published): fills a writable table,
  * of the files that Unicode published or of any, and returns (file, line, cause). */
@@ -77,18 +79,37 @@ static PyObject *file_name(PyObject *Py_UNUSED(module), PyObject *file)
     return PyUnicode_FromString(number > UINT32_MAX ? "" : lbk_file_name((uint32_t)number).text);
 }
 
-/* Where a text may be cut, by one of the calls that say so: (table, text, at). */
-static PyObject *cut_by(cut_call *call, PyObject *const *given, Py_ssize_t count)
+/* class_of(table, scalar): the name of its line breaking class, or an empty str. */
+static PyObject *class_of(PyObject *Py_UNUSED(module), PyObject *const *given, Py_ssize_t count)
+{
+    Py_buffer table_view;
+    if (!has_arguments(count, 2))
+        return NULL;
+    unsigned long scalar = PyLong_AsUnsignedLong(given[1]);
+    if (PyErr_Occurred())
+        return NULL;
+    const lbk_table *table = hold_table(given[0], false, &table_view);
+    if (table == NULL)
+        return NULL;
+    lbk_class_label name = lbk_class(table, scalar > UINT32_MAX ? UINT32_MAX : (uint32_t)scalar);
+    PyBuffer_Release(&table_view);
+    return PyUnicode_FromString(name.text);
+}
+
+/* A place of a text that a call finds: one of these, from `at` on; or without a call the last safe break, from a start. */
+typedef struct {
+    cut_call *call;
+    size_t at;
+    lbk_state start;
+} place_asked;
+
+/* The place that is asked for of (table, text, ..). */
+static PyObject *place_by(place_asked asked, PyObject *const *given)
 {
     Py_buffer table_view, text_view;
     utf8_text text;
-    size_t cut = 0;
+    size_t place = 0;
     bool is_found = false;
-    if (!has_arguments(count, 3))
-        return NULL;
-    Py_ssize_t at = PyNumber_AsSsize_t(given[2], PyExc_OverflowError);
-    if (at < 0)
-        return PyErr_Occurred() ? NULL : PyErr_Format(PyExc_ValueError, "a place is not negative");
     PyObject *owner = text_owner(given[1], &text.in_code_points);
     if (owner == NULL)
         return NULL;
@@ -96,7 +117,7 @@ static PyObject *cut_by(cut_call *call, PyObject *const *given, Py_ssize_t count
     if (table != NULL) {
         if (hold_bytes(owner, &text, &text_view)) {
             PyThreadState *unlocked = unlock(text.size);
-            cut = find_cut(call, table, &text, (size_t)at);
+            place = asked.call != NULL ? find_cut(asked.call, table, &text, asked.at) : find_safe_break(table, &text, asked.start);
             lock_again(unlocked);
             PyBuffer_Release(&text_view);
             is_found = true;
@@ -104,7 +125,27 @@ static PyObject *cut_by(cut_call *call, PyObject *const *given, Py_ssize_t count
         PyBuffer_Release(&table_view);
     }
     Py_DECREF(owner);
-    return is_found ? PyLong_FromSize_t(cut) : NULL;
+    return is_found ? PyLong_FromSize_t(place) : NULL;
+}
+
+/* Where a text may be cut, by one of the calls that say so: (table, text, at). */
+static PyObject *cut_by(cut_call *call, PyObject *const *given, Py_ssize_t count)
+{
+    if (!has_arguments(count, 3))
+        return NULL;
+    Py_ssize_t at = PyNumber_AsSsize_t(given[2], PyExc_OverflowError);
+    if (at < 0)
+        return PyErr_Occurred() ? NULL : PyErr_Format(PyExc_ValueError, "a place is not negative");
+    return place_by((place_asked){.call = call, .at = (size_t)at}, given);
+}
+
+/* safe_break(table, text, profile): the last break before the end after which the breaks are those of the text from there on. */
+static PyObject *safe_break(PyObject *Py_UNUSED(module), PyObject *const *given, Py_ssize_t count)
+{
+    cursor start;
+    if (!has_arguments(count, 3) || !start_of_text(given[2], &start))
+        return NULL;
+    return place_by((place_asked){.start = start.state}, given);
 }
 
 /* cut(table, text, at): the first place at or after it where a part may begin. */
@@ -143,8 +184,12 @@ static PyMethodDef methods[] = {
     {"name_numbers", (PyCFunction)(void (*)(void))name_numbers, METH_FASTCALL, NULL},
     {"cut", (PyCFunction)(void (*)(void))cut, METH_FASTCALL, NULL},
     {"cut_before", (PyCFunction)(void (*)(void))cut_before, METH_FASTCALL, NULL},
+    {"safe_break", (PyCFunction)(void (*)(void))safe_break, METH_FASTCALL, NULL},
+    {"class_of", (PyCFunction)(void (*)(void))class_of, METH_FASTCALL, NULL},
     {"columns", (PyCFunction)(void (*)(void))text_columns, METH_FASTCALL, NULL},
     {"list_columns", (PyCFunction)(void (*)(void))list_columns, METH_FASTCALL, NULL},
+    {"passage_columns", (PyCFunction)(void (*)(void))passage_columns, METH_FASTCALL, NULL},
+    {"word_columns", word_columns, METH_O, NULL},
     {"new_stream", new_stream, METH_O, NULL},
     {"feed", (PyCFunction)(void (*)(void))feed, METH_FASTCALL, NULL},
     {NULL, NULL, 0, NULL},

@@ -14,15 +14,15 @@ from ._calls import UNICODE_VERSION, WORDS_UNICODE_VERSION, Break
 from ._calls import VERSION as __version__
 from ._fault import Fault
 from ._numbers import Cause, File, Rule
-from ._results import Columns, Kind, ListColumns, Passage
+from ._results import Columns, Kind, ListColumns, Passage, PassageColumns, WordColumns
 from ._stream import Stream
 from ._table import Table, breaks, segments, words
 
 __all__ = [
     "UNICODE_VERSION", "WORDS_UNICODE_VERSION", "Break", "Cause", "Columns", "Fault", "File", "Kind", "ListColumns", "Passage",
-    "Rule", "Stream", "Table", "__version__", "breaks", "segments", "words",
+    "PassageColumns", "Rule", "Stream", "Table", "WordColumns", "__version__", "breaks", "segments", "words",
 ]
 
 # These are known by the names that their users know, also in what was pickled.
-for _public in (Cause, Columns, Fault, File, Kind, ListColumns, Passage, Rule, Stream, Table, breaks, segments):
+for _public in (Cause, Columns, Fault, File, Kind, ListColumns, Passage, PassageColumns, Rule, Stream, Table, WordColumns, breaks, segments):
     _public.__module__ = __name__

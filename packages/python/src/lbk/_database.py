@@ -2,6 +2,7 @@
 
 import errno
 import os
+import re
 import zipfile
 import zlib
 from pathlib import Path
@@ -21,6 +22,14 @@ _PLACES = (
 
 # Debian's folder and Fedora's.
 _SYSTEM = ("/usr/share/unicode", "/usr/share/unicode/ucd")
+
+_CLAIM = re.compile(rb"# (?:LineBreak-|EastAsianWidth-|DerivedGeneralCategory-|emoji-data\.)")
+
+
+def is_cut(file: bytes) -> bool:
+    """Whether the first line claims a name that Unicode published, and the last is not its end."""
+    last = file.rstrip().rpartition(b"\n")[2]
+    return _CLAIM.match(file) is not None and last not in (b"# EOF", b"#EOF")
 
 
 def contents(folder: Folder) -> list[bytes]:

@@ -56,6 +56,34 @@ class ListColumns(NamedTuple):
         return _pickled(self)
 
 
+class WordColumns(NamedTuple):
+    """The words of a text, in their order: `starts[k]` up to `ends[k]`, not counting that."""
+
+    starts: memoryview
+    """Numbers of the format "q"."""
+    ends: memoryview
+
+    def __reduce__(self) -> tuple[Any, ...]:
+        return _pickled(self)
+
+
+class PassageColumns(NamedTuple):
+    """The passages of a text, in their order, as list arrays of Apache Arrow: numbers of the format
+    "q". The k-th has the segments `segment_offsets[k]` to `segment_offsets[k + 1]` and the words
+    `word_offsets[k]` to `word_offsets[k + 1]`, neither counting the last."""
+
+    segment_offsets: memoryview
+    places: memoryview
+    """Segment `i` is the text from `places[i]` to `places[i + 1]`."""
+    word_offsets: memoryview
+    starts: memoryview
+    """Word `j` is the text from `starts[j]` to `ends[j]`."""
+    ends: memoryview
+
+    def __reduce__(self) -> tuple[Any, ...]:
+        return _pickled(self)
+
+
 class Passage(NamedTuple, Generic[AnyStr]):
     """A part of a text up to a place where a line must end: a paragraph with its line end."""
 

@@ -5,6 +5,7 @@ import copy
 import functools
 import mmap
 import os
+import sys
 import threading
 from array import array
 from collections.abc import Iterable, Iterator
@@ -15,7 +16,7 @@ from . import _calls, _database
 from ._calls import Break
 from ._fault import Fault
 from ._numbers import Cause
-from ._results import Columns, Kind, ListColumns, Passage
+from ._results import Columns, Kind, ListColumns, Passage, PassageColumns, WordColumns
 
 
 class _Buffer(Protocol):
@@ -90,16 +91,23 @@ class Table:
         return cls._of(memory, _load_again, place, _digest_of(memory))
 
     @classmethod
-    def from_files(cls, line_break: Name, east_asian: Name, category: Name, emoji: Name) -> Self:
+    def from_files(cls, line_break: Name, east_asian: Name, category: Name, emoji: Name, *, strict: bool = True) -> Self:
         """The table of four files of any origin, given by their names. Raises OSError where one
         cannot be read, and Fault as `read` does."""
-        return cls.read(*(Path(os.fsdecode(name)).read_bytes() for name in (line_break, east_asian, category, emoji)))
+        files = [Path(os.fsdecode(name)).read_bytes() for name in (line_break, east_asian, category, emoji)]
+        return cls.read(*files, strict=strict)
 
     @classmethod
-    def read(cls, line_break: Bytes, east_asian: Bytes, category: Bytes, emoji: Bytes) -> Self:
+    def read(cls, line_break: Bytes, east_asian: Bytes, category: Bytes, emoji: Bytes, *, strict: bool = True) -> Self:
         """The table of the contents of four files. Raises Fault at the first fault that they have,
-        and MemoryError where memory is refused."""
-        return cls._of(_read((line_break, east_asian, category, emoji), False))
+        and MemoryError where memory is refused. With `strict` a file that was cut is a fault
+        (NOT_PUBLISHED), too: its first line claims a name that Unicode published, as
+        `# LineBreak-15.0.0.txt`, and its last is not `# EOF`."""
+        files = [_unchanging(one) for one in (line_break, east_asian, category, emoji)]
+        cut = next((number for number, one in enumerate(files, 1) if _database.is_cut(one)), None) if strict else None
+        if cut is not None:
+            raise Fault(cut, 0, Cause.NOT_PUBLISHED)
+        return cls._of(_read(files, False))
 
     @classmethod
     def from_bytes(cls, data: Bytes) -> Self:
@@ -184,6 +192,19 @@ class Table:
         """The last such place at or before `at`: no break after it depends on the text before it."""
         return _calls.cut_before(self._memory, text, at)
 
+    def safe_break(self, text: Text, profile: int = 1) -> int:
+        """The last break before the end of a text after which the breaks are those of the text that
+        begins there; 0 where there is none. It goes over the last line of the text."""
+        return _calls.safe_break(self._memory, text, profile)
+
+    def class_of(self, character: str | int) -> str:
+        """The line breaking class of a character or a code point, as "AL", once LB1 has resolved
+        it; "" for a surrogate. Raises ValueError for a number that is no code point."""
+        code = ord(character) if isinstance(character, str) else character
+        if not 0 <= code <= sys.maxunicode:
+            raise ValueError(f"a code point is 0 to 0x10FFFF, and not {code}")
+        return _calls.class_of(self._memory, code)
+
     @overload
     @staticmethod
     def words(text: str) -> Iterator[str]: ...
@@ -211,6 +232,17 @@ class Table:
         breaks = self.breaks(text, profile)
         # These give a str or bytes as their slices.
         return _Passages(breaks, text if isinstance(text, (str, bytes, mmap.mmap)) else bytes(text))
+
+    @staticmethod
+    def word_columns(text: Text) -> WordColumns:
+        """Where each word starts and ends, as `word_ranges` has it, in columns."""
+        starts, ends = _calls.word_columns(text)
+        return WordColumns(memoryview(starts).cast("q"), memoryview(ends).cast("q"))
+
+    def passage_columns(self, text: Text, profile: int = 1) -> PassageColumns:
+        """The passages, their segments and their words, as `passages` has them, in columns."""
+        columns = _calls.passage_columns(self._memory, text, profile)
+        return PassageColumns(*(memoryview(one).cast("q") for one in columns))
 
     @property
     def _digest(self) -> str:

@@ -1,0 +1,97 @@
+"""The bindings beside each other: where each looks for property files, what it says where none has them, and its calls.
+
+`docs/c.md` lists the folders: each source has to have them in that order, and the same words for what to do. It lists the calls,
+too: each source has to declare those of its column, and none that the page leaves empty there.
+"""
+
+import re
+
+from checks.harness import TOP
+
+PAGE = TOP / "docs/c.md"
+SOURCES = {
+    "Python": "packages/python/src/lbk/_database.py",
+    "Rust": "packages/rust/src/find.rs",
+    "C++": "include/lbk.hpp",
+    "JavaScript": "packages/javascript/found.js",
+}
+# What stands in a source for a folder of the user.
+SIGNS = {"$XDG_DATA_HOME/unicode": "XDG_DATA_HOME", "~/.local/share/unicode": '.local/share"'}
+ADVICE = (
+    "found no files of Unicode 15.0.0; install the package unicode-data (Debian 12), unpack UCD.zip of "
+    "https://www.unicode.org/Public/15.0.0/ucd/ into ~/.local/share/unicode, or set UNICODE_DATA to a folder that has them. Looked for:"
+)
+# Where the calls of each column are declared, and how.
+CALLS = {
+    "C": (["include/lbk.h"], r"^\w+ {}\("),
+    "C++": (["include/lbk.hpp"], r"^class {0} |^using {0} = |^inline [\w:<> ]+ {0}\(|^    static const table &{0}\("),
+    "Rust": (["packages/rust/src"], r"^ *pub fn {0}\b|^pub struct {0} "),
+    "Python": (["packages/python/src/lbk/_table.py", "packages/python/src/lbk/_stream.py"], r"^    def {0}\(|^class {0}\b"),
+    "JavaScript": (["packages/javascript/lbk.d.ts", "packages/javascript/words.d.ts"], r"^  (?:static )?{0}\("),
+}
+# How a source joins the parts of its message, and how it names the version.
+JOINTS = [(r'"\s*\+?\s*f?"', ""), (r"\\\n\s*", ""), (r"\{version\}", "15.0.0"), (r'" LBK_UNICODE_VERSION "\.0', "15.0.0")]
+
+
+def listed(page):
+    """The folders of the page, in their order."""
+    section = re.search(r"^## A table without a name\n(.*?)^## ", page, re.S | re.M)[1]
+    return re.findall(r"^\d\. `([^`]*)`", section, re.M)
+
+
+def looked_into(source, folders):
+    """These folders in the order in which a source names each first. Those that it does not name are left out."""
+    code = "\n".join(line for line in source.split("\n") if not re.match(r"\s*(#|//|\*)", line))
+    places = {it: code.find(SIGNS.get(it, f'"{it}"')) for it in folders}
+    return sorted((it for it in folders if places[it] >= 0), key=places.get)
+
+
+def joined(source):
+    for pattern, by in JOINTS:
+        source = re.sub(pattern, by, source)
+    return source
+
+
+def text_of(paths):
+    """The sources that these are, or that are in these folders."""
+    files = [file for it in paths for file in (sorted((TOP / it).iterdir()) if (TOP / it).is_dir() else [TOP / it])]
+    return "\n".join(file.read_text(encoding="utf-8") for file in files)
+
+
+def rows_of(page):
+    """The rows of the table of calls: what a call gives, and its name in each language, "" where there is none."""
+    section = re.search(r"^## Which call each language has\n(.*?)^## ", page, re.S | re.M)[1]
+    head, _, *rows = [[it.strip(" `") for it in line.split("|")[1:-1]] for line in section.split("\n") if line.startswith("|")]
+    return [(row[0], dict(zip(head[1:], row[1:], strict=True))) for row in rows]
+
+
+def names_for(language, names):
+    """The names that a call with these names in other languages could have in this one."""
+    plain = {it.removeprefix("lbk_") for it in names if it}
+    if language == "C":
+        return {f"lbk_{it}" for it in plain}
+    return plain | {re.sub(r"_(\w)", lambda found: found[1].upper(), it) for it in plain} if language == "JavaScript" else plain
+
+
+def declared(names, language, source):
+    """Those of the names that a source in a language declares."""
+    return sorted(it for it in names if re.search(CALLS[language][1].format(re.escape(it)), source, re.M))
+
+
+def try_calls(tally, page):
+    sources = {language: text_of(paths) for language, (paths, _) in CALLS.items()}
+    for what, calls in rows_of(page):
+        for language, name in calls.items():
+            names = {name} if name else names_for(language, calls.values())
+            says = f"{language} has {what}: {name}" if name else f"{language} has no {what}"
+            tally.equal(says, declared(names, language, sources[language]), [name] if name else [])
+
+
+def run(tally, _arguments):
+    page = PAGE.read_text(encoding="utf-8")
+    folders = listed(page)
+    try_calls(tally, page)
+    for language, path in SOURCES.items():
+        source = (TOP / path).read_text(encoding="utf-8")
+        tally.equal(f"{language} looks into the folders of {PAGE.name}, in their order", looked_into(source, folders), folders)
+        tally.tell(f"{language} says the same where none has the files", None if ADVICE in joined(source) else f"not in {path}: {ADVICE}")

@@ -1,0 +1,10 @@
+/* All words of a text, as columns. */
+#ifndef LBK_PYTHON_WORDS_H
+#define LBK_PYTHON_WORDS_H
+
+#include "arguments.h"
+
+/* word_columns(text): bytearrays of where each word starts and of where it ends (8 bytes each). */
+PyObject *word_columns(PyObject *module, PyObject *text);
+
+#endif
