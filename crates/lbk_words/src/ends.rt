@@ -63,27 +63,33 @@ fn ends_from(text: &[u8], start: usize) -> PartEnds
     requires { start < length text.now }
     ensures { AreFound text.now start result }
 {
-    if text.len() - start < BLOCK || 0x80 <= text[start] || 0x80 <= text[start + 1] {
+    if text.len() < BLOCK
+        || text.len() - start < 2
+        || 0x80 <= text[start]
+        || 0x80 <= text[start + 1]
+    {
         return PartEnds::none();
     }
+    let base = start.min(text.len() - BLOCK);
     PartEnds {
-        base: start,
-        ends: ends_in(&text[start..]),
+        base,
+        ends: ends_in(&text[base..], start - base),
     }
 }
 
-/// Where parts end among the first 64 bytes, behind the first, at which one begins.
+/// Where parts end among the first 64 bytes, behind one at which one begins.
 #[inline(always)]
-fn ends_in(bytes: &[u8]) -> u64
-    requires { 64 ≤ length bytes.now }
-    ensures { (stop : ℕ) × AreEnds bytes.now 0 stop result }
+fn ends_in(bytes: &[u8], first: usize) -> u64
+    requires { (64 ≤ length bytes.now) × (first < 63) }
+    ensures { (stop : ℕ) × AreEnds bytes.now first stop result }
 {
     let marks = marks_of(bytes);
-    let before = marks.runs << 1;
-    let others = (marks.runs & !before) & !marks.begins;
-    let stop = first_set(marks.stops | others);
-    let inside = (before & marks.runs) | pairs_in(bytes);
-    kept_from(kept_below(!inside, stop), 1)
+    let runs = kept_from(marks.runs, first);
+    let before = runs << 1;
+    let others = (runs & !before) & !marks.begins;
+    let stop = first_set(kept_from(marks.stops, first) | others);
+    let inside = (before & runs) | pairs_in(bytes);
+    kept_from(kept_below(!inside, stop), first + 1)
 }
 
 /// Which of the first 64 bytes are the second of a pair that is one part.

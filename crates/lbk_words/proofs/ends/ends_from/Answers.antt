@@ -6,13 +6,12 @@ use Rattle.lbk_words.proofs.ends.ends_from.Goals as goal
 pub returns : goal.returns
 returns c = λ some.
     let text = c.args.text.now in
-    let start = c.args.start in
+    let base = c.min-base.result in
     let found = c.ends_in.ensures in
     let few = found.1.few in
     record {
       after = omega arith;
       stop = found.0;
       within = omega arith;
-      ends = subst (λ n. AreEnds (drop start text) n found.0 c.ends_in.result) (let e : 0 ≡ start - start = omega arith in e)
-          (subst (λ l. AreEnds l 0 found.0 c.ends_in.result) (rest-of text start) found.1);
+      ends = subst (λ l. AreEnds l (c.args.start - base) found.0 c.ends_in.result) (rest-of text base) found.1;
     }
