@@ -1,7 +1,7 @@
-"""The program by its words over the tables of crates/test_support: worked texts, test files, ranges, and what refuses a run.
+"""The program by its words over the tables of crates/test_support: texts, test files, ranges, and what refuses a run.
 
-The property files are the samples in crates/lbk_ucd/src/samples.rt. Reads are cut by a socket of packets, and fail where that is
-not ready; an output is full where the system bounds the size of its file. It needs no files but its own.
+The property files are the samples in crates/lbk_ucd/src/samples.rt. Reads are cut by a socket of packets, and fail
+where that is not ready; an output is full where the system bounds the size of its file. It needs no files but its own.
 """
 
 import ast
@@ -20,9 +20,13 @@ IN_FAULT = f"lbk: standard input: cannot be read: {NOT_READY}\n"
 OUT_FAULT = "lbk: standard output: cannot be written: file too large\n"
 ILL_FORMED = "lbk: {}: byte {}: invalid UTF-8\n"
 MISSING = "lbk: {}: cannot be read: no such file\n"
-TOO_LONG = "lbk: standard input: byte {}: the paragraph from here on has more than {} bytes; --limit raises the limit, up to {}\n"
+TOO_LONG = (
+    "lbk: standard input: byte {}: the paragraph from here on has more than {} bytes; "
+    "--limit raises the limit, up to {}\n"
+)
 CHANGED = (
-    "lbk: U/{0}: the file was changed or cut: it is not {0} as Unicode 15.0.0 published it; get it anew, or name a file of your own by {1}\n"
+    "lbk: U/{0}: the file was changed or cut: it is not {0} as Unicode 15.0.0 published it; "
+    "get it anew, or name a file of your own by {1}\n"
 )
 TITLE = "lbk: U/LineBreak.txt: this is not LineBreak.txt as Unicode 15.0 published it\n"
 NO_VALUE = "no value of the property has this name; lbk knows the names up to Unicode 15.0"
@@ -74,8 +78,8 @@ TEXTS = {
     "lines": b"a b\ncd\ne\n\xff",
     "tests": b"\xc3\x97 0061 \xc3\xb7 0062 \xc3\xb7\n",
 }
-# Words, a text in packets of these sizes (the last one's for all that follow, and none: one packet), whether the read after
-# them fails, what is written, and what is told.
+# Words, a text in packets of these sizes (the last one's for all that follow, and none: one packet), whether the read
+# after them fails, what is written, and what is told.
 CUT = [
     *[
         (words, given, sizes, False, out, err)
@@ -86,7 +90,12 @@ CUT = [
             ("segment --limit 1", b"\n\xe2\x80\x99", "P 0 1\nS 0 1 Must 5\n", too_long(1, 1)),
             ("show", b"a\xe2\x82", "", ILL_FORMED.format("standard input", 1)),
             ("show --profile 2", b"a\nb\xff", "× 0061 × 000A !\t# 2 6 5\n", ILL_FORMED.format("standard input", 3)),
-            ("segment --profile 2", b"a\nb\xff", "P 0 2\nS 0 2 Must 5\nW 0 1\n", ILL_FORMED.format("standard input", 3)),
+            (
+                "segment --profile 2",
+                b"a\nb\xff",
+                "P 0 2\nS 0 2 Must 5\nW 0 1\n",
+                ILL_FORMED.format("standard input", 3),
+            ),
             ("segment", b"a\n\xff", "", ILL_FORMED.format("standard input", 2)),
         )
         for sizes in ([1], [2], [])
@@ -110,14 +119,28 @@ FULL = [
     ("replay", "× 0061 × 0062 ÷\n× 0061 ÷ 0062 ÷\n× D800 ÷\n", OUT_FAULT, b"D 2 1"),
 ]
 # Words behind the files that no command line has, and words without files.
-WRONG = [
-    *["show --limit 0", "show --limit 16777217", "show --limit many", "show --profile 3", "show --kinds"],
-    *["segment --limit 0", "segment --limit 16777217", "segment --profile 0", "segment --kinds", "segment --line-break L"],
-    *["segment --from 2 --to 1", "mark --to 4294967296", "replay --from 1", "replay --limit 4", "replay --profile 3"],
-    *["replay --profile first", "replay --bogus"],
-]
+WRONG = """
+show --limit 0
+show --limit 16777217
+show --limit many
+show --profile 3
+show --kinds
+segment --limit 0
+segment --limit 16777217
+segment --profile 0
+segment --kinds
+segment --line-break L
+segment --from 2 --to 1
+mark --to 4294967296
+replay --from 1
+replay --limit 4
+replay --profile 3
+replay --profile first
+replay --bogus
+""".strip().splitlines()
 WRONG_ALONE = [["bogus"], ["show"], ["--limit", "4"], ["mark", "--ucd", ""], ["mark", "--ucd", "", "--line-break", "L"]]
-# A folder of files that name their version and are none of Unicode's, and a file that claims nothing, where a space is a letter.
+# A folder of files that name their version and are none of Unicode's, and a file that claims nothing, where a space is
+# a letter.
 FOLDER = {
     "LineBreak.txt": b"# LineBreak-15.0.0.txt\n0020;SP\n0061..007A;AL\n# EOF\n",
     "EastAsianWidth.txt": b"# EastAsianWidth-15.0.0.txt\n# EOF\n",
@@ -187,16 +210,17 @@ def test_files(place):
     ):
         for text, out, counts in files:
             status = 3 if counts[2] or counts[3] else 0
-            place.row(f"replay {options}: {text!r}", words_with(f"replay {options}"), text.encode(), status, out.encode())
+            words = f"replay {options}".strip()
+            place.row(f"{words}: {text!r}", words_with(words), text.encode(), status, out.encode())
 
 
 def rows(place):
-    for task, more, given, out, err, status in ROWS:
-        place.row(f"{task} {more}: {given!r}", words_with(f"{task} {more}"), given.encode(), status, out.encode(), err.encode())
     for name, text in TEXTS.items():
         place.write(name, text)
-    for task, more, out, err, status in OPERANDS:
-        place.row(f"{task} {more}", words_with(f"{task} {more}"), b"ef", status, out.encode(), err.encode())
+    operands = [(task, more, "ef", *ended) for task, more, *ended in OPERANDS]
+    for task, more, given, out, err, status in [*ROWS, *operands]:
+        words = f"{task} {more}".strip()
+        place.row(f"{words}: {given!r}", words_with(words), given.encode(), status, out.encode(), err.encode())
 
 
 def packets(given, sizes):
@@ -218,7 +242,8 @@ def cut_reads(place):
             theirs.setblocking(not fails)
             if not fails:
                 ours.shutdown(socket.SHUT_WR)
-            ran = subprocess.run([place.program, *words_with(words)], stdin=theirs, capture_output=True, cwd=place.folder, check=False)
+            command = [place.program, *words_with(words)]
+            ran = subprocess.run(command, stdin=theirs, capture_output=True, cwd=place.folder, check=False)
         got = (ran.stdout.decode(), ran.stderr.decode(), ran.returncode)
         place.tally.equal(f"{words}: {given!r} in reads of {sizes or 'all'}", got, (out, err, 1 if err else 0))
 
@@ -238,14 +263,16 @@ def full_outputs(place):
                 preexec_fn=lambda: resource.setrlimit(resource.RLIMIT_FSIZE, (5, resource.RLIM_INFINITY)),
             )
             file.seek(0)
-            place.tally.equal(f"{words}: a file of five bytes", (file.read(), ran.stderr.decode(), ran.returncode), (out, err, 1))
+            got = (file.read(), ran.stderr.decode(), ran.returncode)
+            place.tally.equal(f"{words or 'no words'}: a file of five bytes", got, (out, err, 1))
 
 
-def refused(place, what, words, out=b""):
+def refused(place, what, words):
     """Words that are refused: nothing is written, and standard error tells of it."""
     ran = subprocess.run([place.program, *words], input=b"ab", capture_output=True, cwd=place.folder, check=False)
-    told = ran.returncode == 2 and ran.stdout == out and ran.stderr.startswith(b"lbk: ")
-    place.tally.tell(what, None if told else f"status {ran.returncode}; {shown(ran.stdout)}; standard error: {shown(ran.stderr)}")
+    told = ran.returncode == 2 and ran.stdout == b"" and ran.stderr.startswith(b"lbk: ")
+    fault = f"status {ran.returncode}; {shown(ran.stdout)}; standard error: {shown(ran.stderr)}"
+    place.tally.tell(what, None if told else fault)
 
 
 def wrong_words(place):
@@ -275,9 +302,10 @@ def folders(place):
         path.parent.mkdir(parents=True, exist_ok=True)
         place.write(f"U/{name}", text)
     place.write("N", NO_SPACES)
-    # A file that an option names may be any; the next of the folder has to be the published one. Of no file: all four by options.
+    # A file that an option names may be any; the next of the folder has to be the published one.
     err = CHANGED.format("EastAsianWidth.txt", "--east-asian").encode()
     place.row("a file beside a folder", ["mark", "--line-break", "N", "--ucd", "U"], b"ab cd", 1, b"", err)
+    # All four by options: nothing of the folder is looked at.
     names = ("N", *[f"U/{it}" for it in FOLDER][1:])
     place.row("four files beside a folder", words_of("mark", names, ["--ucd", "U"]), b"ab cd", 0, b"ab cd\n")
     for what, text, err in LINE_BREAKS:

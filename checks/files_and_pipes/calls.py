@@ -32,10 +32,11 @@ def run(place):
         _, read_without, _, _ = counted_calls(place, words)
         place.write("text", text)
         ended, read, wrote, written = counted_calls(place, words)
-        # Of the text at least a thousand bytes a read, and one read for the end; of a file eight thousand, and some reads to start.
+        # Of the text at least a thousand bytes a read, and one read for the end; of a file eight thousand, and some reads to
+        # start.
         reads = read - read_without + 1
         few = reads <= len(text) // 1000 + 2 and read_without <= length // 8000 + 50
-        # One write for each read and for each block of lines that waits for one, or one for each line and one at the end.
+        # One write for each read and each block of lines that waits for one, or one for each line and one at the end.
         most = reads + written // 65_536
         few = few and (wrote == lines + 1 if task == "replay" else wrote <= most)
         fault = f"status {ended}, {reads} reads of the text, {read_without} without it, and {wrote} writes"

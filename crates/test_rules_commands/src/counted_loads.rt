@@ -1,21 +1,13 @@
 //! How often a run over files in memory loads a property file, which a contract bounds by four, and what it makes of operands
 //! where no files of text are given.
 
-use lbk_cmd::{Ending, MemoryStore, Store, run};
+use lbk_cmd::{Ending, MemoryStore, SAMPLE_FILES, Store, run};
 use lbk_feed::devices::{MemorySink, MemorySource};
-use lbk_ucd::{SAMPLE_CATEGORY, SAMPLE_EAST_ASIAN, SAMPLE_EMOJI, SAMPLE_LINE_BREAK};
 use std::alloc::{AllocError, Global};
 use std::test::Fail;
 use test_support::checks::same;
 
-/// The sample files, and one with a bad row.
-const FILES: [(&str, &[u8]); 5] = [
-    ("L", SAMPLE_LINE_BREAK),
-    ("E", SAMPLE_EAST_ASIAN),
-    ("C", SAMPLE_CATEGORY),
-    ("M", SAMPLE_EMOJI),
-    ("B", b"0061;AK\n"),
-];
+const BAD_ROW: &[u8] = b"0061;AK\n";
 
 /// The subcommand, the first two files, the words behind them, what is written of `ab cd`, the status, whether texts were
 /// reported, and how many files were loaded.
@@ -50,7 +42,7 @@ static ROWS: [Row; 8] = [
     ),
 ];
 
-/// Words that need no file, and the status.
+/// Words that need no file, and what is written.
 static NO_FILES: [(&[&str], &str); 2] = [
     (
         &[],
@@ -59,19 +51,24 @@ static NO_FILES: [(&[&str], &str); 2] = [
     (&["show", "--help"], ""),
 ];
 
-/// How a run over `ab cd` ends, what it writes, and how many files it loads. It promises nothing, so that the tests see nothing
-/// of what `run` promises.
-fn ran(alloc: Global, words: &[&'static str]) -> Result<(Ending, MemorySink, u64), AllocError> {
-    let mut store = MemoryStore::new(FILES.as_slice());
-    let mut writer = MemorySink::new(alloc, 64)?;
-    let ending = run(
-        alloc,
-        words,
-        &mut store,
-        &mut MemorySource::new(b"ab cd"),
-        &mut writer,
-    );
-    Ok((ending, writer, store.loads()))
+/// How a run over the sample files and a bad file `B` ends, and how often it loaded a file. It promises nothing, so that the tests
+/// see nothing of what `run` promises.
+fn ended(
+    alloc: Global,
+    words: &[&'static str],
+    reader: &mut MemorySource<'_>,
+    writer: &mut MemorySink,
+) -> (Ending, u64) {
+    let files = [
+        ("L", SAMPLE_FILES.line_break),
+        ("E", SAMPLE_FILES.east_asian),
+        ("C", SAMPLE_FILES.category),
+        ("M", SAMPLE_FILES.emoji),
+        ("B", BAD_ROW),
+    ];
+    let mut store = MemoryStore::new(files.as_slice());
+    let ending = run(alloc, words, &mut store, reader, writer);
+    (ending, store.loads())
 }
 
 fn check(
@@ -80,7 +77,9 @@ fn check(
     text: &str,
     want: (u8, bool, u64),
 ) -> Result<(), Fail> {
-    let (ending, writer, loads) = ran(alloc, words)?;
+    let mut writer = MemorySink::new(alloc, 64)?;
+    let mut reader = MemorySource::new(b"ab cd");
+    let (ending, loads) = ended(alloc, words, &mut reader, &mut writer);
     let reported = matches!(ending, Ending::Reported);
     same(&writer.bytes(), &text.as_bytes(), &words)?;
     same(&(ending.status(), reported, loads), &want, &words)
