@@ -11,6 +11,7 @@ from checks.harness import ALL_RIGHT, FAILED, USAGE, CannotRun, Tally
 NAMES = [
     "verdicts",
     "stored-runs",
+    "worked-rows",
     "first-look",
     "published-files",
     "shown-commands",

@@ -18,24 +18,30 @@ def run(place):
     place.write("long", long_file(LINE_BREAK, b"", length))
     shown, replayed = b"ab cd\n" * lines, "× 0061 ÷ 0062 ÷\n".encode() * lines
     ranged = ["--from", "1", "--to", str(len(shown) - 1)]
-    # A block of text is one read, and what is written of it at most two writes.
-    few = range(1, 2 * (len(shown) // 4096 + 2))
-    for task, more, text, status, writes in (
-        ("mark", [], shown, 0, few),
-        ("show", [], shown, 0, few),
-        ("segment", [], shown, 0, few),
-        ("mark", ranged, shown, 0, few),
-        ("show", ranged, shown, 0, few),
-        ("segment", ranged, shown, 0, few),
-        ("replay", [], replayed, 3, [lines + 1]),
+    for task, more, text, status in (
+        ("mark", [], shown, 0),
+        ("show", [], shown, 0),
+        ("segment", [], shown, 0),
+        ("mark", ranged, shown, 0),
+        ("show", ranged, shown, 0),
+        ("segment", ranged, shown, 0),
+        ("replay", [], replayed, 3),
     ):
+        words = words_of(task, ("long", "E", "C", "M"), more)
+        place.write("text", b"")
+        _, read_without, _, _ = counted_calls(place, words)
         place.write("text", text)
-        # At least a thousand bytes of text a read, and eight thousand of a file, and some reads to start and to meet the ends.
-        most = len(text) // 1000 + length // 8000 + 50
-        ended, read, wrote = counted_calls(place, words_of(task, ("long", "E", "C", "M"), more))
-        fault = f"status {ended}, {read} reads, at most {most}, and {wrote} writes, at most {max(writes)}"
+        ended, read, wrote, written = counted_calls(place, words)
+        # Of the text at least a thousand bytes a read, and one read for the end; of a file eight thousand, and some reads to
+        # start.
+        reads = read - read_without + 1
+        few = reads <= len(text) // 1000 + 2 and read_without <= length // 8000 + 50
+        # One write for each read and each block of lines that waits for one, or one for each line and one at the end.
+        most = reads + written // 65_536
+        few = few and (wrote == lines + 1 if task == "replay" else wrote <= most)
+        fault = f"status {ended}, {reads} reads of the text, {read_without} without it, and {wrote} writes"
         what = f"{task} of a range" if more else task
-        place.tally.tell(f"{what}: calls", None if ended == status and read <= most and wrote in writes else fault)
+        place.tally.tell(f"{what}: calls", None if ended == status and few else fault)
     each_size(place)
 
 
@@ -44,7 +50,7 @@ def each_size(place):
     for task, most in (("mark", 8_200), ("segment", 8_200), ("show", 700)):
         text = b"".join(b"a" * size + b"\n" for size in range(most))
         place.write("text", text)
-        ended, _, wrote = counted_calls(place, words_of(task))
+        ended, _, wrote, _ = counted_calls(place, words_of(task))
         fault = None if ended == 0 and wrote <= most else f"status {ended}, and {wrote} writes, more than {most}"
         place.tally.tell(f"{task}: paragraphs of each size up to {most} bytes, at most one write each", fault)
         if task == "mark":
@@ -52,10 +58,10 @@ def each_size(place):
 
 
 def counted_calls(place, words):
-    """The status of a run over the file text, and how often the system was asked to read and to write."""
+    """The status of a run over the file text, how often the system was asked to read and to write, and how many bytes were written."""
     with open(place.folder / "text", "rb") as text:
         program = subprocess.Popen([place.program, *words], stdin=text, stdout=subprocess.DEVNULL, cwd=place.folder)
         # What was counted is kept until the run is waited for.
         os.waitid(os.P_PID, program.pid, os.WEXITED | os.WNOWAIT)
         told_calls = dict(line.split(": ") for line in Path(f"/proc/{program.pid}/io").read_text().splitlines())
-        return program.wait(), int(told_calls["syscr"]), int(told_calls["syscw"])
+        return program.wait(), *(int(told_calls[it]) for it in ("syscr", "syscw", "wchar"))

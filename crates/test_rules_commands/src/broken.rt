@@ -50,19 +50,7 @@ fn without_rules(alloc: Global, lines: &str) -> Result<Vec<u8>, AllocError> {
     Ok(text)
 }
 
-/// Compares what was read back with the lines of `show`.
-fn check_lines(
-    alloc: Global,
-    found: &[TestLine],
-    lines: &str,
-    of: &(&str, usize),
-) -> Result<(), Fail> {
-    let found = written(alloc, found)?;
-    let want = without_rules(alloc, lines)?;
-    same(&found.as_slice(), &want.as_slice(), of)
-}
-
-/// Checks a text in reads of `size` bytes.
+/// Checks a text in reads of `size` bytes: what is read back is what `show` writes.
 fn check(
     alloc: Global,
     text: &str,
@@ -73,7 +61,9 @@ fn check(
     let sizes = [size];
     let mut source = MemorySource::cut(text.as_bytes(), &sizes);
     let found = broken(alloc, SAMPLE_FILES, &mut source, LIMIT, profile)?;
-    check_lines(alloc, &found, lines, &(text, size))
+    let found = written(alloc, &found)?;
+    let want = without_rules(alloc, lines)?;
+    same(&found.as_slice(), &want.as_slice(), &(text, size))
 }
 
 /// Checks rows in a profile, in reads of `size` bytes.
@@ -98,43 +88,48 @@ fn texts(rt: HostRuntime) -> Result<(), Fail> {
     check_rows(alloc, &SECOND, Profile::Second, 1)
 }
 
-/// Checks that a text is refused by the sample files, and why.
-fn refuses(
-    alloc: Global,
-    source: &mut MemorySource<'_>,
-    limit: u32,
-    want: PassageFault,
-) -> Result<(), Fail> {
-    let fault = broken(alloc, SAMPLE_FILES, source, limit, Profile::First).err();
-    let want = BreakFault::Text(CmdFault::Passage(want));
-    same(&fault, &Some(want), &limit)
-}
+/// A text, the limit of a paragraph, the read of one byte that fails, if one does, and why the text is refused.
+type Refused = (&'static [u8], u32, Option<u64>, PassageFault);
 
-static REFUSED: [(&[u8], u32, PassageFault); 4] = [
-    (b"a\nb\xFF", LIMIT, PassageFault::NotUtf8 { at: 3 }),
-    (b"ab", 0, PassageFault::Limit),
-    (b"ab", 16_777_217, PassageFault::Limit),
-    (b"\nab", 1, PassageFault::ParagraphTooLong { start: 1 }),
+static REFUSED: [Refused; 9] = [
+    (b"a\nb\xFF", LIMIT, None, PassageFault::NotUtf8 { at: 3 }),
+    (b"ab", 0, None, PassageFault::Limit),
+    (b"ab", 16_777_217, None, PassageFault::Limit),
+    (
+        b"\nab",
+        1,
+        None,
+        PassageFault::ParagraphTooLong { start: 1 },
+    ),
+    (b"a\r\nb", LIMIT, Some(0), PassageFault::Read),
+    (b"a\r\nb", LIMIT, Some(1), PassageFault::Read),
+    (b"a\r\nb", LIMIT, Some(2), PassageFault::Read),
+    (b"a\r\nb", LIMIT, Some(3), PassageFault::Read),
+    (b"a\r\nb", LIMIT, Some(4), PassageFault::Read),
 ];
 
-fn check_refused(alloc: Global) -> Result<(), Fail> {
-    for (text, limit, want) in &REFUSED {
-        refuses(alloc, &mut MemorySource::cut(text, &[]), *limit, *want)?;
+/// In reads of one byte where one fails, and else in one.
+fn source_of(text: &'static [u8], failing: Option<u64>) -> MemorySource<'static> {
+    match failing {
+        Some(read) => MemorySource::cut(text, &[1]).failing_at(read),
+        None => MemorySource::cut(text, &[]),
     }
-    Ok(())
-}
-
-fn check_failed_read(alloc: Global, read: u64) -> Result<(), Fail> {
-    let mut source = MemorySource::cut(b"a\r\nb", &[1]).failing_at(read);
-    refuses(alloc, &mut source, LIMIT, PassageFault::Read)
 }
 
 #[test]
 fn refused_texts(rt: HostRuntime) -> Result<(), Fail> {
-    let alloc = rt.alloc();
-    check_refused(alloc)?;
-    for read in 0..5 {
-        check_failed_read(alloc, read)?;
+    for (text, limit, failing, want) in &REFUSED {
+        let mut source = source_of(text, *failing);
+        let fault = broken(
+            rt.alloc(),
+            SAMPLE_FILES,
+            &mut source,
+            *limit,
+            Profile::First,
+        )
+        .err();
+        let want = BreakFault::Text(CmdFault::Passage(*want));
+        same(&fault, &Some(want), limit)?;
     }
     Ok(())
 }

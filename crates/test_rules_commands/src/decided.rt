@@ -17,27 +17,45 @@ use test_support::texts::{FIRST, SECOND, STEPS};
 /// A text, and what is said of it.
 type Row = (&'static str, &'static str);
 
-/// Adds a label, after a space unless it is the first.
-fn push_label(labels: &mut String, rule: Rule) -> Result<(), AllocError> {
-    if !labels.is_empty() {
-        labels.push(' ')?;
+/// What both profiles say of the kinds and rules of a text, but for the position before its quotation mark.
+const KINDS: [Row; 2] = [
+    ("a \u{2019}\u{301},", "×2 ×7 ÷18 ×9 ×13 !3"),
+    ("a \u{2019}\u{301},", "×2 ×7 ×15b ×9 ×13 !3"),
+];
+
+/// The labels of verdicts, each after the sign of its kind where a row begins with one.
+fn told(alloc: Global, verdicts: &[Verdict], signs: bool) -> Result<String, AllocError> {
+    let mut told = String::new(alloc);
+    for verdict in verdicts {
+        if !told.is_empty() {
+            told.push(' ')?;
+        }
+        if signs {
+            told.push(sign(verdict.kind))?;
+        }
+        told.push_str(verdict.rule.label())?;
     }
-    labels.push_str(rule.label())
+    Ok(told)
 }
 
-/// Compares the labels of verdicts with those of a row.
-fn check_labels(
+fn sign(kind: Kind) -> char {
+    match kind {
+        Kind::No => '×',
+        Kind::May => '÷',
+        Kind::Must => '!',
+    }
+}
+
+/// Compares verdicts with those of a row.
+fn check_told(
     rt: &impl Abort,
     alloc: Global,
     verdicts: &[Verdict],
     by: &str,
     (text, want): Row,
 ) -> Result<(), AllocError> {
-    let mut labels = String::new(alloc);
-    for verdict in verdicts {
-        push_label(&mut labels, verdict.rule)?;
-    }
-    same(rt, labels.as_str(), want, by, text);
+    let found = told(alloc, verdicts, want.starts_with('×'))?;
+    same(rt, found.as_str(), want, by, text);
     Ok(())
 }
 
@@ -89,7 +107,8 @@ fn by_late_machine(
     Ok(verdicts)
 }
 
-/// Compares the labels of the positions of some cells with those of their row.
+/// Compares the verdicts of the positions of some cells with those of their row. The plain evaluator and its machine know only
+/// the first profile.
 fn check_cells(
     rt: &impl Abort,
     alloc: Global,
@@ -98,22 +117,16 @@ fn check_cells(
     row: Row,
 ) -> Result<(), AllocError> {
     let verdicts = by_evaluator(rt, alloc, profile, cells)?;
-    check_labels(rt, alloc, &verdicts, "the evaluator", row)?;
+    check_told(rt, alloc, &verdicts, "the evaluator", row)?;
     let verdicts = by_late_machine(rt, alloc, profile, cells)?;
-    check_labels(rt, alloc, &verdicts, "the late machine", row)
-}
-
-/// The same for the plain evaluator and its machine, which know only the first profile.
-fn check_cells_first(
-    rt: &impl Abort,
-    alloc: Global,
-    cells: &[Cell],
-    row: Row,
-) -> Result<(), AllocError> {
-    let verdicts = by_plain_evaluator(rt, alloc, cells)?;
-    check_labels(rt, alloc, &verdicts, "the plain evaluator", row)?;
-    let verdicts = by_machine(alloc, cells)?;
-    check_labels(rt, alloc, &verdicts, "the machine", row)
+    check_told(rt, alloc, &verdicts, "the late machine", row)?;
+    if profile == Profile::First {
+        let verdicts = by_plain_evaluator(rt, alloc, cells)?;
+        check_told(rt, alloc, &verdicts, "the plain evaluator", row)?;
+        let verdicts = by_machine(alloc, cells)?;
+        check_told(rt, alloc, &verdicts, "the machine", row)?;
+    }
+    Ok(())
 }
 
 /// What each step of the late machine returns, in the notation of `STEPS`.
@@ -129,6 +142,7 @@ fn steps_of(
         let taken = machine.steps();
         push_step(&mut steps, late_step(rt, &mut machine, taken, *cell))?;
     }
+    assert!(rt; machine.steps() == cells.len() as u64);
     push_end(&mut steps, machine.finish())?;
     Ok(steps)
 }
@@ -171,7 +185,7 @@ fn push_late(steps: &mut String, late: Option<(u64, Verdict)>) -> Result<(), All
     Ok(())
 }
 
-/// Compares the labels of the positions of each text, and what is returned at each, with those of its row.
+/// Compares the verdicts of the positions of each text with those of its row.
 fn check<C: CellSource>(
     rt: &impl Abort,
     alloc: Global,
@@ -182,20 +196,6 @@ fn check<C: CellSource>(
     for row in rows {
         let cells = cells_of(alloc, source, row.0)?;
         check_cells(rt, alloc, profile, &cells, *row)?;
-    }
-    Ok(())
-}
-
-/// The same for what knows only the first profile.
-fn check_first<C: CellSource>(
-    rt: &impl Abort,
-    alloc: Global,
-    source: &C,
-    rows: &[Row],
-) -> Result<(), AllocError> {
-    for row in rows {
-        let cells = cells_of(alloc, source, row.0)?;
-        check_cells_first(rt, alloc, &cells, *row)?;
     }
     Ok(())
 }
@@ -225,7 +225,8 @@ fn check_source<C: CellSource>(
 ) -> Result<(), AllocError> {
     check(rt, alloc, source, Profile::First, &FIRST)?;
     check(rt, alloc, source, Profile::Second, &SECOND)?;
-    check_first(rt, alloc, source, &FIRST)?;
+    check(rt, alloc, source, Profile::First, &KINDS[..1])?;
+    check(rt, alloc, source, Profile::Second, &KINDS[1..])?;
     check_steps(rt, alloc, source, Profile::First, &FIRST)?;
     check_steps(rt, alloc, source, Profile::Second, &STEPS)
 }
@@ -271,25 +272,17 @@ fn check_class(rt: &impl Abort, pages: &CellPages, c: char, class: Class) {
     assert_eq!(rt; cell_of(pages, c).class, class, "{c:?}");
 }
 
+// The edges of rows, and a default of all scalars.
 #[test]
-fn edges_of_rows(rt: HostRuntime) -> Result<(), Fail> {
+fn classes_of_files(rt: HostRuntime) -> Result<(), Fail> {
     let pages = pages_by(rt.alloc(), line_break_alone(EDGES_FILE))?;
     for (c, class) in &EDGES {
         check_class(&rt, &pages, *c, *class);
     }
-    Ok(())
-}
-
-#[test]
-fn default_of_all(rt: HostRuntime) -> Result<(), Fail> {
     let file = line_break_alone(b"# @missing: 0000..10FFFF; CB");
-    check_all(&rt, &pages_by(rt.alloc(), file)?, Class::ContingentBreak);
-    Ok(())
-}
-
-/// All scalars are of this class.
-fn check_all(rt: &impl Abort, pages: &CellPages, class: Class) {
+    let pages = pages_by(rt.alloc(), file)?;
     for c in '\0'..=char::MAX {
-        check_class(rt, pages, c, class);
+        check_class(&rt, &pages, c, Class::ContingentBreak);
     }
+    Ok(())
 }

@@ -1,7 +1,8 @@
-//! The laws over what the program writes can be called.
+//! The laws over the program's words and over what it writes can be called.
 
 #[test]
 fn laws_of_the_program() {
+    lbk_args::laws::accepted_words_ask_for_a_task();
     lbk_cmd::laws::shown_lines();
     lbk_cmd::laws::headline();
     lbk_cmd::laws::joined_ranges();

@@ -15,15 +15,13 @@ mod by_rows;
 #[cfg(test)]
 mod calls;
 #[cfg(test)]
-mod command_rows;
+mod claims;
 #[cfg(test)]
-mod commands;
+mod counted_loads;
 #[cfg(test)]
 mod decided;
 #[cfg(test)]
 mod deciding;
-#[cfg(test)]
-mod device_calls;
 #[cfg(test)]
 mod engine_laws;
 #[cfg(test)]
@@ -31,15 +29,11 @@ mod faults_told;
 #[cfg(test)]
 mod first_bytes;
 #[cfg(test)]
-mod folder;
-#[cfg(test)]
 mod guide;
 #[cfg(test)]
 mod laws;
 #[cfg(test)]
 mod looking_ahead;
-#[cfg(test)]
-mod operands;
 #[cfg(test)]
 mod owned_passages;
 #[cfg(test)]

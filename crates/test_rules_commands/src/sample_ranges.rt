@@ -148,77 +148,45 @@ fn value_at<T: Copy>(ranges: &[(u32, u32, T)], code: u32) -> Option<T> {
     None
 }
 
-/// The first and the last code of a range, and the code on either side.
-fn around(first: u32, last: u32) -> [u32; 4] {
-    [
-        first.saturating_sub(1),
-        first.min(LAST_CODE),
-        last.min(LAST_CODE),
-        last.saturating_add(1).min(LAST_CODE),
-    ]
+/// Adds the first and the last code of each of these ranges, and the code on either side.
+fn push_codes<T: Copy>(codes: &mut Vec<u32>, ranges: &[(u32, u32, T)]) -> Result<(), AllocError> {
+    for (first, last, _) in ranges {
+        codes.extend_from_slice(&[
+            first.saturating_sub(1),
+            (*first).min(LAST_CODE),
+            (*last).min(LAST_CODE),
+            last.saturating_add(1).min(LAST_CODE),
+        ])?;
+    }
+    Ok(())
 }
 
-/// The codes around each of these ranges.
-fn codes<T: Copy>(alloc: Global, ranges: &[(u32, u32, T)]) -> Result<Vec<u32>, AllocError> {
+/// The codes around all ranges.
+fn codes(alloc: Global) -> Result<Vec<u32>, AllocError> {
     let mut codes = Vec::new(alloc);
-    for (first, last, _) in ranges {
-        codes.extend_from_slice(&around(*first, *last))?;
-    }
+    push_codes(&mut codes, LINE_BREAKS)?;
+    push_codes(&mut codes, WIDTHS)?;
+    push_codes(&mut codes, CATEGORIES)?;
+    push_codes(&mut codes, PICTOGRAPHS)?;
     Ok(codes)
 }
 
-fn check_line_break(rt: &impl Abort, tables: &Tables, code: u32) {
+fn check(rt: &impl Abort, tables: &Tables, code: u32) {
     let value = line_break_of(rt, tables, code);
     same_at(rt, Some(value), value_at(LINE_BREAKS, code), code);
-}
-
-#[test]
-fn line_breaks(rt: HostRuntime) -> Result<(), Fail> {
-    let tables = tables_of(rt.alloc(), SAMPLES)?;
-    for code in &codes(rt.alloc(), LINE_BREAKS)? {
-        check_line_break(&rt, &tables, *code);
-    }
-    Ok(())
-}
-
-fn check_width(rt: &impl Abort, tables: &Tables, code: u32) {
     let value = east_asian_of(rt, tables, code);
     same_at(rt, Some(value), value_at(WIDTHS, code), code);
-}
-
-#[test]
-fn widths(rt: HostRuntime) -> Result<(), Fail> {
-    let tables = tables_of(rt.alloc(), SAMPLES)?;
-    for code in &codes(rt.alloc(), WIDTHS)? {
-        check_width(&rt, &tables, *code);
-    }
-    Ok(())
-}
-
-fn check_category(rt: &impl Abort, tables: &Tables, code: u32) {
     let value = category_of(rt, tables, code);
     same_at(rt, Some(value), value_at(CATEGORIES, code), code);
-}
-
-#[test]
-fn categories(rt: HostRuntime) -> Result<(), Fail> {
-    let tables = tables_of(rt.alloc(), SAMPLES)?;
-    for code in &codes(rt.alloc(), CATEGORIES)? {
-        check_category(&rt, &tables, *code);
-    }
-    Ok(())
-}
-
-fn check_pictograph(rt: &impl Abort, tables: &Tables, code: u32) {
     let value = is_pictographic(rt, tables, code);
     same_at(rt, Some(value), value_at(PICTOGRAPHS, code), code);
 }
 
 #[test]
-fn pictographs(rt: HostRuntime) -> Result<(), Fail> {
+fn sample_ranges(rt: HostRuntime) -> Result<(), Fail> {
     let tables = tables_of(rt.alloc(), SAMPLES)?;
-    for code in &codes(rt.alloc(), PICTOGRAPHS)? {
-        check_pictograph(&rt, &tables, *code);
+    for code in &codes(rt.alloc())? {
+        check(&rt, &tables, *code);
     }
     Ok(())
 }

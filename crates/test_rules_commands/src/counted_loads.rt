@@ -1,0 +1,106 @@
+//! How often a run over files in memory loads a property file, which a contract bounds by four, and what it makes of operands
+//! where no files of text are given.
+
+use lbk_cmd::{Ending, MemoryStore, SAMPLE_FILES, Store, run};
+use lbk_feed::devices::{MemorySink, MemorySource};
+use std::alloc::{AllocError, Global};
+use std::test::Fail;
+use test_support::checks::same;
+
+const BAD_ROW: &[u8] = b"0061;AK\n";
+
+/// The subcommand, the first two files, the words behind them, what is written of `ab cd`, the status, whether texts were
+/// reported, and how many files were loaded.
+type Row = (
+    &'static str,
+    [&'static str; 2],
+    &'static [&'static str],
+    &'static str,
+    u8,
+    bool,
+    u64,
+);
+
+// No file is loaded for refused words, and none after the first that cannot be read. Without files of text each name but `-`
+// is one that cannot be opened.
+static ROWS: [Row; 8] = [
+    ("show", ["L", "E"], &["--limit", "0"], "", 2, false, 0),
+    ("show", ["L", "none"], &[], "", 1, false, 2),
+    ("show", ["B", "E"], &[], "", 1, false, 4),
+    ("replay", ["L", "E"], &[], "R 1 0\nT 1 0 0 1\n", 3, false, 4),
+    ("mark", ["L", "E"], &[], "ab ÷cd\n", 0, false, 4),
+    ("mark", ["L", "E"], &["-"], "ab ÷cd\n", 0, false, 4),
+    ("mark", ["L", "E"], &["one"], "", 1, true, 4),
+    (
+        "mark",
+        ["L", "E"],
+        &["one", "-", ""],
+        "ab ÷cd\n",
+        1,
+        true,
+        4,
+    ),
+];
+
+/// Words that need no file, and what is written.
+static NO_FILES: [(&[&str], &str); 2] = [
+    (
+        &[],
+        "× 0061 × 0062 × 0020 ÷ 0063 × 0064 !\t# 2 28 7 18 28 3\n",
+    ),
+    (&["show", "--help"], ""),
+];
+
+/// How a run over the sample files and a bad file `B` ends, and how often it loaded a file. It promises nothing, so that the tests
+/// see nothing of what `run` promises.
+fn ended(
+    alloc: Global,
+    words: &[&'static str],
+    reader: &mut MemorySource<'_>,
+    writer: &mut MemorySink,
+) -> (Ending, u64) {
+    let files = [
+        ("L", SAMPLE_FILES.line_break),
+        ("E", SAMPLE_FILES.east_asian),
+        ("C", SAMPLE_FILES.category),
+        ("M", SAMPLE_FILES.emoji),
+        ("B", BAD_ROW),
+    ];
+    let mut store = MemoryStore::new(files.as_slice());
+    let ending = run(alloc, words, &mut store, reader, writer);
+    (ending, store.loads())
+}
+
+fn check(
+    alloc: Global,
+    words: &[&'static str],
+    text: &str,
+    want: (u8, bool, u64),
+) -> Result<(), Fail> {
+    let mut writer = MemorySink::new(alloc, 64)?;
+    let mut reader = MemorySource::new(b"ab cd");
+    let (ending, loads) = ended(alloc, words, &mut reader, &mut writer);
+    let reported = matches!(ending, Ending::Reported);
+    same(&writer.bytes(), &text.as_bytes(), &words)?;
+    same(&(ending.status(), reported, loads), &want, &words)
+}
+
+fn words_of(alloc: Global, row: &Row) -> Result<Vec<&'static str>, AllocError> {
+    let mut words = Vec::new(alloc);
+    words.extend_from_slice(&[row.0, "--line-break", row.1[0], "--east-asian", row.1[1]])?;
+    words.extend_from_slice(&["--category", "C", "--emoji", "M"])?;
+    words.extend_from_slice(row.2)?;
+    Ok(words)
+}
+
+#[test]
+fn counted_loads(rt: HostRuntime) -> Result<(), Fail> {
+    let alloc = rt.alloc();
+    for row in &ROWS {
+        check(alloc, &words_of(alloc, row)?, row.3, (row.4, row.5, row.6))?;
+    }
+    for (words, text) in &NO_FILES {
+        check(alloc, words, text, (0, false, 0))?;
+    }
+    Ok(())
+}
