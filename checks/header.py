@@ -66,7 +66,9 @@ def field(name, kind, structs):
 
 
 def is_in_header(kind):
-    return f"}} {header_type(kind)};" in (TOP / "include/lbk.h").read_text()
+    """Whether the header has a type of this one of the code, and not of another with that name."""
+    is_of_another = kind not in TYPES and header_type(kind).removeprefix("lbk_") in TYPES.values()
+    return not is_of_another and f"}} {header_type(kind)};" in (TOP / "include/lbk.h").read_text()
 
 
 def layout(name, fields, structs):
