@@ -90,7 +90,7 @@ impl<'a, C: CellSource> RowMachine<'a, C> {
 
     /// Takes the next scalar, if what follows does not decide the position before it: the verdict there. None comes where
     /// the position is held, and the scalar is not taken then.
-    #[inline]
+    #[inline(always)]
     pub fn step_unless_held(&mut self, c: char) -> Option<Verdict>
         ensures decides { (profile : Profile) (cell : ℕ → Cell) (taken : List ℕ) (more : List Cell)
             → RowMachineFits C.cell_of self.old profile cell taken
