@@ -39,10 +39,14 @@ pub fn memory_sink(alloc: Global, room: usize, most: usize) -> Result<MemorySink
     Ok(MemorySink::new(alloc, room)?.at_most(most))
 }
 
+pub fn write_all_to<W: Sink>(writer: &mut W, bytes: &[u8]) -> Result<(), Failed> {
+    write_all(writer, bytes)
+}
+
 /// Writes a line.
 pub fn write_line_to<W: Sink>(writer: &mut W, line: &str) -> Result<(), Failed> {
-    write_all(writer, line.as_bytes())?;
-    write_all(writer, b"\n")
+    write_all_to(writer, line.as_bytes())?;
+    write_all_to(writer, b"\n")
 }
 
 /// Takes the next piece whole, and says whether there is one.
@@ -58,21 +62,6 @@ pub fn next_passage<'a, R: Source, C: CellSource>(
     reader: &mut R,
 ) -> Result<Option<Passage<'a>>, PassageFault> {
     segmenter.next(reader)
-}
-
-/// How many bytes, segments and pieces the next passage has, if there is one.
-pub fn next_sizes<R: Source, C: CellSource>(
-    segmenter: &mut Segmenter<'_, C>,
-    reader: &mut R,
-) -> Result<Option<[usize; 3]>, PassageFault> {
-    match next_passage(segmenter, reader)? {
-        Some(passage) => Ok(Some([
-            passage.text.len(),
-            passage.segments.len(),
-            passage.pieces.len(),
-        ])),
-        None => Ok(None),
-    }
 }
 
 /// Says whether there is a passage more.

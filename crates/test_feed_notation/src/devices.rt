@@ -1,8 +1,9 @@
 //! What no clause says of the devices: when they fail, and that they give and take what they should.
 
+use crate::calls::{memory_sink, source_of, write_all_to};
 use crate::feed_calls::same;
 use lbk_feed::devices::{MemorySink, MemorySource, RepeatedSource};
-use lbk_feed::{Device, Failed, Sink, Source, write_all};
+use lbk_feed::{Device, Failed, Sink, Source};
 use std::io;
 use std::io::{ErrorKind, Read, Write};
 use std::process::Abort;
@@ -109,7 +110,7 @@ fn check_whole_source(rt: &impl Abort) {
 const CUT: [Result<&str, Failed>; 5] = [Ok("ab"), Err(Failed), Ok("c"), Ok("d"), Ok("e")];
 
 fn check_cut_source(rt: &impl Abort) {
-    let mut cut = MemorySource::cut(b"abcde", &[2, 0, 1]).failing_at(1);
+    let mut cut = source_of(b"abcde", &[2, 0, 1], Some(1));
     check_reads(rt, &mut cut, &CUT, 1, false);
     check_reads(rt, &mut cut, &[Ok("")], 1, true);
 }
@@ -197,8 +198,8 @@ fn check_writes<W: Sink>(
 
 #[test]
 fn sinks(rt: HostRuntime) -> Result<(), Fail> {
-    check_whole_sink(&rt, MemorySink::new(rt.alloc(), 5)?);
-    check_small_sink(&rt, MemorySink::new(rt.alloc(), 5)?);
+    check_whole_sink(&rt, memory_sink(rt.alloc(), 5, usize::MAX)?);
+    check_small_sink(&rt, memory_sink(rt.alloc(), 5, 2)?);
     check_room(&rt);
     Ok(())
 }
@@ -211,8 +212,7 @@ fn check_whole_sink(rt: &impl Abort, mut whole: MemorySink) {
 
 const SMALL: [Result<usize, Failed>; 4] = [Ok(2), Ok(2), Ok(1), Err(Failed)];
 
-fn check_small_sink(rt: &impl Abort, sink: MemorySink) {
-    let mut small = sink.at_most(2);
+fn check_small_sink(rt: &impl Abort, mut small: MemorySink) {
     check_writes(rt, &mut small, "abc", &SMALL, 1);
     same(rt, small.bytes(), b"ababa", "written");
 }
@@ -261,14 +261,14 @@ fn check_write_all(
     want: Result<(), Failed>,
     failures: u64,
 ) {
-    same(rt, write_all(sink, text.as_bytes()), want, text);
+    same(rt, write_all_to(sink, text.as_bytes()), want, text);
     same(rt, sink.failures(), failures, "failures");
 }
 
 // All is written over short writes, and a failure ends the writing where it comes.
 #[test]
 fn all_of_the_bytes(rt: HostRuntime) -> Result<(), Fail> {
-    let mut sink = MemorySink::new(rt.alloc(), 5)?.at_most(2);
+    let mut sink = memory_sink(rt.alloc(), 5, 2)?;
     check_write_all(&rt, &mut sink, "abc", Ok(()), 0);
     check_write_all(&rt, &mut sink, "", Ok(()), 0);
     check_write_all(&rt, &mut sink, "def", Err(Failed), 1);

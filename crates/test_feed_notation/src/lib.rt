@@ -5,10 +5,6 @@
 #[cfg(test)]
 mod calls;
 #[cfg(test)]
-mod checked_texts;
-#[cfg(test)]
-mod checks;
-#[cfg(test)]
 mod cuts;
 #[cfg(test)]
 mod devices;
@@ -39,14 +35,6 @@ mod replayed;
 #[cfg(test)]
 mod runs;
 #[cfg(test)]
-mod segment_lines;
-#[cfg(test)]
-mod segmented;
-#[cfg(test)]
-mod shown;
-#[cfg(test)]
-mod signed;
-#[cfg(test)]
 mod sizes;
 #[cfg(test)]
 mod spent;
@@ -56,3 +44,5 @@ mod stopped_writers;
 mod tasks;
 #[cfg(test)]
 mod told;
+#[cfg(test)]
+mod told_rows;

@@ -228,34 +228,12 @@ static MARKED: [(&str, &str, &str); 5] = [
 /// Checks what is marked in a text.
 fn check_marked(
     alloc: Global,
-    setting: (&CellPages, Profile, Form),
+    (cells, profile, form): (&CellPages, Profile, Form),
     text: &str,
     want: &str,
 ) -> Result<(), Fail> {
-    let (cells, profile, form) = setting;
     let line = marked(alloc, cells, text, profile)?;
     same_text(&written_line(alloc, &line, form)?, want)
-}
-
-/// Checks what is marked in a text in both profiles.
-fn check_both(
-    alloc: Global,
-    cells: &CellPages,
-    (text, first, second): (&str, &str, &str),
-) -> Result<(), Fail> {
-    for (profile, want) in [(Profile::First, first), (Profile::Second, second)] {
-        check_marked(alloc, (cells, profile, Form::Kinds), text, want)?;
-    }
-    Ok(())
-}
-
-fn check_all_marked(alloc: Global, cells: &CellPages) -> Result<(), Fail> {
-    for row in &MARKED {
-        check_both(alloc, cells, *row)?;
-    }
-    let plain = (cells, Profile::First, Form::Plain);
-    let want = "× 0061 × 0062 × 0020 ÷ 0063 × 0064 ÷";
-    check_marked(alloc, plain, "ab cd", want)
 }
 
 #[test]
@@ -263,7 +241,13 @@ fn marking(rt: HostRuntime) -> Result<(), Fail> {
     let alloc = rt.alloc();
     let cells = sample_cells(alloc)?;
     check_kinds()?;
-    check_all_marked(alloc, &cells)
+    for (text, first, second) in &MARKED {
+        check_marked(alloc, (&cells, Profile::First, Form::Kinds), text, first)?;
+        check_marked(alloc, (&cells, Profile::Second, Form::Kinds), text, second)?;
+    }
+    let plain = (&cells, Profile::First, Form::Plain);
+    let want = "× 0061 × 0062 × 0020 ÷ 0063 × 0064 ÷";
+    check_marked(alloc, plain, "ab cd", want)
 }
 
 fn check_kinds() -> Result<(), Fail> {

@@ -2,9 +2,11 @@
 
 use crate::calls::{memory_sink, source_of};
 use crate::tasks::{End, ROOM, Setting, Task};
-use lbk_feed::Source;
 use lbk_feed::devices::MemorySink;
+use lbk_feed::{Sink, Source};
 use std::alloc::AllocError;
+use std::test::Fail;
+use test_support::checks::same;
 
 /// A task, the bytes that it reads, the sizes of the reads, the last of them for all that follow, and the read that
 /// fails.
@@ -48,4 +50,19 @@ impl Run<'_> {
             ended: source.ended(),
         })
     }
+}
+
+/// Runs, and compares how it ended and what it wrote; a run that is not refused reads to the end. The number of reads.
+pub fn check_run(
+    run: Run<'_>,
+    setting: Setting<'_>,
+    end: End,
+    written: &[u8],
+) -> Result<u64, Fail> {
+    let ran = run.ran(setting)?;
+    same(&ran.end, &end, &run)?;
+    same(&ran.sink.bytes(), &written, &run)?;
+    same(&ran.sink.failures(), &0, &run)?;
+    same(&(ran.ended || end.is_refused()), &true, &run)?;
+    Ok(ran.reads)
 }

@@ -1,18 +1,18 @@
 //! Texts of many sizes, with ample memory: each comes to its value, and none runs out of memory.
 
-use crate::calls::sample_cells;
-use lbk_feed::devices::MemorySource;
+use crate::calls::{cut_source, next_passage, sample_cells};
 use lbk_notation::{Form, LineFault, TestLine, mark_text, read_back};
-use lbk_passage::{LIMIT_MAX, PassageFault, Segmenter};
-use lbk_rules::{CellPages, Profile};
+use lbk_passage::{LIMIT_MAX, PassageFault, Segment, Segmenter};
+use lbk_rules::{CellPages, Kind, Profile, Rule};
 use std::alloc::{AllocError, Global};
 use std::process::Abort;
 use std::test::Fail;
 
-/// Two sizes between each power of two up to the 16th and the next, as a linear congruence draws them.
+/// A size, and two between each power of two up to the 16th and the next, as a linear congruence draws them.
 fn sizes(alloc: Global) -> Result<Vec<u32>, AllocError> {
     let mut drawn = Vec::new(alloc);
     let mut chance: u32 = 14;
+    drawn.push(2000)?;
     for power in 0..34u32 {
         chance = chance.wrapping_mul(1_664_525).wrapping_add(1_013_904_223);
         let least = 1u32 << (power / 2);
@@ -40,17 +40,32 @@ fn line_counts(alloc: Global, cells: &CellPages, text: &str) -> Result<(usize, u
     Ok((line.scalars().len(), line.marks().len(), is_same))
 }
 
-/// How many segments and pieces a text's first passage has.
+/// How many segments and pieces a text's first passage has, and the last segment.
 fn passage_counts(
     alloc: Global,
     cells: &CellPages,
     text: &str,
-) -> Result<Option<(usize, usize)>, PassageFault> {
-    let mut source = MemorySource::new(text.as_bytes());
-    let mut segmenter = Segmenter::new(alloc, cells, LIMIT_MAX, Profile::Second)?;
-    match segmenter.next(&mut source)? {
-        Some(passage) => Ok(Some((passage.segments.len(), passage.pieces.len()))),
+    profile: Profile,
+) -> Result<Option<(usize, usize, Option<Segment>)>, PassageFault> {
+    let mut source = cut_source(text.as_bytes(), &[]);
+    let mut segmenter = Segmenter::new(alloc, cells, LIMIT_MAX, profile)?;
+    match next_passage(&mut segmenter, &mut source)? {
+        Some(passage) => Ok(Some((
+            passage.segments.len(),
+            passage.pieces.len(),
+            passage.segments.last().copied(),
+        ))),
         None => Ok(None),
+    }
+}
+
+/// The last word of so many bytes, with the space after it.
+fn last_segment(length: u32) -> Segment {
+    Segment {
+        start: length.saturating_sub(2),
+        end: length,
+        kind: Kind::Must,
+        rule: Rule::Lb3,
     }
 }
 
@@ -58,15 +73,18 @@ fn check(rt: &impl Abort, alloc: Global, cells: &CellPages, size: u32) -> Result
     // So many letters with a space after each.
     let text = "a ".repeat(alloc, size as usize)?;
     let counts = line_counts(alloc, cells, &text)?;
-    let passage = passage_counts(alloc, cells, &text)?;
     let (pairs, scalars) = (text.len() / 2, text.len());
+    let last = Some(last_segment(size.saturating_mul(2)));
+    for profile in [Profile::First, Profile::Second] {
+        let passage = passage_counts(alloc, cells, &text, profile)?;
+        assert!(rt;
+            passage == Some((pairs, scalars, last)),
+            "the passage of {size} letters"
+        );
+    }
     assert!(rt;
         counts == (scalars, scalars + 1, true),
         "the line of {size} letters"
-    );
-    assert!(rt;
-        passage == Some((pairs, scalars)),
-        "the passage of {size} letters"
     );
     Ok(())
 }

@@ -38,6 +38,7 @@ fn check(row: Row, room: usize, end: End, failures: u64, written: &[u8]) -> Resu
     same(&Some(written), &output.as_bytes().get(..room), &run)
 }
 
+/// Into a sink of which a write takes at most this many bytes.
 fn check_sink(setting: Setting<'_>, row: Row, room: usize, most: usize) -> Result<(), Fail> {
     let (task, input, _) = row;
     let mut source = cut_source(input.as_bytes(), &[]);
@@ -46,35 +47,7 @@ fn check_sink(setting: Setting<'_>, row: Row, room: usize, most: usize) -> Resul
     check(row, room, end, sink.failures(), sink.bytes())
 }
 
-/// A write takes at most this many bytes.
-fn check_sinks(setting: Setting<'_>, row: Row, most: usize) -> Result<(), Fail> {
-    for room in 0..=row.2.len() {
-        check_sink(setting, row, room, most)?;
-    }
-    Ok(())
-}
-
-fn check_all_sinks(setting: Setting<'_>, row: Row) -> Result<(), Fail> {
-    for most in [1, 7, usize::MAX] {
-        check_sinks(setting, row, most)?;
-    }
-    Ok(())
-}
-
-fn check_into_sinks(setting: Setting<'_>) -> Result<(), Fail> {
-    for row in &RUNS {
-        check_all_sinks(setting, *row)?;
-    }
-    Ok(())
-}
-
-// A write takes one byte, a few, or all, until n bytes were taken.
-#[test]
-fn sinks(rt: HostRuntime) -> Result<(), Fail> {
-    let cells = sample_cells(rt.alloc())?;
-    check_into_sinks(Setting::new(rt.alloc(), &cells, Profile::First))
-}
-
+/// Into a writer of std, which takes no byte once it is full; that is no failure of its own.
 fn check_writer(setting: Setting<'_>, row: Row, room: usize) -> Result<(), Fail> {
     let (task, input, _) = row;
     let mut taken = vec![in setting.alloc; 0u8; room]?;
@@ -85,23 +58,22 @@ fn check_writer(setting: Setting<'_>, row: Row, room: usize) -> Result<(), Fail>
     check(row, room, end, failures, &taken)
 }
 
-fn check_writers(setting: Setting<'_>, row: Row) -> Result<(), Fail> {
+/// A write takes one byte, a few, or all, until n bytes were taken.
+fn check_row(setting: Setting<'_>, row: Row) -> Result<(), Fail> {
     for room in 0..=row.2.len() {
+        check_sink(setting, row, room, 1)?;
+        check_sink(setting, row, room, 7)?;
+        check_sink(setting, row, room, usize::MAX)?;
         check_writer(setting, row, room)?;
     }
     Ok(())
 }
 
-fn check_into_writers(setting: Setting<'_>) -> Result<(), Fail> {
+#[test]
+fn stopped_writers(rt: HostRuntime) -> Result<(), Fail> {
+    let cells = sample_cells(rt.alloc())?;
     for row in &RUNS {
-        check_writers(setting, *row)?;
+        check_row(Setting::new(rt.alloc(), &cells, Profile::First), *row)?;
     }
     Ok(())
-}
-
-// A writer of std over n bytes takes no byte once they are full, which is no failure of its own.
-#[test]
-fn writers_of_std(rt: HostRuntime) -> Result<(), Fail> {
-    let cells = sample_cells(rt.alloc())?;
-    check_into_writers(Setting::new(rt.alloc(), &cells, Profile::First))
 }

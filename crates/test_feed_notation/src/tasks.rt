@@ -1,6 +1,6 @@
 //! What reads a text or a test file and writes, by a name that a table can hold.
 
-use crate::calls::{mark_to, replay_to, segment_to, show_to, write_line_to};
+use crate::calls::{has_next, mark_to, replay_to, segment_to, show_to, write_line_to};
 use crate::told::told_next;
 use lbk_cmd::CmdFault;
 use lbk_feed::{Sink, Source};
@@ -18,7 +18,7 @@ pub const ROOM: usize = 4096;
 /// What is run.
 #[derive(Clone, Copy, Debug, PartialEq, Eq)]
 pub enum Task {
-    /// The segmenter by itself: each passage is written as the tests tell it.
+    /// The segmenter by itself: each passage is written as the tests tell it, and nothing comes after the last and after a fault.
     Passages,
     Mark,
     Show,
@@ -62,6 +62,21 @@ impl End {
     pub fn refused(fault: PassageFault) -> End {
         End::Text(Err(CmdFault::Passage(fault)))
     }
+
+    pub fn is_refused(self) -> bool {
+        matches!(self, End::Text(Err(_)) | End::File(Err(_)))
+    }
+
+    /// The end of a test file of which so many lines are counted, agree, differ and are refused.
+    pub fn counted(counts: [u32; 4]) -> End {
+        let [lines, agreed, differed, refused] = counts;
+        End::File(Ok(Report {
+            lines,
+            agreed,
+            differed,
+            refused,
+        }))
+    }
 }
 
 impl Task {
@@ -82,9 +97,15 @@ impl Task {
 
     /// The end after a failed read.
     pub fn failed_read(self) -> End {
-        match self {
-            Task::Replay(_) => End::File(Err(ReplayFault::Read)),
-            _ => End::refused(PassageFault::Read),
+        self.end_of(Err(PassageFault::Read))
+    }
+
+    /// The end of a text, or of a test file of which a read failed.
+    pub fn end_of(self, passages: Result<(), PassageFault>) -> End {
+        match (self, passages) {
+            (Task::Replay(_), _) => End::File(Err(ReplayFault::Read)),
+            (_, Ok(())) => End::Text(Ok(())),
+            (_, Err(fault)) => End::refused(fault),
         }
     }
 
@@ -97,15 +118,36 @@ impl Task {
     }
 }
 
-/// Writes what is reported of each passage, a line each.
+/// Writes what is reported of each passage, a line each, and calls on after the last, which reads no more after a fault.
 fn tell_all<R: Source, W: Sink>(
     setting: Setting<'_>,
     reader: &mut R,
     writer: &mut W,
 ) -> Result<(), CmdFault> {
     let mut segmenter = setting.segmenter()?;
+    let end = tell_to_end(setting.alloc, &mut segmenter, reader, writer);
+    let reads = reader.reads();
+    let want = match end {
+        Ok(()) => Ok(false),
+        Err(_) => Err(PassageFault::Spent),
+    };
+    for _ in 0..3 {
+        let again = has_next(&mut segmenter, reader);
+        if again != want || (again.is_err() && reader.reads() != reads) {
+            return Err(CmdFault::Passage(PassageFault::Spent));
+        }
+    }
+    end
+}
+
+fn tell_to_end<R: Source, W: Sink>(
+    alloc: Global,
+    segmenter: &mut Segmenter<'_, CellPages>,
+    reader: &mut R,
+    writer: &mut W,
+) -> Result<(), CmdFault> {
     for _ in 0..ROOM {
-        let Some(line) = told_next(setting.alloc, &mut segmenter, reader)? else {
+        let Some(line) = told_next(alloc, segmenter, reader)? else {
             return Ok(());
         };
         write_line_to(writer, line.as_str())?;

@@ -9,7 +9,6 @@ pub mod property_files;
 pub mod reads;
 pub mod replayed;
 pub mod segment_lines;
-pub mod segmented;
 pub mod shown;
 pub mod texts;
 pub mod triples;
