@@ -1,12 +1,13 @@
 -- The number of a verdict leads back to it.
-use Rattle.std.proofs.Common.{◌≡◌, ℕ, ◌/◌, ◌%◌, ◌<◌, ◌==◌, refl, ap, ◌∙◌, arith, lit<}
+use Rattle.std.proofs.Common.{◌≡◌, ℕ, ◌/◌, ◌%◌, ◌<◌, ◌==◌, refl, slice_index_or, ap, ◌∙◌, arith, lit<}
 use Rattle.lbk_uax14.specs.declared.verdicts.Kind.{Kind}
 use Rattle.lbk_uax14.specs.declared.verdicts.Kind.TheVariants.{No, May, Must}
 use Rattle.lbk_uax14.specs.declared.verdicts.Rule.{Rule}
 use Rattle.lbk_uax14.specs.declared.verdicts.Rule.TheVariants.{Lb2, Lb3, Lb4, Lb5, Lb6, Lb7, Lb8, Lb8a, Lb9, Lb11, Lb12, Lb12a, Lb13, Lb14, Lb15, Lb15a, Lb15b, Lb16, Lb17, Lb18, Lb19, Lb20, Lb21, Lb21a, Lb21b, Lb22, Lb23, Lb23a, Lb24, Lb25, Lb26, Lb27, Lb28, Lb29, Lb30, Lb30a, Lb30b, Lb31}
 use Rattle.lbk_uax14.specs.declared.verdicts.Verdict.{Verdict}
-use Rattle.lbk_uax14.specs.Codes.{kind_number, kind_numbered, rule_number, rule_numbered}
+use Rattle.lbk_uax14.specs.Codes.{kind_number, kind_numbered, rule_number}
 use Rattle.lbk_uax14.specs.Held.{is_15b}
+use Rattle.lbk_steps.specs.declared.steps.TheConstants.{RULES}
 use Rattle.lbk_steps.specs.Rows.{shown_of}
 
 few-kinds : (kind : Kind) → kind_number kind < 256
@@ -19,7 +20,7 @@ same-kind No = refl
 same-kind May = refl
 same-kind Must = refl
 
-same-rule : (rule : Rule) → rule_numbered (rule_number rule) ≡ rule
+pub same-rule : (rule : Rule) → slice_index_or RULES (rule_number rule) Lb2 ≡ rule
 same-rule Lb2 = refl
 same-rule Lb3 = refl
 same-rule Lb4 = refl
@@ -60,13 +61,13 @@ same-rule Lb30b = refl
 same-rule Lb31 = refl
 
 pub verdict-shown : (shown : ℕ) (kind : Kind) (rule : Rule) (verdict : Verdict) → kind ≡ kind_numbered (shown % 256)
-    → rule ≡ rule_numbered (shown / 256) → shown ≡ shown_of verdict → record { kind = kind; rule = rule } ≡ verdict
+    → ((r : Rule) → shown / 256 ≡ rule_number r → rule ≡ r) → shown ≡ shown_of verdict → record { kind = kind; rule = rule } ≡ verdict
 verdict-shown shown kind rule verdict of_kind of_rule is =
     let few = few-kinds verdict.kind in
     let kind_number_is : shown % 256 ≡ kind_number verdict.kind = omega (arith, few, is) in
     let rule_number_is : shown / 256 ≡ rule_number verdict.rule = omega (arith, few, is) in
     let kinds = of_kind ∙ ap kind_numbered kind_number_is ∙ same-kind verdict.kind in
-    let rules = of_rule ∙ ap rule_numbered rule_number_is ∙ same-rule verdict.rule in
+    let rules = of_rule verdict.rule rule_number_is in
     λ i. record { kind = kinds i; rule = rules i }
 
 number-15b : (rule : Rule) → (rule_number rule == 122) ≡ is_15b rule

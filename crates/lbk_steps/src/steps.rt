@@ -2,7 +2,8 @@
 
 ghost use Rattle.std.specs.Prelude.{◌≡◌, ◌%◌, ℕ, map};
 ghost use Rattle.lbk_uax14.specs.declared.verdicts.Verdict.{Verdict};
-ghost use Rattle.lbk_uax14.specs.Codes.{kind_numbered, rule_numbered};
+ghost use Rattle.lbk_uax14.specs.Codes.{kind_numbered, rule_number};
+ghost use Rattle.lbk_uax14.specs.declared.verdicts.Rule.{Rule};
 ghost use Rattle.lbk_uax14.specs.Facts.{facts};
 ghost use Rattle.lbk_uax14.specs.Held.{is_15b};
 ghost use Rattle.lbk_uax14.specs.Normal.{normal};
@@ -119,10 +120,47 @@ fn kind_numbered(number: u16) -> Kind
     }
 }
 
-/// The rule of a number, rule 2 for one that no rule has.
+/// The rule of a number: one read, since it is asked for at each character.
 #[inline(always)]
 fn rule_numbered(number: u8) -> Rule
-    ensures { result ≡ rule_numbered number }
+    ensures { (rule : Rule) → number ≡ rule_number rule → result ≡ rule }
 {
-    Rule::numbered(number).unwrap_or(Rule::Lb2)
+    RULES[usize::from(number)]
 }
+
+/// The rules by their numbers, eight for each number of the standard; rule 2 stands where no rule has the number.
+#[rattlefmt::skip]
+static RULES: [Rule; 256] = [
+    Rule::Lb2, Rule::Lb2, Rule::Lb2, Rule::Lb2, Rule::Lb2, Rule::Lb2, Rule::Lb2, Rule::Lb2,
+    Rule::Lb2, Rule::Lb2, Rule::Lb2, Rule::Lb2, Rule::Lb2, Rule::Lb2, Rule::Lb2, Rule::Lb2,
+    Rule::Lb2, Rule::Lb2, Rule::Lb2, Rule::Lb2, Rule::Lb2, Rule::Lb2, Rule::Lb2, Rule::Lb2,
+    Rule::Lb3, Rule::Lb2, Rule::Lb2, Rule::Lb2, Rule::Lb2, Rule::Lb2, Rule::Lb2, Rule::Lb2,
+    Rule::Lb4, Rule::Lb2, Rule::Lb2, Rule::Lb2, Rule::Lb2, Rule::Lb2, Rule::Lb2, Rule::Lb2,
+    Rule::Lb5, Rule::Lb2, Rule::Lb2, Rule::Lb2, Rule::Lb2, Rule::Lb2, Rule::Lb2, Rule::Lb2,
+    Rule::Lb6, Rule::Lb2, Rule::Lb2, Rule::Lb2, Rule::Lb2, Rule::Lb2, Rule::Lb2, Rule::Lb2,
+    Rule::Lb7, Rule::Lb2, Rule::Lb2, Rule::Lb2, Rule::Lb2, Rule::Lb2, Rule::Lb2, Rule::Lb2,
+    Rule::Lb8, Rule::Lb8a, Rule::Lb2, Rule::Lb2, Rule::Lb2, Rule::Lb2, Rule::Lb2, Rule::Lb2,
+    Rule::Lb9, Rule::Lb2, Rule::Lb2, Rule::Lb2, Rule::Lb2, Rule::Lb2, Rule::Lb2, Rule::Lb2,
+    Rule::Lb2, Rule::Lb2, Rule::Lb2, Rule::Lb2, Rule::Lb2, Rule::Lb2, Rule::Lb2, Rule::Lb2,
+    Rule::Lb11, Rule::Lb2, Rule::Lb2, Rule::Lb2, Rule::Lb2, Rule::Lb2, Rule::Lb2, Rule::Lb2,
+    Rule::Lb12, Rule::Lb12a, Rule::Lb2, Rule::Lb2, Rule::Lb2, Rule::Lb2, Rule::Lb2, Rule::Lb2,
+    Rule::Lb13, Rule::Lb2, Rule::Lb2, Rule::Lb2, Rule::Lb2, Rule::Lb2, Rule::Lb2, Rule::Lb2,
+    Rule::Lb14, Rule::Lb2, Rule::Lb2, Rule::Lb2, Rule::Lb2, Rule::Lb2, Rule::Lb2, Rule::Lb2,
+    Rule::Lb15, Rule::Lb15a, Rule::Lb15b, Rule::Lb2, Rule::Lb2, Rule::Lb2, Rule::Lb2, Rule::Lb2,
+    Rule::Lb16, Rule::Lb2, Rule::Lb2, Rule::Lb2, Rule::Lb2, Rule::Lb2, Rule::Lb2, Rule::Lb2,
+    Rule::Lb17, Rule::Lb2, Rule::Lb2, Rule::Lb2, Rule::Lb2, Rule::Lb2, Rule::Lb2, Rule::Lb2,
+    Rule::Lb18, Rule::Lb2, Rule::Lb2, Rule::Lb2, Rule::Lb2, Rule::Lb2, Rule::Lb2, Rule::Lb2,
+    Rule::Lb19, Rule::Lb2, Rule::Lb2, Rule::Lb2, Rule::Lb2, Rule::Lb2, Rule::Lb2, Rule::Lb2,
+    Rule::Lb20, Rule::Lb2, Rule::Lb2, Rule::Lb2, Rule::Lb2, Rule::Lb2, Rule::Lb2, Rule::Lb2,
+    Rule::Lb21, Rule::Lb21a, Rule::Lb21b, Rule::Lb2, Rule::Lb2, Rule::Lb2, Rule::Lb2, Rule::Lb2,
+    Rule::Lb22, Rule::Lb2, Rule::Lb2, Rule::Lb2, Rule::Lb2, Rule::Lb2, Rule::Lb2, Rule::Lb2,
+    Rule::Lb23, Rule::Lb23a, Rule::Lb2, Rule::Lb2, Rule::Lb2, Rule::Lb2, Rule::Lb2, Rule::Lb2,
+    Rule::Lb24, Rule::Lb2, Rule::Lb2, Rule::Lb2, Rule::Lb2, Rule::Lb2, Rule::Lb2, Rule::Lb2,
+    Rule::Lb25, Rule::Lb2, Rule::Lb2, Rule::Lb2, Rule::Lb2, Rule::Lb2, Rule::Lb2, Rule::Lb2,
+    Rule::Lb26, Rule::Lb2, Rule::Lb2, Rule::Lb2, Rule::Lb2, Rule::Lb2, Rule::Lb2, Rule::Lb2,
+    Rule::Lb27, Rule::Lb2, Rule::Lb2, Rule::Lb2, Rule::Lb2, Rule::Lb2, Rule::Lb2, Rule::Lb2,
+    Rule::Lb28, Rule::Lb2, Rule::Lb2, Rule::Lb2, Rule::Lb2, Rule::Lb2, Rule::Lb2, Rule::Lb2,
+    Rule::Lb29, Rule::Lb2, Rule::Lb2, Rule::Lb2, Rule::Lb2, Rule::Lb2, Rule::Lb2, Rule::Lb2,
+    Rule::Lb30, Rule::Lb30a, Rule::Lb30b, Rule::Lb2, Rule::Lb2, Rule::Lb2, Rule::Lb2, Rule::Lb2,
+    Rule::Lb31, Rule::Lb2, Rule::Lb2, Rule::Lb2, Rule::Lb2, Rule::Lb2, Rule::Lb2, Rule::Lb2,
+];
