@@ -4,6 +4,7 @@ use crate::inputs::tables_of;
 use crate::layers::{LAYERS, Layer};
 use crate::material::{Material, front_of, parts_of, passages_of, shown_of};
 use anyhow::Result;
+use lbk_rules::CellPages;
 use lbk_ucd::Files;
 use std::io;
 use std::time::{Duration, Instant};

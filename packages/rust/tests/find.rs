@@ -28,7 +28,8 @@ fn run(variables: &[(&str, &Path)]) -> String {
     let mut command = Command::new(env::current_exe().expect("this program has a name"));
     command
         .args(["--ignored", "--exact", "finds", "--nocapture"])
-        .env_clear();
+        .env_clear()
+        .envs(env::var_os("LD_LIBRARY_PATH").map(|it| ("LD_LIBRARY_PATH", it)));
     let output = command
         .envs(variables.iter().copied())
         .output()
