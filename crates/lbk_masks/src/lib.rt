@@ -12,12 +12,16 @@ ghost use Rattle.lbk_masks.specs.Sets.{HasLanes, chosen, class_in, is_set, left_
 ghost use Rattle.lbk_masks.specs.Strays.{is_stray};
 
 mod bits;
+mod covering;
 mod found;
 mod halves;
+mod letters;
 
 pub use bits::{first_set, kept_below, kept_from, without_first};
+pub use covering::{Bytes, Behind, Covering, LETTER, Related, cover};
 use found::{Edges, Found, joined};
 pub use halves::{HalfSets, wide};
+pub use letters::{firsts_of_letters, stands_for_all};
 use std::simd::prelude::*;
 
 /// How many bytes at most have a bit.

@@ -1,6 +1,6 @@
 -- What sets of bytes tell of the steps by two bytes that stand side by side.
 use Rattle.std.specs.Prelude.{◌≡◌, ◌⊎◌, ℕ, ◌+◌, ◌<◌, ◌≤◌, ◌%◌, Bool, false, not, List, bit_and, fold, slice_index_or}
-use Rattle.lbk_cover.specs.Letters.{StandsForAll}
+use Rattle.lbk_masks.specs.Letters.{StandsForAll}
 use Rattle.lbk_masks.specs.Sets.{left_in, meets, right_in}
 use Rattle.lbk_masks.specs.declared.TheConstants.{SPECIAL}
 use Rattle.lbk_uax14.specs.Breaks.{is_no}

@@ -8,8 +8,7 @@ ghost use Rattle.lbk_steps.specs.FlatTable.{digest_with};
 
 use crate::flat_table::{CODES, FlatStep, HELD, STEPS, digest_kinds, digest_with};
 use crate::kinds::KINDS;
-use lbk_cover::{LETTER, Related, cover, firsts_of_letters, stands_for_all};
-use lbk_masks::{ByteSets, SPECIAL};
+use lbk_masks::{ByteSets, LETTER, Related, SPECIAL, cover, firsts_of_letters, stands_for_all};
 use lbk_uax14::is_break;
 
 /// How many bytes are scalars.

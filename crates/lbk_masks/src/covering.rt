@@ -4,14 +4,10 @@
 //! others. Each rectangle is one thing that the left sets of the first and the right sets of the others have in common.
 //! Nothing is claimed of what is found here. A caller compares it with what it knows of the bytes before it uses it, so that
 //! nothing rests on it but speed.
-#![tactic(auto)]
 
 ghost use Rattle.std.specs.Prelude.{◌<◌, ◌≤◌};
 
-mod letters;
-
-use lbk_masks::ByteSets;
-pub use letters::{firsts_of_letters, stands_for_all};
+use crate::ByteSets;
 
 /// How many bytes have sets of their own: those below 128.
 const ASCII: usize = 128;
@@ -41,7 +37,7 @@ const CLASSES: usize = 16;
 const CONTINUING: usize = 1;
 
 /// The first of the bytes that begin scalars of more bytes, less 128.
-const FIRSTS: usize = 64;
+pub(crate) const FIRSTS: usize = 64;
 
 /// The sets of each byte below 128.
 #[derive(Clone, Copy)]

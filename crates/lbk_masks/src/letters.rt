@@ -1,10 +1,10 @@
 //! First bytes of scalars of two that stand for all scalars that they begin.
 
 ghost use Rattle.std.specs.Prelude.{◌≡◌, ◌<◌, ◌≤◌, true};
-ghost use Rattle.lbk_cover.specs.Letters.{StandsFor, StandsForAll};
+ghost use Rattle.lbk_masks.specs.Letters.{StandsFor, StandsForAll};
 
-use crate::{Bytes, FIRSTS, LETTER};
-use lbk_masks::ByteSets;
+use crate::ByteSets;
+use crate::covering::{Bytes, FIRSTS, LETTER};
 
 /// How many codes there are.
 const CODES: usize = 0x11_0000;
