@@ -8,7 +8,7 @@ mod waiting;
 mod words;
 
 use lbk_cmd::{Caller, CmdFault, Ending, RunFault, run_over_texts};
-use lbk_devices::{Input, Notes, Noting, Prompted};
+use lbk_feed::noted::{Input, Notes, Noting, Prompted};
 use lbk_feed::Device;
 use lbk_files::FileStore;
 use std::alloc::{AllocError, Global};

@@ -5,7 +5,7 @@ ghost use Rattle.std.specs.Prelude.{None};
 use super::telling;
 use lbk_args::{Engine, Order};
 use lbk_cmd::{Caller, RunFault, Texts};
-use lbk_devices::{Input, Notes, Noting};
+use lbk_feed::noted::{Input, Notes, Noting};
 use lbk_feed::Device;
 use lbk_files::{LoadFault, Opens};
 use std::fs::File;

@@ -1,7 +1,7 @@
 //! What a person reads of a refused run.
 
 use lbk_cmd::{Caller, CmdFault, Message, RunFault};
-use lbk_devices::Notes;
+use lbk_feed::noted::Notes;
 use lbk_notation::ReplayFault;
 use std::io::ErrorKind;
 

@@ -1,27 +1,27 @@
-//! Readers and writers of std that note why they failed.
+//! Readers and writers of std that record why they failed.
 #![tactic(auto, unfolding(crate::specs::Within::within_noting))]
 
 ghost use Rattle.std.specs.Prelude.{◌≡◌};
-ghost use Rattle.lbk_devices.specs.Within.{within_noting};
+ghost use Rattle.lbk_feed.specs.Within.{within_noting};
 
 use std::cell::Cell;
 use std::io::{self, ErrorKind, Read, Write};
 
-/// What a run notes of its files, its input and its output, for what a person reads.
+/// What a run records about its files, its input and its output, for messages.
 #[derive(Drop)]
 pub struct Notes {
     /// The kind of the last error.
     pub error: Cell<Option<ErrorKind>>,
     /// Whether the input begins with the byte order mark of UTF-16.
     pub is_utf16: Cell<bool>,
-    /// Whether it is noted that the input has `!`, as of test lines.
+    /// Whether to record if the input has `!`, as test lines may.
     pub wants_kinds: Cell<bool>,
     /// Whether the input has `!`.
     pub has_kinds: Cell<bool>,
 }
 
 impl Notes {
-    /// Nothing noted yet.
+    /// Nothing recorded.
     pub fn new() -> Notes {
         Notes {
             error: Cell::new(None),
@@ -31,7 +31,7 @@ impl Notes {
         }
     }
 
-    /// The outcome as it is; the kind of its error is noted.
+    /// Returns the outcome unchanged, and records the kind of its error.
     pub fn noted<T>(&self, outcome: io::Result<T>) -> io::Result<T>
         ensures { result ≡ outcome }
     {
@@ -42,7 +42,7 @@ impl Notes {
     }
 }
 
-/// A reader or a writer of std whose errors are noted. It gives and takes exactly the bytes that the one within does.
+/// A reader or writer of std that records its errors. It passes exactly the bytes of the inner one.
 #[derive(Drop)]
 pub struct Noting<'a, D> {
     inner: D,
@@ -50,7 +50,7 @@ pub struct Noting<'a, D> {
 }
 
 impl<'a, D> Noting<'a, D> {
-    /// The reader or writer `inner`, whose errors `notes` gets.
+    /// The reader or writer `inner`; `notes` gets its errors.
     pub fn new(inner: D, notes: &'a Notes) -> Noting<'a, D>
         ensures { within_noting result ≡ inner }
     {

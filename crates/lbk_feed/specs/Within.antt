@@ -1,7 +1,7 @@
 -- The device within another, which gives and takes its bytes.
-use Rattle.lbk_devices.specs.declared.input.Input.{Input}
-use Rattle.lbk_devices.specs.declared.noting.Noting.{Noting}
-use Rattle.lbk_devices.specs.declared.prompted.Prompted.{Prompted}
+use Rattle.lbk_feed.specs.declared.noted.input.Input.{Input}
+use Rattle.lbk_feed.specs.declared.noted.noting.Noting.{Noting}
+use Rattle.lbk_feed.specs.declared.noted.prompted.Prompted.{Prompted}
 
 -- the reader or writer whose errors are noted
 unfoldable pub within_noting : {D : Type 0} → Noting D → D

@@ -1,29 +1,29 @@
-//! A source before whose first read a prompt is shown.
+//! A source that shows a prompt before its first read.
 #![tactic(auto, unfolding(crate::specs::Within::within_prompted))]
 
 ghost use Rattle.std.specs.Prelude.{◌≡◌};
-ghost use Rattle.lbk_devices.specs.Within.{within_prompted};
+ghost use Rattle.lbk_feed.specs.Within.{within_prompted};
 
-use lbk_feed::{Failed, Source};
+use crate::traits::{Failed, Source};
 
-/// What tells a person that input is waited for.
+/// A message that the program waits for input.
 pub trait Prompt {
-    /// Shows it. Where that fails, nothing is shown.
+    /// Shows the message, or nothing if that fails.
     fn tell(&self);
 }
 
-/// A source before whose first read a prompt is shown, where it is due. Each read is one read of the source within, with
-/// its bytes and its failure.
+/// A source that may show a prompt before its first read. Each read is one read of the inner source, with its bytes and
+/// its failure.
 #[derive(Drop)]
 pub struct Prompted<S, P> {
     inner: S,
     prompt: P,
-    /// Whether it is still to be told.
+    /// Whether it is still to be shown.
     is_due: bool,
 }
 
 impl<S, P> Prompted<S, P> {
-    /// The source `inner`, before whose first read `prompt` is shown if `is_due`.
+    /// The source `inner`; `prompt` is shown before its first read if `is_due`.
     pub fn new(inner: S, prompt: P, is_due: bool) -> Prompted<S, P>
         ensures { within_prompted result ≡ inner }
     {

@@ -1,14 +1,14 @@
-//! The input, of which it is noted what it looks like.
+//! An input that records its encoding and notation.
 #![tactic(auto, unfolding(crate::specs::Within::within_input))]
 
 ghost use Rattle.std.specs.Prelude.{◌≡◌};
-ghost use Rattle.lbk_devices.specs.Within.{within_input};
+ghost use Rattle.lbk_feed.specs.Within.{within_input};
 
-use crate::noting::Notes;
-use lbk_feed::{Failed, Source};
+use super::noting::Notes;
+use crate::traits::{Failed, Source};
 
-/// A source of which it is noted how it begins, and whether it has `!`, where that is wanted. Each read is one read of the
-/// source within, with its bytes and its failure.
+/// A source that records whether it begins with the byte order mark of UTF-16, and, if wanted, whether it has `!`. Each
+/// read is one read of the inner source, with its bytes and its failure.
 #[derive(Drop)]
 pub struct Input<'a, S> {
     inner: S,
@@ -17,7 +17,7 @@ pub struct Input<'a, S> {
 }
 
 impl<'a, S> Input<'a, S> {
-    /// The source `inner`, nothing of which was read yet.
+    /// The source `inner` before its first read.
     pub fn new(inner: S, notes: &'a Notes) -> Input<'a, S>
         ensures { within_input result ≡ inner }
     {
@@ -28,7 +28,7 @@ impl<'a, S> Input<'a, S> {
         }
     }
 
-    /// Notes what these bytes show, the next of the input.
+    /// Records what the next bytes of the input show.
     fn note(&mut self, bytes: &[u8])
         ensures { within_input self.new ≡ within_input self.old }
     {
