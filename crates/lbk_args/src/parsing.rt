@@ -39,7 +39,7 @@ const NO_SIGN: &str = "--sign <TEXT> is 1 to 8 bytes of UTF-8 without a line end
 /// Reads the arguments after the program's name.
 ///
 /// `Help` comes for a call for help or for the version, `Usage` for words that are no command line of the program; both
-/// hold a text for a person. `Memory` comes where an allocation was refused.
+/// hold a text for a person. `Memory` is returned if an allocation was refused.
 pub fn parse<'a>(alloc: Global, words: &'a [&'a str]) -> Result<Order<'a>, WordsFault>
     ensures accepted { IfOk result (λ order. AreAccepted (map (λ w. w.now) words.entry.now)) }
     ensures task { IfOk result (λ order. task_by (map (λ w. w.now) words.entry.now) ≡ Some (task_of order)) }

@@ -70,7 +70,7 @@ fn is_of_names(scalar: char) -> bool {
     scalar == '.' || scalar == '/'
 }
 
-/// Whether a word is a hyphen with a digit behind it.
+/// Whether a word is a hyphen with a digit after it.
 fn has_negative(words: &[&str]) -> bool {
     words
         .iter()

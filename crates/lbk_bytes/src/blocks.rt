@@ -18,16 +18,16 @@ use crate::steps::{CODES, step_at};
 use crate::tries::are_many;
 use lbk_rules::{FlatStep, Neighbours, STEPS};
 
-/// How many bytes at most are looked at together.
+/// How many bytes at most are examined together.
 pub(crate) const BLOCK: usize = 64;
 
-/// How many bytes at least are looked at together. Fewer are taken as fast by steps.
+/// How many bytes at least are examined together. Fewer are taken as fast by steps.
 pub(crate) const LEAST: usize = 20;
 
 /// What is known of the bytes of a block, a bit each.
 #[derive(Clone, Copy)]
 pub(crate) struct Marks {
-    /// Which stand out behind the byte before.
+    /// Which stand out after the byte before.
     pub(crate) standing: u64,
     /// Which are left to steps: those that are special, or of no scalar of one or two bytes in the block. Behind the text's end all
     /// bits are set.
@@ -164,7 +164,7 @@ pub(crate) fn marks_ahead(pairs: &Neighbours, at: usize, text: &[u8]) -> Option<
     })
 }
 
-/// The bits behind the end of a text of this length.
+/// The bits after the end of a text of this length.
 #[inline(always)]
 fn past_end(length: usize) -> u64
     ensures { (i : ℕ) → i < 64 → is_set result i ≡ nat_le length i }

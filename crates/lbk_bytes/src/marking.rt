@@ -21,7 +21,7 @@ use crate::steps::{pairs_of, steps_of};
 use crate::tries::next_try;
 use lbk_rules::{FlatTable, Profile, is_break};
 
-/// How many breaks are looked at together.
+/// How many breaks are examined together.
 const ROOM: usize = 16;
 
 /// A break that stands nowhere.

@@ -23,7 +23,7 @@ use lbk_rules::FlatTable;
 /// read as U+FFFD (Unicode Standard, section 3.9).
 ///
 /// Where the block has no room, or the state is past the text or at its end, or names no profile, the state stays and no break
-/// comes. What stands in the block after the breaks is unspecified. Whatever the table and the state hold, the breaks are
+/// comes. What stands in the block after the breaks is unspecified. With any table and state, the breaks are
 /// breaks of rules, in order, from the state's place on, and the state goes forward with them.
 #[unsafe(no_mangle)]
 pub extern "C" fn lbk_breaks(

@@ -16,7 +16,7 @@ use lbk_rules::FlatTable;
 /// holds, or all that are left. The text may be any bytes.
 ///
 /// Where the block has no room, no chunk is left, or the limits are out of range, the state stays and no chunk comes. What
-/// stands in the block after the chunks is unspecified. Whatever the table and the state hold, each chunk starts at the end of
+/// stands in the block after the chunks is unspecified. With any table and state, each chunk starts at the end of
 /// the one before or earlier, and ends past it and within the text.
 #[unsafe(no_mangle)]
 pub extern "C" fn lbk_chunks(

@@ -1,4 +1,4 @@
-//! What holds of states and of digests, over definitions only. Each law is the contract of a function that does nothing.
+//! What holds of states and of digests, over definitions only. Each law is the contract of a function with an empty body.
 
 ghost use Rattle.std.specs.Prelude.{◌≡◌, ℕ, ◌^◌, ◌<◌, ◌≤◌, List, drop, length};
 ghost use Rattle.lbk_rules.specs.declared.Break.{Break};

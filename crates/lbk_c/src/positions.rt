@@ -27,7 +27,7 @@ use lbk_rules::FlatTable;
 /// may be any bytes, read as `lbk_breaks` reads them.
 ///
 /// Where the block has no room, or the state is past the text or at its end, or names no profile, the state stays and no position
-/// comes. Whatever the table and the state hold, the positions are of rules and in order, from the state's place on, and the
+/// comes. With any table and state, the positions are of rules and in order, from the state's place on, and the
 /// state goes forward with them.
 #[unsafe(no_mangle)]
 pub extern "C" fn lbk_positions(
@@ -75,7 +75,7 @@ pub extern "C" fn lbk_positions(
 /// how many. Places are in units of 16 bits. The text may be any units, read as `lbk_breaks_utf16` reads them.
 ///
 /// Where the block has no room, or the state is past the text or at its end, or names no profile, the state stays and no position
-/// comes. Whatever the table and the state hold, the positions are of rules and in order, from the state's place on, and the
+/// comes. With any table and state, the positions are of rules and in order, from the state's place on, and the
 /// state goes forward with them.
 #[unsafe(no_mangle)]
 pub extern "C" fn lbk_positions_utf16(
@@ -122,7 +122,7 @@ pub extern "C" fn lbk_positions_utf16(
 /// how many. Places are in units of 32 bits. The text may be any units, read as `lbk_breaks_utf32` reads them.
 ///
 /// Where the block has no room, or the state is past the text or at its end, or names no profile, the state stays and no position
-/// comes. Whatever the table and the state hold, the positions are of rules and in order, from the state's place on, and the
+/// comes. With any table and state, the positions are of rules and in order, from the state's place on, and the
 /// state goes forward with them.
 #[unsafe(no_mangle)]
 pub extern "C" fn lbk_positions_utf32(

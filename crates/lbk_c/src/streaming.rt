@@ -20,11 +20,11 @@ use lbk_streams::{Fed, Stream, feed};
 /// many as that holds. All bytes of the piece are taken, unless the block is full. Where `last`, nothing follows the piece: the
 /// breaks left are settled then, and the end is the last of them.
 ///
-/// The bytes may be any: over all calls the breaks are those of the joined pieces, as `lbk_breaks` has them, at places from the
+/// The bytes may be any: over all calls the breaks are those of the joined pieces, as in `lbk_breaks`, at places from the
 /// start of the stream, or of the text of which it is a part. Where the block has no room, nothing is taken and the stream
 /// stays. Where the stream has ended or names no profile, all is taken and no break comes.
-/// Whatever the table and the stream hold, the breaks are breaks of rules, and calls while the block comes back full come to an
-/// end. Whatever the table holds, the places of a stream rise from its start on.
+/// With any table and stream, the breaks are breaks of rules, and calls while the block is full come to an
+/// end. With any table, the places of a stream rise from its start on.
 #[unsafe(no_mangle)]
 pub extern "C" fn lbk_feed(
     table: &FlatTable,

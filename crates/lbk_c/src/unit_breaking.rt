@@ -25,7 +25,7 @@ use lbk_rules::FlatTable;
 /// place (Unicode Standard, section 3.9, D91).
 ///
 /// Where the block has no room, or the state is past the text or at its end, or names no profile, the state stays and no break
-/// comes. Whatever the table and the state hold, the breaks are breaks of rules, in order, from the state's place on, and the
+/// comes. With any table and state, the breaks are breaks of rules, in order, from the state's place on, and the
 /// state goes forward with them.
 #[unsafe(no_mangle)]
 pub extern "C" fn lbk_breaks_utf16(
@@ -71,7 +71,7 @@ pub extern "C" fn lbk_breaks_utf16(
 /// is read as U+FFFD at its place (Unicode Standard, section 3.9, D90).
 ///
 /// Where the block has no room, or the state is past the text or at its end, or names no profile, the state stays and no break
-/// comes. Whatever the table and the state hold, the breaks are breaks of rules, in order, from the state's place on, and the
+/// comes. With any table and state, the breaks are breaks of rules, in order, from the state's place on, and the
 /// state goes forward with them.
 #[unsafe(no_mangle)]
 pub extern "C" fn lbk_breaks_utf32(

@@ -35,7 +35,7 @@ const START: u16 = 0;
 /// may be any bytes, read as `lbk_breaks` reads them.
 ///
 /// Where the block has no room, or the state is past the text or at its end, or names no profile, the state stays and no position
-/// comes. Whatever the table and the state hold, the positions are of rules and in order, from the state's place on, and the
+/// comes. With any table and state, the positions are of rules and in order, from the state's place on, and the
 /// state goes forward with them.
 #[unsafe(no_mangle)]
 pub extern "C" fn lbk_positions(

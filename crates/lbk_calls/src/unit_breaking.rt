@@ -30,7 +30,7 @@ use lbk_units::{Unit, fill_units};
 /// place (Unicode Standard, section 3.9, D91).
 ///
 /// Where the block has no room, or the state is past the text or at its end, or names no profile, the state stays and no break
-/// comes. Whatever the table and the state hold, the breaks are breaks of rules, in order, from the state's place on, and the
+/// comes. With any table and state, the breaks are breaks of rules, in order, from the state's place on, and the
 /// state goes forward with them.
 #[unsafe(no_mangle)]
 pub extern "C" fn lbk_breaks_utf16(

@@ -56,7 +56,7 @@ pub fn chunks(
     count
 }
 
-/// A chunk, and the state behind it.
+/// A chunk, and the state after it.
 #[derive(Clone, Copy)]
 struct Given {
     chunk: Chunk,
@@ -115,7 +115,7 @@ fn chunk_end(table: &FlatTable, limits: &Limits, state: &ChunkState, text: &[u8]
     Some(last)
 }
 
-/// The first cut behind what was told.
+/// The first cut after what was told.
 fn first_past(table: &FlatTable, state: &ChunkState, text: &[u8]) -> Option<Found>
     ensures first { (cell : ℕ → Cell) (cuts : List Cut) → IsAt cell table.now text.now cuts state.now
         → MatchOption result (cuts_past state.now.told cuts ≡ []) (λ first. IsFirstPast cell table.now text.now cuts state.now.told first) }
@@ -153,7 +153,7 @@ fn found_or(early: Option<Found>, last: Found) -> Found
     early.unwrap_or(last)
 }
 
-/// The state behind a chunk that ends at a cut.
+/// The state after a chunk that ends at a cut.
 fn next_start(
     table: &FlatTable,
     limits: &Limits,

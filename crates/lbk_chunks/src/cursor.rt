@@ -13,14 +13,14 @@ use lbk_bytes::RawBreak;
 use lbk_calls::{State, give_breaks};
 use lbk_rules::FlatTable;
 
-/// A cut, and the place behind it.
+/// A cut, and the place after it.
 #[derive(Clone, Copy)]
 pub(crate) struct Found {
     pub(crate) cut: Cut,
     pub(crate) place: Place,
 }
 
-/// A break, and the state behind it.
+/// A break, and the state after it.
 #[derive(Clone, Copy)]
 pub(crate) struct NextBreak {
     pub(crate) found: RawBreak,

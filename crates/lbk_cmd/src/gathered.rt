@@ -1,4 +1,4 @@
-//! Lines that wait for those behind them, as long as no read is due.
+//! Lines that wait for those after them, as long as no read is due.
 
 ghost use Rattle.std.specs.Prelude.{ℕ, ◌≡◌, ◌≤◌, ◌<◌, ◌⊎◌, ◌^◌, List, [], length, take, true, vec_len, Err, OnOk, OnErr};
 ghost use Rattle.std.specs.Io.KnownBytes.{Appends};
@@ -101,7 +101,7 @@ impl Gathered {
         Ok(())
     }
 
-    /// Puts the lines of the next passage behind the others, and returns whether one came. After a fault none of its lines
+    /// Puts the lines of the next passage after the others, and returns whether one came. After a fault none of its lines
     /// stand there.
     pub fn put_next<R: Source, C: CellSource>(
         &mut self,

@@ -86,7 +86,7 @@ impl Feed {
         ensures spent { self.old.is_spent ≡ true → result ≡ Err FeedFault.Spent }
         ensures spent_only { result ≡ Err FeedFault.Spent → self.old.is_spent ≡ true }
 
-        // Where a piece is ready, the end was met, or a fault was returned or is certain, no read is made.
+        // Where a piece is ready, the end was reached, or a fault was returned or is certain, no read is made.
         ensures idle { IsIdle self.old → reader.new ≡ reader.old }
         ensures read { result ≡ Err FeedFault.Read → ¬ (IsIdle self.old) }
         ensures reads { (R.reads_made reader.new).count ≤ (R.reads_made reader.old).count + 4 }
@@ -116,7 +116,7 @@ impl Feed {
         ensures spent { self.old.is_spent ≡ true → result ≡ Err FeedFault.Spent }
         ensures spent_only { result ≡ Err FeedFault.Spent → self.old.is_spent ≡ true }
 
-        // Where a piece is ready, the end was met, or a fault was returned or is certain, no read is made.
+        // Where a piece is ready, the end was reached, or a fault was returned or is certain, no read is made.
         ensures idle { IsIdle self.old → reader.new ≡ reader.old }
         ensures read { result ≡ Err FeedFault.Read → ¬ (IsIdle self.old) }
         ensures reads { (R.reads_made reader.new).count ≤ (R.reads_made reader.old).count + 4 }

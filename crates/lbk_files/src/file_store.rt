@@ -19,7 +19,7 @@ pub trait Opens {
 
     /// Opens the file of a name.
     ///
-    /// `Unreadable` comes where it cannot be opened, `Memory` where memory could not grow for that.
+    /// `Unreadable` is returned if it cannot be opened, `Memory` where memory cannot grow for that.
     fn open(&self, name: &str) -> Result<Self::File, LoadFault>
         ensures opened { IfOk result (λ file. AreLeft (contents self.now name.now) (Self.File.unread file)) }
         ensures fault { IfErr result (IsLoadFault (contents self.now name.now)) };

@@ -13,7 +13,7 @@ const BLOCK: usize = 16_384;
 /// The first `most + 1` bytes that a reader gives, or all of them if it has fewer, in at most `most + 1` reads, and one more than
 /// bytes came.
 ///
-/// `Unreadable` comes where a read fails, `Memory` where memory could not grow.
+/// `Unreadable` is returned if a read fails, `Memory` where memory could not grow.
 pub fn read_front<R: Source>(
     alloc: Global,
     reader: &mut R,

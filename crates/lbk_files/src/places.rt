@@ -29,7 +29,7 @@ pub(crate) struct Places<'a> {
     pub(crate) emoji: Place<'a>,
 }
 
-/// The names by which the files are loaded. An error comes where memory could not grow for the name of a file of a folder.
+/// The names by which the files are loaded. Returns an error if memory cannot grow for the name of a file of a folder.
 pub(crate) fn places_of<'a>(alloc: Global, names: &FileNames<'a>) -> Result<Places<'a>, AllocError>
     ensures places { IfOk result (λ places. (file : List ℕ → Option (Option (List ℕ)))
         → files_at file places ≡ files_of file (files_of_names names.now)) }

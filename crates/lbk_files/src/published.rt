@@ -39,7 +39,7 @@ pub enum ClaimCause {
 /// Tests that a file is, byte for byte, the one of its name that Unicode 15.0.0 published, by its SHA-256 digest, where
 /// CR LF at the end of a line counts as LF.
 ///
-/// Of any other file, `Version` is the version that it names where that is not 15.0.0, `Changed` comes where it names
+/// Of any other file, `Version` is the version that it names where that is not 15.0.0, `Changed` is returned if it names
 /// 15.0.0, and `Title` where it names none; `laws::refused_files_have_one_cause`.
 pub fn check_claim(which: Which, bytes: &[u8]) -> Result<(), ClaimCause>
     ensures { MatchResult result (λ _. IsPublished which bytes.now) (IsClaimCause which bytes.now) }

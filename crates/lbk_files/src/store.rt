@@ -33,7 +33,7 @@ pub trait Store {
 
     /// The first `most + 1` bytes of a file, or all of them if it has fewer.
     ///
-    /// `Unreadable` comes where it cannot be opened or read, `Memory` where memory could not grow. No load changes what
+    /// `Unreadable` is returned if it cannot be opened or read, `Memory` where memory could not grow. No load changes what
     /// the store tells.
     fn load(&mut self, alloc: Global, name: &str, most: usize) -> Result<Vec<u8>, LoadFault>
         requires { most < 2 ^ 64 - 1 }

@@ -30,7 +30,7 @@ pub(crate) struct Found {
 }
 
 impl Found {
-    /// What is found before any byte is looked at, where `before` is the left set of the byte before them.
+    /// What is found before any byte is examined, where `before` is the left set of the byte before them.
     #[inline(always)]
     pub(crate) fn nothing(before: u8) -> Found
         ensures found { (sets : ByteSets) (text : List ℕ) → AreFound sets before text 0 result }

@@ -3,7 +3,7 @@
 //! Each byte has two sets of up to eight things: one as the left of two neighbours, one as the right. A byte stands out
 //! where its right set meets the left set of the byte before it, and is special where they meet in one of the first two
 //! things. All of it holds whatever the sets are.
-//! Bytes are looked at 16 at a time. Of a text of fewer than 64 the last 16 are looked at whatever was looked at before.
+//! Bytes are examined 16 at a time. Of a text of fewer than 64 the last 16 are examined whatever was looked at before.
 #![tactic(auto)]
 
 ghost use Rattle.std.specs.Prelude.{◌≡◌, ◌/◌, ◌%◌, ℕ, ◌+◌, ◌<◌, ◌≤◌, ◌∷◌, ◌&&◌, List, length, get_or, bit_and, min, nat_le, nat_lt};
@@ -27,7 +27,7 @@ use std::simd::prelude::*;
 /// How many bytes at most have a bit.
 const BITS: usize = 64;
 
-/// How many bytes are looked at together.
+/// How many bytes are examined together.
 const LANES: usize = 16;
 
 /// The things in which every byte that meets another is special.
@@ -91,7 +91,7 @@ impl ByteSets {
         }
     }
 
-    /// What is found of these bytes. The last 16 of them are looked at last, whatever was looked at before.
+    /// What is found of these bytes. The last 16 of them are examined last, whatever was looked at before.
     #[inline(always)]
     fn found(&self, before: u8, text: &[u8]) -> Found
         requires { 16 < length text.now }
@@ -107,7 +107,7 @@ impl ByteSets {
         self.last(text, end, found)
     }
 
-    /// What is found where the last 16 bytes before a place are looked at too.
+    /// What is found where the last 16 bytes before a place are examined too.
     #[inline(always)]
     fn last(&self, text: &[u8], end: usize, so_far: Found) -> Found
         requires { (16 < end) × (end ≤ 64) × (end ≤ length text.now) }
@@ -119,7 +119,7 @@ impl ByteSets {
         self.further(text, at, Found { left, ..so_far })
     }
 
-    /// What is found where 16 bytes from a place on are looked at too. The left set of the byte before them is known.
+    /// What is found where 16 bytes from a place on are examined too. The left set of the byte before them is known.
     #[inline(always)]
     fn further(&self, text: &[u8], at: usize, so_far: Found) -> Found
         requires { (at ≤ 48) × (at + 16 ≤ length text.now) }

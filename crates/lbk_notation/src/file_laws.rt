@@ -1,4 +1,4 @@
-//! What the definitions of a test file and its replay amount to, as the contracts of functions that do nothing.
+//! What the definitions of a test file and its replay amount to, as the contracts of functions with empty bodies.
 
 ghost use Rattle.std.specs.Prelude.{◌≡◌, ℕ, List, ◌++◌};
 ghost use Rattle.std.specs.List.{AllByRecursion};

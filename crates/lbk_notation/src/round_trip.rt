@@ -22,7 +22,7 @@ use super::writing::write_line;
 use std::alloc::Global;
 
 /// Writes a line and reads what it wrote: in form Kinds the line itself, in Plain the line with each Must
-/// as a May. `LineTooLong` comes where the written line is over 268,435,456 bytes, `Memory` where an
+/// as a May. `LineTooLong` is returned if the written line is over 268,435,456 bytes, `Memory` where an
 /// allocation was refused.
 pub fn read_back(alloc: Global, line: &TestLine, form: Form) -> Result<Option<TestLine>, LineFault>
     ensures same { IfOk result (λ read. read ≡ Some (shown_line form line.now)) }

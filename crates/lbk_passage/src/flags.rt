@@ -11,7 +11,7 @@ const ASCII: u8 = 0x80;
 /// The first byte value above those that continue a scalar.
 const FIRST: u8 = 0xC0;
 
-/// How many bytes are looked at in one turn.
+/// How many bytes are examined in one turn.
 const TURN: usize = 8;
 
 /// For each byte what it tells of its scalar. Most bytes of most texts tell enough, by one read.

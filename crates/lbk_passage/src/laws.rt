@@ -56,7 +56,7 @@ pub fn run_begins()
     ensures { (profile : Profile) (cell : ℕ → Cell) (left : List ℕ) → HasGiven profile cell [] left }
 {}
 
-/// A passage more: where it comes first in the text still to come, those given before it and it are the first ones of
+/// A passage more: where it comes first in the rest of the text, those given before it and it are the first ones of
 /// the whole text. The bytes left before it are its own, those after it, and those unread; at the end none are unread.
 pub fn run_goes_on()
     ensures { (s : State) (given : List (List Marked)) (passage : List Marked) (behind unread : List ℕ)

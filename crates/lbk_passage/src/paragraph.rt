@@ -65,7 +65,7 @@ impl Paragraph {
         self.text.as_str()
     }
 
-    /// How many bytes of the whole text stand before the paragraph.
+    /// The number of bytes of the whole text before the paragraph.
     pub fn start(&self) -> u64
         ensures start { result ≡ self.now.feed.given - string_len self.now.text }
     {
@@ -79,7 +79,7 @@ impl Paragraph {
         self.feed.given()
     }
 
-    /// Lets the paragraph go, which was given.
+    /// Releases a paragraph that was already returned.
     pub fn release(&mut self)
         ensures { IsSame self.old self.new false self.old.is_spent }
     {

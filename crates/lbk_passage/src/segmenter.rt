@@ -55,7 +55,7 @@ impl<'a, C: CellSource> Segmenter<'a, C> {
 
     /// A segmenter that has read nothing. It reserves room for the `limit` bytes of one paragraph and nothing else.
     ///
-    /// `Limit` comes exactly where the limit is not 1 to 16,777,216, `Memory` where the room could not be had.
+    /// `Limit` is returned exactly if the limit is not 1 to 16,777,216, `Memory` where the room could not be had.
     pub fn new(
         alloc: Global,
         cells: &'a C,
@@ -88,7 +88,7 @@ impl<'a, C: CellSource> Segmenter<'a, C> {
     ///
     /// It is given once the scalar after it, or the end of the text, was seen, after at most `limit + 8` reads. A
     /// fault of the reader or of the text (`Read`, `NotUtf8`, `TextTooLong`, `ParagraphTooLong`) comes at its place, once
-    /// the passages before it were given, and `Spent` from then on. `Memory` comes where the passage has more segments or
+    /// the passages before it were given, and `Spent` from then on. `Memory` is returned if the passage has more segments or
     /// pieces than there was room for, and memory could not grow; it stays, and the same call made again reads nothing.
     pub fn next<R: Source>(&mut self, reader: &mut R) -> Result<Option<Passage<'_>>, PassageFault>
         ensures* after_borrow { sem 𝓛 (Rests (the_row (record { mir = named 1; lft = [] }) C.row C.CellSource) self.entry (λ new.
@@ -100,7 +100,7 @@ impl<'a, C: CellSource> Segmenter<'a, C> {
         ensures lent { IfOk result (λ o. IfSome o IsPlaced) }
         ensures spent { (state_of C.cell_of self.old).is_spent ≡ true → result ≡ Err PassageFault.Spent }
         ensures spent_only { result ≡ Err PassageFault.Spent → (state_of C.cell_of self.old).is_spent ≡ true }
-        // `None` stays: it leaves nothing held and the end met.
+        // `None` stays: it leaves nothing held and the end reached.
         ensures again { IsDone (state_of C.cell_of self.old) → (state_of C.cell_of self.old).is_spent ≡ false → result ≡ Ok None }
         // Where the end was seen before, or a fault was returned, no read is made.
         ensures settled { (state_of C.cell_of self.old).is_settled ≡ true → reader.new ≡ reader.old }

@@ -1,4 +1,4 @@
-//! Laws of the definitions that the contracts cite. Each stands as the contract of a function that does nothing.
+//! Laws of the definitions that the contracts cite. Each is the contract of a function with an empty body.
 ghost use Rattle.std.specs.Prelude.{◌≡◌, ◌==◌, ◌≤◌, ◌↔◌, ◌⊎◌, ℕ, Bool, true, false, not, List, Some};
 ghost use Rattle.std.specs.List.{AllPairs, list_any, list_all, join_with_byte};
 ghost use Rattle.lbk_ucd.specs.declared.ranges.Row.{Row};

@@ -9,7 +9,7 @@ use crate::parts::fill_by_scalars;
 use crate::word::{Filled, Word};
 use lbk_masks::{HalfSets, first_set, kept_below, kept_from, wide, without_first};
 
-/// How many bytes are looked at together.
+/// How many bytes are examined together.
 pub(crate) const BLOCK: usize = 64;
 
 /// The last of them, whose next byte is not looked at.

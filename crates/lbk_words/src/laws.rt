@@ -1,4 +1,4 @@
-//! What holds of the words of a text, over definitions only. Each law is the contract of a function that does nothing.
+//! What holds of the words of a text, over definitions only. Each law is the contract of a function with an empty body.
 
 ghost use Rattle.std.specs.Prelude.{◌≡◌, ℕ, List, [], true, IsUtf8};
 ghost use Rattle.unicode_segmentation.specs.Segments.{cut};

@@ -22,7 +22,7 @@ pub(crate) struct Step {
     pub(crate) cuts: bool,
     /// Whether it ends there and is a word.
     pub(crate) counts: bool,
-    /// Whether the step may be another one by what is behind the scalar.
+    /// Whether the step may be another one by what is after the scalar.
     pub(crate) asks: bool,
 }
 
@@ -69,7 +69,7 @@ pub(crate) fn step_of_byte(row: usize, byte: u8) -> Step
     step_at(0, row, kind_of(u32::from(byte)) as usize)
 }
 
-/// The step that the table has for a row and a kind, and an answer to what is behind the scalar.
+/// The step that the table has for a row and a kind, and an answer to what is after the scalar.
 #[inline(always)]
 fn step_at(answer: usize, row: usize, kind: usize) -> Step
     requires { (answer < 4) × (row < 43) × (kind < 32) }
