@@ -7,7 +7,8 @@ ghost use Rattle.lbk_values.specs.declared.profile.Profile.{Profile};
 ghost use Rattle.lbk_rules.specs.FlatTable.{AreFlatKinds};
 ghost use Rattle.lbk_rules.specs.Neighbours.{AreTold};
 ghost use Rattle.lbk_masks.specs.Sets.{is_set};
-ghost use Rattle.lbk_bytes.specs.Blocks.{AreCleared, AreEnded, AreInside, AreKeptBelow, AreKeptFrom, AreLeft, AreMarks, IsAhead, IsBlock, IsLowest, place_in, row_before};
+ghost use Rattle.lbk_masks.specs.Bits.{AreKeptBelow, IsLowest};
+ghost use Rattle.lbk_bytes.specs.Blocks.{AreEnded, AreInside, AreLeft, AreMarks, IsAhead, IsBlock, place_in, row_before};
 ghost use Rattle.lbk_bytes.specs.Reached.{Ahead, AreSwift, IsInOrder, Reached};
 ghost use Rattle.lbk_bytes.specs.Shown.{given_in};
 
@@ -16,6 +17,7 @@ use crate::filling::{put_break, runs};
 use crate::raw_break::RawBreak;
 use crate::steps::{CODES, step_at};
 use crate::tries::are_many;
+use lbk_masks::{first_set, kept_below, kept_from, without_first};
 use lbk_rules::{FlatStep, Neighbours, STEPS};
 
 /// How many bytes at most are examined together.
@@ -209,30 +211,21 @@ fn told(
     let marked = BlockState {
         count: here.count,
         past: here.at,
-        left: kept_below(kept_from(marks.standing, begin), taken),
+        left: kept_up_to(kept_from(marks.standing, begin), taken),
     };
     finish(pairs, kinds, steps, at, taken, marked, text, out)
 }
 
-/// The bits of a number from this one on.
+/// The bits of a number below this one, which is at most 64.
 #[inline(always)]
-fn kept_from(bits: u64, first: usize) -> u64
-    requires { first < 64 }
-    ensures { AreKeptFrom first bits result }
-{
-    bits & !((1 << first) - 1)
-}
-
-/// The bits of a number below this one.
-#[inline(always)]
-pub(crate) fn kept_below(bits: u64, count: usize) -> u64
+pub(crate) fn kept_up_to(bits: u64, count: usize) -> u64
     requires { count ≤ 64 }
     ensures { AreKeptBelow count bits result }
 {
     if count == BLOCK {
         return bits;
     }
-    bits & ((1 << count) - 1)
+    kept_below(bits, count)
 }
 
 /// Writes the breaks that are left in the first bytes of a block, and takes these.
@@ -330,23 +323,4 @@ fn take_break(
         past: place + 1,
         left: without_first(here.left),
     }
-}
-
-/// The lowest bit that is set, or some bit where none is.
-#[inline(always)]
-fn first_set(bits: u64) -> usize
-    ensures within { result < 64 }
-    ensures lowest { IsLowest bits result }
-{
-    (bits.trailing_zeros() & 63) as usize
-}
-
-/// The bits without the lowest that is set.
-#[inline(always)]
-fn without_first(bits: u64) -> u64
-    requires { 0 < bits }
-    ensures cleared { (index : ℕ) → index < 64 → IsLowest bits index → AreCleared bits index result }
-    ensures fewer { result < bits }
-{
-    bits & (bits - 1)
 }

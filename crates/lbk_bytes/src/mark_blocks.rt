@@ -12,7 +12,7 @@ ghost use Rattle.lbk_bytes.specs.Marking.{Marked};
 ghost use Rattle.lbk_bytes.specs.Marks.{is_marked};
 ghost use Rattle.lbk_bytes.specs.Reached.{Ahead, AreSwift};
 
-use crate::blocks::{BLOCK, Marks, behind_byte, kept_below, marks_ahead};
+use crate::blocks::{BLOCK, Marks, behind_byte, kept_up_to, marks_ahead};
 use crate::fill_state::FillState;
 use crate::marks::mark_bits;
 use lbk_rules::Neighbours;
@@ -65,7 +65,7 @@ fn mark_block(
         return here;
     };
     let taken = marks.stops.trailing_zeros() as usize;
-    mark_bits(words, here.at - from, kept_below(marks.standing, taken));
+    mark_bits(words, here.at - from, kept_up_to(marks.standing, taken));
     behind_byte(pairs, 0, here.at + taken, text)
 }
 
