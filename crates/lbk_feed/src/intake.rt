@@ -29,10 +29,12 @@ pub struct Intake {
 }
 
 impl Intake {
-    ghost use Rattle.std.specs.Prelude.{◌+◌, ◌≤◌, ◌<◌, ◌⊎◌, ◌||◌, true, false, length, drop, IfErr, OnOk, OnErr, IfSome, IfNone, IsOk, is_err, []};
+    ghost use Rattle.std.specs.Prelude.{◌+◌, ◌≤◌, ◌<◌, ◌⊎◌, ◌||◌, true, false, length, drop, IfErr, OnOk, OnErr};
+    ghost use Rattle.std.specs.Prelude.{IfSome, IfNone, IsOk, is_err, []};
     ghost use Rattle.std.specs.Str.{IsCharBoundary};
     ghost use Rattle.lbk_feed.specs.Devices.{failures_after};
-    ghost use Rattle.lbk_feed.specs.View.{new_view, IsFront, LendsFront, LiesIn, Steps, Pays, Agrees, IsOfText, IsIdle, fault_of, failures_with};
+    ghost use Rattle.lbk_feed.specs.View.{new_view, IsFront, LendsFront, LiesIn, Steps, Pays, Agrees, IsOfText};
+    ghost use Rattle.lbk_feed.specs.View.{IsIdle, fault_of, failures_with};
     ghost use Rattle.lbk_feed.specs.Intake.{view_of, WantsMore, IsSettled, Draws, DrawsAndFails};
 
     pub fn new() -> Intake

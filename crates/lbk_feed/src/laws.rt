@@ -1,7 +1,8 @@
 //! Laws about the definitions of well-formed bytes. Each is the contract of a function with an empty body.
 
 ghost use Rattle.std.specs.Prelude.{◌≡◌, ℕ, Bool, List, ◌++◌, IsUtf8};
-ghost use Rattle.lbk_feed.specs.Text.{greatest_limit, longest_text, well_formed_prefix, IsLongestText, IsNotUtf8At, IsTooLong};
+ghost use Rattle.lbk_feed.specs.Text.{greatest_limit, longest_text, well_formed_prefix, IsLongestText, IsNotUtf8At};
+ghost use Rattle.lbk_feed.specs.Text.{IsTooLong};
 
 use crate::limits::{LIMIT_MAX, TEXT_MAX};
 

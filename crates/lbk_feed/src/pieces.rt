@@ -1,12 +1,14 @@
 //! Well-formed pieces of a reader's bytes.
 
-ghost use Rattle.std.specs.Prelude.{◌≡◌, ◌+◌, ◌≤◌, ◌<◌, drop, length, true, false, IfOk, IfSome, IsOkAnd, IsSomeAnd, IsUtf8, []};
+ghost use Rattle.std.specs.Prelude.{◌≡◌, ◌+◌, ◌≤◌, ◌<◌, drop, length, true, false, IfOk, IfSome, IsOkAnd, IsSomeAnd};
+ghost use Rattle.std.specs.Prelude.{IsUtf8, []};
 ghost use Rattle.std.specs.Borrow.{sem};
 ghost use Rattle.std.specs.Io.BufRead.{Rests};
 ghost use Rattle.std.specs.Str.{IsCharBoundary};
 ghost use Rattle.std.specs.Bool.{OnTrue, OnFalse};
 ghost use Rattle.lbk_feed.specs.Text.{longest_text};
-ghost use Rattle.lbk_feed.specs.View.{new_view, IsFront, LendsFront, IsIdle, Steps, Pays, Agrees, AfterPiece, fault_of, failures_with};
+ghost use Rattle.lbk_feed.specs.View.{new_view, IsFront, LendsFront, IsIdle, Steps, Pays, Agrees, AfterPiece};
+ghost use Rattle.lbk_feed.specs.View.{fault_of, failures_with};
 ghost use Rattle.lbk_feed.specs.contracts.pieces.Feed.{the_row};
 
 use crate::faults::FeedFault;
@@ -62,7 +64,8 @@ impl Feed {
     /// Consumes the first `n` bytes of `ready`. `n` must be on a character boundary.
     pub fn advance(&mut self, n: usize)
         requires { IsCharBoundary self.old.ready n }
-        ensures used { self.new ≡ record self.old { held = drop n self.old.held; ready = drop n self.old.ready; given = self.old.given + n } }
+        ensures used { self.new ≡ record self.old
+            { held = drop n self.old.held; ready = drop n self.old.ready; given = self.old.given + n } }
         ensures front { IsFront self.new }
         ensures lends { LendsFront self.new }
     {
@@ -99,9 +102,9 @@ impl Feed {
 
     /// The next piece: all ready bytes, at least one; or `None` at the end of the text.
     ///
-    /// Bytes that `advance` does not consume are lent again. Errors are `NotUtf8` and `TextTooLong`, once all well-formed
-    /// bytes before the fault were consumed; `Read`, if a read failed; and `Spent` after any of these. A call makes at
-    /// most four reads.
+    /// Bytes that `advance` does not consume are lent again. Errors are `NotUtf8` and `TextTooLong`, once all
+    /// well-formed bytes before the fault were consumed; `Read`, if a read failed; and `Spent` after any of these. A
+    /// call makes at most four reads.
     pub fn piece<R: Source>(&mut self, reader: &mut R) -> Result<Option<&str>, FeedFault>
         ensures* after_borrow { sem 𝓛 (Rests the_row self.entry (λ new.
             AfterPiece self.old new (R.unread reader.old) (R.unread reader.new)

@@ -3,8 +3,8 @@ use Rattle.std.specs.Prelude.{◌≡◌, ℕ, ◌+◌, ◌-◌, ◌*◌, ◌<◌
 use Rattle.lbk_masks.specs.declared.ByteSets.{ByteSets}
 use Rattle.lbk_masks.specs.Sets.{right_in}
 
--- the scalar of this first byte and the second `128 + more` has the kind of the code that is the byte's number, the rows of both
--- bytes are the same, and the second stands out after no byte
+-- the scalar of this first byte and the second `128 + more` has the kind of the code that is the byte's number, the
+-- rows of both bytes are the same, and the second stands out after no byte
 pub record StandsFor (kinds rows : List ℕ) (sets : ByteSets) (byte more : ℕ) : Type 0 where
   pub alike : slice_index_or kinds ((byte - 192) * 64 + more) 0 ≡ slice_index_or kinds byte 0
   pub leads : slice_index_or rows (128 + more) 0 ≡ slice_index_or rows byte 0

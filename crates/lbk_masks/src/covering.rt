@@ -1,9 +1,9 @@
 //! Sets of bytes by which some bytes stand out after others, found by a greedy cover.
 //!
 //! Which bytes stand out after which is a relation. It is covered by rectangles: all of some bytes after all of some
-//! others. Each rectangle is one thing that the left sets of the first and the right sets of the others have in common.
-//! Nothing is claimed of what is found here. A caller compares it with what it knows of the bytes before it uses it, so that
-//! nothing rests on it but speed.
+//! others. Each rectangle is one thing that the left sets of the first and the right sets of the others have in
+//! common. Nothing is claimed of what is found here. A caller compares it with what it knows of the bytes before it
+//! uses it, so that nothing rests on it but speed.
 
 ghost use Rattle.std.specs.Prelude.{◌<◌, ◌≤◌};
 
@@ -75,8 +75,9 @@ struct Rectangle {
     covered: u32,
 }
 
-/// Sets that may tell what is related, as far as eight things and sixteen classes reach. Bytes that are rare in texts are
-/// special after each other. Those that go on with a scalar are as the left what a letter is, and stand out after none.
+/// Sets that may tell what is related, as far as eight things and sixteen classes reach. Bytes that are rare in texts
+/// are special after each other. Those that go on with a scalar are as the left what a letter is, and stand out after
+/// none.
 pub fn cover(related: &Related) -> Covering {
     let mut found = Found {
         left: [0; ASCII],
@@ -120,8 +121,9 @@ fn cover_special(special: &Behind, usual: Bytes, found: &mut Found) {
     put_right(right, SPECIAL_BEHIND_SOME, found);
 }
 
-/// Covers the breaks by as many rectangles as there are things left, each time by the one that covers most, and returns the
-/// bytes after which all breaks are covered. As many bytes as there may be of a kind count once: `different` has one of each.
+/// Covers the breaks by as many rectangles as there are things left, each time by the one that covers most, and
+/// returns the bytes after which all breaks are covered. As many bytes as there may be of a kind count once:
+/// `different` has one of each.
 fn cover_breaks(breaks: &Behind, usual: Bytes, different: Bytes, found: &mut Found) -> Bytes {
     let mut open = *breaks;
     let mut thing = FIRST_BREAK;
@@ -209,7 +211,8 @@ fn covered_by(breaks: &Behind, open: &Behind, different: Bytes, right: Bytes) ->
     sum
 }
 
-/// Puts a thing into the sets of the widest rectangle with this right side, and takes its pairs off those that are open.
+/// Puts a thing into the sets of the widest rectangle with this right side, and takes its pairs off those that are
+/// open.
 fn take_rectangle(
     breaks: &Behind,
     open: &mut Behind,
@@ -239,8 +242,8 @@ fn put_right(right: Bytes, thing: u8, found: &mut Found) {
     }
 }
 
-/// A class for each pair of sets, as long as there are classes. The first is that of all other bytes, which are special after
-/// each, and the next that of the bytes that go on with a letter.
+/// A class for each pair of sets, as long as there are classes. The first is that of all other bytes, which are
+/// special after each, and the next that of the bytes that go on with a letter.
 fn classed(found: &Found, covered: Bytes) -> Covering {
     let mut sets = ByteSets {
         classes: [[0; 16]; 8],
@@ -267,7 +270,8 @@ fn classed(found: &Found, covered: Bytes) -> Covering {
     Covering { sets, known }
 }
 
-/// Puts the classes of the bytes from 128 on into the high halves: of those that go on with a scalar, and of these first bytes.
+/// Puts the classes of the bytes from 128 on into the high halves: of those that go on with a scalar, and of these
+/// first bytes.
 fn put_wide(firsts: Bytes, sets: &mut ByteSets) {
     let letter = sets.classes[LETTER / 16][LETTER % 16];
     for byte in 0..ASCII {

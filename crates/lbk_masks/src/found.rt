@@ -49,7 +49,8 @@ impl Found {
 #[inline(always)]
 pub(crate) fn joined(bits: u64, at: usize, more: u64) -> u64
     requires { at ≤ 48 }
-    ensures { (known : ℕ) (is : ℕ → Bool) → at ≤ known → known ≤ at + 16 → ((i : ℕ) → is_set more i ≡ (nat_lt i 16 && is (at + i)))
+    ensures { (known : ℕ) (is : ℕ → Bool) → at ≤ known → known ≤ at + 16
+        → ((i : ℕ) → is_set more i ≡ (nat_lt i 16 && is (at + i)))
         → AreBits known is bits → AreBits (at + 16) is result }
 {
     bits | (more << at)

@@ -12,7 +12,8 @@ const CODES: usize = 0x11_0000;
 /// How many bytes go on with a scalar, and so how many scalars of two bytes each first byte begins.
 const MORE: u8 = 64;
 
-/// The bytes, less 128, that begin only letters: their scalars, and the code that is the byte's number, have the kind of [`LETTER`].
+/// The bytes, less 128, that begin only letters: their scalars, and the code that is the byte's number, have the kind
+/// of [`LETTER`].
 pub fn firsts_of_letters(kinds: &[u8; CODES]) -> Bytes {
     let mut firsts = 0;
     for first in 2..32_usize {
@@ -35,8 +36,8 @@ fn are_letters(from: usize, kinds: &[u8; CODES]) -> bool
     true
 }
 
-/// Whether a byte stands for each scalar of two bytes that it begins: they have the kind of the code that is the byte's own
-/// number, the row after them is the byte's, and their second bytes never stand out.
+/// Whether a byte stands for each scalar of two bytes that it begins: they have the kind of the code that is the
+/// byte's own number, the row after them is the byte's, and their second bytes never stand out.
 pub fn stands_for_all(byte: u8, kinds: &[u8; CODES], rows: &[u16; 256], sets: &ByteSets) -> bool
     ensures { result ≡ true → StandsForAll kinds.now rows.now sets.now byte }
 {

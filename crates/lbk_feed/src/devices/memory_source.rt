@@ -4,7 +4,8 @@
 ghost use Rattle.std.specs.Prelude.{◌≡◌, ◌≤◌, ◌↔◌, [], min, length, Some, None, IsErr, IfOk, OnOk, OnErr};
 ghost use Rattle.lbk_feed.specs.Devices.{count_up, given_by, failures_after, ended_after, Takes};
 ghost use Rattle.lbk_feed.specs.Tally.{IsFresh, reads_in};
-ghost use Rattle.lbk_feed.specs.MemorySource.{source_bytes, source_sizes, next_size_of, later_sizes, failing_read, source_tally};
+ghost use Rattle.lbk_feed.specs.MemorySource.{source_bytes, source_sizes, next_size_of, later_sizes, failing_read};
+ghost use Rattle.lbk_feed.specs.MemorySource.{source_tally};
 
 use crate::tally::Tally;
 use crate::traits::{Failed, Source};
@@ -80,7 +81,8 @@ impl<'a> MemorySource<'a> {
     fn give(&mut self, buf: &mut [u8]) -> Result<usize, Failed>
         ensures within { IfOk result (λ n. n ≤ length buf.old) }
         ensures fails { IsErr result ↔ (failing_read self.old ≡ Some (source_tally self.old).reads) }
-        ensures size { IfOk result (λ n. n ≡ min (min (next_size_of (source_sizes self.old)) (length buf.old)) (length (source_bytes self.old))) }
+        ensures size { IfOk result (λ n. n
+            ≡ min (min (next_size_of (source_sizes self.old)) (length buf.old)) (length (source_bytes self.old))) }
         ensures bytes { Takes (Some (source_bytes self.old)) (Some (source_bytes self.new)) result buf.new }
         ensures sizes { OnOk result (source_sizes self.new ≡ later_sizes (source_sizes self.old)) }
         ensures same_sizes { OnErr result (source_sizes self.new ≡ source_sizes self.old) }
@@ -115,10 +117,12 @@ impl Source for MemorySource<'_> {
         ensures reads { (reads_in (source_tally self.new)).count ≡ count_up (reads_in (source_tally self.old)).count }
         ensures gave { (reads_in (source_tally self.new)).gave ≡ given_by result }
         ensures failures { (source_tally self.new).failures ≡ failures_after (source_tally self.old).failures result }
-        ensures ended { (source_tally self.new).ended ≡ ended_after (source_tally self.old).ended result (length buf.old) }
+        ensures ended { (source_tally self.new).ended
+            ≡ ended_after (source_tally self.old).ended result (length buf.old) }
 
         ensures fails { IsErr result ↔ (failing_read self.old ≡ Some (source_tally self.old).reads) }
-        ensures size { IfOk result (λ n. n ≡ min (min (next_size_of (source_sizes self.old)) (length buf.old)) (length (source_bytes self.old))) }
+        ensures size { IfOk result (λ n. n
+            ≡ min (min (next_size_of (source_sizes self.old)) (length buf.old)) (length (source_bytes self.old))) }
         ensures sizes { OnOk result (source_sizes self.new ≡ later_sizes (source_sizes self.old)) }
         ensures same_sizes { OnErr result (source_sizes self.new ≡ source_sizes self.old) }
         ensures failing { failing_read self.new ≡ failing_read self.old }

@@ -57,10 +57,13 @@ impl Source for RepeatedSource {
     fn read(&mut self, buf: &mut [u8]) -> Result<usize, Failed>
         ensures within { IfOk result (λ n. n ≤ length buf.old) }
         ensures bytes { Takes (Some (repeated_bytes self.old)) (Some (repeated_bytes self.new)) result buf.new }
-        ensures reads { (reads_in (repeated_tally self.new)).count ≡ count_up (reads_in (repeated_tally self.old)).count }
+        ensures reads { (reads_in (repeated_tally self.new)).count
+            ≡ count_up (reads_in (repeated_tally self.old)).count }
         ensures gave { (reads_in (repeated_tally self.new)).gave ≡ given_by result }
-        ensures failures { (repeated_tally self.new).failures ≡ failures_after (repeated_tally self.old).failures result }
-        ensures ended { (repeated_tally self.new).ended ≡ ended_after (repeated_tally self.old).ended result (length buf.old) }
+        ensures failures { (repeated_tally self.new).failures
+            ≡ failures_after (repeated_tally self.old).failures result }
+        ensures ended { (repeated_tally self.new).ended
+            ≡ ended_after (repeated_tally self.old).ended result (length buf.old) }
 
         ensures ok { IsOk result }
         ensures size { IfOk result (λ n. n ≡ min (length (repeated_bytes self.old)) (length buf.old)) }
