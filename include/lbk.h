@@ -280,8 +280,8 @@ typedef struct lbk_text {
 lbk_fault lbk_read(lbk_table *table, const void *line_break, size_t line_break_size, const void *east_asian,
                    size_t east_asian_size, const void *category, size_t category_size, const void *emoji, size_t emoji_size);
 
-/* The same of the files that Unicode 15.0.0 published, and of no others: LBK_CAUSE_NOT_PUBLISHED comes for the first file whose
- * SHA-256 digest is not that of the published one, before any is read. CR LF at the ends of lines is read as LF for that. */
+/* The same of the files that Unicode 15.0.0 published, and of no others. If one is not the published one, by its SHA-256 digest,
+ * LBK_CAUSE_NOT_PUBLISHED names the first such file, whatever else is wrong with the four. A CR LF counts as an LF. */
 lbk_fault lbk_read_published(lbk_table *table, const void *line_break, size_t line_break_size, const void *east_asian,
                              size_t east_asian_size, const void *category, size_t category_size, const void *emoji,
                              size_t emoji_size);
