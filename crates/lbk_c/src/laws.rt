@@ -1,4 +1,5 @@
-//! What holds of states, of digests and of empty files, over definitions only. Each law is the contract of a function that does nothing.
+//! What holds of states, of digests and of empty files, over definitions only. Each law is the contract of a function
+//! that does nothing.
 
 ghost use Rattle.std.specs.Prelude.{◌≡◌, ℕ, ◌^◌, ◌<◌, ◌≤◌, List, [], drop, length};
 ghost use Rattle.lbk_rules.specs.declared.Break.{Break};
