@@ -855,7 +855,8 @@ private:
 struct limits {
     std::size_t most = 500;           ///< at most so many bytes, 1 or more
     std::size_t words = 0;            ///< at most so many words; 0: any number
-    std::optional<std::size_t> least; ///< a chunk may end early where a line must end, once so many bytes are new: half of most
+    /// a chunk may end early where a line must end, once it has so many bytes that no chunk before it has; half of most unless given
+    std::optional<std::size_t> least = std::nullopt;
     std::size_t overlap = 0;          ///< the next chunk begins with at most so many bytes of this one, and at most half of it
 
     lbk_limits get() const noexcept { return {most, words, least.value_or(most / 2), overlap}; }

@@ -37,15 +37,15 @@ impl Limits {
         self
     }
 
-    /// Where a line must end a chunk ends early, once it has so many bytes that no chunk before it has: at most as many as a chunk
-    /// may have.
+    /// Where a line must end a chunk ends early, once it has so many bytes that no chunk before it has: at most as many as a
+    /// chunk may have.
     pub fn least(mut self, least: usize) -> Limits {
         self.0.least = least;
         self
     }
 
-    /// The next chunk begins with at most so many bytes of this one, and with at most half of it: at most half as many as a chunk may
-    /// have.
+    /// The next chunk begins with at most so many bytes of this one, and with at most half of it: at most half as many as a
+    /// chunk may have.
     pub fn overlap(mut self, overlap: usize) -> Limits {
         self.0.overlap = overlap;
         self
@@ -172,8 +172,8 @@ pub struct Chunks<'a, T: ?Sized = str> {
 }
 
 impl Table {
-    /// The text cut for search and retrieval, in the first profile: never within a word (UAX #29) or where a line may not break.
-    /// Without overlap the chunks joined are the text.
+    /// The text cut for search and retrieval, in the first profile: never within a word (UAX #29) or where a line may not
+    /// break. Without overlap the chunks joined are the text.
     ///
     /// ```no_run
     /// # fn main() -> Result<(), Box<dyn std::error::Error>> {

@@ -95,8 +95,8 @@ static size_t start_behind(cut_queue *cuts, const lbk_limits *limits, const here
     return end;
 }
 
-/* Adds the chunks of a text whose limits count code points: those that lbk_chunks gives of limits in bytes, of the same cuts. Returns
- * false where memory is refused. */
+/* Adds the chunks of a text whose limits count code points, as lbk_chunks does by bytes, of the same cuts. Returns false where
+ * memory is refused. */
 static bool add_by_points(const request *asked, chunk_list *found)
 {
     const lbk_limits *limits = &asked->limits;

@@ -40,7 +40,8 @@ static void read_block(cut_queue *queue)
     size_t count = lbk_chunks(queue->table, &each_cut, &queue->state, text->bytes, text->size, block, BLOCK);
     for (size_t k = 0; k < count; k++) {
         queue->words += block[k].words;
-        queue->items[queue->count++] = (cut){to_unit(&queue->places, text, block[k].end), queue->words, block[k].kind, block[k].rule};
+        size_t at = to_unit(&queue->places, text, block[k].end);
+        queue->items[queue->count++] = (cut){at, queue->words, block[k].kind, block[k].rule};
     }
     queue->has_all = count < BLOCK;
 }

@@ -10,8 +10,8 @@ typedef struct {
     uint8_t kind, rule;
 } cut;
 
-/* Cuts that were read and not dropped, in their order, in memory that grows without the interpreter's lock and is the caller's to
- * free. All zeros but for the table, the text and the profile of the state stand at the start of a text. */
+/* Cuts that were read and not dropped, in their order, in memory that grows without the interpreter's lock and is the
+ * caller's to free. All zeros but for the table, the text and the profile of the state stand at the start of a text. */
 typedef struct {
     const lbk_table *table;
     const utf8_text *text;
@@ -23,7 +23,7 @@ typedef struct {
     bool has_all, is_refused; /* whether no cut is left to read, and whether memory was refused */
 } cut_queue;
 
-/* The k-th of the cuts that were not dropped, up to the next call. NULL where there are fewer, and where memory is refused. */
+/* The k-th of the cuts that were not dropped, up to the next call. NULL where there are fewer, or memory is refused. */
 const cut *cut_at(cut_queue *queue, size_t k);
 
 /* Drops so many cuts, which were read. */

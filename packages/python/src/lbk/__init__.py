@@ -20,14 +20,14 @@ from ._stream import Stream
 from ._table import Table
 
 __all__ = [
-    "UNICODE_VERSION", "WORDS_UNICODE_VERSION", "Break", "Cause", "Chunk", "ChunkColumns", "Columns", "Fault", "File", "Kind",
-    "ListColumns", "Passage", "PassageColumns", "Rule", "Stream", "Table", "WordColumns", "__version__", "breaks", "chunks", "segments",
-    "words",
+    "UNICODE_VERSION", "WORDS_UNICODE_VERSION", "Break", "Cause", "Chunk", "ChunkColumns", "Columns", "Fault", "File",
+    "Kind", "ListColumns", "Passage", "PassageColumns", "Rule", "Stream", "Table", "WordColumns", "__version__", "breaks",
+    "chunks", "segments", "words",
 ]
 
 # These are known by the names that their users know, also in what was pickled.
 for _public in (
-    Cause, Chunk, ChunkColumns, Columns, Fault, File, Kind, ListColumns, Passage, PassageColumns, Rule, Stream, Table, WordColumns, breaks,
-    chunks, segments,
+    Cause, Chunk, ChunkColumns, Columns, Fault, File, Kind, ListColumns, Passage, PassageColumns, Rule, Stream, Table,
+    WordColumns, breaks, chunks, segments,
 ):
     _public.__module__ = __name__

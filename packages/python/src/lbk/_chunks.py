@@ -15,7 +15,8 @@ Limits: TypeAlias = "tuple[int, int, int, int]"
 
 
 def limits_of(most: int, words: "int | None", least: "int | None", overlap: int) -> Limits:
-    """The limits as numbers, where 0 stands for any number of words. Raises ValueError for one that is out of range."""
+    """The limits as numbers, where 0 stands for any number of words. Raises ValueError for one that
+    is out of range."""
     most, overlap = index(most), index(overlap)
     least = most // 2 if least is None else index(least)
     if most < 1:
@@ -28,7 +29,8 @@ def limits_of(most: int, words: "int | None", least: "int | None", overlap: int)
         raise ValueError(f"overlap is 0 to half of most, which is {most}, and not {overlap}")
     # (no text is larger)
     largest = sys.maxsize
-    return min(most, largest), 0 if words is None else min(index(words), largest), min(least, largest), min(overlap, largest // 2)
+    at_most = 0 if words is None else min(index(words), largest)
+    return min(most, largest), at_most, min(least, largest), min(overlap, largest // 2)
 
 
 def is_in_bytes(unit: Unit) -> bool:

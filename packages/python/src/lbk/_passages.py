@@ -36,7 +36,8 @@ class Passages(Iterator[Passage[Any]]):
                 self._last = found.at
                 if found.kind is Kind.MUST:
                     passage = self._text[self._start : self._last]
-                    made = Passage(self._start, passage, self._segments, list(_calls.Found.of(None, passage, 1, _calls.WORDS)))
+                    words = list(_calls.Found.of(None, passage, 1, _calls.WORDS))
+                    made = Passage(self._start, passage, self._segments, words)
                     self._start, self._segments = self._last, []
                     return made
         raise StopIteration

@@ -113,7 +113,8 @@ def _parquet(items: list[Any], are_columns: bool) -> bytes:
         columns = {field: pyarrow.array(values) for field, values in one.items()}
         columns |= {field: pyarrow.LargeListArray.from_arrays(offsets, values) for field, values in many.items()}
     elif items and all(isinstance(item, dict) for item in items):
-        columns = {field: pyarrow.array([item.get(field) for item in items]) for field in {field: None for item in items for field in item}}
+        fields = {field: None for item in items for field in item}
+        columns = {field: pyarrow.array([item.get(field) for item in items]) for field in fields}
     else:
         columns = {"values": pyarrow.array(items)}
     sink = io.BytesIO()

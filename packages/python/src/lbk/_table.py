@@ -279,7 +279,8 @@ class Table:
         """The chunks, as `chunks` has them, in columns."""
         limits = limits_of(most, words, least, overlap)
         starts, ends, counts, *others = _calls.chunk_columns(self._memory, text, profile, *limits, is_in_bytes(unit))
-        return ChunkColumns(memoryview(starts).cast("q"), memoryview(ends).cast("q"), memoryview(counts).cast("q"), *others)
+        places = memoryview(starts).cast("q"), memoryview(ends).cast("q")
+        return ChunkColumns(*places, memoryview(counts).cast("q"), *others)
 
     @property
     def _digest(self) -> str:

@@ -35,8 +35,8 @@ from ._saving import Format, Saved, save_items
 from ._table import Name, Table
 
 __all__ = [
-    "PartColumns", "Saved", "TextFault", "breaks", "broadcast", "chunks", "faults", "read_columns", "read_text", "save", "segments",
-    "share", "words",
+    "PartColumns", "Saved", "TextFault", "breaks", "broadcast", "chunks", "faults", "read_columns", "read_text", "save",
+    "segments", "share", "words",
 ]
 
 Faults = Literal["raise", "keep"]
