@@ -27,7 +27,10 @@ CALLS = {
     "C++": (["include/lbk.hpp"], r"^class {0} |^using {0} = |^inline [\w:<> ]+ {0}\(|^    static const table &{0}\("),
     "Rust": (["packages/rust/src"], r"^ *pub fn {0}\b|^pub struct {0} "),
     "Python": (["packages/python/src/lbk/_table.py", "packages/python/src/lbk/_stream.py"], r"^    def {0}\(|^class {0}\b"),
-    "JavaScript": (["packages/javascript/lbk.d.ts", "packages/javascript/words.d.ts"], r"^  (?:static )?{0}\("),
+    "JavaScript": (
+        [f"packages/javascript/{it}.d.ts" for it in ("lbk", "words", "parts", "chunks")],
+        r"^  (?:static )?{0}(?:<.*>)?\(|^export (?:class|function) {0}\b",
+    ),
 }
 # How a source joins the parts of its message, and how it names the version.
 JOINTS = [(r'"\s*\+?\s*f?"', ""), (r"\\\n\s*", ""), (r"\{version\}", "15.0.0"), (r'" LBK_UNICODE_VERSION "\.0', "15.0.0")]

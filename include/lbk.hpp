@@ -754,6 +754,189 @@ private:
     call start_;
 };
 
+/// A part of a text up to a break where a line must end: a paragraph with its line end, as a range of its segments.
+class passage {
+public:
+    std::size_t start;
+    std::string_view text;
+
+    passage(std::size_t at, std::string_view of, segments::iterator first, segments::iterator behind) noexcept
+        : start(at), text(of), first_(first), behind_(behind)
+    {
+    }
+
+    segments::iterator begin() const noexcept { return first_; }
+    segments::iterator end() const noexcept { return behind_; }
+
+    /// Its words, with the bytes of `text` that each has.
+    lbk::words words() const noexcept { return lbk::words(text); }
+
+private:
+    segments::iterator first_, behind_;
+};
+
+/// The passages of a text in their order: a view that can be gone through any number of times. Joined they are the text.
+class passages {
+public:
+    class iterator {
+    public:
+        using value_type = passage;
+        using iterator_concept = std::forward_iterator_tag;
+        using iterator_category = std::input_iterator_tag;
+        using difference_type = std::ptrdiff_t;
+        using pointer = void;
+        using reference = passage;
+
+        /// The end of any range.
+        iterator() noexcept = default;
+
+        iterator(std::string_view text, segments::iterator first) noexcept : text_(text), first_(first) { find(); }
+
+        passage operator*() const noexcept { return {start_, text_.substr(start_, size_), first_, behind_}; }
+
+        iterator &operator++() noexcept
+        {
+            start_ += size_;
+            first_ = behind_;
+            find();
+            return *this;
+        }
+
+        iterator operator++(int) noexcept
+        {
+            iterator before = *this;
+            ++*this;
+            return before;
+        }
+
+        friend bool operator==(const iterator &a, const iterator &b) noexcept { return a.first_ == b.first_; }
+        friend bool operator!=(const iterator &a, const iterator &b) noexcept { return !(a == b); }
+
+    private:
+        std::string_view text_;
+        std::size_t start_ = 0, size_ = 0;
+        segments::iterator first_, behind_;
+
+        /// Goes over the segments from the first on, up to the one that ends the passage.
+        void find() noexcept
+        {
+            std::uint8_t kind = LBK_NO;
+            for (size_ = 0, behind_ = first_; kind != LBK_MUST && behind_ != segments::iterator(); ++behind_) {
+                const segment one = *behind_;
+                size_ += one.text.size();
+                kind = one.kind;
+            }
+        }
+    };
+
+    using const_iterator = iterator;
+    using value_type = passage;
+
+    passages(const lbk_table &by, std::string_view text, profile rules = profile::first) noexcept
+        : text_(text), segments_(by, text, rules)
+    {
+    }
+
+    /// A temporary would be gone before the range is gone through.
+    passages(const lbk_table &&, std::string_view, profile = profile::first) = delete;
+    passages(const table &&, std::string_view, profile = profile::first) = delete;
+    template <typename Text, typename = std::enable_if_t<std::is_same_v<Text, std::string>>>
+    passages(const lbk_table &, Text &&, profile = profile::first) = delete;
+
+    iterator begin() const noexcept { return iterator(text_, segments_.begin()); }
+    iterator end() const noexcept { return iterator(); }
+
+private:
+    std::string_view text_;
+    segments segments_;
+};
+
+/// What a chunk may hold.
+struct limits {
+    std::size_t most = 500;           ///< at most so many bytes, 1 or more
+    std::size_t words = 0;            ///< at most so many words; 0: any number
+    /// a chunk may end early where a line must end, once it has so many bytes that no chunk before it has; half of most unless given
+    std::optional<std::size_t> least = std::nullopt;
+    std::size_t overlap = 0;          ///< the next chunk begins with at most so many bytes of this one, and at most half of it
+
+    lbk_limits get() const noexcept { return {most, words, least.value_or(most / 2), overlap}; }
+
+    /// Which limit is out of range, in English; empty where none is.
+    std::string wrong() const
+    {
+        const lbk_limits it = get();
+        if (it.most == 0)
+            return "most is 1 or more, and not 0";
+        if (it.least > it.most)
+            return "least is 0 to most, which is " + std::to_string(it.most) + ", and not " + std::to_string(it.least);
+        if (it.overlap > it.most / 2)
+            return "overlap is 0 to half of most, which is " + std::to_string(it.most) + ", and not " + std::to_string(it.overlap);
+        return {};
+    }
+};
+
+/// The chunks of a text for search and retrieval, in their order, as the bytes that each has: a view that can be gone through any
+/// number of times. None ends within a word or where a line may not break (lbk_chunks). Limits that are out of range throw a
+/// std::invalid_argument that says which; without exceptions they give no chunks.
+class chunks {
+    struct call {
+        using value_type = lbk_chunk;
+        using packed = lbk_chunk;
+        using state_type = lbk_chunk_state;
+
+        static constexpr std::size_t most = 8;
+
+        const lbk_table *table = nullptr;
+        const char *text = nullptr;
+        std::size_t size = 0;
+        lbk_limits limits = {};
+        lbk_chunk_state state = {};
+
+        std::size_t operator()(lbk_chunk *block, std::size_t room, lbk_chunk_state &after) const noexcept
+        {
+            after = state;
+            return lbk_chunks(table, &limits, &after, text, size, block, room);
+        }
+
+        void go_on(const lbk_chunk_state &after) noexcept { state = after; }
+
+        static std::size_t place(const lbk_chunk &one) noexcept { return one.start; }
+        static std::size_t fitting(const lbk_chunk *, std::size_t count) noexcept { return count; }
+        static lbk_chunk pack(const lbk_chunk &one, std::size_t) noexcept { return one; }
+        static lbk_chunk unpacked(const lbk_chunk &one, std::size_t) noexcept { return one; }
+    };
+
+public:
+    using iterator = detail::iterator<call>;
+    using const_iterator = iterator;
+    using value_type = lbk_chunk;
+
+    chunks(const lbk_table &by, std::string_view text, const limits &within = {}, profile rules = profile::first)
+    {
+#if defined(__cpp_exceptions)
+        if (const std::string wrong = within.wrong(); !wrong.empty())
+            throw std::invalid_argument(wrong);
+#endif
+        start_.table = &by;
+        start_.text = text.data();
+        start_.size = text.size();
+        start_.limits = within.get();
+        start_.state.breaks.profile = static_cast<std::uint8_t>(rules);
+    }
+
+    /// A temporary would be gone before the range is gone through.
+    chunks(const lbk_table &&, std::string_view, const limits & = {}, profile = profile::first) = delete;
+    chunks(const table &&, std::string_view, const limits & = {}, profile = profile::first) = delete;
+    template <typename Text, typename = std::enable_if_t<std::is_same_v<Text, std::string>>>
+    chunks(const lbk_table &, Text &&, const limits & = {}, profile = profile::first) = delete;
+
+    iterator begin() const noexcept { return iterator(start_); }
+    iterator end() const noexcept { return iterator(); }
+
+private:
+    call start_;
+};
+
 /// The breaks of a text that comes in pieces, cut anywhere. It refers to its table, which has to outlive it. A copy goes on by itself.
 class stream {
 public:
@@ -895,6 +1078,14 @@ template <>
 inline constexpr bool std::ranges::enable_view<lbk::words> = true;
 template <>
 inline constexpr bool std::ranges::enable_borrowed_range<lbk::words> = true;
+template <>
+inline constexpr bool std::ranges::enable_view<lbk::passages> = true;
+template <>
+inline constexpr bool std::ranges::enable_borrowed_range<lbk::passages> = true;
+template <>
+inline constexpr bool std::ranges::enable_view<lbk::chunks> = true;
+template <>
+inline constexpr bool std::ranges::enable_borrowed_range<lbk::chunks> = true;
 template <typename Unit, typename Number, auto Next>
 inline constexpr bool std::ranges::enable_view<lbk::detail::unit_view<Unit, Number, Next>> = true;
 template <typename Unit, typename Number, auto Next>

@@ -25,6 +25,7 @@ extern crate std;
 
 mod breaks;
 mod calls;
+mod chunks;
 mod cuts;
 mod fault;
 #[cfg(feature = "std")]
@@ -44,6 +45,7 @@ mod words;
 pub use breaks::{
     Break, Breaks, Class, Kind, Position, Positions, Profile, Rule, Segment, Segments,
 };
+pub use chunks::{Chunk, ChunkText, Chunks, LimitError, Limits};
 pub use fault::{Cause, Fault, File};
 #[cfg(feature = "std")]
 pub use find::NotFound;

@@ -1,7 +1,5 @@
 """The table of the rules, and what it finds."""
 
-import contextlib
-import copy
 import functools
 import mmap
 import os
@@ -14,9 +12,11 @@ from typing import Any, Protocol, Self, TypeAlias, overload
 
 from . import _calls, _database
 from ._calls import Break
+from ._chunks import Chunks, Unit, is_in_bytes, limits_of
 from ._fault import Fault
 from ._numbers import Cause
-from ._results import Columns, Kind, ListColumns, Passage, PassageColumns, WordColumns
+from ._passages import Passages
+from ._results import Chunk, ChunkColumns, Columns, ListColumns, Passage, PassageColumns, WordColumns
 
 
 class _Buffer(Protocol):
@@ -231,7 +231,7 @@ class Table:
         words."""
         breaks = self.breaks(text, profile)
         # These give a str or bytes as their slices.
-        return _Passages(breaks, text if isinstance(text, (str, bytes, mmap.mmap)) else bytes(text))
+        return Passages(breaks, text if isinstance(text, (str, bytes, mmap.mmap)) else bytes(text))
 
     @staticmethod
     def word_columns(text: Text) -> WordColumns:
@@ -243,6 +243,44 @@ class Table:
         """The passages, their segments and their words, as `passages` has them, in columns."""
         columns = _calls.passage_columns(self._memory, text, profile)
         return PassageColumns(*(memoryview(one).cast("q") for one in columns))
+
+    @overload
+    def chunks(
+        self, text: str, most: int = 500, words: "int | None" = None, least: "int | None" = None, overlap: int = 0, *,
+        unit: Unit = None, profile: int = 1,
+    ) -> Iterator[Chunk[str]]: ...
+    @overload
+    def chunks(
+        self, text: Bytes, most: int = 500, words: "int | None" = None, least: "int | None" = None, overlap: int = 0, *,
+        unit: Unit = None, profile: int = 1,
+    ) -> Iterator[Chunk[bytes]]: ...
+    def chunks(
+        self, text: Any, most: int = 500, words: "int | None" = None, least: "int | None" = None, overlap: int = 0, *,
+        unit: Unit = None, profile: int = 1,
+    ) -> Iterator[Any]:
+        """The text cut for search and retrieval, never within a word (UAX #29) or where a line may
+        not break. Without overlap the chunks joined are the text.
+
+        A chunk has at most `most` code points of a `str` or bytes of bytes, and `words` words. It
+        ends early at the last place where a line must end, if it has `least` (half of `most` unless
+        given) up to there that no chunk before it has. The next one begins with at most `overlap`
+        of it, and at most half of it. What can be cut nowhere within the limits is a chunk of its
+        own, `alone`. With `unit="bytes"` the limits count bytes of UTF-8 of a `str`, too; places do
+        not. Raises ValueError for limits that are out of range: `most` is 1 or more, `words`, too,
+        `least` at most `most`, and `overlap` at most half of it.
+        """
+        columns = self.chunk_columns(text, most, words, least, overlap, unit=unit, profile=profile)
+        return Chunks(columns, text)
+
+    def chunk_columns(
+        self, text: Text, most: int = 500, words: "int | None" = None, least: "int | None" = None, overlap: int = 0, *,
+        unit: Unit = None, profile: int = 1,
+    ) -> ChunkColumns:
+        """The chunks, as `chunks` has them, in columns."""
+        limits = limits_of(most, words, least, overlap)
+        starts, ends, counts, *others = _calls.chunk_columns(self._memory, text, profile, *limits, is_in_bytes(unit))
+        places = memoryview(starts).cast("q"), memoryview(ends).cast("q")
+        return ChunkColumns(*places, memoryview(counts).cast("q"), *others)
 
     @property
     def _digest(self) -> str:
@@ -267,23 +305,6 @@ class Table:
 
     def __reduce__(self) -> tuple[Any, ...]:
         return self._origin or (Table.from_bytes, (self.to_bytes(),))
-
-
-def breaks(text: Text, profile: int = 1) -> Iterator[Break]:
-    """As `Table.breaks`, by the table that `Table.load()` finds."""
-    return Table.load().breaks(text, profile)
-
-
-@overload
-def segments(text: str, profile: int = 1) -> Iterator[str]: ...
-@overload
-def segments(text: Bytes, profile: int = 1) -> Iterator[bytes]: ...
-def segments(text: Any, profile: int = 1) -> Iterator[Any]:
-    """As `Table.segments`, by the table that `Table.load()` finds."""
-    return Table.load().segments(text, profile)
-
-
-words = Table.words
 
 
 def _read(files: Iterable[Bytes], are_published: bool) -> bytearray:
@@ -344,46 +365,6 @@ def _unchanging(data: Bytes) -> bytes:
 
 def _view(data: Any) -> memoryview:
     return memoryview(data)
-
-
-class _Passages(Iterator[Passage[Any]]):
-    """The passages of a text, of its breaks."""
-
-    def __init__(self, breaks: Iterator[Break], text: Any) -> None:
-        self._breaks, self._text = breaks, text
-        self._start = self._last = 0
-        self._segments: list[Any] = []
-        self._turn = threading.Lock()
-
-    @contextlib.contextmanager
-    def _alone(self) -> Iterator[None]:
-        if not self._turn.acquire(blocking=False):
-            raise ValueError(_calls.SHARED)
-        try:
-            yield
-        finally:
-            self._turn.release()
-
-    def __next__(self) -> Passage[Any]:
-        with self._alone():
-            for found in self._breaks:
-                self._segments.append(self._text[self._last : found.at])
-                self._last = found.at
-                if found.kind is Kind.MUST:
-                    passage = self._text[self._start : self._last]
-                    made = Passage(self._start, passage, self._segments, list(Table.words(passage)))
-                    self._start, self._segments = self._last, []
-                    return made
-        raise StopIteration
-
-    def __copy__(self) -> "_Passages":
-        with self._alone():
-            same = _Passages(copy.copy(self._breaks), self._text)
-            same._start, same._last, same._segments = self._start, self._last, [*self._segments]
-        return same
-
-    def __reduce__(self) -> tuple[Any, ...]:
-        return iter, (list(copy.copy(self)),)
 
 
 def _check(memory: bytearray | mmap.mmap, what: str) -> None:
