@@ -452,6 +452,46 @@ static void try_found(const std::string &folder)
     told("it is read once", found != nullptr && lbk::table::try_find(why) == found);
 }
 
+/// What a file of another version, or of none, says of itself.
+static void try_claims(const std::string &folder)
+{
+    const std::string names[] = {"LineBreak.txt", "EastAsianWidth.txt", "DerivedGeneralCategory.txt", "emoji-data.txt"};
+    const std::pair<const char *, const char *> claims[] = {
+        {"# LineBreak-14.0.0.txt\n", "this is of Unicode 14.0.0, and lbk goes by 15.0.0"},
+        {"# LineBreak-15.1.txt\n", "this is of Unicode 15.1.0, and lbk goes by 15.0.0"},
+        {"# LineBreak-15.0.0.txt\n", "the file was changed or cut: it is not LineBreak.txt as Unicode 15.0.0 published it"},
+        {"# LineBreak-", "this is not LineBreak.txt as Unicode 15.0 published it"},
+        {"0061;AL\n# LineBreak-14.0.0", "this is not LineBreak.txt as Unicode 15.0 published it"},
+    };
+    ::mkdir((folder + "/claims").c_str(), 0700);
+    for (const std::string &name : names)
+        write(folder + "/claims/" + name, "");
+    for (const auto &[first, said] : claims) {
+        lbk::error why;
+        write(folder + "/claims/LineBreak.txt", first);
+        told(said, !lbk::table::try_load(folder + "/claims", why) && why.message() == std::string("LineBreak.txt: ") + said);
+    }
+    const std::pair<const char *, const char *> emoji[] = {
+        {"# emoji-data.txt\n# Used with Emoji Version 14.0 and", "this is of Emoji 14.0, and lbk goes by 15.0"},
+        {"# emoji-data\n# Used with Emoji Version 5.0.1", "this is of Emoji 5.0.1, and lbk goes by 15.0.0"},
+        {"# emoji-data-15.0\n", "this is not emoji-data.txt as Unicode 15.0 published it"},
+    };
+    for (const auto &[first, said] : emoji) {
+        char text[112];
+        lbk::detail::say_claim(LBK_EMOJI, first, text, sizeof text);
+        told(said, std::string(text) == said);
+    }
+#if defined(__cpp_exceptions)
+    try {
+        lbk::table::load(folder + "/claims");
+        told("a claim is thrown", false);
+    } catch (const lbk::table_error &thrown) {
+        told("a claim is thrown", std::string(thrown.what()).find(folder + "/claims/LineBreak.txt: this is not") == 0
+                                      && std::strstr(thrown.what(), "15.0.0/ucd/UCD.zip") != nullptr);
+    }
+#endif
+}
+
 static void try_database(const std::string &folder)
 {
     lbk::error why;
@@ -470,7 +510,7 @@ static void try_exceptions(const lbk::table &table, const std::string &folder)
         told("no folder is thrown", false);
     } catch (const lbk::table_error &thrown) {
         told("no folder is thrown", thrown.error().why == lbk::error::reason::unreadable
-                                        && std::string(thrown.what()) == thrown.error().message());
+                                        && thrown.what() == folder + "/none/" + thrown.error().message());
     }
 }
 #else
@@ -501,6 +541,7 @@ int main(int words, char **word)
         try_bytes(*table);
         try_files(*table, word[1]);
         try_exceptions(*table, word[1]);
+        try_claims(word[1]);
         try_not_found(word[1]);
         if (words == 3) {
             try_database(word[2]);

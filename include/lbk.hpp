@@ -64,6 +64,8 @@ struct error {
     reason why = reason::none;
     int system = 0;
     lbk_fault fault = {LBK_NO_FILE, 0, LBK_CAUSE_NONE};
+    /// What a file is that is not the published one, as "this is of Unicode 14.0.0, and lbk goes by 15.0.0"; else empty.
+    char claim[112] = {};
 
     explicit operator bool() const noexcept { return why != reason::none; }
 
@@ -75,7 +77,9 @@ struct error {
         case reason::none:
             return "no error";
         case reason::refused:
-            return file + ':' + std::to_string(fault.line) + ": " + lbk_cause_text(fault.cause).text;
+            if (fault.line != 0)
+                file += ':' + std::to_string(fault.line);
+            return file + ": " + (claim[0] != 0 ? claim : lbk_cause_text(fault.cause).text);
         case reason::unreadable:
             return file + ": " + std::generic_category().message(system);
         case reason::not_a_table:
@@ -90,7 +94,11 @@ struct error {
 /// There is no table, and the error says why.
 class table_error : public std::runtime_error {
 public:
-    explicit table_error(const lbk::error &why) : std::runtime_error(why.message()), why_(why) {}
+    /// `before` stands before the error's message, as the name of a folder does, and `after` after it.
+    explicit table_error(const lbk::error &why, const std::string &before = {}, const std::string &after = {})
+        : std::runtime_error(before + why.message() + after), why_(why)
+    {
+    }
 
     const lbk::error &error() const noexcept { return why_; }
 
@@ -158,16 +166,44 @@ private:
     }
 };
 
+/// What the first lines of published files begin with.
+inline constexpr std::string_view published[] = {"# LineBreak-", "# EastAsianWidth-", "# DerivedGeneralCategory-", "# emoji-data."};
+
 /// Whether the first line of a file claims a name that Unicode published, and the last is not its end.
 inline bool is_cut(std::string_view file) noexcept
 {
     bool is_claimed = false;
-    for (std::string_view claim : {"# LineBreak-", "# EastAsianWidth-", "# DerivedGeneralCategory-", "# emoji-data."})
-        is_claimed = is_claimed || file.substr(0, claim.size()) == claim;
+    for (std::string_view name : published)
+        is_claimed = is_claimed || file.substr(0, name.size()) == name;
     // (npos + 1 is 0)
     file = file.substr(0, file.find_last_not_of(" \t\r\n") + 1);
     const std::string_view last = file.substr(file.rfind('\n') + 1);
     return is_claimed && last != "# EOF" && last != "#EOF";
+}
+
+/// Says in English what a file is, by its number in a fault, that is not the one that Unicode published.
+inline void say_claim(std::uint32_t file, std::string_view bytes, char *to, std::size_t room) noexcept
+{
+    const bool is_emoji = file == LBK_EMOJI;
+    const lbk_text name = lbk_file_name(file);
+    std::string_view begin = published[file - 1], words = is_emoji ? "\n# Used with Emoji Version " : begin;
+    begin = begin.substr(0, is_emoji ? begin.size() - 1 : begin.size());
+    const std::size_t at = bytes.substr(0, begin.size()) == begin ? bytes.find(words) : std::string_view::npos;
+    char version[40] = {};
+    unsigned number[3] = {};
+    if (at != std::string_view::npos) {
+        words = bytes.substr(at + words.size(), sizeof version - 1);
+        std::memcpy(version, words.data(), words.size());
+    }
+    if (std::sscanf(version, "%9u.%9u.%9u", &number[0], &number[1], &number[2]) < 2)
+        std::snprintf(to, room, "this is not %s as Unicode " LBK_UNICODE_VERSION " published it", name.text);
+    else if (number[0] == 15 && number[1] == 0 && number[2] == 0)
+        std::snprintf(to, room, "the file was changed or cut: it is not %s as Unicode " LBK_UNICODE_VERSION ".0 published it", name.text);
+    else if (is_emoji && number[2] == 0)
+        std::snprintf(to, room, "this is of Emoji %u.%u, and lbk goes by " LBK_UNICODE_VERSION, number[0], number[1]);
+    else
+        std::snprintf(to, room, "this is of %s %u.%u.%u, and lbk goes by " LBK_UNICODE_VERSION ".0", is_emoji ? "Emoji" : "Unicode",
+                      number[0], number[1], number[2]);
 }
 
 /// Where the files are looked for: in the folder that UNICODE_DATA names, or else in those of the system (Debian's and Fedora's) and of
@@ -237,7 +273,11 @@ public:
             if (status != 0)
                 return none(why, error::reason::unreadable, status, {k + 1, 0, LBK_CAUSE_NONE});
         }
-        return read_by(lbk_read_published, files[0].view(), files[1].view(), files[2].view(), files[3].view(), why);
+        std::optional<table> made =
+            read_by(lbk_read_published, files[0].view(), files[1].view(), files[2].view(), files[3].view(), why);
+        if (why.fault.cause == LBK_CAUSE_NOT_PUBLISHED)
+            detail::say_claim(why.fault.file, files[why.fault.file - 1].view(), why.claim, sizeof why.claim);
+        return made;
     }
 
     /// Of the folder that UNICODE_DATA names, or else of the first that has the files of /usr/share/unicode, its ucd, and unicode in
@@ -312,7 +352,10 @@ public:
     static table load(const std::string &folder)
     {
         error why;
-        return or_throw(try_load(folder, why), why);
+        std::optional<table> made = try_load(folder, why);
+        if (why.why == error::reason::out_of_memory || made)
+            return or_throw(std::move(made), why);
+        throw table_error(why, folder + '/', why.claim[0] != 0 ? REMEDY : "");
     }
 
     /// As try_find, and throws a std::runtime_error where they are not found.
@@ -347,6 +390,9 @@ public:
     std::string_view bytes() const && = delete;
 
 private:
+    static constexpr const char *REMEDY = "; Debian 12's package unicode-data has the files, and so has "
+                                          "https://www.unicode.org/Public/" LBK_UNICODE_VERSION ".0/ucd/UCD.zip";
+
     using release = void (*)(const lbk_table *);
 
     std::unique_ptr<const lbk_table, release> held_;
@@ -376,7 +422,10 @@ private:
 
     static std::nullopt_t none(error &why, error::reason reason, int system = 0, lbk_fault fault = {}) noexcept
     {
-        why = {reason, system, fault};
+        why = {};
+        why.why = reason;
+        why.system = system;
+        why.fault = fault;
         return std::nullopt;
     }
 

@@ -78,7 +78,7 @@ export class Table {
   }
 
   static async fromFiles(files, module) {
-    const { tableOf } = await import("./property_files.js");
+    const { refusalOf, tableOf } = await import("./property_files.js");
     const sources = await Table.#sources(files);
     const steps = new URL("lbk.steps.gz", import.meta.url);
     const [known, ...given] = await Promise.all([steps, ...sources].map((it) => bytesOf(it).then(unzipped)));
@@ -86,7 +86,7 @@ export class Table {
       return await Table.fromBytes(tableOf(given, known), module);
     } catch (error) {
       if (!(error instanceof RangeError)) throw error;
-      throw new RangeError("these are not the four files of Unicode 15.0", { cause: error });
+      throw new RangeError(refusalOf(given, Array.isArray(files) ? undefined : files), { cause: error });
     }
   }
 

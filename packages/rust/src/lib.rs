@@ -26,6 +26,8 @@ extern crate std;
 mod breaks;
 mod calls;
 mod chunks;
+#[cfg(feature = "std")]
+mod claim;
 mod cuts;
 mod fault;
 #[cfg(feature = "std")]
@@ -46,6 +48,8 @@ pub use breaks::{
     Break, Breaks, Class, Kind, Position, Positions, Profile, Rule, Segment, Segments,
 };
 pub use chunks::{Chunk, ChunkText, Chunks, LimitError, Limits};
+#[cfg(feature = "std")]
+pub use claim::Claim;
 pub use fault::{Cause, Fault, File};
 #[cfg(feature = "std")]
 pub use find::NotFound;

@@ -13,6 +13,7 @@ from typing import Any, Protocol, Self, TypeAlias, overload
 from . import _calls, _database
 from ._calls import Break
 from ._chunks import Chunks, Unit, is_in_bytes, limits_of
+from ._claims import CUT, WHERE, claim_text, is_cut
 from ._fault import Fault
 from ._numbers import Cause
 from ._passages import Passages
@@ -87,15 +88,19 @@ class Table:
         found, and Fault where a file is not that which Unicode published for the version
         UNICODE_VERSION.
         """
-        memory, place = _find() if folder is None else (_read(_database.contents(folder), True), os.path.abspath(folder))
+        memory, place = _find() if folder is None else (_read_folder(folder, f"; {WHERE}"), os.path.abspath(folder))
         return cls._of(memory, _load_again, place, _digest_of(memory))
 
     @classmethod
     def from_files(cls, line_break: Name, east_asian: Name, category: Name, emoji: Name, *, strict: bool = True) -> Self:
         """The table of four files of any origin, given by their names. Raises OSError where one
         cannot be read, and Fault as `read` does."""
-        files = [Path(os.fsdecode(name)).read_bytes() for name in (line_break, east_asian, category, emoji)]
-        return cls.read(*files, strict=strict)
+        names = [os.fsdecode(name) for name in (line_break, east_asian, category, emoji)]
+        try:
+            return cls.read(*(Path(name).read_bytes() for name in names), strict=strict)
+        except Fault as fault:
+            place = names[fault.file - 1] if fault.file else ""
+            raise Fault(fault.file, fault.line, fault.cause, place, fault.claim) from None
 
     @classmethod
     def read(cls, line_break: Bytes, east_asian: Bytes, category: Bytes, emoji: Bytes, *, strict: bool = True) -> Self:
@@ -104,9 +109,9 @@ class Table:
         (NOT_PUBLISHED), too: its first line claims a name that Unicode published, as
         `# LineBreak-15.0.0.txt`, and its last is not `# EOF`."""
         files = [_unchanging(one) for one in (line_break, east_asian, category, emoji)]
-        cut = next((number for number, one in enumerate(files, 1) if _database.is_cut(one)), None) if strict else None
+        cut = next((number for number, one in enumerate(files, 1) if is_cut(one)), None) if strict else None
         if cut is not None:
-            raise Fault(cut, 0, Cause.NOT_PUBLISHED)
+            raise Fault(cut, 0, Cause.NOT_PUBLISHED, "", CUT)
         return cls._of(_read(files, False))
 
     @classmethod
@@ -318,6 +323,16 @@ def _read(files: Iterable[Bytes], are_published: bool) -> bytearray:
     return memory
 
 
+def _read_folder(folder: "_database.Folder", remedy: str = "") -> bytearray:
+    files = _database.contents(folder)
+    try:
+        return _read(files, True)
+    except Fault as fault:
+        claim = claim_text(fault.file, files[fault.file - 1]) + remedy if fault.cause == Cause.NOT_PUBLISHED else ""
+        place = _database.place_of(folder, fault.file) if fault.file else os.fspath(folder)
+        raise Fault(fault.file, fault.line, fault.cause, place, claim) from None
+
+
 def _digest_of(memory: bytearray | mmap.mmap) -> str:
     return memory[8:16].hex()
 
@@ -334,11 +349,11 @@ def _first_found() -> tuple[bytearray, str]:
     refusals = []
     for folder in _database.folders():
         try:
-            return _read(_database.contents(folder), True), folder
+            return _read_folder(folder), folder
         except OSError as error:
             refusals.append(f"{error.filename}: {error.strerror}")
         except Fault as fault:
-            refusals.append(f"{folder}/{fault}")
+            refusals.append(str(fault))
     raise _database.not_found(refusals)
 
 
