@@ -7,7 +7,7 @@
  * a neighbour of one, one between two powers, or any. The last line is `N passed, M failed`.
  */
 #define _DEFAULT_SOURCE
-#include "../../examples/trying.h"
+#include "../../examples/harness.h"
 
 #include <time.h>
 
