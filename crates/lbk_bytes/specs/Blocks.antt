@@ -1,5 +1,6 @@
 -- A block of up to 64 bytes whose breaks the sets of its bytes tell.
-use Rattle.std.specs.Prelude.{◌≡◌, ◌≢◌, ◌⊎◌, ℕ, ◌+◌, ◌-◌, ◌<◌, ◌≤◌, ◌||◌, Bool, true, false, List, length, take, drop, slice_index_or, nat_le, if◌then◌else◌}
+use Rattle.std.specs.Prelude.{◌≡◌, ◌≢◌, ◌⊎◌, ℕ, ◌+◌, ◌-◌, ◌<◌, ◌≤◌, ◌||◌, Bool, true, false, List, length, take, drop}
+use Rattle.std.specs.Prelude.{slice_index_or, nat_le, if◌then◌else◌}
 use Rattle.lbk_masks.specs.Sets.{is_set, left_in, meets, right_in}
 use Rattle.lbk_masks.specs.Strays.{is_stray}
 use Rattle.lbk_rules.specs.declared.Cell.{Cell}
@@ -57,8 +58,8 @@ pub record GoesOn (text : List ℕ) (place : ℕ) : Type 0 where
   pub below : byte_at text place < 192
   pub within : place < length text
 
--- a byte of a scalar of one byte or two: with the byte before it the first of a scalar tells the step by it, and the second
--- stands behind the first and does not stand out
+-- a byte of a scalar of one byte or two: with the byte before it the first of a scalar tells the step by it, and the
+-- second stands behind the first and does not stand out
 pub record IsByteTold (steps : List FlatStep) (kinds : List ℕ) (pairs : Neighbours) (text : List ℕ) (place : ℕ) : Type 0 where
   pub settled : (byte_at text place < 128) ⊎ (192 ≤ byte_at text place)
       → (byte_at text (place - 1) < 192) × AreSettled steps kinds pairs (byte_at text (place - 1)) (byte_at text place)

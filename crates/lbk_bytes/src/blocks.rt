@@ -8,7 +8,8 @@ ghost use Rattle.lbk_rules.specs.FlatTable.{AreFlatKinds};
 ghost use Rattle.lbk_rules.specs.Neighbours.{AreTold};
 ghost use Rattle.lbk_masks.specs.Sets.{is_set};
 ghost use Rattle.lbk_masks.specs.Bits.{AreKeptBelow, IsLowest};
-ghost use Rattle.lbk_bytes.specs.Blocks.{AreEnded, AreInside, AreLeft, AreMarks, IsAhead, IsBlock, place_in, row_before};
+ghost use Rattle.lbk_bytes.specs.Blocks.{AreEnded, AreInside, AreLeft, AreMarks, IsAhead, IsBlock, place_in};
+ghost use Rattle.lbk_bytes.specs.Blocks.{row_before};
 ghost use Rattle.lbk_bytes.specs.Reached.{Ahead, AreSwift, IsInOrder, Reached};
 ghost use Rattle.lbk_bytes.specs.Shown.{given_in};
 
@@ -31,8 +32,8 @@ pub(crate) const LEAST: usize = 20;
 pub(crate) struct Marks {
     /// Which stand out after the byte before.
     pub(crate) standing: u64,
-    /// Which are left to steps: those that are special, or of no scalar of one or two bytes in the block. Behind the text's end all
-    /// bits are set.
+    /// Which are left to steps: those that are special, or of no scalar of one or two bytes in the block. Behind the
+    /// text's end all bits are set.
     pub(crate) stops: u64,
 }
 
@@ -47,9 +48,9 @@ pub(crate) struct BlockState {
     pub(crate) left: u64,
 }
 
-/// Takes blocks of bytes, as many as come one after the other, up to a scalar that no step takes, or from which on few bytes
-/// are left, or many of them to steps. Without masks it takes none. It stands apart, so that what single scalars need stays in
-/// registers.
+/// Takes blocks of bytes, as many as come one after the other, up to a scalar that no step takes, or from which on
+/// few bytes are left, or many of them to steps. Without masks it takes none. It stands apart, so that what single
+/// scalars need stays in registers.
 #[inline(never)]
 pub(crate) fn blocks<const MASKS: bool>(
     pairs: &Neighbours,
@@ -62,8 +63,10 @@ pub(crate) fn blocks<const MASKS: bool>(
     requires { (start.count ≤ length out.old) × (start.row < 65536) × (start.at ≤ length text.now) }
     ensures within { (result.count ≤ length out.old) × (result.row < 65536) × (result.at ≤ length text.now) }
     ensures onward { (start.at ≤ result.at) × (start.count ≤ result.count) }
-    ensures in_order { (from : ℕ) → IsInOrder out.old start.count from start.at → IsInOrder out.new result.count from result.at }
-    ensures reached { (profile : Profile) (cell : ℕ → Cell) (lefts : List Left) (more : List ℕ) (all : Ahead) → AreSwift profile lefts steps.now → AreFlatKinds kinds.now cell
+    ensures in_order { (from : ℕ) → IsInOrder out.old start.count from start.at
+        → IsInOrder out.new result.count from result.at }
+    ensures reached { (profile : Profile) (cell : ℕ → Cell) (lefts : List Left) (more : List ℕ) (all : Ahead)
+        → AreSwift profile lefts steps.now → AreFlatKinds kinds.now cell
         → AreTold steps.now kinds.now pairs.now
         → Reached profile cell lefts (text.now ++ more) all start (given_in out.old start.count)
         → Reached profile cell lefts (text.now ++ more) all result (given_in out.new result.count) }
@@ -93,8 +96,10 @@ fn begun(
     requires { (start.count ≤ length out.old) × (start.row < 65536) × (start.at ≤ length text.now) }
     ensures within { (result.count ≤ length out.old) × (result.row < 65536) × (result.at ≤ length text.now) }
     ensures onward { (start.at ≤ result.at) × (start.count ≤ result.count) }
-    ensures in_order { (from : ℕ) → IsInOrder out.old start.count from start.at → IsInOrder out.new result.count from result.at }
-    ensures reached { (profile : Profile) (cell : ℕ → Cell) (lefts : List Left) (more : List ℕ) (all : Ahead) → AreSwift profile lefts steps.now → AreFlatKinds kinds.now cell
+    ensures in_order { (from : ℕ) → IsInOrder out.old start.count from start.at
+        → IsInOrder out.new result.count from result.at }
+    ensures reached { (profile : Profile) (cell : ℕ → Cell) (lefts : List Left) (more : List ℕ) (all : Ahead)
+        → AreSwift profile lefts steps.now → AreFlatKinds kinds.now cell
         → Reached profile cell lefts (text.now ++ more) all start (given_in out.old start.count)
         → Reached profile cell lefts (text.now ++ more) all result (given_in out.new result.count) }
 {
@@ -117,8 +122,10 @@ fn block(
     requires { (start.count ≤ length out.old) × (start.row < 65536) × (start.at ≤ length text.now) }
     ensures within { (result.count ≤ length out.old) × (result.row < 65536) × (result.at ≤ length text.now) }
     ensures onward { (start.at ≤ result.at) × (start.count ≤ result.count) }
-    ensures in_order { (from : ℕ) → IsInOrder out.old start.count from start.at → IsInOrder out.new result.count from result.at }
-    ensures reached { (profile : Profile) (cell : ℕ → Cell) (lefts : List Left) (more : List ℕ) (all : Ahead) → AreSwift profile lefts steps.now → AreFlatKinds kinds.now cell
+    ensures in_order { (from : ℕ) → IsInOrder out.old start.count from start.at
+        → IsInOrder out.new result.count from result.at }
+    ensures reached { (profile : Profile) (cell : ℕ → Cell) (lefts : List Left) (more : List ℕ) (all : Ahead)
+        → AreSwift profile lefts steps.now → AreFlatKinds kinds.now cell
         → AreTold steps.now kinds.now pairs.now
         → Reached profile cell lefts (text.now ++ more) all start (given_in out.old start.count)
         → Reached profile cell lefts (text.now ++ more) all result (given_in out.new result.count) }
@@ -141,8 +148,8 @@ fn block(
     here
 }
 
-/// The marks of the next 64 bytes, or of all that are left, unless these are few, no byte stands before them, or many of
-/// them are left to steps.
+/// The marks of the next 64 bytes, or of all that are left, unless these are few, no byte stands before them, or many
+/// of them are left to steps.
 #[inline(always)]
 pub(crate) fn marks_ahead(pairs: &Neighbours, at: usize, text: &[u8]) -> Option<Marks>
     requires { at ≤ length text.now }
@@ -189,12 +196,15 @@ fn told(
     text: &[u8],
     out: &mut [RawBreak],
 ) -> FillState
-    requires place { (here.count ≤ length out.old) × (here.row < 65536) × (0 < at) × (at ≤ here.at) × (here.at < at + 64) × (here.at < length text.now) }
+    requires place { (here.count ≤ length out.old) × (here.row < 65536) × (0 < at) × (at ≤ here.at)
+        × (here.at < at + 64) × (here.at < length text.now) }
     requires ends { AreEnded text.now at marks.stops }
     ensures within { (result.count ≤ length out.old) × (result.row < 65536) × (result.at ≤ length text.now) }
     ensures onward { (here.at ≤ result.at) × (here.count ≤ result.count) }
-    ensures in_order { (from : ℕ) → IsInOrder out.old here.count from here.at → IsInOrder out.new result.count from result.at }
-    ensures reached { (profile : Profile) (cell : ℕ → Cell) (lefts : List Left) (more : List ℕ) (all : Ahead) → AreSwift profile lefts steps.now → AreFlatKinds kinds.now cell
+    ensures in_order { (from : ℕ) → IsInOrder out.old here.count from here.at
+        → IsInOrder out.new result.count from result.at }
+    ensures reached { (profile : Profile) (cell : ℕ → Cell) (lefts : List Left) (more : List ℕ) (all : Ahead)
+        → AreSwift profile lefts steps.now → AreFlatKinds kinds.now cell
         → AreTold steps.now kinds.now pairs.now → AreMarks pairs.now text.now at marks
         → Reached profile cell lefts (text.now ++ more) all here (given_in out.old here.count)
         → Reached profile cell lefts (text.now ++ more) all result (given_in out.new result.count) }
@@ -240,15 +250,19 @@ fn finish(
     text: &[u8],
     out: &mut [RawBreak],
 ) -> FillState
-    requires place { (start.count ≤ length out.old) × (0 < at) × (at + taken ≤ length text.now) × (taken ≤ 64) × (at ≤ start.past) }
+    requires place { (start.count ≤ length out.old) × (0 < at) × (at + taken ≤ length text.now) × (taken ≤ 64)
+        × (at ≤ start.past) }
     requires ahead { IsAhead at taken start }
     ensures within { (result.count ≤ length out.old) × (result.row < 65536) × (result.at ≤ length text.now) }
     ensures onward { (start.past ≤ result.at) × (start.count ≤ result.count) }
-    ensures in_order { (from : ℕ) → IsInOrder out.old start.count from start.past → IsInOrder out.new result.count from result.at }
-    ensures reached { (profile : Profile) (cell : ℕ → Cell) (lefts : List Left) (more : List ℕ) (all : Ahead) (begin : ℕ)
+    ensures in_order { (from : ℕ) → IsInOrder out.old start.count from start.past
+        → IsInOrder out.new result.count from result.at }
+    ensures reached { (profile : Profile) (cell : ℕ → Cell) (lefts : List Left) (more : List ℕ) (all : Ahead)
+        (begin : ℕ)
         → IsBlock profile cell lefts steps.now kinds.now pairs.now text.now at begin taken
         → AreLeft pairs.now text.now at begin taken start
-        → Reached profile cell lefts (text.now ++ more) all (place_in pairs.now text.now start) (given_in out.old start.count)
+        → Reached profile cell lefts (text.now ++ more) all (place_in pairs.now text.now start)
+        (given_in out.old start.count)
         → Reached profile cell lefts (text.now ++ more) all result (given_in out.new result.count) }
 {
     let mut here = start;
@@ -304,15 +318,19 @@ fn take_break(
     requires place { (here.count < length out.old) × (0 < here.left) × (0 < at) }
     requires inside { AreInside text.now at here.left }
     ensures ahead { (taken : ℕ) → IsAhead at taken here → IsAhead at taken result × (here.past ≤ result.past) }
-    ensures in_order { (taken from : ℕ) → IsAhead at taken here → IsInOrder out.old here.count from here.past → IsInOrder out.new result.count from result.past }
+    ensures in_order { (taken from : ℕ) → IsAhead at taken here → IsInOrder out.old here.count from here.past
+        → IsInOrder out.new result.count from result.past }
     ensures within { (result.count ≤ length out.old) × (at ≤ result.past) }
     ensures onward { (here.count ≤ result.count) × (result.left < here.left) }
-    ensures reached { (profile : Profile) (cell : ℕ → Cell) (lefts : List Left) (more : List ℕ) (all : Ahead) (begin taken : ℕ)
+    ensures reached { (profile : Profile) (cell : ℕ → Cell) (lefts : List Left) (more : List ℕ) (all : Ahead)
+        (begin taken : ℕ)
         → IsBlock profile cell lefts steps.now kinds.now pairs.now text.now at begin taken
         → AreLeft pairs.now text.now at begin taken here
-        → Reached profile cell lefts (text.now ++ more) all (place_in pairs.now text.now here) (given_in out.old here.count)
+        → Reached profile cell lefts (text.now ++ more) all (place_in pairs.now text.now here)
+        (given_in out.old here.count)
         → AreLeft pairs.now text.now at begin taken result
-        × Reached profile cell lefts (text.now ++ more) all (place_in pairs.now text.now result) (given_in out.new result.count) }
+        × Reached profile cell lefts (text.now ++ more) all (place_in pairs.now text.now result)
+        (given_in out.new result.count) }
 {
     let index = first_set(here.left);
     let place = at + index;

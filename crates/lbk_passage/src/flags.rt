@@ -56,7 +56,8 @@ impl ByteFlags {
         requires end { end ≤ length bytes.now }
         ensures within { (start ≤ result) × (result ≤ end) }
         ensures passed { ArePassed self.now.is_quiet bytes.now start result }
-        ensures stops { result < end → slice_index_or self.now.is_quiet (slice_index_or bytes.now result 0) false ≡ false }
+        ensures stops { result < end → slice_index_or self.now.is_quiet (slice_index_or bytes.now result 0) false
+            ≡ false }
     {
         let mut at = start;
         while end - at >= TURN && self.are_quiet(bytes, at) {

@@ -21,10 +21,11 @@ const NO_ROW: u16 = 1;
 #[repr(C)]
 #[derive(Clone, Copy)]
 pub struct Neighbours {
-    /// Sets by which a byte stands out where a line may or must break before it, and is special where the two bytes by themselves
-    /// do not tell that.
+    /// Sets by which a byte stands out where a line may or must break before it, and is special where the two bytes
+    /// by themselves do not tell that.
     pub sets: ByteSets,
-    /// The place of the row after each byte that is not special, or after the scalar that it begins; or a number that is no row's.
+    /// The place of the row after each byte that is not special, or after the scalar that it begins; or a number that
+    /// is no row's.
     pub rows: [u16; 256],
 }
 

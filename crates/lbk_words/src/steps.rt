@@ -10,7 +10,8 @@ use crate::kinds::kind_of;
 use crate::scalars::answer_ahead;
 use crate::step_table::{ARE_WORDS, FIRST_ROWS, STEPS};
 
-/// How many rows there are. A row is what the rules ask of a part so far, and whether the part has a letter or a number.
+/// How many rows there are. A row is what the rules ask of a part so far, and whether the part has a letter or a
+/// number.
 pub(crate) const ROWS: usize = 43;
 
 /// What one more scalar makes of a part.
