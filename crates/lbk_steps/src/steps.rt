@@ -112,7 +112,8 @@ pub fn is_held(shown: u16) -> bool
     shown / 256 == RULE_15B
 }
 
-/// The kinds by their numbers, and Must again, so that any number is that of one, once it is masked, and 0 alone that of No.
+/// The kinds by their numbers, and Must again, so that any number is that of one, once it is masked, and 0 alone that
+/// of No.
 static KINDS_BY_NUMBER: [Kind; 4] = [Kind::No, Kind::May, Kind::Must, Kind::Must];
 
 /// The kind of a number: one read, since it is asked for at each character.
