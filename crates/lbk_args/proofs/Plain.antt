@@ -19,7 +19,7 @@ use Rattle.lbk_args.specs.Accepted.{faults_of, task_fault}
 use Rattle.lbk_feed.specs.Text.{greatest_limit}
 use Rattle.lbk_args.specs.Command.{default_limit, default_limit_text, flag_rule, lbk_app, limited_app, mark_app, number_rule, profile_rule, replay_app, value_rule}
 use Rattle.lbk_args.specs.PlainWords.{AreEngineWords, AreFolderWords, AreFourWords, AreKindsWords, AreLimitWords, AreProfileWords, IsPlainFor, IsPlainName, folder_files, given_files, name_of_engine, profile_word}
-use Rattle.lbk_args.specs.Task.{NamedFiles, Task, files_in, limit_in, number_or, part_in, profile_in, sign_in, task_by, task_in, texts_in}
+use Rattle.lbk_args.specs.Task.{NamedFiles, Task, files_in, limit_in, number_or, names_in, part_in, profile_in, sign_in, task_by, task_in, texts_in}
 use Rattle.lbk_args.specs.Sign.{default_sign}
 use Rattle.lbk_args.proofs.Numerals.{limit_plain, limit_read, limit_taken}
 use Rattle.lbk_args.proofs.Steps.{Enters, Takes, Walks, between, done, entered_clean, entered_rows, pair, step, taken}
@@ -401,7 +401,7 @@ replay_both (four l e c m) p plain pp good =
 
 abbrev task_with : Engine → Files → Profile → Task
 task_with engine fs profile =
-    record { engine = engine; files = files_of fs; profile = profile; part = None; sign = default_sign; texts = [] }
+    record { engine = engine; files = files_of fs; profile = profile; part = None; sign = default_sign; names = false; texts = [] }
 
 -- nothing is wrong in it
 nothing_wrong : (engine : Engine) (fs : Files) (profile : Profile) → task_fault (Some (task_with engine fs profile)) ≡ []
@@ -416,6 +416,7 @@ task_found engine rows = option_map (λ files. record {
   profile = profile_in rows;
   part = part_in rows;
   sign = sign_in rows;
+  names = names_in rows;
   texts = texts_in rows;
 }) (files_in rows)
 
@@ -567,11 +568,13 @@ plain_performs task words plain =
     subst (λ (ws : List Text). Performs ws task)
     (sym (plain.are ∙ ap (λ (ws : List Text). name_of_engine task.engine ∷ ws) (r.before (plain.engine_words ++ plain.profile_words))))
     (subst (λ (texts : List Text). Performs (name_of_engine task.engine ∷ words_before r.fs (plain.engine_words ++ plain.profile_words))
-    (record { engine = task.engine; files = task.files; profile = task.profile; part = task.part; sign = task.sign; texts = texts })) (sym plain.texts)
+    (record { engine = task.engine; files = task.files; profile = task.profile; part = task.part; sign = task.sign; names = task.names; texts = texts })) (sym plain.texts)
     (subst (λ (part : Option Part). Performs (name_of_engine task.engine ∷ words_before r.fs (plain.engine_words ++ plain.profile_words))
-    (record { engine = task.engine; files = task.files; profile = task.profile; part = part; sign = task.sign; texts = [] })) (sym plain.part)
+    (record { engine = task.engine; files = task.files; profile = task.profile; part = part; sign = task.sign; names = task.names; texts = [] })) (sym plain.part)
     (subst (λ (sign : Text). Performs (name_of_engine task.engine ∷ words_before r.fs (plain.engine_words ++ plain.profile_words))
-    (record { engine = task.engine; files = task.files; profile = task.profile; part = None; sign = sign; texts = [] })) (sym plain.sign)
+    (record { engine = task.engine; files = task.files; profile = task.profile; part = None; sign = sign; names = task.names; texts = [] })) (sym plain.sign)
+    (subst (λ (names : Bool). Performs (name_of_engine task.engine ∷ words_before r.fs (plain.engine_words ++ plain.profile_words))
+    (record { engine = task.engine; files = task.files; profile = task.profile; part = None; sign = default_sign; names = names; texts = [] })) (sym plain.names)
     (subst (λ (files : NamedFiles). Performs (name_of_engine task.engine ∷ words_before r.fs (plain.engine_words ++ plain.profile_words))
-    (record { engine = task.engine; files = files; profile = task.profile; part = None; sign = default_sign; texts = [] })) (sym r.files_are)
-    (engine_plain r.fs task.engine task.profile plain.engine_words plain.profile_words r.plain plain.engine plain.profile)))))
+    (record { engine = task.engine; files = files; profile = task.profile; part = None; sign = default_sign; names = false; texts = [] })) (sym r.files_are)
+    (engine_plain r.fs task.engine task.profile plain.engine_words plain.profile_words r.plain plain.engine plain.profile))))))

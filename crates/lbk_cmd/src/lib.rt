@@ -12,12 +12,14 @@ mod message;
 mod operands;
 mod output_line;
 mod owned;
+mod parts_of_messages;
 mod passages;
 mod performing;
 mod ranges;
 mod segmented;
 mod shown;
 mod signed;
+mod titles;
 
 pub use broken::{BreakFault, break_text};
 pub use command::{run, run_over_texts};
@@ -31,4 +33,5 @@ pub use lbk_files::{
 pub use message::{Caller, Message};
 pub use operands::{MemoryTexts, Texts};
 pub use owned::{OwnedPassage, Word};
+pub use parts_of_messages::Reason;
 pub use passages::read_passages;
