@@ -22,4 +22,4 @@ pub mod Deciding
 pub mod Gathering
 pub mod Signing
 pub mod ReadBack
-pub mod OutputLine
+pub mod Placing
