@@ -4,7 +4,7 @@ ghost use Rattle.std.specs.Prelude.{◌≡◌, [], ◌∷◌, None, Some, IfOk, 
 ghost use Rattle.clap.specs.Words.{first_of, found_of, kind_of, one_of, rows_of};
 ghost use Rattle.clap.specs.declared.error.kind.ErrorKind.{ErrorKind};
 ghost use Rattle.lbk_args.specs.Accepted.{AreAccepted, faults_of, is_range, task_fault};
-ghost use Rattle.lbk_args.specs.Task.{Task, engine_in, files_in, files_of_names, kinds_in, limit_in, named_folder, named_in, named_of, number_or, own_or_folder, part_in, profile_in, sign_in, task_by, task_in, task_of, texts_in};
+ghost use Rattle.lbk_args.specs.Task.{Task, engine_in, files_in, files_of_names, flag_in, limit_in, named_folder, named_in, named_of, number_or, own_or_folder, part_in, profile_in, sign_in, task_by, task_in, task_of, texts_in};
 ghost use Rattle.lbk_args.specs.PlainWords.{IsPlainFor};
 ghost use Rattle.lbk_args.specs.Sign.{is_sign};
 ghost use Rattle.lbk_args.specs.Refusal.{IsMistake, IsRefusalBy};
@@ -106,6 +106,7 @@ fn order<'a>(name: &str, given: &ArgMatches<'a>, texts: Vec<&'a str>) -> Option<
         profile: profile(given),
         part: part(given),
         sign: sign(given),
+        names: flag(given, "names"),
         texts,
     })
 }
@@ -156,7 +157,7 @@ fn engine(name: &str, given: &ArgMatches<'_>) -> Engine
             limit: limit(given),
         },
         _ => Engine::Replay {
-            kinds: kinds(given),
+            kinds: flag(given, "kinds"),
         },
     }
 }
@@ -180,10 +181,11 @@ fn limit(given: &ArgMatches<'_>) -> u32
     number(given, "limit", DEFAULT_LIMIT)
 }
 
-fn kinds(given: &ArgMatches<'_>) -> bool
-    ensures { result ≡ kinds_in (rows_of (found_of given.now)) }
+/// Whether the flag of a name is given.
+fn flag(given: &ArgMatches<'_>, id: &str) -> bool
+    ensures { result ≡ flag_in id.now (rows_of (found_of given.now)) }
 {
-    given.get_one::<bool>("kinds").unwrap_or(false)
+    given.get_one::<bool>(id).unwrap_or(false)
 }
 
 fn profile(given: &ArgMatches<'_>) -> Profile

@@ -13,7 +13,9 @@ use Rattle.lbk_notation.specs.Replay as replay
 use Rattle.lbk_cmd.specs.Engines.{engine_of, lines_of, marking, segmenting, showing}
 use Rattle.lbk_cmd.specs.Run.{Engine as TextEngine, IsRun, failed_reads_with, failed_writes_with, is_failed_read}
 use Rattle.lbk_cmd.specs.Ranges.{RangeRuns}
+use Rattle.lbk_cmd.specs.Titles.{RunsNamed}
 use Rattle.lbk_cmd.specs.Texts.{lines_from, segment_text, show_text, signed_text}
+use Rattle.lbk_rules.specs.CellPages.{page_cell}
 use Rattle.lbk_rules.specs.declared.Cell.{Cell}
 use Rattle.lbk_values.specs.declared.profile.Profile.{Profile}
 use Rattle.lbk_values.specs.declared.profile.Profile.TheVariants.{First}
@@ -32,6 +34,7 @@ use Rattle.lbk_files.specs.SampleFiles.{AreSampleCells, IsSampleFault}
 use Rattle.lbk_files.specs.FileFault.{AreCellsFrom, LoadCounts}
 use Rattle.lbk_files.specs.Named.{files_of}
 use Rattle.lbk_files.specs.Ready.{IsStoppedAt}
+use Rattle.lbk_files.specs.declared.readiness.Ready.{Ready}
 use Rattle.lbk_cmd.specs.declared.faults.CmdFault.{CmdFault}
 use Rattle.lbk_cmd.specs.declared.ending.Ending.{Ending}
 use Rattle.lbk_cmd.specs.declared.engine.Lines.{Lines}
@@ -113,6 +116,15 @@ RunsOver (Some part) (Show limit) mark profile cell = RangeEnds part (showing ce
 RunsOver (Some part) (Segment limit) mark profile cell = RangeEnds part (segmenting cell profile limit)
 RunsOver (Some part) (Replay kinds) mark profile cell = EngineRuns (Replay kinds) mark profile cell
 
+-- what a task runs over the text of a name, by cells
+abbrev pub RunsTask : Task → (ℕ → Cell) → List ℕ → Devices → Devices → Ending → Type 0
+RunsTask task cell = RunsNamed task.names (RunsOver task.part task.engine task.sign task.profile cell)
+
+-- what is ready, in the same way
+abbrev pub RunsReady : Ready → List ℕ → Devices → Devices → Ending → Type 0
+RunsReady ready =
+    RunsNamed ready.names (RunsOver ready.part ready.engine ready.sign.now ready.profile (page_cell ready.cells))
+
 -- a task: its files stop the run and no text is opened, or its engine runs with its option and profile on the cells of the
 -- files, over its texts, or over its range of each
 abbrev pub Performs : {F : Type 0} → SourceMembers F → (List ℕ → Option (Option (List ℕ))) → (List ℕ → Option (Option (List ℕ))) → Task
@@ -120,11 +132,11 @@ abbrev pub Performs : {F : Type 0} → SourceMembers F → (List ℕ → Option 
 Performs source file text task counts counts' before after =
     (StopsBefore (IsStoppedAt file task counts counts') before.devices after.devices after.ending × (after.refused ≡ before.refused))
     ⊎ ((cell : ℕ → Cell) × AreCellsFrom (files_of file task.files) cell
-    × Reads source text (RunsOver task.part task.engine task.sign task.profile cell) task.texts before after)
+    × Reads source text (RunsTask task cell) task.texts before after)
 
 -- a task, where there are no files of text
 abbrev pub PerformsAlone : (List ℕ → Option (Option (List ℕ))) → Task → LoadCounts → LoadCounts → Devices → Devices → Ending → Type 0
 PerformsAlone file task counts counts' before after ending =
     StopsBefore (IsStoppedAt file task counts counts') before after ending
     ⊎ ((cell : ℕ → Cell) × AreCellsFrom (files_of file task.files) cell
-    × ReadsAlone (RunsOver task.part task.engine task.sign task.profile cell) task.texts before after ending)
+    × ReadsAlone (RunsTask task cell) task.texts before after ending)

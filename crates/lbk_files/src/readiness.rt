@@ -15,14 +15,15 @@ use lbk_args::{Engine, Order, Part, WordsFault, parse};
 use lbk_rules::{CellPages, Profile};
 use std::alloc::Global;
 
-/// An engine with its option, the profile, which passages of each text, unless all, the sign of `mark`, the cells of the files
-/// and the names of the texts.
+/// An engine with its option, the profile, which passages of each text, unless all, the sign of `mark`, whether lines with their
+/// names are written, the cells of the files and the names of the texts.
 #[derive(Drop)]
 pub struct Ready<'a> {
     pub engine: Engine,
     pub profile: Profile,
     pub part: Option<Part>,
     pub sign: &'a str,
+    pub names: bool,
     pub cells: CellPages,
     pub texts: Vec<&'a str>,
 }
@@ -69,6 +70,7 @@ pub fn prepare<'a, S: Store>(
         profile: order.profile,
         part: order.part,
         sign: order.sign,
+        names: order.names,
         cells,
         texts: order.texts,
     })

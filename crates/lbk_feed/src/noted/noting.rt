@@ -12,6 +12,8 @@ use std::io::{self, ErrorKind, Read, Write};
 pub struct Notes {
     /// The kind of the last error.
     pub error: Cell<Option<ErrorKind>>,
+    /// Whether the text is the output, too.
+    pub is_output: Cell<bool>,
     /// Whether the input begins with the byte order mark of UTF-16.
     pub is_utf16: Cell<bool>,
     /// Whether to record if the input has `!`, as test lines may.
@@ -25,6 +27,7 @@ impl Notes {
     pub fn new() -> Notes {
         Notes {
             error: Cell::new(None),
+            is_output: Cell::new(false),
             is_utf16: Cell::new(false),
             wants_kinds: Cell::new(false),
             has_kinds: Cell::new(false),
