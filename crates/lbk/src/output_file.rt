@@ -1,6 +1,6 @@
 //! The file that the output goes to, from which no text is to be read: it would grow while it is read.
 
-use lbk_devices::Notes;
+use lbk_feed::noted::Notes;
 use std::fs::{self, Metadata};
 use std::io::{self, ErrorKind, Read};
 use std::os::unix::fs::MetadataExt;
