@@ -6,8 +6,11 @@ import json
 import pickle
 import sys
 import tempfile
+import threading
 import unittest
+from concurrent.futures import ThreadPoolExecutor
 from pathlib import Path
+from unittest import mock
 
 import samples
 from lbk import Kind, Table
@@ -123,6 +126,24 @@ class Files(WithFiles):
                 # (not assertEqual, which goes through long lists for minutes to show how they differ)
                 self.assertTrue(joined(parts) == samples.found(self.table, data))
                 self.assertTrue("".join(self.paragraphs(path, 5000)) == data.decode("utf-8", "replace"))
+
+    def test_threads_read_parts_of_a_file_at_the_same_time(self):
+        one, two = _parts.plan(self.write("text", b"ab\ncd\n"), self.table, 3, None, None)
+        is_open, is_closed, fill = threading.Event(), threading.Event(), _parts._fill
+
+        def fill_in_turn(memory, file):
+            if threading.current_thread() is threading.main_thread():
+                self.assertTrue(is_open.wait(60))
+            else:
+                is_open.set()
+                is_closed.wait(60)
+            return fill(memory, file)
+
+        with mock.patch.object(_parts, "_fill", fill_in_turn), ThreadPoolExecutor(1) as others:
+            second = others.submit(lambda: bytes(_parts.read_part(two)))
+            self.assertEqual(bytes(_parts.read_part(one)), b"ab\n")
+            is_closed.set()
+            self.assertEqual(second.result(60), b"cd\n")
 
     def test_compressed_and_empty_files(self):
         text = "é ab\ncd\r\n".encode() * 50
