@@ -74,6 +74,15 @@ BOUNDS = [
     ("letters of three bytes", "lbk_chunks-100", 0.014),
 ]
 
+# A text, two calls, and the least ratio of the speed of the first to that of the second, which decides each byte by steps alone. So a
+# third less is seen, as where bytes that masks do not tell are never found to be many.
+BESIDE = [
+    ("letters of three bytes", "lbk_breaks", "lbk_positions", 1.25),
+    ("letters of three bytes", "lbk_breaks_utf16", "lbk_positions_utf16", 1.4),
+    ("letters of two bytes", "lbk_breaks", "lbk_positions", 2.8),
+    ("the pages", "lbk_breaks", "lbk_positions", 2.5),
+]
+
 
 def measured(room):
     """The ratio of each call over each text."""
@@ -97,4 +106,8 @@ def run(tally, _arguments):
         for text, call, least in BOUNDS:
             ratio = found.get((text, call), 0.0)
             said = f"{text}: {call}: {ratio:.3f} times the loop, at least {least}"
+            tally.tell(said, None if ratio >= least else "it is slower")
+        for text, call, other, least in BESIDE:
+            ratio = found.get((text, call), 0.0) / found.get((text, other), 1.0)
+            said = f"{text}: {call}: {ratio:.2f} times {other}, at least {least}"
             tally.tell(said, None if ratio >= least else "it is slower")
