@@ -1,4 +1,4 @@
-"""Work that is done twice: the instructions of calls of the library for C, as valgrind counts them, beside those that are stored.
+"""Work that is done twice: the instructions of calls and of a run, as valgrind counts them, beside those that are stored.
 
 A count is the same from run to run, whatever the machine's load, so 3 % of room is enough. A cut has to take as many
 instructions in a text of 1 GB as in one of 256 KiB with the same bytes near. With the argument --write it stores the counts.
@@ -9,7 +9,7 @@ import tempfile
 from pathlib import Path
 
 from checks import c_programs
-from checks.harness import CannotRun, has
+from checks.harness import CannotRun, built_program, has
 from checks.program import run as run_program
 from checks.unicode_files import MISSING, NAMES, published
 
@@ -20,9 +20,10 @@ CALLS = ("lbk_read", "lbk_read_published")
 CUTS = ("lbk_cut", "lbk_cut_before")
 
 
-def counted(words, call):
-    """The instructions of a call in a run of a program."""
-    ran = run_program(["valgrind", "--tool=callgrind", "--callgrind-out-file=/dev/null", f"--toggle-collect={call}", *words])
+def counted(words, call=None, given=b""):
+    """The instructions of a run of a program, or of one call in it."""
+    only = [f"--toggle-collect={call}"] if call else []
+    ran = run_program(["valgrind", "--tool=callgrind", "--callgrind-out-file=/dev/null", *only, *words], given)
     found = re.search(rb"Collected : (\d+)", ran.err)
     if ran.status != 0 or not found:
         raise CannotRun(f"{words[0]} ended with status {ran.status}: {ran.err[-300:]!r}")
@@ -32,7 +33,9 @@ def counted(words, call):
 def measured(program, folder):
     """What is stored, by the names of the rows."""
     files = [folder / it for it in NAMES]
-    return {call: counted([program, call, "0", *files], call) for call in CALLS}
+    found = {call: counted([program, call, "0", *files], call) for call in CALLS}
+    found["lbk mark --ucd"] = counted([built_program(), "mark", "--ucd", folder], given=b"ab cd\n")
+    return found
 
 
 def run(tally, arguments):

@@ -7,7 +7,7 @@ ghost use Rattle.lbk_steps.specs.Rows.{IsPlace, steps_in};
 use crate::ahead::closes_in;
 use crate::kinds::cell_of_kind;
 use crate::source::CellSource;
-use crate::steps::{Rows, Step, is_held, left_of, rows_of, step_from, verdict_of};
+use crate::steps::{Rows, Step, left_of, rows_of, step_from, verdict_of};
 use lbk_uax14::{Cell, Left, Profile, Verdict};
 use std::alloc::AllocError;
 
@@ -18,7 +18,7 @@ struct Row {
     /// The steps of the profile.
     steps: &'static Rows,
     /// The place of the row.
-    place: u16,
+    place: usize,
     ghost of_profile: { steps.now ≡ steps_in profile },
     ghost begins: { IsPlace place },
 }
@@ -87,7 +87,7 @@ impl<'a, C: CellSource> RowMachine<'a, C> {
             → RowMachineFits C.cell_of self.new profile cell (taken ++ c ∷ []) }
     {
         let step = self.step_by(c);
-        self.row.place = step.next;
+        self.row.place = usize::from(step.next);
         verdict_of(step.shown)
     }
 
@@ -107,11 +107,12 @@ impl<'a, C: CellSource> RowMachine<'a, C> {
         ensures stays { IfNone result (self.new ≡ self.old) }
     {
         let step = self.step_by(c);
-        if is_held(step.shown) {
+        let verdict = verdict_of(step.shown);
+        if verdict.rule.is_15b() {
             return None;
         }
-        self.row.place = step.next;
-        Some(verdict_of(step.shown))
+        self.row.place = usize::from(step.next);
+        Some(verdict)
     }
 
     /// The step by `c`, with the number of the verdict where nothing follows.
