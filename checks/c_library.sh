@@ -251,6 +251,10 @@ try_cpp() {
             tried "$1: edges.cpp in $version $without" "$1" -std=$version $without "${warnings[@]}" "${checks[@]}" "${flags[@]}" \
                 "$top/examples/edges.cpp" "${links[@]}" -o "$here/built/edges-cpp-$1" \
                 && count "$1: edges.cpp in $version $without, run" "$here/built/edges-cpp-$1" "$here/edges" ${LBK_DATABASE:+"$LBK_DATABASE"}
+            # shellcheck disable=SC2086
+            tried "$1: passages.cpp in $version $without" "$1" -std=$version $without "${warnings[@]}" "${checks[@]}" "${flags[@]}" \
+                "$top/examples/passages.cpp" "${links[@]}" -o "$here/built/passages-cpp-$1" \
+                && count "$1: passages.cpp in $version $without, run" "$here/built/passages-cpp-$1" "$here/edges"
         done
         for name in breaks parts; do
             tried "$1: $name.cpp in $version" "$1" -std=$version "${warnings[@]}" "${flags[@]}" "$top/examples/$name.cpp" "${links[@]}" \

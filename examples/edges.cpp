@@ -5,7 +5,7 @@
  *
  * The last line is `N passed, M failed`.
  */
-#include <lbk.hpp>
+#include "harness.hpp"
 
 #include <algorithm>
 #include <cstdio>
@@ -48,11 +48,6 @@ static_assert(!std::is_constructible_v<lbk::segments, lbk::table &, std::string>
 static_assert(std::is_constructible_v<lbk::positions_utf16, lbk::table &, std::u16string &, lbk::profile>);
 static_assert(!std::is_constructible_v<lbk::positions_utf32, lbk::table &, std::u32string>);
 static_assert(std::is_constructible_v<lbk::words, std::string &> && !std::is_constructible_v<lbk::words, std::string>);
-static_assert(!std::is_constructible_v<lbk::passages, lbk::table, std::string_view>);
-static_assert(!std::is_constructible_v<lbk::passages, lbk::table &, std::string>);
-static_assert(std::is_constructible_v<lbk::chunks, lbk::table &, std::string &, lbk::limits, lbk::profile>);
-static_assert(!std::is_constructible_v<lbk::chunks, lbk::table, std::string_view>);
-static_assert(!std::is_constructible_v<lbk::chunks, lbk::table &, std::string>);
 static_assert(std::is_constructible_v<lbk::stream, lbk::table &> && !std::is_constructible_v<lbk::stream, lbk::table>);
 
 #if defined(__cpp_lib_ranges)
@@ -60,34 +55,10 @@ static_assert(std::ranges::view<lbk::positions> && std::ranges::borrowed_range<l
 static_assert(std::ranges::view<lbk::positions_utf16> && std::ranges::borrowed_range<lbk::breaks_wide>);
 static_assert(std::ranges::view<lbk::segments> && std::ranges::forward_range<lbk::segments>);
 static_assert(std::ranges::view<lbk::words> && std::ranges::borrowed_range<lbk::words>);
-static_assert(std::ranges::view<lbk::passages> && std::ranges::forward_range<lbk::passages>);
-static_assert(std::ranges::view<lbk::chunks> && std::ranges::forward_range<lbk::chunks>);
 static_assert(std::forward_iterator<iterator>);
 static_assert(std::ranges::forward_range<lbk::breaks> && std::ranges::common_range<lbk::breaks>);
 static_assert(std::ranges::view<lbk::breaks> && std::ranges::borrowed_range<lbk::breaks>);
 #endif
-
-static unsigned passed, failed;
-
-static void told(const char *what, bool holds)
-{
-    if (holds) {
-        passed++;
-    } else {
-        failed++;
-        std::printf("FAILED  %s\n", what);
-    }
-}
-
-/* Small files: a to z are letters, and U+FFFD is an ideograph. */
-static const char LINE_BREAKS[] = "000A;LF\n0020;SP\n0061..007A;AL\n00AB;QU\n00BB;QU\n4E00;ID\nFFFD;ID\n";
-static const char CATEGORIES[] = "00AB;Pi\n00BB;Pf\n";
-
-static std::optional<lbk::table> small_table()
-{
-    lbk::error why;
-    return lbk::table::try_read(LINE_BREAKS, "", CATEGORIES, "", why);
-}
 
 static std::vector<std::size_t> places(const lbk_table &table, std::string_view text, lbk::profile rules = lbk::profile::first)
 {
@@ -105,8 +76,6 @@ static std::vector<std::size_t> unit_places(const Breaks &range)
         found.push_back(one.at);
     return found;
 }
-
-using these = std::vector<std::size_t>;
 
 static void try_ranges(const lbk_table &table)
 {
@@ -254,86 +223,6 @@ static void try_words()
     told("places among words", before->start == 0 && place->start == 4 && before != place && ++before == place);
 }
 
-static void try_passages(const lbk_table &table)
-{
-    const std::string text = "ab c\n\nde \nf";
-    std::string joined, segments;
-    these starts, words;
-    for (lbk::passage one : lbk::passages(table, text)) {
-        starts.push_back(one.start);
-        joined += one.text;
-        for (lbk::segment part : one) {
-            segments += part.text;
-            segments += '|';
-        }
-        for (lbk_word word : one.words())
-            words.push_back(one.start + word.start);
-    }
-    told("passages begin behind the ends of lines", starts == these{0, 5, 6, 10});
-    told("passages are the text", joined == text);
-    told("segments of passages", segments == "ab |c\n|\n|de \n|f|");
-    told("words of passages", words == these{0, 3, 6, 10});
-    told("no passage of no text", lbk::passages(table, "").begin() == lbk::passages(table, "").end());
-    lbk::passages twice(table, text);
-    told("passages are gone through again", std::distance(twice.begin(), twice.end()) == std::distance(twice.begin(), twice.end()));
-}
-
-static void try_chunks(const lbk_table &table)
-{
-    const std::string text = "one two. three\nfour five six";
-    auto shown = [&](const lbk::limits &within) {
-        std::string all;
-        for (lbk_chunk it : lbk::chunks(table, text, within))
-            all += text.substr(it.start, it.end - it.start) + '|';
-        return all;
-    };
-    lbk::limits within;
-    within.most = 12;
-    told("half of most is the least", shown(within) == "one two. |three\n|four five |six|");
-    within.least = 12;
-    told("the chunks of a text", shown(within) == "one two. |three\nfour |five six|");
-    within.overlap = 5;
-    told("chunks with an overlap", shown(within) == "one two. |three\nfour |four five |five six|");
-    std::string many, joined;
-    for (int k = 0; k < 1000; k++)
-        many += "a b ";
-    const lbk::chunks range(table, many, within);
-    std::size_t at = 0;
-    bool is_on = true;
-    for (lbk_chunk it : range) {
-        is_on = is_on && it.start <= at && at < it.end;
-        at = it.end;
-    }
-    told("more chunks than an iterator holds", is_on && at == many.size());
-    told("a chunk that stands alone", lbk::chunks(table, "abcdefghijklmnop", within).begin()->alone);
-    told("no chunk of no text", lbk::chunks(table, "").begin() == lbk::chunks(table, "").end());
-}
-
-/// Limits that are out of range are named.
-static void try_limits(const lbk_table &table)
-{
-    lbk::limits none, least, overlap;
-    none.most = 0;
-    least.least = 501;
-    overlap.overlap = 251;
-    told("limits in range", lbk::limits().wrong().empty());
-    told("no most", none.wrong() == "most is 1 or more, and not 0");
-    told("too much least", least.wrong() == "least is 0 to most, which is 500, and not 501");
-    told("too much overlap", overlap.wrong() == "overlap is 0 to half of most, which is 500, and not 251");
-    for (const lbk::limits &one : {none, least, overlap}) {
-#if defined(__cpp_exceptions)
-        try {
-            lbk::chunks(table, "a b", one);
-            told("wrong limits are thrown", false);
-        } catch (const std::invalid_argument &thrown) {
-            told("wrong limits are thrown", thrown.what() == one.wrong());
-        }
-#else
-        told("wrong limits give no chunk", lbk::chunks(table, "a b", one).begin() == lbk::chunks(table, "a b", one).end());
-#endif
-    }
-}
-
 static void try_streams(const lbk_table &table)
 {
     std::string text;
@@ -383,13 +272,6 @@ static void try_bytes(const lbk::table &table)
     told("no table out of line", lbk::table_in({room.get() + 1, sizeof(lbk_table)}) == nullptr);
     room[100000] ^= 1;
     told("bytes that changed", !lbk::table::try_copy({room.get() + 1, sizeof(lbk_table)}, why) && refused(why, reason::not_a_table));
-}
-
-static bool write(const std::string &name, std::string_view bytes)
-{
-    std::FILE *file = std::fopen(name.c_str(), "wb");
-    bool is_written = file != nullptr && std::fwrite(bytes.data(), 1, bytes.size(), file) == bytes.size();
-    return file != nullptr && std::fclose(file) == 0 && is_written;
 }
 
 static void try_files(const lbk::table &table, const std::string &folder)
@@ -452,46 +334,6 @@ static void try_found(const std::string &folder)
     told("it is read once", found != nullptr && lbk::table::try_find(why) == found);
 }
 
-/// What a file of another version, or of none, says of itself.
-static void try_claims(const std::string &folder)
-{
-    const std::string names[] = {"LineBreak.txt", "EastAsianWidth.txt", "DerivedGeneralCategory.txt", "emoji-data.txt"};
-    const std::pair<const char *, const char *> claims[] = {
-        {"# LineBreak-14.0.0.txt\n", "this is of Unicode 14.0.0, and lbk goes by 15.0.0"},
-        {"# LineBreak-15.1.txt\n", "this is of Unicode 15.1.0, and lbk goes by 15.0.0"},
-        {"# LineBreak-15.0.0.txt\n", "the file was changed or cut: it is not LineBreak.txt as Unicode 15.0.0 published it"},
-        {"# LineBreak-", "this is not LineBreak.txt as Unicode 15.0 published it"},
-        {"0061;AL\n# LineBreak-14.0.0", "this is not LineBreak.txt as Unicode 15.0 published it"},
-    };
-    ::mkdir((folder + "/claims").c_str(), 0700);
-    for (const std::string &name : names)
-        write(folder + "/claims/" + name, "");
-    for (const auto &[first, said] : claims) {
-        lbk::error why;
-        write(folder + "/claims/LineBreak.txt", first);
-        told(said, !lbk::table::try_load(folder + "/claims", why) && why.message() == std::string("LineBreak.txt: ") + said);
-    }
-    const std::pair<const char *, const char *> emoji[] = {
-        {"# emoji-data.txt\n# Used with Emoji Version 14.0 and", "this is of Emoji 14.0, and lbk goes by 15.0"},
-        {"# emoji-data\n# Used with Emoji Version 5.0.1", "this is of Emoji 5.0.1, and lbk goes by 15.0.0"},
-        {"# emoji-data-15.0\n", "this is not emoji-data.txt as Unicode 15.0 published it"},
-    };
-    for (const auto &[first, said] : emoji) {
-        char text[112];
-        lbk::detail::say_claim(LBK_EMOJI, first, text, sizeof text);
-        told(said, std::string(text) == said);
-    }
-#if defined(__cpp_exceptions)
-    try {
-        lbk::table::load(folder + "/claims");
-        told("a claim is thrown", false);
-    } catch (const lbk::table_error &thrown) {
-        told("a claim is thrown", std::string(thrown.what()).find(folder + "/claims/LineBreak.txt: this is not") == 0
-                                      && std::strstr(thrown.what(), "15.0.0/ucd/UCD.zip") != nullptr);
-    }
-#endif
-}
-
 static void try_database(const std::string &folder)
 {
     lbk::error why;
@@ -534,20 +376,15 @@ int main(int words, char **word)
         try_safe_breaks(*table);
         try_cut_files(*table);
         try_words();
-        try_passages(*table);
-        try_chunks(*table);
-        try_limits(*table);
         try_streams(*table);
         try_bytes(*table);
         try_files(*table, word[1]);
         try_exceptions(*table, word[1]);
-        try_claims(word[1]);
         try_not_found(word[1]);
         if (words == 3) {
             try_database(word[2]);
             try_found(word[2]);
         }
     }
-    std::printf("%u passed, %u failed\n", passed, failed);
-    return failed == 0 ? 0 : 1;
+    return told_all();
 }

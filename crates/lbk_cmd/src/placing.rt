@@ -1,7 +1,7 @@
 //! The parts of a line, each placed in a buffer that has room for more than the line.
 
 ghost use Rattle.std.specs.Prelude.{◌≡◌, ◌+◌, ◌<◌, ◌≤◌, ◌∷◌, [], length, take};
-ghost use Rattle.lbk_cmd.specs.Placing.{Placed, four_digits};
+ghost use Rattle.lbk_cmd.specs.Placing.{Placed, four_digits, two_digits};
 
 use std::simd::Simd;
 
@@ -25,28 +25,28 @@ pub fn place_front<const N: usize>(buf: &mut [u8], at: usize, bytes: [u8; N], le
     at + len
 }
 
+/// The two digits of each number below 100.
+static PAIRS: [u8; 200] =
+    *b"00010203040506070809101112131415161718192021222324252627282930313233343536373839404142434445464748495051525354555657585960616263646566676869707172737475767778798081828384858687888990919293949596979899";
+
 /// Places the four digits of a number below 10,000.
 #[inline(always)]
 pub fn place_four(buf: &mut [u8], at: usize, number: u64) -> usize
     requires { (number < 10000) × (at + 4 ≤ length buf.old) }
     ensures { Placed buf.old buf.new at (four_digits number) result }
 {
-    let digits = [
-        digit(number / 1000),
-        digit(number / 100 % 10),
-        digit(number / 10 % 10),
-        digit(number % 10),
-    ];
-    place_front(buf, at, digits, 4)
+    let next = place_pair(buf, at, number / 100);
+    place_pair(buf, next, number % 100)
 }
 
-/// The digit of a number below 10.
+/// Places the two digits of a number below 100.
 #[inline(always)]
-fn digit(number: u64) -> u8
-    requires { number < 10 }
-    ensures { result ≡ 48 + number }
+fn place_pair(buf: &mut [u8], at: usize, number: u64) -> usize
+    requires { (number < 100) × (at + 2 ≤ length buf.old) }
+    ensures { Placed buf.old buf.new at (two_digits number) result }
 {
-    b'0' + number as u8
+    let from = number as usize * 2;
+    place_front(buf, at, [PAIRS[from], PAIRS[from + 1]], 2)
 }
 
 /// Places a text of at most three bytes.

@@ -18,7 +18,7 @@ struct Row {
     /// The steps of the profile.
     steps: &'static Rows,
     /// The place of the row.
-    place: u16,
+    place: usize,
     ghost of_profile: { steps.now ≡ steps_in profile },
     ghost begins: { IsPlace place },
 }
@@ -87,7 +87,7 @@ impl<'a, C: CellSource> RowMachine<'a, C> {
             → RowMachineFits C.cell_of self.new profile cell (taken ++ c ∷ []) }
     {
         let step = self.step_by(c);
-        self.row.place = step.next;
+        self.row.place = usize::from(step.next);
         verdict_of(step.shown)
     }
 
@@ -111,7 +111,7 @@ impl<'a, C: CellSource> RowMachine<'a, C> {
         if verdict.rule.is_15b() {
             return None;
         }
-        self.row.place = step.next;
+        self.row.place = usize::from(step.next);
         Some(verdict)
     }
 

@@ -51,20 +51,20 @@ pub fn rows_of(profile: Profile) -> &'static Rows
 
 /// The step from the row at a place by a kind. A number that is no kind's is masked, and then is that of one.
 #[inline(always)]
-pub fn step_from(rows: &Rows, place: u16, kind: u8) -> Step
+pub fn step_from(rows: &Rows, place: usize, kind: u8) -> Step
     requires { IsPlace place }
     ensures { (profile : Profile) → rows.now ≡ steps_in profile → IsStepFrom profile place (kind % WIDTH % KINDS) result }
 {
     let all = rows.as_flattened();
-    all[usize::from(kind) % WIDTH..][usize::from(place)]
+    all[usize::from(kind) % WIDTH..][place]
 }
 
 /// What the row at a place knows. It is asked for seldom, and is found from the row's sample.
-pub(crate) fn left_of(place: u16) -> Left
+pub(crate) fn left_of(place: usize) -> Left
     requires { IsPlace place }
     ensures { result ≡ left_at place }
 {
-    known_of(&SAMPLES[usize::from(place) / WIDTH])
+    known_of(&SAMPLES[place / WIDTH])
 }
 
 /// What is known of the cells of these kinds.
@@ -110,8 +110,8 @@ pub fn is_held(shown: u16) -> bool
     shown / 256 == RULE_15B
 }
 
-/// The kinds by their numbers, and No again, so that any number is that of one, once it is masked.
-static KINDS_BY_NUMBER: [Kind; 4] = [Kind::No, Kind::May, Kind::Must, Kind::No];
+/// The kinds by their numbers, and Must again, so that any number is that of one, once it is masked, and 0 alone that of No.
+static KINDS_BY_NUMBER: [Kind; 4] = [Kind::No, Kind::May, Kind::Must, Kind::Must];
 
 /// The kind of a number: one read, since it is asked for at each character.
 #[inline(always)]

@@ -1,4 +1,4 @@
-use Rattle.std.proofs.Common.{◌≤◌, length, decimal, rules, arith}
+use Rattle.std.proofs.Common.{◌≤◌, length, decimal, rules}
 use Rattle.std.proofs.lemmas.Fmt.{length-decimal-le}
 use Rattle.lbk_cmd.proofs.offsets.digits_of.Goals as goal
 

@@ -1,6 +1,5 @@
-use Rattle.std.proofs.Common.{◌≡◌, ◌+◌, length, take, refl, arith, rules}
+use Rattle.std.proofs.Common.{◌≡◌, ◌+◌, length, refl, arith, rules}
 use Rattle.std.proofs.lemmas.Simd.{length-put_chunk, take_more_put_chunk}
-use Rattle.lbk_cmd.specs.Placing.{Placed}
 use Rattle.lbk_cmd.proofs.Places.{Placed-front}
 use Rattle.lbk_cmd.proofs.placing.place_front.Goals as goal
 

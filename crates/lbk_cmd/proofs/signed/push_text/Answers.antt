@@ -1,4 +1,4 @@
-use Rattle.std.proofs.Common.{◌≤◌, ◌++◌, [], drop, length, take, append-nil, sym, ap, subst, ◌∙◌, arith, chars}
+use Rattle.std.proofs.Common.{◌≤◌, ◌++◌, [], drop, length, take, append-nil, sym, ap, subst, ◌∙◌, arith}
 use Rattle.std.proofs.lemmas.List.{take_all, take-append-drop}
 use Rattle.std.proofs.lemmas.Result.{on_ok_weaker}
 use Rattle.lbk_cmd.specs.Signing.{IsCut, signed_from}

@@ -1,13 +1,11 @@
 use Rattle.std.proofs.Common.{[], ◌∷◌, ◌++◌, chars, sym, ap, ap₂, ◌∙◌}
 use Rattle.std.proofs.lemmas.Result.{on_ok_weaker}
 use Rattle.lbk_notation.specs.Shown.{passage_line}
-use Rattle.lbk_rules.specs.Breaks.{breaks}
 use Rattle.lbk_passage.specs.Marks.{marks, ended}
 use Rattle.lbk_passage.specs.Passages.{is_must}
 use Rattle.lbk_cmd.specs.Engines.{lines_of}
-use Rattle.lbk_cmd.specs.Mark.{missing_line_end, signed_passage}
+use Rattle.lbk_cmd.specs.Mark.{signed_passage}
 use Rattle.lbk_cmd.specs.Show.{verdicts_of}
-use Rattle.lbk_cmd.specs.Signing.{signed_from}
 use Rattle.lbk_cmd.proofs.PassageLines.{shown-is}
 use Rattle.lbk_cmd.proofs.Signing.{passage_signed, text_signed}
 use Rattle.lbk_cmd.proofs.gathered.Gathered.push_text.Goals as goal

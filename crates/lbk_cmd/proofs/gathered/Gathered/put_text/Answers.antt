@@ -1,4 +1,4 @@
-use Rattle.std.proofs.Common.{◌≡◌, Ok, Err, Some, refl, sym, ap, subst, ◌∙◌, length, take, rules}
+use Rattle.std.proofs.Common.{◌≡◌, Ok, Err, refl, sym, ap, subst, ◌∙◌, length, take, rules}
 use Rattle.lbk_passage.specs.Next.{failures_with, fault_in}
 use Rattle.lbk_passage.specs.Shown.{state_of}
 use Rattle.lbk_cmd.specs.Engines.{engine_of}
