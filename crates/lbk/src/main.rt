@@ -9,8 +9,8 @@ mod waiting;
 mod words;
 
 use lbk_cmd::{Caller, CmdFault, Ending, RunFault, run_over_texts};
-use lbk_feed::noted::{Input, Notes, Noting, Prompted};
 use lbk_feed::Device;
+use lbk_feed::noted::{Input, Notes, Noting, Prompted};
 use lbk_files::FileStore;
 use output_file::{Barred, OutputFile};
 use std::alloc::{AllocError, Global};

@@ -6,8 +6,8 @@ use super::output_file::OutputFile;
 use super::telling;
 use lbk_args::{Engine, Order};
 use lbk_cmd::{Caller, RunFault, Texts};
-use lbk_feed::noted::{Input, Notes, Noting};
 use lbk_feed::Device;
+use lbk_feed::noted::{Input, Notes, Noting};
 use lbk_files::{LoadFault, Opens};
 use std::fs::File;
 use std::io::ErrorKind;
@@ -39,8 +39,8 @@ impl<'a> Opens for SystemFiles<'a> {
     }
 }
 
-/// The files of text of the system, by their names. Why one cannot be opened or read is noted, and why one is refused is
-/// written on standard error.
+/// The files of text of the system, by their names. Why one cannot be opened or read is noted, and why one is refused
+/// is written on standard error.
 #[derive(Drop)]
 pub struct SystemTexts<'a> {
     rt: &'a HostRuntime,
@@ -51,11 +51,7 @@ pub struct SystemTexts<'a> {
 }
 
 impl<'a> SystemTexts<'a> {
-    pub fn new(
-        rt: &'a HostRuntime,
-        output: &'a OutputFile,
-        notes: &'a Notes,
-    ) -> SystemTexts<'a> {
+    pub fn new(rt: &'a HostRuntime, output: &'a OutputFile, notes: &'a Notes) -> SystemTexts<'a> {
         SystemTexts {
             rt,
             output,

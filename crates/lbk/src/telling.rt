@@ -5,7 +5,8 @@ use lbk_feed::noted::Notes;
 use lbk_notation::ReplayFault;
 use std::io::ErrorKind;
 
-/// One line for a refused run, or for the text of an operand that was refused; none where nobody reads the output any more.
+/// One line for a refused run, or for the text of an operand that was refused; none where nobody reads the output any
+/// more.
 pub fn tell_refused<'x>(
     rt: &HostRuntime,
     caller: Caller<'x>,

@@ -1,5 +1,6 @@
 -- What accepted words ask for, by the values that `clap` finds in them.
-use Rattle.std.specs.Prelude.{ℕ, ◌^◌, ◌==◌, ◌&&◌, Bool, false, List, [], ◌∷◌, Option, Some, None, if◌then◌else◌, nat_lt, codes, map, option_and_then, option_map, unwrap_or}
+use Rattle.std.specs.Prelude.{ℕ, ◌^◌, ◌==◌, ◌&&◌, Bool, false, List, [], ◌∷◌, Option, Some, None, if◌then◌else◌}
+use Rattle.std.specs.Prelude.{nat_lt, codes, map, option_and_then, option_map, unwrap_or}
 use Rattle.std.specs.Str.{bytes_eq}
 use Rattle.std.specs.Str.Parse.{digits_value, without_leading_plus}
 use Rattle.clap.specs.Words.{Row, Text, all_of, first_of, one_of, subcommand_of}
@@ -28,8 +29,8 @@ pub record NamedFiles : Type 0 where
   pub category : Named
   pub emoji : Named
 
--- an engine with its option, the names of the four files, the profile, which passages of each text, the sign of `mark`, whether
--- lines with their names are written, and the names of the texts
+-- an engine with its option, the names of the four files, the profile, which passages of each text, the sign of
+-- `mark`, whether lines with their names are written, and the names of the texts
 pub record Task : Type 0 where
   pub engine : Engine
   pub files : NamedFiles

@@ -1,10 +1,13 @@
 //! Words into an order.
 
-ghost use Rattle.std.specs.Prelude.{◌≡◌, [], ◌∷◌, None, Some, IfOk, IfErr, MatchOption, MatchResult, OnOk, codes, map, option_map};
+ghost use Rattle.std.specs.Prelude.{◌≡◌, [], ◌∷◌, None, Some, IfOk, IfErr, MatchOption, MatchResult, OnOk, codes};
+ghost use Rattle.std.specs.Prelude.{map, option_map};
 ghost use Rattle.clap.specs.Words.{first_of, found_of, kind_of, one_of, rows_of};
 ghost use Rattle.clap.specs.declared.error.kind.ErrorKind.{ErrorKind};
 ghost use Rattle.lbk_args.specs.Accepted.{AreAccepted, faults_of, is_range, task_fault};
-ghost use Rattle.lbk_args.specs.Task.{Task, engine_in, files_in, files_of_names, flag_in, limit_in, named_folder, named_in, named_of, number_or, own_or_folder, part_in, profile_in, sign_in, task_by, task_in, task_of, texts_in};
+ghost use Rattle.lbk_args.specs.Task.{Task, engine_in, files_in, files_of_names, flag_in, limit_in, named_folder};
+ghost use Rattle.lbk_args.specs.Task.{named_in, named_of, number_or, own_or_folder, part_in, profile_in, sign_in};
+ghost use Rattle.lbk_args.specs.Task.{task_by, task_in, task_of, texts_in};
 ghost use Rattle.lbk_args.specs.PlainWords.{IsPlainFor};
 ghost use Rattle.lbk_args.specs.Sign.{is_sign};
 ghost use Rattle.lbk_args.specs.Refusal.{IsMistake, IsRefusalBy};
@@ -94,7 +97,8 @@ fn is_range(part: Option<Part>) -> bool
     }
 }
 
-/// The order of a subcommand for these texts, by what was found for its options; none where a property file is not named.
+/// The order of a subcommand for these texts, by what was found for its options; none where a property file is not
+/// named.
 fn order<'a>(name: &str, given: &ArgMatches<'a>, texts: Vec<&'a str>) -> Option<Order<'a>>
     requires { map (λ name. name.now) texts.items ≡ texts_in (rows_of (found_of given.now)) }
     ensures { option_map task_of result ≡ task_in (name.now, rows_of (found_of given.now)) }

@@ -20,8 +20,8 @@ pub(crate) fn usage_text(
     Ok(text)
 }
 
-/// The words of `clap`. Those of the arguments are in them as they are, so it is asked again where one of these is not to be
-/// shown so.
+/// The words of `clap`. Those of the arguments are in them as they are, so it is asked again where one of these is
+/// not to be shown so.
 fn told(alloc: Global, words: &[&str], error: &Error) -> Result<String, AllocError> {
     if !words.iter().any(|word| word.contains(is_escaped)) {
         return format!(in alloc; "{error}");

@@ -1,5 +1,6 @@
 -- What a run of the program does, by its words.
-use Rattle.std.specs.Prelude.{◌≡◌, ◌⊎◌, ◌+◌, ◌≤◌, ◌↔◌, ℕ, Bool, List, Option, None, Some, Result, IfOk, IfSome, IsErrOf, IsTrue, IsUtf8, OnOk, if◌then◌else◌}
+use Rattle.std.specs.Prelude.{◌≡◌, ◌⊎◌, ◌+◌, ◌≤◌, ◌↔◌, ℕ, Bool, List, Option, None, Some, Result, IfOk, IfSome}
+use Rattle.std.specs.Prelude.{IsErrOf, IsTrue, IsUtf8, OnOk, if◌then◌else◌}
 use Rattle.std.specs.Str.{chars}
 use Rattle.std.specs.Io.KnownBytes.{Appends, IsAtEnd}
 use Rattle.lbk_feed.specs.Runs.{Ran}
@@ -42,7 +43,8 @@ use Rattle.lbk_cmd.specs.Devices.{Devices}
 use Rattle.lbk_cmd.specs.Operands.{Reads, ReadsAlone, Standing}
 use Rattle.lbk_cmd.specs.Ending.{ending_of_files, ending_of_replay, ending_of_stop, ending_of_text}
 
--- what `mark`, `show` and `segment` do where they differ only in the text that they write: to the devices, with the answer
+-- what `mark`, `show` and `segment` do where they differ only in the text that they write: to the devices, with the
+-- answer
 pub record TextRuns (text : List ℕ → List ℕ) (engine : TextEngine) (before after : Devices) (answer : Result (Unit {0}) CmdFault) : Type 0 where
   pub shown : OnOk answer (IfSome before.unread (λ input. IsUtf8 input × Appends before.written after.written (text input)))
   pub ended : OnOk answer (IsTrue after.has_ended × IsAtEnd after.unread)
@@ -125,8 +127,8 @@ abbrev pub RunsReady : Ready → List ℕ → Devices → Devices → Ending →
 RunsReady ready =
     RunsNamed ready.names (RunsOver ready.part ready.engine ready.sign.now ready.profile (page_cell ready.cells))
 
--- a task: its files stop the run and no text is opened, or its engine runs with its option and profile on the cells of the
--- files, over its texts, or over its range of each
+-- a task: its files stop the run and no text is opened, or its engine runs with its option and profile on the cells
+-- of the files, over its texts, or over its range of each
 abbrev pub Performs : {F : Type 0} → SourceMembers F → (List ℕ → Option (Option (List ℕ))) → (List ℕ → Option (Option (List ℕ))) → Task
     → LoadCounts → LoadCounts → Standing → Standing → Type 0
 Performs source file text task counts counts' before after =

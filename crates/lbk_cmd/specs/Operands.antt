@@ -34,9 +34,9 @@ over_file source file devices = record {
   failed_writes = devices.failed_writes;
 }
 
--- the run goes over a file in the place of its reader, which stays as it was: from the file as it was opened, all of whose bytes
--- are still to be read, where these are told, to the file as the run left it. Both are values of the type of files, which code
--- that knows no more of that type has only from opening a file and from reading it
+-- the run goes over a file in the place of its reader, which stays as it was: from the file as it was opened, all of
+-- whose bytes are still to be read, where these are told, to the file as the run left it. Both are values of the type
+-- of files, which code that knows no more of that type has only from opening a file and from reading it
 pub record ReadsFile {F : Type 0} (source : SourceMembers F) (told : Option (Option (List ℕ))) (Runs : Devices → Devices → Ending → Type 0)
     (before after : Devices) (ending : Ending) : Type 0 where
   pub opened : F

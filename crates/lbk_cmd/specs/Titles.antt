@@ -13,7 +13,8 @@ use Rattle.lbk_cmd.specs.declared.faults.CmdFault.TheVariants.{Passage, Write, M
 abbrev pub title : List ℕ → List ℕ
 title name = codes "==> " ++ (operand_text name ++ (codes " <==" ++ 10 ∷ []))
 
--- the line was written; or a write failed, behind the front of it; or memory could not grow for it, and nothing was written
+-- the line was written; or a write failed, behind the front of it; or memory could not grow for it, and nothing was
+-- written
 abbrev pub IsTitleWritten : List ℕ → Option (List ℕ) → Option (List ℕ) → Result (Unit {0}) CmdFault → Type 0
 IsTitleWritten name old new (Ok _) = Appends old new (title name)
 IsTitleWritten name old new (Err Write) = (n : ℕ) × Appends old new (take n (title name))

@@ -2,7 +2,10 @@
 
 ghost use Rattle.std.specs.Prelude.{◌≡◌, Some, option_map};
 ghost use Rattle.std.specs.Fmt.{DisplaysOnOk};
-ghost use Rattle.lbk_cmd.specs.Message.{at_byte, file_text, folder_of, input_text, invalid_text, limit_of, message_text, name_in, not_utf8_text, of_call, option_of, output_text, paragraph_text, passage_text, text_of_input, text_of_name, than_limit, too_long_text, unloaded_text, unpublished_text, unread_text, unwritten_text};
+ghost use Rattle.lbk_cmd.specs.Message.{at_byte, file_text, folder_of, input_text, invalid_text, limit_of};
+ghost use Rattle.lbk_cmd.specs.Message.{message_text, name_in, not_utf8_text, of_call, option_of, output_text};
+ghost use Rattle.lbk_cmd.specs.Message.{paragraph_text, passage_text, text_of_input, text_of_name, than_limit};
+ghost use Rattle.lbk_cmd.specs.Message.{too_long_text, unloaded_text, unpublished_text, unread_text, unwritten_text};
 
 use super::ending::RunFault;
 use super::faults::CmdFault;

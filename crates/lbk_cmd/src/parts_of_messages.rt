@@ -1,7 +1,8 @@
 //! What a message is put together of.
 
 ghost use Rattle.std.specs.Prelude.{◌≡◌, Some, option_map};
-ghost use Rattle.lbk_cmd.specs.Message.{advice_of, advice_of_folder, operand_text, text_of_input, text_of_name, why_text};
+ghost use Rattle.lbk_cmd.specs.Message.{advice_of, advice_of_folder, operand_text, text_of_input, text_of_name};
+ghost use Rattle.lbk_cmd.specs.Message.{why_text};
 
 use lbk_args::OneLine;
 use lbk_files::{file_name, name_in_database};

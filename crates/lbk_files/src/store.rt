@@ -37,7 +37,8 @@ pub trait Store {
     /// the store tells.
     fn load(&mut self, alloc: Global, name: &str, most: usize) -> Result<Vec<u8>, LoadFault>
         requires { most < 2 ^ 64 - 1 }
-        ensures loaded { MatchResult result (λ bytes. IsFront (file self.old name.now) most bytes.items) (IsLoadFault (file self.old name.now)) }
+        ensures loaded { MatchResult result (λ bytes. IsFront (file self.old name.now) most bytes.items)
+            (IsLoadFault (file self.old name.now)) }
         ensures within { IfOk result (λ bytes. vec_len bytes ≤ most + 1) }
         ensures files { file self.new ≡ file self.old }
         ensures loads { load_count self.new ≡ count_up (load_count self.old) }
