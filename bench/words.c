@@ -1,9 +1,10 @@
-/* How fast lbk_words finds the words of a text, beside ICU's word iterator and, where OLDER is defined, an older lbk_words.
+/* How fast lbk_words finds the words of a text, beside unicode-segmentation's `unicode_words` (shim/), ICU's word iterator and, where
+ * OLDER is defined, an older lbk_words.
  *
  *     words TEXT..
  *
- * Prints MB/s over the first million bytes of each text: processor time, the best of 15 runs in turn, blocks of 256
- * words. ICU iterates over the text as UTF-8.
+ * Prints lines `TEXT words WAY RATE MB/s`, with tabs, over the first million bytes of each text: processor time, the best of 15 runs
+ * in turn, blocks of 256 words. ICU iterates over the text as UTF-8.
  */
 #define _GNU_SOURCE
 #include <lbk.h>
@@ -43,6 +44,14 @@ static size_t with_older(const char *text, size_t size)
 }
 #endif
 
+size_t segmentation_words(const char *text, size_t size, size_t *total);
+
+static size_t with_segmentation(const char *text, size_t size)
+{
+    static size_t total;
+    return segmentation_words(text, size, &total);
+}
+
 static UBreakIterator *iterator;
 
 static size_t with_icu(const char *text, size_t size)
@@ -65,6 +74,7 @@ static const struct {
 #ifdef OLDER
     {"older", with_older},
 #endif
+    {"unicode-segmentation", with_segmentation},
     {"ICU", with_icu},
 };
 enum { WAYS = sizeof ways / sizeof *ways };
@@ -80,23 +90,27 @@ static void measure(const char *name, const char *text, size_t size)
 {
     const char *base = strrchr(name, '/');
     double best[WAYS];
-    size_t words = 0;
+    static volatile size_t sum;
     for (int way = 0; way < WAYS; way++)
         best[way] = 1e9;
     for (int run = 0; run < RUNS; run++)
         for (int way = 0; way < WAYS; way++) {
             double start = seconds();
-            size_t count = ways[way].find(text, size);
+            sum += ways[way].find(text, size);
             double took = seconds() - start;
             if (took < best[way])
                 best[way] = took;
-            if (way == 0)
-                words = count;
         }
-    printf("%-20s", base ? base + 1 : name);
     for (int way = 0; way < WAYS; way++)
-        printf(" %8.0f", (double)size / best[way] / 1e6);
-    printf(" %10zu\n", words);
+        printf("%s\twords\t%s\t%.0f MB/s\n", base ? base + 1 : name, ways[way].name, (double)size / best[way] / 1e6);
+}
+
+/* The bytes up to the last scalar that may be cut. */
+static size_t whole_scalars(const char *text, size_t size)
+{
+    while (size && ((unsigned char)text[size - 1] & 0xC0) == 0x80)
+        size--;
+    return size && (unsigned char)text[size - 1] >= 0xC0 ? size - 1 : size;
 }
 
 int main(int count, char **names)
@@ -106,15 +120,12 @@ int main(int count, char **names)
     iterator = ubrk_open(UBRK_WORD, "en", NULL, 0, &error);
     if (!text || U_FAILURE(error))
         return 1;
-    printf("%-20s", "MB/s");
-    for (int way = 0; way < WAYS; way++)
-        printf(" %8s", ways[way].name);
-    printf(" %10s\n", "words");
     for (int at = 1; at < count; at++) {
         FILE *file = fopen(names[at], "rb");
         size_t size = file ? fread(text, 1, MOST, file) : 0;
         if (file)
             fclose(file);
+        size = whole_scalars(text, size);
         if (size)
             measure(names[at], text, size);
     }

@@ -31,6 +31,7 @@ NAMES = [
     "c-library",
     "c-stack",
     "c-speed",
+    "instructions",
     "packages",
     "clients",
     "speed",

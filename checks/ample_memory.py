@@ -1,8 +1,9 @@
 """Thousands of sizes drawn at random, with ample memory: a run that says that it is out of memory fails, as any other fault.
 
 Sizes of files, numbers of rows, limits, paragraphs, segments, ranges, arguments, texts, names and lines of tests: each a power of
-two or a neighbour of one, or one between two powers, up to the greatest that is taken. The profile is drawn, too. Rows of each
-code, of each value and of each length are read once. The seed is printed; given as the argument it draws the same sizes again.
+two or a neighbour of one, or one between two powers, up to the greatest that is taken; of a file as often any size. The profile is
+drawn, too. Files of each size up to 4,096 bytes, and rows of each code, of each value and of each length are read once. The seed is
+printed; given as the argument it draws the same sizes again.
 """
 
 import os
@@ -10,6 +11,7 @@ import random
 import re
 import tempfile
 import time
+from concurrent.futures import ThreadPoolExecutor
 from pathlib import Path
 
 from checks import c_programs
@@ -20,6 +22,7 @@ from checks.program import run as run_program
 
 SECONDS, SECONDS_OF_C = 45, 10
 FILE_BYTES = 8_388_608
+SMALL_FILE = 4_096
 LONGEST_LINE, MOST_ROWS = 1_024, 65_536
 LONGEST_NAME = 4_095
 MOST_ARGUMENTS = 30_000
@@ -57,6 +60,12 @@ class Drawn:
         size = self.chance.choice((power, power + self.chance.choice((-1, 1)), between, between))
         return max(least, min(size, most))
 
+    def size_of_file(self, least):
+        """A size of a file: drawn as any other, or from all sizes alike."""
+        if self.chance.randrange(2):
+            return self.size(FILE_BYTES, least)
+        return self.chance.randrange(least, FILE_BYTES + 1)
+
     def sizes_together(self, most):
         """Sizes of one run, which have not too many bytes together."""
         found = [self.size(most)]
@@ -90,8 +99,27 @@ def files(drawn):
     """A file in whose last row what is shown is decided."""
     k = drawn.chance.randrange(4)
     front, last, *_ = DECIDES[k]
-    size = drawn.size(FILE_BYTES, len(front) + len(last) + 2)
+    size = drawn.size_of_file(len(front) + len(last) + 2)
     drawn.shows("sizes of files", [size], k, long_file(front, last, size))
+
+
+def small_files(drawn, most):
+    """All four files of each size, up to this one."""
+
+    def one(size):
+        decides = size % 4
+        _, _, text, decided, _ = DECIDES[decides]
+        names = [f"{size}-{k}" for k in range(4)]
+        for k, (front, last, *_) in enumerate(DECIDES):
+            last = last if k == decides else b""
+            drawn.place.write(names[k], long_file(front, last, max(size, len(front) + len(last) + 2)))
+        words = words_of("show", names)
+        drawn.run("sizes of four small files", [size], words, text.encode(), 0, lambda ran: ran.out == decided.encode())
+        for name in names:
+            os.remove(drawn.place.folder / name)
+
+    with ThreadPoolExecutor(os.cpu_count()) as pool:
+        list(pool.map(one, range(most + 1)))
 
 
 def row(code, value):
@@ -251,7 +279,7 @@ KINDS = [files, rows, limits, paragraphs, ranges, pieces, segments, arguments, t
 TIMES = {files: 4, rows: 4, limits: 4, ranges: 2, arguments: 8, texts: 4, names: 24, folders: 16}
 # What each run tries first: all rows, and sizes that are seldom drawn, of paragraphs without their line end.
 SELDOM = [(paragraphs, [5_000_002]), (pieces, [5_000_001]), (segments, [60_000]), (folders, 1_023)]
-ALWAYS = [*((each_row, k) for k in range(4)), *SELDOM]
+ALWAYS = [(small_files, SMALL_FILE), *((each_row, k) for k in range(4)), *SELDOM]
 
 
 def run(tally, given):

@@ -1,4 +1,4 @@
-"""The bindings beside each other: where each looks for property files, what it says where none has them, and its calls.
+"""The bindings beside each other: where each looks for property files, what it says of those it refuses, and its calls.
 
 `docs/c.md` lists the folders: each source has to have them in that order, and the same words for what to do. It lists the calls,
 too: each source has to declare those of its column, and none that the page leaves empty there.
@@ -21,16 +21,28 @@ ADVICE = (
     "found no files of Unicode 15.0.0; install the package unicode-data (Debian 12), unpack UCD.zip of "
     "https://www.unicode.org/Public/15.0.0/ucd/ into ~/.local/share/unicode, or set UNICODE_DATA to a folder that has them. Looked for:"
 )
+# What the program says of a file that is not the published one, and where the languages say the same.
+PROGRAM = "crates/lbk_files/src/named_fault.rt"
+CLAIMS = ("this is not ", "the file was changed or cut: it is not ", " published it", "this is of ", ", and lbk goes by ")
+CLAIM_SOURCES = {
+    "Python": "packages/python/src/lbk/_claims.py",
+    "Rust": "packages/rust/src/claim.rs",
+    "C++": "include/lbk.hpp",
+    "JavaScript": "packages/javascript/property_files.js",
+}
 # Where the calls of each column are declared, and how.
 CALLS = {
     "C": (["include/lbk.h"], r"^\w+ {}\("),
     "C++": (["include/lbk.hpp"], r"^class {0} |^using {0} = |^inline [\w:<> ]+ {0}\(|^    static const table &{0}\("),
     "Rust": (["packages/rust/src"], r"^ *pub fn {0}\b|^pub struct {0} "),
     "Python": (["packages/python/src/lbk/_table.py", "packages/python/src/lbk/_stream.py"], r"^    def {0}\(|^class {0}\b"),
-    "JavaScript": (["packages/javascript/lbk.d.ts", "packages/javascript/words.d.ts"], r"^  (?:static )?{0}\("),
+    "JavaScript": (
+        [f"packages/javascript/{it}.d.ts" for it in ("lbk", "words", "parts", "chunks")],
+        r"^  (?:static )?{0}(?:<.*>)?\(|^export (?:class|function) {0}\b",
+    ),
 }
 # How a source joins the parts of its message, and how it names the version.
-JOINTS = [(r'"\s*\+?\s*f?"', ""), (r"\\\n\s*", ""), (r"\{version\}", "15.0.0"), (r'" LBK_UNICODE_VERSION "\.0', "15.0.0")]
+JOINTS = [(r'"\s*\+?\s*f?"', ""), (r"\\\n\s*", ""), (r"\{(?:version|VERSION)\}", "15.0.0"), (r'" LBK_UNICODE_VERSION "\.0', "15.0.0")]
 
 
 def listed(page):
@@ -87,10 +99,17 @@ def try_calls(tally, page):
             tally.equal(says, declared(names, language, sources[language]), [name] if name else [])
 
 
+def try_claims(tally):
+    for language, path in {"the program": PROGRAM, **CLAIM_SOURCES}.items():
+        source = (TOP / path).read_text(encoding="utf-8")
+        tally.equal(f"{language} says what a file claims", [it for it in CLAIMS if it not in source], [])
+
+
 def run(tally, _arguments):
     page = PAGE.read_text(encoding="utf-8")
     folders = listed(page)
     try_calls(tally, page)
+    try_claims(tally)
     for language, path in SOURCES.items():
         source = (TOP / path).read_text(encoding="utf-8")
         tally.equal(f"{language} looks into the folders of {PAGE.name}, in their order", looked_into(source, folders), folders)

@@ -187,7 +187,7 @@ try_c() {
     for name in breaks save_table utf16 words; do
         tried "$1: $name.c" "$1" -std=c99 "${warnings[@]}" "${flags[@]}" "$top/examples/$name.c" "${links[@]}" -o "$here/built/$name-$1"
     done
-    for name in blocks chunks edges hurt marks published streams cuts units; do
+    for name in blocks chunks edges fuzz marks published streams cuts units; do
         tried "$1: $name.c" "$1" -std=c99 "${warnings[@]}" "${checks[@]}" "${flags[@]}" "$top/examples/$name.c" "${links[@]}" \
             -o "$here/built/$name-$1"
     done
@@ -202,7 +202,7 @@ try_c() {
     told "$1: utf16.c" "$([ "$wrong" = '3 6 8 9 ' ] && echo yes || echo "it wrote $wrong")"
     try_words "$1: words.c" "$here/built/words-$1"
     count "$1: edges.c" "$here/built/edges-$1"
-    count "$1: hurt.c" "$here/built/hurt-$1" 5000 1 "${files[@]}"
+    count "$1: fuzz.c" "$here/built/fuzz-$1" 5000 1 "${files[@]}"
     count "$1: streams.c" "$here/built/streams-$1" 20000 1 "${files[@]}"
     count "$1: blocks.c" "$here/built/blocks-$1" 20000 1
     count "$1: cuts.c" "$here/built/cuts-$1" 5000 1 "${files[@]}"
@@ -251,6 +251,10 @@ try_cpp() {
             tried "$1: edges.cpp in $version $without" "$1" -std=$version $without "${warnings[@]}" "${checks[@]}" "${flags[@]}" \
                 "$top/examples/edges.cpp" "${links[@]}" -o "$here/built/edges-cpp-$1" \
                 && count "$1: edges.cpp in $version $without, run" "$here/built/edges-cpp-$1" "$here/edges" ${LBK_DATABASE:+"$LBK_DATABASE"}
+            # shellcheck disable=SC2086
+            tried "$1: passages.cpp in $version $without" "$1" -std=$version $without "${warnings[@]}" "${checks[@]}" "${flags[@]}" \
+                "$top/examples/passages.cpp" "${links[@]}" -o "$here/built/passages-cpp-$1" \
+                && count "$1: passages.cpp in $version $without, run" "$here/built/passages-cpp-$1" "$here/edges"
         done
         for name in breaks parts; do
             tried "$1: $name.cpp in $version" "$1" -std=$version "${warnings[@]}" "${flags[@]}" "$top/examples/$name.cpp" "${links[@]}" \
@@ -310,12 +314,12 @@ try_no_table() {
 }
 unibreak=()
 if [ -n "$published" ] && tried 'packages/unibreak: build' "$top/packages/unibreak/build" "$table" "$here/unibreak" \
-    && tried 'packages/unibreak: trying.c' cc -std=c99 "${warnings[@]}" -I"$here/unibreak/include" "$top/packages/unibreak/trying.c" \
+    && tried 'packages/unibreak: test.c' cc -std=c99 "${warnings[@]}" -I"$here/unibreak/include" "$top/packages/unibreak/test.c" \
         -L"$here/unibreak/lib" -llbk-unibreak -o "$here/built/unibreak"; then
     unibreak=(env LD_LIBRARY_PATH="$here/unibreak/lib" "$here/built/unibreak")
-    count 'packages/unibreak: trying.c, run' "${unibreak[@]}"
+    count 'packages/unibreak: test.c, run' "${unibreak[@]}"
     tried 'packages/unibreak: build for a folder' "$top/packages/unibreak/build" "$ucd" "$here/unibreak-folder"
-    count 'packages/unibreak: trying.c with a folder' env LD_LIBRARY_PATH="$here/unibreak-folder/lib" "$here/built/unibreak"
+    count 'packages/unibreak: test.c with a folder' env LD_LIBRARY_PATH="$here/unibreak-folder/lib" "$here/built/unibreak"
 fi
 printf 'x' | dd of="$table" bs=1 seek=100000 conv=notrunc status=none
 "$here/built/save_table-cc" "$table" < "$here/few" > "$here/log" 2>&1
@@ -328,7 +332,7 @@ if [ ${#unibreak[@]} != 0 ]; then
     mkdir "$here/files"
     cp -s "${names[@]/#/$ucd/}" "$here/files"
     tried 'packages/unibreak: build for four files' "$top/packages/unibreak/build" "$here/files" "$here/unibreak-files"
-    count 'packages/unibreak: trying.c with four files' env LD_LIBRARY_PATH="$here/unibreak-files/lib" "$here/built/unibreak"
+    count 'packages/unibreak: test.c with four files' env LD_LIBRARY_PATH="$here/unibreak-files/lib" "$here/built/unibreak"
     mkdir "$here/files/extracted"
     rm "$here/files/DerivedGeneralCategory.txt"
     try_no_table 'a folder that lacks a file' "$here/files" "$here/files/extracted/DerivedGeneralCategory.txt: No such file or directory: $remedy"

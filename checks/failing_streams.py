@@ -10,7 +10,8 @@ import subprocess
 import tempfile
 from pathlib import Path
 
-from checks.harness import built_program
+from checks import c_programs
+from checks.harness import built_program, has, shown
 from checks.program import Ended, redirected
 from checks.program import run as run_program
 from checks.unicode_files import OPTIONS
@@ -20,6 +21,8 @@ IN_FAULT = "lbk: standard input: cannot be read"
 OUT_FAULT = "lbk: standard output: cannot be written"
 NO_SPACE = f"{OUT_FAULT}: no storage space"
 NOT_READY = "operation would block"
+INTERRUPTED = b": operation interrupted\n"
+TESTS = "× 0061 × 0062 ÷\n× 0061 ÷ 0062 ÷\n".encode()
 SAMPLES = "lbk: these are sample data, for a first look; for real text: lbk mark --ucd FOLDER FILE\n"
 TOO_LONG = (
     "lbk: standard input: byte 0: the paragraph from here on has more than 65536 bytes; --limit raises the limit, up to 16777216"
@@ -213,9 +216,33 @@ def arguments(runs):
     runs.ends("a wrong subcommand and a closed standard error", runs.redirected("< two 2>&-", ["bogus"]), 2)
 
 
+def interrupted(runs, library, name, words, text):
+    """Each read, and then each write, is interrupted in turn, which fails the run: the call is not made again."""
+    whole = run_program([runs.program, *words], text, cwd=runs.room)
+    for call in ("read", "write"):
+        number, fault = 0, None
+        while fault is None:
+            number += 1
+            env = dict(os.environ, LD_PRELOAD=str(library), INTERRUPT=call, INTERRUPT_CALL=str(number))
+            ended = run_program([runs.program, *words], text, cwd=runs.room, env=env)
+            if ended == whole:
+                break
+            failed = ended.status == 1 and ended.err.endswith(INTERRUPTED) and ended.err.count(b"\n") == 1
+            if not failed or not whole.out.startswith(ended.out):
+                fault = f"call {number}: status {ended.status}, {shown(ended.err)}"
+        if fault is None and number == 1:
+            fault = "the first call was made again, or not interrupted"
+        runs.tally.tell(f"{name}: each {call} interrupted", fault)
+
+
 def run(tally, _arguments):
     with tempfile.TemporaryDirectory() as room:
         runs = Runs(tally, room)
+        library = None
+        if has("gcc"):
+            library = c_programs.build("c/interrupted.c", runs.room / "interrupted.so", "-shared", "-fPIC", compiler="gcc")
+        else:
+            tally.leave_out("interrupted calls, for which gcc is not there")
         for task in ("", "mark", "show", "segment", "replay"):
             name = task or "no arguments"
             words = [task, *runs.words(runs.files)] if task else []
@@ -223,6 +250,8 @@ def run(tally, _arguments):
             outputs(runs, name, words, first)
             inputs(runs, name, words, first)
             ends_of_input(runs, name, words, first)
+            if library and task:
+                interrupted(runs, library, name, words, (TESTS if task == "replay" else b"ab cd\n") * 3_000)
             if task in ("mark", "show", "segment"):
                 long_paragraphs(runs, task, [*words, "--limit", str(GREATEST)])
         property_files(runs)

@@ -30,6 +30,8 @@ WORDS = [
     ["mark", *FILES, "--sign", "|", "--sign", "+"], ["mark", *FILES, "--sign"],
 ]  # fmt: skip
 SECONDS = 1  # of processor time
+# The interpreter of `rt try` has no answer for a program that reads files, and is given one step.
+INTERPRETER = ["--steps", "1"]
 STAND_IN = """#!/bin/sh
 printf '%s\\n' "$@" > "$TRIED/words"
 cat > "$TRIED/input"
@@ -109,7 +111,7 @@ def handed_over(tally, clone):
     ended, _ = clone.run(["mark", "--ucd", "ucd", "text", "--limit=9", "other"], b"not to be read")
     words = clone.tried()
     place = clone.room / "place"
-    wanted = ["try"]
+    wanted = ["try", *INTERPRETER]
     for it in ("LineBreak.txt", "EastAsianWidth.txt", "extracted/DerivedGeneralCategory.txt", "emoji/emoji-data.txt"):
         wanted += ["--data", f"handed-over-0/{it}={place}/ucd/{it}"]
     wanted += ["--data", f"handed-over-1={place}/text", "--data", f"handed-over-2={place}/other"]
@@ -119,13 +121,15 @@ def handed_over(tally, clone):
     tally.equal("what the program wrote and its status", (ended.out, ended.status), (b"wrote", 1))
     head = ended.err.decode().splitlines()[0]
     tally.tell("it is said that nothing is proved, and how to go on", None if "nothing of this run is proved" in head and "./lbk --prove" in head else head)
+    ended, _ = clone.run(["--unproved", "mark", "--ucd", "ucd", "text", "--limit=9", "other"])
+    tally.equal("the same is handed over with --unproved", clone.tried(), wanted)
     ended, _ = clone.run(["mark", *FILES, "-", "text"], b"read")
     tally.equal("standard input is handed over where it is named", (clone.room / "input").read_bytes(), b"read")
     tally.equal("a name that no file was handed over by stays", ended.err.decode().splitlines()[-1], "lbk: handed-over-5: byte 3: a fault")
     ended, _ = clone.run(["mark", *FILES, "other", "text"])
     tally.equal("a message names the second text", ended.err.decode().splitlines()[-1], "lbk: text: byte 3: a fault")
     ended, _ = clone.run([], b"ab")
-    tally.equal("no words: standard input is handed over", (clone.tried(), (clone.room / "input").read_bytes()), (["try", "--"], b"ab"))
+    tally.equal("no words: standard input is handed over", (clone.tried(), (clone.room / "input").read_bytes()), (["try", *INTERPRETER, "--"], b"ab"))
 
 
 def too_much(tally, clone):

@@ -1,8 +1,8 @@
-"""The lines, rows, edits and sizes that the page of definitions names, and the examples in the docs of items.
+"""What the page of definitions names, and the examples in the docs of items.
 
-Of each rule its lines in the definitions and in the code, a row of the tests that it decides, and an edit that turns it; the
-number of lines of each file of definitions; and of each example in the docs of an item the compiled file that has its lines.
-With the argument --write it puts the right numbers into the page, and then checks it.
+Of each rule the page quotes its entries in the definitions, and names an edit that turns it; the rule has a place in the code,
+and a row of the tests that it decides. The files of definitions that the page names are there. Each example in the docs of an
+item is in a compiled file.
 """
 import re
 
@@ -15,51 +15,51 @@ RULES = [
 DEFINITIONS = TOP / "crates/lbk_uax14/specs/Rules.antt"
 CODE = TOP / "crates/lbk_uax14/src/table.rt"
 ROWS = TOP / "crates/test_support/src/texts.rt"
-# Rule 10 has no entry: it says what the other rules see. Its places are those where a mark that heads a unit is read as a letter.
+# Rule 10 has no entry: it says how the others read a mark that heads a unit.
 TEN = {
     "definitions": (TOP / "crates/lbk_uax14/specs/Units.antt", r"^abbrev pub unit :"),
     "code": (TOP / "crates/lbk_uax14/src/cells.rt", r"fn unit\b"),
     "row": r"^ *\(\"\( \\u\{301\}a\"",
 }
+MORE = re.compile(r" and (\d+) more$")
 
 
 def lines_of(path):
     return path.read_text(encoding="utf-8").split("\n")
 
 
-def lines_with(path, pattern):
-    return [n for n, line in enumerate(lines_of(path), 1) if re.search(pattern, line)]
+def has_line(path, pattern):
+    return any(re.search(pattern, line) for line in lines_of(path))
 
 
-def in_definitions(rule):
+def entries_of(rule):
+    """The entries of a rule in the definitions, as the page quotes them."""
+    found = re.findall(rf"^ +(?:∷ )?\(Lb{rule} ([×÷!]at .*)\)$", DEFINITIONS.read_text(encoding="utf-8"), re.M)
+    return [f"`{entry}`" for entry in found]
+
+
+def is_in_definitions(rule, quoted):
+    """Whether a cell of the page quotes the entries of a rule: all, or the first ones and how many more there are."""
     if rule == "10":
-        return lines_with(*TEN["definitions"])[:1]
-    return lines_with(DEFINITIONS, rf"\(Lb{rule} [×÷!]at")
+        return has_line(*TEN["definitions"])
+    entries = entries_of(rule)
+    more = MORE.search(quoted)
+    if more:
+        entries = entries[: len(entries) - int(more[1])]
+        quoted = quoted[: more.start()]
+    return entries != [] and quoted == ", ".join(entries)
 
 
-def in_code(rule):
+def is_in_code(rule):
     if rule == "10":
-        return lines_with(*TEN["code"])[:1]
-    return lines_with(CODE, rf"Verdict::(?:no|may|must)\(Rule::Lb{rule}\)")
+        return has_line(*TEN["code"])
+    return has_line(CODE, rf"Verdict::(?:no|may|must)\(Rule::Lb{rule}\)")
 
 
-def row_of(rule):
-    """The line of the first row of the tests with a position that the rule decides."""
-    if rule == "10":
-        return lines_with(ROWS, TEN["row"])[:1]
-    if rule == "3":
-        return lines_with(ROWS, r'"2 3"')[:1]
-    if rule == "2":
-        return lines_with(ROWS, r'\("", "2"\)')[:1]
-    return lines_with(ROWS, rf'[" ]{rule}(?: [^"]*)?"\)?,')[:1]
-
-
-def span(numbers):
-    if not numbers:
-        return "none"
-    if len(numbers) < 3:
-        return ", ".join(str(number) for number in numbers)
-    return f"{numbers[0]}..{numbers[-1]}"
+def has_a_row(rule):
+    """Whether a row of the tests has a position that the rule decides."""
+    patterns = {"2": r'\("", "2"\)', "3": r'"2 3"', "10": TEN["row"]}
+    return has_line(ROWS, patterns.get(rule, rf'[" ]{rule}(?: [^"]*)?"\)?,'))
 
 
 def edit_fault(name):
@@ -81,13 +81,6 @@ def edit_fault(name):
         elif line.startswith("old: ") and file.read_text(encoding="utf-8").count(line[5:]) != 1:
             return f"what {name} turns stands not once in {file.name}"
     return None
-
-
-def places(rule):
-    found = [span(in_definitions(rule)), span(in_code(rule)), span(row_of(rule))]
-    if rule == "10":
-        found[:2] = [f"`{TEN[part][0].name}` {place}" for part, place in zip(("definitions", "code"), found)]
-    return found
 
 
 def plain(lines):
@@ -112,70 +105,38 @@ def examples():
                 example.append(doc[1])
 
 
-class Page:
-    """The page, line by line: what is wrong with each line, and the line as it is right."""
+def rule_fault(rule, quoted, edit):
+    """What is wrong with a row of the table of rules, or None."""
+    wrong = []
+    if not is_in_definitions(rule, quoted):
+        wrong.append(f"the definitions have {', '.join(entries_of(rule))}")
+    if not is_in_code(rule):
+        wrong.append("the code has no such rule")
+    if not has_a_row(rule):
+        wrong.append("no row of the tests has it")
+    edits = re.findall(r"`(\w+)`", edit)
+    wrong += filter(None, map(edit_fault, edits)) if edits else ["it has no edit"]
+    return "; ".join(wrong) or None
 
-    def __init__(self, path, is_written):
-        self.path, self.is_written = path, is_written
-        self.rules = []
-        self.crate = None
 
-    def at(self, number):
-        return f"{self.path.name}:{number}"
-
-    def rule(self, number, cells):
-        """A row of the table of rules."""
-        rule = cells[1].removeprefix("LB")
-        right = places(rule)
-        self.rules.append(rule)
-        wrong = [] if "none" not in right else [f"a place of LB{rule} is not there: {right}"]
-        if cells[2:5] != right and not self.is_written:
-            wrong.append(f"LB{rule} stands at {right}, and the page says {cells[2:5]}")
-        edits = re.findall(r"`(\w+)`", cells[5])
-        wrong += filter(None, map(edit_fault, edits))
-        if not edits:
-            wrong.append(f"LB{rule} has no edit")
-        return "| " + " | ".join([f"LB{rule}", *right, cells[5]]) + " |", wrong
-
-    def sizes(self, line):
-        """A row that names files of definitions of a crate, each with its number of lines."""
-        wrong = []
-        for name, count in re.findall(r"`(\w+)` \((\d+)\)", line):
-            file = TOP / f"crates/{self.crate}/specs/{name}.antt"
-            have = len(lines_of(file)) - 1 if file.is_file() else None
-            if have is None:
-                wrong.append(f"there is no {self.crate}/specs/{name}.antt")
-            elif self.is_written:
-                line = re.sub(rf"`{name}` \(\d+\)", f"`{name}` ({have})", line)
-            elif have != int(count):
-                wrong.append(f"{self.crate}/specs/{name}.antt has {have} lines and not {count}")
-        return line, wrong
-
-    def check(self, tally):
-        """Tells what is wrong, and returns the page as it is right."""
-        lines = []
-        for number, line in enumerate(lines_of(self.path), 1):
-            cells = [cell.strip() for cell in line.split("|")]
-            named = re.match(r"\| `(lbk_\w+)` \|", line)
-            what, wrong = None, []
-            if len(cells) == 7 and re.fullmatch(r"LB\w+", cells[1]):
-                what = cells[1]
-                line, wrong = self.rule(number, cells)
-            elif named:
-                what = self.crate = named[1]
-                line, wrong = self.sizes(line)
-            lines.append(line)
-            if what:
-                tally.tell(f"{self.at(number)}: {what}", "; ".join(wrong) or None)
-        return "\n".join(lines)
+def missing_files(crate, cell):
+    """What is wrong with a row that names files of definitions of a crate, or None."""
+    wanted = re.findall(r"`([A-Z]\w*)`", cell)
+    missing = [name for name in wanted if not (TOP / f"crates/{crate}/specs/{name}.antt").is_file()]
+    return f"there is no {', '.join(missing)} in {crate}/specs" if missing else None
 
 
 def run(tally, arguments):
-    found = Page(page("definitions"), "--write" in arguments)
-    text = found.check(tally)
+    path = page("definitions")
+    rules = []
+    for number, line in enumerate(lines_of(path), 1):
+        cells = [cell.strip() for cell in line.split("|")]
+        if len(cells) == 5 and re.fullmatch(r"LB\w+", cells[1]):
+            rules.append(cells[1].removeprefix("LB"))
+            tally.tell(f"{path.name}:{number}: {cells[1]}", rule_fault(rules[-1], cells[2], cells[3]))
+        elif named := re.match(r"\| `(lbk_\w+)` \| (.*) \|$", line):
+            tally.tell(f"{path.name}:{number}: {named[1]}", missing_files(named[1], named[2]))
+    if rules != RULES:
+        tally.tell("the rules of the table", f"they are {rules}")
     for what, fault in examples():
         tally.tell(what, fault)
-    if found.rules != RULES:
-        tally.tell("the rules of the table", f"they are {found.rules}")
-    if found.is_written:
-        found.path.write_text(text, encoding="utf-8")

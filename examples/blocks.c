@@ -7,7 +7,7 @@
  * program by a signal. The last line is `N passed, M failed`.
  */
 #define _DEFAULT_SOURCE
-#include "trying.h"
+#include "harness.h"
 
 static fenced texts, blocks, states;
 
@@ -88,7 +88,7 @@ static void try_all_rooms(const char *text, size_t size)
         told("the rest of a text as one of its own", has_the_rest(text, size, room, &all));
 }
 
-/* Texts about what the end of a block can hurt: words that a rule keeps together over two scalars, marks, flags, and cut scalars. */
+/* Texts for the end of a block: words that a rule keeps together over two scalars, marks, flags, and cut scalars. */
 static void try_short_texts(void)
 {
     static const char *const short_texts[] = {"", "a", " ", "a b\r\nc", "can't stop", "3.5, 4,000.1 x", "a.b.c a..b", "e\xCC\x81\xCC\x81" "e f",

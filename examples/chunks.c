@@ -7,7 +7,7 @@
  * The last line is `N passed, M failed`.
  */
 #define _DEFAULT_SOURCE
-#include "trying.h"
+#include "harness.h"
 
 enum { MOST_CHUNKS = 7, ROUNDS_WITH_A_TABLE = 500 };
 

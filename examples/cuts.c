@@ -6,7 +6,7 @@
  * A text ends where memory ends that may be read, or begins where it begins. The last line is `N passed, M failed`.
  */
 #define _DEFAULT_SOURCE
-#include "trying.h"
+#include "harness.h"
 
 /* In these LF, or what ill-formed bytes are read as, is a letter, a line end, or the first or second half of one. */
 static const char *const others[] = {

@@ -8,7 +8,7 @@
  * `N passed, M failed`.
  */
 #define _DEFAULT_SOURCE
-#include "trying.h"
+#include "harness.h"
 
 enum { MOST_WORDS = 20, MOST_LONG = 3000, ROUNDS_WITH_A_TABLE = 500 };
 

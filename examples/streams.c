@@ -7,7 +7,7 @@
  * the program by a signal. The last line is `N passed, M failed`.
  */
 #define _DEFAULT_SOURCE
-#include "trying.h"
+#include "harness.h"
 
 /* (the two profiles, each with LBK_GOES_ON and without) */
 enum { MOST_BREAKS = 2 * MOST_TEXT + 2, MOST_FEED_ROOM = 9, PROFILES = 4 };
@@ -156,7 +156,7 @@ static void try_all_cuttings(const char *text, size_t size)
     }
 }
 
-/* Texts about what a cut can hurt: scalars of each size and fronts of them, marks, and quotation marks. */
+/* Texts for cuts: scalars of each size and parts of them, marks, and quotation marks. */
 static void try_short_texts(void)
 {
     static const char *const texts[] = {"", "a", "a b\r\nc", "a\r\n\r\nb", "\xF0\x9F\x98\x80 \xF0\x9F\x98\x80", "\xE2\x82\xAC \xC3\xA9",

@@ -8,7 +8,7 @@
  * begins where it begins, so that a unit too far ends the program by a signal. The last line is `N passed, M failed`.
  */
 #define _DEFAULT_SOURCE
-#include "trying.h"
+#include "harness.h"
 
 enum { MOST_UNITS = 4096, MOST_UNIT_ROOM = 9 };
 

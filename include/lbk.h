@@ -1,7 +1,8 @@
-/* lbk.h: where a line of text may break, and where it must, by the Unicode Line Breaking Algorithm
- * (UAX #14, Unicode 15.0, rules LB2 to LB31, no tailorings).
+/* lbk.h: the Unicode Line Breaking Algorithm (UAX #14, Unicode 15.0, rules LB2 to LB31, no tailorings).
  *
- *     static lbk_table table;                                  1.6 MB: static, on the heap or mapped, not on a small stack
+ * The library finds where a line of text may break and where it must, and says which rule decided.
+ *
+ *     static lbk_table table;                                  1.6 MB: not on a small stack
  *     lbk_fault fault = lbk_read(&table, line_break, line_break_size, ..);
  *     if (fault.cause != LBK_CAUSE_NONE) ..                    once, from four files of the Unicode Character Database
  *
@@ -14,24 +15,24 @@
  *             .. block[k].at, block[k].kind, block[k].rule ..
  *     } while (count == 64);
  *
- * Memory. The caller owns all of it. No call keeps a pointer that it was given, and there is nothing to free. No call but
- * lbk_read and lbk_read_published takes memory from the heap, and these give back what they took.
+ * Preconditions. The caller must ensure these, and nothing else:
+ *   - A pointer with a length points to at least that many elements: bytes or units of a text, entries of a block.
+ *     It may be null if the length is 0. No length exceeds PTRDIFF_MAX bytes, as for every object of C.
+ *   - Pointers to a table, a state, a stream and limits are not null. They are aligned for their types.
+ *   - What a call writes overlaps nothing else that the call is given, and no other thread uses it during the call.
+ *     A call writes its state or stream, and its block; lbk_read and lbk_read_published write the table.
+ *   - A stream has fewer than 2^64 bytes.
  *
- * Threads. The library has no variables. Any number of calls may use one table at the same time, as long as none of them
- * writes it; only lbk_read and lbk_read_published write a table, and each other call writes only its state or stream, and its
- * block.
+ * Everything else is memory-safe: any bytes in the files, the text, the table, the state and the stream. Each call
+ * then returns, and reads and writes only what it was given. A corrupt table, state or stream gives wrong breaks,
+ * nothing worse.
  *
- * What a caller must ensure, and nothing else:
- *   - A pointer that comes with a length points to at least as many bytes (as many breaks or words, for a block). Where the
- *     length is 0 the pointer may be null. No length is over PTRDIFF_MAX bytes, as no object of C is.
- *   - A table, a state and a stream are not null, and are aligned as C aligns objects of their types.
- *   - What a call writes (the table of lbk_read; the state or the stream, and the block) overlaps nothing else that the call
- *     is given, and nobody else uses it during the call.
- * Nothing else can hurt: whatever bytes the files, the text, the table, the state and the stream have, each call returns, and
- * reads and writes nothing but what it was given. A table, a state or a stream with made-up bytes gives made-up breaks, and no
- * more.
+ * Memory. The caller owns all memory. The library keeps no pointers, and there is nothing to free. Only lbk_read and
+ * lbk_read_published allocate, and they free what they allocated before they return.
  *
- * C99 and later, and C++. 64-bit targets only.
+ * Threads. The library has no global variables. Any number of threads may use one table at the same time.
+ *
+ * C99 and later, C++11 and later; 64-bit targets only.
  */
 #ifndef LBK_H
 #define LBK_H
@@ -44,35 +45,36 @@
 extern "C" {
 #endif
 
-/* The version of this header. Versions of the same major number and, as long as that is 0, of the same minor number have
- * the same types and calls; the shared library's name (liblbk.so.0) has the major number. */
+/* The version of this header. Versions with the same major number have the same types and calls; while the major
+ * number is 0, the minor number must be the same, too. The shared library's name (liblbk.so.0) has the major number. */
 #define LBK_VERSION_MAJOR 0
 #define LBK_VERSION_MINOR 1
 #define LBK_VERSION_PATCH 0
 #define LBK_VERSION "0.1.0"
 
-/* The version of Unicode whose rules these are. The files that lbk_read is given should be of the same one. */
+/* The version of Unicode that defines the rules. The files for lbk_read should be of the same version. */
 #define LBK_UNICODE_VERSION "15.0"
 
-/* The version of Unicode whose word boundaries, letters and numbers lbk_words goes by. */
+/* The version of Unicode that lbk_words takes word boundaries, letters and numbers from. */
 #define LBK_WORDS_UNICODE_VERSION "18.0"
 
-/* The layout of a table that this version fills and uses: what lbk_table.layout is then. */
+/* The table layout of this version: lbk_table.layout of each table that it fills. */
 #define LBK_LAYOUT 3
 
-/* How many codes Unicode has, 0 to 10FFFF, and how many steps stand in each array of a table. */
+/* How many code points Unicode has, 0 to 10FFFF, and how many steps each array of a table has. */
 #define LBK_CODES 0x110000
 #define LBK_STEPS 65792
 
-/* lbk_break.kind, and what stands for it in the notation of UAX #14. lbk_breaks gives only breaks, so never LBK_NO. */
+/* lbk_break.kind. Of these, lbk_breaks gives LBK_MAY and LBK_MUST, and lbk_positions gives all three. */
 enum {
     LBK_NO = 0,  /* a line does not break here */
     LBK_MAY = 1, /* a line may break here */
-    LBK_MUST = 2 /* a line ends here: after a paragraph separator, and at the end of the text */
+    LBK_MUST = 2 /* a line must end here: after a paragraph separator, and at the end of the text */
 };
 
-/* lbk_break.rule: the rules of UAX #14, section 6, in their order. The number is made of the rule's own: 8 times it, and the
- * place of its letter. So no rule of a later version of Unicode changes that of another. lbk_label gives a rule's name. */
+/* lbk_break.rule: the rules of UAX #14, section 6, in their order. A rule's number is 8 times its number in the
+ * standard, plus the place of its letter, so a later version of Unicode changes no number. lbk_label returns its
+ * name. */
 enum {
     LBK_RULE_2 = 8 * 2,
     LBK_RULE_3 = 8 * 3,
@@ -114,16 +116,16 @@ enum {
     LBK_RULE_31 = 8 * 31
 };
 
-/* lbk_state.profile: which rules stand for quotation marks. With any other number lbk_breaks returns 0. */
+/* lbk_state.profile: the rules for quotation marks. For any other number the calls return 0. */
 enum {
     LBK_FIRST = 0,  /* rule 15 of Unicode 15.0 */
-    LBK_SECOND = 1, /* rules 15a and 15b in its place, which look at both sides of a quotation mark */
-    LBK_GOES_ON = 2 /* added to one of the two, for lbk_breaks, lbk_marks and lbk_feed: the text goes on after what is given */
+    LBK_SECOND = 1, /* rules 15a and 15b instead, which look at both sides of a quotation mark */
+    LBK_GOES_ON = 2 /* added to either, for lbk_breaks, lbk_marks and lbk_feed: the text goes on after these bytes */
 };
 
-/* lbk_fault.file: the files of the Unicode Character Database, in the order in which lbk_read takes them. */
+/* lbk_fault.file: the files of the Unicode Character Database, in the order in which lbk_read reads them. */
 enum {
-    LBK_NO_FILE = 0,    /* no fault, or one that came when all files were read */
+    LBK_NO_FILE = 0,    /* no fault, or one after all files were read */
     LBK_LINE_BREAK = 1, /* LineBreak.txt */
     LBK_EAST_ASIAN = 2, /* EastAsianWidth.txt */
     LBK_CATEGORY = 3,   /* extracted/DerivedGeneralCategory.txt */
@@ -134,15 +136,15 @@ enum {
 enum {
     LBK_CAUSE_NONE = 0,          /* no fault: the table is filled */
     LBK_CAUSE_FILE_TOO_LONG = 1, /* the file has more than 8,388,608 bytes; line is 0 */
-    LBK_CAUSE_LINE_TOO_LONG = 2, /* the line has more than 1,024 bytes, its LF not counted */
-    LBK_CAUSE_ROW_SYNTAX = 3,    /* the line is no blank line, no comment and no row */
-    LBK_CAUSE_RANGE = 4,         /* the first code is above the last, or a code is above 10FFFF */
-    LBK_CAUSE_UNKNOWN_VALUE = 5, /* the name is none of the property's values */
-    LBK_CAUSE_OVERLAP = 6,       /* the row shares a code with an earlier row of the file */
-    LBK_CAUSE_TOO_MANY_ROWS = 7, /* the line would be the 65,537th row or default of the file */
-    LBK_CAUSE_OUT_OF_MEMORY = 8, /* out of memory, at this line, or when all files were read (file and line are 0) */
-    /* 9 is unused: it stood for a table with too little room for the steps of the rules, and none is */
-    LBK_CAUSE_NOT_PUBLISHED = 10 /* only of lbk_read_published: the file is not the one that Unicode 15.0.0 published; line is 0 */
+    LBK_CAUSE_LINE_TOO_LONG = 2, /* the line has more than 1,024 bytes without its LF */
+    LBK_CAUSE_ROW_SYNTAX = 3,    /* the line is neither blank nor a comment nor a row */
+    LBK_CAUSE_RANGE = 4,         /* the first code point is above the last, or one is above 10FFFF */
+    LBK_CAUSE_UNKNOWN_VALUE = 5, /* the name is not a value of the property */
+    LBK_CAUSE_OVERLAP = 6,       /* the row shares a code point with an earlier row of the file */
+    LBK_CAUSE_TOO_MANY_ROWS = 7, /* the line is the 65,537th row or default of the file */
+    LBK_CAUSE_OUT_OF_MEMORY = 8, /* out of memory at this line, or after all files were read (file and line are 0) */
+    /* 9 is unused */
+    LBK_CAUSE_NOT_PUBLISHED = 10 /* only from lbk_read_published: not Unicode 15.0.0's file; line is 0 */
 };
 
 /* One step of a table: numbers of the library's own. */
@@ -156,176 +158,180 @@ typedef struct lbk_neighbours {
     uint16_t rows[256];
 } lbk_neighbours;
 
-/* What lbk_read makes of the four files, and what lbk_breaks decides by: plain numbers and no pointers, in the order of bytes
- * of the machine. So a table can be copied, be kept in a file, be mapped from there by other processes, and be shared.
+/* The properties of all code points: lbk_read fills it, and the other calls decide by it. It has no pointers, only
+ * numbers in the machine's byte order, so it can be copied, saved, mapped by other processes, and shared.
  *
- * Only layout has a meaning to callers; what the other fields hold differs between layouts. */
+ * Callers read only `layout`. The other fields differ between layouts. */
 typedef struct lbk_table {
-    uint64_t layout; /* LBK_LAYOUT, where lbk_read filled the table */
+    uint64_t layout; /* LBK_LAYOUT in a table that lbk_read filled */
     uint64_t digest; /* of all that follows, for lbk_check */
     lbk_step first[LBK_STEPS], second[LBK_STEPS];
     lbk_neighbours first_pairs, second_pairs;
     uint8_t kinds[LBK_CODES];
 } lbk_table;
 
-/* How far the breaks of a text were asked for. All zeros are the start of a text in the first profile; set profile for the
- * second, and `at` for a part that begins at that byte. A state is a value: it may be copied, be kept, and be gone back to. It
- * holds of the text that it was used with, and of each that has the same bytes from `at` on and as many before them, whatever
- * these are. */
+/* How far lbk_breaks went in a text. All zeros mean the start of a text in the first profile. Set `profile` for the
+ * second one, and `at` for a part that begins at that byte.
+ *
+ * A state is a value: copy it, keep it, go back to it. It fits the text that it was used with, and any text that has
+ * the same bytes from `at` on and as many bytes before them, whatever those are. */
 typedef struct lbk_state {
-    size_t at;       /* up to this byte of the text, not counting it, scalars were taken */
-    uint16_t row;    /* what is known of them: a number of the table's */
-    uint8_t profile; /* LBK_FIRST or LBK_SECOND, and LBK_GOES_ON; no call changes it */
-    uint8_t ended;   /* 0, or else nothing more is to come, and lbk_breaks returns 0 */
+    size_t at;       /* the offset of the first byte that was not taken */
+    uint16_t row;    /* what is known of the bytes before it: a number of the library's own */
+    uint8_t profile; /* LBK_FIRST or LBK_SECOND, perhaps with LBK_GOES_ON; no call changes it */
+    uint8_t ended;   /* not 0 once the end was returned; lbk_breaks then returns 0 */
 } lbk_state;
 
-/* How far a text was taken that comes in pieces. All zeros are its start in the first profile; set profile for the second. A
- * stream is a value: it may be copied, be kept, and be gone back to. It has no pointers, and no earlier piece is needed again.
- * Callers read `at`, `ended`, `cut_size`, whether `held_code` is 0 and, where it is not, `held_at`; and write `profile` at the
- * start. The others are numbers of the library's own. */
+/* How far lbk_feed went in a text that arrives in pieces. All zeros mean its start in the first profile; set `profile`
+ * for the second one.
+ *
+ * A stream is a value: copy it, keep it, go back to it. It has no pointers, and no earlier piece is needed again.
+ * Callers write `profile` at the start. They may read `at`, `ended`, `cut_size`, whether `held_code` is 0, and
+ * `held_at` if it is not. The other fields are numbers of the library's own. */
 typedef struct lbk_stream {
-    uint64_t at;        /* up to this byte of the stream, not counting it, scalars were taken */
-    uint64_t held_at;   /* the one place that waits for what follows, where there is one; only in the second profile */
-    uint16_t row;       /* what is known of the scalars that were taken: a number of the table's */
-    uint16_t held_code; /* the break that is due at held_at if what follows leaves the quotation open; 0: no place waits */
-    uint8_t cut[4];     /* the bytes after `at` that came already, as those of a scalar that a piece's end cut */
-    uint8_t cut_size;   /* how many these are */
-    uint8_t profile;    /* LBK_FIRST or LBK_SECOND, and LBK_GOES_ON; no call changes it */
-    uint8_t ended;      /* 0, or else nothing more is to come */
+    uint64_t at;        /* the offset of the first byte that was not taken */
+    uint64_t held_at;   /* the offset that waits for what follows, if one does; only in the second profile */
+    uint16_t row;       /* what is known of the bytes before `at`: a number of the library's own */
+    uint16_t held_code; /* the break at held_at if what follows leaves the quotation open; 0: no offset waits */
+    uint8_t cut[4];     /* the bytes after `at` that arrived already: the start of a character that a piece's end cut */
+    uint8_t cut_size;   /* how many bytes that is */
+    uint8_t profile;    /* LBK_FIRST or LBK_SECOND, perhaps with LBK_GOES_ON; no call changes it */
+    uint8_t ended;      /* not 0 once the end was returned */
 } lbk_stream;
 
-/* What lbk_feed did. */
+/* What a call of lbk_feed did. */
 typedef struct lbk_fed {
-    size_t taken; /* how many bytes of the piece were taken; the others have to be given again, in front of what follows */
-    size_t count; /* how many breaks stand in the front of the block */
+    size_t taken; /* how many bytes of the piece were taken; pass the others again, in front of what follows */
+    size_t count; /* how many breaks are at the front of the block */
 } lbk_fed;
 
-/* A place of a text where a line may or must end; of lbk_positions, any place between scalars. */
+/* A break: an offset at which a line may or must end. lbk_positions uses the same type for offsets without a break. */
 typedef struct lbk_break {
-    size_t at;    /* it stands before this byte of the text, counted from 0; at its end, before none: the text's size */
-    uint8_t kind; /* LBK_MAY or LBK_MUST; of lbk_positions, LBK_NO, too */
-    uint8_t rule; /* the rule that decided, as LBK_RULE_18 */
+    size_t at;    /* the offset of the byte after it, counted from 0; the text's size for the break at its end */
+    uint8_t kind; /* LBK_MAY or LBK_MUST; from lbk_positions LBK_NO, too */
+    uint8_t rule; /* the rule that decided, for example LBK_RULE_18 */
 } lbk_break;
 
-/* Why four files are refused: the first fault that they have, in the order of the files and of their lines. */
+/* The first fault of the four files, in the order of the files and of their lines. */
 typedef struct lbk_fault {
     uint32_t file;  /* LBK_LINE_BREAK to LBK_EMOJI, or LBK_NO_FILE */
-    uint32_t line;  /* from 1; 0 where the fault is in no line */
+    uint32_t line;  /* from 1; 0 if the fault is in no line */
     uint32_t cause; /* LBK_CAUSE_NONE: no fault, and then file and line are 0 */
 } lbk_fault;
 
-/* How far the words of a text were asked for. All zeros are the start of a text. As lbk_state it is
- * a value, and holds of each text that has the same bytes. `at` may also be set to any byte: the
- * text from there on is then a text of its own. */
+/* How far lbk_words went in a text. All zeros mean the start of a text. It is a value, as lbk_state is, and fits any
+ * text with the same bytes. `at` may also be set to any offset: the text from there on is then a text of its own. */
 typedef struct lbk_word_state {
-    size_t at; /* the byte from which the next words come */
+    size_t at; /* the offset at which the next words are looked for */
 } lbk_word_state;
 
-/* A word of a text: the bytes from `start` up to `end`, not counting that one, and one at least. */
+/* A word: the bytes from `start` up to and without `end`, at least one. */
 typedef struct lbk_word {
     size_t start, end; /* counted from the text's start */
 } lbk_word;
 
-/* What a chunk may hold. lbk_chunks gives none where `most` is 0, `least` is over `most`, or `overlap`
- * is over half of `most`. */
+/* The limits of a chunk. lbk_chunks returns 0 if `most` is 0, `least` exceeds `most`, or `overlap` exceeds half of
+ * `most`. */
 typedef struct lbk_limits {
-    size_t most;    /* at most so many bytes */
-    size_t words;   /* at most so many words; 0: any number */
-    size_t least;   /* where a line must end, a chunk may end early, once it has so many bytes that no chunk before it has */
-    size_t overlap; /* the next chunk may begin with at most so many bytes of this one, and with at most half of it */
+    size_t most;    /* the greatest number of bytes */
+    size_t words;   /* the greatest number of words; 0: no limit */
+    size_t least;   /* a chunk may end early, at a required break, once so many of its bytes are in no earlier chunk */
+    size_t overlap; /* how many bytes of a chunk the next one may repeat, and never more than half of it */
 } lbk_limits;
 
-/* How far a text was cut into chunks. All zeros are the start of a text in the first profile; set
- * breaks.profile for the second. As lbk_state it is a value, and holds of each text that has the same
- * bytes. Callers read `start` and `told`; the others are numbers of the library's own. */
+/* How far lbk_chunks went in a text. All zeros mean the start of a text in the first profile; set `breaks.profile` for
+ * the second one. It is a value, as lbk_state is, and fits any text with the same bytes. Callers may read `start` and
+ * `told`; the other fields are numbers of the library's own. */
 typedef struct lbk_chunk_state {
-    lbk_state breaks; /* behind the last cut that was read */
-    size_t from;      /* the byte from which words were not read */
+    lbk_state breaks; /* after the last cut that was read */
+    size_t from;      /* the offset from which words were not read */
     lbk_word word;    /* the word that was read last, if it is not behind the cut */
     size_t words;     /* how many words are behind the cut */
     size_t start;     /* where the next chunk starts */
     size_t told;      /* where the last one ended */
 } lbk_chunk_state;
 
-/* A chunk of a text: the bytes from `start` up to `end`, not counting that one. */
+/* A chunk: the bytes from `start` up to and without `end`. */
 typedef struct lbk_chunk {
     size_t start, end; /* counted from the text's start */
     size_t words;      /* how many words it has */
-    uint8_t kind;      /* LBK_MAY or LBK_MUST: whether the line may or must end at its end */
-    uint8_t rule;      /* the rule that decided there */
-    bool alone;        /* it is larger than the limits: it has no cut at which it could have ended */
+    uint8_t kind;      /* LBK_MAY or LBK_MUST: the break at its end */
+    uint8_t rule;      /* the rule that decided that break */
+    bool alone;        /* it exceeds the limits, because it has no cut inside them */
 } lbk_chunk;
 
-/* The name of a rule without `LB`, as "8a": ASCII, and zeros up to the end. The last byte is always zero. */
+/* The name of a rule without `LB`, such as "8a": ASCII, terminated and padded by zeros. */
 typedef struct lbk_rule_label {
     char text[4];
 } lbk_rule_label;
 
-/* The name of a line breaking class, as "AL": ASCII, and zeros up to the end. The last byte is always zero. */
+/* The name of a line breaking class, such as "AL": ASCII, terminated and padded by zeros. */
 typedef struct lbk_class_label {
     char text[4];
 } lbk_class_label;
 
-/* A text: ASCII, and zeros up to the end. The last byte is always zero. */
+/* A short text: ASCII, terminated and padded by zeros. */
 typedef struct lbk_text {
     char text[96];
 } lbk_text;
 
-/* Fills a table from the bytes of four files of the Unicode Character Database: LineBreak.txt, EastAsianWidth.txt,
+/* Fills a table from the contents of four files of the Unicode Character Database: LineBreak.txt, EastAsianWidth.txt,
  * DerivedGeneralCategory.txt and emoji-data.txt. Sizes are in bytes.
  *
- * Returns the first fault of the files, and LBK_CAUSE_NONE where they have none and memory sufficed; the table is filled then
- * and only then. At a fault the table is as it was before the call. An empty file has no fault: all codes have the
- * property's fixed value. The call takes some 10 ms and some megabytes of the heap for files of Unicode 15.0. */
+ * Returns the first fault of the files. If the cause is LBK_CAUSE_NONE, the table is filled; otherwise it is
+ * unchanged. The call takes some 10 ms, and some megabytes of the heap, for the files of Unicode 15.0.
+ *
+ * An empty file has no fault: every code point then has the property's default value. */
 lbk_fault lbk_read(lbk_table *table, const void *line_break, size_t line_break_size, const void *east_asian,
-                   size_t east_asian_size, const void *category, size_t category_size, const void *emoji, size_t emoji_size);
+                   size_t east_asian_size, const void *category, size_t category_size, const void *emoji,
+                   size_t emoji_size);
 
-/* The same of the files that Unicode 15.0.0 published, and of no others: LBK_CAUSE_NOT_PUBLISHED comes for the first file whose
- * SHA-256 digest is not that of the published one, before any is read. CR LF at the ends of lines is read as LF for that. */
-lbk_fault lbk_read_published(lbk_table *table, const void *line_break, size_t line_break_size, const void *east_asian,
-                             size_t east_asian_size, const void *category, size_t category_size, const void *emoji,
-                             size_t emoji_size);
+/* As lbk_read, but takes only the files that Unicode 15.0.0 published. Returns LBK_CAUSE_NOT_PUBLISHED for the first
+ * file with another SHA-256 digest, whatever faults the files have. CR LF at line ends counts as LF for the digest. */
+lbk_fault lbk_read_published(lbk_table *table, const void *line_break, size_t line_break_size,
+                             const void *east_asian, size_t east_asian_size, const void *category,
+                             size_t category_size, const void *emoji, size_t emoji_size);
 
-/* What a cause says in English, by the number of lbk_fault.cause; an empty text for a number that no cause has. */
+/* Returns what a cause (lbk_fault.cause) means, in English; an empty text for any other number. */
 lbk_text lbk_cause_text(uint32_t cause);
 
-/* The name of a file by the number of lbk_fault.file, and `the four files` for LBK_NO_FILE; empty for any other number. */
+/* Returns the name of a file (lbk_fault.file), and "the four files" for LBK_NO_FILE; an empty text for any other
+ * number. */
 lbk_text lbk_file_name(uint32_t file);
 
-/* Puts the next breaks of a text, in the order of the text, into the front of a block with room for `room` breaks, and returns
- * how many. Fewer than `room` says that these were all; later calls with the state then return 0. Each break of the text
- * comes once. The last one of a text that is not empty is its end: LBK_MUST by rule 3. An empty text has none.
+/* Writes the next breaks of a text to the front of a block with room for `room` of them, in the order of the text, and
+ * returns how many. A result below `room` means that these were the last. The example at the top of this file shows
+ * the loop.
  *
- * With LBK_GOES_ON the end comes only where a line must end there whatever follows but LF after CR: LBK_MUST by rule 4 or 5. So
- * the breaks of the parts of a text, cut by lbk_cut, are those of the text, one after another (see there).
+ * `text` is UTF-8. Pass the whole text to each call, not the rest of it: `state` says how far earlier calls went. Each
+ * break is returned once. The last break of a text is its end, LBK_MUST by rule 3; an empty text has no break.
  *
- * `text` is UTF-8, and is the whole text at each call, not the rest of it; `state` says how far earlier calls came. Where
- * bytes are ill-formed, each longest piece that could have begun a scalar, or else each byte, is read as one U+FFFD at its
- * place (Unicode Standard, section 3.9, "U+FFFD Substitution of Maximal Subparts"), so each `at` counts the text's own bytes.
- *
- * Whatever the table and the state have, each break is LBK_MAY or LBK_MUST by one of the rules; their places rise, from the
- * state's `at` on and up to `size`; and a state of which breaks came is further on than it was, or has ended, with its `at` at
- * `size`. So kinds and rules can be looked up in arrays, and calls while a block with room comes back full come to an end. Of
- * numbers that no property files give, a place may lie within a scalar.
- *
- * Returns 0 and leaves the state unchanged: where `room` is 0, where the state's profile is none of the two, where its `at` is
- * past the text's end, and where it has ended. Entries of the block past the returned count are unspecified and may be
- * overwritten. Takes no memory from the heap. */
-size_t lbk_breaks(const lbk_table *table, lbk_state *state, const char *text, size_t size, lbk_break *block, size_t room);
+ *   - Ill-formed bytes are replaced by U+FFFD, as Python's errors="replace" and Rust's from_utf8_lossy do it
+ *     (Unicode Standard, section 3.9, "U+FFFD Substitution of Maximal Subparts"). Offsets count the bytes of `text`.
+ *   - With LBK_GOES_ON the end of `text` is no end of a text. It is a break only if a line must end there whatever
+ *     follows (LBK_MUST by rule 4 or 5); a CR at the end is none, since LF may follow. So the breaks of the parts
+ *     that lbk_cut finds are those of the text.
+ *   - Returns 0 and leaves the state unchanged if `room` is 0, if the profile is unknown, if the state's `at`
+ *     exceeds `size`, and after the end.
+ *   - With a corrupt table or state, each break is still LBK_MAY or LBK_MUST by one of the rules, offsets still rise
+ *     from the state's `at` up to `size`, and the loop still terminates. An offset may then be inside a character.
+ *   - Entries of the block after the returned count are unspecified. Allocates nothing. */
+size_t lbk_breaks(const lbk_table *table, lbk_state *state, const char *text, size_t size, lbk_break *block,
+                  size_t room);
 
-/* The same for a text in UTF-16 or UTF-32, in the machine's order of bytes: `size`, each `at` and the state's `at` count units
- * of 16 or of 32 bits. Any units may come: a surrogate that stands alone, and a number that is no scalar value, is read as one
- * U+FFFD at its place (Unicode Standard, section 3.9, D90 and D91). No break comes between the two halves of a pair.
+/* As lbk_breaks, for UTF-16 and UTF-32 in the machine's byte order. `size` and all offsets count units of 16 or 32
+ * bits.
  *
- * Texts of the same scalars have the same breaks in all three encodings, by the same rules, each at the units that spell the
- * scalars before it. All else is as lbk_breaks has it. A state goes on with the encoding that it began with. */
-size_t lbk_breaks_utf16(const lbk_table *table, lbk_state *state, const uint16_t *text, size_t size, lbk_break *block,
-                        size_t room);
-size_t lbk_breaks_utf32(const lbk_table *table, lbk_state *state, const uint32_t *text, size_t size, lbk_break *block,
-                        size_t room);
+ * A text has the same breaks by the same rules in all three encodings. A lone surrogate, or a number that is no scalar
+ * value, is read as U+FFFD (Unicode Standard, section 3.9, D90 and D91). No break is inside a surrogate pair. Do not
+ * use a state with another encoding than the one it began with. */
+size_t lbk_breaks_utf16(const lbk_table *table, lbk_state *state, const uint16_t *text, size_t size,
+                        lbk_break *block, size_t room);
+size_t lbk_breaks_utf32(const lbk_table *table, lbk_state *state, const uint32_t *text, size_t size,
+                        lbk_break *block, size_t room);
 
-/* The same for a text that comes in pieces of any size, as from a socket: takes the next piece of a stream, and puts the breaks
- * that it settles into the front of a block with room for `room` breaks.
+/* As lbk_breaks, for a text that arrives in pieces of any size, for example from a socket: takes the next piece,
+ * writes the breaks that it settles to the block, and returns how many bytes it took and how many breaks it wrote.
  *
  *     lbk_stream stream = {0};
  *     char piece[4096];
@@ -345,30 +351,30 @@ size_t lbk_breaks_utf32(const lbk_table *table, lbk_state *state, const uint32_t
  *         } while (fed.count == 64);
  *     } while (!last);
  *
- * However the text is cut into pieces, and whatever room each call has, the breaks of all calls are those that lbk_breaks
- * gives of the joined pieces, each once and in the same order; `at` counts from the start of the stream. A piece may be empty,
- * and may end within a scalar. `last` says that nothing follows the piece: the rest is decided then, the end too. Of a part of a
- * text (see lbk_cut) the stream's `at` is the part's place at the start, and LBK_GOES_ON says that more follows `last`.
+ * The breaks are those that lbk_breaks returns for the joined pieces, each once and in the same order, for any pieces
+ * and any room. `at` counts from the start of the stream. A piece may be empty or end inside a character. `last` means
+ * that nothing follows the piece, so the rest is decided.
  *
- * Fewer breaks than `room` say that the whole piece was taken, and after `last` that these were all; later calls then give 0
- * and take all that they are given. Where the block is full, call again with the rest of the piece (it may be empty) and the
- * same `last`.
+ * If `count` is below `room`, the whole piece was taken, and after `last` these were all breaks. Otherwise call again
+ * with the rest of the piece, which may be empty, and the same `last`.
  *
- * A break is given by the call that brings what settles it: the whole of the scalar after it. Where that is a closing
- * quotation mark, the second profile may also need the next scalar that is no combining mark; at most one place waits so.
- *
- * Whatever the table and the stream have, each break is LBK_MAY or LBK_MUST by one of the rules, and calls with room while a
- * block comes back full come to an end. Whatever the table has, the places of a stream rise from its start on.
- *
- * Takes nothing and leaves the stream unchanged where `room` is 0. Gives no break and takes all where the stream's profile is
- * none of the two. A stream has fewer than 2^64 bytes. Entries of the block past `count` are unspecified. Takes no memory from
- * the heap. */
-lbk_fed lbk_feed(const lbk_table *table, lbk_stream *stream, const char *piece, size_t size, bool last, lbk_break *block,
-                 size_t room);
+ *   - A break is returned with the character after it. In the second profile a break before a closing quotation mark
+ *     may also wait for the next character that is no combining mark. At most one offset waits.
+ *   - For a part of a text (see lbk_cut) set the stream's `at` to the part's offset, and add LBK_GOES_ON if more
+ *     follows `last`.
+ *   - With `room` 0 nothing is taken and the stream is unchanged. With an unknown profile, and after the end, all
+ *     bytes are taken and no break is returned.
+ *   - With a corrupt table or stream, each break is still LBK_MAY or LBK_MUST by one of the rules, and the loop
+ *     still terminates. With a corrupt table, offsets still rise from the stream's start.
+ *   - Entries of the block after `count` are unspecified. Allocates nothing. */
+lbk_fed lbk_feed(const lbk_table *table, lbk_stream *stream, const char *piece, size_t size, bool last,
+                 lbk_break *block, size_t room);
 
-/* The places of the breaks of lbk_breaks as bits, one for each byte, without kinds and rules: sets a bit for each of the next places
- * of a text before which a line may or must end, and clears all other bits of `count` words. Bit i % 64 (the lowest is 0) of word
- * i / 64 is that of byte `at` + i, where `at` is the state's before the call. The text's end has a bit, too: that of byte `size`.
+/* The offsets of lbk_breaks as a bit mask, without kinds and rules: sets the bits of the next offsets at which a line
+ * may or must end, clears all other bits of `count` words, and returns how many offsets the words cover.
+ *
+ * Bit i % 64 of word i / 64 (bit 0 is the lowest) is for offset `at` + i, where `at` is the state's before the call.
+ * The end of the text has a bit, too, for offset `size`.
  *
  *     lbk_state state = {0};
  *     uint64_t words[64];
@@ -381,35 +387,37 @@ lbk_fed lbk_feed(const lbk_table *table, lbk_stream *stream, const char *piece, 
  *                 .. from + 64 * k + the number of the lowest bit ..
  *     } while (places == 64 * 64);
  *
- * Returns how many places the words cover: 64 * count, or fewer if no more were left. Once they covered the end, later calls
- * return 0. Before that, the state goes on at the first scalar after these places, so up to three bytes after them.
+ * The result is 64 * count, or less if fewer offsets are left. Once the end is covered, later calls return 0. The
+ * state moves to the first character after the covered offsets, so up to three bytes further. Bits of offsets that are
+ * not covered are 0, with any table and state.
  *
- * The rule at one place is given by lbk_breaks or lbk_positions from a state on whose `at` is lbk_cut_before of the byte before that
- * place. All else is as lbk_breaks has it: ill-formed bytes, LBK_GOES_ON, and calls from which nothing comes, which clear the
- * words, too. Whatever the table and the state have, no bit is set after the places that are covered. Takes no memory from the
- * heap. */
-size_t lbk_marks(const lbk_table *table, lbk_state *state, const char *text, size_t size, uint64_t *words, size_t count);
+ * For the rule of one offset, call lbk_breaks or lbk_positions with a state whose `at` is lbk_cut_before of the byte
+ * before that offset. Ill-formed bytes, LBK_GOES_ON and the cases that return 0 (they clear the words, too) are as for
+ * lbk_breaks. Allocates nothing. */
+size_t lbk_marks(const lbk_table *table, lbk_state *state, const char *text, size_t size, uint64_t *words,
+                 size_t count);
 
-/* Puts the next positions of a text into the front of a block, as lbk_breaks puts its breaks, and returns how many. A text has one
- * position before each scalar and one at its end, and each comes once with what decides there: kind is LBK_NO, LBK_MAY or
- * LBK_MUST, and rule the first rule that matches. So it says why a line does not break somewhere, too. The first position is
- * always LBK_NO by rule 2; an empty text has only that one. The positions where a line may or must end are the breaks of lbk_breaks.
+/* Writes the next positions of a text to the block, as lbk_breaks writes breaks, and returns how many. It says why a
+ * line does not break somewhere, too.
  *
- * All else is as lbk_breaks has it: states, ill-formed bytes, room, and calls from which nothing comes. Each position of a text
- * of n bytes takes one place of a block, so there are n + 1 at most. Takes no memory from the heap. */
-size_t lbk_positions(const lbk_table *table, lbk_state *state, const char *text, size_t size, lbk_break *block, size_t room);
+ * A position is the offset of a character or the end of the text. Each is returned once, with its kind (LBK_NO,
+ * LBK_MAY or LBK_MUST) and the first rule that matches. The first position is LBK_NO by rule 2; an empty text has only
+ * that one. The positions with LBK_MAY or LBK_MUST are the breaks of lbk_breaks. A text of n bytes has at most n + 1
+ * positions.
+ *
+ * States, ill-formed bytes and the cases that return 0 are as for lbk_breaks. Allocates nothing. */
+size_t lbk_positions(const lbk_table *table, lbk_state *state, const char *text, size_t size, lbk_break *block,
+                     size_t room);
 
-/* The same for a text in UTF-16 or UTF-32, which is read as lbk_breaks_utf16 and lbk_breaks_utf32 read it. No position comes between
- * the two halves of a pair. Texts of the same scalars have the same positions in all three encodings, by the same rules, each
- * at the units that spell the scalars before it. */
-size_t lbk_positions_utf16(const lbk_table *table, lbk_state *state, const uint16_t *text, size_t size, lbk_break *block,
-                           size_t room);
-size_t lbk_positions_utf32(const lbk_table *table, lbk_state *state, const uint32_t *text, size_t size, lbk_break *block,
-                           size_t room);
+/* As lbk_positions, for UTF-16 and UTF-32 as lbk_breaks_utf16 and lbk_breaks_utf32 read them. A text has the same
+ * positions by the same rules in all three encodings. No position is inside a surrogate pair. */
+size_t lbk_positions_utf16(const lbk_table *table, lbk_state *state, const uint16_t *text, size_t size,
+                           lbk_break *block, size_t room);
+size_t lbk_positions_utf32(const lbk_table *table, lbk_state *state, const uint32_t *text, size_t size,
+                           lbk_break *block, size_t room);
 
-/* Puts the next words of a text, in the order of the text, into the front of a block with room for
- * `room` words, and returns how many. Fewer than `room` says that these were all: the state is at
- * `size` then, and later calls with it return 0. No table is needed:
+/* Writes the next words of a text to the front of a block with room for `room` of them, in the order of the text, and
+ * returns how many. A result below `room` means that these were the last. It needs no table:
  *
  *     lbk_word_state state = {0};                    the start of a text
  *     lbk_word block[64];
@@ -420,19 +428,20 @@ size_t lbk_positions_utf32(const lbk_table *table, lbk_state *state, const uint3
  *             .. text + block[k].start, block[k].end - block[k].start ..
  *     } while (count == 64);
  *
- * A word is a part of the text between two neighbouring word boundaries (UAX #29, section 4, no
- * tailorings) that has a letter or a number: a scalar whose General_Category is one of L or N. The
- * properties are those of LBK_WORDS_UNICODE_VERSION.
+ * A word is the text between two neighbouring word boundaries (UAX #29, section 4, no tailorings), if it has a letter
+ * or a number: a character whose General_Category is one of L or N. The properties are those of
+ * LBK_WORDS_UNICODE_VERSION.
  *
- * `text`, `size` and ill-formed bytes are as lbk_breaks has them. `text` is the whole text at each
- * call, and the state says how far earlier calls came: always to a word boundary. All calls for a
- * text take time in proportion to its size, whatever `room` is. Returns 0 and leaves the state
- * unchanged where `room` is 0, and where the state's `at` is the text's size or more. Entries of the
- * block past the returned count are unspecified. Takes no memory from the heap. */
+ * Pass the whole text to each call. The state is always at a word boundary, and at `size` after the last word. All
+ * calls for a text together take time in proportion to its size, for any `room`.
+ *
+ *   - Ill-formed bytes are replaced as in lbk_breaks.
+ *   - Returns 0 and leaves the state unchanged if `room` is 0, and if the state's `at` is `size` or more.
+ *   - Entries of the block after the returned count are unspecified. Allocates nothing. */
 size_t lbk_words(lbk_word_state *state, const char *text, size_t size, lbk_word *block, size_t room);
 
-/* Puts the next chunks of a text into the front of a block with room for `room` chunks, and returns how
- * many. Fewer than `room` says that these were all:
+/* Cuts a text into chunks, for example for search and retrieval: writes the next chunks to the front of a block with
+ * room for `room` of them, and returns how many. A result below `room` means that these were the last.
  *
  *     lbk_limits limits = {.most = 500, .least = 250, .overlap = 100};
  *     lbk_chunk_state state = {0};                   the start of a text
@@ -444,63 +453,70 @@ size_t lbk_words(lbk_word_state *state, const char *text, size_t size, lbk_word 
  *             .. text + block[k].start, block[k].end - block[k].start ..
  *     } while (count == 64);
  *
- * A cut is a break of lbk_breaks that stands within no word of lbk_words, and so is the text's end.
- * Each chunk ends at a cut, and starts at one or at the text's start. A chunk is as long as the
- * limits allow, but ends at the last place within them where a line must end, if it has `least` bytes
- * up to there that no chunk before it has, unless all that is left fits. What has no cut within the
- * limits is a chunk of its own, and `alone`. The next chunk starts where this one ends, or, with
- * an overlap, at the first cut of this one from which it has no more of it than lbk_limits says, and
- * from which the next cut behind its end is within the limits. Without overlap the chunks, one after
- * another, are the text.
+ * A cut is a break of lbk_breaks that is inside no word of lbk_words; the end of the text is a cut. Each chunk starts
+ * at the start of the text or at a cut, and ends at a cut:
+ *   - A chunk is as long as the limits allow. If all that is left does not fit, it ends at the last required break
+ *     within the limits, provided that `least` of its bytes up to there are in no earlier chunk.
+ *   - If no cut is within the limits, the chunk ends at the next cut, and `alone` is true.
+ *   - The next chunk starts where this one ends. With an overlap it starts earlier: at the first cut from which it
+ *     repeats no more than lbk_limits allows, and from which the next cut after this chunk's end is within the
+ *     limits.
  *
- * `text`, `size` and ill-formed bytes are as lbk_breaks has them. `text` is the whole text at each call. All
- * calls for a text take time in proportion to its size, whatever the limits are; each call goes over the last
- * chunk and what comes after it up to the limits once more. Returns 0 and leaves the state
- * unchanged where `room` is 0, where no chunk is left, and for limits that lbk_limits excludes. Whatever
- * the table and the state hold, each chunk starts at `told`, that is, the end of the chunk before it, or
- * earlier, and ends past it and within the text. Entries of the block past the returned count are
- * unspecified. Takes no memory from the heap. */
-size_t lbk_chunks(const lbk_table *table, const lbk_limits *limits, lbk_chunk_state *state, const char *text, size_t size,
-                  lbk_chunk *block, size_t room);
+ * Without overlap the chunks, joined, are the text.
+ *
+ * Pass the whole text to each call. All calls for a text together take time in proportion to its size, for any limits;
+ * each call also reads the last chunk again, and what follows it up to the limits.
+ *
+ *   - Ill-formed bytes are replaced as in lbk_breaks.
+ *   - Returns 0 and leaves the state unchanged if `room` is 0, if no chunk is left, and for limits that lbk_limits
+ *     excludes.
+ *   - With a corrupt table or state, each chunk still starts at or before `told`, the end of the chunk before it,
+ *     and still ends after `told` and within the text.
+ *   - Entries of the block after the returned count are unspecified. Allocates nothing. */
+size_t lbk_chunks(const lbk_table *table, const lbk_limits *limits, lbk_chunk_state *state, const char *text,
+                  size_t size, lbk_chunk *block, size_t room);
 
-/* Returns the first byte at or after `at` where a part of the text may begin: one before which a line
- * must end, or the text's size where there is none. Returns 0 for 0, and the size for an `at` that is
- * not below it.
+/* Returns the first offset at or after `at` at which a part of the text may begin: one with a required break, or
+ * `size` if there is none. Returns 0 for 0, and `size` for an `at` of `size` or more.
  *
  *     for (size_t from = 0, to; from < size; from = to) {
  *         size_t least = size - from < 33554432 ? size : from + 33554432;
- *         to = lbk_cut(&table, text, size, least);             32 MiB, and what is left of the paragraph
+ *         to = lbk_cut(&table, text, size, least);             32 MiB, and the rest of the paragraph
  *         lbk_state state = {.at = from, .profile = LBK_FIRST + (to < size ? LBK_GOES_ON : 0)};
  *         .. lbk_breaks(&table, &state, text, to, block, 64) ..
  *     }
  *
- * The parts can be broken in any order, by other threads or processes: their breaks, one after another, are those of the text,
- * and places count from its start. A part whose bytes stand elsewhere begins at 0; then add the bytes before it to each `at`.
- * The table decides where lines end, so no part begins between CR and LF. Whatever it has, none begins within a scalar, or
- * within ill-formed bytes that are read as one U+FFFD. Of a table of property files, what is returned depends only on the bytes
- * from four before `at` to four after the cut: some bytes of a text that have these, or all that are there, are
- * cut where the text is. Its time does not grow with the text (measured). Takes no memory from the heap. */
+ * The parts can be broken in any order, by other threads or processes. Their breaks, one after another, are those of
+ * the text, and offsets count from its start. If a part is copied elsewhere, begin at 0 and add the number of bytes
+ * before it.
+ *
+ *   - No part begins between CR and LF, inside a character, or inside ill-formed bytes that are read as one U+FFFD.
+ *     The last two hold with a corrupt table, too.
+ *   - With a table of property files the result depends only on the bytes from four before `at` to four after the
+ *     cut: some bytes of a text that have these, or all that are there, are cut where the text is.
+ *   - Its time does not grow with the size of the text (measured). Allocates nothing. */
 size_t lbk_cut(const lbk_table *table, const char *text, size_t size, size_t at);
 
-/* Returns the last such byte at or before `at`: no break after it depends on the bytes before it.
- * Returns the size for an `at` that is not below it. It depends only on the bytes from four before the
- * cut to four after `at`. Its time does not grow with the text (measured). Takes no memory from the heap. */
+/* Returns the last such offset at or before `at`: no break after it depends on the bytes before it. Returns `size` for
+ * an `at` of `size` or more. The result depends only on the bytes from four before the cut to four after `at`. Its
+ * time does not grow with the size of the text (measured). Allocates nothing. */
 size_t lbk_cut_before(const lbk_table *table, const char *text, size_t size, size_t at);
 
-/* The name of a rule by its number; an empty name for a number that no rule has. */
+/* Returns the name of a rule by its number; an empty name for any other number. */
 lbk_rule_label lbk_label(uint8_t rule);
 
-/* The name of the line breaking class of a scalar value, once rule LB1 has resolved it (UAX #14, section 5.1); an empty
- * name for a surrogate, and for a number over 10FFFF. */
+/* Returns the line breaking class of a scalar value, as rule LB1 resolves it (UAX #14, section 5.1); an empty name for
+ * a surrogate, and for a number over 10FFFF. */
 lbk_class_label lbk_class(const lbk_table *table, uint32_t scalar);
 
-/* The version of the library that is called, as LBK_VERSION. */
+/* Returns the version of the library that is linked or loaded, in the form of LBK_VERSION. */
 lbk_text lbk_version(void);
 
-/* Whether a table is whole: its layout is LBK_LAYOUT, and its digest is that of its other bytes. True of each table that
- * lbk_read of this version filled, and of each copy of one. Other values in one of its numbers are always found, since no step
- * of the digest (FNV-1a, 64 bits) leads two numbers to one digest; several by accident hide by a chance of some 1 in 2^64. It is
- * no defence against bytes that someone chose. A table need not be whole to be safe to use. */
+/* Returns whether a table is intact: its layout is LBK_LAYOUT, and its digest (FNV-1a, 64 bits) is that of its other
+ * bytes. It is true for every table that lbk_read of this version filled, and for every copy of one.
+ *
+ * A change of one number is always found. Several accidental changes go unnoticed with a probability of about 1 in
+ * 2^64. It is no protection against deliberate changes. A corrupt table is safe to use, but gives wrong breaks. */
 bool lbk_check(const lbk_table *table);
 
 #if defined(__cplusplus)

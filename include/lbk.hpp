@@ -64,6 +64,8 @@ struct error {
     reason why = reason::none;
     int system = 0;
     lbk_fault fault = {LBK_NO_FILE, 0, LBK_CAUSE_NONE};
+    /// What a file is that is not the published one, as "this is of Unicode 14.0.0, and lbk goes by 15.0.0"; else empty.
+    char claim[112] = {};
 
     explicit operator bool() const noexcept { return why != reason::none; }
 
@@ -75,7 +77,9 @@ struct error {
         case reason::none:
             return "no error";
         case reason::refused:
-            return file + ':' + std::to_string(fault.line) + ": " + lbk_cause_text(fault.cause).text;
+            if (fault.line != 0)
+                file += ':' + std::to_string(fault.line);
+            return file + ": " + (claim[0] != 0 ? claim : lbk_cause_text(fault.cause).text);
         case reason::unreadable:
             return file + ": " + std::generic_category().message(system);
         case reason::not_a_table:
@@ -90,7 +94,11 @@ struct error {
 /// There is no table, and the error says why.
 class table_error : public std::runtime_error {
 public:
-    explicit table_error(const lbk::error &why) : std::runtime_error(why.message()), why_(why) {}
+    /// `before` stands before the error's message, as the name of a folder does, and `after` after it.
+    explicit table_error(const lbk::error &why, const std::string &before = {}, const std::string &after = {})
+        : std::runtime_error(before + why.message() + after), why_(why)
+    {
+    }
 
     const lbk::error &error() const noexcept { return why_; }
 
@@ -158,16 +166,44 @@ private:
     }
 };
 
+/// What the first lines of published files begin with.
+inline constexpr std::string_view published[] = {"# LineBreak-", "# EastAsianWidth-", "# DerivedGeneralCategory-", "# emoji-data."};
+
 /// Whether the first line of a file claims a name that Unicode published, and the last is not its end.
 inline bool is_cut(std::string_view file) noexcept
 {
     bool is_claimed = false;
-    for (std::string_view claim : {"# LineBreak-", "# EastAsianWidth-", "# DerivedGeneralCategory-", "# emoji-data."})
-        is_claimed = is_claimed || file.substr(0, claim.size()) == claim;
+    for (std::string_view name : published)
+        is_claimed = is_claimed || file.substr(0, name.size()) == name;
     // (npos + 1 is 0)
     file = file.substr(0, file.find_last_not_of(" \t\r\n") + 1);
     const std::string_view last = file.substr(file.rfind('\n') + 1);
     return is_claimed && last != "# EOF" && last != "#EOF";
+}
+
+/// Says in English what a file is, by its number in a fault, that is not the one that Unicode published.
+inline void say_claim(std::uint32_t file, std::string_view bytes, char *to, std::size_t room) noexcept
+{
+    const bool is_emoji = file == LBK_EMOJI;
+    const lbk_text name = lbk_file_name(file);
+    std::string_view begin = published[file - 1], words = is_emoji ? "\n# Used with Emoji Version " : begin;
+    begin = begin.substr(0, is_emoji ? begin.size() - 1 : begin.size());
+    const std::size_t at = bytes.substr(0, begin.size()) == begin ? bytes.find(words) : std::string_view::npos;
+    char version[40] = {};
+    unsigned number[3] = {};
+    if (at != std::string_view::npos) {
+        words = bytes.substr(at + words.size(), sizeof version - 1);
+        std::memcpy(version, words.data(), words.size());
+    }
+    if (std::sscanf(version, "%9u.%9u.%9u", &number[0], &number[1], &number[2]) < 2)
+        std::snprintf(to, room, "this is not %s as Unicode " LBK_UNICODE_VERSION " published it", name.text);
+    else if (number[0] == 15 && number[1] == 0 && number[2] == 0)
+        std::snprintf(to, room, "the file was changed or cut: it is not %s as Unicode " LBK_UNICODE_VERSION ".0 published it", name.text);
+    else if (is_emoji && number[2] == 0)
+        std::snprintf(to, room, "this is of Emoji %u.%u, and lbk goes by " LBK_UNICODE_VERSION, number[0], number[1]);
+    else
+        std::snprintf(to, room, "this is of %s %u.%u.%u, and lbk goes by " LBK_UNICODE_VERSION ".0", is_emoji ? "Emoji" : "Unicode",
+                      number[0], number[1], number[2]);
 }
 
 /// Where the files are looked for: in the folder that UNICODE_DATA names, or else in those of the system (Debian's and Fedora's) and of
@@ -237,7 +273,11 @@ public:
             if (status != 0)
                 return none(why, error::reason::unreadable, status, {k + 1, 0, LBK_CAUSE_NONE});
         }
-        return read_by(lbk_read_published, files[0].view(), files[1].view(), files[2].view(), files[3].view(), why);
+        std::optional<table> made =
+            read_by(lbk_read_published, files[0].view(), files[1].view(), files[2].view(), files[3].view(), why);
+        if (why.fault.cause == LBK_CAUSE_NOT_PUBLISHED)
+            detail::say_claim(why.fault.file, files[why.fault.file - 1].view(), why.claim, sizeof why.claim);
+        return made;
     }
 
     /// Of the folder that UNICODE_DATA names, or else of the first that has the files of /usr/share/unicode, its ucd, and unicode in
@@ -312,7 +352,10 @@ public:
     static table load(const std::string &folder)
     {
         error why;
-        return or_throw(try_load(folder, why), why);
+        std::optional<table> made = try_load(folder, why);
+        if (why.why == error::reason::out_of_memory || made)
+            return or_throw(std::move(made), why);
+        throw table_error(why, folder + '/', why.claim[0] != 0 ? REMEDY : "");
     }
 
     /// As try_find, and throws a std::runtime_error where they are not found.
@@ -347,6 +390,9 @@ public:
     std::string_view bytes() const && = delete;
 
 private:
+    static constexpr const char *REMEDY = "; Debian 12's package unicode-data has the files, and so has "
+                                          "https://www.unicode.org/Public/" LBK_UNICODE_VERSION ".0/ucd/UCD.zip";
+
     using release = void (*)(const lbk_table *);
 
     std::unique_ptr<const lbk_table, release> held_;
@@ -376,7 +422,10 @@ private:
 
     static std::nullopt_t none(error &why, error::reason reason, int system = 0, lbk_fault fault = {}) noexcept
     {
-        why = {reason, system, fault};
+        why = {};
+        why.why = reason;
+        why.system = system;
+        why.fault = fault;
         return std::nullopt;
     }
 
@@ -754,6 +803,189 @@ private:
     call start_;
 };
 
+/// A part of a text up to a break where a line must end: a paragraph with its line end, as a range of its segments.
+class passage {
+public:
+    std::size_t start;
+    std::string_view text;
+
+    passage(std::size_t at, std::string_view of, segments::iterator first, segments::iterator behind) noexcept
+        : start(at), text(of), first_(first), behind_(behind)
+    {
+    }
+
+    segments::iterator begin() const noexcept { return first_; }
+    segments::iterator end() const noexcept { return behind_; }
+
+    /// Its words, with the bytes of `text` that each has.
+    lbk::words words() const noexcept { return lbk::words(text); }
+
+private:
+    segments::iterator first_, behind_;
+};
+
+/// The passages of a text in their order: a view that can be gone through any number of times. Joined they are the text.
+class passages {
+public:
+    class iterator {
+    public:
+        using value_type = passage;
+        using iterator_concept = std::forward_iterator_tag;
+        using iterator_category = std::input_iterator_tag;
+        using difference_type = std::ptrdiff_t;
+        using pointer = void;
+        using reference = passage;
+
+        /// The end of any range.
+        iterator() noexcept = default;
+
+        iterator(std::string_view text, segments::iterator first) noexcept : text_(text), first_(first) { find(); }
+
+        passage operator*() const noexcept { return {start_, text_.substr(start_, size_), first_, behind_}; }
+
+        iterator &operator++() noexcept
+        {
+            start_ += size_;
+            first_ = behind_;
+            find();
+            return *this;
+        }
+
+        iterator operator++(int) noexcept
+        {
+            iterator before = *this;
+            ++*this;
+            return before;
+        }
+
+        friend bool operator==(const iterator &a, const iterator &b) noexcept { return a.first_ == b.first_; }
+        friend bool operator!=(const iterator &a, const iterator &b) noexcept { return !(a == b); }
+
+    private:
+        std::string_view text_;
+        std::size_t start_ = 0, size_ = 0;
+        segments::iterator first_, behind_;
+
+        /// Goes over the segments from the first on, up to the one that ends the passage.
+        void find() noexcept
+        {
+            std::uint8_t kind = LBK_NO;
+            for (size_ = 0, behind_ = first_; kind != LBK_MUST && behind_ != segments::iterator(); ++behind_) {
+                const segment one = *behind_;
+                size_ += one.text.size();
+                kind = one.kind;
+            }
+        }
+    };
+
+    using const_iterator = iterator;
+    using value_type = passage;
+
+    passages(const lbk_table &by, std::string_view text, profile rules = profile::first) noexcept
+        : text_(text), segments_(by, text, rules)
+    {
+    }
+
+    /// A temporary would be gone before the range is gone through.
+    passages(const lbk_table &&, std::string_view, profile = profile::first) = delete;
+    passages(const table &&, std::string_view, profile = profile::first) = delete;
+    template <typename Text, typename = std::enable_if_t<std::is_same_v<Text, std::string>>>
+    passages(const lbk_table &, Text &&, profile = profile::first) = delete;
+
+    iterator begin() const noexcept { return iterator(text_, segments_.begin()); }
+    iterator end() const noexcept { return iterator(); }
+
+private:
+    std::string_view text_;
+    segments segments_;
+};
+
+/// What a chunk may hold.
+struct limits {
+    std::size_t most = 500;           ///< at most so many bytes, 1 or more
+    std::size_t words = 0;            ///< at most so many words; 0: any number
+    /// a chunk may end early where a line must end, once it has so many bytes that no chunk before it has; half of most unless given
+    std::optional<std::size_t> least = std::nullopt;
+    std::size_t overlap = 0;          ///< the next chunk begins with at most so many bytes of this one, and at most half of it
+
+    lbk_limits get() const noexcept { return {most, words, least.value_or(most / 2), overlap}; }
+
+    /// Which limit is out of range, in English; empty where none is.
+    std::string wrong() const
+    {
+        const lbk_limits it = get();
+        if (it.most == 0)
+            return "most is 1 or more, and not 0";
+        if (it.least > it.most)
+            return "least is 0 to most, which is " + std::to_string(it.most) + ", and not " + std::to_string(it.least);
+        if (it.overlap > it.most / 2)
+            return "overlap is 0 to half of most, which is " + std::to_string(it.most) + ", and not " + std::to_string(it.overlap);
+        return {};
+    }
+};
+
+/// The chunks of a text for search and retrieval, in their order, as the bytes that each has: a view that can be gone through any
+/// number of times. None ends within a word or where a line may not break (lbk_chunks). Limits that are out of range throw a
+/// std::invalid_argument that says which; without exceptions they give no chunks.
+class chunks {
+    struct call {
+        using value_type = lbk_chunk;
+        using packed = lbk_chunk;
+        using state_type = lbk_chunk_state;
+
+        static constexpr std::size_t most = 8;
+
+        const lbk_table *table = nullptr;
+        const char *text = nullptr;
+        std::size_t size = 0;
+        lbk_limits limits = {};
+        lbk_chunk_state state = {};
+
+        std::size_t operator()(lbk_chunk *block, std::size_t room, lbk_chunk_state &after) const noexcept
+        {
+            after = state;
+            return lbk_chunks(table, &limits, &after, text, size, block, room);
+        }
+
+        void go_on(const lbk_chunk_state &after) noexcept { state = after; }
+
+        static std::size_t place(const lbk_chunk &one) noexcept { return one.start; }
+        static std::size_t fitting(const lbk_chunk *, std::size_t count) noexcept { return count; }
+        static lbk_chunk pack(const lbk_chunk &one, std::size_t) noexcept { return one; }
+        static lbk_chunk unpacked(const lbk_chunk &one, std::size_t) noexcept { return one; }
+    };
+
+public:
+    using iterator = detail::iterator<call>;
+    using const_iterator = iterator;
+    using value_type = lbk_chunk;
+
+    chunks(const lbk_table &by, std::string_view text, const limits &within = {}, profile rules = profile::first)
+    {
+#if defined(__cpp_exceptions)
+        if (const std::string wrong = within.wrong(); !wrong.empty())
+            throw std::invalid_argument(wrong);
+#endif
+        start_.table = &by;
+        start_.text = text.data();
+        start_.size = text.size();
+        start_.limits = within.get();
+        start_.state.breaks.profile = static_cast<std::uint8_t>(rules);
+    }
+
+    /// A temporary would be gone before the range is gone through.
+    chunks(const lbk_table &&, std::string_view, const limits & = {}, profile = profile::first) = delete;
+    chunks(const table &&, std::string_view, const limits & = {}, profile = profile::first) = delete;
+    template <typename Text, typename = std::enable_if_t<std::is_same_v<Text, std::string>>>
+    chunks(const lbk_table &, Text &&, const limits & = {}, profile = profile::first) = delete;
+
+    iterator begin() const noexcept { return iterator(start_); }
+    iterator end() const noexcept { return iterator(); }
+
+private:
+    call start_;
+};
+
 /// The breaks of a text that comes in pieces, cut anywhere. It refers to its table, which has to outlive it. A copy goes on by itself.
 class stream {
 public:
@@ -895,6 +1127,14 @@ template <>
 inline constexpr bool std::ranges::enable_view<lbk::words> = true;
 template <>
 inline constexpr bool std::ranges::enable_borrowed_range<lbk::words> = true;
+template <>
+inline constexpr bool std::ranges::enable_view<lbk::passages> = true;
+template <>
+inline constexpr bool std::ranges::enable_borrowed_range<lbk::passages> = true;
+template <>
+inline constexpr bool std::ranges::enable_view<lbk::chunks> = true;
+template <>
+inline constexpr bool std::ranges::enable_borrowed_range<lbk::chunks> = true;
 template <typename Unit, typename Number, auto Next>
 inline constexpr bool std::ranges::enable_view<lbk::detail::unit_view<Unit, Number, Next>> = true;
 template <typename Unit, typename Number, auto Next>

@@ -12,3 +12,36 @@ extern "C" std::size_t cpp_texts(const lbk_table *table, const char *text, std::
     *total += sum;
     return found;
 }
+
+extern "C" std::size_t cpp_words(const lbk_table *, const char *text, std::size_t size, std::size_t, std::size_t *total)
+{
+    std::size_t found = 0;
+    for (lbk_word one : lbk::words(std::string_view(text, size))) {
+        *total += one.end;
+        found++;
+    }
+    return found;
+}
+
+extern "C" std::size_t cpp_passages(const lbk_table *table, const char *text, std::size_t size, std::size_t, std::size_t *total)
+{
+    std::size_t found = 0;
+    for (const lbk::passage &one : lbk::passages(*table, std::string_view(text, size)))
+        for (lbk::segment part : one) {
+            *total += part.start + part.text.size();
+            found++;
+        }
+    return found;
+}
+
+extern "C" std::size_t cpp_chunks(const lbk_table *table, const char *text, std::size_t size, std::size_t overlap, std::size_t *total)
+{
+    std::size_t found = 0;
+    lbk::limits limits;
+    limits.overlap = overlap;
+    for (const lbk_chunk &one : lbk::chunks(*table, std::string_view(text, size), limits)) {
+        *total += one.end;
+        found++;
+    }
+    return found;
+}

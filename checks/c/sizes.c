@@ -1,17 +1,17 @@
-/* Calls lbk_read with files of sizes that are drawn at random, with ample memory: it must take them all, and say of those that
- * have a row twice at which line.
+/* Calls lbk_read with files of each size up to 4,096 bytes, and of sizes that are drawn at random, with ample memory: it must take
+ * them all, and say of those that have a row twice at which line.
  *
  *     sizes SECONDS SEED
  *
  * Each of the four files is an empty one, or has one row and comments up to a size of at most 8,388,608 bytes: a power of two or
- * a neighbour of one, or one between two powers. The last line is `N passed, M failed`.
+ * a neighbour of one, one between two powers, or any. The last line is `N passed, M failed`.
  */
 #define _DEFAULT_SOURCE
-#include "../../examples/trying.h"
+#include "../../examples/harness.h"
 
 #include <time.h>
 
-enum { MOST_FILE = 8388608, POWERS = 24, COMMENT = 1000 };
+enum { SMALL_FILE = 4096, MOST_FILE = 8388608, POWERS = 24, COMMENT = 1000 };
 
 static const char *const rows[4] = {"0061;ID\n", "0028;W\n", "0E31;Mn\n", "1FAFF;Extended_Pictographic\n"};
 
@@ -25,12 +25,16 @@ static double now(void)
 static size_t drawn(void)
 {
     size_t power = (size_t)1 << below(POWERS), size;
-    switch (below(4)) {
+    switch (below(6)) {
     case 0:
         size = power;
         break;
     case 1:
         size = power - 1 + 2 * below(2);
+        break;
+    case 2:
+    case 3:
+        size = below(MOST_FILE + 1);
         break;
     default:
         size = power + below(power);
@@ -65,13 +69,42 @@ static uint32_t lines_of(bytes file)
     return lines;
 }
 
+static lbk_table table;
+
+static lbk_fault read_files(const bytes *files)
+{
+    return lbk_read(&table, files[0].at, files[0].size, files[1].at, files[1].size, files[2].at, files[2].size, files[3].at,
+                    files[3].size);
+}
+
+static void free_files(bytes *files)
+{
+    for (int k = 0; k < 4; k++)
+        free(files[k].at);
+}
+
+/* All four files of each size up to 4,096 bytes. */
+static void read_small_files(void)
+{
+    for (size_t size = 0; size <= SMALL_FILE; size++) {
+        bytes files[4];
+        for (int k = 0; k < 4; k++)
+            files[k] = file_of(rows[k], 1, size);
+        int is_read = read_files(files).cause == LBK_CAUSE_NONE;
+        if (!is_read)
+            printf("files of %zu bytes\n", size);
+        told("files of each size up to 4,096 bytes are taken", is_read);
+        free_files(files);
+    }
+}
+
 int main(int count, char **word)
 {
-    static lbk_table table;
     if (count != 3) {
         fprintf(stderr, "usage: sizes SECONDS SEED\n");
         return 2;
     }
+    read_small_files();
     double end = now() + strtod(word[1], NULL);
     seed = strtoul(word[2], NULL, 10) * 2 + 1;
     while (now() < end) {
@@ -80,8 +113,7 @@ int main(int count, char **word)
         uint32_t file = (uint32_t)twice + 1;
         for (int k = 0; k < 4; k++)
             files[k] = file_of(rows[k], k == twice ? 2 : 1, below(3) == 0 ? 0 : drawn());
-        lbk_fault fault = lbk_read(&table, files[0].at, files[0].size, files[1].at, files[1].size, files[2].at, files[2].size,
-                                   files[3].at, files[3].size);
+        lbk_fault fault = read_files(files);
         int is_right;
         if (twice < 0)
             is_right = fault.cause == LBK_CAUSE_NONE && lbk_check(&table);
@@ -91,8 +123,7 @@ int main(int count, char **word)
             printf("files of %zu, %zu, %zu and %zu bytes, of which file %u has a row twice: file %u, line %u: %s\n", files[0].size,
                    files[1].size, files[2].size, files[3].size, file, fault.file, fault.line, lbk_cause_text(fault.cause).text);
         told("files of drawn sizes are taken, and a row that comes twice is refused at its line", is_right);
-        for (int k = 0; k < 4; k++)
-            free(files[k].at);
+        free_files(files);
     }
     printf("%lu passed, %lu failed\n", passed, failed);
     return failed != 0;

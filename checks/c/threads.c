@@ -2,7 +2,7 @@
  * has to find what one finds by itself. The words name the four files; the last line is `N passed, M failed`.
  */
 #define _DEFAULT_SOURCE
-#include "../../examples/trying.h"
+#include "../../examples/harness.h"
 #include <pthread.h>
 
 enum { THREADS = 8, TURNS = 50, SIZE = 20000, ROOM = 64 };

@@ -32,10 +32,10 @@ def run(place):
         _, read_without, _, _ = counted_calls(place, words)
         place.write("text", text)
         ended, read, wrote, written = counted_calls(place, words)
-        # Of the text at least a thousand bytes a read, and one read for the end; of a file eight thousand, and some reads to
-        # start.
+        # Of the text at least 3,000 bytes a read, and one read for the end; of a file 12,000, and some reads to start: three
+        # quarters of the room that each read has.
         reads = read - read_without + 1
-        few = reads <= len(text) // 1000 + 2 and read_without <= length // 8000 + 50
+        few = reads <= len(text) // 3_000 + 2 and read_without <= length // 12_000 + 50
         # One write for each read and each block of lines that waits for one, or one for each line and one at the end.
         most = reads + written // 65_536
         few = few and (wrote == lines + 1 if task == "replay" else wrote <= most)

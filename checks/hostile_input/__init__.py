@@ -1,4 +1,4 @@
-"""Files, texts and test files made to hurt, and the greatest sizes: bounds on the program's time and memory.
+"""Files, texts and test files made to be costly, and the greatest sizes: bounds on the program's time and memory.
 
 Time is the processor time of the program only, so other work on the machine changes it little; what is over a bound is measured
 twice more, two lengths side by side, and one time within it is enough. Where memory must not grow with a stream, the run is given little, and would be refused more.

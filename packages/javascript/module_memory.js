@@ -47,7 +47,7 @@ function endOfUnits(text, from, size) {
   return (text.charCodeAt(end - 1) & 0xfc00) === 0xd800 ? end - 1 : end;
 }
 
-function goesOn(byte) {
+export function isContinuation(byte) {
   return (byte & 0xc0) === 0x80;
 }
 
@@ -56,8 +56,8 @@ function endOfBytes(bytes, from, size) {
   const most = from + size;
   if (most >= bytes.length) return bytes.length;
   let end = most;
-  while (end > most - 3 && goesOn(bytes[end])) end--;
-  return goesOn(bytes[end]) ? most : end;
+  while (end > most - 3 && isContinuation(bytes[end])) end--;
+  return isContinuation(bytes[end]) ? most : end;
 }
 
 export function isAscii(text) {

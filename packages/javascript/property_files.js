@@ -9,6 +9,41 @@ import { CODES, KINDS_AT, TABLE_SIZE, packedSize, unpackTable } from "./packed_t
 /** Where the files are below a folder, in the order in which they are given. */
 export const FILES = ["LineBreak.txt", "EastAsianWidth.txt", "extracted/DerivedGeneralCategory.txt", "emoji/emoji-data.txt"];
 
+/** What a file of any version begins with. */
+const NAMES = ["# LineBreak-", "# EastAsianWidth-", "# DerivedGeneralCategory-", "# emoji-data"];
+const EMOJI = 3;
+const EMOJI_VERSION = "\n# Used with Emoji Version ";
+const HEAD_SIZE = 4096;
+const REMEDY = "Debian 12's package unicode-data has the files, and so has https://www.unicode.org/Public/15.0.0/ucd/UCD.zip";
+
+/** The version of Unicode, or of emoji, that a file names as files of its name do. */
+function versionOf(bytes, k) {
+  const head = new TextDecoder("latin1").decode(bytes.subarray(0, HEAD_SIZE));
+  const words = k === EMOJI ? EMOJI_VERSION : NAMES[k];
+  const at = head.startsWith(NAMES[k]) ? head.indexOf(words) : -1;
+  const found = at < 0 ? null : /^(\d+)\.(\d+)(?:\.(\d+))?/.exec(head.slice(at + words.length));
+  return found?.slice(1).map((it) => Number(it ?? 0)).join(".");
+}
+
+/** What the k-th file is, where it is not the one of its name that Unicode published. */
+export function claimText(bytes, k) {
+  const name = FILES[k].replace(/.*\//, "");
+  const version = versionOf(bytes, k);
+  if (version === undefined) return `this is not ${name} as Unicode 15.0 published it`;
+  if (version === "15.0.0") return `the file was changed or cut: it is not ${name} as Unicode 15.0.0 published it`;
+  if (k === EMOJI && version.endsWith(".0")) return `this is of Emoji ${version.slice(0, -2)}, and lbk goes by 15.0`;
+  return `this is of ${k === EMOJI ? "Emoji" : "Unicode"} ${version}, and lbk goes by 15.0.0`;
+}
+
+/** Why there is no table of these files, which are in a folder or in none: what the first is that is of another version, or of none. */
+export function refusalOf(files, folder) {
+  if (files.length !== FILES.length) return `${files.length} files are given, and not the ${FILES.length} property files`;
+  const wrong = files.findIndex((bytes, k) => versionOf(bytes, k) !== "15.0.0");
+  const place = folder === undefined ? "" : `${String(folder).replace(/\/$/, "")}/`;
+  if (wrong < 0) return `${place || "the four files"}: one was changed or cut: they are not as Unicode 15.0.0 published them; ${REMEDY}`;
+  return `${place}${FILES[wrong]}: ${claimText(files[wrong], wrong)}; ${REMEDY}`;
+}
+
 /** A row of a file, or what it says of codes that no row names: the first and the last code, and the value. */
 const ROW = /^(# @missing: )?([0-9A-F]{4,6})(?:\.\.([0-9A-F]{4,6}))? *; *(\w+)/gm;
 const MOST_VALUES = 64;

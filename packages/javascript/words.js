@@ -27,11 +27,57 @@ class Machine {
     return this.memory.loadAll(text, this.text);
   }
 
-  /** The starts and ends of the next words, one after the other: as many as the block holds, or all that are left. */
+  /** Has the module write the next words into the block, and returns how many: as many as it holds, or all that are left. */
   next(size) {
-    const count = Number(this.memory.exports.lbk_words(...[this.state, this.text, size, this.block, ROOM].map(BigInt)));
-    const rows = new Uint32Array(this.memory.buffer, this.block, 4 * count);
-    return Uint32Array.from({ length: 2 * count }, (_, k) => rows[2 * k]);
+    return Number(this.memory.exports.lbk_words(...[this.state, this.text, size, this.block, ROOM].map(BigInt)));
+  }
+
+  /** The starts and ends in turn of so many words of the block, each number as two halves. The next call writes over them. */
+  halves(count) {
+    return new Uint32Array(this.memory.buffer, this.block, 4 * count);
+  }
+}
+
+/** Columns that grow as words are added, in a text of this length. */
+class ColumnsBuilder {
+  #length;
+  #size = 0;
+  #start = new Uint32Array(16);
+  #end = new Uint32Array(16);
+
+  constructor(length) {
+    this.#length = length;
+  }
+
+  /**
+   * Adds words whose starts and ends stand in turn. Where there is no room for them, as much is made as the text needs, if the
+   * rest of it is like its front.
+   */
+  add(places) {
+    const size = this.#size + places.length / 2;
+    if (size > this.#start.length) {
+      const all = (1.1 * size * this.#length) / places.at(-1);
+      this.#grow(Math.max(1.5 * size, Math.min(all, this.#length)));
+    }
+    const [start, end] = [this.#start, this.#end];
+    for (let k = this.#size, from = 0; k < size; k++, from += 2) {
+      start[k] = places[from];
+      end[k] = places[from + 1];
+    }
+    this.#size = size;
+  }
+
+  #grow(room) {
+    const grown = (column) => {
+      const larger = new Uint32Array(Math.ceil(room));
+      larger.set(column);
+      return larger;
+    };
+    [this.#start, this.#end] = [grown(this.#start), grown(this.#end)];
+  }
+
+  finish() {
+    return { start: this.#start.subarray(0, this.#size), end: this.#end.subarray(0, this.#size) };
   }
 }
 
@@ -67,18 +113,20 @@ export class Words {
   }
 
   #find(text) {
-    const size = this.#machine.start(text);
-    const units = new UnitCounter(this.#machine.memory.bytes(this.#machine.text, size), text.length);
-    const blocks = [];
+    const machine = this.#machine;
+    const size = machine.start(text);
+    const units = new UnitCounter(machine.memory.bytes(machine.text, size), text.length);
+    const columns = new ColumnsBuilder(text.length);
+    const places = new Uint32Array(2 * ROOM);
     let count;
     do {
-      const block = this.#machine.next(size);
-      units.convert(block);
-      blocks.push(block);
-      count = block.length / 2;
+      count = machine.next(size);
+      const halves = machine.halves(count);
+      for (let k = 0; k < 2 * count; k++) places[k] = halves[2 * k];
+      const found = places.subarray(0, 2 * count);
+      units.convert(found);
+      columns.add(found);
     } while (count === ROOM);
-    const all = ROOM * (blocks.length - 1) + count;
-    const column = (from) => Uint32Array.from({ length: all }, (_, k) => blocks[Math.floor(k / ROOM)][2 * (k % ROOM) + from]);
-    return { start: column(0), end: column(1) };
+    return columns.finish();
   }
 }

@@ -8,11 +8,18 @@ from 3.11 on.
 
 import os
 import re
+import shutil
+import subprocess
 from pathlib import Path
 
 from setuptools import Extension, setup
 from setuptools.command.build_ext import build_ext
 from setuptools.command.build_py import build_py
+
+try:
+    from wheel.bdist_wheel import bdist_wheel
+except ImportError:  # (a build that makes no wheel)
+    from setuptools import Command as bdist_wheel
 
 if "LBK_PREFIX" not in os.environ:
     raise SystemExit("LBK_PREFIX has to name the folder that has include/lbk.h and lib/liblbk.a")
@@ -74,9 +81,33 @@ class BuildExt(build_ext):
         super().run()
 
 
+# The libraries that each Linux with glibc has, of those that a wheel for it may need (PEP 600).
+SYSTEM = {"libc.so.6", "libm.so.6", "libpthread.so.0", "ld-linux-x86-64.so.2", "ld-linux-aarch64.so.1"}
+
+
+def manylinux(library, platform):
+    """The platform for a library as PEP 600 names it, by the version of glibc that it needs. Where that is not seen, or the
+    library needs others, too, it is the one that is given."""
+    if shutil.which("objdump") is None:
+        return platform
+    said = subprocess.run(["objdump", "-p", library], capture_output=True, text=True, check=True).stdout
+    versions = re.findall(r"\bGLIBC_2\.(\d+)", said)
+    if not versions or not set(re.findall(r"NEEDED\s+(\S+)", said)) <= SYSTEM:
+        return platform
+    return platform.replace("linux_", f"manylinux_2_{max(5, *map(int, versions))}_", 1)
+
+
+class BdistWheel(bdist_wheel):
+    def get_tag(self):
+        python, abi, platform = super().get_tag()
+        build = self.get_finalized_command("build_ext")
+        (library,) = build.get_outputs()
+        return python, abi, manylinux(library, platform) if os.path.exists(library) else platform
+
+
 setup(
     version=VERSION,
-    cmdclass={"build_py": BuildPy, "build_ext": BuildExt},
+    cmdclass={"build_py": BuildPy, "build_ext": BuildExt, "bdist_wheel": BdistWheel},
     # Made with the stable interface of CPython 3.11, and so for each later one.
     options={"bdist_wheel": {"py_limited_api": "cp311"}},
     ext_modules=[

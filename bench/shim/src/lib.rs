@@ -1,8 +1,9 @@
-//! The line breakers of Rust, as calls of C. Each takes a text that is UTF-8, which is not looked at again, and hands each break
+//! Line breakers and words of Rust, as calls of C. Each takes a text that is UTF-8, which is not looked at again, and hands each break
 //! to nobody or to `found`: the byte that it stands before, and 1 for a break that may be or 2 for one that must.
 
 use std::{slice, str};
 use unicode_linebreak::{linebreaks, BreakOpportunity};
+use unicode_segmentation::UnicodeSegmentation;
 use xi_unicode::LineBreakIterator;
 
 type Found = extern "C" fn(usize, u8);
@@ -64,4 +65,13 @@ pub unsafe extern "C" fn xi_each(at: *const u8, size: usize, found: Found) {
 #[no_mangle]
 pub unsafe extern "C" fn linebreak_each(at: *const u8, size: usize, found: Found) {
     linebreak(text(at, size)).for_each(|(at, kind)| found(at, kind));
+}
+
+/// How many words unicode-segmentation finds; their lengths are added to a total, so that all are computed.
+///
+/// # Safety
+/// The text is UTF-8, and as long as is said.
+#[no_mangle]
+pub unsafe extern "C" fn segmentation_words(at: *const u8, size: usize, total: &mut usize) -> usize {
+    sum(text(at, size).unicode_words().map(|word| (word.len(), 0)), total)
 }

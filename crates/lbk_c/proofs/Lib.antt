@@ -1,3 +1,4 @@
 pub mod TableLemmas
 pub mod MarkLemmas
 pub mod DigestLemmas
+pub mod EmptyLemmas

@@ -1,18 +1,22 @@
-//! What holds of states and of digests, over definitions only. Each law is the contract of a function that does nothing.
+//! What holds of states, of digests and of empty files, over definitions only. Each law is the contract of a function
+//! that does nothing.
 
-ghost use Rattle.std.specs.Prelude.{◌≡◌, ℕ, ◌^◌, ◌<◌, ◌≤◌, List, drop, length};
+ghost use Rattle.std.specs.Prelude.{◌≡◌, ℕ, ◌^◌, ◌<◌, ◌≤◌, List, [], drop, length};
 ghost use Rattle.lbk_rules.specs.declared.Break.{Break};
 ghost use Rattle.lbk_rules.specs.declared.Cell.{Cell};
 ghost use Rattle.lbk_rules.specs.declared.FlatTable.{FlatTable};
 ghost use Rattle.lbk_calls.specs.declared.interface.State.{State};
 ghost use Rattle.bstr.specs.Utf8.{Decoded};
-ghost use Rattle.lbk_rules.specs.FlatTable.{digest_with};
+ghost use Rattle.lbk_ucd.specs.File.{Format, IsLawful, property_of};
+ghost use Rattle.lbk_rules.specs.FlatTable.{IsWhole, digest_with};
+ghost use Rattle.lbk_c.specs.Checked.{DifferInOne, numbers_of};
 ghost use Rattle.lbk_units.specs.Units.{pieces_of_utf16, pieces_of_utf32};
 ghost use Rattle.lbk_calls.specs.Coming.{Comes};
 ghost use Rattle.lbk_calls.specs.UnitsComing.{PositionsCome, UnitsCome};
+ghost use Rattle.lbk_words.specs.Words.{words_on};
 
 /// What comes from a state on hangs on the state and on the bytes of the text from its place on. Whatever stands before the
-/// place, as many bytes as there were: the same breaks come. So it is of units, and of positions.
+/// place, as many bytes as there were: the same breaks come. So it is of units, of positions, and of words.
 pub fn only_bytes_from_a_state_on()
     ensures breaks { (cell : ℕ → Cell) (table : FlatTable) (text other : List ℕ) (state : State) (to_come : List Break)
         → Comes cell table text state to_come → state.at ≤ length other → drop state.at other ≡ drop state.at text
@@ -27,13 +31,29 @@ pub fn only_bytes_from_a_state_on()
     ensures positions { (pieces_of : List ℕ → List Decoded) (cell : ℕ → Cell) (table : FlatTable) (text other : List ℕ) (state : State) (to_come : List Break)
         → PositionsCome pieces_of cell table text state to_come → state.at ≤ length other → drop state.at other ≡ drop state.at text
         → PositionsCome pieces_of cell table other state to_come }
+    // Of words a state is the byte from which they come.
+    ensures words { (text other : List ℕ) (at : ℕ) → drop at other ≡ drop at text → words_on other at ≡ words_on text at }
 {}
 
-/// No step of a table's digest (FNV-1a) leads two numbers from one digest to the same, nor two digests by one number. So a whole
-/// table of which one number is given another value is no longer whole.
+/// No step of a table's digest (FNV-1a) leads two numbers from one digest to the same, nor two digests by one number.
 pub fn no_step_leads_two_to_one()
     ensures numbers { (digest one other : ℕ) → digest < 2 ^ 64 → one < 2 ^ 64 → other < 2 ^ 64
         → digest_with digest one ≡ digest_with digest other → one ≡ other }
     ensures digests { (one other number : ℕ) → one < 2 ^ 64 → other < 2 ^ 64 → number < 2 ^ 64
         → digest_with one number ≡ digest_with other number → one ≡ other }
+{}
+
+/// A whole table of which one number is given another value is no longer whole, whether that is the digest or one that the
+/// digest is of.
+pub fn one_changed_number_is_found()
+    ensures content { (table other : FlatTable) (one changed : ℕ) → IsWhole table → IsWhole other → other.digest ≡ table.digest
+        → DifferInOne table other one changed → changed ≡ one }
+    ensures digest { (table other : FlatTable) → IsWhole table → IsWhole other → numbers_of other ≡ numbers_of table
+        → other.digest ≡ table.digest }
+{}
+
+/// An empty property file has no fault, and gives each code the value of codes that no file lists.
+pub fn empty_files_list_no_code<V: Copy>()
+    ensures lawful { (format : Format V) → IsLawful format [] }
+    ensures unlisted { (format : Format V) (code : ℕ) → property_of format [] code ≡ format.unlisted }
 {}

@@ -29,7 +29,10 @@ pub use class_labels::lbk_class;
 pub use cuts::{lbk_cut, lbk_cut_before};
 pub use interface::{Fault, Text};
 pub use labels::lbk_label;
-pub use laws::{no_step_leads_two_to_one, only_bytes_from_a_state_on};
+pub use laws::{
+    empty_files_list_no_code, no_step_leads_two_to_one, one_changed_number_is_found,
+    only_bytes_from_a_state_on,
+};
 pub use lbk_bytes::RawBreak;
 pub use lbk_calls::{ClassLabel, RuleLabel, State};
 pub use lbk_chunks::{Chunk, ChunkState, Limits, Place, chunks_of_cuts};

@@ -57,8 +57,8 @@ pub extern "C" fn lbk_read(
 
 /// Does what `lbk_read` does, of the four files that Unicode 15.0.0 published and of no others; CR LF counts as LF.
 ///
-/// Cause 10 comes for the first file that is not the published one, and no file is read then. After a fault the table is as
-/// it was.
+/// Cause 10 comes for the first file that is not the published one, whatever else is wrong with the four. After a fault the
+/// table is as it was.
 #[unsafe(no_mangle)]
 pub extern "C" fn lbk_read_published(
     alloc: Global,

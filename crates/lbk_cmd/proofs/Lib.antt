@@ -1,6 +1,8 @@
 pub mod Deciding
 pub mod LineWriting
 pub mod PassageLines
+pub mod Pairs
+pub mod Places
 pub mod Breaking
 pub mod InMemory
 pub mod ReadingBack

@@ -1,5 +1,5 @@
 -- A passage's text with its signs, break by break, is that of its marks.
-use Rattle.std.proofs.Common.{◌≡◌, ⊎_elim, ℕ, ◌+◌, ◌-◌, ◌≤◌, Bool, true, false, List, [], ◌∷◌, ◌++◌, length, drop, take, append_assoc, refl, sym, ap, ap₂, subst, ◌∙◌, arith, length-append, encode_utf8, encode_utf8_all, chars, IsUtf8}
+use Rattle.std.proofs.Common.{◌≡◌, ⊎_elim, ℕ, ◌+◌, ◌-◌, ◌≤◌, true, List, [], ◌∷◌, ◌++◌, length, drop, take, append_assoc, refl, sym, ap, ap₂, subst, ◌∙◌, arith, length-append, encode_utf8, encode_utf8_all, chars, IsUtf8}
 use Rattle.std.specs.Prelude.{slice_range, if◌then◌else◌}
 use Rattle.std.specs.List.{AllByRecursion, flat_map}
 use Rattle.std.proofs.Math.Seq.{drop-append_seam, take-append_seam}

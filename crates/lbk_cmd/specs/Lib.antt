@@ -21,4 +21,4 @@ pub mod Deciding
 pub mod Gathering
 pub mod Signing
 pub mod ReadBack
-pub mod OutputLine
+pub mod Placing

@@ -2,6 +2,7 @@
 //! that `show` writes.
 
 ghost use Rattle.std.specs.Prelude.{◌≡◌, ◌++◌, ◌∷◌, List, Ok, Err, IfNone, IfSome, IfOk, IfErr, OnOk};
+ghost use Rattle.lbk_ucd.specs.Files.{AreLawful};
 ghost use Rattle.lbk_rules.specs.CellPages.{page_cell};
 ghost use Rattle.lbk_notation.specs.Stream.{HasNoLineEnd};
 ghost use Rattle.lbk_passage.specs.Marks.{Marked};
@@ -66,6 +67,8 @@ pub fn break_text<R: Source>(
     limit: u32,
     profile: Profile,
 ) -> Result<Vec<TestLine>, BreakFault>
+    ensures lawful { OnOk result (AreLawful files.entry) }
+
     // The bytes read are a text, and the lines say its passages by the cells of the files.
     ensures broken { IfOk result (λ lines. IsBroken files.entry profile (R.unread reader.old) lines.items) }
 

@@ -1,6 +1,6 @@
 //! Lines that wait for those behind them, as long as no read is due.
 
-ghost use Rattle.std.specs.Prelude.{ℕ, ◌≡◌, ◌≤◌, ◌<◌, ◌⊎◌, ◌^◌, List, [], length, take, true, vec_len, Err, OnOk, OnErr};
+ghost use Rattle.std.specs.Prelude.{ℕ, ◌≡◌, ◌≤◌, ◌<◌, ◌⊎◌, ◌^◌, ◌++◌, List, [], length, take, true, vec_len, Err, OnOk, OnErr};
 ghost use Rattle.std.specs.Io.KnownBytes.{Appends};
 ghost use Rattle.lbk_feed.specs.Devices.{failures_after};
 ghost use Rattle.lbk_rules.specs.declared.Cell.{Cell};
@@ -19,6 +19,7 @@ ghost use Rattle.lbk_cmd.specs.Ranges.{within};
 
 use super::engine::Lines;
 use super::faults::CmdFault;
+use super::offsets::Offsets;
 use super::segmented::push_segmented;
 use super::shown::{decide, push_shown};
 use super::signed::{BLOCK, NO_BREAKS, push_signed};
@@ -38,7 +39,7 @@ pub(crate) struct Gathered {
     lines: Vec<u8>,
     /// How many bytes of the text stand before the next passage.
     at: u64,
-    passage: Vec<u8>,
+    offsets: Offsets,
     verdicts: Vec<Verdict>,
     block: [Break; BLOCK],
 }
@@ -52,7 +53,7 @@ impl Gathered {
         Gathered {
             lines: Vec::new(alloc),
             at: 0,
-            passage: Vec::new(alloc),
+            offsets: Offsets::new(),
             verdicts: Vec::new(alloc),
             block: NO_BREAKS,
         }
@@ -142,11 +143,17 @@ impl Gathered {
         let Some(passage) = segmenter.next(reader)? else {
             return Ok(false);
         };
-        self.passage.clear();
-        push_segmented(&mut self.passage, &passage)?;
-        self.lines.extend_from_slice(&self.passage)?;
-        self.at = passage.start + passage.text.len() as u64;
-        Ok(true)
+        let before = self.lines.len();
+        match push_segmented(&mut self.lines, &mut self.offsets, &passage) {
+            Ok(()) => {
+                self.at = passage.start + passage.text.len() as u64;
+                Ok(true)
+            }
+            Err(_) => {
+                self.lines.truncate(before);
+                Err(CmdFault::Memory)
+            }
+        }
     }
 
     /// Those of its text, for which neither segments nor words are found.
@@ -169,14 +176,20 @@ impl Gathered {
         let Some(passage) = segmenter.next_text(reader)? else {
             return Ok(false);
         };
-        self.passage.clear();
-        self.push_text(lines, cells, profile, passage.text, passage.end)?;
-        self.lines.extend_from_slice(&self.passage)?;
-        self.at = passage.start + passage.text.len() as u64;
-        Ok(true)
+        let before = self.lines.len();
+        match self.push_text(lines, cells, profile, passage.text, passage.end) {
+            Ok(()) => {
+                self.at = passage.start + passage.text.len() as u64;
+                Ok(true)
+            }
+            Err(_) => {
+                self.lines.truncate(before);
+                Err(CmdFault::Memory)
+            }
+        }
     }
 
-    /// Puts the lines of a passage into an empty list, by its text and the verdict at its end. After an error some of them may
+    /// Puts the lines of a passage behind the others, by its text and the verdict at its end. After an error some of them may
     /// stand there.
     fn push_text<C: CellSource>(
         &mut self,
@@ -189,16 +202,15 @@ impl Gathered {
         requires kind { ¬ (lines ≡ kinds.Segmented) }
         requires some { 0 < length text.now }
         requires few { length text.now < 2 ^ 32 }
-        requires empty { self.old.passage.items ≡ [] }
         ensures text { OnOk result ((s : State) (ms : List Marked) (p : Passage) → s.cell ≡ C.cell_of cells.now → s.profile ≡ profile
             → IsPassage s ms p → p.text.now ≡ text.now → p.end ≡ end → is_must end.kind ≡ true
-            → self.new.passage.items ≡ lines_of lines.entry (C.cell_of cells.now) p.start ms) }
-        ensures lines { self.new.lines ≡ self.old.lines }
+            → self.new.lines.items ≡ self.old.lines.items ++ lines_of lines.entry (C.cell_of cells.now) p.start ms) }
+        ensures kept { take (length self.old.lines.items) self.new.lines.items ≡ self.old.lines.items }
         ensures at { self.new.at ≡ self.old.at }
     {
         match lines {
             Lines::Signed { sign } => push_signed(
-                &mut self.passage,
+                &mut self.lines,
                 sign,
                 cells,
                 profile,
@@ -207,7 +219,7 @@ impl Gathered {
             ),
             Lines::Shown => {
                 decide(cells, profile, text, end, &mut self.verdicts)?;
-                push_shown(&mut self.passage, text, &self.verdicts)
+                push_shown(&mut self.lines, text, &self.verdicts)
             }
             Lines::Segmented => unreachable!(),
         }

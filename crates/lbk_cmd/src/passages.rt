@@ -1,6 +1,7 @@
 //! The passages of a text in one call: from the bytes of four property files and of a text to what the rules say of it.
 
 ghost use Rattle.std.specs.Prelude.{◌≡◌, [], Ok, Err, IfOk, IfErr, OnOk};
+ghost use Rattle.lbk_ucd.specs.Files.{AreLawful};
 ghost use Rattle.lbk_rules.specs.CellPages.{page_cell};
 ghost use Rattle.lbk_cmd.specs.Acts.{Shows};
 ghost use Rattle.lbk_cmd.specs.Broken.{IsBreakFault, ShowsBy};
@@ -32,6 +33,8 @@ pub fn read_passages<R: Source>(
     limit: u32,
     profile: Profile,
 ) -> Result<Vec<OwnedPassage>, BreakFault>
+    ensures lawful { OnOk result (AreLawful files.entry) }
+
     // The bytes read are a text, and these are its passages by the cells of the files.
     ensures passages { IfOk result (λ list. AreRead files.entry profile (R.unread reader.old) list.items) }
 

@@ -1,6 +1,6 @@
 //! The line that `show` writes of a passage.
 
-ghost use Rattle.std.specs.Prelude.{◌≡◌, ◌+◌, ◌<◌, ◌≤◌, ◌^◌, ◌++◌, ◌∷◌, [], length, map, OnOk};
+ghost use Rattle.std.specs.Prelude.{◌≡◌, ◌+◌, ◌<◌, ◌≤◌, ◌^◌, ◌++◌, ◌∷◌, [], length, map, take, OnOk};
 ghost use Rattle.std.specs.Option.{ForSome};
 ghost use Rattle.std.specs.Str.{chars};
 ghost use Rattle.lbk_notation.specs.Shown.{passage_line, written_labels, passage_marks};
@@ -65,10 +65,12 @@ fn now_or_none(now: Option<Verdict>) -> Verdict
 /// Puts the line of a passage at the end of `out`, with its line end: the marks of its positions with its scalars
 /// between them, a tab, `#`, and the number of the rule that decided each position. After an error some of it may
 /// stand there.
+#[tactic(auto, using(crate::proofs::Places::front_append))]
 pub fn push_shown(out: &mut Vec<u8>, text: &str, verdicts: &[Verdict]) -> Result<(), AllocError>
     requires { length verdicts.now ≡ length (chars text.now) + 1 }
-    ensures { OnOk result (out.new.items
+    ensures line { OnOk result (out.new.items
         ≡ out.old.items ++ (passage_line (chars text.now) verdicts.now ++ 10 ∷ [])) }
+    ensures kept { take (length out.old.items) out.new.items ≡ out.old.items }
 {
     push_marks(out, text, verdicts)?;
     out.extend_from_slice(b"\t#")?;
@@ -77,10 +79,12 @@ pub fn push_shown(out: &mut Vec<u8>, text: &str, verdicts: &[Verdict]) -> Result
     Ok(())
 }
 
+#[tactic(auto, using(crate::proofs::Places::front_append))]
 fn push_marks(out: &mut Vec<u8>, text: &str, verdicts: &[Verdict]) -> Result<(), AllocError>
     requires { length verdicts.now ≡ length (chars text.now) + 1 }
-    ensures { OnOk result (out.new.items
+    ensures line { OnOk result (out.new.items
         ≡ out.old.items ++ written_line Kinds (passage_marks (chars text.now) verdicts.now)) }
+    ensures kept { take (length out.old.items) out.new.items ≡ out.old.items }
 {
     push_mark(out, mark_of(verdicts[0].kind), Form::Kinds)?;
     let mut k = 1;
@@ -92,7 +96,8 @@ fn push_marks(out: &mut Vec<u8>, text: &str, verdicts: &[Verdict]) -> Result<(),
 }
 
 fn push_labels(out: &mut Vec<u8>, verdicts: &[Verdict]) -> Result<(), AllocError>
-    ensures { OnOk result (out.new.items ≡ out.old.items ++ written_labels verdicts.now) }
+    ensures labels { OnOk result (out.new.items ≡ out.old.items ++ written_labels verdicts.now) }
+    ensures kept { take (length out.old.items) out.new.items ≡ out.old.items }
 {
     for verdict in verdicts {
         out.push(b' ')?;

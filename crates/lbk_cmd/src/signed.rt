@@ -1,6 +1,6 @@
 //! The text that `mark` writes of a passage.
 
-ghost use Rattle.std.specs.Prelude.{◌≡◌, ◌<◌, ◌≤◌, ◌^◌, ◌++◌, [], List, drop, length, map, IfOk, IfSome, OnOk, None, false};
+ghost use Rattle.std.specs.Prelude.{◌≡◌, ◌<◌, ◌≤◌, ◌^◌, ◌++◌, [], List, drop, length, map, take, IfOk, IfSome, OnOk, None, false};
 ghost use Rattle.std.specs.List.{last_or};
 ghost use Rattle.std.specs.Option.{option_map_or};
 ghost use Rattle.std.specs.Str.{chars};
@@ -25,6 +25,7 @@ pub const NO_BREAKS: [Break; BLOCK] = [Break {
 
 /// Puts the text of a passage at the end of `out`, with a mark at each position where a line may end, and with a line end where
 /// the text has none. `block` is a list to work in. After an error some of it may stand there.
+#[tactic(auto, using(crate::proofs::Places::front_append))]
 pub fn push_signed<C: CellSource>(
     out: &mut Vec<u8>,
     mark: &str,
@@ -33,8 +34,9 @@ pub fn push_signed<C: CellSource>(
     text: &str,
     block: &mut [Break; BLOCK],
 ) -> Result<(), AllocError>
-    ensures { OnOk result (out.new.items ≡ out.old.items
+    ensures text { OnOk result (out.new.items ≡ out.old.items
         ++ (signed_from mark.now text.now 0 (breaks profile (C.cell_of cells.now) (chars text.now)) ++ missing_line_end (C.cell_of cells.now) (chars text.now))) }
+    ensures kept { take (length out.old.items) out.new.items ≡ out.old.items }
 {
     push_text(out, mark, cells, profile, text, block)?;
     if !ends_in_line_end(cells, text) {
@@ -52,8 +54,9 @@ fn push_text<C: CellSource>(
     text: &str,
     block: &mut [Break; BLOCK],
 ) -> Result<(), AllocError>
-    ensures { OnOk result (out.new.items
+    ensures text { OnOk result (out.new.items
         ≡ out.old.items ++ signed_from mark.now text.now 0 (breaks profile (C.cell_of cells.now) (chars text.now))) }
+    ensures kept { take (length out.old.items) out.new.items ≡ out.old.items }
 {
     let bytes = text.as_bytes();
     let mut breaks = Breaks::new(cells, text, profile);
@@ -70,13 +73,15 @@ fn push_text<C: CellSource>(
 /// Puts the text from the byte `start` on at the end of `out`.
 fn push_rest(out: &mut Vec<u8>, text: &[u8], start: usize) -> Result<(), AllocError>
     requires { start ≤ length text.now }
-    ensures { OnOk result (out.new.items ≡ out.old.items ++ drop start text.now) }
+    ensures text { OnOk result (out.new.items ≡ out.old.items ++ drop start text.now) }
+    ensures kept { take (length out.old.items) out.new.items ≡ out.old.items }
 {
     out.extend_from_slice(&text[start..])
 }
 
 /// Puts the text from the byte `start` up to the last of these breaks at the end of `out`, with their signs, and returns
 /// where the rest begins.
+#[tactic(auto, using(crate::proofs::Places::front_append))]
 fn push_block(
     out: &mut Vec<u8>,
     mark: &str,
@@ -89,6 +94,7 @@ fn push_block(
         → out.new.items ++ signed_from mark.now text.now next more ≡ out.old.items ++ signed_from mark.now text.now start (block.now ++ more)) }
     ensures cut { IfOk result (λ next. (more : List Break)
         → IsCut start (length text.now) (block.now ++ more) → IsCut next (length text.now) more) }
+    ensures kept { take (length out.old.items) out.new.items ≡ out.old.items }
 {
     let mut done = start;
     for one in block {

@@ -1,14 +1,13 @@
 -- The breaks of the parts of a text of any bytes, joined.
-use Rattle.std.proofs.Common.{◌≡◌, ℕ, ◌+◌, ◌-◌, ◌<◌, ◌≤◌, Bool, true, false, cond, ◌&&◌, List, [], ◌∷◌, ◌++◌, length, map, take, drop, refl, sym, ap, ap₂, ◌∙◌, append-nil, arith, length-append, length-take-le}
+use Rattle.std.proofs.Common.{◌≡◌, ℕ, ◌+◌, ◌-◌, ◌<◌, ◌≤◌, Bool, true, false, cond, ◌&&◌, not, List, [], ◌∷◌, ◌++◌, length, map, take, drop, refl, sym, ap, ap₂, ◌∙◌, append-nil, arith, length-append, length-take-le}
 use Rattle.std.specs.List.{flat_map}
 use Rattle.std.proofs.lemmas.Bool.{false≢true}
 use Rattle.std.proofs.lemmas.List.{drop-drop, drop_at, length-map, map-append, take_at}
+use Rattle.std.proofs.lemmas.List.Elements.{filter-append}
 use Rattle.bstr.specs.Utf8.{Decoded, or_replacement, pieces}
 use Rattle.bstr.proofs.lemmas.PieceLemmas.{pieces-nil, sizes}
 use Rattle.lbk_rules.specs.declared.Break.{Break}
 use Rattle.lbk_rules.specs.declared.Cell.{Cell}
-use Rattle.lbk_rules.specs.declared.Kind.TheVariants.{Must}
-use Rattle.lbk_rules.specs.declared.Rule.{Rule}
 use Rattle.lbk_rules.specs.declared.Verdict.{Verdict}
 use Rattle.lbk_values.specs.declared.profile.Profile.{Profile}
 use Rattle.lbk_rules.specs.Breaks.{break_by, is_no}
@@ -16,73 +15,55 @@ use Rattle.lbk_rules.specs.Ends.{end_after, end_of_text, ends_line}
 use Rattle.lbk_rules.specs.Joins.{end_before_more, marks_in, moved}
 use Rattle.lbk_rules.specs.Marks.{Marked, ended, marks, marks_behind}
 use Rattle.lbk_rules.specs.Joins.{must_end_between}
+use Rattle.lbk_rules.specs.Verdict.{verdict_between_in}
+use Rattle.lbk_rules.proofs.EndLemmas.{start_of_text}
 use Rattle.lbk_rules.proofs.JoinLemmas.{end_before_more-must, joined-marks, map-moved, map-moved-none}
 use Rattle.lbk_rules.proofs.MarkLemmas.{last-marks}
 use Rattle.lbk_bytes.specs.Bytes.{breaks_after, breaks_of_bytes, breaks_of_part, open_end}
-use Rattle.lbk_cuts.specs.Cuts.{AreByteParts, EndsBefore, JoinsAt, breaks_of_parts}
+use Rattle.lbk_units.specs.Positions.{breaks_among, positions_after, positions_of_bytes, positions_of_pieces}
+use Rattle.lbk_units.specs.Units.{breaks_of_pieces}
+use Rattle.lbk_units.proofs.EncodingLemmas.{after-among, among-moved, breaks-among}
+use Rattle.lbk_cuts.specs.Cuts.{AreByteParts, EndsBefore, JoinsAt, breaks_of_parts, positions_of_part}
 use Rattle.lbk_cuts.proofs.PieceStartLemmas.{pieces-cut, sizes-append, sizes-front}
 
-abbrev ends_by : Rule → Verdict
-ends_by rule = record { kind = Must; rule = rule }
+abbrev is_break : Break → Bool
+is_break position = not (is_no position.kind)
 
--- breaks after two runs of pieces
-breaks_after-joined : (at : ℕ) (ps qs : List Decoded) (ms ns : List Marked) → length ps ≡ length ms
-    → breaks_after at (ps ++ qs) (ms ++ ns) ≡ breaks_after at ps ms ++ breaks_after (at + sizes ps) qs ns
+-- positions after two runs of pieces
+after-joined : (at : ℕ) (ps qs : List Decoded) (ms ns : List Marked) → length ps ≡ length ms
+    → positions_after at (ps ++ qs) (ms ++ ns) ≡ positions_after at ps ms ++ positions_after (at + sizes ps) qs ns
 unfolding sizes
-breaks_after-joined at [] qs [] ns same = ap (λ n. breaks_after n qs ns) (let place : at ≡ at + 0 = omega arith in place)
-breaks_after-joined at [] qs (m ∷ ms) ns same = absurd (omega arith)
-breaks_after-joined at (p ∷ ps) qs [] ns same = absurd (omega arith)
-breaks_after-joined at (p ∷ ps) qs (m ∷ ms) ns same =
+after-joined at [] qs [] ns same = ap (λ n. positions_after n qs ns) (let place : at ≡ at + 0 = omega arith in place)
+after-joined at [] qs (m ∷ ms) ns same = absurd (omega arith)
+after-joined at (p ∷ ps) qs [] ns same = absurd (omega arith)
+after-joined at (p ∷ ps) qs (m ∷ ms) ns same =
     let end = at + p.size in
     let place : end + sizes ps ≡ at + (p.size + sizes ps) = omega arith in
-    let rest = breaks_after-joined end ps qs ms ns (omega arith) ∙ ap (λ n. breaks_after end ps ms ++ breaks_after n qs ns) place in
-    elim (is_no m.after.kind)
-    as (λ k. cond k (breaks_after end (ps ++ qs) (ms ++ ns)) (break_by end m.after ∷ breaks_after end (ps ++ qs) (ms ++ ns))
-    ≡ cond k (breaks_after end ps ms) (break_by end m.after ∷ breaks_after end ps ms) ++ breaks_after (at + sizes (p ∷ ps)) qs ns)
-    [ true ↦ rest | false ↦ ap (λ l. break_by end m.after ∷ l) rest ]
+    ap (λ l. break_by end m.after ∷ l)
+    (after-joined end ps qs ms ns (omega arith) ∙ ap (λ n. positions_after end ps ms ++ positions_after n qs ns) place)
 
-breaks_after-moved : (bytes at : ℕ) (ps : List Decoded) (ms : List Marked) → breaks_after (bytes + at) ps ms ≡ map (moved bytes) (breaks_after at ps ms)
-breaks_after-moved bytes at [] ms = refl
-breaks_after-moved bytes at (p ∷ ps) [] = refl
-breaks_after-moved bytes at (p ∷ ps) (m ∷ ms) =
-    let end = at + p.size in
-    let there = bytes + at + p.size in
-    let place : there ≡ bytes + end = omega arith in
-    elim (is_no m.after.kind)
-    as (λ k. cond k (breaks_after there ps ms) (break_by there m.after ∷ breaks_after there ps ms)
-    ≡ map (moved bytes) (cond k (breaks_after end ps ms) (break_by end m.after ∷ breaks_after end ps ms))) [
-      | true ↦ ap (λ n. breaks_after n ps ms) place ∙ breaks_after-moved bytes end ps ms
-      | false ↦ ap (λ n. break_by n m.after ∷ breaks_after n ps ms) place ∙ ap (λ l. break_by (bytes + end) m.after ∷ l) (breaks_after-moved bytes end ps ms)
-    ]
+after-moved : (bytes at : ℕ) (ps : List Decoded) (ms : List Marked) → positions_after (bytes + at) ps ms ≡ map (moved bytes) (positions_after at ps ms)
+after-moved bytes at [] ms = refl
+after-moved bytes at (p ∷ ps) [] = refl
+after-moved bytes at (p ∷ ps) (m ∷ ms) =
+    let place : bytes + at + p.size ≡ bytes + (at + p.size) = omega arith in
+    ap (λ n. break_by n m.after ∷ positions_after n ps ms) place
+    ∙ ap (λ l. break_by (bytes + (at + p.size)) m.after ∷ l) (after-moved bytes (at + p.size) ps ms)
 
--- the break after the last of some pieces, by the verdict there
-record LastBreak (at : ℕ) (ps : List Decoded) (ms : List Marked) : Type 0 where
-  front : List Break
-  end : ℕ
-  place : end ≡ at + sizes ps
-  is : (rule : Rule) → breaks_after at ps (ended (ends_by rule) ms) ≡ front ++ break_by end (ends_by rule) ∷ []
-
-last_break : (at : ℕ) (p : Decoded) (ps : List Decoded) (m : Marked) (ms : List Marked) → length ps ≡ length ms → LastBreak at (p ∷ ps) (m ∷ ms)
+-- and with another verdict after the last
+after-ended : (v : Verdict) (at : ℕ) (p : Decoded) (ps : List Decoded) (m : Marked) (ms : List Marked) → length ps ≡ length ms
+    → positions_after at (p ∷ ps) (ended v (m ∷ ms))
+    ≡ take (length ps) (positions_after at (p ∷ ps) (m ∷ ms)) ++ break_by (at + sizes (p ∷ ps)) v ∷ []
 unfolding sizes
-last_break at p [] m [] same = record { front = []; end = at + p.size; place = omega arith; is = λ rule. refl }
-last_break at p [] m (n ∷ ms) same = absurd (omega arith)
-last_break at p (q ∷ ps) m [] same = absurd (omega arith)
-last_break at p (q ∷ ps) m (n ∷ ms) same =
+after-ended v at p [] m [] same = ap (λ n. break_by n v ∷ []) (let place : at + p.size ≡ at + (p.size + 0) = omega arith in place)
+after-ended v at p [] m (n ∷ ms) same = absurd (omega arith)
+after-ended v at p (q ∷ ps) m [] same = absurd (omega arith)
+after-ended v at p (q ∷ ps) m (n ∷ ms) same =
     let end = at + p.size in
-    let rest = last_break end q ps n ms (omega arith) in
-    record {
-      front = cond (is_no m.after.kind) rest.front (break_by end m.after ∷ rest.front);
-      end = rest.end;
-      place = (let behind = rest.place in omega arith);
-      is = λ rule. elim (is_no m.after.kind)
-          as (λ k. cond k (breaks_after end (q ∷ ps) (ended (ends_by rule) (n ∷ ms))) (break_by end m.after ∷ breaks_after end (q ∷ ps) (ended (ends_by rule) (n ∷ ms)))
-          ≡ cond k rest.front (break_by end m.after ∷ rest.front) ++ break_by rest.end (ends_by rule) ∷ [])
-          [ true ↦ rest.is rule | false ↦ ap (λ l. break_by end m.after ∷ l) (rest.is rule) ];
-    }
-
-last_of : (at : ℕ) (p : Decoded) (ps : List Decoded) (ms : List Marked) → length (p ∷ ps) ≡ length ms → LastBreak at (p ∷ ps) ms
-last_of at p ps [] same = absurd (omega arith)
-last_of at p ps (m ∷ ms) same = last_break at p ps m ms (omega arith)
+    let place : end + sizes (q ∷ ps) ≡ at + (p.size + sizes (q ∷ ps)) = omega arith in
+    ap (λ l. break_by end m.after ∷ l)
+    (after-ended v end q ps n ms (omega arith)
+    ∙ ap (λ k. take (length ps) (positions_after end (q ∷ ps) (n ∷ ms)) ++ break_by k v ∷ []) place)
 
 -- Parts
 
@@ -94,6 +75,12 @@ length-ended : (v : Verdict) (ms : List Marked) → length (ended v ms) ≡ leng
 length-ended v [] = refl
 length-ended v (m ∷ []) = refl
 length-ended v (m ∷ n ∷ ms) = let rest = length-ended v (n ∷ ms) in omega arith
+
+length-rest : {A B : Type 0} (x : A) (xs : List A) (y : B) (ys : List B) → length (x ∷ xs) ≡ length (y ∷ ys) → length xs ≡ length ys
+length-rest x xs y ys same = omega arith
+
+take-front : {A : Type 0} (xs : List A) (x : A) → take (length (xs ++ x ∷ []) - 1) (xs ++ x ∷ []) ≡ xs
+take-front xs x = take_at xs (x ∷ []) (length (xs ++ x ∷ []) - 1) (omega (arith, length-append xs (x ∷ [])))
 
 left-true : (a b : Bool) → (a && b) ≡ true → a ≡ true
 left-true true b both = refl
@@ -114,35 +101,72 @@ module _ (profile : Profile) (cell : ℕ → Cell) where
       ap (λ b. cond b (break_by at (end_after (cell c).class) ∷ []) []) (left-true (ends_line (cell c).class) _ must)
   open-must c (e ∷ es) second at must = open-must e es second at must
 
-  breaks-before : (ps : List Decoded) (second : List ℕ) (at : ℕ) → must_end_between cell (scalars ps) second ≡ true → at ≡ sizes ps
-      → breaks_after 0 ps (marks_in profile cell true (scalars ps))
-      ≡ take (length (breaks_after 0 ps (marks profile cell (scalars ps))) - 1) (breaks_after 0 ps (marks profile cell (scalars ps)))
-      ++ open_end profile cell (scalars ps) at
-  breaks-before [] second at must size = absurd (false≢true must)
-  breaks-before (p ∷ ps) second at must size =
+  -- the positions of some pieces but for the last one, whatever the verdict there
+  abbrev start_of : List Decoded → Break
+  start_of ps = break_by 0 (verdict_between_in profile [] (map cell (scalars ps)))
+
+  abbrev front_of : Decoded → List Decoded → List Break
+  front_of p ps = start_of (p ∷ ps) ∷ take (length ps) (positions_after 0 (p ∷ ps) (marks profile cell (scalars (p ∷ ps))))
+
+  ends-by : (v : Verdict) (p : Decoded) (ps : List Decoded)
+      → start_of (p ∷ ps) ∷ positions_after 0 (p ∷ ps) (ended v (marks profile cell (scalars (p ∷ ps))))
+      ≡ front_of p ps ++ break_by (0 + sizes (p ∷ ps)) v ∷ []
+  ends-by v p ps =
+      let c = or_replacement p.char in
+      let m : Marked = record { scalar = c; after = verdict_between_in profile (map cell (c ∷ [])) (map cell (scalars ps)) } in
+      let ms = marks_behind profile cell (c ∷ []) (scalars ps) in
+      ap (λ l. start_of (p ∷ ps) ∷ l) (after-ended v 0 p ps m ms (length-rest p ps m ms (length-marks_of (p ∷ ps))))
+
+  whole-is : (p : Decoded) (ps : List Decoded)
+      → positions_of_pieces profile cell (p ∷ ps) ≡ front_of p ps ++ break_by (0 + sizes (p ∷ ps)) end_of_text ∷ []
+  whole-is p ps =
+      ap (λ ms. start_of (p ∷ ps) ∷ positions_after 0 (p ∷ ps) ms) (last-marks profile cell [] (or_replacement p.char) (scalars ps))
+      ∙ ends-by end_of_text p ps
+
+  abbrev but_last : List Decoded → List Break
+  but_last ps = take (length (positions_of_pieces profile cell ps) - 1) (positions_of_pieces profile cell ps)
+
+  but_last-is : (p : Decoded) (ps : List Decoded) → but_last (p ∷ ps) ≡ front_of p ps
+  but_last-is p ps =
+      ap (λ l. take (length l - 1) l) (whole-is p ps) ∙ take-front (front_of p ps) (break_by (0 + sizes (p ∷ ps)) end_of_text)
+
+  -- the positions of the first of two parts, as they are in the text, and its breaks
+  positions-before : (ps : List Decoded) (second : List ℕ) (at : ℕ) → must_end_between cell (scalars ps) second ≡ true → at ≡ sizes ps
+      → start_of ps ∷ positions_after 0 ps (marks_in profile cell true (scalars ps)) ≡ but_last ps ++ open_end profile cell (scalars ps) at
+  positions-before [] second at must size = absurd (false≢true must)
+  positions-before (p ∷ ps) second at must size =
       let c = or_replacement p.char in
       let cs = scalars ps in
-      let ms = marks profile cell (c ∷ cs) in
       let verdict = end_before_more cell (c ∷ cs) in
-      let last = last_of 0 p ps ms (length-marks_of (p ∷ ps)) in
-      let end = break_by last.end end_of_text in
-      let behind = last.place in
-      let place : last.end ≡ at = omega arith in
-      let all : breaks_after 0 (p ∷ ps) ms ≡ last.front ++ end ∷ [] =
-      ap (breaks_after 0 (p ∷ ps)) (last-marks profile cell [] c cs) ∙ last.is end_of_text.rule in
-      let front : take (length (breaks_after 0 (p ∷ ps) ms) - 1) (breaks_after 0 (p ∷ ps) ms) ≡ last.front =
-      (let long = length-append last.front (end ∷ []) in
-      ap (λ l. take (length l - 1) l) all ∙ take_at last.front (end ∷ []) (length (last.front ++ end ∷ []) - 1) (omega arith)) in
-      ap (λ v. breaks_after 0 (p ∷ ps) (ended v ms)) (end_before_more-must cell c cs)
-      ∙ last.is verdict.rule
-      ∙ ap (λ v. last.front ++ break_by last.end v ∷ []) (sym (end_before_more-must cell c cs))
-      ∙ ap (λ n. last.front ++ break_by n verdict ∷ []) place
-      ∙ sym (ap₂ (λ xs ys. xs ++ ys) front (open-must c cs second at must))
+      let place : 0 + sizes (p ∷ ps) ≡ at = omega arith in
+      ends-by verdict p ps
+      ∙ ap (λ k. front_of p ps ++ break_by k verdict ∷ []) place
+      ∙ sym (ap₂ (λ xs ys. xs ++ ys) (but_last-is p ps) (open-must c cs second at must))
 
-  -- where a line must end at a piece's start, the breaks before and behind it are those of two texts
-  pub joins-at : (text : List ℕ) (place : ℕ) → place ≤ length text → EndsBefore cell text place → JoinsAt profile cell text place
-  unfolding sizes
-  joins-at text place within ends =
+  breaks-before : (ps : List Decoded) (second : List ℕ) (at : ℕ) → must_end_between cell (scalars ps) second ≡ true
+      → breaks_among (but_last ps ++ open_end profile cell (scalars ps) at)
+      ≡ take (length (breaks_of_pieces profile cell ps) - 1) (breaks_of_pieces profile cell ps) ++ open_end profile cell (scalars ps) at
+  breaks-before [] second at must = absurd (false≢true must)
+  breaks-before (p ∷ ps) second at must =
+      let c = or_replacement p.char in
+      let cs = scalars ps in
+      let front = breaks_among (front_of p ps) in
+      let last = break_by (0 + sizes (p ∷ ps)) end_of_text in
+      let all : breaks_of_pieces profile cell (p ∷ ps) ≡ front ++ last ∷ [] =
+      sym (breaks-among profile cell (p ∷ ps)) ∙ ap breaks_among (whole-is p ps) ∙ filter-append is_break (front_of p ps) (last ∷ []) in
+      let end : breaks_among (open_end profile cell (c ∷ cs) at) ≡ open_end profile cell (c ∷ cs) at =
+      ap breaks_among (open-must c cs second at must)
+      ∙ ap (λ (v : Verdict). breaks_among (break_by at v ∷ [])) (end_before_more-must cell c cs)
+      ∙ ap (λ (v : Verdict). break_by at v ∷ []) (sym (end_before_more-must cell c cs))
+      ∙ sym (open-must c cs second at must) in
+      filter-append is_break (but_last (p ∷ ps)) (open_end profile cell (c ∷ cs) at)
+      ∙ ap₂ (λ xs ys. xs ++ ys)
+      (ap breaks_among (but_last-is p ps) ∙ sym (take-front front last) ∙ ap (λ l. take (length l - 1) l) (sym all)) end
+
+  positions-at : (text : List ℕ) (place : ℕ) → place ≤ length text → EndsBefore cell text place
+      → positions_of_bytes profile cell text
+      ≡ positions_of_part profile cell (take place text) ++ map (moved place) (drop 1 (positions_of_bytes profile cell (drop place text)))
+  positions-at text place within ends =
       let before = pieces (take place text) in
       let behind = pieces (drop place text) in
       let few = sizes-front text place within in
@@ -150,14 +174,33 @@ module _ (profile : Profile) (cell : ℕ → Cell) where
       let size : length (take place text) ≡ sizes before = omega (arith, length-take-le place text within) in
       let long : length before ≡ length (marks_in profile cell true (scalars before)) =
       length-marks_of before ∙ sym (length-ended (end_before_more cell (scalars before)) (marks profile cell (scalars before))) in
-      ap (λ ps. breaks_after 0 ps (marks profile cell (scalars ps))) ends.0
-      ∙ ap (λ cs. breaks_after 0 (before ++ behind) (marks profile cell cs)) (map-append (λ (p : Decoded). or_replacement p.char) before behind)
-      ∙ ap (breaks_after 0 (before ++ behind)) (joined-marks profile cell (scalars before) (scalars behind) ends.1)
-      ∙ breaks_after-joined 0 before behind (marks_in profile cell true (scalars before)) (marks profile cell (scalars behind)) long
-      ∙ ap (λ l. l ++ breaks_after (0 + sizes before) behind (marks profile cell (scalars behind)))
-      (breaks-before before (scalars behind) (length (take place text)) ends.1 size)
-      ∙ ap (λ n. breaks_of_part true profile cell (take place text) ++ breaks_after n behind (marks profile cell (scalars behind))) at
-      ∙ ap (λ l. breaks_of_part true profile cell (take place text) ++ l) (breaks_after-moved place 0 behind (marks profile cell (scalars behind)))
+      let start = start_of before in
+      let all = scalars (before ++ behind) in
+      ap (positions_of_pieces profile cell) ends.0
+      ∙ ap (λ (v : Verdict). break_by 0 v ∷ positions_after 0 (before ++ behind) (marks profile cell all))
+      (start_of_text profile (map cell all) ∙ sym (start_of_text profile (map cell (scalars before))))
+      ∙ ap (λ cs. start ∷ positions_after 0 (before ++ behind) (marks profile cell cs)) (map-append (λ (p : Decoded). or_replacement p.char) before behind)
+      ∙ ap (λ ms. start ∷ positions_after 0 (before ++ behind) ms) (joined-marks profile cell (scalars before) (scalars behind) ends.1)
+      ∙ ap (λ l. start ∷ l) (after-joined 0 before behind (marks_in profile cell true (scalars before)) (marks profile cell (scalars behind)) long)
+      ∙ ap (λ l. l ++ positions_after (0 + sizes before) behind (marks profile cell (scalars behind)))
+      (positions-before before (scalars behind) (length (take place text)) ends.1 size)
+      ∙ ap (λ n. positions_of_part profile cell (take place text) ++ positions_after n behind (marks profile cell (scalars behind))) at
+      ∙ ap (λ l. positions_of_part profile cell (take place text) ++ l) (after-moved place 0 behind (marks profile cell (scalars behind)))
+
+  -- where a line must end at a piece's start, the breaks and the positions before and behind it are those of two texts
+  pub joins-at : (text : List ℕ) (place : ℕ) → place ≤ length text → EndsBefore cell text place → JoinsAt profile cell text place
+  joins-at text place within ends =
+      let behind = pieces (drop place text) in
+      let after = positions_after 0 behind (marks profile cell (scalars behind)) in
+      let positions = positions-at text place within ends in
+      record {
+        breaks = sym (breaks-among profile cell (pieces text))
+            ∙ ap breaks_among positions
+            ∙ filter-append is_break (positions_of_part profile cell (take place text)) (map (moved place) after)
+            ∙ ap₂ (λ xs ys. xs ++ ys) (breaks-before (pieces (take place text)) (scalars behind) (length (take place text)) ends.1)
+            (among-moved (moved place) (λ one. refl) after ∙ ap (map (moved place)) (after-among 0 behind (marks profile cell (scalars behind))));
+        positions = positions;
+      }
 
   no-breaks : breaks_of_bytes profile cell [] ≡ []
   no-breaks = ap (λ ps. breaks_after 0 ps (marks profile cell (scalars ps))) pieces-nil
@@ -170,7 +213,7 @@ module _ (profile : Profile) (cell : ℕ → Cell) where
       let rest = flat_map (λ p. p) (next ∷ parts) in
       let n = length part in
       let within : n ≤ length (part ++ rest) = omega (arith, length-append part rest) in
-      ap (map (moved at)) (joins-at (part ++ rest) n within are.0)
+      ap (map (moved at)) (joins-at (part ++ rest) n within are.0).breaks
       ∙ map-append (moved at) (breaks_of_part true profile cell (take n (part ++ rest))) (map (moved n) (breaks_of_bytes profile cell (drop n (part ++ rest))))
       ∙ ap₂ (λ first second. map (moved at) (breaks_of_part true profile cell first) ++ map (moved at) (map (moved n) (breaks_of_bytes profile cell second)))
       (take_at part rest n refl) (drop_at part rest n refl)

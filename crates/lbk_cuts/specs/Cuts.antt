@@ -1,12 +1,13 @@
 -- Where a text of any bytes may be cut, so that its parts are decided apart.
-use Rattle.std.specs.Prelude.{◌≡◌, ◌⊎◌, ℕ, ◌+◌, ◌<◌, ◌≤◌, false, true, List, [], ◌∷◌, ◌++◌, length, map, min, take, drop}
+use Rattle.std.specs.Prelude.{◌≡◌, ◌⊎◌, ℕ, ◌+◌, ◌-◌, ◌<◌, ◌≤◌, false, true, List, [], ◌∷◌, ◌++◌, length, map, min, take, drop}
 use Rattle.std.specs.List.{flat_map}
 use Rattle.bstr.specs.Utf8.{lossy_chars, pieces}
 use Rattle.lbk_rules.specs.declared.Break.{Break}
 use Rattle.lbk_rules.specs.declared.Cell.{Cell}
 use Rattle.lbk_values.specs.declared.profile.Profile.{Profile}
 use Rattle.lbk_rules.specs.Joins.{moved, must_end_between}
-use Rattle.lbk_bytes.specs.Bytes.{breaks_of_bytes, breaks_of_part}
+use Rattle.lbk_bytes.specs.Bytes.{breaks_of_bytes, breaks_of_part, open_end}
+use Rattle.lbk_units.specs.Positions.{positions_of_bytes}
 
 -- at this byte a piece begins, or the text ends: where it is cut there, the pieces of its parts are its own
 abbrev pub IsPieceStart : List ℕ → ℕ → Type 0
@@ -39,11 +40,21 @@ pub record HasNear (before near after : List ℕ) (first last : ℕ) : Type 0 wh
   pub start : (before ≡ []) ⊎ (4 ≤ first)
   pub end : (after ≡ []) ⊎ (last + 4 ≤ length near)
 
--- cut there, the breaks of the text are those of its parts, if the places of the second are moved by the bytes of the first
-abbrev pub JoinsAt : Profile → (ℕ → Cell) → List ℕ → ℕ → Type 0
-JoinsAt profile cell text place =
-    breaks_of_bytes profile cell text
-    ≡ breaks_of_part true profile cell (take place text) ++ map (moved place) (breaks_of_bytes profile cell (drop place text))
+-- the positions of a part by itself, after which the text goes on. The last of them is as it is there
+abbrev pub positions_of_part : Profile → (ℕ → Cell) → List ℕ → List Break
+positions_of_part profile cell part =
+    take (length (positions_of_bytes profile cell part) - 1) (positions_of_bytes profile cell part)
+    ++ open_end profile cell (lossy_chars part) (length part)
+
+-- cut there, the breaks and the positions of the text are those of its parts, if the places of the second are moved by the bytes
+-- of the first. The position at the cut comes once, as the last of the first part
+pub record JoinsAt (profile : Profile) (cell : ℕ → Cell) (text : List ℕ) (place : ℕ) : Type 0 where
+  pub breaks :
+      breaks_of_bytes profile cell text
+      ≡ breaks_of_part true profile cell (take place text) ++ map (moved place) (breaks_of_bytes profile cell (drop place text))
+  pub positions :
+      positions_of_bytes profile cell text
+      ≡ positions_of_part profile cell (take place text) ++ map (moved place) (drop 1 (positions_of_bytes profile cell (drop place text)))
 
 -- parts of a text one after another: each ends before a byte of the text from it on before which a line must end
 abbrev pub AreByteParts : (ℕ → Cell) → List (List ℕ) → Type 0

@@ -11,3 +11,4 @@ pub mod RowChecks
 pub mod RowLemmas
 pub mod ShownLemmas
 pub mod FlatLemmas
+pub mod ReadLemmas

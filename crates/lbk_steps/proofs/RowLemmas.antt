@@ -15,7 +15,7 @@ use Rattle.lbk_steps.proofs.KindsLemmas.{kind-cell, kind-few}
 use Rattle.lbk_steps.proofs.LeftLemmas.{left_Decides}
 use Rattle.lbk_steps.proofs.RowChecks.{each_below, is_copy, leads_right, row_right, rows_from_0, rows_from_19, rows_from_38, rows_from_57, rows_from_76, rows_from_95, same_next, shows_right}
 
-each_below-at : (p : ℕ → Bool) (n j : ℕ) → each_below p n ≡ true → j < n → p j ≡ true
+pub each_below-at : (p : ℕ → Bool) (n j : ℕ) → each_below p n ≡ true → j < n → p j ≡ true
 unfolding each_below
 each_below-at p zero j h lt = absurd (not-suc-le-zero lt)
 each_below-at p (suc n) j h lt =

@@ -15,12 +15,11 @@ use Rattle.lbk_uax14.proofs.MachineLemmas.{reverse-snoc, verdict_in-append, verd
 use Rattle.lbk_uax14.proofs.NormalLemmas.{from_cells-normal, held-normal, reverse-map, verdict-normal}
 
 -- the cell of the kind of a scalar
-pub kind_same : (cell source : ℕ → Cell) (c kind : ℕ) → cell ≡ source → kind ≡ kind_of (source c)
-    → kind_cell (kind % 128 % 84) ≡ normal (cell c)
-kind_same cell source c kind same is =
-    let few = kind-few (source c) in
-    let back : kind % 128 % 84 ≡ kind_of (source c) = omega (arith, few, is) in
-    ap kind_cell back ∙ kind-cell (source c) ∙ ap (λ (f : ℕ → Cell). normal (f c)) (sym same)
+pub kind_same : (cell : ℕ → Cell) (c kind : ℕ) → kind ≡ kind_of (cell c) → kind_cell (kind % 128 % 84) ≡ normal (cell c)
+kind_same cell c kind is =
+    let few = kind-few (cell c) in
+    let back : kind % 128 % 84 ≡ kind_of (cell c) = omega (arith, few, is) in
+    ap kind_cell back ∙ kind-cell (cell c)
 
 pub normals-snoc : (cell : ℕ → Cell) (taken : List ℕ) (c : ℕ) → normals cell (taken ++ c ∷ []) ≡ normals cell taken ++ normal (cell c) ∷ []
 normals-snoc cell taken c =

@@ -5,9 +5,9 @@ use Rattle.lbk_uax14.specs.declared.verdicts.Kind.TheVariants.{No, May, Must}
 use Rattle.lbk_uax14.specs.declared.verdicts.Rule.{Rule}
 use Rattle.lbk_uax14.specs.declared.verdicts.Rule.TheVariants.{Lb2, Lb3, Lb4, Lb5, Lb6, Lb7, Lb8, Lb8a, Lb9, Lb11, Lb12, Lb12a, Lb13, Lb14, Lb15, Lb15a, Lb15b, Lb16, Lb17, Lb18, Lb19, Lb20, Lb21, Lb21a, Lb21b, Lb22, Lb23, Lb23a, Lb24, Lb25, Lb26, Lb27, Lb28, Lb29, Lb30, Lb30a, Lb30b, Lb31}
 use Rattle.lbk_uax14.specs.declared.verdicts.Verdict.{Verdict}
-use Rattle.lbk_uax14.specs.Codes.{kind_number, kind_numbered, rule_number}
+use Rattle.lbk_uax14.specs.Codes.{kind_number, rule_number}
 use Rattle.lbk_uax14.specs.Held.{is_15b}
-use Rattle.lbk_steps.specs.declared.steps.TheConstants.{RULES}
+use Rattle.lbk_steps.specs.declared.steps.TheConstants.{KINDS_BY_NUMBER, RULES}
 use Rattle.lbk_steps.specs.Rows.{shown_of}
 
 few-kinds : (kind : Kind) → kind_number kind < 256
@@ -15,10 +15,10 @@ few-kinds No = lit< tt
 few-kinds May = lit< tt
 few-kinds Must = lit< tt
 
-same-kind : (kind : Kind) → kind_numbered (kind_number kind) ≡ kind
-same-kind No = refl
-same-kind May = refl
-same-kind Must = refl
+pub kind-read : (kind : Kind) → slice_index_or KINDS_BY_NUMBER (kind_number kind % 4) No ≡ kind
+kind-read No = refl
+kind-read May = refl
+kind-read Must = refl
 
 pub same-rule : (rule : Rule) → slice_index_or RULES (rule_number rule) Lb2 ≡ rule
 same-rule Lb2 = refl
@@ -60,14 +60,12 @@ same-rule Lb30a = refl
 same-rule Lb30b = refl
 same-rule Lb31 = refl
 
-pub verdict-shown : (shown : ℕ) (kind : Kind) (rule : Rule) (verdict : Verdict) → kind ≡ kind_numbered (shown % 256)
+pub verdict-shown : (shown : ℕ) (kind : Kind) (rule : Rule) (verdict : Verdict) → ((k : Kind) → shown % 256 ≡ kind_number k → kind ≡ k)
     → ((r : Rule) → shown / 256 ≡ rule_number r → rule ≡ r) → shown ≡ shown_of verdict → record { kind = kind; rule = rule } ≡ verdict
 verdict-shown shown kind rule verdict of_kind of_rule is =
     let few = few-kinds verdict.kind in
-    let kind_number_is : shown % 256 ≡ kind_number verdict.kind = omega (arith, few, is) in
-    let rule_number_is : shown / 256 ≡ rule_number verdict.rule = omega (arith, few, is) in
-    let kinds = of_kind ∙ ap kind_numbered kind_number_is ∙ same-kind verdict.kind in
-    let rules = of_rule verdict.rule rule_number_is in
+    let kinds = of_kind verdict.kind (let number : shown % 256 ≡ kind_number verdict.kind = omega (arith, few, is) in number) in
+    let rules = of_rule verdict.rule (let number : shown / 256 ≡ rule_number verdict.rule = omega (arith, few, is) in number) in
     λ i. record { kind = kinds i; rule = rules i }
 
 number-15b : (rule : Rule) → (rule_number rule == 122) ≡ is_15b rule

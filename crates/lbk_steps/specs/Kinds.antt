@@ -1,5 +1,6 @@
 -- A number for each normal cell, its kind: its place among 42, and 42 more for an unassigned pictograph.
-use Rattle.std.specs.Prelude.{ℕ, ◌+◌, ◌*◌, ◌%◌, ◌==◌, ◌&&◌, ◌||◌, Bool, false, if◌then◌else◌, nat_le, slice_index_or}
+use Rattle.std.specs.Prelude.{◌≡◌, ℕ, ◌+◌, ◌*◌, ◌%◌, ◌<◌, ◌==◌, ◌&&◌, ◌||◌, Bool, false, List, if◌then◌else◌, length, nat_le, slice_index, slice_index_or}
+use Rattle.std.specs.Char.{IsScalar}
 use Rattle.std.specs.Int.{from_bool}
 use Rattle.lbk_uax14.specs.declared.cells.Cell.{Cell}
 use Rattle.lbk_uax14.specs.declared.classes.Class.TheVariants.{Alphabetic}
@@ -22,6 +23,10 @@ slot_of cell =
 -- the kind of a cell
 unfoldable pub kind_of : Cell → ℕ
 kind_of cell = slot_of cell + 42 * from_bool (none_of mark cell.class && cell.pict_cn)
+
+-- these are the kinds that the cells of the first codes have
+abbrev pub AreKindsOf : (ℕ → Cell) → List ℕ → Type 0
+AreKindsOf cell kinds = (code : ℕ) → IsScalar code → code < length kinds → slice_index kinds code ≡ kind_of (cell code)
 
 -- whether a cell of this place opens or closes a quotation
 abbrev pub quote_at : ℕ → Quote

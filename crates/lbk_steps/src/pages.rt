@@ -105,6 +105,12 @@ impl CellSource for CellPages {
         self.kinds.of(c)
     }
 
+    #[inline]
+    #[tactic(auto, unfolding(crate::specs::CellPages::page_cell, crate::specs::KindTable::kind_at))]
+    fn kinds(&self) -> &[u8] {
+        &self.kinds.kinds
+    }
+
     #[tactic(auto, unfolding(crate::specs::CellPages::page_cell))]
     fn quiet_first_bytes(&self) -> [bool; 256] {
         self.quiet_first_bytes

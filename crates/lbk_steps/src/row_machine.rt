@@ -1,12 +1,13 @@
 //! The machine that steps by the rows of steps.
 
 ghost use Rattle.std.specs.Prelude.{◌≡◌, ◌+◌, ◌<◌, ℕ, List, [], ◌∷◌, ◌++◌, length, map, reverse, true, false, ⊤, IfNone, IfSome};
+ghost use Rattle.lbk_steps.specs.Kinds.{kind_of};
 ghost use Rattle.lbk_steps.specs.Rows.{IsPlace, steps_in};
 
 use crate::ahead::closes_in;
 use crate::kinds::cell_of_kind;
 use crate::source::CellSource;
-use crate::steps::{Rows, Step, is_held, left_of, rows_of, step_from, verdict_of};
+use crate::steps::{Rows, Step, left_of, rows_of, step_from, verdict_of};
 use lbk_uax14::{Cell, Left, Profile, Verdict};
 use std::alloc::AllocError;
 
@@ -17,7 +18,7 @@ struct Row {
     /// The steps of the profile.
     steps: &'static Rows,
     /// The place of the row.
-    place: u16,
+    place: usize,
     ghost of_profile: { steps.now ≡ steps_in profile },
     ghost begins: { IsPlace place },
 }
@@ -26,6 +27,8 @@ struct Row {
 /// is what hot loops step by. It holds no position: where rule 15b may decide, the caller looks ahead or waits.
 pub struct RowMachine<'a, C: CellSource> {
     cells: &'a C,
+    /// The kinds of the first codes, kept here so that a loop reads them without asking the source where they are.
+    kinds: &'a [u8],
     /// The row that knows what the rules ask of the cells taken.
     row: Row,
 }
@@ -50,7 +53,6 @@ impl<'a, C: CellSource> RowMachine<'a, C> {
     ghost use Rattle.lbk_uax14.specs.Held.{is_15b, is_held};
     ghost use Rattle.lbk_uax14.specs.Normal.{normal};
     ghost use Rattle.lbk_steps.specs.Rows.{left_at, shown_of};
-    ghost use Rattle.lbk_steps.specs.Kinds.{kind_of};
     ghost use Rattle.lbk_steps.specs.RowMachineFits.{RowMachineFits, normals};
     ghost use Rattle.lbk_uax14.specs.Verdict.{verdict_between_in, verdict_in};
     ghost use Rattle.std.specs.Str.{chars};
@@ -61,6 +63,7 @@ impl<'a, C: CellSource> RowMachine<'a, C> {
     {
         RowMachine {
             cells,
+            kinds: cells.kinds(),
             row: Row {
                 profile,
                 steps: rows_of(profile),
@@ -84,7 +87,7 @@ impl<'a, C: CellSource> RowMachine<'a, C> {
             → RowMachineFits C.cell_of self.new profile cell (taken ++ c ∷ []) }
     {
         let step = self.step_by(c);
-        self.row.place = step.next;
+        self.row.place = usize::from(step.next);
         verdict_of(step.shown)
     }
 
@@ -104,11 +107,12 @@ impl<'a, C: CellSource> RowMachine<'a, C> {
         ensures stays { IfNone result (self.new ≡ self.old) }
     {
         let step = self.step_by(c);
-        if is_held(step.shown) {
+        let verdict = verdict_of(step.shown);
+        if verdict.rule.is_15b() {
             return None;
         }
-        self.row.place = step.next;
-        Some(verdict_of(step.shown))
+        self.row.place = usize::from(step.next);
+        Some(verdict)
     }
 
     /// The step by `c`, with the number of the verdict where nothing follows.
@@ -122,7 +126,20 @@ impl<'a, C: CellSource> RowMachine<'a, C> {
             → RowMachineFits C.cell_of self.now profile cell taken
             → result.shown ≡ shown_of (from_cells profile (reverse (map cell taken)) (cell c ∷ [])) }
     {
-        step_from(self.row.steps, self.row.place, self.cells.kind(c))
+        step_from(self.row.steps, self.row.place, self.kind(c))
+    }
+
+    /// The kind of `c`.
+    #[inline(always)]
+    fn kind(&self, c: char) -> u8
+        ensures { (profile : Profile) (cell : ℕ → Cell) (taken : List ℕ)
+            → RowMachineFits C.cell_of self.now profile cell taken
+            → result ≡ kind_of (cell c) }
+    {
+        match self.kinds.get(c as usize) {
+            Some(kind) => *kind,
+            None => kind_in(self.cells, c),
+        }
     }
 
     /// What it knows of the cells that it has taken.
@@ -177,4 +194,13 @@ impl<'a, C: CellSource> RowMachine<'a, C> {
     {
         self.left().verdict_at_end()
     }
+}
+
+/// The kind of `c` by the source itself, out of the way of a loop that reads kinds.
+#[cold]
+#[inline(never)]
+fn kind_in<C: CellSource>(cells: &C, c: char) -> u8
+    ensures { result ≡ kind_of (C.cell_of cells.now c) }
+{
+    cells.kind(c)
 }

@@ -10,7 +10,7 @@ use lbk_ucd::Tables;
 pub trait CellSource {
     ghost use Rattle.lbk_uax14.specs.declared.cells.Cell.{Cell};
     ghost use Rattle.lbk_steps.specs.FirstBytes.{AreQuiet};
-    ghost use Rattle.lbk_steps.specs.Kinds.{kind_of};
+    ghost use Rattle.lbk_steps.specs.Kinds.{AreKindsOf, kind_of};
 
     ghost cell_of: { Self → ℕ → Cell };
 
@@ -18,12 +18,20 @@ pub trait CellSource {
     fn cell(&self, c: char) -> Cell
         ensures { result ≡ cell_of self.now c };
 
-    /// The kind of `c`: a number for all that the rules ask of its cell. It is one read where a source keeps the kinds.
+    /// The kind of `c`: a number for all that the rules ask of its cell.
     #[inline]
     fn kind(&self, c: char) -> u8
         ensures { result ≡ kind_of (cell_of self.now c) }
     {
         kind_of(self.cell(c))
+    }
+
+    /// The kinds of the first codes, where the source keeps them: by those of all codes a loop finds a kind by one read.
+    #[inline]
+    fn kinds(&self) -> &[u8]
+        ensures { AreKindsOf (cell_of self.now) result.now }
+    {
+        &[]
     }
 
     /// For each byte whether it is known that a line must end after no scalar that begins with it (UAX #14, rules LB4 and

@@ -2,7 +2,8 @@
 
 ghost use Rattle.std.specs.Prelude.{◌≡◌, ◌%◌, ℕ, map};
 ghost use Rattle.lbk_uax14.specs.declared.verdicts.Verdict.{Verdict};
-ghost use Rattle.lbk_uax14.specs.Codes.{kind_numbered, rule_number};
+ghost use Rattle.lbk_uax14.specs.Codes.{kind_number, rule_number};
+ghost use Rattle.lbk_uax14.specs.declared.verdicts.Kind.{Kind};
 ghost use Rattle.lbk_uax14.specs.declared.verdicts.Rule.{Rule};
 ghost use Rattle.lbk_uax14.specs.Facts.{facts};
 ghost use Rattle.lbk_uax14.specs.Held.{is_15b};
@@ -50,19 +51,20 @@ pub fn rows_of(profile: Profile) -> &'static Rows
 
 /// The step from the row at a place by a kind. A number that is no kind's is masked, and then is that of one.
 #[inline(always)]
-pub fn step_from(rows: &Rows, place: u16, kind: u8) -> Step
+pub fn step_from(rows: &Rows, place: usize, kind: u8) -> Step
     requires { IsPlace place }
     ensures { (profile : Profile) → rows.now ≡ steps_in profile → IsStepFrom profile place (kind % WIDTH % KINDS) result }
 {
-    rows[usize::from(place) / WIDTH][usize::from(kind) % WIDTH]
+    let all = rows.as_flattened();
+    all[usize::from(kind) % WIDTH..][place]
 }
 
 /// What the row at a place knows. It is asked for seldom, and is found from the row's sample.
-pub(crate) fn left_of(place: u16) -> Left
+pub(crate) fn left_of(place: usize) -> Left
     requires { IsPlace place }
     ensures { result ≡ left_at place }
 {
-    known_of(&SAMPLES[usize::from(place) / WIDTH])
+    known_of(&SAMPLES[place / WIDTH])
 }
 
 /// What is known of the cells of these kinds.
@@ -108,16 +110,15 @@ pub fn is_held(shown: u16) -> bool
     shown / 256 == RULE_15B
 }
 
-/// The kind of a number.
+/// The kinds by their numbers, and Must again, so that any number is that of one, once it is masked, and 0 alone that of No.
+static KINDS_BY_NUMBER: [Kind; 4] = [Kind::No, Kind::May, Kind::Must, Kind::Must];
+
+/// The kind of a number: one read, since it is asked for at each character.
 #[inline(always)]
 fn kind_numbered(number: u16) -> Kind
-    ensures { result ≡ kind_numbered number }
+    ensures { (kind : Kind) → number ≡ kind_number kind → result ≡ kind }
 {
-    match number {
-        1 => Kind::May,
-        2 => Kind::Must,
-        _ => Kind::No,
-    }
+    KINDS_BY_NUMBER[usize::from(number % 4)]
 }
 
 /// The rule of a number: one read, since it is asked for at each character.

@@ -1,5 +1,5 @@
 -- The same scalars in several encodings.
-use Rattle.std.proofs.Common.{◌≡◌, ℕ, ◌+◌, ◌-◌, ◌/◌, ◌%◌, ◌<◌, ◌≤◌, ◌⊎◌, ⊎_elim, inl, inr, true, false, cond, not, Some, List, [], ◌∷◌, ◌++◌, append_assoc, length, map, take, refl, sym, ap, ◌∙◌, arith}
+use Rattle.std.proofs.Common.{◌≡◌, ℕ, ◌+◌, ◌-◌, ◌/◌, ◌%◌, ◌<◌, ◌≤◌, ◌⊎◌, ⊎_elim, inl, inr, true, false, cond, not, Some, List, [], ◌∷◌, ◌++◌, append_assoc, length, map, take, refl, sym, ap, ap₂, ◌∙◌, arith}
 use Rattle.std.specs.Char.{IsScalar, encode_utf8}
 use Rattle.std.specs.Char.Escape.{encode_utf16}
 use Rattle.std.specs.Char.Utf16.{surrogate_pair_char, utf16_chars}
@@ -148,7 +148,7 @@ positions-utf8 profile cell cs all = encoded encode_utf8_all units8 joins8 refl 
 
 -- The breaks, which are among them
 
-after-among : (at : ℕ) (ps : List Decoded) (ms : List Marked) → breaks_among (positions_after at ps ms) ≡ breaks_after at ps ms
+pub after-among : (at : ℕ) (ps : List Decoded) (ms : List Marked) → breaks_among (positions_after at ps ms) ≡ breaks_after at ps ms
 after-among at [] ms = refl
 after-among at (p ∷ ps) [] = refl
 after-among at (p ∷ ps) (m ∷ ms) =
@@ -166,13 +166,14 @@ breaks-among profile cell ps =
     ap (λ (v : Verdict). breaks_among (break_by 0 v ∷ positions_after 0 ps told)) (start_of_text profile (map cell (scalars_of ps)))
     ∙ after-among 0 ps told
 
-among-placed : (encode : List ℕ → List ℕ) (all : List ℕ) (found : List Break) → breaks_among (map (placed_in encode all) found) ≡ map (placed_in encode all) (breaks_among found)
-among-placed encode all [] = refl
-among-placed encode all (one ∷ more) =
-    let there = placed_in encode all one in
-    let rest = map (placed_in encode all) (breaks_among more) in
-    ap (λ l. cond (not (is_no one.kind)) (there ∷ l) l) (among-placed encode all more)
-    ∙ (elim (is_no one.kind) as (λ k. cond (not k) (there ∷ rest) rest ≡ map (placed_in encode all) (cond (not k) (one ∷ breaks_among more) (breaks_among more))) [
+-- moved breaks keep their kinds
+pub among-moved : (move : Break → Break) → ((one : Break) → (move one).kind ≡ one.kind) → (found : List Break)
+    → breaks_among (map move found) ≡ map move (breaks_among found)
+among-moved move same [] = refl
+among-moved move same (one ∷ more) =
+    let rest = map move (breaks_among more) in
+    ap₂ (λ k l. cond (not (is_no k)) (move one ∷ l) l) (same one) (among-moved move same more)
+    ∙ (elim (is_no one.kind) as (λ k. cond (not k) (move one ∷ rest) rest ≡ map move (cond (not k) (one ∷ breaks_among more) (breaks_among more))) [
       | true ↦ refl
       | false ↦ refl
     ])
@@ -183,7 +184,7 @@ breaks-placed : (encode : List ℕ → List ℕ) (profile : Profile) (cell : ℕ
 breaks-placed encode profile cell cs ps placed =
     sym (breaks-among profile cell ps)
     ∙ ap breaks_among placed
-    ∙ among-placed encode cs (positions_of_utf32 profile cell cs)
+    ∙ among-moved (placed_in encode cs) (λ one. refl) (positions_of_utf32 profile cell cs)
     ∙ ap (map (placed_in encode cs)) (breaks-among profile cell (pieces_of_utf32 cs))
 
 pub breaks-utf16 : (profile : Profile) (cell : ℕ → Cell) (cs : List ℕ) → scalars cs ≡ true

@@ -6,8 +6,11 @@ import json
 import pickle
 import sys
 import tempfile
+import threading
 import unittest
+from concurrent.futures import ThreadPoolExecutor
 from pathlib import Path
+from unittest import mock
 
 import samples
 from lbk import Kind, Table
@@ -124,6 +127,24 @@ class Files(WithFiles):
                 self.assertTrue(joined(parts) == samples.found(self.table, data))
                 self.assertTrue("".join(self.paragraphs(path, 5000)) == data.decode("utf-8", "replace"))
 
+    def test_threads_read_parts_of_a_file_at_the_same_time(self):
+        one, two = _parts.plan(self.write("text", b"ab\ncd\n"), self.table, 3, None, None)
+        is_open, is_closed, fill = threading.Event(), threading.Event(), _parts._fill
+
+        def fill_in_turn(memory, file):
+            if threading.current_thread() is threading.main_thread():
+                self.assertTrue(is_open.wait(60))
+            else:
+                is_open.set()
+                is_closed.wait(60)
+            return fill(memory, file)
+
+        with mock.patch.object(_parts, "_fill", fill_in_turn), ThreadPoolExecutor(1) as others:
+            second = others.submit(lambda: bytes(_parts.read_part(two)))
+            self.assertEqual(bytes(_parts.read_part(one)), b"ab\n")
+            is_closed.set()
+            self.assertEqual(second.result(60), b"cd\n")
+
     def test_compressed_and_empty_files(self):
         text = "é ab\ncd\r\n".encode() * 50
         (self.folder / "text.gz").write_bytes(gzip.compress(text))
@@ -206,6 +227,29 @@ class Files(WithFiles):
         self.assertRaises(TypeError, lbk.dask.breaks, frame, self.name)
 
 
+    def test_chunks_of_bags_and_columns(self):
+        texts = ["naïve text é", None, "", "a\nb c"]
+        limits = {"most": 4, "least": 2, "overlap": 1}
+        wanted = [[one._asdict() for one in self.table.chunks(text or "", **limits)] for text in texts]
+        wanted = [[{name: one[name] for name in ("start", "end", "words", "text")} for one in found] for found in wanted]
+        self.assertGreater(len(wanted[0]), 2)
+        bag = dask.bag.from_sequence(texts, npartitions=2)
+        self.assertEqual(lbk.dask.chunks(bag, self.name, **limits).compute(), [one for found in wanted for one in found])
+        named = dask.bag.from_sequence([{"id": k, "text": text} for k, text in enumerate(texts)], npartitions=3)
+        rows = lbk.dask.chunks(named, self.name, **limits).compute()
+        self.assertEqual(rows, [{"id": k, **one} for k, found in enumerate(wanted) for one in found])
+        frame = dask.dataframe.from_pandas(pandas.DataFrame({"t": texts}, index=[3, 1, 4, 2]), npartitions=2, sort=False)
+        cut = lbk.dask.chunks(frame.t, self.name, **limits).compute()
+        self.assertEqual(list(cut.index), [index for index, found in zip([3, 1, 4, 2], wanted) for _ in found])
+        self.assertEqual(cut.to_dict("records"), [one for found in wanted for one in found])
+        in_bytes = lbk.dask.chunks(bag, self.name, 7, unit="bytes").compute()
+        self.assertEqual(in_bytes[0]["text"], "naïve ")
+        self.assertRaisesRegex(ValueError, "overlap", lbk.dask.chunks, bag, self.name, 4, overlap=3)
+        self.assertRaises(ValueError, lbk.dask.chunks, bag, self.name, unit="words")
+        self.assertRaises(ValueError, lbk.dask.chunks, bag, self.name, profile=3)
+        self.assertRaises(TypeError, lbk.dask.chunks, texts, self.name)
+
+
 class Saving(WithFiles):
     def saved(self, bag, format=None):
         return lbk.dask.save(bag, self.folder / "out", format).compute()
@@ -234,6 +278,18 @@ class Saving(WithFiles):
         self.assertEqual((fault["path"], fault["at"]), (bad, 0))
         self.assertRaises(TypeError, self.saved, lbk.dask.read_text(good, self.name), "npz")
         self.assertRaises(ValueError, self.saved, bag, "csv")
+
+    def test_chunks(self):
+        texts = [self.write(f"{k}", text) for k, text in enumerate((b"ab cd\nef gh", b"\xff", b"", b"i j k"))]
+        bag = lbk.dask.chunks(lbk.dask.read_text(texts, self.name, errors="strict", on_fault="keep"), self.name, 3)
+        saved = self.saved(bag, "jsonl")
+        rows = [json.loads(line) for one in saved for line in Path(one.name).read_text().splitlines()]
+        self.assertEqual([row["text"] for row in rows], ["ab ", "cd\n", "ef ", "gh", "i ", "j k"])
+        self.assertEqual(rows[1], {"text": "cd\n", "start": 3, "end": 6, "words": 1})
+        self.assertEqual([one.faults for one in saved], [0, 1, 0, 0])
+        again = [Path(one.name).read_bytes() for one in self.saved(bag, "jsonl")]
+        self.assertEqual(again, [Path(one.name).read_bytes() for one in saved])
+        self.assertEqual(len(list((self.folder / "out").iterdir())), 5)
 
     def test_a_partition_is_saved_whole_or_not_at_all(self):
         bag = lbk.dask.read_columns(self.write("text", b"ab\n" * 9), self.name, 3)

@@ -32,6 +32,8 @@ class Memory(unittest.TestCase):
         found.__reduce__()
         self.table.break_columns(text)
         self.table.break_list_columns([text, text])
+        next(self.table.chunks(text, 50, overlap=20))
+        self.table.chunk_columns(text, 7, words=2, unit="bytes")
 
     def test_no_reference_is_left(self):
         texts = ("a b " * 5000, "é b " * 5000, "\ud800 " * 5000, b"a b " * 5000, bytearray(b"a b " * 5000), memoryview(b"a b " * 5000))
@@ -50,6 +52,8 @@ class Memory(unittest.TestCase):
             for call in (self.table.breaks, self.table.segments, self.table.break_columns):
                 self.assertRaises(TypeError, call, text)
                 self.assertRaises(ValueError, call, "a b", 3)
+            self.assertRaises(TypeError, self.table.chunks, text)
+            self.assertRaises(ValueError, self.table.chunks, "a b", profile=3)
             self.assertRaises(TypeError, self.table.break_list_columns, ["a b", text])
         self.assertEqual((sys.getrefcount(text), sys.getrefcount(self.table._memory)), before)
 

@@ -10,7 +10,7 @@ import zipfile
 
 import lbk
 import samples
-from lbk import Cause, Fault, File, Table
+from lbk import Cause, Fault, File, Table, _claims
 
 LONG_LINE = b"#" + 1024 * b"x"
 ROW = "{:04X};AL\n"
@@ -67,6 +67,38 @@ class Folders(unittest.TestCase):
         with self.assertRaises(Fault) as caught:
             Table.load(self.folder)
         self.assertEqual((caught.exception.file, caught.exception.cause), (File.LINE_BREAK, Cause.NOT_PUBLISHED))
+
+    def test_what_a_file_claims_is_said(self):
+        claims = (
+            (File.LINE_BREAK, b"# LineBreak-14.0.0.txt\n", "this is of Unicode 14.0.0, and lbk goes by 15.0.0"),
+            (File.EAST_ASIAN, b"# EastAsianWidth-15.1.txt\n", "this is of Unicode 15.1.0, and lbk goes by 15.0.0"),
+            (File.EMOJI, b"# emoji-data.txt\n# Used with Emoji Version 14.0 and", "this is of Emoji 14.0, and lbk goes by 15.0"),
+            (File.EMOJI, b"# emoji-data\n# Used with Emoji Version 5.0.1", "this is of Emoji 5.0.1, and lbk goes by 15.0.0"),
+            (File.EMOJI, b"# emoji-data-15.0\n", "this is not emoji-data.txt as Unicode 15.0 published it"),
+            (File.LINE_BREAK, b"0061;AL\n# LineBreak-14.0.0\n", "this is not LineBreak.txt as Unicode 15.0 published it"),
+            (
+                File.CATEGORY, b"# DerivedGeneralCategory-15.0.0.txt\n",
+                "the file was changed or cut: it is not DerivedGeneralCategory.txt as Unicode 15.0.0 published it",
+            ),
+        )
+        for file, data, said in claims:
+            self.assertEqual(_claims.claim_text(file, data), said)
+        self.put(samples.PLACES, [claims[0][1], b"", b"", b""])
+        with self.assertRaises(Fault) as caught:
+            Table.load(self.folder)
+        place = str(self.folder / "LineBreak.txt")
+        self.assertEqual((caught.exception.place, str(caught.exception)), (place, f"{place}: {claims[0][2]}; {_claims.WHERE}"))
+        self.assertEqual(str(pickle.loads(pickle.dumps(caught.exception))), str(caught.exception))
+
+    def test_a_fault_of_files_by_name_has_the_name(self):
+        names = [self.folder / str(number) for number in range(4)]
+        for name in names:
+            name.write_bytes(b"# LineBreak-14.0.0.txt\n" if name == names[0] else b"")
+        with self.assertRaisesRegex(Fault, f"^{names[0]}: the file was cut: "):
+            Table.from_files(*names)
+        names[0].write_bytes(b"0061;AL\nno row\n")
+        with self.assertRaisesRegex(Fault, f"^{names[0]}:2: the line "):
+            Table.from_files(*names)
 
     def test_a_missing_file_is_named(self):
         self.put(samples.PLACES, samples.FILES)

@@ -52,11 +52,15 @@ class Types(unittest.TestCase):
             assert_type(lbk.segments(bytearray(b"a b")), Iterator[bytes])
             assert_type(lbk.words("a b"), Iterator[str])
             assert_type(list(table.passages(b"a b"))[0].words, list[bytes])
+            assert_type(lbk.chunks("a b", most=9, words=None, unit="bytes"), Iterator[lbk.Chunk[str]])
+            for chunk in table.chunks(b"a b", 9, overlap=2):
+                assert_type(chunk.text, bytes)
+                assert_type(chunk.rule, lbk.Rule)
         """
         self.assertEqual(self.said_of(program), "")
 
     def test_what_is_no_text_is_refused(self):
-        calls = ("table.breaks", "lbk.segments", "table.break_columns", "lbk.Stream(table).feed")
+        calls = ("table.breaks", "lbk.segments", "lbk.chunks", "table.break_columns", "lbk.Stream(table).feed")
         lines = ["import lbk", "table = lbk.Table.load()", *(f"{call}({text})" for call in calls for text in ("3", "['a']", "None"))]
         said = self.said_of("\n".join(lines))
         for number in range(3, len(lines) + 1):

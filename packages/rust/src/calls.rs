@@ -97,6 +97,51 @@ pub struct Word {
 }
 
 #[repr(C)]
+#[derive(Clone, Copy, PartialEq, Eq, Debug)]
+pub struct Limits {
+    pub most: usize,
+    pub words: usize,
+    pub least: usize,
+    pub overlap: usize,
+}
+
+#[repr(C)]
+#[derive(Clone, Copy)]
+pub struct ChunkState {
+    breaks: State,
+    from: usize,
+    word: Word,
+    words: usize,
+    start: usize,
+    told: usize,
+}
+
+impl ChunkState {
+    /// The start of a text.
+    pub fn new(profile: u8) -> ChunkState {
+        ChunkState {
+            breaks: State::new(profile, 0),
+            from: 0,
+            word: Word { start: 0, end: 0 },
+            words: 0,
+            start: 0,
+            told: 0,
+        }
+    }
+}
+
+#[repr(C)]
+#[derive(Clone, Copy)]
+pub struct Chunk {
+    pub start: usize,
+    pub end: usize,
+    pub words: usize,
+    pub kind: u8,
+    pub rule: u8,
+    pub alone: bool,
+}
+
+#[repr(C)]
 pub struct Fault {
     pub file: u32,
     pub line: u32,
@@ -132,6 +177,9 @@ const _: () = assert!(size_of::<Stream>() == 32);
 const _: () = assert!(size_of::<Fed>() == 16);
 const _: () = assert!(size_of::<WordState>() == 8);
 const _: () = assert!(size_of::<Word>() == 16);
+const _: () = assert!(size_of::<Limits>() == 32);
+const _: () = assert!(size_of::<ChunkState>() == 64);
+const _: () = assert!(size_of::<Chunk>() == 32);
 const _: () = assert!(size_of::<Fault>() == 12);
 const _: () = assert!(size_of::<RuleLabel>() == 4);
 const _: () = assert!(size_of::<ClassLabel>() == 4);
@@ -216,6 +264,15 @@ extern "C" {
         text: *const u8,
         size: usize,
         block: *mut Word,
+        room: usize,
+    ) -> usize;
+    pub fn lbk_chunks(
+        table: *const Table,
+        limits: *const Limits,
+        state: *mut ChunkState,
+        text: *const u8,
+        size: usize,
+        block: *mut Chunk,
         room: usize,
     ) -> usize;
     pub fn lbk_label(rule: u8) -> RuleLabel;

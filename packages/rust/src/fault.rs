@@ -43,7 +43,7 @@ impl Fault {
 }
 
 /// What the first lines of published files begin with.
-const CLAIMS: [&[u8]; 4] = [
+pub(crate) const PUBLISHED: [&[u8]; 4] = [
     b"# LineBreak-",
     b"# EastAsianWidth-",
     b"# DerivedGeneralCategory-",
@@ -51,15 +51,15 @@ const CLAIMS: [&[u8]; 4] = [
 ];
 
 /// Whether the first line claims a name that Unicode published, and the last is not its end.
-fn is_cut(file: &[u8]) -> bool {
+fn is_cut(bytes: &[u8]) -> bool {
     let blank = |byte: &u8| byte.is_ascii_whitespace();
-    let size = file
+    let size = bytes
         .iter()
         .rposition(|byte| !blank(byte))
         .map_or(0, |at| at + 1);
-    let last = file[..size].rsplit(|&byte| byte == b'\n').next();
+    let last = bytes[..size].rsplit(|&byte| byte == b'\n').next();
     let is_end = last == Some(b"# EOF") || last == Some(b"#EOF");
-    CLAIMS.iter().any(|claim| file.starts_with(claim)) && !is_end
+    PUBLISHED.iter().any(|name| bytes.starts_with(name)) && !is_end
 }
 
 /// One of the four files.
@@ -133,13 +133,11 @@ impl fmt::Display for Fault {
                 calls::lbk_cause_text(1 + self.cause as u32),
             )
         };
-        write!(
-            f,
-            "{}:{}: {}",
-            shown(&file.text),
-            self.line,
-            shown(&cause.text)
-        )
+        f.write_str(shown(&file.text))?;
+        if self.line != 0 {
+            write!(f, ":{}", self.line)?;
+        }
+        write!(f, ": {}", shown(&cause.text))
     }
 }
 

@@ -85,7 +85,7 @@ impl fmt::Display for NotFound {
         )?;
         self.refusals
             .iter()
-            .try_for_each(|one| write!(f, "\n  {one}"))
+            .try_for_each(|one| write!(f, "\n  {one:#}"))
     }
 }
 

@@ -25,6 +25,9 @@ extern crate std;
 
 mod breaks;
 mod calls;
+mod chunks;
+#[cfg(feature = "std")]
+mod claim;
 mod cuts;
 mod fault;
 #[cfg(feature = "std")]
@@ -44,6 +47,9 @@ mod words;
 pub use breaks::{
     Break, Breaks, Class, Kind, Position, Positions, Profile, Rule, Segment, Segments,
 };
+pub use chunks::{Chunk, ChunkText, Chunks, LimitError, Limits};
+#[cfg(feature = "std")]
+pub use claim::Claim;
 pub use fault::{Cause, Fault, File};
 #[cfg(feature = "std")]
 pub use find::NotFound;

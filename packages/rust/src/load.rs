@@ -6,8 +6,12 @@ use std::path::{Path, PathBuf};
 use std::vec::Vec;
 use std::{fmt, fs, io};
 
-use crate::fault::Fault;
+use crate::claim::Claim;
+use crate::fault::{Cause, Fault};
 use crate::table::{Files, Table};
+
+const REMEDY: &str = "; Debian 12's package unicode-data has the files, \
+    and so has https://www.unicode.org/Public/15.0.0/ucd/UCD.zip";
 
 impl Table {
     /// The table of a folder of the Unicode Character Database, such as `/usr/share/unicode`: of its `LineBreak.txt`,
@@ -16,13 +20,26 @@ impl Table {
     /// that Unicode published for version 15.0.
     pub fn load(folder: impl AsRef<Path>) -> Result<Box<Table>, LoadError> {
         let folder = &root(folder.as_ref());
+        let read = [
+            read(folder, "", "LineBreak.txt")?,
+            read(folder, "", "EastAsianWidth.txt")?,
+            read(folder, "extracted", "DerivedGeneralCategory.txt")?,
+            read(folder, "emoji", "emoji-data.txt")?,
+        ];
+        let [line_break, east_asian, category, emoji] = [0, 1, 2, 3].map(|k| &read[k].1[..]);
         let files = Files {
-            line_break: &read(folder, "", "LineBreak.txt")?,
-            east_asian: &read(folder, "", "EastAsianWidth.txt")?,
-            category: &read(folder, "extracted", "DerivedGeneralCategory.txt")?,
-            emoji: &read(folder, "emoji", "emoji-data.txt")?,
+            line_break,
+            east_asian,
+            category,
+            emoji,
         };
-        Table::read_published(files).map_err(|fault| LoadError::Refused(folder.into(), fault))
+        Table::read_published(files).map_err(|fault| match fault.file {
+            Some(file) if fault.cause == Cause::NotPublished => {
+                let (path, bytes) = &read[file as usize];
+                LoadError::NotPublished(path.clone(), Claim::of(file, bytes))
+            }
+            _ => LoadError::Refused(folder.into(), fault),
+        })
     }
 }
 
@@ -35,15 +52,20 @@ fn root(folder: &Path) -> PathBuf {
     folder.into()
 }
 
-/// The bytes of a file of the database, which lies below a subfolder or else in the folder itself.
-fn read(folder: &Path, below: &str, name: &str) -> Result<Vec<u8>, LoadError> {
+/// A file of the database, which lies below a subfolder or else in the folder itself, and its bytes.
+fn read(folder: &Path, below: &str, name: &str) -> Result<(PathBuf, Vec<u8>), LoadError> {
     let path = folder.join(below).join(name);
-    match fs::read(&path) {
-        Err(error) if error.kind() == io::ErrorKind::NotFound && !below.is_empty() => {
-            fs::read(folder.join(name)).map_err(|_| LoadError::Unreadable(path, error))
+    let error = match fs::read(&path) {
+        Ok(bytes) => return Ok((path, bytes)),
+        Err(error) => error,
+    };
+    if error.kind() == io::ErrorKind::NotFound && !below.is_empty() {
+        let beside = folder.join(name);
+        if let Ok(bytes) = fs::read(&beside) {
+            return Ok((beside, bytes));
         }
-        read => read.map_err(|error| LoadError::Unreadable(path, error)),
     }
+    Err(LoadError::Unreadable(path, error))
 }
 
 /// Why there is no table of a folder.
@@ -51,14 +73,21 @@ fn read(folder: &Path, below: &str, name: &str) -> Result<Vec<u8>, LoadError> {
 pub enum LoadError {
     /// This file cannot be read.
     Unreadable(PathBuf, io::Error),
+    /// This file is not the one that Unicode 15.0.0 published.
+    NotPublished(PathBuf, Claim),
     /// The files of this folder have a fault.
     Refused(PathBuf, Fault),
 }
 
+/// The alternate form, `{:#}`, does not say where the files are published.
 impl fmt::Display for LoadError {
     fn fmt(&self, f: &mut fmt::Formatter<'_>) -> fmt::Result {
         match self {
             LoadError::Unreadable(path, error) => write!(f, "{}: {}", path.display(), error),
+            LoadError::NotPublished(path, claim) => {
+                write!(f, "{}: {}", path.display(), claim)?;
+                f.write_str(if f.alternate() { "" } else { REMEDY })
+            }
             LoadError::Refused(folder, fault) if fault.file.is_some() => {
                 write!(f, "{}/{}", folder.display(), fault)
             }
@@ -71,6 +100,7 @@ impl Error for LoadError {
     fn source(&self) -> Option<&(dyn Error + 'static)> {
         match self {
             LoadError::Unreadable(_, error) => Some(error),
+            LoadError::NotPublished(..) => None,
             LoadError::Refused(_, fault) => Some(fault),
         }
     }

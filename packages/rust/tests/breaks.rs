@@ -191,7 +191,39 @@ fn a_folder_has_the_published_files() {
     assert!(missing.to_string().contains("emoji-data.txt: "));
     put("emoji-data.txt", FILES.emoji);
     let refused = Table::load(&folder).map(|_| ()).unwrap_err();
-    assert!(matches!(&refused, LoadError::Refused(_, fault) if fault.cause == Cause::NotPublished));
+    let path = folder.join("LineBreak.txt");
+    assert!(
+        matches!(&refused, LoadError::NotPublished(at, claim) if *at == path && claim.version.is_none())
+    );
+    for (first, said) in [
+        (
+            "# LineBreak-14.0.0.txt\n",
+            "this is of Unicode 14.0.0, and lbk goes by 15.0.0",
+        ),
+        (
+            "# LineBreak-15.1.txt\n",
+            "this is of Unicode 15.1.0, and lbk goes by 15.0.0",
+        ),
+        (
+            "# LineBreak-15.0.0.txt\n",
+            "the file was changed or cut: it is not LineBreak.txt as Unicode 15.0.0 published it",
+        ),
+        (
+            "0061;AL\n# LineBreak-14.0.0",
+            "this is not LineBreak.txt as Unicode 15.0 published it",
+        ),
+    ] {
+        put("LineBreak.txt", first.as_bytes());
+        let refused = Table::load(&folder).map(|_| ()).unwrap_err();
+        assert_eq!(
+            format!("{refused:#}"),
+            format!("{}: {said}", path.display())
+        );
+        assert!(refused
+            .to_string()
+            .ends_with("https://www.unicode.org/Public/15.0.0/ucd/UCD.zip"));
+    }
+    put("LineBreak.txt", FILES.line_break);
     fs::remove_dir_all(&folder).expect("the folder is removed");
 }
 

@@ -38,9 +38,67 @@ pub unsafe extern "C" fn linebreak_texts(
     for piece in slice::from_raw_parts(text, size).chunks(piece) {
         for (at, kind) in linebreaks(str::from_utf8_unchecked(piece)) {
             count += 1;
-            *total =
-                total.wrapping_add(at + 1 + (kind == BreakOpportunity::Mandatory) as usize);
+            *total = total.wrapping_add(at + 1 + (kind == BreakOpportunity::Mandatory) as usize);
         }
+    }
+    count
+}
+
+/// # Safety
+/// The text is as long as is said.
+#[no_mangle]
+pub unsafe extern "C" fn rust_words(
+    _table: &Table,
+    text: *const u8,
+    size: usize,
+    _none: usize,
+    total: &mut usize,
+) -> usize {
+    let mut count = 0;
+    for found in lbk::word_ranges(slice::from_raw_parts(text, size)) {
+        count += 1;
+        *total = total.wrapping_add(found.end);
+    }
+    count
+}
+
+/// # Safety
+/// The table is whole, and the text as long as is said, and UTF-8.
+#[no_mangle]
+pub unsafe extern "C" fn rust_passages(
+    table: &Table,
+    text: *const u8,
+    size: usize,
+    _none: usize,
+    total: &mut usize,
+) -> usize {
+    let mut count = 0;
+    for found in table.passages(str::from_utf8_unchecked(slice::from_raw_parts(text, size))) {
+        count += found.segments.len();
+        *total = total.wrapping_add(found.start);
+    }
+    count
+}
+
+/// # Safety
+/// The table is whole, and the text as long as is said.
+#[no_mangle]
+pub unsafe extern "C" fn rust_chunks(
+    table: &Table,
+    text: *const u8,
+    size: usize,
+    overlap: usize,
+    total: &mut usize,
+) -> usize {
+    let text = slice::from_raw_parts(text, size);
+    let mut count = 0;
+    for found in table
+        .chunks(text, lbk::Limits::new(500).overlap(overlap))
+        .into_iter()
+        .flatten()
+    {
+        count += 1;
+        *total = total.wrapping_add(found.start);
     }
     count
 }

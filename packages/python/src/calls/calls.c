@@ -1,6 +1,7 @@
 /* The calls of lbk.h for the Python modules beside it, which check what they pass on. */
 #include "arguments.h"
 #include "break.h"
+#include "chunks.h"
 #include "columns.h"
 #include "found.h"
 #include "passages.h"
@@ -186,6 +187,7 @@ static PyMethodDef methods[] = {
     {"cut_before", (PyCFunction)(void (*)(void))cut_before, METH_FASTCALL, NULL},
     {"safe_break", (PyCFunction)(void (*)(void))safe_break, METH_FASTCALL, NULL},
     {"class_of", (PyCFunction)(void (*)(void))class_of, METH_FASTCALL, NULL},
+    {"chunk_columns", (PyCFunction)(void (*)(void))chunk_columns, METH_FASTCALL, NULL},
     {"columns", (PyCFunction)(void (*)(void))text_columns, METH_FASTCALL, NULL},
     {"list_columns", (PyCFunction)(void (*)(void))list_columns, METH_FASTCALL, NULL},
     {"passage_columns", (PyCFunction)(void (*)(void))passage_columns, METH_FASTCALL, NULL},

@@ -34,8 +34,7 @@ size_t code_points(const char *bytes, size_t size, size_t readable)
     return count;
 }
 
-/* A place in bytes, not before the last, in the unit of the text. */
-static size_t to_unit(cursor *from, const utf8_text *text, size_t at)
+size_t to_unit(cursor *from, const utf8_text *text, size_t at)
 {
     if (!text->in_code_points)
         return at;

@@ -21,6 +21,9 @@ bool start_of_text(PyObject *profile, cursor *start);
  * 10xxxxxx in binary. So many bytes may be read as are `readable`, of which `size` are counted. */
 size_t code_points(const char *bytes, size_t size, size_t readable);
 
+/* A place in bytes, not before the last one, in the unit of the text. */
+size_t to_unit(cursor *from, const utf8_text *text, size_t at);
+
 /* lbk_breaks or lbk_positions */
 typedef size_t break_call(const lbk_table *table, lbk_state *state, const char *text, size_t size, lbk_break *block, size_t room);
 

@@ -13,16 +13,21 @@ number of threads may use it at the same time.
 from ._calls import UNICODE_VERSION, WORDS_UNICODE_VERSION, Break
 from ._calls import VERSION as __version__
 from ._fault import Fault
+from ._functions import breaks, chunks, segments, words
 from ._numbers import Cause, File, Rule
-from ._results import Columns, Kind, ListColumns, Passage, PassageColumns, WordColumns
+from ._results import Chunk, ChunkColumns, Columns, Kind, ListColumns, Passage, PassageColumns, WordColumns
 from ._stream import Stream
-from ._table import Table, breaks, segments, words
+from ._table import Table
 
 __all__ = [
-    "UNICODE_VERSION", "WORDS_UNICODE_VERSION", "Break", "Cause", "Columns", "Fault", "File", "Kind", "ListColumns", "Passage",
-    "PassageColumns", "Rule", "Stream", "Table", "WordColumns", "__version__", "breaks", "segments", "words",
+    "UNICODE_VERSION", "WORDS_UNICODE_VERSION", "Break", "Cause", "Chunk", "ChunkColumns", "Columns", "Fault", "File",
+    "Kind", "ListColumns", "Passage", "PassageColumns", "Rule", "Stream", "Table", "WordColumns", "__version__", "breaks",
+    "chunks", "segments", "words",
 ]
 
 # These are known by the names that their users know, also in what was pickled.
-for _public in (Cause, Columns, Fault, File, Kind, ListColumns, Passage, PassageColumns, Rule, Stream, Table, WordColumns, breaks, segments):
+for _public in (
+    Cause, Chunk, ChunkColumns, Columns, Fault, File, Kind, ListColumns, Passage, PassageColumns, Rule, Stream, Table,
+    WordColumns, breaks, chunks, segments,
+):
     _public.__module__ = __name__

@@ -2,13 +2,12 @@
 
 import errno
 import os
-import re
 import zipfile
 import zlib
 from pathlib import Path
 from typing import TypeAlias
 
-from ._calls import UNICODE_VERSION
+from ._claims import VERSION
 
 Folder: TypeAlias = "str | os.PathLike[str]"
 
@@ -23,14 +22,6 @@ _PLACES = (
 # Debian's folder and Fedora's.
 _SYSTEM = ("/usr/share/unicode", "/usr/share/unicode/ucd")
 
-_CLAIM = re.compile(rb"# (?:LineBreak-|EastAsianWidth-|DerivedGeneralCategory-|emoji-data\.)")
-
-
-def is_cut(file: bytes) -> bool:
-    """Whether the first line claims a name that Unicode published, and the last is not its end."""
-    last = file.rstrip().rpartition(b"\n")[2]
-    return _CLAIM.match(file) is not None and last not in (b"# EOF", b"#EOF")
-
 
 def contents(folder: Folder) -> list[bytes]:
     """The contents of the four files in a folder, in its folder `ucd` or its archive UCD.zip, or in
@@ -40,6 +31,11 @@ def contents(folder: Folder) -> list[bytes]:
         return [_first_of(root, places).read_bytes() for places in _PLACES]
     except (zipfile.BadZipFile, zlib.error) as error:
         raise OSError(errno.EIO, f"the archive is damaged: {error}", str(root)) from error
+
+
+def place_of(folder: Folder, file: int) -> str:
+    """Where one of them stands, by its number in a `Fault`."""
+    return str(_first_of(_root(Path(folder)), _PLACES[file - 1]))
 
 
 def _root(top: Path) -> Path | zipfile.Path:
@@ -76,10 +72,9 @@ def folders() -> list[str]:
 
 def not_found(refusals: list[str]) -> FileNotFoundError:
     """Says what to do, and why each folder was refused."""
-    version = f"{UNICODE_VERSION}.0"
     advice = (
-        f"found no files of Unicode {version}; install the package unicode-data (Debian 12), unpack UCD.zip of "
-        f"https://www.unicode.org/Public/{version}/ucd/ into ~/.local/share/unicode, or set UNICODE_DATA to a folder "
+        f"found no files of Unicode {VERSION}; install the package unicode-data (Debian 12), unpack UCD.zip of "
+        f"https://www.unicode.org/Public/{VERSION}/ucd/ into ~/.local/share/unicode, or set UNICODE_DATA to a folder "
         "that has them. Looked for:"
     )
     return FileNotFoundError("\n  ".join([advice, *refusals]))

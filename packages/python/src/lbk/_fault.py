@@ -12,11 +12,17 @@ class Fault(ValueError):
     line: int
     """The number of its line, from 1; 0 where the fault is in no line."""
     cause: Cause
+    place: str
+    """Where the file is, where it was read by its name or from a folder, else ""."""
+    claim: str
+    """Of NOT_PUBLISHED what the file is, as "this is of Unicode 14.0.0, and lbk goes by 15.0.0"."""
 
-    def __init__(self, file: int, line: int, cause: int) -> None:
-        super().__init__(file, line, cause)
+    def __init__(self, file: int, line: int, cause: int, place: str = "", claim: str = "") -> None:
+        super().__init__(file, line, cause, place, claim)
         self.file, self.line, self.cause = File(file), line, Cause(cause)
+        self.place, self.claim = place, claim
 
     def __str__(self) -> str:
-        place = f"{_calls.file_name(self.file)}:{self.line}" if self.line else _calls.file_name(self.file)
-        return f"{place}: {_calls.cause_text(self.cause)}"
+        place = self.place or _calls.file_name(self.file)
+        line = f":{self.line}" if self.line else ""
+        return f"{place}{line}: {self.claim or _calls.cause_text(self.cause)}"

@@ -3,6 +3,7 @@
 # What these need has types in some of its versions.
 # mypy: disable-error-code="import"
 
+import copy
 import mmap
 import threading
 from dataclasses import dataclass
@@ -149,7 +150,8 @@ def read_part(part: Part, errors: Errors = "replace") -> memoryview:
     """A part's bytes, up to the next call in this thread. One more is read, to see whether the file
     goes on as it did."""
     try:
-        with part.file as file:
+        # (a copy, since an OpenFile closes what other threads opened by it, too)
+        with copy.copy(part.file) as file:
             if part.end is None:
                 data = memoryview(file.read())
                 size = len(data)

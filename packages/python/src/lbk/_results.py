@@ -84,6 +84,43 @@ class PassageColumns(NamedTuple):
         return _pickled(self)
 
 
+class ChunkColumns(NamedTuple):
+    """The chunks of a text, in their order: numbers of the same place in each column belong
+    together."""
+
+    starts: memoryview
+    """Numbers of the format "q": those of `Chunk.start`."""
+    ends: memoryview
+    words: memoryview
+    kinds: bytearray
+    """The numbers of `Kind`."""
+    rules: bytearray
+    """The numbers of `Rule`."""
+    alone: bytearray
+    """1 for each chunk that is larger than the limits, else 0."""
+
+    def __reduce__(self) -> tuple[Any, ...]:
+        return _pickled(self)
+
+
+class Chunk(NamedTuple, Generic[AnyStr]):
+    """A part of a text that ends neither within a word nor where a line may not break."""
+
+    start: int
+    """How many code points of a `str` stand before it; of an object of bytes, how many bytes."""
+    end: int
+    """The place after its last one."""
+    text: AnyStr
+    words: int
+    """How many words (UAX #29) it has."""
+    kind: Kind
+    """Whether the line may or must end at its end."""
+    rule: Rule
+    """The rule of UAX #14 that decided there."""
+    alone: bool
+    """It is larger than the limits: it has no place where it could have ended."""
+
+
 class Passage(NamedTuple, Generic[AnyStr]):
     """A part of a text up to a place where a line must end: a paragraph with its line end."""
 

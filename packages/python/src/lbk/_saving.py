@@ -112,6 +112,9 @@ def _parquet(items: list[Any], are_columns: bool) -> bytes:
         offsets = many.pop("offsets")
         columns = {field: pyarrow.array(values) for field, values in one.items()}
         columns |= {field: pyarrow.LargeListArray.from_arrays(offsets, values) for field, values in many.items()}
+    elif items and all(isinstance(item, dict) for item in items):
+        fields = {field: None for item in items for field in item}
+        columns = {field: pyarrow.array([item.get(field) for item in items]) for field in fields}
     else:
         columns = {"values": pyarrow.array(items)}
     sink = io.BytesIO()

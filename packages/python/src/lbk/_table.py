@@ -1,7 +1,5 @@
 """The table of the rules, and what it finds."""
 
-import contextlib
-import copy
 import functools
 import mmap
 import os
@@ -14,9 +12,12 @@ from typing import Any, Protocol, Self, TypeAlias, overload
 
 from . import _calls, _database
 from ._calls import Break
+from ._chunks import Chunks, Unit, is_in_bytes, limits_of
+from ._claims import CUT, WHERE, claim_text, is_cut
 from ._fault import Fault
 from ._numbers import Cause
-from ._results import Columns, Kind, ListColumns, Passage, PassageColumns, WordColumns
+from ._passages import Passages
+from ._results import Chunk, ChunkColumns, Columns, ListColumns, Passage, PassageColumns, WordColumns
 
 
 class _Buffer(Protocol):
@@ -87,15 +88,19 @@ class Table:
         found, and Fault where a file is not that which Unicode published for the version
         UNICODE_VERSION.
         """
-        memory, place = _find() if folder is None else (_read(_database.contents(folder), True), os.path.abspath(folder))
+        memory, place = _find() if folder is None else (_read_folder(folder, f"; {WHERE}"), os.path.abspath(folder))
         return cls._of(memory, _load_again, place, _digest_of(memory))
 
     @classmethod
     def from_files(cls, line_break: Name, east_asian: Name, category: Name, emoji: Name, *, strict: bool = True) -> Self:
         """The table of four files of any origin, given by their names. Raises OSError where one
         cannot be read, and Fault as `read` does."""
-        files = [Path(os.fsdecode(name)).read_bytes() for name in (line_break, east_asian, category, emoji)]
-        return cls.read(*files, strict=strict)
+        names = [os.fsdecode(name) for name in (line_break, east_asian, category, emoji)]
+        try:
+            return cls.read(*(Path(name).read_bytes() for name in names), strict=strict)
+        except Fault as fault:
+            place = names[fault.file - 1] if fault.file else ""
+            raise Fault(fault.file, fault.line, fault.cause, place, fault.claim) from None
 
     @classmethod
     def read(cls, line_break: Bytes, east_asian: Bytes, category: Bytes, emoji: Bytes, *, strict: bool = True) -> Self:
@@ -104,9 +109,9 @@ class Table:
         (NOT_PUBLISHED), too: its first line claims a name that Unicode published, as
         `# LineBreak-15.0.0.txt`, and its last is not `# EOF`."""
         files = [_unchanging(one) for one in (line_break, east_asian, category, emoji)]
-        cut = next((number for number, one in enumerate(files, 1) if _database.is_cut(one)), None) if strict else None
+        cut = next((number for number, one in enumerate(files, 1) if is_cut(one)), None) if strict else None
         if cut is not None:
-            raise Fault(cut, 0, Cause.NOT_PUBLISHED)
+            raise Fault(cut, 0, Cause.NOT_PUBLISHED, "", CUT)
         return cls._of(_read(files, False))
 
     @classmethod
@@ -231,7 +236,7 @@ class Table:
         words."""
         breaks = self.breaks(text, profile)
         # These give a str or bytes as their slices.
-        return _Passages(breaks, text if isinstance(text, (str, bytes, mmap.mmap)) else bytes(text))
+        return Passages(breaks, text if isinstance(text, (str, bytes, mmap.mmap)) else bytes(text))
 
     @staticmethod
     def word_columns(text: Text) -> WordColumns:
@@ -243,6 +248,44 @@ class Table:
         """The passages, their segments and their words, as `passages` has them, in columns."""
         columns = _calls.passage_columns(self._memory, text, profile)
         return PassageColumns(*(memoryview(one).cast("q") for one in columns))
+
+    @overload
+    def chunks(
+        self, text: str, most: int = 500, words: "int | None" = None, least: "int | None" = None, overlap: int = 0, *,
+        unit: Unit = None, profile: int = 1,
+    ) -> Iterator[Chunk[str]]: ...
+    @overload
+    def chunks(
+        self, text: Bytes, most: int = 500, words: "int | None" = None, least: "int | None" = None, overlap: int = 0, *,
+        unit: Unit = None, profile: int = 1,
+    ) -> Iterator[Chunk[bytes]]: ...
+    def chunks(
+        self, text: Any, most: int = 500, words: "int | None" = None, least: "int | None" = None, overlap: int = 0, *,
+        unit: Unit = None, profile: int = 1,
+    ) -> Iterator[Any]:
+        """The text cut for search and retrieval, never within a word (UAX #29) or where a line may
+        not break. Without overlap the chunks joined are the text.
+
+        A chunk has at most `most` code points of a `str` or bytes of bytes, and `words` words. It
+        ends early at the last place where a line must end, if it has `least` (half of `most` unless
+        given) up to there that no chunk before it has. The next one begins with at most `overlap`
+        of it, and at most half of it. What can be cut nowhere within the limits is a chunk of its
+        own, `alone`. With `unit="bytes"` the limits count bytes of UTF-8 of a `str`, too; places do
+        not. Raises ValueError for limits that are out of range: `most` is 1 or more, `words`, too,
+        `least` at most `most`, and `overlap` at most half of it.
+        """
+        columns = self.chunk_columns(text, most, words, least, overlap, unit=unit, profile=profile)
+        return Chunks(columns, text)
+
+    def chunk_columns(
+        self, text: Text, most: int = 500, words: "int | None" = None, least: "int | None" = None, overlap: int = 0, *,
+        unit: Unit = None, profile: int = 1,
+    ) -> ChunkColumns:
+        """The chunks, as `chunks` has them, in columns."""
+        limits = limits_of(most, words, least, overlap)
+        starts, ends, counts, *others = _calls.chunk_columns(self._memory, text, profile, *limits, is_in_bytes(unit))
+        places = memoryview(starts).cast("q"), memoryview(ends).cast("q")
+        return ChunkColumns(*places, memoryview(counts).cast("q"), *others)
 
     @property
     def _digest(self) -> str:
@@ -269,23 +312,6 @@ class Table:
         return self._origin or (Table.from_bytes, (self.to_bytes(),))
 
 
-def breaks(text: Text, profile: int = 1) -> Iterator[Break]:
-    """As `Table.breaks`, by the table that `Table.load()` finds."""
-    return Table.load().breaks(text, profile)
-
-
-@overload
-def segments(text: str, profile: int = 1) -> Iterator[str]: ...
-@overload
-def segments(text: Bytes, profile: int = 1) -> Iterator[bytes]: ...
-def segments(text: Any, profile: int = 1) -> Iterator[Any]:
-    """As `Table.segments`, by the table that `Table.load()` finds."""
-    return Table.load().segments(text, profile)
-
-
-words = Table.words
-
-
 def _read(files: Iterable[Bytes], are_published: bool) -> bytearray:
     line_break, east_asian, category, emoji = map(_unchanging, files)
     memory = bytearray(_calls.TABLE_SIZE)
@@ -295,6 +321,16 @@ def _read(files: Iterable[Bytes], are_published: bool) -> bytearray:
     if cause != Cause.NONE:
         raise Fault(file, line, cause)
     return memory
+
+
+def _read_folder(folder: "_database.Folder", remedy: str = "") -> bytearray:
+    files = _database.contents(folder)
+    try:
+        return _read(files, True)
+    except Fault as fault:
+        claim = claim_text(fault.file, files[fault.file - 1]) + remedy if fault.cause == Cause.NOT_PUBLISHED else ""
+        place = _database.place_of(folder, fault.file) if fault.file else os.fspath(folder)
+        raise Fault(fault.file, fault.line, fault.cause, place, claim) from None
 
 
 def _digest_of(memory: bytearray | mmap.mmap) -> str:
@@ -313,11 +349,11 @@ def _first_found() -> tuple[bytearray, str]:
     refusals = []
     for folder in _database.folders():
         try:
-            return _read(_database.contents(folder), True), folder
+            return _read_folder(folder), folder
         except OSError as error:
             refusals.append(f"{error.filename}: {error.strerror}")
         except Fault as fault:
-            refusals.append(f"{folder}/{fault}")
+            refusals.append(str(fault))
     raise _database.not_found(refusals)
 
 
@@ -344,46 +380,6 @@ def _unchanging(data: Bytes) -> bytes:
 
 def _view(data: Any) -> memoryview:
     return memoryview(data)
-
-
-class _Passages(Iterator[Passage[Any]]):
-    """The passages of a text, of its breaks."""
-
-    def __init__(self, breaks: Iterator[Break], text: Any) -> None:
-        self._breaks, self._text = breaks, text
-        self._start = self._last = 0
-        self._segments: list[Any] = []
-        self._turn = threading.Lock()
-
-    @contextlib.contextmanager
-    def _alone(self) -> Iterator[None]:
-        if not self._turn.acquire(blocking=False):
-            raise ValueError(_calls.SHARED)
-        try:
-            yield
-        finally:
-            self._turn.release()
-
-    def __next__(self) -> Passage[Any]:
-        with self._alone():
-            for found in self._breaks:
-                self._segments.append(self._text[self._last : found.at])
-                self._last = found.at
-                if found.kind is Kind.MUST:
-                    passage = self._text[self._start : self._last]
-                    made = Passage(self._start, passage, self._segments, list(Table.words(passage)))
-                    self._start, self._segments = self._last, []
-                    return made
-        raise StopIteration
-
-    def __copy__(self) -> "_Passages":
-        with self._alone():
-            same = _Passages(copy.copy(self._breaks), self._text)
-            same._start, same._last, same._segments = self._start, self._last, [*self._segments]
-        return same
-
-    def __reduce__(self) -> tuple[Any, ...]:
-        return iter, (list(copy.copy(self)),)
 
 
 def _check(memory: bytearray | mmap.mmap, what: str) -> None:

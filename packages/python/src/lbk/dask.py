@@ -28,14 +28,15 @@ from dask.base import tokenize
 from dask.highlevelgraph import HighLevelGraph
 from dask.utils import parse_bytes
 
+from ._chunks import Limits, Unit, is_in_bytes, limits_of
 from ._parts import Errors, Part, PartColumns, TextFault, part_columns, part_paragraphs, plan
 from ._results import Columns
 from ._saving import Format, Saved, save_items
 from ._table import Name, Table
 
 __all__ = [
-    "PartColumns", "Saved", "TextFault", "breaks", "broadcast", "faults", "read_columns", "read_text", "save", "segments", "share",
-    "words",
+    "PartColumns", "Saved", "TextFault", "breaks", "broadcast", "chunks", "faults", "read_columns", "read_text", "save",
+    "segments", "share", "words",
 ]
 
 Faults = Literal["raise", "keep"]
@@ -162,6 +163,26 @@ def words(texts: Any) -> Any:
     return _lists(texts, _all_words, None, 1)
 
 
+def chunks(
+    texts: Any, table: Name, most: int = 500, words: "int | None" = None, least: "int | None" = None, overlap: int = 0, *,
+    unit: Unit = None, profile: int = 1,
+) -> Any:
+    """The chunks of each text, by limits as `Table.chunks` has them.
+
+    Of a bag a bag with a dict for each chunk: `start`, `end`, `words` and `text`. Where an item of
+    the bag is a dict that has its text at "text", what else it has is in each of its chunks, too.
+    Of a dataframe's column a dataframe with a row for each chunk, whose index is that of its text.
+    None has no chunk.
+    """
+    _check_profile(profile)
+    asked = (limits_of(most, words, least, overlap), unit, profile)
+    is_in_bytes(unit)
+    name = _name_of(table)
+    if isinstance(texts, Bag):
+        return texts.map_partitions(_chunk_dicts, name, asked)
+    return _series(texts).map_partitions(_chunk_frame, name, asked, meta=_CHUNK_TYPES)
+
+
 def faults(bag: Bag) -> Bag:
     """The faults in a bag that was read with `on_fault="keep"`."""
     found: Bag = bag.filter(_is_fault)
@@ -282,3 +303,37 @@ def _breaks_frame(texts: Any, table: str, profile: int) -> Any:
     found = _map_texts(texts.tolist(), _all_breaks, table, profile)
     none = Columns(None, None, None)  # type: ignore[arg-type]
     return pd.DataFrame([one or none for one in found], index=texts.index, columns=Columns._fields, dtype=object)
+
+
+# The limits, in what they count, and the profile.
+_Asked = tuple[Limits, Unit, int]
+
+_CHUNK_TYPES = {"start": "int64", "end": "int64", "words": "int64", "text": object}
+
+
+def _chunks_of(text: Any, table: str, asked: _Asked) -> Iterable[dict[str, Any]]:
+    if not _is_text(text):
+        return
+    (most, words, least, overlap), unit, profile = asked
+    for one in _open(table).chunks(text, most, words or None, least, overlap, unit=unit, profile=profile):
+        yield {"start": one.start, "end": one.end, "words": one.words, "text": one.text}
+
+
+def _chunk_dicts(items: Iterable[Any], table: str, asked: _Asked) -> list[Any]:
+    found: list[Any] = []
+    for item in items:
+        if _is_fault(item):
+            found.append(item)
+            continue
+        others = item if isinstance(item, dict) else {"text": item}
+        found += ({**others, **one} for one in _chunks_of(others["text"], table, asked))
+    return found
+
+
+def _chunk_frame(texts: Any, table: str, asked: _Asked) -> Any:
+    import pandas as pd
+
+    found = [list(_chunks_of(text, table, asked)) for text in texts.tolist()]
+    rows = [one for chunks in found for one in chunks]
+    index = texts.index.repeat([len(chunks) for chunks in found])
+    return pd.DataFrame(rows, index=index, columns=list(_CHUNK_TYPES)).astype(_CHUNK_TYPES)

@@ -4,6 +4,7 @@ use Rattle.lbk_calls.specs.Coming.{onward_in}
 use Rattle.lbk_bytes.specs.Reached.{onward, onward_all}
 use Rattle.lbk_units.specs.Units.{pieces_of_utf16, pieces_of_utf32}
 use Rattle.lbk_calls.proofs.UnitsComingLemmas.{units-other}
+use Rattle.lbk_words.specs.Words.{parts_of, scalars_of, words_among}
 use Rattle.lbk_c.proofs.laws.only_bytes_from_a_state_on.Goals as goal
 
 pub returns-clause-breaks : goal.returns-clause-breaks
@@ -34,3 +35,6 @@ returns-clause-utf32 c = units-other onward pieces_of_utf32
 
 pub returns-clause-positions : goal.returns-clause-positions
 returns-clause-positions c = λ pieces_of. units-other onward_all pieces_of
+
+pub returns-clause-words : goal.returns-clause-words
+returns-clause-words c = λ text other at same. ap (λ bytes. words_among at (pieces bytes) (parts_of (scalars_of (pieces bytes)))) same

@@ -1,9 +1,9 @@
-use Rattle.std.proofs.Common.{rules, Ok, Err, [], refl, sym, ap, subst, ◌∙◌, inl, inr, ⊎_elim, arith}
+use Rattle.std.proofs.Common.{rules, Err, refl, sym, ap, subst, ◌∙◌, inl, inr, ⊎_elim, arith}
 use Rattle.std.proofs.lemmas.Result.{err_from_is_err_and}
 use Rattle.lbk_feed.specs.Devices.{count_up, failures_after}
 use Rattle.lbk_passage.specs.Shown.{state_of}
 use Rattle.lbk_cmd.specs.Engines.{engine_of}
-use Rattle.lbk_cmd.specs.Run.{failed_reads_with, failed_writes_with}
+use Rattle.lbk_cmd.specs.Run.{failed_reads_with}
 use Rattle.lbk_cmd.proofs.Known.{known_whole}
 use Rattle.lbk_cmd.proofs.Looping.{Going, Going-new, due, ran_unwritten, run_none, whole_run}
 use Rattle.lbk_cmd.proofs.Gathering.{ends, failed_reads, held_back, limit_kept, most, no_failed_write, no_limit, on, to_its_end, waits}

@@ -1,4 +1,4 @@
-use Rattle.std.proofs.Common.{◌++◌, ◌∷◌, get_or, refl, ap, ◌∙◌}
+use Rattle.std.proofs.Common.{◌≡◌, ◌++◌, ◌∷◌, get_or, length, take, refl, sym, ap, subst, ◌∙◌}
 use Rattle.std.specs.Str.Iter.{chars_rest}
 use Rattle.lbk_notation.specs.Grammar.{mark_bytes}
 use Rattle.lbk_notation.specs.Written.{shown, token}
@@ -7,17 +7,22 @@ use Rattle.lbk_rules.specs.declared.Verdict.{Verdict}
 use Rattle.lbk_rules.specs.declared.Kind.TheVariants.{No}
 use Rattle.lbk_rules.specs.declared.Rule.TheVariants.{Lb2}
 use Rattle.lbk_cmd.proofs.LineWriting.{Writes-step, Writes-end}
+use Rattle.lbk_cmd.proofs.Places.{front_append}
 use Rattle.lbk_cmd.proofs.shown.push_marks.Goals as goal
 
 pub loop-c-preserved : goal.loop-c-preserved
 loop-c-preserved c =
     let none : Verdict = record { kind = No; rule = Lb2 } in
     let l = c.loop-c in
-    Writes-step c.args.verdicts.now l.k c.in-Some.c (get_or c.args.verdicts.now l.k none) none (chars_rest l.c-iterator) (chars_rest c.next.new.self)
-    l.out.items c.push_scalar.new.text.items _ c.in-Some.ensures.steps.0 refl
-    (c.in_ok-push_scalar.ensures.text
-    ∙ ap (λ m. l.out.items ++ (32 ∷ (token c.in-Some.c ++ (32 ∷ mark_bytes (shown Kinds m))))) c.mark_of-in-loop-c.ensures)
-    l.invariant
+    let old = c.args.out.now.items in
+    record {
+      writes = Writes-step c.args.verdicts.now l.k c.in-Some.c (get_or c.args.verdicts.now l.k none) none (chars_rest l.c-iterator) (chars_rest c.next.new.self)
+          l.out.items c.push_scalar.new.text.items _ c.in-Some.ensures.steps.0 refl
+          (c.in_ok-push_scalar.ensures.text
+          ∙ ap (λ m. l.out.items ++ (32 ∷ (token c.in-Some.c ++ (32 ∷ mark_bytes (shown Kinds m))))) c.mark_of-in-loop-c.ensures)
+          l.invariant.writes;
+      kept = subst (λ t. take (length old) t ≡ old) (sym c.in_ok-push_scalar.ensures.text) (front_append old l.out.items _ l.invariant.kept);
+    }
 
-pub returns : goal.returns
-returns c = Writes-end c.args.verdicts.now c.loop-c.k (chars_rest c.loop-c.c-iterator) c.loop-c.out.items _ c.in-None.ensures.steps.0.0 c.loop-c.invariant
+pub returns-clause-line : goal.returns-clause-line
+returns-clause-line c = Writes-end c.args.verdicts.now c.loop-c.k (chars_rest c.loop-c.c-iterator) c.loop-c.out.items _ c.in-None.ensures.steps.0.0 c.loop-c.invariant.writes

@@ -1,4 +1,4 @@
-use Rattle.std.proofs.Common.{◌++◌}
+use Rattle.std.proofs.Common.{◌≡◌, ◌++◌, length, take}
 use Rattle.std.specs.Str.{chars}
 use Rattle.std.specs.Str.Iter.{chars_rest}
 use Rattle.lbk_notation.specs.Shown.{passage_marks}
@@ -8,5 +8,7 @@ use Rattle.lbk_cmd.proofs.LineWriting.{Writes}
 use Rattle.lbk_cmd.proofs.shown.push_marks.Given as goal
 
 abbrev pub invariant-loop-c : goal.invariant-loop-c
-invariant-loop-c l =
-    Writes l.verdicts l.k (chars_rest l.c-iterator) l.out.items (l.fn.out.items ++ written_line Kinds (passage_marks (chars l.text) l.verdicts))
+invariant-loop-c l = record {
+  writes : Writes l.verdicts l.k (chars_rest l.c-iterator) l.out.items (l.fn.out.items ++ written_line Kinds (passage_marks (chars l.text) l.verdicts));
+  kept : take (length l.fn.out.items) l.out.items ≡ l.fn.out.items;
+}

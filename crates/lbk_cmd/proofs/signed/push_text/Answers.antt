@@ -1,4 +1,4 @@
-use Rattle.std.proofs.Common.{◌≤◌, ◌++◌, [], drop, length, take, append-nil, sym, ap, subst, ◌∙◌, arith, chars}
+use Rattle.std.proofs.Common.{◌≤◌, ◌++◌, [], drop, length, take, append-nil, sym, ap, subst, ◌∙◌, arith}
 use Rattle.std.proofs.lemmas.List.{take_all, take-append-drop}
 use Rattle.std.proofs.lemmas.Result.{on_ok_weaker}
 use Rattle.lbk_cmd.specs.Signing.{IsCut, signed_from}
@@ -11,6 +11,7 @@ loop-done-init g c =
     let same = c.new-breaks.ensures in record {
       put = ap (λ bs. c.args.out.now.items ++ signed_from c.args.mark.now c.args.text.now 0 bs) same;
       cut = subst (IsCut 0 (length c.args.text.now)) (sym same) (text_cut c.args.profile cell c.args.text.now c.utf8.text);
+      kept = take_all (length c.args.out.now.items) c.args.out.now.items (omega arith);
     }
 
 pub push_block-requires : goal.push_block-requires
@@ -32,8 +33,8 @@ push_rest-requires g c =
     (subst (λ t. IsCut l.done (length t) (take count c.fill-count.new.block ++ [])) (sym c.as_bytes-bytes.ensures.value)
     (subst (IsCut l.done (length c.args.text.now)) (sym whole) l.invariant.cut))
 
-pub returns-then-count-lt-BLOCK : goal.returns-then-count-lt-BLOCK
-returns-then-count-lt-BLOCK g c =
+pub returns-then-count-lt-BLOCK-clause-text : goal.returns-then-count-lt-BLOCK-clause-text
+returns-then-count-lt-BLOCK-clause-text g c =
     let l = c.loop-done in
     let count = c.fill-count.result in
     let all : length l.breaks ≤ count = omega (arith, c.fill-count.ensures.count, c.if-count-lt-BLOCK.true) in
@@ -43,4 +44,4 @@ returns-then-count-lt-BLOCK g c =
     ∙ ap (λ bs. l.out.items ++ signed_from c.args.mark.now c.as_bytes-bytes.result.now l.done bs) whole
     ∙ ap (λ t. l.out.items ++ signed_from c.args.mark.now t l.done l.breaks) c.as_bytes-bytes.ensures.value
     ∙ l.invariant.put)
-    c.push_rest.ensures
+    c.push_rest.ensures.text

@@ -1,4 +1,4 @@
-use Rattle.std.proofs.Common.{◌≡◌, ◌++◌, chars, length}
+use Rattle.std.proofs.Common.{◌≡◌, ◌++◌, chars, length, take}
 use Rattle.lbk_rules.specs.Breaks.{breaks}
 use Rattle.lbk_cmd.specs.Signing.{IsCut, signed_from}
 use Rattle.lbk_cmd.proofs.signed.push_text.Given as goal
@@ -8,6 +8,7 @@ invariant-loop-done g l = record {
   put : l.out.items ++ signed_from l.mark l.text l.done l.breaks
       ≡ l.fn.out.items ++ signed_from l.mark l.text 0 (breaks l.fn.profile (g.C.CellSource.cell_of l.cells) (chars l.text));
   cut : IsCut l.done (length l.text) l.breaks;
+  kept : take (length l.fn.out.items) l.out.items ≡ l.fn.out.items;
 }
 
 abbrev pub decreases-loop-done : goal.decreases-loop-done

@@ -1,9 +1,8 @@
-use Rattle.std.proofs.Common.{◌≡◌, Ok, Err, ap, sym, refl, ◌∙◌, arith, subst}
+use Rattle.std.proofs.Common.{Err, ap, sym, ◌∙◌, arith}
 use Rattle.std.proofs.lemmas.Result.{err_from_is_err_and}
 use Rattle.lbk_passage.specs.Next.{failures_with, fault_in}
 use Rattle.lbk_passage.specs.Shown.{state_of}
 use Rattle.lbk_cmd.specs.Engines.{lines_of}
-use Rattle.lbk_cmd.specs.Gathering.{PutsNext}
 use Rattle.lbk_cmd.proofs.Ranging.{engine_in, lent_fault, puts_fault, puts_here}
 use Rattle.lbk_cmd.proofs.gathered.Gathered.put_within.Goals as goal
 

@@ -1,4 +1,5 @@
-use Rattle.std.proofs.Common.{◌∷◌, [], map, reverse}
+use Rattle.std.proofs.Common.{◌∷◌, [], map, reverse, sym, ap, ◌∙◌}
+use Rattle.lbk_steps.specs.Rows.{left_at}
 use Rattle.lbk_uax14.specs.Chain.{from_cells}
 use Rattle.lbk_steps.proofs.RowMachineLemmas.{so_far-decides, so_far-held}
 use Rattle.lbk_steps.proofs.row_machine.RowMachine.step.Goals as goal
@@ -16,6 +17,7 @@ returns-clause-decides g c = λ profile cell taken more fits.
 pub returns-clause-fits : goal.returns-clause-fits
 returns-clause-fits g c = λ profile cell taken fits. record {
   cell_same = fits.cell_same;
+  kinds_same = fits.kinds_same;
   profile_same = fits.profile_same;
-  row_same = c.step_by-step.ensures.leads profile cell taken fits;
+  row_same = c.step_by-step.ensures.leads profile cell taken fits ∙ ap left_at (sym c.from-self.ensures);
 }

@@ -14,7 +14,7 @@ pub returns-clause-leads : goal.returns-clause-leads
 returns-clause-leads g c = λ profile cell taken fits.
     let machine = c.args.self.now in
     let side = reverse (normals cell taken) in
-    let same = kind_same cell (g.C.CellSource.cell_of machine.cells.now) c.args.c c.kind.result fits.cell_same c.kind.ensures in
+    let same = kind_same cell c.args.c c.kind.result (c.kind.ensures profile cell taken fits) in
     ap facts (normals-back cell taken c.args.c)
     ∙ ap (λ n. facts (n ∷ side)) (sym same)
     ∙ (c.step_from.ensures machine.row.profile machine.row.of_profile).leads side fits.row_same
@@ -23,7 +23,7 @@ pub returns-clause-shows : goal.returns-clause-shows
 returns-clause-shows g c = λ profile cell taken fits.
     let machine = c.args.self.now in
     let side = reverse (normals cell taken) in
-    let same = kind_same cell (g.C.CellSource.cell_of machine.cells.now) c.args.c c.kind.result fits.cell_same c.kind.ensures in
+    let same = kind_same cell c.args.c c.kind.result (c.kind.ensures profile cell taken fits) in
     (c.step_from.ensures machine.row.profile machine.row.of_profile).shows side fits.row_same
     ∙ ap shown_of (ap (λ p. from_cells p side (kind_cell (c.kind.result % 128 % 84) ∷ [])) fits.profile_same
     ∙ ap (λ n. from_cells profile side (n ∷ [])) same

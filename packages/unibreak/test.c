@@ -1,7 +1,7 @@
 /* Tries the marks: those of UTF-8, UTF-16 and UTF-32 have to agree, and say what the rules say of known texts.
  *
- *     trying            with a table
- *     trying no-table   without one: every mark is LINEBREAK_INDETERMINATE
+ *     test              with a table
+ *     test no-table     without one: every mark is LINEBREAK_INDETERMINATE
  *
  * The last line is `N passed, M failed`.
  */

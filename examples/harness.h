@@ -1,6 +1,6 @@
-/* What the programs share that try the library with random bytes: random numbers and texts, and memory whose ends are guarded. */
-#ifndef TRYING_H
-#define TRYING_H
+/* What the programs that run the library on random bytes share: random numbers and texts, and memory with guard pages. */
+#ifndef HARNESS_H
+#define HARNESS_H
 
 #include "example.h"
 
@@ -22,7 +22,7 @@ static inline void told(const char *what, int holds)
     }
 }
 
-/* A number below `most` (xorshift64*, which is enough for trying). */
+/* A number below `most` (xorshift64*, which is enough here). */
 static inline uint64_t below(uint64_t most)
 {
     seed ^= seed >> 12;

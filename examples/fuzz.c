@@ -1,12 +1,12 @@
 /* Calls the library with random bytes as files, table, states and text, many times over.
  *
- *     hurt ROUNDS SEED LINE_BREAK EAST_ASIAN CATEGORY EMOJI
+ *     fuzz ROUNDS SEED LINE_BREAK EAST_ASIAN CATEGORY EMOJI
  *
  * What a call is given ends where memory ends that may be read or written, or begins where it begins, so that a byte too far
  * ends the program by a signal, also where no checker has seen the library's code. The last line is `N passed, M failed`.
  */
 #define _DEFAULT_SOURCE
-#include "trying.h"
+#include "harness.h"
 
 /* Most texts are short, so that there are many; some are longer than any block that the library could hold of them. */
 enum { MOST_LONG_TEXT = 20000, MOST_LONG_ROOM = 3000, LONG_EACH = 50 };
@@ -252,7 +252,7 @@ int main(int words, char **word)
     enum { ROUNDS_WITH_A_TABLE = 500 };
     static lbk_table real;
     if (words != 7) {
-        fprintf(stderr, "usage: hurt ROUNDS SEED LINE_BREAK EAST_ASIAN CATEGORY EMOJI\n");
+        fprintf(stderr, "usage: fuzz ROUNDS SEED LINE_BREAK EAST_ASIAN CATEGORY EMOJI\n");
         return 2;
     }
     unsigned long rounds = strtoul(word[1], NULL, 10);

@@ -1,0 +1,193 @@
+// An instance of lbk.wasm with a table, and the columns that it finds.
+import { ModuleMemory, isAscii } from "./module_memory.js";
+import { TABLE_SIZE, unpackTable } from "./packed_table.js";
+
+/** How many breaks or positions a call of the module has room for. */
+export const ROOM = 2048;
+/** How many bytes of a text are in the module's memory at once, where its breaks are asked for. */
+const WINDOW = 262144;
+/** For how many positions columns get room before these are found. */
+const MOST_EXPECTED = 1 << 22;
+const STATE_SIZE = 16;
+const POSITION_SIZE = 16;
+const COLUMNS = ["at", "kind", "rule"];
+/** The name of what a Table has for parts.js. */
+export const goOn = Symbol("goOn");
+
+/** The columns of positions of a text of this length, which grow as positions are added. */
+export class ColumnsBuilder {
+  #length;
+
+  constructor(length, room = 16) {
+    this.#length = length;
+    this.size = 0;
+    this.at = new Uint32Array(room);
+    this.kind = new Uint8Array(room);
+    this.rule = new Uint8Array(room);
+  }
+
+  /** Adds the columns of a block. Where there is no room for them, as much is made as the text needs, if the rest of it is like its front. */
+  add(block) {
+    const end = this.size + block.at.length;
+    if (end > this.at.length) {
+      const all = (1.2 * end * this.#length) / block.at.at(-1);
+      this.#grow(Math.ceil(Math.max(1.25 * end, Math.min(MOST_EXPECTED, all))));
+    }
+    for (const name of COLUMNS) this[name].set(block[name], this.size);
+    this.size = end;
+  }
+
+  #grow(room) {
+    for (const name of COLUMNS) {
+      const grown = new this[name].constructor(room);
+      grown.set(this[name]);
+      this[name] = grown;
+    }
+  }
+
+  finish() {
+    const { at, kind, rule, size } = this;
+    return { at: at.subarray(0, size), kind: kind.subarray(0, size), rule: rule.subarray(0, size) };
+  }
+}
+
+/** An instance of the module with a table in its memory, and room for a text. */
+export class Machine {
+  constructor(instance) {
+    const memory = new ModuleMemory(instance);
+    this.memory = memory;
+    this.table = memory.place(TABLE_SIZE);
+    this.state = memory.place(STATE_SIZE);
+    this.block = memory.place(POSITION_SIZE * ROOM);
+    this.at = memory.place(4 * ROOM);
+    this.kind = memory.place(ROOM);
+    this.rule = memory.place(ROOM);
+    this.text = memory.place(WINDOW);
+    // (as the module takes its pointers and sizes)
+    this.big = { room: BigInt(ROOM) };
+    for (const name of ["table", "state", "block", "at", "kind", "rule", "text"]) this.big[name] = BigInt(this[name]);
+  }
+
+  /** The bytes of the table, which no call of the module changes. */
+  get tableBytes() {
+    return this.memory.bytes(this.table, TABLE_SIZE);
+  }
+
+  /** Puts a table, packed or not, into memory that is zeros yet. */
+  loadTable(saved) {
+    if (saved.length === TABLE_SIZE) this.tableBytes.set(saved);
+    else unpackTable(saved, this.tableBytes);
+    if (this.memory.exports.lbk_check(this.big.table) === 0) {
+      throw new RangeError("these bytes are not a whole table of this version");
+    }
+  }
+
+  /** The label that a call of the module writes into the block. */
+  #label(write) {
+    write(this.big.block);
+    const label = this.memory.bytes(this.block, 4);
+    return String.fromCharCode(...label.subarray(0, label.indexOf(0)));
+  }
+
+  ruleLabel(number) {
+    return this.#label((to) => this.memory.exports.lbk_label(to, number));
+  }
+
+  classLabel(scalar) {
+    return this.#label((to) => this.memory.exports.lbk_class(to, this.big.table, scalar));
+  }
+
+  /** The state at the start of a text in a profile. */
+  static startState(profile) {
+    const state = new Uint8Array(STATE_SIZE);
+    state[10] = profile;
+    return state;
+  }
+
+  /** Has a call write the next positions of the loaded text into the block, so many at most, and returns how many these are. */
+  find(call, size, room) {
+    const { table, state, text, block } = this.big;
+    return Number(this.memory.exports[call](table, state, text, BigInt(size), block, BigInt(room)));
+  }
+
+  /** The columns of the first positions of the block, whose places count from `from` on. The next call writes over them. */
+  columns(count, from) {
+    const { block, at, kind, rule, room } = this.big;
+    this.memory.exports.lbk_columns(block, BigInt(count), from, at, room, kind, room, rule, room);
+    const { buffer } = this.memory;
+    return {
+      at: new Uint32Array(buffer, this.at, count),
+      kind: new Uint8Array(buffer, this.kind, count),
+      rule: new Uint8Array(buffer, this.rule, count),
+    };
+  }
+
+  /** A copy of the state, which can be put back. */
+  get savedState() {
+    return this.memory.bytes(this.state, STATE_SIZE).slice();
+  }
+
+  set savedState(saved) {
+    this.memory.bytes(this.state, STATE_SIZE).set(saved);
+  }
+
+  /** How many bytes or units of the window were taken. The next window begins after them. */
+  dropTaken() {
+    const state = new DataView(this.memory.buffer, this.state);
+    const taken = state.getUint32(0, true);
+    state.setUint32(0, 0, true);
+    return taken;
+  }
+
+  get hasEnded() {
+    return this.memory.bytes(this.state, STATE_SIZE)[11] !== 0;
+  }
+
+  /**
+   * The breaks from a state on, with a window of the text in memory at a time: of bytes, of a string's ASCII, or of its units. Where
+   * the text goes on, its end is no break. Up to `taken` the text is not needed again, by the state there.
+   */
+  breaks(text, start, goesOn = false) {
+    const columns = new ColumnsBuilder(text.length);
+    this.savedState = start;
+    // (for ASCII the module is faster over bytes)
+    let inUnits = typeof text === "string" && !isAscii(text.slice(0, WINDOW));
+    let [from, size, room] = [0, WINDOW, ROOM];
+    for (;;) {
+      const loaded = this.memory[inUnits ? "loadUnits" : "loadBytes"](text, from, this.text, size);
+      if (loaded === undefined) {
+        inUnits = true;
+        continue;
+      }
+      const isAll = from + loaded === text.length;
+      const window = { call: inUnits ? "lbk_breaks_utf16" : "lbk_breaks", from, size: loaded, isLast: isAll && !goesOn };
+      const count = this.#windowBreaks(window, room, columns);
+      if (this.hasEnded) return { columns: columns.finish(), taken: text.length, state: this.savedState };
+      const taken = this.dropTaken();
+      from += taken;
+      // Where no block was full fewer breaks are asked for, and where the window has none but at its end more has to be seen.
+      room = taken > 0 || count < 2 ? ROOM : count - 1;
+      if (taken > 0 || count >= 2) continue;
+      if (isAll) return { columns: columns.finish(), taken: from, state: this.savedState };
+      size *= 2;
+    }
+  }
+
+  /**
+   * The breaks of a window by full blocks, and how many the last call found. What is left is decided by what follows, too, unless
+   * the text ends there.
+   */
+  #windowBreaks({ call, from, size, isLast }, room, columns) {
+    let count;
+    do {
+      const before = isLast ? null : this.savedState;
+      count = this.find(call, size, room);
+      if (before && (count < room || this.hasEnded)) {
+        this.savedState = before;
+        break;
+      }
+      columns.add(this.columns(count, from));
+    } while (count === room);
+    return count;
+  }
+}

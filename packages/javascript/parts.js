@@ -1,0 +1,113 @@
+// Texts in parts: that come in pieces, or that are cut where a line must end.
+//
+//     import { Stream } from "lbk/parts";
+//     const stream = new Stream(table);
+//     for await (const piece of pieces) for (const { at, kind, rule } of stream.feed(piece)) ..
+//     for (const { at, kind, rule } of stream.finish()) ..
+//
+// The module decides. What waits for more of the text is held here.
+import { KINDS, profileNumber } from "./lbk.js";
+import { Machine, goOn } from "./machine.js";
+import { checkText, isContinuation } from "./module_memory.js";
+
+const MUST = 2;
+/** So many units or bytes beside a place are looked at for a cut at first. */
+const NEAR = 1024;
+/** How many units or bytes a scalar has at most. */
+const LONGEST = 4;
+
+/** A part of a string, or of bytes, which are not copied. */
+export function piece(text, from, to) {
+  return typeof text === "string" ? text.slice(from, to) : text.subarray(from, to);
+}
+
+/** Where the scalars of a text end that are whole, whatever follows it. */
+function endOfScalars(text) {
+  const end = text.length;
+  if (typeof text === "string") return (text.charCodeAt(end - 1) & 0xfc00) === 0xd800 ? end - 1 : end;
+  let lead = end - 1;
+  while (lead >= 0 && lead > end - 4 && isContinuation(text[lead])) lead--;
+  const size = lead < 0 || text[lead] < 0xc0 ? 1 : 2 + (text[lead] >= 0xe0) + (text[lead] >= 0xf0);
+  return lead + size > end ? lead : end;
+}
+
+/** Two strings, or two arrays of bytes, as one. */
+function joined(front, back) {
+  if (typeof front === "string") return front + back;
+  const bytes = new Uint8Array(front.length + back.length);
+  bytes.set(front);
+  bytes.set(back, front.length);
+  return bytes;
+}
+
+/** The breaks of a text that comes in pieces. */
+export class Stream {
+  #table;
+  #state;
+  /** What came and is not settled, by the state before it, and how many units or bytes were before that. */
+  #rest;
+  #before = 0;
+
+  constructor(table, options) {
+    if (typeof table?.[goOn] !== "function") throw new TypeError("a Stream is made of a Table");
+    this.#table = table;
+    this.#state = Machine.startState(profileNumber(options));
+  }
+
+  feed(more) {
+    checkText(more);
+    if (this.#rest !== undefined && typeof more !== typeof this.#rest) {
+      throw new TypeError("the pieces of a stream are all strings, or all of them are Uint8Arrays");
+    }
+    const text = this.#rest === undefined ? more : joined(this.#rest, more);
+    return this.#take(text, endOfScalars(text), true);
+  }
+
+  finish() {
+    return this.#rest === undefined ? [] : this.#take(this.#rest, this.#rest.length, false);
+  }
+
+  /** The breaks that the text settles up to a place. */
+  #take(text, end, goesOn) {
+    const { columns, taken, state } = this.#table[goOn](piece(text, 0, end), this.#state, goesOn);
+    const before = this.#before;
+    this.#rest = text.slice(taken);
+    this.#before += taken;
+    this.#state = state;
+    const { kind, rule } = columns;
+    return Array.from(columns.at, (at, k) => ({ at: before + at, kind: KINDS[kind[k]], rule: this.#table.ruleLabel(rule[k]) }));
+  }
+}
+
+function checkPlace(at) {
+  if (!Number.isInteger(at) || at < 0) throw new RangeError("a place is a whole number from 0 on");
+}
+
+/** The places within a part of a text before which a line must end, whatever is before and after the part. */
+function lineEnds(table, text, from, to) {
+  const { at, kind } = table.breakColumns(piece(text, from, to));
+  return [...at].filter((place, k) => kind[k] === MUST && from + place < to).map((place) => from + place);
+}
+
+export function cut(table, text, at) {
+  checkText(text);
+  checkPlace(at);
+  if (at === 0 || at >= text.length) return Math.min(at, text.length);
+  const from = Math.max(at - LONGEST, 0);
+  for (let size = NEAR; ; size *= 2) {
+    const to = Math.min(at + size, text.length);
+    const found = lineEnds(table, text, from, to).find((it) => it >= at);
+    if (found !== undefined || to === text.length) return found ?? to;
+  }
+}
+
+export function cutBefore(table, text, at) {
+  checkText(text);
+  checkPlace(at);
+  if (at >= text.length) return text.length;
+  for (let size = NEAR; ; size *= 2) {
+    const from = Math.max(at - size, 0);
+    const found = lineEnds(table, text, from, Math.min(at + LONGEST, text.length)).findLast((it) => it <= at);
+    if (found !== undefined || from === 0) return found ?? 0;
+  }
+}

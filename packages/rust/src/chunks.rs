@@ -1,0 +1,279 @@
+//! Chunks of a text, as search and retrieval take them.
+
+use core::fmt;
+use core::iter::FusedIterator;
+use core::mem::MaybeUninit;
+
+use crate::breaks::{Break, Kind, Profile, Rule};
+use crate::calls;
+use crate::table::Table;
+
+/// How many chunks are asked for at once.
+const ROOM: usize = 16;
+
+/// What a chunk may hold.
+///
+/// ```
+/// let limits = lbk::Limits::new(500).overlap(100);
+/// assert_eq!(limits, lbk::Limits::new(500).least(250).words(0).overlap(100));
+/// ```
+#[derive(Clone, Copy, PartialEq, Eq, Debug)]
+pub struct Limits(calls::Limits);
+
+impl Limits {
+    /// At most so many bytes, 1 or more; and any number of words, half of these bytes as the least, and no overlap.
+    pub fn new(most: usize) -> Limits {
+        Limits(calls::Limits {
+            most,
+            words: 0,
+            least: most / 2,
+            overlap: 0,
+        })
+    }
+
+    /// At most so many words; 0 for any number.
+    pub fn words(mut self, words: usize) -> Limits {
+        self.0.words = words;
+        self
+    }
+
+    /// Where a line must end a chunk ends early, once it has so many bytes that no chunk before it has: at most as many as a
+    /// chunk may have.
+    pub fn least(mut self, least: usize) -> Limits {
+        self.0.least = least;
+        self
+    }
+
+    /// The next chunk begins with at most so many bytes of this one, and with at most half of it: at most half as many as a
+    /// chunk may have.
+    pub fn overlap(mut self, overlap: usize) -> Limits {
+        self.0.overlap = overlap;
+        self
+    }
+
+    fn checked(self) -> Result<calls::Limits, LimitError> {
+        let calls::Limits {
+            most,
+            least,
+            overlap,
+            ..
+        } = self.0;
+        if most == 0 {
+            Err(LimitError::Most)
+        } else if least > most {
+            Err(LimitError::Least { most, least })
+        } else if overlap > most / 2 {
+            Err(LimitError::Overlap { most, overlap })
+        } else {
+            Ok(self.0)
+        }
+    }
+}
+
+/// Which limit is out of range.
+#[derive(Clone, Copy, PartialEq, Eq, Debug)]
+pub enum LimitError {
+    /// A chunk may have no byte.
+    Most,
+    /// The least is more than a chunk may have.
+    Least { most: usize, least: usize },
+    /// The overlap is more than half of what a chunk may have.
+    Overlap { most: usize, overlap: usize },
+}
+
+impl fmt::Display for LimitError {
+    fn fmt(&self, f: &mut fmt::Formatter<'_>) -> fmt::Result {
+        match self {
+            LimitError::Most => f.write_str("most is 1 or more, and not 0"),
+            LimitError::Least { most, least } => {
+                write!(
+                    f,
+                    "least is 0 to most, which is {}, and not {}",
+                    most, least
+                )
+            }
+            LimitError::Overlap { most, overlap } => write!(
+                f,
+                "overlap is 0 to half of most, which is {}, and not {}",
+                most, overlap
+            ),
+        }
+    }
+}
+
+#[cfg(feature = "std")]
+impl std::error::Error for LimitError {}
+
+/// A text that can be cut at bytes.
+pub trait Sliced {
+    fn bytes(&self) -> &[u8];
+    fn slice(&self, start: usize, end: usize) -> &Self;
+}
+
+impl Sliced for str {
+    #[inline]
+    fn bytes(&self) -> &[u8] {
+        self.as_bytes()
+    }
+
+    #[inline]
+    fn slice(&self, start: usize, end: usize) -> &str {
+        &self[start..end]
+    }
+}
+
+impl Sliced for [u8] {
+    #[inline]
+    fn bytes(&self) -> &[u8] {
+        self
+    }
+
+    #[inline]
+    fn slice(&self, start: usize, end: usize) -> &[u8] {
+        &self[start..end]
+    }
+}
+
+/// A text that chunks are asked of: a `str`, or bytes, which may be ill-formed.
+pub trait ChunkText: Sliced {}
+
+impl ChunkText for str {}
+
+impl ChunkText for [u8] {}
+
+/// A part of a text that ends neither within a word nor where a line may not break.
+#[derive(Clone, Copy, PartialEq, Eq, Debug)]
+pub struct Chunk<T> {
+    /// The byte of the text that it begins at.
+    pub start: usize,
+    /// A `&str`, or a `&[u8]`.
+    pub text: T,
+    /// How many words it has.
+    pub words: usize,
+    /// Of the break at its end.
+    pub kind: Kind,
+    /// The rule that decided the break at its end.
+    pub rule: Rule,
+    /// It is larger than the limits: it has no place where it could have ended.
+    pub alone: bool,
+}
+
+/// The chunks of a text in their order. [`Table::chunks`] makes it. A copy goes on by itself.
+pub struct Chunks<'a, T: ?Sized = str> {
+    table: &'a Table,
+    text: &'a T,
+    limits: calls::Limits,
+    state: calls::ChunkState,
+    /// The next chunk is that of the block.
+    next: usize,
+    /// So many chunks the block has. They are the last ones where it has room for more.
+    count: usize,
+    block: MaybeUninit<[calls::Chunk; ROOM]>,
+}
+
+impl Table {
+    /// The text cut for search and retrieval, in the first profile: never within a word (UAX #29) or where a line may not
+    /// break. Without overlap the chunks joined are the text.
+    ///
+    /// ```no_run
+    /// # fn main() -> Result<(), Box<dyn std::error::Error>> {
+    /// let table = lbk::Table::find()?;
+    /// for chunk in table.chunks("one two. three four", lbk::Limits::new(12))? {
+    ///     println!("{} {:?}", chunk.start, chunk.text);
+    /// }
+    /// # Ok(())
+    /// # }
+    /// ```
+    pub fn chunks<'a, T: ChunkText + ?Sized>(
+        &'a self,
+        text: &'a T,
+        limits: Limits,
+    ) -> Result<Chunks<'a, T>, LimitError> {
+        self.chunks_in(Profile::First, text, limits)
+    }
+
+    /// The same in a profile.
+    pub fn chunks_in<'a, T: ChunkText + ?Sized>(
+        &'a self,
+        profile: Profile,
+        text: &'a T,
+        limits: Limits,
+    ) -> Result<Chunks<'a, T>, LimitError> {
+        Ok(Chunks {
+            table: self,
+            text,
+            limits: limits.checked()?,
+            state: calls::ChunkState::new(profile as u8),
+            next: ROOM,
+            count: ROOM,
+            block: MaybeUninit::uninit(),
+        })
+    }
+}
+
+impl<T: Sliced + ?Sized> Chunks<'_, T> {
+    fn fill(&mut self) {
+        let text = self.text.bytes();
+        // SAFETY: the text and the block are as long as is said, and the state and the block are borrowed by nobody else.
+        let count = unsafe {
+            calls::lbk_chunks(
+                &self.table.0,
+                &self.limits,
+                &mut self.state,
+                text.as_ptr(),
+                text.len(),
+                self.block.as_mut_ptr().cast(),
+                ROOM,
+            )
+        };
+        self.next = 0;
+        self.count = count.min(ROOM);
+    }
+}
+
+impl<'a, T: Sliced + ?Sized> Iterator for Chunks<'a, T> {
+    type Item = Chunk<&'a T>;
+
+    fn next(&mut self) -> Option<Chunk<&'a T>> {
+        if self.next == self.count {
+            if self.count == ROOM {
+                self.fill();
+            }
+            if self.next == self.count {
+                return None;
+            }
+        }
+        // SAFETY: the call wrote the first `count` chunks of the block, and `next` is below that.
+        let found = unsafe { *self.block.as_ptr().cast::<calls::Chunk>().add(self.next) };
+        self.next += 1;
+        let Break { kind, rule, .. } = Break::from(calls::Break {
+            at: found.end,
+            kind: found.kind,
+            rule: found.rule,
+        });
+        Some(Chunk {
+            start: found.start,
+            text: self.text.slice(found.start, found.end),
+            words: found.words,
+            kind,
+            rule,
+            alone: found.alone,
+        })
+    }
+}
+
+impl<T: Sliced + ?Sized> FusedIterator for Chunks<'_, T> {}
+
+impl<T: ?Sized> Clone for Chunks<'_, T> {
+    fn clone(&self) -> Self {
+        Chunks { ..*self }
+    }
+}
+
+impl<T: fmt::Debug + ?Sized> fmt::Debug for Chunks<'_, T> {
+    fn fmt(&self, f: &mut fmt::Formatter<'_>) -> fmt::Result {
+        f.debug_struct("Chunks")
+            .field("text", &self.text)
+            .finish_non_exhaustive()
+    }
+}
