@@ -66,12 +66,12 @@ BOUNDS = [
     (HELD, "lbk_breaks-2", 0.045),
     (HELD, "lbk_feed", 0.17),
     # Chunks of at most 500 bytes, and with an overlap of 100.
-    ("the pages", "lbk_chunks", 0.03),
-    ("the pages", "lbk_chunks-100", 0.015),
-    ("letters of two bytes", "lbk_chunks", 0.04),
-    ("letters of two bytes", "lbk_chunks-100", 0.02),
+    ("the pages", "lbk_chunks", 0.06),
+    ("the pages", "lbk_chunks-100", 0.055),
+    ("letters of two bytes", "lbk_chunks", 0.05),
+    ("letters of two bytes", "lbk_chunks-100", 0.05),
     ("letters of three bytes", "lbk_chunks", 0.028),
-    ("letters of three bytes", "lbk_chunks-100", 0.014),
+    ("letters of three bytes", "lbk_chunks-100", 0.027),
 ]
 
 # A text, two calls, and the least ratio of the speed of the first to that of the second, which decides each byte by steps alone. So a

@@ -1,17 +1,21 @@
--- The first cut to come.
-use Rattle.std.proofs.Common.{◌≡◌, ℕ, ◌+◌, ◌<◌, ◌≤◌, ◌⊎◌, inl, inr, Bool, true, false, cond, nat_lt, List, [], ◌∷◌, refl, sym, ap, ap₂, subst, ◌∙◌, arith}
+-- The cuts among the next breaks.
+use Rattle.std.proofs.Common.{◌≡◌, ◌≢◌, ℕ, ◌+◌, ◌<◌, ◌≤◌, ◌⊎◌, append_assoc, below_more, get_or-set_other, get_or-set_same, inl, inr, Bool, true, false, cond, min, nat_lt, List, [], ◌∷◌, ◌++◌, drop, length, take, refl, sym, ap, ap₂, subst, ◌∙◌, arith}
+use Rattle.std.proofs.Math.ListN.{set}
 use Rattle.std.proofs.lemmas.Bool.Decides.{nat_tests}
+use Rattle.std.proofs.lemmas.List.{take-append-drop, take_more_set}
 use Rattle.lbk_rules.specs.declared.Break.{Break}
 use Rattle.lbk_rules.specs.declared.Cell.{Cell}
 use Rattle.lbk_rules.specs.declared.FlatTable.{FlatTable}
 use Rattle.lbk_bytes.specs.declared.raw_break.RawBreak.{RawBreak}
 use Rattle.lbk_bytes.specs.Shown.{raw_of}
+use Rattle.lbk_calls.specs.declared.interface.State.{State}
 use Rattle.lbk_calls.specs.Coming.{Comes}
 use Rattle.lbk_words.specs.Words.{words_on}
 use Rattle.lbk_chunks.specs.declared.cut.Cut.{Cut}
 use Rattle.lbk_chunks.specs.declared.cut.Place.{Place}
-use Rattle.lbk_chunks.specs.declared.cursor.NextBreak.{NextBreak}
-use Rattle.lbk_chunks.specs.Coming.{AreBreaksPast, AreCounted, AreOnward, IsAhead, IsNextBreak, IsNextCut, IsPassed, words_ahead}
+use Rattle.lbk_chunks.specs.declared.cursor.Filled.{Filled}
+use Rattle.lbk_chunks.specs.declared.cursor.NextBreaks.{NextBreaks}
+use Rattle.lbk_chunks.specs.Coming.{AreAmong, AreBreaksPast, AreCounted, AreNext, AreOnward, StandWithin, IsAhead, IsPassed, breaks_left, words_ahead}
 use Rattle.lbk_chunks.specs.Cuts.{cuts_among, is_within, words_before}
 use Rattle.lbk_chunks.proofs.WordLemmas.{cut_by, first-behind, word-first}
 
@@ -19,40 +23,9 @@ pub breaks-past : (from to : ℕ) (bs : List Break) → from ≤ to → AreBreak
 breaks-past from to [] below past = past
 breaks-past from to (b ∷ bs) below past = (omega (arith, past.0), past.1)
 
--- no break comes, so no cut does
-pub no-cut : (cell : ℕ → Cell) (table : FlatTable) (text : List ℕ) (place : Place) (cuts : List Cut) → (a : IsAhead cell table text place cuts) → a.breaks ≡ [] → cuts ≡ []
-no-cut cell table text place cuts a none = a.among ∙ ap (cuts_among place.words (words_ahead text place)) none
-
 -- the cut at a break of numbers
 abbrev cut_of : RawBreak → ℕ → Cut
 cut_of raw words = record { at = raw.at; words = words; kind = raw.kind; rule = raw.rule }
-
--- the words before a break were passed
-pub record IsTaken (cell : ℕ → Cell) (table : FlatTable) (text : List ℕ) (next : NextBreak) (new : Place) (cuts : List Cut) : Type 0 where
-  pub first : Break
-  pub rest : List Break
-  pub shown : next.found ≡ raw_of first
-  pub comes : Comes cell table text new.breaks rest
-  pub counted : AreCounted text new
-  pub past : AreBreaksPast 0 rest
-  pub among : cuts ≡ cuts_among new.words (words_ahead text new) (first ∷ rest)
-
-pub take-break : (cell : ℕ → Cell) (table : FlatTable) (text : List ℕ) (here new : Place) (next : NextBreak) (cuts : List Cut)
-    → (a : IsAhead cell table text here cuts) → IsNextBreak cell table text a.breaks next
-    → IsPassed text next.found.at (record here { breaks = next.state }) new → IsTaken cell table text next new cuts
-take-break cell table text here new next cuts a n passed =
-    let rising = subst (AreBreaksPast 0) n.joined a.rising in
-    let counted : AreCounted text (record here { breaks = next.state }) = record { few = a.counted.few; onward = a.counted.onward } in
-    record {
-      first = n.first;
-      rest = n.rest;
-      shown = n.shown;
-      comes = subst (λ s. Comes cell table text s n.rest) (sym passed.same_breaks) n.onward;
-      counted = passed.counted counted;
-      past = breaks-past 0 n.first.at n.rest (omega arith) rising.1;
-      among = a.among ∙ ap (cuts_among here.words (words_ahead text here)) n.joined
-          ∙ sym (passed.cuts counted n.first n.rest (let at : next.found.at ≡ n.first.at = ap (λ (r : RawBreak). r.at) n.shown in omega arith) rising.1);
-    }
 
 -- whether a place is within the words to come, of which the first ends behind it
 pub is-clear : (text : List ℕ) (place : Place) (at : ℕ) → AreCounted text place → (place.word.end ≡ 0 → words_ahead text place ≡ [])
@@ -76,40 +49,108 @@ is-split text place at counted (inr past) some inside =
     let within : nat_lt place.word.start at ≡ true = grind (arith, nat_tests) in
     ap (λ ws. is_within ws at) same ∙ behind.0 ∙ within
 
--- the break is a cut
-pub take-cut : (cell : ℕ → Cell) (table : FlatTable) (text : List ℕ) (next : NextBreak) (new : Place) (cuts : List Cut) → IsTaken cell table text next new cuts
-    → (new.word.end ≡ 0 → words_ahead text new ≡ []) → (new.word.end ≡ 0) ⊎ (next.found.at < new.word.end)
-    → (new.word.end ≡ 0) ⊎ (next.found.at ≤ new.word.start)
-    → IsNextCut cell table text cuts (record { cut = record { at = next.found.at; words = new.words; kind = next.found.kind; rule = next.found.rule }; place = new })
-take-cut cell table text next new cuts t none past clear =
-    let at : next.found.at ≡ t.first.at = ap (λ (r : RawBreak). r.at) t.shown in
-    let words = words_ahead text new in
-    let others = cuts_among new.words words t.rest in
-    let is = is-clear text new next.found.at t.counted none past clear in
-    let within : is_within words t.first.at ≡ false = ap (is_within words) (sym at) ∙ is.0 in
-    let count : new.words + words_before words t.first.at ≡ new.words = (let before : words_before words t.first.at ≡ 0 = ap (words_before words) (sym at) ∙ is.1 in omega arith) in
-    record {
-      rest = others;
-      joined = t.among
-          ∙ ap₂ (λ (b : Bool) (n : ℕ). cond b others (cut_by t.first n ∷ others)) within count
-          ∙ ap (λ (r : RawBreak). (cut_of r new.words) ∷ others) (sym t.shown);
-      onward = record { breaks = t.rest; comes = t.comes; counted = t.counted; rising = t.past; among = refl };
-      counted = refl;
-    }
+module _ (text : List ℕ) (cuts : List Cut) (b : Break) (bs : List Break) (found : RawBreak) (start : Filled) (new : Place) (out : List Cut)
+    (shown : raw_of b ≡ found) (a : AreAmong text cuts (b ∷ bs) start out) (passed : IsPassed text found.at start.place new) where
+  counted-on : AreCounted text new
+  counted-on = passed.counted a.counted
 
--- it is within a word
-pub skip-break : (cell : ℕ → Cell) (table : FlatTable) (text : List ℕ) (next : NextBreak) (new : Place) (cuts : List Cut) → IsTaken cell table text next new cuts
-    → (new.word.end ≡ 0) ⊎ (next.found.at < new.word.end) → (new.word.end ≡ 0 → ⊥) → new.word.start < next.found.at
-    → IsAhead cell table text new cuts
-skip-break cell table text next new cuts t past some inside =
-    let at : next.found.at ≡ t.first.at = ap (λ (r : RawBreak). r.at) t.shown in
-    let words = words_ahead text new in
-    let others = cuts_among new.words words t.rest in
-    let within : is_within words t.first.at ≡ true = ap (is_within words) (sym at) ∙ is-split text new next.found.at t.counted past some inside in
-    record {
-      breaks = t.rest;
-      comes = t.comes;
-      counted = t.counted;
-      rising = t.past;
-      among = t.among ∙ ap (λ (b : Bool). cond b others (cut_by t.first (new.words + words_before words t.first.at) ∷ others)) within;
-    }
+  at-break : found.at ≡ b.at
+  at-break = ap (λ (r : RawBreak). r.at) (sym shown)
+
+  joined-on : cuts ≡ take start.count out ++ cuts_among new.words (words_ahead text new) (b ∷ bs)
+  joined-on = a.joined ∙ ap (λ l. take start.count out ++ l) (sym (passed.cuts a.counted b bs (let same = at-break in omega arith) a.rising.1))
+
+  rising-on : AreBreaksPast 0 bs
+  rising-on = breaks-past 0 b.at bs (omega arith) a.rising.1
+
+  -- the break is a cut
+  pub take-cut : start.count < length out → (new.word.end ≡ 0 → words_ahead text new ≡ []) → (new.word.end ≡ 0) ⊎ (found.at < new.word.end)
+      → (new.word.end ≡ 0) ⊎ (found.at ≤ new.word.start)
+      → AreAmong text cuts bs (record { count = start.count + 1; place = new }) (set out start.count (cut_of found new.words))
+  take-cut room none past clear =
+      let at = at-break in
+      let words = words_ahead text new in
+      let others = cuts_among new.words words bs in
+      let is = is-clear text new found.at counted-on none past clear in
+      let within : is_within words b.at ≡ false = ap (is_within words) (sym at) ∙ is.0 in
+      let count : new.words + words_before words b.at ≡ new.words = (let before : words_before words b.at ≡ 0 = ap (words_before words) (sym at) ∙ is.1 in omega arith) in
+      let first : cuts_among new.words words (b ∷ bs) ≡ cut_of found new.words ∷ others =
+      ap₂ (λ (w : Bool) (n : ℕ). cond w others (cut_by b n ∷ others)) within count ∙ ap (λ (r : RawBreak). (cut_of r new.words) ∷ others) shown in
+      record {
+        counted = counted-on;
+        rising = rising-on;
+        joined = joined-on ∙ ap (λ l. take start.count out ++ l) first
+            ∙ sym (append_assoc (take start.count out) (cut_of found new.words ∷ []) others)
+            ∙ ap (λ l. l ++ others) (sym (take_more_set out start.count (cut_of found new.words) room));
+      }
+
+  -- it is within a word
+  pub skip-break : (new.word.end ≡ 0) ⊎ (found.at < new.word.end) → (new.word.end ≡ 0 → ⊥) → new.word.start < found.at
+      → AreAmong text cuts bs (record { count = start.count; place = new }) out
+  skip-break past some inside =
+      let at = at-break in
+      let words = words_ahead text new in
+      let others = cuts_among new.words words bs in
+      let within : is_within words b.at ≡ true = ap (is_within words) (sym at) ∙ is-split text new found.at counted-on past some inside in
+      record {
+        counted = counted-on;
+        rising = rising-on;
+        joined = joined-on
+            ∙ ap (λ (w : Bool). take start.count out ++ cond w others (cut_by b (new.words + words_before words b.at) ∷ others)) within;
+      }
+
+-- one cut more is written
+pub within-more : (size count : ℕ) (out : List Cut) (c : Cut) → count < length out → c.at ≤ size → StandWithin size count out → StandWithin size (count + 1) (set out count c)
+within-more size count out c room below within = below_more _ _
+    (λ k h. let ne : k ≢ count = omega arith in rw get_or-set_other (within k h))
+    (rw get_or-set_same below)
+
+-- what was found of some cuts, and the others
+pub record IsSoFar (cell : ℕ → Cell) (table : FlatTable) (text : List ℕ) (cuts out : List Cut) (filled : Filled) : Type 0 where
+  pub rest : List Cut
+  pub joined : cuts ≡ take filled.count out ++ rest
+  pub onward : IsAhead cell table text filled.place rest
+
+module _ (cell : ℕ → Cell) (table : FlatTable) (text : List ℕ) (cuts : List Cut) where
+  -- the breaks that were read are to be taken
+  pub read-breaks : (room : ℕ) (here : Filled) (out : List Cut) (block : List RawBreak) (next : NextBreaks) → (s : IsSoFar cell table text cuts out here)
+      → AreNext cell table text s.onward.breaks room block next
+      → AreAmong text cuts (take next.count s.onward.breaks ++ drop next.count s.onward.breaks) (record { count = here.count; place = record here.place { breaks = next.state } }) out
+  read-breaks room here out block next s n =
+      let a = s.onward in
+      let all = take-append-drop next.count a.breaks in
+      record {
+        counted = record { few = a.counted.few; onward = a.counted.onward };
+        rising = subst (AreBreaksPast 0) (sym all) a.rising;
+        joined = s.joined ∙ ap (λ l. take here.count out ++ l) (a.among ∙ ap (cuts_among here.place.words (words_ahead text here.place)) (sym all));
+      }
+
+  pub read-on : (room : ℕ) (here new : Filled) (before out : List Cut) (block : List RawBreak) (next : NextBreaks) → (s : IsSoFar cell table text cuts before here)
+      → AreNext cell table text s.onward.breaks room block next → new.place.breaks ≡ next.state
+      → AreAmong text cuts (drop next.count s.onward.breaks) new out → IsSoFar cell table text cuts out new
+  read-on room here new before out block next s n same a = record {
+    rest = cuts_among new.place.words (words_ahead text new.place) (drop next.count s.onward.breaks);
+    joined = a.joined;
+    onward = record {
+      breaks = drop next.count s.onward.breaks;
+      comes = subst (λ (t : State). Comes cell table text t (drop next.count s.onward.breaks)) (sym same) n.onward;
+      counted = a.counted;
+      rising = a.rising;
+      among = refl;
+    };
+  }
+
+  none-of : (breaks : List Break) (room : ℕ) → 0 < room → 0 ≡ min room (length breaks) → breaks ≡ []
+  none-of [] room some counted = refl
+  none-of (b ∷ bs) room some counted = absurd (omega arith)
+
+  pub read-all : (room : ℕ) (here : Filled) (out : List Cut) (block : List RawBreak) (next : NextBreaks) → 0 < room → next.count ≡ 0 → (s : IsSoFar cell table text cuts out here)
+      → AreNext cell table text s.onward.breaks room block next → s.rest ≡ []
+  read-all room here out block next some none s n =
+      s.onward.among ∙ ap (cuts_among here.place.words (words_ahead text here.place)) (none-of s.onward.breaks room some (sym none ∙ n.counted))
+
+-- fewer breaks are left
+pub shorter-on : (text : List ℕ) (here there next : State) (count : ℕ) (first : State) → (count ≡ 0 → ⊥) → there ≡ next → (count ≡ 0) ⊎ (breaks_left text next < breaks_left text here)
+    → breaks_left text here ≤ breaks_left text first → breaks_left text there < breaks_left text first
+shorter-on text here there next count first some same (inl none) onward = absurd (some none)
+shorter-on text here there next count first some same (inr less) onward = (let e = ap (breaks_left text) same in omega (arith, e, less, onward))

@@ -1,12 +1,9 @@
 -- Cuts past a place.
-use Rattle.std.proofs.Common.{◌≡◌, ℕ, ◌<◌, ◌≤◌, Bool, true, false, cond, nat_le, List, [], ◌∷◌, refl, sym, ap, subst, ◌∙◌, arith}
+use Rattle.std.proofs.Common.{◌≡◌, ℕ, ◌-◌, ◌++◌, ◌<◌, ◌≤◌, Bool, true, false, cond, nat_le, List, [], ◌∷◌, refl, sym, ap, subst, ◌∙◌, arith}
 use Rattle.std.proofs.lemmas.Bool.Decides.{nat_tests}
-use Rattle.lbk_rules.specs.declared.Cell.{Cell}
-use Rattle.lbk_rules.specs.declared.FlatTable.{FlatTable}
 use Rattle.lbk_chunks.specs.declared.cut.Cut.{Cut}
-use Rattle.lbk_chunks.specs.declared.cursor.Found.{Found}
 use Rattle.lbk_chunks.specs.Chunks.{cuts_past}
-use Rattle.lbk_chunks.specs.Coming.{AreCutsPast, IsAhead, IsFirstPast, IsNextCut}
+use Rattle.lbk_chunks.specs.Coming.{AreCutsPast, IsCutOf}
 
 pub is-le : (a b : ℕ) → a ≤ b → nat_le a b ≡ true
 is-le a b h = grind (arith, nat_tests)
@@ -50,32 +47,59 @@ pub past-past : (at to : ℕ) (cs : List Cut) → at ≤ to → cuts_past to (cu
 past-past at to [] below = refl
 past-past at to (c ∷ cs) below = past-by at to c cs (nat_le c.at at) refl below (past-past at to cs below)
 
--- the next cut behind a place is the first past it
-pub next-past : (cell : ℕ → Cell) (table : FlatTable) (text : List ℕ) (cuts : List Cut) (at : ℕ) (found : Found) → AreCutsPast 0 cuts
-    → IsNextCut cell table text (cuts_past at cuts) found → IsFirstPast cell table text cuts at found
-next-past cell table text cuts at found rising n =
-    let past = subst (AreCutsPast at) n.joined (past-rising 0 at cuts rising) in
-    let rest : cuts_past found.cut.at cuts ≡ n.rest =
-    sym (past-past at found.cut.at cuts (omega (arith, past.0)))
-    ∙ ap (cuts_past found.cut.at) n.joined
-    ∙ past-before found.cut.at found.cut n.rest (omega arith)
-    ∙ past-all found.cut.at found.cut.at n.rest (omega arith) past.1 in
-    record {
-      joined = n.joined ∙ ap (λ l. found.cut ∷ l) (sym rest);
-      behind = record {
-        onward = subst (IsAhead cell table text found.place) (sym rest) n.onward;
-        counted = n.counted;
-      };
-    }
+-- the first past a place, and what is behind it
+pub first-split : (cuts : List Cut) (from : ℕ) (c : Cut) (rest : List Cut) → AreCutsPast 0 cuts → cuts_past from cuts ≡ c ∷ rest
+    → (from < c.at) × (rest ≡ cuts_past c.at cuts)
+first-split cuts from c rest rising joined =
+    let past = subst (AreCutsPast from) joined (past-rising 0 from cuts rising) in (
+      past.0,
+      sym (sym (past-past from c.at cuts (omega (arith, past.0)))
+          ∙ ap (cuts_past c.at) joined
+          ∙ past-before c.at c rest (omega arith)
+          ∙ past-all c.at c.at rest (omega arith) past.1),
+    )
 
 -- none is past it, and so past a later place
 pub none-past : (cuts : List Cut) (at to : ℕ) → at ≤ to → cuts_past at cuts ≡ [] → cuts_past to cuts ≡ []
 none-past cuts at to below none = sym (past-past at to cuts below) ∙ ap (cuts_past to) none
 
--- the first past a place is the first past a later one that it is behind
-pub first-later : (cell : ℕ → Cell) (table : FlatTable) (text : List ℕ) (cuts : List Cut) (at to : ℕ) (found : Found) → at ≤ to → to < found.cut.at
-    → IsFirstPast cell table text cuts at found → IsFirstPast cell table text cuts to found
-first-later cell table text cuts at to found below behind f = record {
-  joined = sym (past-past at to cuts below) ∙ ap (cuts_past to) f.joined ∙ past-behind to found.cut (cuts_past found.cut.at cuts) behind;
-  behind = f.behind;
-}
+-- a cut among those past a place, and what is behind it
+pub record IsSplit (cuts : List Cut) (from : ℕ) (c : Cut) (rest : List Cut) : Type 0 where
+  pub past : from < c.at
+  pub cut : IsCutOf cuts c
+  pub behind : rest ≡ cuts_past c.at cuts
+
+one-split : (cuts : List Cut) (from : ℕ) (c : Cut) (rest : List Cut) → AreCutsPast 0 cuts → cuts_past from cuts ≡ c ∷ rest → IsSplit cuts from c rest
+one-split cuts from c rest rising joined =
+    let s = first-split cuts from c rest rising joined in
+    record {
+      past = s.0;
+      cut = record {
+        some = omega (arith, s.0);
+        joined = sym (past-past from (c.at - 1) cuts (omega (arith, s.0))) ∙ ap (cuts_past (c.at - 1)) joined
+            ∙ past-behind (c.at - 1) c rest (omega (arith, s.0)) ∙ ap (λ l. c ∷ l) s.1;
+      };
+      behind = s.1;
+    }
+
+pub split : (front : List Cut) (cuts : List Cut) (from : ℕ) (c : Cut) (rest : List Cut) → AreCutsPast 0 cuts → cuts_past from cuts ≡ front ++ c ∷ rest
+    → IsSplit cuts from c rest
+split [] cuts from c rest rising joined = one-split cuts from c rest rising joined
+split (d ∷ ds) cuts from c rest rising joined =
+    let s = first-split cuts from d (ds ++ c ∷ rest) rising joined in
+    let more = split ds cuts d.at c rest rising (sym s.1) in
+    record { past = omega (arith, s.0, more.past); cut = more.cut; behind = more.behind }
+
+-- the first past a place is that past a later one that it is behind
+pub first-later : (cuts : List Cut) (from at : ℕ) (c : Cut) (rest : List Cut) → from ≤ at → at < c.at → cuts_past from cuts ≡ c ∷ rest → cuts_past at cuts ≡ c ∷ rest
+first-later cuts from at c rest below behind joined = sym (past-past from at cuts below) ∙ ap (cuts_past at) joined ∙ past-behind at c rest behind
+
+-- a cut of the text is the first past a place just before it
+pub cut-past : (cuts : List Cut) (at : ℕ) (c : Cut) (rest : List Cut) → AreCutsPast 0 cuts → cuts_past at cuts ≡ c ∷ rest → IsCutOf cuts c
+cut-past cuts at c rest rising joined = (one-split cuts at c rest rising joined).cut
+
+-- two cuts at the same byte are one
+pub cut-one : (cuts : List Cut) (c d : Cut) → IsCutOf cuts c → IsCutOf cuts d → c.at ≡ d.at → c ≡ d
+cut-one cuts c d is_c is_d same =
+    let both : c ∷ cuts_past c.at cuts ≡ d ∷ cuts_past d.at cuts = sym is_c.joined ∙ ap (λ n. cuts_past (n - 1) cuts) same ∙ is_d.joined in
+    let one : c ≡ d = cc in one

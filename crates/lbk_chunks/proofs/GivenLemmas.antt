@@ -1,5 +1,5 @@
 -- Chunks given, one after another.
-use Rattle.std.proofs.Common.{◌≡◌, ℕ, zero, suc, ◌+◌, ◌-◌, Bool, not, ◌<◌, ◌≤◌, List, [], ◌∷◌, ◌++◌, length, take, drop, refl, sym, ap, ap₂, subst, ◌∙◌, arith}
+use Rattle.std.proofs.Common.{◌≡◌, ℕ, zero, suc, ◌+◌, ◌-◌, Bool, true, not, ◌<◌, ◌≤◌, List, [], ◌∷◌, ◌++◌, length, take, drop, refl, sym, ap, ap₂, subst, ◌∙◌, arith}
 use Rattle.lbk_rules.specs.declared.Cell.{Cell}
 use Rattle.lbk_rules.specs.declared.FlatTable.{FlatTable}
 use Rattle.lbk_chunks.specs.declared.chunk.Chunk.{Chunk}
@@ -7,8 +7,12 @@ use Rattle.lbk_chunks.specs.declared.chunk.ChunkState.{ChunkState}
 use Rattle.lbk_chunks.specs.declared.chunk.Limits.{Limits}
 use Rattle.lbk_chunks.specs.declared.chunking.Given.{Given}
 use Rattle.lbk_chunks.specs.declared.cut.Cut.{Cut}
-use Rattle.lbk_chunks.specs.Chunks.{AreChunks, AreTold, Here, after, chunk_to, cuts_past, end_of, fits}
-use Rattle.lbk_chunks.specs.Coming.{ChunksCome, IsAt, IsGiven, here_of}
+use Rattle.lbk_chunks.specs.declared.cut.Place.{Place}
+use Rattle.lbk_chunks.specs.declared.cut_block.Mark.{Mark}
+use Rattle.lbk_chunks.specs.declared.window.Window.{Window}
+use Rattle.lbk_chunks.specs.Chunks.{AreChunks, AreTold, Here, after, are_limits, chunk_to, cuts_past, end_of, fits}
+use Rattle.lbk_chunks.specs.Coming.{AreCutsPast, AreGiven, AreKept, ChunksCome, IsAhead, IsGiven, IsMark, IsStanding, Knows, here_of}
+use Rattle.lbk_chunks.proofs.CutLemmas.{cut-one}
 
 -- the elements in front, and one more
 pub take-next : (n : ℕ) (xs : List Chunk) (x : Chunk) (rest : List Chunk) → drop n xs ≡ x ∷ rest
@@ -42,10 +46,10 @@ pub record IsFirstChunk (limits : Limits) (cuts : List Cut) (given : Given) (chu
   pub joined : chunks ≡ given.chunk ∷ rest
   pub onward : AreChunks limits cuts (here_of given.state) rest
 
-pub first-chunk : (cell : ℕ → Cell) (table : FlatTable) (text : List ℕ) (limits : Limits) (cuts : List Cut) (state : ChunkState) (given : Given) (chunks : List Chunk)
-    → IsGiven cell table text limits cuts state given → AreChunks limits cuts (here_of state) chunks → IsFirstChunk limits cuts given chunks
-first-chunk cell table text limits cuts state given [] g are = absurd (let joined = g.ends.joined in let no : ⊥ = cc in no)
-first-chunk cell table text limits cuts state given (chunk ∷ chunks) g are =
+pub first-chunk : (limits : Limits) (cuts : List Cut) (state : ChunkState) (given : Given) (chunks : List Chunk)
+    → IsGiven limits cuts state given → AreChunks limits cuts (here_of state) chunks → IsFirstChunk limits cuts given chunks
+first-chunk limits cuts state given [] g are = absurd (let joined = g.ends.joined in let no : ⊥ = cc in no)
+first-chunk limits cuts state given (chunk ∷ chunks) g are =
     let h = here_of state in
     let joined : are.0 ∷ are.1 ≡ g.ends.first ∷ cuts_past g.ends.first.at cuts = sym are.2 ∙ g.ends.joined in
     let same_first : are.0 ≡ g.ends.first = cc in
@@ -74,36 +78,72 @@ none-left zero (x ∷ xs) few none = absurd (let no : ⊥ = cc in no)
 none-left (suc n) [] few none = absurd (omega arith)
 none-left (suc n) (x ∷ xs) few none = (let more = none-left n xs (omega arith) none in omega arith)
 
--- what was given of the chunks to come
-pub record AreGiven (cell : ℕ → Cell) (table : FlatTable) (text : List ℕ) (limits : Limits) (to_come : List Chunk) (count : ℕ) (out : List Chunk) (state : ChunkState) : Type 0 where
-  pub few : count ≤ length to_come
-  pub front : take count out ≡ take count to_come
-  pub rest : ChunksCome cell table text limits state (drop count to_come)
+module _ (cell : ℕ → Cell) (table : FlatTable) (text : List ℕ) (limits : Limits) (cuts : List Cut) (to_come : List Chunk) where
+  pub give-none : (out : List Chunk) (window : Window) (state : ChunkState) → Knows cell table text cuts window state → AreChunks limits cuts (here_of state) to_come
+      → AreGiven cell table text limits cuts to_come 0 out window state
+  give-none out window state knows are = record {
+    few = omega arith;
+    front = refl;
+    rest = are;
+    knows = knows;
+    stands = λ no. absurd (omega arith);
+  }
 
-pub give-more : (cell : ℕ → Cell) (table : FlatTable) (text : List ℕ) (limits : Limits) (to_come : List Chunk) (count : ℕ) (before out : List Chunk) (state : ChunkState) (given : Given)
-    → AreGiven cell table text limits to_come count before state
-    → ((cuts : List Cut) → IsAt cell table text cuts state → IsGiven cell table text limits cuts state given)
-    → take (count + 1) out ≡ take count before ++ given.chunk ∷ []
-    → AreGiven cell table text limits to_come (count + 1) out given.state
-give-more cell table text limits to_come count before out state given were gives more =
-    let g = gives were.rest.cuts were.rest.stands in
-    let first = first-chunk cell table text limits were.rest.cuts state given (drop count to_come) g were.rest.chunks in
-    let one = one-more count to_come given.chunk first.rest first.joined in
+  pub give-more : (count : ℕ) (before out : List Chunk) (old new : Window) (state : ChunkState) (given : Given)
+      → AreGiven cell table text limits cuts to_come count before old state → IsGiven limits cuts state given
+      → take (count + 1) out ≡ take count before ++ given.chunk ∷ [] → Knows cell table text cuts new given.state
+      → AreGiven cell table text limits cuts to_come (count + 1) out new given.state
+  give-more count before out old new state given were g more knows =
+      let first = first-chunk limits cuts state given (drop count to_come) g were.rest in
+      let one = one-more count to_come given.chunk first.rest first.joined in
+      record {
+        few = one.2;
+        front = more ∙ ap (λ l. l ++ given.chunk ∷ []) were.front ∙ sym one.0;
+        rest = subst (AreChunks limits cuts (here_of given.state)) (sym one.1) first.onward;
+        knows = knows;
+        stands = λ _. g.stands;
+      }
+
+  pub none-more : (count : ℕ) (out : List Chunk) (window : Window) (state : ChunkState) → AreGiven cell table text limits cuts to_come count out window state
+      → cuts_past state.told cuts ≡ [] → count ≡ length to_come
+  none-more count out window state were none =
+      none-left count to_come were.few (no-chunk limits cuts (here_of state) (drop count to_come) none were.rest)
+
+-- what is to come of a text from a state that stands at a cut
+pub come-on : (cell : ℕ → Cell) (table : FlatTable) (text : List ℕ) (limits : Limits) (cuts : List Cut) (here : ChunkState) (place : Place) (to_come : List Chunk)
+    → are_limits limits ≡ true → AreCutsPast 0 cuts → here.start ≤ here.told → IsStanding cuts here.start here.place.words
+    → IsAhead cell table text place (cuts_past here.start cuts) → place.words ≡ here.place.words → AreChunks limits cuts (here_of here) to_come
+    → ChunksCome cell table text limits (record here { place = place }) to_come
+come-on cell table text limits cuts here place to_come in_range rising order stands ahead words are = record {
+  in_range = in_range;
+  cuts = cuts;
+  stands = record {
+    ahead = ahead;
+    counted = λ c same cut. words ∙ sym stands.2 ∙ ap (λ (d : Cut). d.words) (cut-one cuts stands.0 c stands.3 cut (stands.1 ∙ sym same));
+    rising = rising;
+    told = order;
+  };
+  chunks = subst (λ n. AreChunks limits cuts (record { start = here.start; words = n; told = here.told }) to_come) (sym words) are;
+}
+
+-- the window still has the cuts, and those from a later start on
+pub knows-on : (cell : ℕ → Cell) (table : FlatTable) (text : List ℕ) (cuts : List Cut) (old new : Window) (state here : ChunkState) → Knows cell table text cuts old state
+    → AreKept cell table text cuts new → new.home.at ≤ here.start → here.start ≤ here.told → Knows cell table text cuts new here
+knows-on cell table text cuts old new state here knows kept home told = record { rising = knows.rising; kept = kept; home = home; told = told }
+
+pub home-same : (old new : Window) (at : ℕ) → new.home ≡ old.home → old.home.at ≤ at → new.home.at ≤ at
+home-same old new at same before = subst (λ (m : Mark). m.at ≤ at) (sym same) before
+
+-- the window at a state has the cuts from there on
+pub knows-first : (cell : ℕ → Cell) (table : FlatTable) (text : List ℕ) (limits : Limits) (state : ChunkState) (to_come : List Chunk) (window : Window)
+    → (come : ChunksCome cell table text limits state to_come) → window.home ≡ record { place = state.place; at = state.start }
+    → ((cuts : List Cut) → AreCutsPast 0 cuts → IsMark cell table text cuts (record { place = state.place; at = state.start }) → AreKept cell table text cuts window)
+    → Knows cell table text come.cuts window state
+knows-first cell table text limits state to_come window come same are =
+    let s = come.stands in
     record {
-      few = one.2;
-      front = more ∙ ap (λ l. l ++ given.chunk ∷ []) were.front ∙ sym one.0;
-      rest = record {
-        in_range = were.rest.in_range;
-        cuts = were.rest.cuts;
-        stands = g.stands;
-        chunks = subst (AreChunks limits were.rest.cuts (here_of given.state)) (sym one.1) first.onward;
-      };
+      rising = s.rising;
+      kept = are come.cuts s.rising (record { ahead = s.ahead; counted = s.counted });
+      home = (let at = ap (λ (m : Mark). m.at) same in omega (arith, at));
+      told = s.told;
     }
-
-pub none-more : (cell : ℕ → Cell) (table : FlatTable) (text : List ℕ) (limits : Limits) (to_come : List Chunk) (count : ℕ) (out : List Chunk) (state : ChunkState)
-    → AreGiven cell table text limits to_come count out state
-    → ((cuts : List Cut) → IsAt cell table text cuts state → cuts_past state.told cuts ≡ [])
-    → count ≡ length to_come
-none-more cell table text limits to_come count out state were none =
-    none-left count to_come were.few
-    (no-chunk limits were.rest.cuts (here_of state) (drop count to_come) (none were.rest.cuts were.rest.stands) were.rest.chunks)

@@ -1,7 +1,10 @@
+pub mod BehindLemmas
 pub mod BreakLemmas
 pub mod WordLemmas
 pub mod CursorLemmas
 pub mod CutLemmas
+pub mod BlockLemmas
+pub mod WindowLemmas
 pub mod EndLemmas
 pub mod StartLemmas
 pub mod GivenLemmas

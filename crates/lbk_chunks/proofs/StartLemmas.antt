@@ -1,15 +1,15 @@
 -- Where the next chunk starts.
-use Rattle.std.proofs.Common.{◌≡◌, ℕ, ◌-◌, ◌*◌, ◌≤◌, ◌&&◌, Bool, true, false, cond, nat_le, nat_lt, List, [], ◌∷◌, Option, Some, None, refl, sym, ap, subst, ◌∙◌, arith}
+use Rattle.std.proofs.Common.{◌≡◌, ℕ, ◌-◌, ◌*◌, ◌/◌, ◌<◌, ◌≤◌, ◌⊎◌, ⊎_elim, inl, inr, ◌&&◌, Bool, true, false, cond, min, nat_le, nat_lt, List, [], ◌∷◌, Option, Some, None, refl, sym, ap, subst, ◌∙◌, arith}
 use Rattle.std.specs.Prelude.{find}
+use Rattle.std.proofs.lemmas.Bool.{cases_lt}
 use Rattle.std.proofs.lemmas.Bool.Decides.{nat_tests}
-use Rattle.lbk_rules.specs.declared.Cell.{Cell}
-use Rattle.lbk_rules.specs.declared.FlatTable.{FlatTable}
 use Rattle.lbk_chunks.specs.declared.chunk.ChunkState.{ChunkState}
 use Rattle.lbk_chunks.specs.declared.chunk.Limits.{Limits}
 use Rattle.lbk_chunks.specs.declared.cut.Cut.{Cut}
-use Rattle.lbk_chunks.specs.declared.cursor.Found.{Found}
+use Rattle.lbk_chunks.specs.declared.cut.Place.{Place}
 use Rattle.lbk_chunks.specs.Chunks.{Here, after, cuts_past, fits, may_start, start_among, start_at, start_before}
-use Rattle.lbk_chunks.specs.Coming.{AreCutsPast, IsAt, IsBehind, here_of}
+use Rattle.lbk_chunks.specs.Coming.{AreCutsPast, IsCutOf, IsStanding, here_of}
+use Rattle.lbk_chunks.proofs.CutLemmas.{past-past, past-rising}
 
 and-false : (a : Bool) → (a && false) ≡ false
 and-false true = refl
@@ -68,18 +68,43 @@ pub after-found : (l : Limits) (cuts more : List Cut) (h : Here) (end next : Cut
     → find (may_start l h end next) (cuts_past h.start cuts) ≡ found → after l cuts h end ≡ start_among end found
 after-found l cuts more h end next found behind is = ap (start_before l cuts h end) behind ∙ ap (start_among end) is
 
-pub here-at : (state : ChunkState) (c : Cut) (told : ℕ) → state.start ≡ c.at → state.place.words ≡ c.words → state.told ≡ told → here_of state ≡ start_at c told
-here-at state c told start words same =
-    ap (λ n. record { start = n; words = state.place.words; told = state.told }) start
-    ∙ ap (λ n. record { start = c.at; words = n; told = state.told }) words
-    ∙ ap (λ n. record { start = c.at; words = c.words; told = n }) same
+-- a cut that stands too far before the end starts no chunk
+pub too-early : (l : Limits) (h : Here) (end next c : Cut) → (l.overlap < end.at - c.at) ⊎ (end.at - h.start < 2 * (end.at - c.at)) → may_start l h end next c ≡ false
+too-early l h end next c (inl over) =
+    ap (λ b. nat_lt c.at end.at && (b && (nat_le (2 * (end.at - c.at)) (end.at - h.start) && fits l (record { start = c.at; words = c.words; told = end.at }) next)))
+    (let no : nat_le (end.at - c.at) l.overlap ≡ false = grind (arith, nat_tests) in no)
+    ∙ and-false (nat_lt c.at end.at)
+too-early l h end next c (inr half) =
+    ap (λ b. nat_lt c.at end.at && (nat_le (end.at - c.at) l.overlap && (b && fits l (record { start = c.at; words = c.words; told = end.at }) next)))
+    (let no : nat_le (2 * (end.at - c.at)) (end.at - h.start) ≡ false = grind (arith, nat_tests) in no)
+    ∙ ap (λ b. nat_lt c.at end.at && b) (and-false (nat_le (end.at - c.at) l.overlap)) ∙ and-false (nat_lt c.at end.at)
 
--- a state at a cut that was found
-pub stands : (cell : ℕ → Cell) (table : FlatTable) (text : List ℕ) (cuts : List Cut) (state : ChunkState) (found : Found) (told : ℕ)
-    → state ≡ record { place = found.place; start = found.cut.at; told = told } → IsBehind cell table text cuts found → AreCutsPast 0 cuts → found.cut.at ≤ told
-    → (here_of state ≡ start_at found.cut told) × IsAt cell table text cuts state
-stands cell table text cuts state found told is behind rising below =
-    let at : ChunkState = record { place = found.place; start = found.cut.at; told = told } in (
-      ap here_of is ∙ here-at at found.cut told refl behind.counted refl,
-      subst (IsAt cell table text cuts) (sym is) (record { ahead = behind.onward; rising = rising; told = below }),
-    )
+pub is-early : (start end overlap half twice at : ℕ) → half ≡ (end - start) / 2 → twice ≡ min overlap half → start < at → at ≤ end - twice - 1
+    → (overlap < end - at) ⊎ (end - start < 2 * (end - at))
+is-early start end overlap half twice at is_half is_twice after before =
+    ⊎_elim (λ (less : overlap < end - at). inl less) (λ (few : end - at ≤ overlap). inr (omega arith)) (cases_lt overlap (end - at))
+
+-- so the search may begin past those
+skip-by : (p : Cut → Bool) (at : ℕ) (c : Cut) (cs : List Cut) (b : Bool) → nat_le c.at at ≡ b → (c.at ≤ at → p c ≡ false) → find p cs ≡ find p (cuts_past at cs)
+    → find p (c ∷ cs) ≡ find p (cond b (cuts_past at cs) (c ∷ cs))
+skip-by p at c cs true is none more = find-not p c cs (none (grind (arith, nat_tests))) ∙ more
+skip-by p at c cs false is none more = refl
+
+find-skip : (p : Cut → Bool) (from at : ℕ) (cs : List Cut) → ((c : Cut) → from < c.at → c.at ≤ at → p c ≡ false) → AreCutsPast from cs → find p cs ≡ find p (cuts_past at cs)
+find-skip p from at [] none rising = refl
+find-skip p from at (c ∷ cs) none rising =
+    skip-by p at c cs (nat_le c.at at) refl (none c rising.0) (find-skip p c.at at cs (λ d past. none d (omega (arith, rising.0, past))) rising.1)
+
+pub find-later : (p : Cut → Bool) (start at : ℕ) (cuts : List Cut) → ((c : Cut) → start < c.at → c.at ≤ at → p c ≡ false) → AreCutsPast 0 cuts → start ≤ at
+    → find p (cuts_past start cuts) ≡ find p (cuts_past at cuts)
+find-later p start at cuts none rising below =
+    find-skip p start at (cuts_past start cuts) none (past-rising 0 start cuts rising) ∙ ap (find p) (past-past start at cuts below)
+
+-- a state at a cut
+pub stands : (cuts : List Cut) (state : ChunkState) (place : Place) (c : Cut) (told : ℕ)
+    → state ≡ record { place = record place { words = c.words }; start = c.at; told = told } → IsCutOf cuts c
+    → (here_of state ≡ start_at c told) × IsStanding cuts state.start state.place.words
+stands cuts state place c told is cut = (
+  ap here_of is,
+  (c, sym (ap (λ (s : ChunkState). s.start) is), sym (ap (λ (s : ChunkState). s.place.words) is), cut),
+)

@@ -90,6 +90,7 @@ stands-at_start cell table text profile flat =
         rising = breaks-rising 0 (pieces text) (marks profile cell (lossy_chars text)) (pieces-some (length text) text (omega arith));
         among = past-all 0 0 (cuts_of profile cell text) (omega arith) rising;
       };
+      counted = λ c same cut. absurd (omega (arith, same, cut.some));
       rising = rising;
       told = omega arith;
     }

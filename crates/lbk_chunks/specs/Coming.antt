@@ -1,23 +1,28 @@
 -- What is to come of a text from a place on.
-use Rattle.std.specs.Prelude.{◌≡◌, ℕ, true, ◌+◌, ◌-◌, ◌<◌, ◌≤◌, ◌==◌, ◌⊎◌, List, [], ◌∷◌, ◌++◌, length, Option, Some, None, if◌then◌else◌}
+use Rattle.std.specs.Prelude.{◌≡◌, ℕ, true, ◌+◌, ◌-◌, ◌<◌, ◌≤◌, ◌==◌, List, [], ◌∷◌, ◌++◌, drop, length, map, min, take, slice_index_or, Option, Some, None, if◌then◌else◌}
 use Rattle.std.specs.List.{list_all}
 use Rattle.lbk_rules.specs.declared.Break.{Break}
 use Rattle.lbk_rules.specs.declared.Cell.{Cell}
 use Rattle.lbk_rules.specs.declared.FlatTable.{FlatTable}
+use Rattle.lbk_bytes.specs.declared.raw_break.RawBreak.{RawBreak}
 use Rattle.lbk_bytes.specs.Shown.{raw_of}
 use Rattle.lbk_calls.specs.declared.interface.State.{State}
 use Rattle.lbk_calls.specs.Coming.{Comes}
 use Rattle.lbk_calls.specs.State.{start_in}
 use Rattle.lbk_values.specs.declared.profile.Profile.{Profile}
 use Rattle.lbk_words.specs.declared.word.Word.{Word}
-use Rattle.lbk_words.specs.Words.{words_on}
+use Rattle.lbk_words.specs.Words.{AreRising, words_on}
 use Rattle.lbk_chunks.specs.declared.chunk.Chunk.{Chunk}
 use Rattle.lbk_chunks.specs.declared.chunk.ChunkState.{ChunkState}
 use Rattle.lbk_chunks.specs.declared.chunk.Limits.{Limits}
 use Rattle.lbk_chunks.specs.declared.cut.Cut.{Cut}
 use Rattle.lbk_chunks.specs.declared.cut.Place.{Place}
-use Rattle.lbk_chunks.specs.declared.cursor.Found.{Found}
-use Rattle.lbk_chunks.specs.declared.cursor.NextBreak.{NextBreak}
+use Rattle.lbk_chunks.specs.declared.cursor.Filled.{Filled}
+use Rattle.lbk_chunks.specs.declared.cursor.NextBreaks.{NextBreaks}
+use Rattle.lbk_chunks.specs.declared.cut_block.CutBlock.{CutBlock}
+use Rattle.lbk_chunks.specs.declared.cut_block.Mark.{Mark}
+use Rattle.lbk_chunks.specs.declared.word_block.WordBlock.{WordBlock}
+use Rattle.lbk_chunks.specs.declared.window.Window.{Window}
 use Rattle.lbk_chunks.specs.declared.chunking.Given.{Given}
 use Rattle.lbk_chunks.specs.Chunks.{AreChunks, Here, after, are_limits, chunk_to, cuts_past, end_of, fits, fitting, last_early, last_of}
 use Rattle.lbk_chunks.specs.Cuts.{cuts_among}
@@ -42,10 +47,6 @@ left text place = (length text - place.from) + held place.word
 abbrev pub breaks_left : List ℕ → State → ℕ
 breaks_left text state = (length text - state.at) + (1 - state.ended)
 
--- a state stands past a byte, or has given all
-abbrev pub IsPast : ℕ → State → Type 0
-IsPast at state = (0 < state.ended) ⊎ (at < state.at)
-
 -- words stand one behind the other, from a byte on
 abbrev pub AreOnward : ℕ → List Word → Type 0
 AreOnward from [] = Unit {0}
@@ -68,14 +69,6 @@ pub record IsPassed (text : List ℕ) (at : ℕ) (old new : Place) : Type 0 wher
   pub cuts : AreCounted text old → (b : Break) (bs : List Break) → at ≤ b.at → AreBreaksPast b.at bs
       → cuts_among new.words (words_ahead text new) (b ∷ bs) ≡ cuts_among old.words (words_ahead text old) (b ∷ bs)
 
--- a break, and those that follow it
-pub record IsNextBreak (cell : ℕ → Cell) (table : FlatTable) (text : List ℕ) (breaks : List Break) (next : NextBreak) : Type 0 where
-  pub first : Break
-  pub rest : List Break
-  pub joined : breaks ≡ first ∷ rest
-  pub shown : next.found ≡ raw_of first
-  pub onward : Comes cell table text next.state rest
-
 -- these cuts come from a place on
 pub record IsAhead (cell : ℕ → Cell) (table : FlatTable) (text : List ℕ) (place : Place) (cuts : List Cut) : Type 0 where
   pub breaks : List Break
@@ -84,26 +77,101 @@ pub record IsAhead (cell : ℕ → Cell) (table : FlatTable) (text : List ℕ) (
   pub rising : AreBreaksPast 0 breaks
   pub among : cuts ≡ cuts_among place.words (words_ahead text place) breaks
 
--- a cut, and the place behind it
-pub record IsNextCut (cell : ℕ → Cell) (table : FlatTable) (text : List ℕ) (cuts : List Cut) (found : Found) : Type 0 where
+-- words that were read: those in the block, and those behind it
+pub record AreRead (text : List ℕ) (block : WordBlock) : Type 0 where
+  pub size : length block.words ≡ 64
+  pub few : block.next ≤ block.count
+  pub room : block.count ≤ 64
+  pub joined : words_on text block.from ≡ drop block.next (take block.count block.words) ++ words_on text block.rest
+  pub rising : AreRising block.from block.rest (drop block.next (take block.count block.words))
+  pub within : block.from ≤ length text → block.rest ≤ length text
+
+-- the first word from a byte on
+pub record IsFirstWord (text : List ℕ) (from : ℕ) (word : Word) : Type 0 where
+  pub joined : words_on text from ≡ word ∷ words_on text word.end
+  pub behind : from ≤ word.start
+  pub some : word.start < word.end
+  pub within : word.end ≤ length text
+
+-- a cut where there is none
+abbrev pub no_cut : Cut
+no_cut = record { at = 0; words = 0; kind = 0; rule = 0 }
+
+-- the cuts in front of a block stand within a text of this size
+abbrev pub StandWithin : ℕ → ℕ → List Cut → Type 0
+StandWithin size count out = (k : ℕ) → k < count → (slice_index_or out k no_cut).at ≤ size
+
+-- of some breaks as many are in front of a block as it holds, and the others come from a state on
+pub record AreNext (cell : ℕ → Cell) (table : FlatTable) (text : List ℕ) (breaks : List Break) (room : ℕ) (block : List RawBreak) (next : NextBreaks) : Type 0 where
+  pub counted : next.count ≡ min room (length breaks)
+  pub shown : map raw_of (take next.count breaks) ≡ take next.count block
+  pub onward : Comes cell table text next.state (drop next.count breaks)
+
+-- of some cuts those in front of a block were found, and the others are among these breaks
+pub record AreAmong (text : List ℕ) (cuts : List Cut) (breaks : List Break) (filled : Filled) (out : List Cut) : Type 0 where
+  pub counted : AreCounted text filled.place
+  pub rising : AreBreaksPast 0 breaks
+  pub joined : cuts ≡ take filled.count out ++ cuts_among filled.place.words (words_ahead text filled.place) breaks
+
+-- of some cuts as many are in front of a block as there is room for, and the others come from a place on
+pub record AreFirst (cell : ℕ → Cell) (table : FlatTable) (text : List ℕ) (cuts : List Cut) (room : ℕ) (out : List Cut) (filled : Filled) : Type 0 where
   pub rest : List Cut
-  pub joined : cuts ≡ found.cut ∷ rest
-  pub onward : IsAhead cell table text found.place rest
-  pub counted : found.place.words ≡ found.cut.words
+  pub joined : cuts ≡ take filled.count out ++ rest
+  pub onward : IsAhead cell table text filled.place rest
+  pub all : filled.count < room → rest ≡ []
 
--- cuts stand one behind the other, past a byte: those of a text past a place are the ones to come there
-pub record IsBehind (cell : ℕ → Cell) (table : FlatTable) (text : List ℕ) (cuts : List Cut) (found : Found) : Type 0 where
-  pub onward : IsAhead cell table text found.place (cuts_past found.cut.at cuts)
-  pub counted : found.place.words ≡ found.cut.words
+-- this is one of the cuts
+pub record IsCutOf (cuts : List Cut) (c : Cut) : Type 0 where
+  pub some : 0 < c.at
+  pub joined : cuts_past (c.at - 1) cuts ≡ c ∷ cuts_past c.at cuts
 
--- the first cut past a place
-pub record IsFirstPast (cell : ℕ → Cell) (table : FlatTable) (text : List ℕ) (cuts : List Cut) (at : ℕ) (found : Found) : Type 0 where
-  pub joined : cuts_past at cuts ≡ found.cut ∷ cuts_past found.cut.at cuts
-  pub behind : IsBehind cell table text cuts found
+-- one of the cuts stands at this byte, and so many words are before it
+abbrev pub IsStanding : List Cut → ℕ → ℕ → Type 0
+IsStanding cuts at words = (c : Cut) × (c.at ≡ at) × (c.words ≡ words) × IsCutOf cuts c
+
+-- the cuts past a byte come from the place, which counts the words before the cut there
+pub record IsMark (cell : ℕ → Cell) (table : FlatTable) (text : List ℕ) (cuts : List Cut) (mark : Mark) : Type 0 where
+  pub ahead : IsAhead cell table text mark.place (cuts_past mark.at cuts)
+  pub counted : (c : Cut) → c.at ≡ mark.at → IsCutOf cuts c → mark.place.words ≡ c.words
+
+-- whatever the table has, the cuts of a block stand within the text, and its end is that of the last
+pub record IsSafe (text : List ℕ) (block : CutBlock) : Type 0 where
+  pub size : length block.cuts ≡ 64
+  pub some : 0 < block.room
+  pub room : block.room ≤ 64
+  pub few : block.count ≤ block.room
+  pub within : StandWithin (length text) block.count block.cuts
+  pub end : block.behind.at ≡ (if block.count == 0 then block.before.at else (slice_index_or block.cuts (block.count - 1) no_cut).at)
+
+-- the first cuts past a byte are in the block
+pub record IsBlock (cell : ℕ → Cell) (table : FlatTable) (text : List ℕ) (cuts : List Cut) (block : CutBlock) : Type 0 where
+  pub before : IsMark cell table text cuts block.before
+  pub rest : List Cut
+  pub joined : cuts_past block.before.at cuts ≡ take block.count block.cuts ++ rest
+  pub all : block.count < block.room → rest ≡ []
+  pub behind : block.count ≡ block.room → IsMark cell table text cuts block.behind
+
+pub record IsKept (text : List ℕ) (window : Window) : Type 0 where
+  pub older : IsSafe text window.older
+  pub newer : IsSafe text window.newer
+  pub words : AreRead text window.words
+
+pub record AreKept (cell : ℕ → Cell) (table : FlatTable) (text : List ℕ) (cuts : List Cut) (window : Window) : Type 0 where
+  pub older : IsBlock cell table text cuts window.older
+  pub newer : IsBlock cell table text cuts window.newer
+  pub home : IsMark cell table text cuts window.home
+
+-- the window has the cuts of a text from the start of a chunk on
+pub record Knows (cell : ℕ → Cell) (table : FlatTable) (text : List ℕ) (cuts : List Cut) (window : Window) (state : ChunkState) : Type 0 where
+  pub rising : AreCutsPast 0 cuts
+  pub kept : AreKept cell table text cuts window
+  pub home : window.home.at ≤ state.start
+  pub told : state.start ≤ state.told
 
 -- a state stands at a cut of a text with these cuts, or at its start
 pub record IsAt (cell : ℕ → Cell) (table : FlatTable) (text : List ℕ) (cuts : List Cut) (state : ChunkState) : Type 0 where
   pub ahead : IsAhead cell table text state.place (cuts_past state.start cuts)
+  pub counted : (c : Cut) → c.at ≡ state.start → IsCutOf cuts c → state.place.words ≡ c.words
   pub rising : AreCutsPast 0 cuts
   pub told : state.start ≤ state.told
 
@@ -117,12 +185,12 @@ pub record IsEnd (limits : Limits) (cuts : List Cut) (state : ChunkState) (end :
   pub is : end ≡ end_of limits (here_of state) first (cuts_past first.at cuts)
 
 -- the chunk from a state on, and the state behind it
-pub record IsGiven (cell : ℕ → Cell) (table : FlatTable) (text : List ℕ) (limits : Limits) (cuts : List Cut) (state : ChunkState) (given : Given) : Type 0 where
+pub record IsGiven (limits : Limits) (cuts : List Cut) (state : ChunkState) (given : Given) : Type 0 where
   pub end : Cut
   pub ends : IsEnd limits cuts state end
   pub chunk : given.chunk ≡ chunk_to limits (here_of state) end
   pub next : here_of given.state ≡ after limits cuts (here_of state) end
-  pub stands : IsAt cell table text cuts given.state
+  pub stands : IsStanding cuts given.state.start given.state.place.words
 
 -- the state at the start of a text
 abbrev pub state_start : Profile → ChunkState
@@ -139,25 +207,23 @@ pub record ChunksCome (cell : ℕ → Cell) (table : FlatTable) (text : List ℕ
   pub stands : IsAt cell table text cuts state
   pub chunks : AreChunks limits cuts (here_of state) to_come
 
--- the cut of what was found
-abbrev pub cut_found : Option Found → Option Cut
-cut_found None = None
-cut_found (Some found) = Some found.cut
-
--- what was found, or else the last
-abbrev pub found_or : Option Found → Found → Found
-found_or None last = last
-found_or (Some found) last = found
+-- what was given of the chunks to come, and what the others come from
+pub record AreGiven (cell : ℕ → Cell) (table : FlatTable) (text : List ℕ) (limits : Limits) (cuts : List Cut) (to_come : List Chunk) (count : ℕ) (out : List Chunk) (window : Window) (state : ChunkState) : Type 0 where
+  pub few : count ≤ length to_come
+  pub front : take count out ≡ take count to_come
+  pub rest : AreChunks limits cuts (here_of state) (drop count to_come)
+  pub knows : Knows cell table text cuts window state
+  pub stands : 0 < count → IsStanding cuts state.start state.place.words
 
 -- the cuts ahead of a state fit up to the last one, and a chunk may end early at that which was found
-pub record IsEnding (cell : ℕ → Cell) (table : FlatTable) (text : List ℕ) (limits : Limits) (cuts : List Cut) (state : ChunkState) (last : Found) (early : Option Found) : Type 0 where
+pub record IsEnding (limits : Limits) (cuts : List Cut) (state : ChunkState) (last : Cut) (early : Option Cut) : Type 0 where
   pub first : Cut
   pub joined : cuts_past state.told cuts ≡ first ∷ cuts_past first.at cuts
   pub fits_first : fits limits (here_of state) first ≡ true
-  pub all : list_all (fits limits (here_of state)) (cuts_past first.at cuts) ≡ list_all (fits limits (here_of state)) (cuts_past last.cut.at cuts)
-  pub whole : last_of first (cuts_past first.at cuts) ≡ last_of last.cut (cuts_past last.cut.at cuts)
-  pub full : last_of first (fitting limits (here_of state) (cuts_past first.at cuts)) ≡ last_of last.cut (fitting limits (here_of state) (cuts_past last.cut.at cuts))
+  pub all : list_all (fits limits (here_of state)) (cuts_past first.at cuts) ≡ list_all (fits limits (here_of state)) (cuts_past last.at cuts)
+  pub whole : last_of first (cuts_past first.at cuts) ≡ last_of last (cuts_past last.at cuts)
+  pub full : last_of first (fitting limits (here_of state) (cuts_past first.at cuts)) ≡ last_of last (fitting limits (here_of state) (cuts_past last.at cuts))
   pub early_end : last_early limits (here_of state) None (first ∷ fitting limits (here_of state) (cuts_past first.at cuts))
-      ≡ last_early limits (here_of state) (cut_found early) (fitting limits (here_of state) (cuts_past last.cut.at cuts))
-  pub behind : IsBehind cell table text cuts last
-  pub early_behind : (found : Found) → early ≡ Some found → IsBehind cell table text cuts found
+      ≡ last_early limits (here_of state) early (fitting limits (here_of state) (cuts_past last.at cuts))
+  pub cut : IsCutOf cuts last
+  pub early_cut : (c : Cut) → early ≡ Some c → IsCutOf cuts c

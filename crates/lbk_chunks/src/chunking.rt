@@ -1,18 +1,19 @@
 //! Chunks, a block at a time.
 
-ghost use Rattle.std.specs.Prelude.{◌≡◌, ℕ, ◌<◌, ◌≤◌, [], ◌∷◌, false, true, List, IfSome, MatchOption, drop, length, min, take, if◌then◌else◌};
+ghost use Rattle.std.specs.Prelude.{◌≡◌, ℕ, ◌<◌, ◌≤◌, [], false, true, List, IfSome, MatchOption, drop, length, min, take, if◌then◌else◌};
 ghost use Rattle.lbk_rules.specs.declared.Cell.{Cell};
 ghost use Rattle.lbk_values.specs.declared.profile.Profile.{Profile};
 ghost use Rattle.lbk_rules.specs.FlatTable.{IsFlatOf};
 ghost use Rattle.lbk_chunks.specs.declared.chunk.Chunk.{Chunk};
 ghost use Rattle.lbk_chunks.specs.declared.cut.Cut.{Cut};
 ghost use Rattle.lbk_chunks.specs.Chunks.{AreChunks, AreTold, after, are_limits, cuts_past, fits, is_early, may_start, text_start};
-ghost use Rattle.lbk_chunks.specs.Coming.{ChunksCome, IsAt, IsBehind, IsEnd, IsFirstPast, IsGiven, IsPast, found_or, here_of, state_start};
-ghost use Rattle.lbk_chunks.specs.Cuts.{cuts_of};
+ghost use Rattle.lbk_chunks.specs.Coming.{AreGiven, AreKept, ChunksCome, IsCutOf, IsEnd, IsGiven, IsKept, IsStanding, Knows, here_of, state_start};
+ghost use Rattle.lbk_chunks.specs.Cuts.{AreCutsPast, cuts_of};
 
 use crate::chunk::{Chunk, ChunkState, Limits};
-use crate::cursor::{Found, next_cut};
-use crate::cut::Cut;
+use crate::cut::{Cut, Place};
+use crate::cut_block::Mark;
+use crate::window::Window;
 use lbk_rules::FlatTable;
 
 /// Puts the next chunks of a text into the front of the block, from the state on, and returns how many: as many as the block
@@ -44,11 +45,50 @@ pub fn chunks(
     if !are_limits(limits) {
         return 0;
     }
+    if state.told < state.start {
+        return 0;
+    }
+    let home = Mark {
+        place: state.place,
+        at: state.start,
+    };
+    let mut window = Window::new(table, text, home);
+    let mut here = *state;
+    let count = give_chunks(table, limits, &mut here, text, &mut window, out);
+    if count == 0 {
+        return 0;
+    }
+    let place = window.place_of(table, text, here.start);
+    *state = ChunkState { place, ..here };
+    count
+}
+
+/// Puts the next chunks into the front of the block. Of the state's place only the number of words is kept.
+fn give_chunks(
+    table: &FlatTable,
+    limits: &Limits,
+    state: &mut ChunkState,
+    text: &[u8],
+    window: &mut Window,
+    out: &mut [Chunk],
+) -> usize
+    requires kept { IsKept text.now window.old }
+    requires order { state.old.start ≤ state.old.told }
+    ensures kept { IsKept text.now window.new }
+    ensures within { result ≤ length out.old }
+    ensures told { AreTold state.old.told state.new.told (length text.now) (take result out.new) }
+    ensures none { result ≡ 0 → state.new ≡ state.old }
+    ensures order { state.new.start ≤ state.new.told }
+    ensures given { (cell : ℕ → Cell) (cuts : List Cut) (to_come : List Chunk) → Knows cell table.now text.now cuts window.old state.old
+        → AreChunks limits.now cuts (here_of state.old) to_come
+        → AreGiven cell table.now text.now limits.now cuts to_come result out.new window.new state.new × (result ≡ min (length out.old) (length to_come)) }
+{
     let mut count = 0;
     while count < out.len() {
-        let Some(given) = next_chunk(table, limits, state, text) else {
+        let Some(given) = next_chunk(table, limits, state, text, window) else {
             return count;
         };
+        window.settle(given.state.start);
         out[count] = given.chunk;
         *state = given.state;
         count += 1;
@@ -64,50 +104,68 @@ struct Given {
 }
 
 /// The next chunk from a state on.
-fn next_chunk(table: &FlatTable, limits: &Limits, state: &ChunkState, text: &[u8]) -> Option<Given>
-    ensures given { (cell : ℕ → Cell) (cuts : List Cut) → IsAt cell table.now text.now cuts state.now
-        → MatchOption result (cuts_past state.now.told cuts ≡ []) (λ given. IsGiven cell table.now text.now limits.now cuts state.now given) }
-    ensures places { IfSome result (λ given. (given.chunk.start ≡ state.now.start) × (state.now.start ≤ state.now.told)
+fn next_chunk(
+    table: &FlatTable,
+    limits: &Limits,
+    state: &ChunkState,
+    text: &[u8],
+    window: &mut Window,
+) -> Option<Given>
+    requires { IsKept text.now window.old }
+    ensures kept { IsKept text.now window.new }
+    ensures home { window.new.home ≡ window.old.home }
+    ensures are { (cell : ℕ → Cell) (cuts : List Cut) → AreCutsPast 0 cuts → AreKept cell table.now text.now cuts window.old → AreKept cell table.now text.now cuts window.new }
+    ensures given { (cell : ℕ → Cell) (cuts : List Cut) → Knows cell table.now text.now cuts window.old state.now
+        → MatchOption result (cuts_past state.now.told cuts ≡ []) (IsGiven limits.now cuts state.now) }
+    ensures places { IfSome result (λ given. (given.chunk.start ≡ state.now.start)
         × (state.now.told < given.chunk.end) × (given.chunk.end ≤ length text.now)
         × (given.state.told ≡ given.chunk.end) × (given.state.start ≤ given.state.told)) }
+    ensures onward { state.now.start ≤ state.now.told → IfSome result (λ given. state.now.start ≤ given.state.start) }
 {
-    if state.told < state.start {
-        return None;
-    }
-    let Some(end) = chunk_end(table, limits, state, text) else {
+    let Some(end) = chunk_end(table, limits, state, text, window) else {
         return None;
     };
     let chunk = Chunk {
         start: state.start,
-        end: end.cut.at,
-        words: end.cut.words.saturating_sub(state.place.words),
-        kind: end.cut.kind,
-        rule: end.cut.rule,
-        alone: !fits(limits, state, &end.cut),
+        end: end.at,
+        words: end.words.saturating_sub(state.place.words),
+        kind: end.kind,
+        rule: end.rule,
+        alone: !fits(limits, state, &end),
     };
     Some(Given {
         chunk,
-        state: next_start(table, limits, state, &end, text),
+        state: next_start(table, limits, state, &end, text, window),
     })
 }
 
-/// Where the chunk ends.
-fn chunk_end(table: &FlatTable, limits: &Limits, state: &ChunkState, text: &[u8]) -> Option<Found>
-    ensures end { (cell : ℕ → Cell) (cuts : List Cut) → IsAt cell table.now text.now cuts state.now
-        → MatchOption result (cuts_past state.now.told cuts ≡ []) (λ end. IsEnd limits.now cuts state.now end.cut × IsBehind cell table.now text.now cuts end) }
-    ensures places { IfSome result (λ end. (state.now.told < end.cut.at) × (end.cut.at ≤ length text.now)) }
+/// The cut at which the chunk ends.
+fn chunk_end(
+    table: &FlatTable,
+    limits: &Limits,
+    state: &ChunkState,
+    text: &[u8],
+    window: &mut Window,
+) -> Option<Cut>
+    requires { IsKept text.now window.old }
+    ensures kept { IsKept text.now window.new }
+    ensures home { window.new.home ≡ window.old.home }
+    ensures are { (cell : ℕ → Cell) (cuts : List Cut) → AreCutsPast 0 cuts → AreKept cell table.now text.now cuts window.old → AreKept cell table.now text.now cuts window.new }
+    ensures end { (cell : ℕ → Cell) (cuts : List Cut) → Knows cell table.now text.now cuts window.old state.now
+        → MatchOption result (cuts_past state.now.told cuts ≡ []) (λ end. IsEnd limits.now cuts state.now end × IsCutOf cuts end) }
+    ensures places { IfSome result (λ end. (state.now.told < end.at) × (end.at ≤ length text.now)) }
 {
-    let Some(first) = first_past(table, state, text) else {
+    let Some(first) = window.first_past(table, text, state.told) else {
         return None;
     };
-    if !fits(limits, state, &first.cut) {
+    if !fits(limits, state, &first) {
         return Some(first);
     }
     let mut last = first;
     let mut early = early_or(limits, state, first, None);
-    while let Some(next) = next_cut(table, text, last.place) {
-        if !fits(limits, state, &next.cut) {
-            return Some(found_or(early, last));
+    while let Some(next) = window.first_past(table, text, last.at) {
+        if !fits(limits, state, &next) {
+            return Some(early.unwrap_or(last));
         }
         last = next;
         early = early_or(limits, state, next, early);
@@ -115,42 +173,15 @@ fn chunk_end(table: &FlatTable, limits: &Limits, state: &ChunkState, text: &[u8]
     Some(last)
 }
 
-/// The first cut behind what was told.
-fn first_past(table: &FlatTable, state: &ChunkState, text: &[u8]) -> Option<Found>
-    ensures first { (cell : ℕ → Cell) (cuts : List Cut) → IsAt cell table.now text.now cuts state.now
-        → MatchOption result (cuts_past state.now.told cuts ≡ []) (λ first. IsFirstPast cell table.now text.now cuts state.now.told first) }
-    ensures places { IfSome result (λ first. (state.now.told < first.cut.at) × (first.cut.at ≤ length text.now) × IsPast first.cut.at first.place.breaks) }
-{
-    let mut here = state.place;
-    while let Some(found) = next_cut(table, text, here) {
-        if state.told < found.cut.at {
-            return Some(found);
-        }
-        here = found.place;
-    }
-    None
-}
-
 /// A cut at which the chunk may end early, or else what was found so far.
-fn early_or(
-    limits: &Limits,
-    state: &ChunkState,
-    found: Found,
-    early: Option<Found>,
-) -> Option<Found>
-    ensures { result ≡ (if is_early limits.now (here_of state.now) found.cut then Some found else early) }
+#[inline(always)]
+fn early_or(limits: &Limits, state: &ChunkState, cut: Cut, early: Option<Cut>) -> Option<Cut>
+    ensures { result ≡ (if is_early limits.now (here_of state.now) cut then Some cut else early) }
 {
-    if found.cut.kind == MUST && limits.least <= found.cut.at.saturating_sub(state.told) {
-        return Some(found);
+    if cut.kind == MUST && limits.least <= cut.at.saturating_sub(state.told) {
+        return Some(cut);
     }
     early
-}
-
-/// What was found so far, or else the last.
-fn found_or(early: Option<Found>, last: Found) -> Found
-    ensures { result ≡ found_or early last }
-{
-    early.unwrap_or(last)
 }
 
 /// The state behind a chunk that ends at a cut.
@@ -158,46 +189,72 @@ fn next_start(
     table: &FlatTable,
     limits: &Limits,
     state: &ChunkState,
-    end: &Found,
+    end: &Cut,
     text: &[u8],
+    window: &mut Window,
 ) -> ChunkState
-    ensures next { (cell : ℕ → Cell) (cuts : List Cut) → IsAt cell table.now text.now cuts state.now → IsBehind cell table.now text.now cuts end.now
-        → (here_of result ≡ after limits.now cuts (here_of state.now) end.now.cut) × IsAt cell table.now text.now cuts result }
-    ensures told { (result.told ≡ end.now.cut.at) × (result.start ≤ result.told) }
+    requires { IsKept text.now window.old }
+    ensures kept { IsKept text.now window.new }
+    ensures home { window.new.home ≡ window.old.home }
+    ensures are { (cell : ℕ → Cell) (cuts : List Cut) → AreCutsPast 0 cuts → AreKept cell table.now text.now cuts window.old → AreKept cell table.now text.now cuts window.new }
+    ensures next { (cell : ℕ → Cell) (cuts : List Cut) → Knows cell table.now text.now cuts window.old state.now → state.now.told < end.now.at → IsCutOf cuts end.now
+        → (here_of result ≡ after limits.now cuts (here_of state.now) end.now) × IsStanding cuts result.start result.place.words }
+    ensures told { (result.told ≡ end.now.at) × (result.start ≤ result.told) }
+    ensures onward { state.now.start ≤ end.now.at → state.now.start ≤ result.start }
 {
-    let fresh = started(end, end.cut.at);
+    let fresh = started(state, end, end.at);
     if limits.overlap == 0 {
         return fresh;
     }
-    let Some(next) = next_cut(table, text, end.place) else {
+    let Some(next) = window.first_past(table, text, end.at) else {
         return fresh;
     };
-    let mut here = state.place;
-    while let Some(found) = next_cut(table, text, here) {
-        if end.cut.at <= found.cut.at {
+    let mut at = start_from(limits, state, end.at);
+    while let Some(found) = window.first_past(table, text, at) {
+        if end.at <= found.at {
             return fresh;
         }
-        let again = started(&found, end.cut.at);
-        if may_start(limits, state, &again, &next.cut) {
+        let again = started(state, &found, end.at);
+        if may_start(limits, state, &again, &next) {
             return again;
         }
-        here = found.place;
+        at = found.at;
     }
     fresh
 }
 
-/// The state at a cut.
-fn started(found: &Found, told: usize) -> ChunkState
-    ensures { result ≡ record { place = found.now.place; start = found.now.cut.at; told = told } }
+/// A byte up to which no cut starts the next chunk, since too much would be said twice.
+fn start_from(limits: &Limits, state: &ChunkState, end: usize) -> usize
+    ensures start { state.now.start ≤ result }
+    ensures none { (last next cut : Cut) → last.at ≡ end → state.now.start < end → state.now.start < cut.at → cut.at ≤ result
+        → may_start limits.now (here_of state.now) last next cut ≡ false }
+{
+    let half = end.saturating_sub(state.start) / 2;
+    let twice = limits.overlap.min(half);
+    let from = end.saturating_sub(twice).saturating_sub(1);
+    if from < state.start {
+        return state.start;
+    }
+    from
+}
+
+/// The state at a cut. Of its place only the number of words is right.
+#[inline(always)]
+fn started(state: &ChunkState, cut: &Cut, told: usize) -> ChunkState
+    ensures { result ≡ record { place = record state.now.place { words = cut.now.words }; start = cut.now.at; told = told } }
 {
     ChunkState {
-        place: found.place,
-        start: found.cut.at,
+        place: Place {
+            words: cut.words,
+            ..state.place
+        },
+        start: cut.at,
         told,
     }
 }
 
 /// Whether the next chunk may start there, before the end of this one.
+#[inline(always)]
 fn may_start(limits: &Limits, state: &ChunkState, again: &ChunkState, next: &Cut) -> bool
     ensures { (end cut : Cut) → end.at ≡ again.now.told → cut.at ≡ again.now.start → cut.words ≡ again.now.place.words
         → result ≡ may_start limits.now (here_of state.now) end next.now cut }
@@ -211,6 +268,7 @@ fn may_start(limits: &Limits, state: &ChunkState, again: &ChunkState, next: &Cut
 }
 
 /// Whether a chunk from a state on that ends at a cut is within the limits.
+#[inline(always)]
 fn fits(limits: &Limits, state: &ChunkState, cut: &Cut) -> bool
     ensures { result ≡ fits limits.now (here_of state.now) cut.now }
 {

@@ -1,84 +1,163 @@
-//! The cuts of a text, one after another.
+//! The cuts of a text, a block at a time.
 
-ghost use Rattle.std.specs.Prelude.{◌≡◌, ℕ, ◌<◌, ◌≤◌, [], List, IfSome, MatchOption, length};
+ghost use Rattle.std.specs.Prelude.{◌≡◌, ◌⊎◌, ℕ, ◌+◌, ◌-◌, ◌<◌, ◌≤◌, List, ◌∷◌, ◌++◌, length, map, slice_index_or, take};
+ghost use Rattle.lbk_bytes.specs.Order.{no_break};
+ghost use Rattle.lbk_bytes.specs.Shown.{raw_of};
 ghost use Rattle.lbk_rules.specs.declared.Break.{Break};
 ghost use Rattle.lbk_rules.specs.declared.Cell.{Cell};
 ghost use Rattle.lbk_calls.specs.Coming.{Comes};
 ghost use Rattle.lbk_chunks.specs.declared.cut.Cut.{Cut};
-ghost use Rattle.lbk_chunks.specs.Coming.{IsAhead, IsNextBreak, IsNextCut, IsPast, breaks_left};
+ghost use Rattle.lbk_chunks.specs.Coming.{AreAmong, AreFirst, AreNext, AreRead, StandWithin, IsAhead, breaks_left, no_cut};
 
 use crate::cut::{Cut, Place};
+use crate::word_block::WordBlock;
 use crate::words_behind::pass_words;
 use lbk_bytes::RawBreak;
 use lbk_calls::{State, give_breaks};
 use lbk_rules::FlatTable;
 
-/// A cut, and the place behind it.
+/// How far a block is filled with cuts.
 #[derive(Clone, Copy)]
-pub(crate) struct Found {
-    pub(crate) cut: Cut,
+pub(crate) struct Filled {
+    /// How many cuts stand in the front of the block.
+    pub(crate) count: usize,
+    /// The place behind the breaks that were read.
     pub(crate) place: Place,
 }
 
-/// A break, and the state behind it.
+/// Puts the first cuts from a place on into the front of a block: as many as there is room for, or all.
+pub(crate) fn fill_cuts(
+    table: &FlatTable,
+    text: &[u8],
+    place: Place,
+    words: &mut WordBlock,
+    room: usize,
+    out: &mut [Cut; 64],
+) -> Filled
+    requires room { room ≤ 64 }
+    requires read { AreRead text.now words.old }
+    ensures read { AreRead text.now words.new }
+    ensures first { (cell : ℕ → Cell) (cuts : List Cut) → IsAhead cell table.now text.now place cuts → AreFirst cell table.now text.now cuts room out.new result }
+    ensures room { result.count ≤ room }
+    ensures within { StandWithin (length text.now) result.count out.new }
+    ensures counted { 0 < result.count → result.count ≡ room → result.place.words ≡ (slice_index_or out.new (result.count - 1) no_cut).words }
+    ensures shorter { (result.count ≡ 0) ⊎ (breaks_left text.now result.place.breaks < breaks_left text.now place.breaks) }
+    ensures onward { breaks_left text.now result.place.breaks ≤ breaks_left text.now place.breaks }
+{
+    let mut here = Filled { count: 0, place };
+    while here.count < room {
+        let mut breaks = [RawBreak {
+            at: 0,
+            kind: 0,
+            rule: 0,
+        }; 64];
+        let block = &mut breaks[..room - here.count];
+        let next = next_breaks(table, text, here.place.breaks, block);
+        if next.count == 0 {
+            return here;
+        }
+        let place = Place {
+            breaks: next.state,
+            ..here.place
+        };
+        here = add_cuts(
+            text,
+            block,
+            next.count,
+            Filled { place, ..here },
+            words,
+            room,
+            out,
+        );
+    }
+    here
+}
+
+/// How many breaks were read, and the state behind them.
 #[derive(Clone, Copy)]
-pub(crate) struct NextBreak {
-    pub(crate) found: RawBreak,
+pub(crate) struct NextBreaks {
+    pub(crate) count: usize,
     pub(crate) state: State,
 }
 
-/// The first cut from a place on.
-pub(crate) fn next_cut(table: &FlatTable, text: &[u8], place: Place) -> Option<Found>
-    ensures cut { (cell : ℕ → Cell) (cuts : List Cut) → IsAhead cell table.now text.now place cuts
-        → MatchOption result (cuts ≡ []) (λ found. IsNextCut cell table.now text.now cuts found) }
-    ensures shorter { IfSome result (λ found. (breaks_left text.now found.place.breaks < breaks_left text.now place.breaks)
-        × (found.cut.at ≤ length text.now)) }
-    ensures order { IfSome result (λ found. (place.breaks.ended ≡ 0) × (place.breaks.at ≤ found.cut.at) × IsPast found.cut.at found.place.breaks) }
-{
-    let mut here = place;
-    while let Some(next) = next_break(table, text, here.breaks) {
-        let at = next.found.at;
-        here = pass_words(
-            text,
-            at,
-            Place {
-                breaks: next.state,
-                ..here
-            },
-        );
-        if here.word.end == 0 || at <= here.word.start {
-            let cut = Cut {
-                at,
-                words: here.words,
-                kind: next.found.kind,
-                rule: next.found.rule,
-            };
-            return Some(Found { cut, place: here });
-        }
-    }
-    None
-}
-
-/// The first break from a state on.
-fn next_break(table: &FlatTable, text: &[u8], state: State) -> Option<NextBreak>
+/// Puts the first breaks from a state on into the front of a block.
+fn next_breaks(table: &FlatTable, text: &[u8], state: State, block: &mut [RawBreak]) -> NextBreaks
     ensures first { (cell : ℕ → Cell) (breaks : List Break) → Comes cell table.now text.now state breaks
-        → MatchOption result (breaks ≡ []) (λ next. IsNextBreak cell table.now text.now breaks next) }
-    ensures shorter { IfSome result (λ next. (breaks_left text.now next.state < breaks_left text.now state)
-        × (next.found.at ≤ length text.now)) }
-    ensures order { IfSome result (λ next. (state.ended ≡ 0) × (state.at ≤ next.found.at) × (state.at ≤ next.state.at) × IsPast next.found.at next.state) }
+        → AreNext cell table.now text.now breaks (length block.old) block.new result }
+    ensures few { result.count ≤ length block.old }
+    ensures within { (k : ℕ) → k < result.count → (slice_index_or block.new k no_break).at ≤ length text.now }
+    ensures shorter { (result.count ≡ 0) ⊎ (breaks_left text.now result.state < breaks_left text.now state) }
+    ensures onward { breaks_left text.now result.state ≤ breaks_left text.now state }
 {
     let mut state = state;
-    let mut block = [RawBreak {
-        at: 0,
-        kind: 0,
-        rule: 0,
-    }];
-    let count = give_breaks::<false>(table, &mut state, text, &mut block);
-    if count == 0 {
-        return None;
+    let count = give_breaks::<true>(table, &mut state, text, block);
+    NextBreaks { count, state }
+}
+
+/// Adds the cuts among the first of some breaks to those in the front of a block.
+fn add_cuts(
+    text: &[u8],
+    breaks: &[RawBreak],
+    count: usize,
+    start: Filled,
+    words: &mut WordBlock,
+    room: usize,
+    out: &mut [Cut; 64],
+) -> Filled
+    requires count { count ≤ length breaks.now }
+    requires room { start.count + count ≤ room }
+    requires most { room ≤ 64 }
+    requires read { AreRead text.now words.old }
+    ensures read { AreRead text.now words.new }
+    ensures among { (cuts : List Cut) (found rest : List Break) → map raw_of found ≡ take count breaks.now → AreAmong text.now cuts (found ++ rest) start out.old
+        → AreAmong text.now cuts rest result out.new }
+    ensures same { result.place.breaks ≡ start.place.breaks }
+    ensures few { (start.count ≤ result.count) × (result.count ≤ room) }
+    ensures within { (size : ℕ) → ((k : ℕ) → k < count → (slice_index_or breaks.now k no_break).at ≤ size) → StandWithin size start.count out.old
+        → StandWithin size result.count out.new }
+    ensures counted { 0 < count → result.count ≡ room → result.place.words ≡ (slice_index_or out.new (result.count - 1) no_cut).words }
+{
+    let mut here = start;
+    let mut k = 0;
+    while k < count {
+        here = add_cut(text, breaks[k], here, words, out);
+        k += 1;
     }
-    Some(NextBreak {
-        found: block[0],
-        state,
-    })
+    here
+}
+
+/// Adds the cut at a break to those in the front of a block, if the break is within no word.
+#[inline(always)]
+fn add_cut(
+    text: &[u8],
+    found: RawBreak,
+    start: Filled,
+    words: &mut WordBlock,
+    out: &mut [Cut; 64],
+) -> Filled
+    requires room { start.count < 64 }
+    requires read { AreRead text.now words.old }
+    ensures read { AreRead text.now words.new }
+    ensures among { (cuts : List Cut) (first : Break) (rest : List Break) → raw_of first ≡ found → AreAmong text.now cuts (first ∷ rest) start out.old
+        → AreAmong text.now cuts rest result out.new }
+    ensures same { result.place.breaks ≡ start.place.breaks }
+    ensures few { (start.count ≤ result.count) × (result.count ≤ start.count + 1) }
+    ensures within { (size : ℕ) → found.at ≤ size → StandWithin size start.count out.old → StandWithin size result.count out.new }
+    ensures counted { result.count ≡ start.count + 1 → result.place.words ≡ (slice_index_or out.new (result.count - 1) no_cut).words }
+{
+    let at = found.at;
+    let place = pass_words(text, at, start.place, words);
+    if place.word.end == 0 || at <= place.word.start {
+        out[start.count] = Cut {
+            at,
+            words: place.words,
+            kind: found.kind,
+            rule: found.rule,
+        };
+        return Filled {
+            count: start.count + 1,
+            place,
+        };
+    }
+    Filled { place, ..start }
 }

@@ -5,7 +5,10 @@ mod chunk;
 mod chunking;
 mod cursor;
 mod cut;
+mod cut_block;
 mod laws;
+mod window;
+mod word_block;
 mod words_behind;
 
 pub use chunk::{Chunk, ChunkState, Limits};

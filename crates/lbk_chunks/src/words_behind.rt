@@ -1,27 +1,33 @@
 //! The words before a place.
 
 ghost use Rattle.std.specs.Prelude.{◌≡◌, ◌⊎◌, [], ◌+◌, ◌-◌, ◌<◌, ◌≤◌, length};
-ghost use Rattle.lbk_chunks.specs.Coming.{IsPassed, held, left, words_ahead};
+ghost use Rattle.lbk_chunks.specs.Coming.{AreRead, IsPassed, held, left, words_ahead};
 
 use crate::cut::Place;
-use lbk_words::{Word, fill};
+use crate::word_block::WordBlock;
+use lbk_words::Word;
 
 /// Passes the words that end before a byte or at it.
-pub(crate) fn pass_words(text: &[u8], at: usize, place: Place) -> Place
+#[inline(always)]
+pub(crate) fn pass_words(text: &[u8], at: usize, place: Place, words: &mut WordBlock) -> Place
+    requires { AreRead text.now words.old }
+    ensures read { AreRead text.now words.new }
     ensures passed { IsPassed text.now at place result }
     ensures none { result.word.end ≡ 0 → words_ahead text.now result ≡ [] }
     ensures past { (result.word.end ≡ 0) ⊎ (at < result.word.end) }
 {
-    let mut here = loaded(text, place);
+    let mut here = loaded(text, place, words);
     while here.word.end != 0 && here.word.end <= at {
-        here = loaded(text, without_word(here));
+        here = loaded(text, without_word(here), words);
     }
     here
 }
 
 /// Reads a word, if none was read and one is left.
 #[inline(always)]
-fn loaded(text: &[u8], place: Place) -> Place
+fn loaded(text: &[u8], place: Place, words: &mut WordBlock) -> Place
+    requires { AreRead text.now words.old }
+    ensures read { AreRead text.now words.new }
     ensures same { (result.breaks ≡ place.breaks) × (result.words ≡ place.words) }
     ensures ahead { words_ahead text.now result ≡ words_ahead text.now place }
     ensures counted { place.words + held place.word ≤ place.from → result.words + held result.word ≤ result.from }
@@ -31,17 +37,12 @@ fn loaded(text: &[u8], place: Place) -> Place
     if place.word.end != 0 {
         return place;
     }
-    let mut block = [Word { start: 0, end: 0 }];
-    let filled = fill::<false>(text, place.from, &mut block);
-    if filled.count == 0 {
-        return Place {
-            from: filled.at,
-            ..place
-        };
-    }
+    let Some(word) = words.first_from(text, place.from) else {
+        return place;
+    };
     Place {
-        from: filled.at,
-        word: block[0],
+        from: word.end,
+        word,
         ..place
     }
 }

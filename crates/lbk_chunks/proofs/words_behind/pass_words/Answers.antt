@@ -6,6 +6,7 @@ pub loop-here-init : goal.loop-here-init
 loop-here-init c =
     let l = c.loaded-here in
     record {
+      read = l.ensures.read;
       passed = load c.args.text.now c.args.at c.args.place c.args.place l.result (load-none _ _ _) l.ensures.same.0 l.ensures.same.1 l.ensures.ahead l.ensures.counted;
       none = l.ensures.none;
     }
@@ -18,6 +19,7 @@ loop-here-preserved c =
     let some : 0 < c.loop-here.here.word.end = omega (arith, c.loop-here-test.true) in
     let one = pass text c.args.at c.loop-here.here w.result some c.if-here-at.true w.ensures.same.0 w.ensures.same.1 w.ensures.same.2 w.ensures.one_more in
     record {
+      read = l.ensures.read;
       passed = load text c.args.at c.args.place w.result l.result (pass-more text c.args.at c.args.place c.loop-here.here w.result c.loop-here.invariant.passed one)
           l.ensures.same.0 l.ensures.same.1 l.ensures.ahead l.ensures.counted;
       none = l.ensures.none;

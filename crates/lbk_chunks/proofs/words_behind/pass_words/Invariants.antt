@@ -1,9 +1,10 @@
 use Rattle.std.proofs.Common.{◌≡◌, []}
-use Rattle.lbk_chunks.specs.Coming.{IsPassed, left, words_ahead}
+use Rattle.lbk_chunks.specs.Coming.{AreRead, IsPassed, left, words_ahead}
 use Rattle.lbk_chunks.proofs.words_behind.pass_words.Given as goal
 
 abbrev pub invariant-loop-here : goal.invariant-loop-here
 invariant-loop-here l = record {
+  read : AreRead l.text l.words;
   passed : IsPassed l.text l.at l.fn.place l.here;
   none : l.here.word.end ≡ 0 → words_ahead l.text l.here ≡ [];
 }

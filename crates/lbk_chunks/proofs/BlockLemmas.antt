@@ -1,0 +1,172 @@
+-- Blocks of cuts.
+use Rattle.std.proofs.Common.{◌≡◌, ℕ, zero, suc, ◌+◌, ◌-◌, ◌++◌, ◌==◌, ◌&&◌, nat_le, nat_lt, ◌<◌, ◌≤◌, ◌⊎◌, ⊎_elim, inl, inr, append_assoc, Bool, true, false, cond, List, [], ◌∷◌, drop, length, take, slice_index_or, refl, sym, ap, ap₂, subst, ◌∙◌, arith}
+use Rattle.std.proofs.lemmas.Bool.{cases_lt}
+use Rattle.std.proofs.lemmas.Bool.Decides.{nat_tests}
+use Rattle.std.proofs.lemmas.List.{get_or-take, length-take-le, take-append-drop, drop-take}
+use Rattle.std.proofs.Math.Seq.{drop-cons, take-suc}
+use Rattle.lbk_rules.specs.declared.Cell.{Cell}
+use Rattle.lbk_rules.specs.declared.FlatTable.{FlatTable}
+use Rattle.lbk_chunks.specs.declared.cut.Cut.{Cut}
+use Rattle.lbk_chunks.specs.declared.cut.Place.{Place}
+use Rattle.lbk_chunks.specs.declared.cursor.Filled.{Filled}
+use Rattle.lbk_chunks.specs.declared.cut_block.CutBlock.{CutBlock}
+use Rattle.lbk_chunks.specs.declared.cut_block.Mark.{Mark}
+use Rattle.lbk_chunks.specs.declared.window.Window.{Window}
+use Rattle.lbk_chunks.specs.Chunks.{cuts_past}
+use Rattle.lbk_chunks.specs.Coming.{AreCutsPast, AreFirst, AreKept, IsAhead, IsBlock, IsCutOf, IsMark, IsSafe, no_cut}
+use Rattle.lbk_chunks.proofs.CutLemmas.{IsSplit, cut-one, first-later, none-past, split}
+
+-- some elements up to one of them
+up-to : (k n : ℕ) (xs : List Cut) → k < n → n ≤ length xs
+    → take n xs ≡ take k (take n xs) ++ slice_index_or xs k no_cut ∷ drop (k + 1) (take n xs)
+up-to k n xs below room =
+    let size = length-take-le n xs room in
+    sym (take-append-drop k (take n xs))
+    ∙ ap (λ l. take k (take n xs) ++ l) (drop-cons (take n xs) k no_cut (omega (arith, size, below))
+    ∙ ap₂ (λ (c : Cut) (m : ℕ). c ∷ drop m (take n xs)) (get_or-take n xs k no_cut below) (let e : suc k ≡ k + 1 = omega arith in e))
+
+drop-all : (n : ℕ) (xs : List Cut) → drop n (take n xs) ≡ []
+drop-all zero xs = refl
+drop-all (suc n) [] = refl
+drop-all (suc n) (x ∷ xs) = drop-all n xs
+
+module _ (cuts : List Cut) (from count : ℕ) (out rest : List Cut) (rising : AreCutsPast 0 cuts) (joined : cuts_past from cuts ≡ take count out ++ rest) where
+  -- one of the cuts in front of a block
+  pub split-at : (k : ℕ) → k < count → count ≤ length out → IsSplit cuts from (slice_index_or out k no_cut) (drop (k + 1) (take count out) ++ rest)
+  split-at k below room =
+      split (take k (take count out)) cuts from (slice_index_or out k no_cut) (drop (k + 1) (take count out) ++ rest) rising
+      (joined ∙ ap (λ l. l ++ rest) (up-to k count out below room)
+      ∙ append_assoc (take k (take count out)) (slice_index_or out k no_cut ∷ drop (k + 1) (take count out)) rest)
+
+  -- the last of them
+  pub split-last : 0 < count → count ≤ length out → IsSplit cuts from (slice_index_or out (count - 1) no_cut) rest
+  split-last some room =
+      let s = split-at (count - 1) (omega arith) room in
+      let none : drop (count - 1 + 1) (take count out) ≡ [] =
+      ap (λ n. drop n (take count out)) (let e : count - 1 + 1 ≡ count = omega arith in e) ∙ drop-all count out in
+      record { past = s.past; cut = s.cut; behind = ap (λ l. l ++ rest) (sym none) ∙ s.behind }
+
+  -- the first past a byte
+  first-there : (k at : ℕ) → k < count → count ≤ length out → from ≤ at → at < (slice_index_or out k no_cut).at
+      → (k ≡ 0) ⊎ ((slice_index_or out (k - 1) no_cut).at ≤ at)
+      → cuts_past at cuts ≡ slice_index_or out k no_cut ∷ cuts_past (slice_index_or out k no_cut).at cuts
+  first-there zero at below room after past before =
+      let c = slice_index_or out 0 no_cut in
+      let s = split-at 0 below room in
+      let first : cuts_past from cuts ≡ c ∷ (drop 1 (take count out) ++ rest) = joined ∙ ap (λ l. l ++ rest) (up-to 0 count out below room) in
+      first-later cuts from at c (drop 1 (take count out) ++ rest) after past first ∙ ap (λ l. c ∷ l) s.behind
+  first-there (suc k) at below room after past (inl first) = absurd (omega (arith, first))
+  first-there (suc k) at below room after past (inr before) =
+      let d = slice_index_or out k no_cut in
+      let c = slice_index_or out (suc k) no_cut in
+      let e : k + 1 ≡ suc k = omega arith in
+      let earlier : d.at ≤ at = subst (λ n. (slice_index_or out n no_cut).at ≤ at) (let e : suc k - 1 ≡ k = omega arith in e) before in
+      let s = split-at k (omega arith) room in
+      let t = split-at (suc k) below room in
+      let size = length-take-le count out room in
+      let next : drop (k + 1) (take count out) ≡ c ∷ drop (suc k + 1) (take count out) =
+      ap (λ n. drop n (take count out)) e ∙ drop-cons (take count out) (suc k) no_cut (omega (arith, size, below))
+      ∙ ap₂ (λ (x : Cut) (m : ℕ). x ∷ drop m (take count out)) (get_or-take count out (suc k) no_cut below) (let f : suc (suc k) ≡ suc k + 1 = omega arith in f) in
+      first-later cuts d.at at c (drop (suc k + 1) (take count out) ++ rest) earlier past (sym s.behind ∙ ap (λ l. l ++ rest) next)
+      ∙ ap (λ l. c ∷ l) t.behind
+
+  pub first-in : (k at : ℕ) → k < count → count ≤ length out → from ≤ at → at < (slice_index_or out k no_cut).at
+      → (k ≡ 0) ⊎ ((slice_index_or out (k - 1) no_cut).at ≤ at)
+      → cuts_past at cuts ≡ slice_index_or out k no_cut ∷ cuts_past (slice_index_or out k no_cut).at cuts
+  first-in k at below room after past before = first-there k at below room after past before
+
+-- where a block ends
+end-some : (count from : ℕ) (out : List Cut) → 0 < count → cond (count == 0) from (slice_index_or out (count - 1) no_cut).at ≡ (slice_index_or out (count - 1) no_cut).at
+end-some count from out some = let no : (count == 0) ≡ false = grind (arith, nat_tests) in ap (λ b. cond b from (slice_index_or out (count - 1) no_cut).at) no
+
+module _ (cell : ℕ → Cell) (table : FlatTable) (text : List ℕ) (cuts : List Cut) (rising : AreCutsPast 0 cuts) where
+  -- the place behind the last of some cuts
+  pub mark-behind : (mark behind : Mark) (room : ℕ) (out : List Cut) (filled : Filled) → IsMark cell table text cuts mark
+      → AreFirst cell table text (cuts_past mark.at cuts) room out filled → 0 < filled.count → filled.count ≤ length out
+      → behind.place ≡ filled.place → behind.at ≡ (slice_index_or out (filled.count - 1) no_cut).at
+      → filled.place.words ≡ (slice_index_or out (filled.count - 1) no_cut).words
+      → IsMark cell table text cuts behind
+  mark-behind mark behind room out filled is first some within same_place same_at counted =
+      let last = slice_index_or out (filled.count - 1) no_cut in
+      let s = split-last cuts mark.at filled.count out first.rest rising first.joined some within in
+      record {
+        ahead = subst (λ (p : Place). IsAhead cell table text p (cuts_past behind.at cuts)) (sym same_place)
+            (subst (λ n. IsAhead cell table text filled.place (cuts_past n cuts)) (sym same_at) (subst (IsAhead cell table text filled.place) s.behind first.onward));
+        counted = λ c same cut. ap (λ (p : Place). p.words) same_place ∙ counted ∙ ap (λ (d : Cut). d.words) (cut-one cuts last c s.cut cut (sym (same ∙ same_at)));
+      }
+
+  -- a block that was read
+  pub block-read : (room : ℕ) (mark behind : Mark) (out : List Cut) (filled : Filled) → 0 < room → room ≤ 64 → IsMark cell table text cuts mark
+      → AreFirst cell table text (cuts_past mark.at cuts) room out filled → length out ≡ 64
+      → behind.place ≡ filled.place → behind.at ≡ cond (filled.count == 0) mark.at (slice_index_or out (filled.count - 1) no_cut).at
+      → (0 < filled.count → filled.count ≡ room → filled.place.words ≡ (slice_index_or out (filled.count - 1) no_cut).words)
+      → IsBlock cell table text cuts (record { before = mark; behind = behind; room = room; count = filled.count; cuts = out })
+  block-read room mark behind out filled some few is first size same_place same_at counted = record {
+    before = is;
+    rest = first.rest;
+    joined = first.joined;
+    all = first.all;
+    behind = λ full. mark-behind mark behind room out filled is first (omega (arith, full, some)) (omega (arith, full, few, size)) same_place
+        (same_at ∙ end-some filled.count mark.at out (omega (arith, full, some))) (counted (omega (arith, full, some)) full);
+  }
+
+  -- the first past a byte is in the block
+  pub block-first : (block : CutBlock) (k at : ℕ) → IsBlock cell table text cuts block → IsSafe text block → k < block.count
+      → block.before.at ≤ at → at < (slice_index_or block.cuts k no_cut).at → (k ≡ 0) ⊎ ((slice_index_or block.cuts (k - 1) no_cut).at ≤ at)
+      → cuts_past at cuts ≡ slice_index_or block.cuts k no_cut ∷ cuts_past (slice_index_or block.cuts k no_cut).at cuts
+  block-first block k at is safe below after past before =
+      first-in cuts block.before.at block.count block.cuts is.rest rising is.joined k at below (omega (arith, safe.few, safe.room, safe.size)) after past before
+
+  -- the text has no cut behind a block that is not full
+  none-by : (block : CutBlock) (at : ℕ) (b : Bool) → (block.count == 0) ≡ b → IsBlock cell table text cuts block → IsSafe text block
+      → block.count < block.room → block.behind.at ≤ at → cuts_past at cuts ≡ []
+  none-by block at true none is safe few past =
+      let zero_count : block.count ≡ 0 = grind (arith, nat_tests) in
+      let there : block.behind.at ≡ block.before.at = safe.end ∙ ap (λ b. cond b block.before.at (slice_index_or block.cuts (block.count - 1) no_cut).at) none in
+      none-past cuts block.before.at at (omega (arith, there, past))
+      (is.joined ∙ ap₂ (λ (n : ℕ) (l : List Cut). take n block.cuts ++ l) zero_count (is.all few))
+  none-by block at false some is safe few past =
+      let one : 0 < block.count = grind (arith, nat_tests) in
+      let last = slice_index_or block.cuts (block.count - 1) no_cut in
+      let s = split-last cuts block.before.at block.count block.cuts is.rest rising is.joined one (omega (arith, safe.few, safe.room, safe.size)) in
+      let there : block.behind.at ≡ last.at = safe.end ∙ end-some block.count block.before.at block.cuts one in
+      none-past cuts last.at at (omega (arith, there, past)) (sym s.behind ∙ is.all few)
+
+  pub block-none : (block : CutBlock) (at : ℕ) → IsBlock cell table text cuts block → IsSafe text block
+      → block.count < block.room → block.behind.at ≤ at → cuts_past at cuts ≡ []
+  block-none block at is safe few past = none-by block at (block.count == 0) refl is safe few past
+
+  -- all blocks and the place that is kept
+  pub kept-with : (window : Window) (older newer : CutBlock) → IsBlock cell table text cuts older → IsBlock cell table text cuts newer → AreKept cell table text cuts window
+      → (new : Window) → new.home ≡ window.home → new.older ≡ older → new.newer ≡ newer → AreKept cell table text cuts new
+  kept-with window older newer is_older is_newer kept new same_home same_older same_newer = record {
+    older = subst (IsBlock cell table text cuts) (sym same_older) is_older;
+    newer = subst (IsBlock cell table text cuts) (sym same_newer) is_newer;
+    home = subst (IsMark cell table text cuts) (sym same_home) kept.home;
+  }
+
+or-less : (k n : ℕ) → k < n → (k ≡ n - 1 → ⊥) → k + 1 < n
+or-less k n below not_last = ⊎_elim (λ (less : k + 1 < n). less) (λ (same : n ≤ k + 1). absurd (not_last (omega arith))) (cases_lt (k + 1) n)
+
+-- the search goes on within a block
+pub goes-on : (text : List ℕ) (block : CutBlock) (k at : ℕ) → IsSafe text block → at < block.behind.at → k < block.count → (slice_index_or block.cuts k no_cut).at ≤ at
+    → k + 1 < block.count
+goes-on text block k at safe behind below before =
+    let there = safe.end ∙ end-some block.count block.before.at block.cuts (omega arith) in
+    let not_last : k ≡ block.count - 1 → ⊥ = λ same. (
+    let here : (slice_index_or block.cuts k no_cut).at ≡ (slice_index_or block.cuts (block.count - 1) no_cut).at = ap (λ n. (slice_index_or block.cuts n no_cut).at) same in
+    absurd (omega (arith, here, there, before, behind))) in
+    or-less k block.count below not_last
+
+-- a block that reaches past its start has a cut
+reach-by : (text : List ℕ) (block : CutBlock) (at : ℕ) (b : Bool) → (block.count == 0) ≡ b → IsSafe text block → block.before.at ≤ at → at < block.behind.at → 0 < block.count
+reach-by text block at true none safe before behind =
+    let there : block.behind.at ≡ block.before.at = safe.end ∙ ap (λ b. cond b block.before.at (slice_index_or block.cuts (block.count - 1) no_cut).at) none in
+    absurd (omega (arith, there, before, behind))
+reach-by text block at false some safe before behind = grind (arith, nat_tests)
+
+pub reach-some : (text : List ℕ) (block : CutBlock) (at : ℕ) → IsSafe text block → block.before.at ≤ at → at < block.behind.at → 0 < block.count
+reach-some text block at safe before behind = reach-by text block at (block.count == 0) refl safe before behind
+
+pub reach-le : (from to at : ℕ) → (nat_le from at && nat_lt at to) ≡ true → (from ≤ at) × (at < to)
+reach-le from to at is = (let below : from ≤ at = grind (arith, nat_tests) in below, let before : at < to = grind (arith, nat_tests) in before)

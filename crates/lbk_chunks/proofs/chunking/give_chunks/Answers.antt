@@ -1,0 +1,71 @@
+use Rattle.std.proofs.Common.{◌++◌, ◌∷◌, [], length, take, arith, refl, subst, sym}
+use Rattle.std.proofs.lemmas.List.{take_more_set}
+use Rattle.std.proofs.Math.ListN.{length-set}
+use Rattle.lbk_chunks.specs.declared.chunk.Chunk.{Chunk}
+use Rattle.lbk_chunks.specs.Chunks.{AreTold}
+use Rattle.lbk_chunks.proofs.GivenLemmas.{give-more, give-none, home-same, knows-on, none-more, told-more}
+use Rattle.lbk_chunks.proofs.chunking.give_chunks.Goals as goal
+
+pub loop-count-init : goal.loop-count-init
+loop-count-init c = record {
+  kept = c.requires.kept;
+  room = omega arith;
+  told = refl;
+  none = λ _. refl;
+  order = c.requires.order;
+  given = λ cell cuts to_come knows are. give-none cell c.args.table.now c.args.text.now c.args.limits.now cuts to_come c.args.out.now c.args.window.now c.args.state.now knows are;
+}
+
+pub loop-count-preserved : goal.loop-count-preserved
+loop-count-preserved c =
+    let count = c.loop-count.count in
+    let i = c.loop-count.invariant in
+    let given = c.in-Some.given in
+    let g = c.in-Some.ensures in
+    let places = g.places in
+    let text = c.args.text.now in
+    let more = take_more_set c.loop-count.out count given.chunk c.loop-count-test.true in
+    record {
+      kept = c.settle.ensures.kept text g.kept;
+      room = omega (arith, length-set {A = Chunk}, c.loop-count-test.true);
+      told = subst (AreTold c.args.state.now.told given.state.told (length text)) (sym more)
+          (subst (λ n. AreTold c.args.state.now.told n (length text) (take count c.loop-count.out ++ given.chunk ∷ [])) (sym places.3)
+          (told-more c.args.state.now.told c.loop-count.state.told (length text) (take count c.loop-count.out) given.chunk i.told
+          (omega (arith, places.0, i.order)) places.1 places.2));
+      none = λ no. absurd (omega arith);
+      order = places.4;
+      given = λ cell cuts to_come knows are. (
+          let were = i.given cell cuts to_come knows are in
+          let k = were.knows in
+          let now = g.given cell cuts k in
+          let onward = g.onward i.order in
+          let on = knows-on cell c.args.table.now text cuts c.loop-count.window c.settle.new.self c.loop-count.state given.state k
+          (c.settle.ensures.are cell c.args.table.now text cuts (g.are cell cuts k.rising k.kept))
+          (c.settle.ensures.home (home-same c.loop-count.window c.next_chunk.new.window given.state.start g.home (omega (arith, k.home, onward)))) places.4 in
+          give-more cell c.args.table.now text c.args.limits.now cuts to_come count c.loop-count.out _ c.loop-count.window c.settle.new.self c.loop-count.state given were now more on);
+    }
+
+pub returns-in_default-clause-given : goal.returns-in_default-clause-given
+returns-in_default-clause-given c = λ cell cuts to_come knows are.
+    let i = c.loop-count.invariant in
+    let were = i.given cell cuts to_come knows are in
+    let k = were.knows in
+    let g = c.in_default.ensures in
+    let none = none-more cell c.args.table.now c.args.text.now c.args.limits.now cuts to_come c.loop-count.count c.loop-count.out c.loop-count.window c.loop-count.state were
+    (g.given cell cuts k) in (
+      record {
+        few = were.few;
+        front = were.front;
+        rest = were.rest;
+        knows = knows-on cell c.args.table.now c.args.text.now cuts c.loop-count.window c.next_chunk.new.window c.loop-count.state c.loop-count.state k (g.are cell cuts k.rising k.kept)
+            (home-same c.loop-count.window c.next_chunk.new.window c.loop-count.state.start g.home k.home) k.told;
+        stands = were.stands;
+      },
+      omega (arith, none, i.room, c.loop-count.auto.out),
+    )
+
+pub returns-clause-given : goal.returns-clause-given
+returns-clause-given c = λ cell cuts to_come knows are.
+    let i = c.loop-count.invariant in
+    let were = i.given cell cuts to_come knows are in
+    (were, omega (arith, were.few, i.room, c.loop-count.auto.out, c.loop-count-test.false))

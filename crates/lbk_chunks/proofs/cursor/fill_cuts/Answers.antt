@@ -1,0 +1,57 @@
+use Rattle.std.proofs.Common.{ap, drop, length, take, inl, inr, refl, arith}
+use Rattle.std.proofs.lemmas.Grind.{common_steps}
+use Rattle.lbk_chunks.specs.Coming.{breaks_left}
+use Rattle.lbk_chunks.proofs.CursorLemmas.{read-all, read-breaks, read-on, shorter-on}
+use Rattle.lbk_chunks.proofs.cursor.fill_cuts.Goals as goal
+
+pub loop-here-init : goal.loop-here-init
+loop-here-init c = record {
+  read = c.requires.read;
+  first = λ cell cuts is. record { rest = cuts; joined = refl; onward = is };
+  room = omega arith;
+  within = λ k no. absurd (omega arith);
+  counted = λ no. absurd (omega arith);
+  shorter = inl refl;
+  onward = omega arith;
+}
+
+pub loop-here-preserved : goal.loop-here-preserved
+loop-here-preserved c =
+    let i = c.loop-here.invariant in
+    let n = c.next_breaks-next in
+    let a = c.add_cuts-here in
+    let table = c.args.table.now in
+    let text = c.args.text.now in
+    let here = c.loop-here.here in
+    let out = c.loop-here.out in
+    record {
+      read = a.ensures.read;
+      first = λ cell cuts is. (
+          let s = i.first cell cuts is in
+          let next = n.ensures.first cell s.onward.breaks s.onward.comes in
+          read-on cell table text cuts _ here a.result out a.new.out n.new.block n.result s next a.ensures.same
+          (a.ensures.among cuts (take n.result.count s.onward.breaks) (drop n.result.count s.onward.breaks) next.shown
+          (read-breaks cell table text cuts _ here out n.new.block n.result s next)));
+      room = a.ensures.few.1;
+      within = a.ensures.within (length text) n.ensures.within i.within;
+      counted = λ _. a.ensures.counted (omega (arith, c.if-next-eq0.false));
+      shorter = inr (shorter-on text here.place.breaks a.result.place.breaks n.result.state n.result.count c.args.place.breaks c.if-next-eq0.false a.ensures.same n.ensures.shorter i.onward);
+      onward = (let same = ap (breaks_left text) a.ensures.same in omega (arith, same, n.ensures.onward, i.onward));
+    }
+
+pub returns-then-next-eq0-clause-first : goal.returns-then-next-eq0-clause-first
+returns-then-next-eq0-clause-first c = λ cell cuts is.
+    let n = c.next_breaks-next in
+    let s = c.loop-here.invariant.first cell cuts is in
+    let next = n.ensures.first cell s.onward.breaks s.onward.comes in
+    record {
+      rest = s.rest;
+      joined = s.joined;
+      onward = s.onward;
+      all = λ _. read-all cell c.args.table.now c.args.text.now cuts _ c.loop-here.here c.loop-here.out n.new.block n.result (grind (arith, common_steps)) c.if-next-eq0.true s next;
+    }
+
+pub returns-clause-first : goal.returns-clause-first
+returns-clause-first c = λ cell cuts is.
+    let s = c.loop-here.invariant.first cell cuts is in
+    record { rest = s.rest; joined = s.joined; onward = s.onward; all = λ few. absurd (omega (arith, few, c.loop-here-test.false)) }

@@ -1,0 +1,17 @@
+use Rattle.std.proofs.Common.{arith, sym, ◌∙◌}
+use Rattle.lbk_chunks.proofs.BlockLemmas.{block-first, reach-le}
+use Rattle.lbk_chunks.proofs.window.Window.first_past.Goals as goal
+
+pub returns-then-reaches-clause-first : goal.returns-then-reaches-clause-first
+returns-then-reaches-clause-first c = λ cell cuts rising kept home.
+    let k = c.first_past-k in
+    let block = c.args.self.now.newer in
+    let within = reach-le block.before.at block.behind.at c.args.at (sym c.reaches.ensures ∙ c.if-reaches.true) in
+    block-first cell c.args.table.now c.args.text.now cuts rising block k.result c.args.at kept.newer c.requires.newer k.ensures.few within.0 k.ensures.past k.ensures.first
+
+pub returns-then-reaches-2-clause-first : goal.returns-then-reaches-2-clause-first
+returns-then-reaches-2-clause-first c = λ cell cuts rising kept home.
+    let k = c.first_past-k-then-reaches-2 in
+    let block = c.args.self.now.older in
+    let within = reach-le block.before.at block.behind.at c.args.at (sym c.reaches-2.ensures ∙ c.if-reaches-2.true) in
+    block-first cell c.args.table.now c.args.text.now cuts rising block k.result c.args.at kept.older c.requires.older k.ensures.few within.0 k.ensures.past k.ensures.first

@@ -1,0 +1,123 @@
+//! Cuts of a text that follow one another.
+
+ghost use Rattle.std.specs.Prelude.{◌≡◌, ◌⊎◌, ℕ, ◌-◌, ◌<◌, ◌≤◌, ◌&&◌, ◌==◌, nat_le, nat_lt, length, List, slice_index_or, if◌then◌else◌};
+ghost use Rattle.lbk_rules.specs.declared.Cell.{Cell};
+ghost use Rattle.lbk_chunks.specs.declared.cut.Cut.{Cut};
+ghost use Rattle.lbk_chunks.specs.Coming.{AreCutsPast, AreRead, IsBlock, IsMark, IsSafe, breaks_left, no_cut};
+
+use crate::cursor::fill_cuts;
+use crate::cut::{Cut, Place};
+use crate::word_block::WordBlock;
+use lbk_rules::FlatTable;
+
+/// How many cuts a block holds.
+pub(crate) const BLOCK: usize = 64;
+
+/// A place, and the byte of the cut before it.
+#[derive(Clone, Copy)]
+pub(crate) struct Mark {
+    pub(crate) place: Place,
+    pub(crate) at: usize,
+}
+
+/// The cuts from a place on: as many as there was room for, or all.
+#[derive(Clone, Copy)]
+pub(crate) struct CutBlock {
+    /// The place before the first.
+    pub(crate) before: Mark,
+    /// The place behind the last.
+    pub(crate) behind: Mark,
+    /// For how many there was room.
+    pub(crate) room: usize,
+    /// How many there are.
+    pub(crate) count: usize,
+    /// The cuts.
+    pub(crate) cuts: [Cut; 64],
+}
+
+impl CutBlock {
+    /// Reads the cuts from a place on.
+    pub(crate) fn read(
+        table: &FlatTable,
+        text: &[u8],
+        mark: Mark,
+        room: usize,
+        words: &mut WordBlock,
+    ) -> CutBlock
+        requires room { (0 < room) × (room ≤ 64) }
+        requires read { AreRead text.now words.old }
+        ensures read { AreRead text.now words.new }
+        ensures safe { IsSafe text.now result }
+        ensures before { (result.before ≡ mark) × (result.room ≡ room) }
+        ensures block { (cell : ℕ → Cell) (cuts : List Cut) → AreCutsPast 0 cuts → IsMark cell table.now text.now cuts mark → IsBlock cell table.now text.now cuts result }
+        ensures shorter { (result.count ≡ 0) ⊎ (breaks_left text.now result.behind.place.breaks < breaks_left text.now mark.place.breaks) }
+        ensures onward { breaks_left text.now result.behind.place.breaks ≤ breaks_left text.now mark.place.breaks }
+    {
+        let mut cuts = [Cut {
+            at: 0,
+            words: 0,
+            kind: 0,
+            rule: 0,
+        }; 64];
+        let filled = fill_cuts(table, text, mark.place, words, room, &mut cuts);
+        let behind = Mark {
+            place: filled.place,
+            at: last_or(&cuts, filled.count, mark.at),
+        };
+        CutBlock {
+            before: mark,
+            behind,
+            room,
+            count: filled.count,
+            cuts,
+        }
+    }
+
+    /// Whether the first cut past a byte is one of them.
+    #[inline(always)]
+    pub(crate) fn reaches(&self, at: usize) -> bool
+        ensures { result ≡ (nat_le self.now.before.at at && nat_lt at self.now.behind.at) }
+    {
+        self.before.at <= at && at < self.behind.at
+    }
+
+    /// Where a search for the first cut past a byte may begin: there or at the first.
+    #[inline(always)]
+    fn begin(&self, at: usize, from: usize) -> usize
+        requires { (self.now.count ≤ 64) × (0 < self.now.count) }
+        ensures few { result < self.now.count }
+        ensures first { (result ≡ 0) ⊎ ((slice_index_or self.now.cuts (result - 1) no_cut).at ≤ at) }
+    {
+        if 0 < from && from < self.count && self.cuts[from - 1].at <= at {
+            return from;
+        }
+        0
+    }
+
+    /// Which of them is the first past a byte. The search begins at one of them if that is not past the first.
+    #[inline(always)]
+    pub(crate) fn first_past(&self, at: usize, from: usize) -> usize
+        requires safe { (text : List ℕ) × IsSafe text self.now }
+        requires reaches { (self.now.before.at ≤ at) × (at < self.now.behind.at) }
+        ensures few { result < self.now.count }
+        ensures past { at < (slice_index_or self.now.cuts result no_cut).at }
+        ensures first { (result ≡ 0) ⊎ ((slice_index_or self.now.cuts (result - 1) no_cut).at ≤ at) }
+    {
+        let mut k = self.begin(at, from);
+        while self.cuts[k].at <= at {
+            k += 1;
+        }
+        k
+    }
+}
+
+/// Where the last of some cuts stands, if there is one.
+fn last_or(cuts: &[Cut], count: usize, at: usize) -> usize
+    requires { count ≤ length cuts.now }
+    ensures { result ≡ (if count == 0 then at else (slice_index_or cuts.now (count - 1) no_cut).at) }
+{
+    if count == 0 {
+        return at;
+    }
+    cuts[count - 1].at
+}

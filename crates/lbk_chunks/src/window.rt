@@ -1,0 +1,215 @@
+//! The cuts of a text around a place, so that few are read twice.
+
+ghost use Rattle.std.specs.Prelude.{◌≡◌, ◌⊎◌, ℕ, ◌<◌, ◌≤◌, [], ◌∷◌, List, IfSome, MatchOption, length};
+ghost use Rattle.lbk_rules.specs.declared.Cell.{Cell};
+ghost use Rattle.lbk_chunks.specs.declared.cut.Cut.{Cut};
+ghost use Rattle.lbk_chunks.specs.Chunks.{cuts_past};
+ghost use Rattle.lbk_chunks.specs.Coming.{AreKept, IsAhead, IsKept, IsMark, IsStanding, breaks_left};
+ghost use Rattle.lbk_chunks.specs.Cuts.{AreCutsPast};
+
+use crate::cursor::fill_cuts;
+use crate::cut::{Cut, Place};
+use crate::cut_block::{BLOCK, CutBlock, Mark};
+use crate::word_block::WordBlock;
+use lbk_rules::FlatTable;
+
+/// How many cuts are read first. Each further block has twice as many, up to the most that a block holds.
+const FIRST: usize = 16;
+
+/// Two blocks of cuts, and a place from which others are read again.
+#[derive(Drop)]
+pub(crate) struct Window {
+    /// A place behind which all cuts can be had.
+    home: Mark,
+    /// The cuts that were read before the newer ones.
+    older: CutBlock,
+    /// The cuts that were read last.
+    newer: CutBlock,
+    /// Where the search among the newer begins.
+    next: usize,
+    /// The words behind the newer, as far as they were read.
+    words: WordBlock,
+}
+
+impl Window {
+    /// The cuts from a place on.
+    pub(crate) fn new(table: &FlatTable, text: &[u8], home: Mark) -> Window
+        ensures kept { IsKept text.now result }
+        ensures home { result.home ≡ home }
+        ensures are { (cell : ℕ → Cell) (cuts : List Cut) → AreCutsPast 0 cuts → IsMark cell table.now text.now cuts home → AreKept cell table.now text.now cuts result }
+    {
+        let mut words = WordBlock::none();
+        let newer = CutBlock::read(table, text, home, FIRST, &mut words);
+        Window {
+            home,
+            older: newer,
+            newer,
+            next: 0,
+            words,
+        }
+    }
+
+    /// The first cut past a byte.
+    #[inline(always)]
+    pub(crate) fn first_past(&mut self, table: &FlatTable, text: &[u8], at: usize) -> Option<Cut>
+        requires { IsKept text.now self.old }
+        ensures kept { IsKept text.now self.new }
+        ensures home { self.new.home ≡ self.old.home }
+        ensures are { (cell : ℕ → Cell) (cuts : List Cut) → AreCutsPast 0 cuts → AreKept cell table.now text.now cuts self.old → AreKept cell table.now text.now cuts self.new }
+        ensures first { (cell : ℕ → Cell) (cuts : List Cut) → AreCutsPast 0 cuts → AreKept cell table.now text.now cuts self.old → self.old.home.at ≤ at
+            → MatchOption result (cuts_past at cuts ≡ []) (λ cut. cuts_past at cuts ≡ cut ∷ cuts_past cut.at cuts) }
+        ensures places { IfSome result (λ cut. (at < cut.at) × (cut.at ≤ length text.now)) }
+    {
+        if self.newer.reaches(at) {
+            let k = self.newer.first_past(at, self.next);
+            self.next = k + 1;
+            return Some(self.newer.cuts[k]);
+        }
+        if self.older.reaches(at) {
+            let k = self.older.first_past(at, 0);
+            return Some(self.older.cuts[k]);
+        }
+        self.read_past(table, text, at)
+    }
+
+    /// Reads the cuts again from the place that is kept, if the newer are behind a byte.
+    fn reread(&mut self, table: &FlatTable, text: &[u8], at: usize)
+        requires { IsKept text.now self.old }
+        ensures kept { IsKept text.now self.new }
+        ensures home { self.new.home ≡ self.old.home }
+        ensures are { (cell : ℕ → Cell) (cuts : List Cut) → AreCutsPast 0 cuts → AreKept cell table.now text.now cuts self.old → AreKept cell table.now text.now cuts self.new }
+        ensures before { self.old.home.at ≤ at → self.new.newer.before.at ≤ at }
+    {
+        if self.newer.before.at <= at {
+            return;
+        }
+        self.newer = CutBlock::read(table, text, self.home, BLOCK, &mut self.words);
+    }
+
+    /// Reads the cuts behind the newer ones.
+    fn read_on(&mut self, table: &FlatTable, text: &[u8])
+        requires kept { IsKept text.now self.old }
+        requires full { self.old.newer.count ≡ self.old.newer.room }
+        ensures kept { IsKept text.now self.new }
+        ensures home { self.new.home ≡ self.old.home }
+        ensures are { (cell : ℕ → Cell) (cuts : List Cut) → AreCutsPast 0 cuts → AreKept cell table.now text.now cuts self.old → AreKept cell table.now text.now cuts self.new }
+        ensures before { self.new.newer.before ≡ self.old.newer.behind }
+        ensures shorter { (self.new.newer.count ≡ 0) ⊎ (breaks_left text.now self.new.newer.behind.place.breaks < breaks_left text.now self.old.newer.behind.place.breaks) }
+        ensures onward { breaks_left text.now self.new.newer.behind.place.breaks ≤ breaks_left text.now self.old.newer.behind.place.breaks }
+    {
+        let older = self.newer;
+        let room = (older.room * 2).min(BLOCK);
+        self.newer = CutBlock::read(table, text, older.behind, room, &mut self.words);
+        self.older = older;
+    }
+
+    /// The same where no block has it.
+    #[inline(never)]
+    fn read_past(&mut self, table: &FlatTable, text: &[u8], at: usize) -> Option<Cut>
+        requires { IsKept text.now self.old }
+        ensures kept { IsKept text.now self.new }
+        ensures home { self.new.home ≡ self.old.home }
+        ensures are { (cell : ℕ → Cell) (cuts : List Cut) → AreCutsPast 0 cuts → AreKept cell table.now text.now cuts self.old → AreKept cell table.now text.now cuts self.new }
+        ensures first { (cell : ℕ → Cell) (cuts : List Cut) → AreCutsPast 0 cuts → AreKept cell table.now text.now cuts self.old → self.old.home.at ≤ at
+            → MatchOption result (cuts_past at cuts ≡ []) (λ cut. cuts_past at cuts ≡ cut ∷ cuts_past cut.at cuts) }
+        ensures places { IfSome result (λ cut. (at < cut.at) × (cut.at ≤ length text.now)) }
+    {
+        self.reread(table, text, at);
+        while self.newer.behind.at <= at {
+            if self.newer.count < self.newer.room {
+                return None;
+            }
+            self.read_on(table, text);
+        }
+        if at < self.newer.before.at {
+            return None;
+        }
+        let k = self.newer.first_past(at, 0);
+        self.next = k + 1;
+        Some(self.newer.cuts[k])
+    }
+
+    /// Keeps a place of a cut at a byte or before it, as near as one is known.
+    pub(crate) fn settle(&mut self, at: usize)
+        ensures kept { (text : List ℕ) → IsKept text self.old → IsKept text self.new }
+        ensures home { self.old.home.at ≤ at → self.new.home.at ≤ at }
+        ensures are { (cell : ℕ → Cell) (table : FlatTable) (text : List ℕ) (cuts : List Cut) → AreKept cell table text cuts self.old → AreKept cell table text cuts self.new }
+    {
+        if self.newer.before.at <= at {
+            self.home = self.newer.before;
+        } else if self.older.before.at <= at {
+            self.home = self.older.before;
+        }
+    }
+
+    /// The place of the cut at which a state stands.
+    pub(crate) fn place_of(&mut self, table: &FlatTable, text: &[u8], at: usize) -> Place
+        requires { IsKept text.now self.old }
+        ensures { (cell : ℕ → Cell) (cuts : List Cut) (words : ℕ) → AreCutsPast 0 cuts → AreKept cell table.now text.now cuts self.old → self.old.home.at ≤ at
+            → IsStanding cuts at words → IsAhead cell table.now text.now result (cuts_past at cuts) × (result.words ≡ words) }
+    {
+        let mut here = self.near(table, text, at);
+        let mut block = [Cut {
+            at: 0,
+            words: 0,
+            kind: 0,
+            rule: 0,
+        }; 64];
+        while here.at < at {
+            let filled = fill_cuts(table, text, here.place, &mut self.words, 1, &mut block);
+            if filled.count == 0 {
+                return filled.place;
+            }
+            here = Mark {
+                place: filled.place,
+                at: block[0].at,
+            };
+        }
+        here.place
+    }
+
+    /// A place at a byte or before it, as near as is known.
+    fn near(&mut self, table: &FlatTable, text: &[u8], at: usize) -> Mark
+        requires { IsKept text.now self.old }
+        ensures kept { IsKept text.now self.new }
+        ensures before { self.old.home.at ≤ at → result.at ≤ at }
+        ensures mark { (cell : ℕ → Cell) (cuts : List Cut) → AreCutsPast 0 cuts → AreKept cell table.now text.now cuts self.old → IsMark cell table.now text.now cuts result }
+    {
+        let many = self.many_up_to(at);
+        let mut cuts = [Cut {
+            at: 0,
+            words: 0,
+            kind: 0,
+            rule: 0,
+        }; 64];
+        let filled = fill_cuts(
+            table,
+            text,
+            self.home.place,
+            &mut self.words,
+            many,
+            &mut cuts,
+        );
+        if filled.count == many && many != 0 && cuts[many - 1].at <= at {
+            return Mark {
+                place: filled.place,
+                at: cuts[many - 1].at,
+            };
+        }
+        self.home
+    }
+
+    /// How many cuts of the block at which the place stands that is kept are at a byte or before it.
+    fn many_up_to(&self, at: usize) -> usize
+        requires { (text : List ℕ) × IsKept text self.now }
+        ensures { result ≤ 64 }
+    {
+        if self.newer.reaches(at) {
+            return self.newer.first_past(at, 0);
+        }
+        if self.older.reaches(at) {
+            return self.older.first_past(at, 0);
+        }
+        BLOCK
+    }
+}
