@@ -19,7 +19,7 @@ use Rattle.lbk_passage.specs.Next.{AfterNext, ComesFirst, GoesOn, IsDone, IsLast
 use Rattle.lbk_passage.specs.Passages.{passages}
 use Rattle.lbk_passage.specs.Pieces.{pieces_of}
 use Rattle.lbk_passage.specs.Segments.{segments_of}
-use Rattle.lbk_passage.specs.State.{State}
+use Rattle.lbk_passage.specs.State.{State, new_state}
 use Rattle.lbk_passage.specs.declared.faults.PassageFault.{PassageFault}
 use Rattle.lbk_passage.specs.declared.faults.PassageFault.TheVariants as fault
 use Rattle.lbk_passage.specs.declared.passage.Passage.{Passage}
@@ -31,7 +31,7 @@ use Rattle.lbk_chunk_reader.specs.Cuts.{cuts_between, cuts_of_passages}
 use Rattle.lbk_chunk_reader.specs.Numbered.{here_of}
 use Rattle.lbk_chunk_reader.specs.Reader.{ChunksCome, Goes, HasGiven, IsStopped, MayCome, Progresses, ReadsOn, View, cuts_with, new_view}
 use Rattle.lbk_chunk_reader.specs.Standing.{Stands, view_with}
-use Rattle.lbk_chunk_reader.specs.Window.{IsTaken, cuts_in}
+use Rattle.lbk_chunk_reader.specs.Window.{IsNewWindow, IsTaken, cuts_in}
 use Rattle.lbk_chunk_reader.proofs.BetweenLemmas.{AreUpTo, between-append, between-left, between-past, between-up_to, end-up_to, past-up_to, passage-between, passages-rising}
 use Rattle.lbk_chunk_reader.proofs.StartingLemmas.{next-chunks, next-told}
 use Rattle.lbk_chunk_reader.proofs.WordLemmas.{text-words-few}
@@ -336,3 +336,23 @@ module _ (cell : ℕ → Cell) (profile : Profile) (limits : Limits) (limit : �
       subst (λ l. AreChunks limits (cuts_of_passages cell 0 0 (passages profile cell l)) text_start given) (append-nil cs)
       (subst (AreChunks limits (cuts_of_passages cell 0 0 (passages profile cell (cs ++ []))) text_start) (append-nil given)
       (run.chunks [] [] [] (record { bytes = sym (append-nil last.passages.held ∙ done.none); utf8 = IsUtf8-nil; ended = λ _. refl }) come))
+
+-- Before any call
+
+module _ (l : Limits) (w : Window) (s : State) (cell : ℕ → Cell) (profile : Profile) (limit : ℕ) (n : IsNewWindow l w) (is : s ≡ new_state cell profile limit) where
+  pub view-new : view_with w s ≡ new_view cell profile l limit
+  view-new =
+      ap (λ x. record { limits = x; cuts = cuts_in w; here = here_of w.here; passages = s; words = w.words }) n.limits
+      ∙ ap (λ x. record { limits = l; cuts = x; here = here_of w.here; passages = s; words = w.words }) n.cuts
+      ∙ ap (λ x. record { limits = l; cuts = []; here = here_of x; passages = s; words = w.words }) n.here
+      ∙ ap (λ x. record { limits = l; cuts = []; here = text_start; passages = x; words = w.words }) is
+      ∙ ap (λ x. record { limits = l; cuts = []; here = text_start; passages = new_state cell profile limit; words = x }) n.words
+
+  pub stands-new : Stands w s false
+  stands-new = record {
+    unspent = ap (λ (x : State). x.is_spent) is;
+    whole = λ no. absurd (false≢true no);
+    between = subst (λ (h : _). AreCutsBetween h.start (cuts_in w) s.start) (sym n.here) (subst (λ x. AreCutsBetween 0 x s.start) (sym n.cuts) (omega arith));
+    told = subst (λ (h : _). h.start ≤ h.told) (sym n.here) (omega arith);
+    words = let none = n.words in omega (arith, none);
+  }

@@ -64,10 +64,11 @@ impl<'a, C: CellSource> Chunker<'a, C> {
         if !are_limits(&limits) {
             return Err(ChunkFault::Limits);
         }
+        let window = Window::new(alloc, limits);
         match Segmenter::new(alloc, cells, limit, profile) {
             Ok(segmenter) => Ok(Chunker {
                 segmenter,
-                window: Window::new(alloc, limits),
+                window,
                 is_whole: false,
                 is_spent: false,
             }),
