@@ -61,15 +61,19 @@ module _ (s t : State) (u v : Option (List ℕ)) (w w' : Window) (st : Stands w 
     where
       none : w' ≡ w → AfterNext s t u v k.ended k.ended' k.reads k.reads' (Ok None) → Came false
       none same a =
-          subst (λ x. Goes (view_with w s) (view_with x t) false u v [] × Progresses (view_with w s) (view_with x t) true × Stands x t true) (sym same)
-          (goes-ended s t u v k.ended k.ended' k.reads k.reads' w a, inl (refl, ended-start s t u v k.ended k.ended' k.reads k.reads' w a),
-          stands-ended s t u v k.ended k.ended' k.reads k.reads' w a st)
+          subst (λ x. Goes (view_with w s) (view_with x t) false u v [] × Progresses (view_with w s) (view_with x t) true × Stands x t true) (sym same) (
+            goes-ended s t u v k.ended k.ended' k.reads k.reads' w a,
+            inl (refl, ended-start s t u v k.ended k.ended' k.reads k.reads' w a),
+            stands-ended s t u v k.ended k.ended' k.reads k.reads' w a st,
+          )
 
       some : (p : Passage) → AfterNext s t u v k.ended k.ended' k.reads k.reads' (Ok (Some p)) → IsTaken p w w' → Came true
       some p a taken =
-          let rise = rises s t u v k.ended k.ended' k.reads k.reads' w w' p a taken in
-          (goes-taken s t u v k.ended k.ended' k.reads k.reads' w w' p a taken, inr (refl, rise.0, rise.1),
-          stands-taken s t u v k.ended k.ended' k.reads k.reads' w w' p a taken st)
+          let rise = rises s t u v k.ended k.ended' k.reads k.reads' w w' p a taken in (
+            goes-taken s t u v k.ended k.ended' k.reads k.reads' w w' p a taken,
+            inr (refl, rise.0, rise.1),
+            stands-taken s t u v k.ended k.ended' k.reads k.reads' w w' p a taken st,
+          )
 
       by : (lent : Result (Option Passage) PassageFault) → AfterNext s t u v k.ended k.ended' k.reads k.reads' lent → Takes lent w w' (Ok came) → Came came
       by (Ok (Some p)) a takes = subst Came (sym takes.0) (some p a takes.1)

@@ -113,9 +113,13 @@ left-chunks l at cuts h (c ∷ cs) rising first told are =
     let next = after l cuts h end in
     let begins = start-by l cuts h end (cuts_past end.at cuts) rising (omega (arith, past.0, ends)) in
     let told_then = after-told l cuts h end in
-    let below = start-told l cuts h end (cuts_past end.at cuts) in
-    (are.0, are.1, joined, are.3,
-    left-chunks l at cuts next cs rising (omega (arith, begins)) (omega (arith, told_then, below)) (subst (λ x. AreChunks l (cuts_past at cuts) x cs) same are.4))
+    let below = start-told l cuts h end (cuts_past end.at cuts) in (
+      are.0,
+      are.1,
+      joined,
+      are.3,
+      left-chunks l at cuts next cs rising (omega (arith, begins)) (omega (arith, told_then, below)) (subst (λ x. AreChunks l (cuts_past at cuts) x cs) same are.4),
+    )
 
 pub next-chunks : (l : Limits) (h : Here) (cuts : List Cut) (chunk : Chunk) (next : Here) (left : List Cut) (later : List Chunk) → AreCutsPast h.start cuts → h.start ≤ h.told
     → IsNextChunk l h cuts chunk next left → AreChunks l left next later → AreChunks l cuts h (chunk ∷ later)
@@ -124,9 +128,13 @@ next-chunks l h cuts chunk next left later rising told n are =
     let then = after l cuts h end in
     let below = start-told l cuts h end (cuts_past end.at cuts) in
     let here : AreChunks l (cuts_past then.start cuts) then later =
-    subst (λ (x : Here). AreChunks l (cuts_past x.start cuts) x later) n.goes_on (subst (λ ds. AreChunks l ds next later) n.leaves are) in
-    (n.first, n.more, n.are, n.is,
-    left-chunks l then.start cuts then later (cuts-from 0 h.start cuts (omega arith) rising) (omega arith) (omega (arith, after-told l cuts h end, below)) here)
+    subst (λ (x : Here). AreChunks l (cuts_past x.start cuts) x later) n.goes_on (subst (λ ds. AreChunks l ds next later) n.leaves are) in (
+      n.first,
+      n.more,
+      n.are,
+      n.is,
+      left-chunks l then.start cuts then later (cuts-from 0 h.start cuts (omega arith) rising) (omega arith) (omega (arith, after-told l cuts h end, below)) here,
+    )
 
 -- the next chunk does not start behind what was told, nor behind this one's end
 pub next-told : (l : Limits) (h : Here) (cuts : List Cut) (chunk : Chunk) (next : Here) (left : List Cut) (n : IsNextChunk l h cuts chunk next left)

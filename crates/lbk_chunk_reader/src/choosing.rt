@@ -1,11 +1,9 @@
 //! Where a chunk ends and where the next one starts, among cuts of which the first are known.
 
-ghost use Rattle.std.specs.Prelude.{◌≡◌, ◌≤◌, ◌++◌, ◌+◌, [], ◌∷◌, List, IfSome, None, map, length, true, if◌then◌else◌, Some};
-ghost use Rattle.lbk_chunks.specs.declared.cut.Cut as spec;
-ghost use Rattle.lbk_chunks.specs.Chunks.{cuts_past, fits, is_early, may_start};
+ghost use Rattle.std.specs.Prelude.{◌≡◌, ◌≤◌, [], IfSome, None, Some, if◌then◌else◌, length, map, true};
+ghost use Rattle.lbk_chunks.specs.Chunks.{chunk_to, cuts_past, fits, is_early, may_start};
 ghost use Rattle.lbk_chunk_reader.specs.Numbered.{here_of, numbered, numbered_chunk};
 ghost use Rattle.lbk_chunk_reader.specs.Choosing.{IsEndAmong, start_among_known};
-ghost use Rattle.lbk_chunks.specs.Chunks.{chunk_to};
 
 use crate::cut::{Chunk, Cut, Here};
 use lbk_chunks::Limits;
@@ -27,12 +25,7 @@ pub(crate) fn past(cuts: &[Cut], at: usize) -> &[Cut]
 }
 
 /// The cut at which the chunk from here on ends, where the known ones settle it or are all.
-pub(crate) fn end_among(
-    limits: &Limits,
-    here: &Here,
-    ahead: &[Cut],
-    is_whole: bool,
-) -> Option<Cut>
+pub(crate) fn end_among(limits: &Limits, here: &Here, ahead: &[Cut], is_whole: bool) -> Option<Cut>
     ensures end { IfSome result (λ end. IsEndAmong limits.now (here_of here.now) (map numbered ahead.now) is_whole (numbered end)) }
     ensures none { result ≡ None → is_whole ≡ true → ahead.now ≡ [] }
 {

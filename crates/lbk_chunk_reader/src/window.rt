@@ -86,7 +86,12 @@ impl Window {
         ensures limits { (self.new.limits ≡ self.old.limits) × (self.new.words ≡ self.old.words) }
     {
         let known = &self.cuts[self.passed..];
-        let Some(end) = end_among(&self.limits, &self.here, past(known, self.here.told), is_whole) else {
+        let Some(end) = end_among(
+            &self.limits,
+            &self.here,
+            past(known, self.here.told),
+            is_whole,
+        ) else {
             return None;
         };
         let behind = past(known, end.at);

@@ -3,8 +3,8 @@
 use crate::rows::ROWS;
 use lbk_chunk_reader::{Chunk, ChunkFault, Chunker};
 use lbk_chunks::Limits;
-use lbk_files::{SAMPLE_FILES, read_cells};
 use lbk_feed::devices::MemorySource;
+use lbk_files::{SAMPLE_FILES, read_cells};
 use lbk_passage::PassageFault;
 use lbk_rules::{CellPages, Profile};
 use std::alloc::{AllocError, Global};
@@ -77,7 +77,13 @@ fn chunks_in_all_reads(rt: HostRuntime) -> Result<(), Fail> {
     let cells = read_cells(rt.alloc(), SAMPLE_FILES)?;
     for (text, numbers, want) in &ROWS {
         for sizes in &cuttings(rt.alloc(), text.len())? {
-            let (line, fault) = told(rt.alloc(), &cells, limits_of(numbers), text.as_bytes(), sizes)?;
+            let (line, fault) = told(
+                rt.alloc(),
+                &cells,
+                limits_of(numbers),
+                text.as_bytes(),
+                sizes,
+            )?;
             same(&line.as_str(), want, text)?;
             same(&fault, &None, text)?;
         }
@@ -116,9 +122,25 @@ const BAD: [[usize; 4]; 3] = [[0, 0, 0, 0], [4, 0, 5, 0], [4, 0, 0, 3]];
 fn refused_limits(rt: HostRuntime) -> Result<(), Fail> {
     let cells = read_cells(rt.alloc(), SAMPLE_FILES)?;
     for numbers in &BAD {
-        let made = Chunker::new(rt.alloc(), &cells, limits_of(numbers), LIMIT, Profile::First);
+        let made = Chunker::new(
+            rt.alloc(),
+            &cells,
+            limits_of(numbers),
+            LIMIT,
+            Profile::First,
+        );
         same(&made.err(), &Some(ChunkFault::Limits), numbers)?;
     }
-    let made = Chunker::new(rt.alloc(), &cells, limits_of(&[4, 0, 2, 2]), 0, Profile::First);
-    same(&made.err(), &Some(ChunkFault::Passage(PassageFault::Limit)), &0)
+    let made = Chunker::new(
+        rt.alloc(),
+        &cells,
+        limits_of(&[4, 0, 2, 2]),
+        0,
+        Profile::First,
+    );
+    same(
+        &made.err(),
+        &Some(ChunkFault::Passage(PassageFault::Limit)),
+        &0,
+    )
 }
