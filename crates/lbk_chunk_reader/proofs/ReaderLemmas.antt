@@ -28,7 +28,9 @@ use Rattle.lbk_chunk_reader.specs.declared.window.Window.{Window}
 use Rattle.lbk_chunk_reader.specs.Between.{AreCutsBetween}
 use Rattle.lbk_chunk_reader.specs.Choosing.{IsNextChunk}
 use Rattle.lbk_chunk_reader.specs.Cuts.{cuts_between, cuts_of_passages}
-use Rattle.lbk_chunk_reader.specs.Numbered.{here_of}
+use Rattle.std.specs.Prelude.{IfSome}
+use Rattle.lbk_chunk_reader.specs.declared.cut.Chunk as given
+use Rattle.lbk_chunk_reader.specs.Numbered.{here_of, numbered_chunk}
 use Rattle.lbk_chunk_reader.specs.Reader.{ChunksCome, Goes, HasGiven, IsStopped, MayCome, Progresses, ReadsOn, View, cuts_with, new_view}
 use Rattle.lbk_chunk_reader.specs.Standing.{Stands, view_with}
 use Rattle.lbk_chunk_reader.specs.Window.{IsNewWindow, IsTaken, cuts_in}
@@ -356,3 +358,11 @@ module _ (l : Limits) (w : Window) (s : State) (cell : ℕ → Cell) (profile : 
     told = subst (λ (h : _). h.start ≤ h.told) (sym n.here) (omega arith);
     words = let none = n.words in omega (arith, none);
   }
+
+-- what stands after the next chunk was looked for
+pub stands-next : (s : State) (w w' : Window) (is_whole : Bool) → Stands w s is_whole → w'.limits ≡ w.limits → w'.words ≡ w.words → (r : Option given.Chunk)
+    → IfSome r (λ chunk. (more : List Cut) → (is_whole ≡ true → more ≡ []) → AreCutsPast w.here.start (cuts_in w ++ more)
+    → IsNextChunk w.limits (here_of w.here) (cuts_in w ++ more) (numbered_chunk chunk) (here_of w'.here) (cuts_in w' ++ more))
+    → (r ≡ None → w' ≡ w) → Stands w' s is_whole
+stands-next s w w' is_whole st limits words None next none = subst (λ x. Stands x s is_whole) (sym (none refl)) st
+stands-next s w w' is_whole st limits words (Some chunk) next none = stands-chunk s w w' is_whole st (numbered_chunk chunk) limits words next

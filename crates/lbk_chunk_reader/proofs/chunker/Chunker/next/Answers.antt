@@ -5,7 +5,7 @@ use Rattle.lbk_chunk_reader.specs.Reader.{ChunksCome, Goes, IsStopped}
 use Rattle.lbk_chunk_reader.specs.Shown.{view_of}
 use Rattle.lbk_chunk_reader.specs.Standing.{view_with}
 use Rattle.lbk_chunk_reader.proofs.CallLemmas.{progress}
-use Rattle.lbk_chunk_reader.proofs.ReaderLemmas.{goes-chunk, goes-none, goes-then, none-come, stopped-then}
+use Rattle.lbk_chunk_reader.proofs.ReaderLemmas.{goes-chunk, goes-none, goes-then, none-come, stands-next, stopped-then}
 use Rattle.lbk_chunk_reader.proofs.chunker.Chunker.next.Goals as goal
 
 pub loop-chunk-init : goal.loop-chunk-init
@@ -66,3 +66,11 @@ loop-chunk-smaller g c =
     let cell = g.C.CellSource.cell_of in
     progress (state_of cell c.loop-chunk.self.segmenter).start (state_of cell c.read_on.new.self.segmenter).start c.loop-chunk.self.is_whole c.read_on.new.self.is_whole
     c.if-self-2.false c.in-Ok.ensures.reads.1
+
+pub invariant_of-self : goal.invariant_of-self
+invariant_of-self g c =
+    let self = c.loop-chunk.self in
+    record {
+      stands = λ unspent. stands-next (state_of g.C.CellSource.cell_of self.segmenter) self.window c.next.new.self self.is_whole (self.stands unspent)
+          c.next.ensures.limits.0 c.next.ensures.limits.1 c.next.result c.next.ensures.chunk c.next.ensures.none;
+    }
