@@ -26,7 +26,8 @@ pub(crate) fn past(cuts: &[Cut], at: usize) -> &[Cut]
 
 /// The cut at which the chunk from here on ends, where the known ones settle it or are all.
 pub(crate) fn end_among(limits: &Limits, here: &Here, ahead: &[Cut], is_whole: bool) -> Option<Cut>
-    ensures end { IfSome result (λ end. IsEndAmong limits.now (here_of here.now) (map numbered ahead.now) is_whole (numbered end)) }
+    ensures end { IfSome result (λ end. IsEndAmong limits.now (here_of here.now) (map numbered ahead.now) is_whole
+        (numbered end)) }
     ensures none { result ≡ None → is_whole ≡ true → ahead.now ≡ [] }
 {
     let Some((first, more)) = ahead.split_first() else {
@@ -49,7 +50,8 @@ pub(crate) fn end_among(limits: &Limits, here: &Here, ahead: &[Cut], is_whole: b
     if is_whole { Some(last) } else { None }
 }
 
-/// Where the chunk behind one that ends at a cut starts: `behind` are the known cuts past that end, `told` those up to it.
+/// Where the chunk behind one that ends at a cut starts: `behind` are the known cuts past that end, `told` those up
+/// to it.
 pub(crate) fn start_behind(
     limits: &Limits,
     here: &Here,
@@ -57,7 +59,8 @@ pub(crate) fn start_behind(
     behind: &[Cut],
     told: &[Cut],
 ) -> Here
-    ensures { here_of result ≡ start_among_known limits.now (here_of here.now) (numbered end.now) (map numbered behind.now) (map numbered told.now) }
+    ensures { here_of result ≡ start_among_known limits.now (here_of here.now) (numbered end.now)
+        (map numbered behind.now) (map numbered told.now) }
 {
     let fresh = start_at(end, end.at);
     if limits.overlap == 0 {
@@ -113,7 +116,8 @@ fn start_at(cut: &Cut, told: usize) -> Here
 
 /// Whether the next chunk may start at a cut before the end of this one.
 fn may_start(limits: &Limits, here: &Here, end: &Cut, next: &Cut, cut: &Cut) -> bool
-    ensures { result ≡ may_start limits.now (here_of here.now) (numbered end.now) (numbered next.now) (numbered cut.now) }
+    ensures { result ≡ may_start limits.now (here_of here.now) (numbered end.now) (numbered next.now)
+        (numbered cut.now) }
 {
     let twice = end.at.saturating_sub(cut.at);
     let size = end.at.saturating_sub(here.start);

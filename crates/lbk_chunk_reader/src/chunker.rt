@@ -55,8 +55,10 @@ impl<'a, C: CellSource> Chunker<'a, C> {
         profile: Profile,
     ) -> Result<Chunker<'a, C>, ChunkFault>
         ensures limits { IsErrOf result ChunkFault.Limits ↔ (are_limits limits ≡ false) }
-        ensures limit { are_limits limits ≡ true → IsErrOf result (ChunkFault.Passage PassageFault.Limit) ↔ (¬ (IsLimit limit)) }
-        ensures only { IfErr result (λ fault. (fault ≡ ChunkFault.Limits) ⊎ ((fault ≡ ChunkFault.Passage PassageFault.Limit)
+        ensures limit { are_limits limits ≡ true → IsErrOf result (ChunkFault.Passage PassageFault.Limit)
+            ↔ (¬ (IsLimit limit)) }
+        ensures only { IfErr result (λ fault. (fault ≡ ChunkFault.Limits)
+            ⊎ ((fault ≡ ChunkFault.Passage PassageFault.Limit)
             ⊎ (fault ≡ ChunkFault.Passage PassageFault.Memory))) }
         ensures view { IfOk result (λ c. view_of C.cell_of c ≡ new_view (C.cell_of cells.now) profile limits limit) }
         ensures unspent { IfOk result (λ c. is_spent c ≡ false) }
@@ -78,11 +80,12 @@ impl<'a, C: CellSource> Chunker<'a, C> {
 
     /// The next chunk, or `None` once all were given.
     ///
-    /// It is given once a cut is known that no longer fits, or the end of the text was seen. A fault of the reader or of the
-    /// text comes once the chunks before it were given that are settled, as `Segmenter` returns it. After an error no more
-    /// chunks come: each later call returns `Spent`.
+    /// It is given once a cut is known that no longer fits, or the end of the text was seen. A fault of the reader or
+    /// of the text comes once the chunks before it were given that are settled, as `Segmenter` returns it. After an
+    /// error no more chunks come: each later call returns `Spent`.
     pub fn next<R: Source>(&mut self, reader: &mut R) -> Result<Option<Chunk>, PassageFault>
-        ensures answer { Answers (view_of C.cell_of self.old) (view_of C.cell_of self.new) (R.unread reader.old) (R.unread reader.new) (is_spent self.old) result }
+        ensures answer { Answers (view_of C.cell_of self.old) (view_of C.cell_of self.new) (R.unread reader.old)
+            (R.unread reader.new) (is_spent self.old) result }
         ensures spent { is_spent self.old ≡ true → (result ≡ Err PassageFault.Spent) × (reader.new ≡ reader.old) }
         ensures unspent { OnOk result (is_spent self.new ≡ false) }
         ensures stopped { OnErr result (is_spent self.new ≡ true) }
@@ -110,7 +113,8 @@ impl<'a, C: CellSource> Chunker<'a, C> {
         requires unspent { self.old.is_spent ≡ false }
         ensures unspent { OnOk result (self.new.is_spent ≡ false) }
         ensures stopped { OnErr result (self.new.is_spent ≡ true) }
-        ensures reads { ReadsOn (view_of C.cell_of self.old) (view_of C.cell_of self.new) (R.unread reader.old) (R.unread reader.new) self.new.is_whole result }
+        ensures reads { ReadsOn (view_of C.cell_of self.old) (view_of C.cell_of self.new) (R.unread reader.old)
+            (R.unread reader.new) self.new.is_whole result }
     {
         match take_next(&mut self.window, &mut self.segmenter, reader) {
             Ok(came) => {
@@ -132,7 +136,8 @@ fn take_next<R: Source, C: CellSource>(
     reader: &mut R,
 ) -> Result<bool, PassageFault>
     requires { window.old.words ≤ (state_of C.cell_of segmenter.old).start }
-    ensures { TakesNext (state_of C.cell_of segmenter.old) (state_of C.cell_of segmenter.new) (R.unread reader.old) (R.unread reader.new) window.old window.new result }
+    ensures { TakesNext (state_of C.cell_of segmenter.old) (state_of C.cell_of segmenter.new) (R.unread reader.old)
+        (R.unread reader.new) window.old window.new result }
 {
     let Some(passage) = segmenter.next(reader)? else {
         return Ok(false);

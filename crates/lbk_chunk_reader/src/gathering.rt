@@ -18,8 +18,8 @@ pub(crate) struct Words<'a> {
     pub(crate) left: &'a [Piece],
 }
 
-/// Puts the cuts of a passage that begins at byte `start`, behind `words` words, after those in the list. Returns how many
-/// words are before its end.
+/// Puts the cuts of a passage that begins at byte `start`, behind `words` words, after those in the list. Returns how
+/// many words are before its end.
 pub(crate) fn push_cuts(
     cuts: &mut Vec<Cut>,
     start: usize,
@@ -29,8 +29,10 @@ pub(crate) fn push_cuts(
 ) -> Result<usize, AllocError>
     requires { start ≤ 2 ^ 62 }
     ensures cuts { IsRegular start words segments.now pieces.now
-        → OnOk result (map numbered cuts.new.items ≡ map numbered cuts.old.items ++ cuts_between start words segments.now pieces.now) }
-    ensures words { IsRegular start words segments.now pieces.now → IfOk result (λ n. n ≡ words + length (words_in_pieces start pieces.now)) }
+        → OnOk result (map numbered cuts.new.items ≡ map numbered cuts.old.items
+        ++ cuts_between start words segments.now pieces.now) }
+    ensures words { IsRegular start words segments.now pieces.now
+        → IfOk result (λ n. n ≡ words + length (words_in_pieces start pieces.now)) }
     ensures grows { vec_len cuts.old ≤ vec_len cuts.new }
 {
     let mut here = Words {
@@ -77,7 +79,8 @@ fn pass_words(start: usize, at: usize, count: usize, pieces: &[Piece]) -> Words<
 
 /// How many words there are, with those of some pieces.
 fn words_behind(count: usize, pieces: &[Piece]) -> usize
-    ensures { (start : ℕ) → count + length (words_in_pieces start pieces.now) < 2 ^ 64 → result ≡ count + length (words_in_pieces start pieces.now) }
+    ensures { (start : ℕ) → count + length (words_in_pieces start pieces.now) < 2 ^ 64 → result ≡ count
+        + length (words_in_pieces start pieces.now) }
 {
     let mut count = count;
     let mut left = pieces;
@@ -94,7 +97,8 @@ fn words_behind(count: usize, pieces: &[Piece]) -> usize
 fn is_within(start: usize, at: usize, pieces: &[Piece]) -> bool
     requires { start ≤ 2 ^ 62 }
     ensures { (from : ℕ) → AreJoined from pieces.now → EndsPast start at pieces.now
-        → (result ≡ is_within (words_in_pieces start pieces.now) at) × (words_before (words_in_pieces start pieces.now) at ≡ 0) }
+        → (result ≡ is_within (words_in_pieces start pieces.now) at)
+        × (words_before (words_in_pieces start pieces.now) at ≡ 0) }
 {
     match pieces.split_first() {
         None => false,

@@ -52,7 +52,8 @@ impl Window {
     /// Takes the cuts of the next passage. After an error some of them may be held.
     pub(crate) fn take(&mut self, passage: &Passage<'_>) -> Result<(), AllocError>
         requires { passage.now.start ≤ 2 ^ 62 }
-        ensures { OnOk result (IsRegular passage.now.start self.old.words passage.now.segments.now passage.now.pieces.now
+        ensures { OnOk result (IsRegular passage.now.start self.old.words passage.now.segments.now
+            passage.now.pieces.now
             → IsTaken passage.now self.old self.new) }
     {
         self.drop_passed();
@@ -80,7 +81,8 @@ impl Window {
     pub(crate) fn next(&mut self, is_whole: bool) -> Option<Chunk>
         ensures chunk { IfSome result (λ chunk. (more : List spec.Cut) → (is_whole ≡ true → more ≡ [])
             → AreCutsPast self.old.here.start (cuts_in self.old ++ more)
-            → IsNextChunk self.old.limits (here_of self.old.here) (cuts_in self.old ++ more) (numbered_chunk chunk) (here_of self.new.here) (cuts_in self.new ++ more)) }
+            → IsNextChunk self.old.limits (here_of self.old.here) (cuts_in self.old ++ more) (numbered_chunk chunk)
+            (here_of self.new.here) (cuts_in self.new ++ more)) }
         ensures none { result ≡ None → self.new ≡ self.old }
         ensures last { result ≡ None → is_whole ≡ true → cuts_past self.old.here.told (cuts_in self.old) ≡ [] }
         ensures limits { (self.new.limits ≡ self.old.limits) × (self.new.words ≡ self.old.words) }
