@@ -27,7 +27,7 @@ WORDS = [
     ["mark", *FILES, "--from", "5", "--to", "4"], ["mark", "--ucd", "none"], ["mark", "--ucd", "U.zip"], ["replay", "--ucd", "a\u2066\nb"],
     ["mark", *FILES, "none", "fo\u200flder"], ["mark", *FILES, "--", "--limit", "-x"], ["show", *FILES[:7], "none"],
     ["mark", *FILES, "--sign", "ninebytes"], ["mark", *FILES, "--sign="], ["mark", *FILES, "--sign", "a\u2028"], ["show", *FILES, "--sign", "|"],
-    ["mark", *FILES, "--sign", "|", "--sign", "+"], ["mark", *FILES, "--sign"],
+    ["mark", *FILES, "--sign", "|", "--sign", "+"], ["mark", *FILES, "--sign"], ["show", *FILES, "--name", "x"], ["replay", "--kind"],
 ]  # fmt: skip
 SECONDS = 1  # of processor time
 # The interpreter of `rt try` has no answer for a program that reads files, and is given one step.
@@ -37,7 +37,7 @@ printf '%s\\n' "$@" > "$TRIED/words"
 cat > "$TRIED/input"
 echo 'lbk: handed-over-5: byte 3: a fault' >&2
 echo 'run=ended status=1 proved=no' >&2
-printf wrote
+printf '==> handed-over-4 <==\\n==> handed-over-4\\nwrote'
 """
 
 
@@ -81,7 +81,7 @@ def fill(place):
     (place / "folder").mkdir(parents=True)
     for name in "LECM":
         (place / name).write_bytes(b"# no row\n")
-    for name in ("text", "other"):
+    for name in ("text", "other", "te\u202ext"):
         (place / name).write_bytes(b"ab\n")
     (place / "U.zip").write_bytes(b"PK")
     for it in ("", "extracted", "emoji"):
@@ -118,7 +118,8 @@ def handed_over(tally, clone):
     wanted += ["--", "mark", "--ucd=handed-over-0", "--limit=9", "--", "handed-over-1", "handed-over-2"]
     tally.equal("a folder and texts are handed over", words, wanted)
     tally.equal("standard input is not read where texts are named", (clone.room / "input").read_bytes(), b"")
-    tally.equal("what the program wrote and its status", (ended.out, ended.status), (b"wrote", 1))
+    out = b"==> handed-over-4 <==\n==> handed-over-4\nwrote"
+    tally.equal("what the program wrote and its status", (ended.out, ended.status), (out, 1))
     head = ended.err.decode().splitlines()[0]
     tally.tell("it is said that nothing is proved, and how to go on", None if "nothing of this run is proved" in head and "./lbk --prove" in head else head)
     ended, _ = clone.run(["--unproved", "mark", "--ucd", "ucd", "text", "--limit=9", "other"])
@@ -128,6 +129,9 @@ def handed_over(tally, clone):
     tally.equal("a name that no file was handed over by stays", ended.err.decode().splitlines()[-1], "lbk: handed-over-5: byte 3: a fault")
     ended, _ = clone.run(["mark", *FILES, "other", "text"])
     tally.equal("a message names the second text", ended.err.decode().splitlines()[-1], "lbk: text: byte 3: a fault")
+    tally.equal("a line of the text that looks like one of --names stays", ended.out, out)
+    ended, _ = clone.run(["replay", "--names", *FILES, "te\u202ext"])
+    tally.equal("a line of --names has the name of the text", ended.out, b"==> te\\u{202e}xt <==\n==> handed-over-4\nwrote")
     ended, _ = clone.run([], b"ab")
     tally.equal("no words: standard input is handed over", (clone.tried(), (clone.room / "input").read_bytes()), (["try", *INTERPRETER, "--"], b"ab"))
 

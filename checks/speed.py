@@ -1,16 +1,18 @@
-"""Ratios of the speeds of subcommands, and of layers in one run of crates/trials_bench: one that fell back to a slow way fails.
+"""Ratios of the speeds of subcommands, of layers in one run of crates/trials_bench, and of a run's start to another program that
+goes over the property files: one that fell back to a slow way fails.
 
 The texts are made of the pages in docs/, and of letters of two and of three bytes. Each bound is a third to half of what is
 measured, and each layer's best run counts, so that other load on the machine does not fail it. The property files are the
 published ones where they are there, and else those of the stored runs.
 """
 
+import os
 import re
 
 from checks.harness import TOP, built_crate, built_program
 from checks.program import Long
 from checks.program import run as run_program
-from checks.unicode_files import layers_input, options, property_files
+from checks.unicode_files import MISSING, NAMES, layers_input, options, property_files, published
 
 SIZE = 1_200_000
 
@@ -43,6 +45,10 @@ SUBCOMMANDS = [
     ("letters of two bytes", PASS_OVER, "mark", 1.8),
     ("letters of three bytes", PASS_OVER, "mark", 2.5),
 ]
+
+
+# How many times md5sum's time over the four published files a run over no text takes at most, and how often both are run.
+MOST_OF_FOLDER, MOST_OF_FILES, STARTS = 9.0, 6.0, 40
 
 
 def texts():
@@ -82,6 +88,30 @@ def subcommands(tally, of_all):
         tally.tell(said, None if ratio >= least else "it is slower")
 
 
+def started(words):
+    """The processor time of a run that is given nothing to read."""
+    streams = [(os.POSIX_SPAWN_OPEN, it, "/dev/null", os.O_RDWR, 0) for it in (0, 1)]
+    pid = os.posix_spawnp(words[0], words, os.environ, file_actions=streams)
+    _, status, used = os.wait4(pid, 0)
+    return used.ru_utime + used.ru_stime if status == 0 else float("inf")
+
+
+def starts(tally):
+    """Ratios of a run's start to md5sum over the same files, which no processor has instructions of its own for."""
+    folder = published()
+    if not folder:
+        tally.leave_out(MISSING)
+        return
+    program, files = str(built_program()), [str(folder / it) for it in NAMES]
+    runs = {"md5sum": ["md5sum", *files], "a folder": [program, "mark", "--ucd", str(folder)], "four files": [program, "mark", *options(files)]}
+    took = {name: float("inf") for name in runs}
+    for _ in range(STARTS):
+        took = {name: min(took[name], started(words)) for name, words in runs.items()}
+    for name, most in (("a folder", MOST_OF_FOLDER), ("four files", MOST_OF_FILES)):
+        ratio = took[name] / took["md5sum"]
+        tally.tell(f"start by {name}: {ratio:.1f} times md5sum, at most {most}", None if ratio <= most else "it is slower")
+
+
 def layers(tally, of_all):
     """Ratios of the speeds of the layers that crates/trials_bench measures."""
     for number, (name, text) in enumerate(of_all.items()):
@@ -100,5 +130,6 @@ def layers(tally, of_all):
 
 def run(tally, _arguments):
     of_all = texts()
+    starts(tally)
     subcommands(tally, of_all)
     layers(tally, of_all)

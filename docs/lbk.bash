@@ -7,10 +7,10 @@ _lbk() {
         return
     fi
     case ${COMP_WORDS[1]} in
-    mark) options="--ucd --line-break --east-asian --category --emoji --limit --from --to --profile --sign --help" ;;
-    show) options="--ucd --line-break --east-asian --category --emoji --limit --from --to --profile --help" ;;
-    segment) options="--ucd --line-break --east-asian --category --emoji --limit --from --to --profile --help" ;;
-    replay) options="--ucd --line-break --east-asian --category --emoji --kinds --profile --help" ;;
+    mark) options="--ucd --line-break --east-asian --category --emoji --limit --from --to --profile --names --sign --help" ;;
+    show) options="--ucd --line-break --east-asian --category --emoji --limit --from --to --profile --names --help" ;;
+    segment) options="--ucd --line-break --east-asian --category --emoji --limit --from --to --profile --names --help" ;;
+    replay) options="--ucd --line-break --east-asian --category --emoji --kinds --profile --names --help" ;;
     help)
         mapfile -t COMPREPLY < <(compgen -W "mark show segment replay" -- "$word")
         return

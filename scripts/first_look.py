@@ -86,6 +86,11 @@ def options_of(task):
     return {**limited, "sign": "TEXT"} if task == "mark" else limited
 
 
+def flags_of(task):
+    """The options without values of a subcommand."""
+    return ["kinds", "names"] if task == "replay" else ["names"]
+
+
 def read(words):
     """The order that the words are, or Told or Unsure."""
     if not words:
@@ -128,7 +133,7 @@ def refuse_first_option(word):
 
 
 def read_task(task, words):
-    options, given, texts, rest = options_of(task), {}, [], list(words)
+    options, flags, given, texts, rest = options_of(task), flags_of(task), {}, [], list(words)
     while rest:
         word = rest.pop(0)
         name, is_joined, value = word[2:].partition("=")
@@ -139,8 +144,8 @@ def read_task(task, words):
             texts.append(word)
         elif word in ("-h", "--help"):
             help_of(task)
-        elif word == "--kinds" and task == "replay":
-            add(given, task, name, "--kinds", "")
+        elif word.startswith("--") and name in flags and not is_joined:
+            add(given, task, name, word, "")
         elif word.startswith("--") and name in options:
             shown = f"--{name} <{options[name]}>"
             if not is_joined:
@@ -169,12 +174,12 @@ def take_no_value(task, shown, rest):
 
 
 def refuse_option(task, word, name, is_joined):
-    if task == "replay" and name == "kinds":
-        refuse(f"unexpected value '{one_line(word.partition('=')[2])}' for '--kinds' found; no more were expected", task)
+    if is_joined and word.startswith("--") and name in flags_of(task):
+        refuse(f"unexpected value '{one_line(word.partition('=')[2])}' for '--{name}' found; no more were expected", task)
     if is_joined or not word.startswith("--") and len(word) > 2:
         raise Unsure
     shown = one_line(word)
-    known = [*options_of(task), *(["kinds"] if task == "replay" else []), "help"]
+    known = [*options_of(task), *flags_of(task), "help"]
     alike = most_alike(name, known) if word.startswith("--") else None
     if alike:
         refuse(f"unexpected argument '{shown}' found\n\n  tip: a similar argument exists: '--{alike}'", task)

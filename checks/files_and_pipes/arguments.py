@@ -32,6 +32,8 @@ MISTAKES = [
     ("mark", "--from 4294967296", INVALID.format("4294967296", FROM_OPTION, "4294967296 is not in 0..=4294967295"), False),
     ("segment", "--limit", VALUE.format(LIMIT_OPTION), False),
     ("replay", "--ucd", VALUE.format("--ucd <FOLDER>"), False),
+    ("mark", "--names --names", TWICE.format("--names"), True),
+    ("segment", "--names=1", "unexpected value '1' for '--names' found; no more were expected", True),
     ("replay", "--kinds=1", "unexpected value '1' for '--kinds' found; no more were expected", True),
     ("replay", "--from 1", UNEXPECTED.format("--from"), True),
     ("mark", "--from -1", UNEXPECTED.format("-1"), True),

@@ -62,6 +62,8 @@ def run(place):
     each_length(place)
     over_edges(place)
     hints(place)
+    titled(place)
+    appended(place)
 
 
 def whole_names(place):
@@ -138,6 +140,44 @@ def hints(place):
     place.write("differs", "× 0061 ÷ 0062 ÷ # !\n".encode())
     told = "D 1 1 ÷ × 28\nT 1 0 1 0\n".encode()
     place.row("texts: test lines with ! that are not refused", words_of("replay", more=["differs"]), b"", 3, told)
+
+
+def titled(place):
+    """With --names a line with its name stands before what is written of each text."""
+    place.write("a\u202eb", b"ef\n")
+    of_input = b"==> standard input <==\nin\n"
+    for what, names, out, err in (
+        ("standard input between files", ["two", "-", "two"], b"==> two <==\ncd\n" + of_input + b"==> two <==\ncd\n", ""),
+        ("no file", [], of_input, ""),
+        ("a missing one", ["none", "two"], b"==> two <==\ncd\n", MISSING.format("none")),
+        ("ill-formed text", ["bad", "two"], b"==> bad <==\n==> two <==\ncd\n", "lbk: bad: byte 3: invalid UTF-8\n"),
+        ("a name that turns a line", ["a\u202eb"], b"==> a\\u{202e}b <==\nef\n", ""),
+    ):
+        place.row(f"--names: {what}", words_of("mark", more=["--names", *names]), b"in", 1 if err else 0, out, err.encode())
+
+
+def appended(place):
+    """A text that is the output, too, is refused by whatever name; the others are read."""
+    whole = b"ab\n" * 10_000
+    same = "lbk: {}: cannot be read: input file is output file\n"
+    for what, names, redirected, out, err in (
+        ("a file", "two io two", ">> io", whole + b"cd\ncd\n", same.format("io")),
+        ("another name of it", "link", ">> io", whole, same.format("link")),
+        ("standard input", "two -", "< io >> io", whole + b"cd\n", same.format("standard input")),
+        ("standard input behind a missing one", "none", "< io >> io", whole, MISSING.format("none")),
+        ("a missing one behind it", "io none", ">> io", whole, same.format("io") + MISSING.format("none")),
+        ("a file that was emptied", "io two", "> io", b"cd\n", ""),
+        ("another file", "io", ">> other", whole, ""),
+    ):
+        place.write("io", whole)
+        place.write("other", b"")
+        (place.folder / "link").unlink(missing_ok=True)
+        os.link(place.folder / "io", place.folder / "link")
+        # (one that is not refused grows to the limit of the shell)
+        command = f"ulimit -f 1000; exec ./lbk {' '.join(words_of('mark'))} {names} {redirected}"
+        ran = run_program(["bash", "-c", command], cwd=place.folder)
+        wrote = (place.folder / redirected.split()[-1]).read_bytes()
+        place.tally.equal(f"the output is a text, too: {what}", (ran.status, wrote, ran.err), (1 if err else 0, out, err.encode()))
 
 
 def closed(place):

@@ -2,16 +2,19 @@
 #![tactic(auto)]
 
 mod hints;
+mod output_file;
 mod system_files;
 mod telling;
 mod waiting;
 mod words;
 
 use lbk_cmd::{Caller, CmdFault, Ending, RunFault, run_over_texts};
-use lbk_devices::{Input, Notes, Noting, Prompted};
 use lbk_feed::Device;
+use lbk_feed::noted::{Input, Notes, Noting, Prompted};
 use lbk_files::FileStore;
+use output_file::{Barred, OutputFile};
 use std::alloc::{AllocError, Global};
+use std::fs;
 use std::io::IsTerminal;
 use std::process::ExitCode;
 use system_files::{SystemFiles, SystemTexts};
@@ -44,13 +47,16 @@ fn run_and_tell(rt: &HostRuntime) -> Ending {
 fn run_on_devices<'x>(rt: &'x HostRuntime, words: &'x [&'x str], notes: &'x Notes) -> Ending {
     let input = rt.stdin();
     let is_terminal = input.is_terminal();
+    let output = OutputFile::of_run(rt);
+    let is_output = output.is(fs::metadata(rt, "/dev/stdin"));
+    let input = Barred::new(input, is_output, notes);
     let input = Device::new(Noting::new(input, notes));
     let input = Prompted::new(input, Waiting::new(rt), is_terminal);
     let mut reader = Input::new(input, notes);
     let mut writer = Device::new(Noting::new(rt.stdout(), notes));
     let files = SystemFiles::new(rt, notes);
     let mut store = FileStore::new(&files);
-    let mut texts = SystemTexts::new(rt, notes);
+    let mut texts = SystemTexts::new(rt, &output, notes);
     let ending = run_over_texts(
         rt.alloc(),
         words,

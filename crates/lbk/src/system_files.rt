@@ -2,11 +2,12 @@
 
 ghost use Rattle.std.specs.Prelude.{None};
 
+use super::output_file::OutputFile;
 use super::telling;
 use lbk_args::{Engine, Order};
 use lbk_cmd::{Caller, RunFault, Texts};
-use lbk_devices::{Input, Notes, Noting};
 use lbk_feed::Device;
+use lbk_feed::noted::{Input, Notes, Noting};
 use lbk_files::{LoadFault, Opens};
 use std::fs::File;
 use std::io::ErrorKind;
@@ -38,20 +39,22 @@ impl<'a> Opens for SystemFiles<'a> {
     }
 }
 
-/// The files of text of the system, by their names. Why one cannot be opened or read is noted, and why one is refused is
-/// written on standard error.
+/// The files of text of the system, by their names. Why one cannot be opened or read is noted, and why one is refused
+/// is written on standard error.
 #[derive(Drop)]
 pub struct SystemTexts<'a> {
     rt: &'a HostRuntime,
+    output: &'a OutputFile,
     /// What the words ask for, once this is known.
     caller: Caller<'a>,
     notes: &'a Notes,
 }
 
 impl<'a> SystemTexts<'a> {
-    pub fn new(rt: &'a HostRuntime, notes: &'a Notes) -> SystemTexts<'a> {
+    pub fn new(rt: &'a HostRuntime, output: &'a OutputFile, notes: &'a Notes) -> SystemTexts<'a> {
         SystemTexts {
             rt,
+            output,
             caller: Caller::NoWords,
             notes,
         }
@@ -68,8 +71,14 @@ impl<'a> Opens for SystemTexts<'a> {
 
     ghost contents = { λ texts name. None };
 
+    /// A file that is the output, too, is refused.
     fn open(&self, name: &str) -> Result<Input<'a, Device<Noting<'a, File>>>, LoadFault> {
+        self.notes.is_output.set(false);
         match self.notes.noted(File::open(self.rt, name)) {
+            Ok(file) if self.output.is(file.metadata()) => {
+                self.notes.is_output.set(true);
+                Err(LoadFault::Unreadable)
+            }
             Ok(file) => {
                 let device = Device::new(Noting::new(file, self.notes));
                 Ok(Input::new(device, self.notes))

@@ -1,11 +1,12 @@
 //! What a person reads of a refused run.
 
-use lbk_cmd::{Caller, CmdFault, Message, RunFault};
-use lbk_devices::Notes;
+use lbk_cmd::{Caller, CmdFault, Message, Reason, RunFault};
+use lbk_feed::noted::Notes;
 use lbk_notation::ReplayFault;
 use std::io::ErrorKind;
 
-/// One line for a refused run, or for the text of an operand that was refused; none where nobody reads the output any more.
+/// One line for a refused run, or for the text of an operand that was refused; none where nobody reads the output any
+/// more.
 pub fn tell_refused<'x>(
     rt: &HostRuntime,
     caller: Caller<'x>,
@@ -13,18 +14,26 @@ pub fn tell_refused<'x>(
     fault: RunFault,
     notes: &Notes,
 ) {
-    let reason = notes.error.get();
-    if is_write(fault) && reason == Some(ErrorKind::BrokenPipe) {
+    let error = notes.error.get();
+    if is_write(fault) && error == Some(ErrorKind::BrokenPipe) {
         return;
     }
     let message = Message {
         fault,
         caller,
         text,
-        reason,
+        reason: reason_of(error, notes.is_output.get() && !is_write(fault)),
         is_utf16: notes.is_utf16.get(),
     };
     let _ = eprintln!(rt; "lbk: {message}");
+}
+
+/// Why a file or a device failed.
+fn reason_of(error: Option<ErrorKind>, is_output: bool) -> Option<Reason> {
+    if is_output {
+        return Some(Reason::IsOutput);
+    }
+    Some(Reason::System(error?))
 }
 
 /// Whether the output failed.

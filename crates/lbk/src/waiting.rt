@@ -1,7 +1,7 @@
 //! What is said where a person is waited for.
 
 use super::hints;
-use lbk_devices::Prompt;
+use lbk_feed::noted::Prompt;
 
 /// Says on standard error that text is waited for.
 #[derive(Drop)]

@@ -23,7 +23,7 @@ fn collected(rt: &HostRuntime) -> io::Result<Vec<String>> {
     Ok(words)
 }
 
-/// The words without a call for help behind `help`, which asks for nothing more.
+/// The words without a call for help after `help`, which asks for nothing more.
 pub fn without_help_of_help<'a>(words: &'a [&'a str]) -> &'a [&'a str] {
     let is_call = words.last() == Some(&"--help") || words.last() == Some(&"-h");
     if is_call && words.len() > 1 && words[0] == "help" {

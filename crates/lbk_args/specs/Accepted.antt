@@ -13,8 +13,8 @@ abbrev pub is_range : Option Part → Bool
 is_range None = true
 is_range (Some part) = not (nat_lt part.to part.from)
 
--- words that `clap` takes ask for no task where a property file is not named, and for one that is refused where a range ends
--- before it begins, or where a sign is none
+-- words that `clap` takes ask for no task where a property file is not named, and for one that is refused where a
+-- range ends before it begins, or where a sign is none
 abbrev pub task_fault : Option Task → Kinds
 task_fault None = MissingRequiredArgument ∷ []
 task_fault (Some task) = if is_range task.part && is_sign task.sign then [] else ValueValidation ∷ []

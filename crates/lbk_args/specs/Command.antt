@@ -59,11 +59,14 @@ files_app name = with_rule (with_rule (widths_app name)
 abbrev pub profile_rule : Rule
 profile_rule = number_rule (codes "profile") 2 (codes "1")
 
+-- a subcommand with the profile, the flag of names and the texts behind its other options
+abbrev pub shared_app : App → App
+shared_app app = with_rule (with_rule (with_rule app profile_rule) (flag_rule (codes "names"))) texts_rule
+
 -- `show` and `segment`, and `mark`, which has one more
 abbrev pub limited_app : Text → App
-limited_app name = with_rule (with_rule (with_rule (with_rule (with_rule (files_app name)
+limited_app name = shared_app (with_rule (with_rule (with_rule (files_app name)
     (number_rule (codes "limit") greatest_limit default_limit_text)) (byte_rule (codes "from"))) (byte_rule (codes "to")))
-    profile_rule) texts_rule
 
 -- `mark`
 abbrev pub mark_app : App
@@ -71,7 +74,7 @@ mark_app = with_rule (limited_app (codes "mark")) (value_rule (codes "sign"))
 
 -- `replay`
 abbrev pub replay_app : App
-replay_app = with_rule (with_rule (with_rule (files_app (codes "replay")) (flag_rule (codes "kinds"))) profile_rule) texts_rule
+replay_app = shared_app (with_rule (files_app (codes "replay")) (flag_rule (codes "kinds")))
 
 -- a program that takes only words behind its name, wants a subcommand and tells its version
 abbrev pub bare_app : App

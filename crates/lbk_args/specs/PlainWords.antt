@@ -89,7 +89,8 @@ pub record AreFourWords (files : NamedFiles) (words : List Text) : Type 0 where
   pub are : words ≡ four_words line_break east_asian category emoji
   pub files_are : files ≡ given_files line_break east_asian category emoji
 
--- the subcommand, the files, the engine's own option and the profile, and no range, no sign and no operand
+-- the subcommand, the files, the engine's own option and the profile, and no range, no sign, no flag of names and no
+-- operand
 pub record IsPlainFor (task : Task) (words : List Text) : Type 0 where
   pub file_words : List Text
   pub engine_words : List Text
@@ -100,4 +101,5 @@ pub record IsPlainFor (task : Task) (words : List Text) : Type 0 where
   pub profile : AreProfileWords task.profile profile_words
   pub part : task.part ≡ None
   pub sign : task.sign ≡ default_sign
+  pub names : task.names ≡ false
   pub texts : task.texts ≡ []

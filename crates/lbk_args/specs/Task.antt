@@ -1,5 +1,6 @@
 -- What accepted words ask for, by the values that `clap` finds in them.
-use Rattle.std.specs.Prelude.{ℕ, ◌^◌, ◌==◌, ◌&&◌, Bool, false, List, [], ◌∷◌, Option, Some, None, if◌then◌else◌, nat_lt, codes, map, option_and_then, option_map, unwrap_or}
+use Rattle.std.specs.Prelude.{ℕ, ◌^◌, ◌==◌, ◌&&◌, Bool, false, List, [], ◌∷◌, Option, Some, None, if◌then◌else◌}
+use Rattle.std.specs.Prelude.{nat_lt, codes, map, option_and_then, option_map, unwrap_or}
 use Rattle.std.specs.Str.{bytes_eq}
 use Rattle.std.specs.Str.Parse.{digits_value, without_leading_plus}
 use Rattle.clap.specs.Words.{Row, Text, all_of, first_of, one_of, subcommand_of}
@@ -28,14 +29,15 @@ pub record NamedFiles : Type 0 where
   pub category : Named
   pub emoji : Named
 
--- an engine with its option, the names of the four files, the profile, which passages of each text, the sign of `mark`, and the
--- names of the texts
+-- an engine with its option, the names of the four files, the profile, which passages of each text, the sign of
+-- `mark`, whether lines with their names are written, and the names of the texts
 pub record Task : Type 0 where
   pub engine : Engine
   pub files : NamedFiles
   pub profile : Profile
   pub part : Option Part
   pub sign : Text
+  pub names : Bool
   pub texts : List Text
 
 abbrev pub named_of : FileName → Named
@@ -58,6 +60,7 @@ task_of o = record {
   profile = o.profile;
   part = o.part;
   sign = o.sign.now;
+  names = o.names;
   texts = map (λ name. name.now) o.texts.items;
 }
 
@@ -124,8 +127,15 @@ abbrev pub is_true : Option Text → Bool
 is_true None = false
 is_true (Some text) = bytes_eq text (codes "true")
 
+-- whether the words have the flag of a name
+abbrev pub flag_in : Text → List Row → Bool
+flag_in id rows = is_true (one_of id rows)
+
 abbrev pub kinds_in : List Row → Bool
-kinds_in rows = is_true (one_of (codes "kinds") rows)
+kinds_in rows = flag_in (codes "kinds") rows
+
+abbrev pub names_in : List Row → Bool
+names_in rows = flag_in (codes "names") rows
 
 abbrev pub engine_in : Text → List Row → Engine
 engine_in name rows =
@@ -142,6 +152,7 @@ task_in found = option_map (λ files. record {
   profile = profile_in found.1;
   part = part_in found.1;
   sign = sign_in found.1;
+  names = names_in found.1;
   texts = texts_in found.1;
 }) (files_in found.1)
 

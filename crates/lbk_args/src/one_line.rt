@@ -6,8 +6,8 @@ ghost use Rattle.lbk_args.specs.OneLine.{is_escaped, is_turning, one_line, one_s
 
 use std::fmt;
 
-/// A word in one line: a control character, as a line end, and one that turns the order of those beside it on a terminal is
-/// written as `\u` and its code in braces.
+/// A word in one line: a control character, as a line end, and one that turns the order of those beside it on a
+/// terminal is written as `\u` and its code in braces.
 #[derive(Clone, Copy)]
 pub struct OneLine<'a>(pub &'a str);
 

@@ -4,7 +4,9 @@ ghost use Rattle.std.specs.Prelude.{◌≡◌, false, IfOk, codes};
 ghost use Rattle.clap.specs.Words.{App, Rule, app_of, rule_of, with_rule, with_subcommand};
 ghost use Rattle.lbk_feed.specs.Text.{greatest_limit};
 ghost use Rattle.lbk_args.specs.Local.{IsLocal, IsMade};
-ghost use Rattle.lbk_args.specs.Command.{byte_rule, long_rule, value_rule, number_rule, default_limit_text, flag_rule, profile_rule, texts_rule, files_app, limited_app, mark_app, replay_app, bare_app, lbk_app};
+ghost use Rattle.lbk_args.specs.Command.{byte_rule, long_rule, value_rule, number_rule, default_limit_text};
+ghost use Rattle.lbk_args.specs.Command.{flag_rule, profile_rule, texts_rule, files_app, shared_app, limited_app};
+ghost use Rattle.lbk_args.specs.Command.{mark_app, replay_app, bare_app, lbk_app};
 
 use clap::builder::ValueParser;
 use clap::{Arg, ArgAction, Command};
@@ -168,6 +170,15 @@ fn sign_option<'a>(alloc: Global) -> Arg<'a>
     value_option(alloc, "sign", "TEXT").help("In place of ÷, 1 to 8 bytes without a line end")
 }
 
+fn names_option<'a>(alloc: Global) -> Arg<'a>
+    ensures rule { rule_of result ≡ flag_rule (codes "names") }
+    ensures local { result.global ≡ false }
+{
+    long_option(alloc, "names")
+        .action(ArgAction::SetTrue)
+        .help("A line ==> FILE <== before the output of each text")
+}
+
 /// The operands, which name the texts.
 fn texts_operand<'a>(alloc: Global) -> Arg<'a>
     ensures rule { rule_of result ≡ texts_rule }
@@ -229,6 +240,15 @@ fn with_files<'a>(alloc: Global, name: &'a str) -> Made<'a>
     with_option(command, file_option(alloc, "emoji", pictographs))
 }
 
+/// A subcommand with the profile, the flag of names and the texts behind its other options.
+fn with_shared<'a>(alloc: Global, command: Made<'a>) -> Made<'a>
+    ensures { (app : App) → IsMade app command.entry → IsMade (shared_app app) result }
+{
+    let command = with_option(command, profile_option(alloc));
+    let command = with_option(command, names_option(alloc));
+    with_option(command, texts_operand(alloc))
+}
+
 /// `mark`, `show` or `segment`.
 fn limited<'a>(alloc: Global, name: &'a str) -> Made<'a>
     ensures { IsMade (limited_app name.entry.now) result }
@@ -237,9 +257,7 @@ fn limited<'a>(alloc: Global, name: &'a str) -> Made<'a>
     let from = "Only paragraphs that begin at this byte or after it";
     let command = with_option(command, byte_option(alloc, "from", from));
     let to = "Only paragraphs that begin before this byte";
-    let command = with_option(command, byte_option(alloc, "to", to));
-    let command = with_option(command, profile_option(alloc));
-    with_option(command, texts_operand(alloc))
+    with_shared(alloc, with_option(command, byte_option(alloc, "to", to)))
 }
 
 fn mark<'a>(alloc: Global) -> Made<'a>
@@ -270,8 +288,7 @@ fn replay<'a>(alloc: Global) -> Made<'a>
     ensures { IsMade replay_app result }
 {
     let command = with_option(with_files(alloc, "replay"), kinds_option(alloc));
-    let command = with_option(command, profile_option(alloc));
-    let command = with_option(command, texts_operand(alloc));
+    let command = with_shared(alloc, command);
     described(command, REPLAY_USAGE, REPLAY_ABOUT, REPLAY_AFTER)
 }
 

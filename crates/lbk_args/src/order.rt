@@ -52,6 +52,8 @@ pub struct Order<'a> {
     pub part: Option<Part>,
     /// What `mark` writes where a line may end.
     pub sign: &'a str,
+    /// Whether a line with its name stands before what is written of each text.
+    pub names: bool,
     /// The names of the texts, in order; none stands for standard input, as `-` does.
     pub texts: Vec<&'a str>,
 }

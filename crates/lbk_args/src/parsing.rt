@@ -1,10 +1,13 @@
 //! Words into an order.
 
-ghost use Rattle.std.specs.Prelude.{◌≡◌, [], ◌∷◌, None, Some, IfOk, IfErr, MatchOption, MatchResult, OnOk, codes, map, option_map};
+ghost use Rattle.std.specs.Prelude.{◌≡◌, [], ◌∷◌, None, Some, IfOk, IfErr, MatchOption, MatchResult, OnOk, codes};
+ghost use Rattle.std.specs.Prelude.{map, option_map};
 ghost use Rattle.clap.specs.Words.{first_of, found_of, kind_of, one_of, rows_of};
 ghost use Rattle.clap.specs.declared.error.kind.ErrorKind.{ErrorKind};
 ghost use Rattle.lbk_args.specs.Accepted.{AreAccepted, faults_of, is_range, task_fault};
-ghost use Rattle.lbk_args.specs.Task.{Task, engine_in, files_in, files_of_names, kinds_in, limit_in, named_folder, named_in, named_of, number_or, own_or_folder, part_in, profile_in, sign_in, task_by, task_in, task_of, texts_in};
+ghost use Rattle.lbk_args.specs.Task.{Task, engine_in, files_in, files_of_names, flag_in, limit_in, named_folder};
+ghost use Rattle.lbk_args.specs.Task.{named_in, named_of, number_or, own_or_folder, part_in, profile_in, sign_in};
+ghost use Rattle.lbk_args.specs.Task.{task_by, task_in, task_of, texts_in};
 ghost use Rattle.lbk_args.specs.PlainWords.{IsPlainFor};
 ghost use Rattle.lbk_args.specs.Sign.{is_sign};
 ghost use Rattle.lbk_args.specs.Refusal.{IsMistake, IsRefusalBy};
@@ -39,7 +42,7 @@ const NO_SIGN: &str = "--sign <TEXT> is 1 to 8 bytes of UTF-8 without a line end
 /// Reads the arguments after the program's name.
 ///
 /// `Help` comes for a call for help or for the version, `Usage` for words that are no command line of the program; both
-/// hold a text for a person. `Memory` comes where an allocation was refused.
+/// hold a text for a person. `Memory` is returned if an allocation was refused.
 pub fn parse<'a>(alloc: Global, words: &'a [&'a str]) -> Result<Order<'a>, WordsFault>
     ensures accepted { IfOk result (λ order. AreAccepted (map (λ w. w.now) words.entry.now)) }
     ensures task { IfOk result (λ order. task_by (map (λ w. w.now) words.entry.now) ≡ Some (task_of order)) }
@@ -94,7 +97,8 @@ fn is_range(part: Option<Part>) -> bool
     }
 }
 
-/// The order of a subcommand for these texts, by what was found for its options; none where a property file is not named.
+/// The order of a subcommand for these texts, by what was found for its options; none where a property file is not
+/// named.
 fn order<'a>(name: &str, given: &ArgMatches<'a>, texts: Vec<&'a str>) -> Option<Order<'a>>
     requires { map (λ name. name.now) texts.items ≡ texts_in (rows_of (found_of given.now)) }
     ensures { option_map task_of result ≡ task_in (name.now, rows_of (found_of given.now)) }
@@ -106,6 +110,7 @@ fn order<'a>(name: &str, given: &ArgMatches<'a>, texts: Vec<&'a str>) -> Option<
         profile: profile(given),
         part: part(given),
         sign: sign(given),
+        names: flag(given, "names"),
         texts,
     })
 }
@@ -156,7 +161,7 @@ fn engine(name: &str, given: &ArgMatches<'_>) -> Engine
             limit: limit(given),
         },
         _ => Engine::Replay {
-            kinds: kinds(given),
+            kinds: flag(given, "kinds"),
         },
     }
 }
@@ -180,10 +185,11 @@ fn limit(given: &ArgMatches<'_>) -> u32
     number(given, "limit", DEFAULT_LIMIT)
 }
 
-fn kinds(given: &ArgMatches<'_>) -> bool
-    ensures { result ≡ kinds_in (rows_of (found_of given.now)) }
+/// Whether the flag of a name is given.
+fn flag(given: &ArgMatches<'_>, id: &str) -> bool
+    ensures { result ≡ flag_in id.now (rows_of (found_of given.now)) }
 {
-    given.get_one::<bool>("kinds").unwrap_or(false)
+    given.get_one::<bool>(id).unwrap_or(false)
 }
 
 fn profile(given: &ArgMatches<'_>) -> Profile

@@ -20,8 +20,8 @@ pub(crate) fn usage_text(
     Ok(text)
 }
 
-/// The words of `clap`. Those of the arguments are in them as they are, so it is asked again where one of these is not to be
-/// shown so.
+/// The words of `clap`. Those of the arguments are in them as they are, so it is asked again where one of these is
+/// not to be shown so.
 fn told(alloc: Global, words: &[&str], error: &Error) -> Result<String, AllocError> {
     if !words.iter().any(|word| word.contains(is_escaped)) {
         return format!(in alloc; "{error}");
@@ -70,7 +70,7 @@ fn is_of_names(scalar: char) -> bool {
     scalar == '.' || scalar == '/'
 }
 
-/// Whether a word is a hyphen with a digit behind it.
+/// Whether a word is a hyphen with a digit after it.
 fn has_negative(words: &[&str]) -> bool {
     words
         .iter()

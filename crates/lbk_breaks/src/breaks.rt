@@ -51,8 +51,8 @@ impl<'a, C: CellSource> Model for Breaks<'a, C> {
 }
 
 impl<'a, C: CellSource> Breaks<'a, C> {
-    /// The breaks of a text by these cells and the rules of the profile (UAX #14, section 6), none of which was given
-    /// yet.
+    /// The breaks of a text by these cells and the rules of the profile (UAX #14, section 6), none of which was
+    /// returned yet.
     pub fn new(cells: &'a C, text: &'a str, profile: Profile) -> Breaks<'a, C>
         ensures { result ≡ breaks profile (C.cell_of cells.now) (chars text.now) }
     {

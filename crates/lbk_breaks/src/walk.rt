@@ -30,8 +30,10 @@ pub(crate) fn fill<C: CellSource>(
 ) -> Filling
     requires { IsCharBoundary text.now start }
     ensures place { IsCharBoundary text.now result.at }
-    ensures filled { (profile : Profile) (cell : ℕ → Cell) (before : List ℕ) → RowMachineFits C.cell_of machine.old profile cell before
-        → FillsTo result.ended (RowMachineFits C.cell_of machine.new profile cell) profile cell text.now before start result.at (take result.count block.new) }
+    ensures filled { (profile : Profile) (cell : ℕ → Cell) (before : List ℕ)
+        → RowMachineFits C.cell_of machine.old profile cell before
+        → FillsTo result.ended (RowMachineFits C.cell_of machine.new profile cell) profile cell text.now before start
+        result.at (take result.count block.new) }
     ensures within { result.count ≤ length block.old }
     ensures full { result.ended ≡ false → result.count ≡ length block.old }
 {
@@ -60,8 +62,10 @@ fn fill_before_end<C: CellSource>(
 ) -> FilledTo
     requires { IsCharBoundary text.now start }
     ensures place { IsCharBoundary text.now result.at }
-    ensures filled { (profile : Profile) (cell : ℕ → Cell) (before : List ℕ) → RowMachineFits C.cell_of machine.old profile cell before
-        → Filled (RowMachineFits C.cell_of machine.new profile cell) profile cell text.now before start result.at (take result.count block.new) }
+    ensures filled { (profile : Profile) (cell : ℕ → Cell) (before : List ℕ)
+        → RowMachineFits C.cell_of machine.old profile cell before
+        → Filled (RowMachineFits C.cell_of machine.new profile cell) profile cell text.now before start result.at
+        (take result.count block.new) }
     ensures within { result.count ≤ length block.old }
     ensures stops { result.count < length block.old → result.at ≡ length text.now }
 {
@@ -92,8 +96,10 @@ fn quick<C: CellSource>(
     ensures place { IsCharBoundary text.now result.at }
     ensures onward { start.at ≤ result.at }
     ensures filled { (profile : Profile) (cell : ℕ → Cell) (before : List ℕ) (from : ℕ)
-        → Filled (RowMachineFits C.cell_of machine.old profile cell) profile cell text.now before from start.at (take start.count block.old)
-        → Filled (RowMachineFits C.cell_of machine.new profile cell) profile cell text.now before from result.at (take result.count block.new) }
+        → Filled (RowMachineFits C.cell_of machine.old profile cell) profile cell text.now before from start.at
+        (take start.count block.old)
+        → Filled (RowMachineFits C.cell_of machine.new profile cell) profile cell text.now before from result.at
+        (take result.count block.new) }
 {
     let mut own = *machine;
     let mut here = run_of_ascii(&mut own, text, start, block);
@@ -121,8 +127,10 @@ fn run_of_ascii<C: CellSource>(
     ensures place { IsCharBoundary text.now result.at }
     ensures onward { start.at ≤ result.at }
     ensures filled { (profile : Profile) (cell : ℕ → Cell) (before : List ℕ) (from : ℕ)
-        → Filled (RowMachineFits C.cell_of machine.old profile cell) profile cell text.now before from start.at (take start.count block.old)
-        → Filled (RowMachineFits C.cell_of machine.new profile cell) profile cell text.now before from result.at (take result.count block.new) }
+        → Filled (RowMachineFits C.cell_of machine.old profile cell) profile cell text.now before from start.at
+        (take start.count block.old)
+        → Filled (RowMachineFits C.cell_of machine.new profile cell) profile cell text.now before from result.at
+        (take result.count block.new) }
 {
     let mut count = start.count;
     let mut at = start.at;
@@ -155,8 +163,10 @@ fn take_unless_held<C: CellSource>(
     ensures place { IfSome result (λ past. IsCharBoundary text.now past.at) }
     ensures onward { IfSome result (λ past. here.at < past.at) }
     ensures filled { (profile : Profile) (cell : ℕ → Cell) (before : List ℕ) (from : ℕ)
-        → Filled (RowMachineFits C.cell_of machine.old profile cell) profile cell text.now before from here.at (take here.count block.old)
-        → IfSome result (λ past. Filled (RowMachineFits C.cell_of machine.new profile cell) profile cell text.now before from past.at (take past.count block.new)) }
+        → Filled (RowMachineFits C.cell_of machine.old profile cell) profile cell text.now before from here.at
+        (take here.count block.old)
+        → IfSome result (λ past. Filled (RowMachineFits C.cell_of machine.new profile cell) profile cell text.now
+        before from past.at (take past.count block.new)) }
     ensures stays { IfNone result ((machine.new ≡ machine.old) × (block.new ≡ block.old)) }
 {
     let mut scalars = text[here.at..].chars();
@@ -170,8 +180,8 @@ fn take_unless_held<C: CellSource>(
     })
 }
 
-/// Takes one scalar, also where the position before it is held, and writes the break there. It is seldom called, and stands
-/// apart, so that the loops have few registers to keep.
+/// Takes one scalar, also where the position before it is held, and writes the break there. It is seldom called, and
+/// stands apart, so that the loops have few registers to keep.
 #[inline(never)]
 fn take_one<C: CellSource>(
     machine: &mut RowMachine<'_, C>,
@@ -186,8 +196,10 @@ fn take_one<C: CellSource>(
     ensures place { IsCharBoundary text.now result.at }
     ensures onward { here.at < result.at }
     ensures filled { (profile : Profile) (cell : ℕ → Cell) (before : List ℕ) (from : ℕ)
-        → Filled (RowMachineFits C.cell_of machine.old profile cell) profile cell text.now before from here.at (take here.count block.old)
-        → Filled (RowMachineFits C.cell_of machine.new profile cell) profile cell text.now before from result.at (take result.count block.new) }
+        → Filled (RowMachineFits C.cell_of machine.old profile cell) profile cell text.now before from here.at
+        (take here.count block.old)
+        → Filled (RowMachineFits C.cell_of machine.new profile cell) profile cell text.now before from result.at
+        (take result.count block.new) }
 {
     let mut scalars = text[here.at..].chars();
     let Some(c) = scalars.next() else {

@@ -4,7 +4,7 @@ use Rattle.std.specs.Int.Bits.{bit_or}
 use Rattle.std.proofs.lemmas.Bool.{and_from, and_parts, cases_lt, eq-eqb, le-leb, leb-true, lt-leb, lt-ltb, ltb-true, not_from_true, or_parts}
 use Rattle.std.proofs.lemmas.List.{get_or_past, length-drop}
 use Rattle.std.proofs.lemmas.Nat.{and_le_r}
-use Rattle.lbk_cover.specs.Letters.{StandsForAll}
+use Rattle.lbk_masks.specs.Letters.{StandsForAll}
 use Rattle.lbk_masks.proofs.BitLemmas.{set-or}
 use Rattle.lbk_masks.proofs.FoundLemmas.{rest-byte}
 use Rattle.lbk_masks.specs.Sets.{is_set, left_before, left_in, meets, right_in}

@@ -14,7 +14,8 @@ use Rattle.lbk_rules.specs.Neighbours.{step_behind}
 use Rattle.lbk_bytes.specs.declared.blocks.BlockState.{BlockState}
 use Rattle.lbk_bytes.specs.declared.fill_state.FillState.{FillState}
 use Rattle.lbk_bytes.specs.declared.raw_break.RawBreak.{RawBreak}
-use Rattle.lbk_bytes.specs.Blocks.{AreCleared, AreKeptBelow, AreKeptFrom, AreLeft, IsBlock, IsByteTold, IsLowest, byte_at, place_at, place_in, row_before, stands_at}
+use Rattle.lbk_masks.specs.Bits.{AreCleared, AreKeptBelow, AreKeptFrom, IsLowest}
+use Rattle.lbk_bytes.specs.Blocks.{AreLeft, IsBlock, IsByteTold, byte_at, place_at, place_in, row_before, stands_at}
 use Rattle.lbk_bytes.specs.Bytes.{with_break}
 use Rattle.lbk_bytes.specs.Reached.{Ahead, AreSwift, Reached}
 use Rattle.lbk_bytes.specs.Shown.{given_in}

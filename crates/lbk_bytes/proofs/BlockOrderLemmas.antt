@@ -4,7 +4,8 @@ use Rattle.lbk_masks.specs.Sets.{is_set}
 use Rattle.lbk_bytes.specs.declared.blocks.BlockState.{BlockState}
 use Rattle.lbk_bytes.specs.declared.fill_state.FillState.{FillState}
 use Rattle.lbk_bytes.specs.declared.raw_break.RawBreak.{RawBreak}
-use Rattle.lbk_bytes.specs.Blocks.{AreCleared, AreKeptBelow, AreKeptFrom, IsAhead, IsLowest}
+use Rattle.lbk_masks.specs.Bits.{AreCleared, AreKeptBelow, AreKeptFrom, IsLowest}
+use Rattle.lbk_bytes.specs.Blocks.{IsAhead}
 use Rattle.lbk_bytes.specs.Order.{AreInOrder}
 use Rattle.lbk_bytes.specs.Reached.{IsInOrder}
 use Rattle.lbk_bytes.proofs.BlockLemmas.{order, zero-or}

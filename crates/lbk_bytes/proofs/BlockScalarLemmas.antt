@@ -7,7 +7,7 @@ use Rattle.std.proofs.lemmas.Bool.Decides.{nat_tests}
 use Rattle.std.proofs.lemmas.List.{get_or-drop, length-append, length-drop}
 use Rattle.bstr.specs.Utf8.{code_of_2, decoded, good, second}
 use Rattle.bstr.proofs.lemmas.PieceLemmas.{value-1, value-6}
-use Rattle.lbk_cover.specs.Letters.{StandsFor, StandsForAll}
+use Rattle.lbk_masks.specs.Letters.{StandsFor, StandsForAll}
 use Rattle.lbk_rules.specs.declared.Cell.{Cell}
 use Rattle.lbk_rules.specs.declared.Left.{Left}
 use Rattle.lbk_rules.specs.declared.FlatStep.{FlatStep}

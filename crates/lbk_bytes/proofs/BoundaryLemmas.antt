@@ -5,7 +5,7 @@ use Rattle.std.proofs.lemmas.List.{length-append}
 use Rattle.std.proofs.Math.Seq.{drop-length}
 use Rattle.bstr.proofs.lemmas.PieceLemmas.{pieces-nil}
 use Rattle.bstr.specs.Utf8.{Decoded, code_of_2, decoded, pieces}
-use Rattle.lbk_cover.specs.Letters.{StandsForAll}
+use Rattle.lbk_masks.specs.Letters.{StandsForAll}
 use Rattle.lbk_rules.specs.declared.Cell.{Cell}
 use Rattle.lbk_rules.specs.declared.Left.{Left}
 use Rattle.lbk_rules.specs.declared.FlatStep.{FlatStep}

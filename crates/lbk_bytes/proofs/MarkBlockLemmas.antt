@@ -14,7 +14,8 @@ use Rattle.lbk_rules.specs.Breaks.{break_by, is_no}
 use Rattle.lbk_rules.specs.Codes.{verdict_coded}
 use Rattle.lbk_rules.specs.Neighbours.{step_behind}
 use Rattle.lbk_bytes.specs.declared.fill_state.FillState.{FillState}
-use Rattle.lbk_bytes.specs.Blocks.{AreKeptBelow, IsBlock, byte_at, place_at, row_before, stands_at}
+use Rattle.lbk_masks.specs.Bits.{AreKeptBelow}
+use Rattle.lbk_bytes.specs.Blocks.{IsBlock, byte_at, place_at, row_before, stands_at}
 use Rattle.lbk_bytes.specs.Bytes.{with_break}
 use Rattle.lbk_bytes.specs.Marking.{AreBelow, AreFrom}
 use Rattle.lbk_bytes.specs.Marks.{stands_among}

@@ -1,5 +1,6 @@
 -- A block of up to 64 bytes whose breaks the sets of its bytes tell.
-use Rattle.std.specs.Prelude.{◌≡◌, ◌≢◌, ◌⊎◌, ℕ, ◌+◌, ◌-◌, ◌<◌, ◌≤◌, ◌||◌, Bool, true, false, List, length, take, drop, slice_index_or, nat_le, if◌then◌else◌}
+use Rattle.std.specs.Prelude.{◌≡◌, ◌≢◌, ◌⊎◌, ℕ, ◌+◌, ◌-◌, ◌<◌, ◌≤◌, ◌||◌, Bool, true, false, List, length, take, drop}
+use Rattle.std.specs.Prelude.{slice_index_or, nat_le, if◌then◌else◌}
 use Rattle.lbk_masks.specs.Sets.{is_set, left_in, meets, right_in}
 use Rattle.lbk_masks.specs.Strays.{is_stray}
 use Rattle.lbk_rules.specs.declared.Cell.{Cell}
@@ -57,29 +58,8 @@ pub record GoesOn (text : List ℕ) (place : ℕ) : Type 0 where
   pub below : byte_at text place < 192
   pub within : place < length text
 
--- these are the bits of a number below this one
-pub record AreKeptBelow (count bits kept : ℕ) : Type 0 where
-  pub same : (i : ℕ) → i < count → is_set kept i ≡ is_set bits i
-  pub none : (i : ℕ) → count ≤ i → i < 64 → is_set kept i ≡ false
-
--- these are the bits of a number from this one on
-pub record AreKeptFrom (first bits kept : ℕ) : Type 0 where
-  pub same : (i : ℕ) → first ≤ i → i < 64 → is_set kept i ≡ is_set bits i
-  pub none : (i : ℕ) → i < first → is_set kept i ≡ false
-
--- this is the lowest bit of a number that is set, if one is
-pub record IsLowest (bits index : ℕ) : Type 0 where
-  pub set : 0 < bits → is_set bits index ≡ true
-  pub none : (i : ℕ) → i < index → is_set bits i ≡ false
-
--- the bits of a number but this one
-pub record AreCleared (bits index kept : ℕ) : Type 0 where
-  pub same : (i : ℕ) → i < 64 → i ≢ index → is_set kept i ≡ is_set bits i
-  pub gone : is_set kept index ≡ false
-  pub fewer : kept ≤ bits
-
--- a byte of a scalar of one byte or two: with the byte before it the first of a scalar tells the step by it, and the second
--- stands behind the first and does not stand out
+-- a byte of a scalar of one byte or two: with the byte before it the first of a scalar tells the step by it, and the
+-- second stands behind the first and does not stand out
 pub record IsByteTold (steps : List FlatStep) (kinds : List ℕ) (pairs : Neighbours) (text : List ℕ) (place : ℕ) : Type 0 where
   pub settled : (byte_at text place < 128) ⊎ (192 ≤ byte_at text place)
       → (byte_at text (place - 1) < 192) × AreSettled steps kinds pairs (byte_at text (place - 1)) (byte_at text place)

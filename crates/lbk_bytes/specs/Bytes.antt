@@ -15,7 +15,8 @@ use Rattle.lbk_rules.specs.Verdict.{verdict_between_in}
 abbrev pub with_break : ℕ → Verdict → List Break → List Break
 with_break at verdict more = if is_no verdict.kind then more else break_by at verdict ∷ more
 
--- the breaks after some pieces, the first of which begins at byte `at`, by the marks of the scalars that they are read as
+-- the breaks after some pieces, the first of which begins at byte `at`, by the marks of the scalars that they are
+-- read as
 abbrev pub breaks_after : ℕ → List Decoded → List Marked → List Break
 breaks_after at [] ms = []
 breaks_after at (p ∷ ps) [] = []
@@ -32,7 +33,8 @@ AtEnd = Profile → (ℕ → Cell) → List ℕ → ℕ → List Break
 abbrev pub closed_end : AtEnd
 closed_end profile cell scalars at = with_break at (verdict_between_in profile (map cell scalars) []) []
 
--- where the text goes on: that a line must end there, where it must whatever follows but LF after CR (rules LB4 and LB5)
+-- where the text goes on: that a line must end there, where it must whatever follows but LF after CR (rules LB4 and
+-- LB5)
 abbrev pub open_end : AtEnd
 open_end profile cell [] at = []
 open_end profile cell (c ∷ []) at = if ends_line (cell c).class then break_by at (end_after (cell c).class) ∷ [] else []

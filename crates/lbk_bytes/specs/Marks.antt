@@ -1,5 +1,6 @@
 -- Breaks as bits: one for each byte of a text from a place on.
-use Rattle.std.specs.Prelude.{ℕ, ◌+◌, ◌/◌, ◌%◌, ◌==◌, ◌||◌, Bool, false, List, [], ◌∷◌, drop, nat_le, slice_index, if◌then◌else◌}
+use Rattle.std.specs.Prelude.{ℕ, ◌+◌, ◌/◌, ◌%◌, ◌==◌, ◌||◌, Bool, false, List, [], ◌∷◌, drop, nat_le, slice_index}
+use Rattle.std.specs.Prelude.{if◌then◌else◌}
 use Rattle.std.specs.Int.{bit_at}
 use Rattle.bstr.specs.Utf8.{Decoded, pieces}
 use Rattle.lbk_rules.specs.declared.Break.{Break}
@@ -18,7 +19,8 @@ abbrev pub from_on : ℕ → List Break → List Break
 from_on place [] = []
 from_on place (b ∷ bs) = if nat_le place b.at then b ∷ from_on place bs else from_on place bs
 
--- pieces stand one after another from byte `at` on: the first byte from `place` on at which one begins, or else the end of all
+-- pieces stand one after another from byte `at` on: the first byte from `place` on at which one begins, or else the
+-- end of all
 abbrev pub boundary_among : ℕ → ℕ → List Decoded → ℕ
 boundary_among place at [] = at
 boundary_among place at (p ∷ ps) = if nat_le place at then at else boundary_among place (at + p.size) ps

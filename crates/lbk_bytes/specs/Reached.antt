@@ -33,7 +33,8 @@ scalars_of ps = map (λ p. or_replacement p.char) ps
 abbrev pub Onward : Type 0
 Onward = Profile → (ℕ → Cell) → List ℕ → ℕ → List Decoded → List Break
 
--- the breaks from the byte `at` on, which stands between the scalars before it and these pieces, and what comes at the end
+-- the breaks from the byte `at` on, which stands between the scalars before it and these pieces, and what comes at
+-- the end
 abbrev pub onward_to : AtEnd → Onward
 onward_to end profile cell before at [] = end profile cell before at
 onward_to end profile cell before at (p ∷ ps) =

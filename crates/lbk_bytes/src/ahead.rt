@@ -27,8 +27,10 @@ pub(crate) fn code_ahead(
     rest: &[u8],
 ) -> u16
     requires { row < 65536 }
-    ensures { (cell : ℕ → Cell) (lefts : List Left) (taken : List ℕ) → IsFlatBy lefts table.now cell → KnowsTaken cell lefts row taken
-        → IsCode result × (verdict_coded result ≡ verdict_between_in profile (map cell taken) (cell c ∷ map cell (lossy_chars rest.now))) }
+    ensures { (cell : ℕ → Cell) (lefts : List Left) (taken : List ℕ) → IsFlatBy lefts table.now cell
+        → KnowsTaken cell lefts row taken
+        → IsCode result × (verdict_coded result
+        ≡ verdict_between_in profile (map cell taken) (cell c ∷ map cell (lossy_chars rest.now))) }
 {
     match profile {
         Profile::First => step_at(&table.first, row, table.kinds[c as usize]).code,
@@ -39,8 +41,10 @@ pub(crate) fn code_ahead(
 /// The same in the second profile.
 fn second_code(table: &FlatTable, row: usize, c: char, rest: &[u8]) -> u16
     requires { row < 65536 }
-    ensures { (cell : ℕ → Cell) (lefts : List Left) (taken : List ℕ) → IsFlatBy lefts table.now cell → KnowsTaken cell lefts row taken
-        → IsCode result × (verdict_coded result ≡ verdict_between_in Second (map cell taken) (cell c ∷ map cell (lossy_chars rest.now))) }
+    ensures { (cell : ℕ → Cell) (lefts : List Left) (taken : List ℕ) → IsFlatBy lefts table.now cell
+        → KnowsTaken cell lefts row taken
+        → IsCode result × (verdict_coded result
+        ≡ verdict_between_in Second (map cell taken) (cell c ∷ map cell (lossy_chars rest.now))) }
 {
     let kind = table.kinds[c as usize];
     let second = step_at(&table.second, row, kind);
@@ -53,11 +57,12 @@ fn second_code(table: &FlatTable, row: usize, c: char, rest: &[u8]) -> u16
     step_at(&table.first, row, kind).code
 }
 
-/// Whether the unit after `c` leaves a closing quotation mark closed, where `rest` is the text after `c`: also where none
-/// comes.
+/// Whether the unit after `c` leaves a closing quotation mark closed, where `rest` is the text after `c`: also where
+/// none comes.
 fn closes_ahead(table: &FlatTable, c: char, rest: &[u8]) -> bool
     ensures { (cell : ℕ → Cell) → AreFlatKinds table.now.kinds cell
-        → result ≡ leaves_closed (units_after (hard (normal (cell c)).class) (map normal (map cell (lossy_chars rest.now)))) }
+        → result ≡ leaves_closed (units_after (hard (normal (cell c)).class)
+        (map normal (map cell (lossy_chars rest.now)))) }
 {
     let mut fresh = table.cell(c).leaves_fresh();
     let mut at = 0;

@@ -7,7 +7,9 @@ ghost use Rattle.lbk_values.specs.declared.profile.Profile.{Profile};
 ghost use Rattle.lbk_rules.specs.FlatTable.{AreFlatKinds};
 ghost use Rattle.lbk_rules.specs.Neighbours.{AreTold};
 ghost use Rattle.lbk_masks.specs.Sets.{is_set};
-ghost use Rattle.lbk_bytes.specs.Blocks.{AreCleared, AreEnded, AreInside, AreKeptBelow, AreKeptFrom, AreLeft, AreMarks, IsAhead, IsBlock, IsLowest, place_in, row_before};
+ghost use Rattle.lbk_masks.specs.Bits.{AreKeptBelow, IsLowest};
+ghost use Rattle.lbk_bytes.specs.Blocks.{AreEnded, AreInside, AreLeft, AreMarks, IsAhead, IsBlock, place_in};
+ghost use Rattle.lbk_bytes.specs.Blocks.{row_before};
 ghost use Rattle.lbk_bytes.specs.Reached.{Ahead, AreSwift, IsInOrder, Reached};
 ghost use Rattle.lbk_bytes.specs.Shown.{given_in};
 
@@ -16,21 +18,22 @@ use crate::filling::{put_break, runs};
 use crate::raw_break::RawBreak;
 use crate::steps::{CODES, step_at};
 use crate::tries::are_many;
+use lbk_masks::{first_set, kept_below, kept_from, without_first};
 use lbk_rules::{FlatStep, Neighbours, STEPS};
 
-/// How many bytes at most are looked at together.
+/// How many bytes at most are examined together.
 pub(crate) const BLOCK: usize = 64;
 
-/// How many bytes at least are looked at together. Fewer are taken as fast by steps.
+/// How many bytes at least are examined together. Fewer are taken as fast by steps.
 pub(crate) const LEAST: usize = 20;
 
 /// What is known of the bytes of a block, a bit each.
 #[derive(Clone, Copy)]
 pub(crate) struct Marks {
-    /// Which stand out behind the byte before.
+    /// Which stand out after the byte before.
     pub(crate) standing: u64,
-    /// Which are left to steps: those that are special, or of no scalar of one or two bytes in the block. Behind the text's end all
-    /// bits are set.
+    /// Which are left to steps: those that are special, or of no scalar of one or two bytes in the block. Behind the
+    /// text's end all bits are set.
     pub(crate) stops: u64,
 }
 
@@ -45,9 +48,9 @@ pub(crate) struct BlockState {
     pub(crate) left: u64,
 }
 
-/// Takes blocks of bytes, as many as come one after the other, up to a scalar that no step takes, or from which on few bytes
-/// are left, or many of them to steps. Without masks it takes none. It stands apart, so that what single scalars need stays in
-/// registers.
+/// Takes blocks of bytes, as many as come one after the other, up to a scalar that no step takes, or from which on
+/// few bytes are left, or many of them to steps. Without masks it takes none. It stands apart, so that what single
+/// scalars need stays in registers.
 #[inline(never)]
 pub(crate) fn blocks<const MASKS: bool>(
     pairs: &Neighbours,
@@ -60,8 +63,10 @@ pub(crate) fn blocks<const MASKS: bool>(
     requires { (start.count ≤ length out.old) × (start.row < 65536) × (start.at ≤ length text.now) }
     ensures within { (result.count ≤ length out.old) × (result.row < 65536) × (result.at ≤ length text.now) }
     ensures onward { (start.at ≤ result.at) × (start.count ≤ result.count) }
-    ensures in_order { (from : ℕ) → IsInOrder out.old start.count from start.at → IsInOrder out.new result.count from result.at }
-    ensures reached { (profile : Profile) (cell : ℕ → Cell) (lefts : List Left) (more : List ℕ) (all : Ahead) → AreSwift profile lefts steps.now → AreFlatKinds kinds.now cell
+    ensures in_order { (from : ℕ) → IsInOrder out.old start.count from start.at
+        → IsInOrder out.new result.count from result.at }
+    ensures reached { (profile : Profile) (cell : ℕ → Cell) (lefts : List Left) (more : List ℕ) (all : Ahead)
+        → AreSwift profile lefts steps.now → AreFlatKinds kinds.now cell
         → AreTold steps.now kinds.now pairs.now
         → Reached profile cell lefts (text.now ++ more) all start (given_in out.old start.count)
         → Reached profile cell lefts (text.now ++ more) all result (given_in out.new result.count) }
@@ -91,8 +96,10 @@ fn begun(
     requires { (start.count ≤ length out.old) × (start.row < 65536) × (start.at ≤ length text.now) }
     ensures within { (result.count ≤ length out.old) × (result.row < 65536) × (result.at ≤ length text.now) }
     ensures onward { (start.at ≤ result.at) × (start.count ≤ result.count) }
-    ensures in_order { (from : ℕ) → IsInOrder out.old start.count from start.at → IsInOrder out.new result.count from result.at }
-    ensures reached { (profile : Profile) (cell : ℕ → Cell) (lefts : List Left) (more : List ℕ) (all : Ahead) → AreSwift profile lefts steps.now → AreFlatKinds kinds.now cell
+    ensures in_order { (from : ℕ) → IsInOrder out.old start.count from start.at
+        → IsInOrder out.new result.count from result.at }
+    ensures reached { (profile : Profile) (cell : ℕ → Cell) (lefts : List Left) (more : List ℕ) (all : Ahead)
+        → AreSwift profile lefts steps.now → AreFlatKinds kinds.now cell
         → Reached profile cell lefts (text.now ++ more) all start (given_in out.old start.count)
         → Reached profile cell lefts (text.now ++ more) all result (given_in out.new result.count) }
 {
@@ -115,8 +122,10 @@ fn block(
     requires { (start.count ≤ length out.old) × (start.row < 65536) × (start.at ≤ length text.now) }
     ensures within { (result.count ≤ length out.old) × (result.row < 65536) × (result.at ≤ length text.now) }
     ensures onward { (start.at ≤ result.at) × (start.count ≤ result.count) }
-    ensures in_order { (from : ℕ) → IsInOrder out.old start.count from start.at → IsInOrder out.new result.count from result.at }
-    ensures reached { (profile : Profile) (cell : ℕ → Cell) (lefts : List Left) (more : List ℕ) (all : Ahead) → AreSwift profile lefts steps.now → AreFlatKinds kinds.now cell
+    ensures in_order { (from : ℕ) → IsInOrder out.old start.count from start.at
+        → IsInOrder out.new result.count from result.at }
+    ensures reached { (profile : Profile) (cell : ℕ → Cell) (lefts : List Left) (more : List ℕ) (all : Ahead)
+        → AreSwift profile lefts steps.now → AreFlatKinds kinds.now cell
         → AreTold steps.now kinds.now pairs.now
         → Reached profile cell lefts (text.now ++ more) all start (given_in out.old start.count)
         → Reached profile cell lefts (text.now ++ more) all result (given_in out.new result.count) }
@@ -139,8 +148,8 @@ fn block(
     here
 }
 
-/// The marks of the next 64 bytes, or of all that are left, unless these are few, no byte stands before them, or many of
-/// them are left to steps.
+/// The marks of the next 64 bytes, or of all that are left, unless these are few, no byte stands before them, or many
+/// of them are left to steps.
 #[inline(always)]
 pub(crate) fn marks_ahead(pairs: &Neighbours, at: usize, text: &[u8]) -> Option<Marks>
     requires { at ≤ length text.now }
@@ -164,7 +173,7 @@ pub(crate) fn marks_ahead(pairs: &Neighbours, at: usize, text: &[u8]) -> Option<
     })
 }
 
-/// The bits behind the end of a text of this length.
+/// The bits after the end of a text of this length.
 #[inline(always)]
 fn past_end(length: usize) -> u64
     ensures { (i : ℕ) → i < 64 → is_set result i ≡ nat_le length i }
@@ -187,12 +196,15 @@ fn told(
     text: &[u8],
     out: &mut [RawBreak],
 ) -> FillState
-    requires place { (here.count ≤ length out.old) × (here.row < 65536) × (0 < at) × (at ≤ here.at) × (here.at < at + 64) × (here.at < length text.now) }
+    requires place { (here.count ≤ length out.old) × (here.row < 65536) × (0 < at) × (at ≤ here.at)
+        × (here.at < at + 64) × (here.at < length text.now) }
     requires ends { AreEnded text.now at marks.stops }
     ensures within { (result.count ≤ length out.old) × (result.row < 65536) × (result.at ≤ length text.now) }
     ensures onward { (here.at ≤ result.at) × (here.count ≤ result.count) }
-    ensures in_order { (from : ℕ) → IsInOrder out.old here.count from here.at → IsInOrder out.new result.count from result.at }
-    ensures reached { (profile : Profile) (cell : ℕ → Cell) (lefts : List Left) (more : List ℕ) (all : Ahead) → AreSwift profile lefts steps.now → AreFlatKinds kinds.now cell
+    ensures in_order { (from : ℕ) → IsInOrder out.old here.count from here.at
+        → IsInOrder out.new result.count from result.at }
+    ensures reached { (profile : Profile) (cell : ℕ → Cell) (lefts : List Left) (more : List ℕ) (all : Ahead)
+        → AreSwift profile lefts steps.now → AreFlatKinds kinds.now cell
         → AreTold steps.now kinds.now pairs.now → AreMarks pairs.now text.now at marks
         → Reached profile cell lefts (text.now ++ more) all here (given_in out.old here.count)
         → Reached profile cell lefts (text.now ++ more) all result (given_in out.new result.count) }
@@ -209,30 +221,21 @@ fn told(
     let marked = BlockState {
         count: here.count,
         past: here.at,
-        left: kept_below(kept_from(marks.standing, begin), taken),
+        left: kept_up_to(kept_from(marks.standing, begin), taken),
     };
     finish(pairs, kinds, steps, at, taken, marked, text, out)
 }
 
-/// The bits of a number from this one on.
+/// The bits of a number below this one, which is at most 64.
 #[inline(always)]
-fn kept_from(bits: u64, first: usize) -> u64
-    requires { first < 64 }
-    ensures { AreKeptFrom first bits result }
-{
-    bits & !((1 << first) - 1)
-}
-
-/// The bits of a number below this one.
-#[inline(always)]
-pub(crate) fn kept_below(bits: u64, count: usize) -> u64
+pub(crate) fn kept_up_to(bits: u64, count: usize) -> u64
     requires { count ≤ 64 }
     ensures { AreKeptBelow count bits result }
 {
     if count == BLOCK {
         return bits;
     }
-    bits & ((1 << count) - 1)
+    kept_below(bits, count)
 }
 
 /// Writes the breaks that are left in the first bytes of a block, and takes these.
@@ -247,15 +250,19 @@ fn finish(
     text: &[u8],
     out: &mut [RawBreak],
 ) -> FillState
-    requires place { (start.count ≤ length out.old) × (0 < at) × (at + taken ≤ length text.now) × (taken ≤ 64) × (at ≤ start.past) }
+    requires place { (start.count ≤ length out.old) × (0 < at) × (at + taken ≤ length text.now) × (taken ≤ 64)
+        × (at ≤ start.past) }
     requires ahead { IsAhead at taken start }
     ensures within { (result.count ≤ length out.old) × (result.row < 65536) × (result.at ≤ length text.now) }
     ensures onward { (start.past ≤ result.at) × (start.count ≤ result.count) }
-    ensures in_order { (from : ℕ) → IsInOrder out.old start.count from start.past → IsInOrder out.new result.count from result.at }
-    ensures reached { (profile : Profile) (cell : ℕ → Cell) (lefts : List Left) (more : List ℕ) (all : Ahead) (begin : ℕ)
+    ensures in_order { (from : ℕ) → IsInOrder out.old start.count from start.past
+        → IsInOrder out.new result.count from result.at }
+    ensures reached { (profile : Profile) (cell : ℕ → Cell) (lefts : List Left) (more : List ℕ) (all : Ahead)
+        (begin : ℕ)
         → IsBlock profile cell lefts steps.now kinds.now pairs.now text.now at begin taken
         → AreLeft pairs.now text.now at begin taken start
-        → Reached profile cell lefts (text.now ++ more) all (place_in pairs.now text.now start) (given_in out.old start.count)
+        → Reached profile cell lefts (text.now ++ more) all (place_in pairs.now text.now start)
+        (given_in out.old start.count)
         → Reached profile cell lefts (text.now ++ more) all result (given_in out.new result.count) }
 {
     let mut here = start;
@@ -311,15 +318,19 @@ fn take_break(
     requires place { (here.count < length out.old) × (0 < here.left) × (0 < at) }
     requires inside { AreInside text.now at here.left }
     ensures ahead { (taken : ℕ) → IsAhead at taken here → IsAhead at taken result × (here.past ≤ result.past) }
-    ensures in_order { (taken from : ℕ) → IsAhead at taken here → IsInOrder out.old here.count from here.past → IsInOrder out.new result.count from result.past }
+    ensures in_order { (taken from : ℕ) → IsAhead at taken here → IsInOrder out.old here.count from here.past
+        → IsInOrder out.new result.count from result.past }
     ensures within { (result.count ≤ length out.old) × (at ≤ result.past) }
     ensures onward { (here.count ≤ result.count) × (result.left < here.left) }
-    ensures reached { (profile : Profile) (cell : ℕ → Cell) (lefts : List Left) (more : List ℕ) (all : Ahead) (begin taken : ℕ)
+    ensures reached { (profile : Profile) (cell : ℕ → Cell) (lefts : List Left) (more : List ℕ) (all : Ahead)
+        (begin taken : ℕ)
         → IsBlock profile cell lefts steps.now kinds.now pairs.now text.now at begin taken
         → AreLeft pairs.now text.now at begin taken here
-        → Reached profile cell lefts (text.now ++ more) all (place_in pairs.now text.now here) (given_in out.old here.count)
+        → Reached profile cell lefts (text.now ++ more) all (place_in pairs.now text.now here)
+        (given_in out.old here.count)
         → AreLeft pairs.now text.now at begin taken result
-        × Reached profile cell lefts (text.now ++ more) all (place_in pairs.now text.now result) (given_in out.new result.count) }
+        × Reached profile cell lefts (text.now ++ more) all (place_in pairs.now text.now result)
+        (given_in out.new result.count) }
 {
     let index = first_set(here.left);
     let place = at + index;
@@ -330,23 +341,4 @@ fn take_break(
         past: place + 1,
         left: without_first(here.left),
     }
-}
-
-/// The lowest bit that is set, or some bit where none is.
-#[inline(always)]
-fn first_set(bits: u64) -> usize
-    ensures within { result < 64 }
-    ensures lowest { IsLowest bits result }
-{
-    (bits.trailing_zeros() & 63) as usize
-}
-
-/// The bits without the lowest that is set.
-#[inline(always)]
-fn without_first(bits: u64) -> u64
-    requires { 0 < bits }
-    ensures cleared { (index : ℕ) → index < 64 → IsLowest bits index → AreCleared bits index result }
-    ensures fewer { result < bits }
-{
-    bits & (bits - 1)
 }

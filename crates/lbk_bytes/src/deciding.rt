@@ -33,7 +33,8 @@ pub fn decide_one(
     requires { (row < 65536) × (at < length text.now) }
     ensures within { (result.row < 65536) × (at < result.at) × (result.at ≤ length text.now) }
     ensures near { result.at ≤ at + 4 }
-    ensures decided { (cell : ℕ → Cell) (lefts : List Left) (taken : List ℕ) → IsFlatBy lefts table.now cell → KnowsTaken cell lefts row taken
+    ensures decided { (cell : ℕ → Cell) (lefts : List Left) (taken : List ℕ) → IsFlatBy lefts table.now cell
+        → KnowsTaken cell lefts row taken
         → IsDecided profile cell lefts text.now at taken result }
 {
     let rest = &text[at..];

@@ -33,7 +33,8 @@ impl Width {
     }
 }
 
-/// The scalar of this width at the front of some bytes (Unicode Standard, table 3-7). None comes where none stands there.
+/// The scalar of this width at the front of some bytes (Unicode Standard, table 3-7). None comes where none stands
+/// there.
 #[inline(always)]
 pub(crate) fn scalar_of(width: Width, bytes: &[u8]) -> Option<Scalar>
     requires { more_of width < length bytes.now }

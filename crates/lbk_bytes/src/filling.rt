@@ -24,10 +24,10 @@ use crate::steps::{CODES, pairs_of, step_at, steps_of};
 use crate::tries::{are_short, next_try};
 use lbk_rules::{FlatStep, FlatTable, Neighbours, Profile, STEPS, VERDICTS, is_break};
 
-/// Goes on until the block is full or the text ends, and writes the breaks before the scalars taken after those in the
-/// front of the block. In a text of fewer than 64 bytes the scalars that no block takes are gone over here, with no call, as
-/// long as they are common. The breaks are the same with masks, by which blocks of bytes are taken, and without: these are for
-/// targets that have no vectors.
+/// Goes on until the block is full or the text ends, and writes the breaks before the scalars taken after those in
+/// the front of the block. In a text of fewer than 64 bytes the scalars that no block takes are gone over here, with
+/// no call, as long as they are common. The breaks are the same with masks, by which blocks of bytes are taken, and
+/// without: these are for targets that have no vectors.
 #[inline(always)]
 pub fn fill<const MASKS: bool>(
     table: &FlatTable,
@@ -40,7 +40,8 @@ pub fn fill<const MASKS: bool>(
     ensures within { (result.count ≤ length out.old) × (result.row < 65536) × (result.at ≤ length text.now) }
     ensures stops { result.count < length out.old → result.at ≡ length text.now }
     ensures no_room { length out.old ≡ 0 → result ≡ start }
-    ensures in_order { (from : ℕ) → IsInOrder out.old start.count from start.at → IsInOrder out.new result.count from result.at }
+    ensures in_order { (from : ℕ) → IsInOrder out.old start.count from start.at
+        → IsInOrder out.new result.count from result.at }
     ensures reached { (cell : ℕ → Cell) (lefts : List Left) (all : Ahead) → IsFlatBy lefts table.now cell
         → Reached profile cell lefts text.now all start (given_in out.old start.count)
         → Reached profile cell lefts text.now all result (given_in out.new result.count) }
@@ -74,8 +75,10 @@ fn few<const MASKS: bool>(
     requires steps { steps.now ≡ steps_in table.now profile }
     ensures within { (result.count ≤ length out.old) × (result.row < 65536) × (result.at ≤ length text.now) }
     ensures onward { (start.at ≤ result.at) × (start.count ≤ result.count) }
-    ensures in_order { (from : ℕ) → IsInOrder out.old start.count from start.at → IsInOrder out.new result.count from result.at }
-    ensures reached { (cell : ℕ → Cell) (lefts : List Left) (more : List ℕ) (all : Ahead) → IsFlatBy lefts table.now cell
+    ensures in_order { (from : ℕ) → IsInOrder out.old start.count from start.at
+        → IsInOrder out.new result.count from result.at }
+    ensures reached { (cell : ℕ → Cell) (lefts : List Left) (more : List ℕ) (all : Ahead)
+        → IsFlatBy lefts table.now cell
         → Reached profile cell lefts (text.now ++ more) all start (given_in out.old start.count)
         → Reached profile cell lefts (text.now ++ more) all result (given_in out.new result.count) }
 {
@@ -89,7 +92,8 @@ fn few<const MASKS: bool>(
     copied(blocks::<MASKS>(pairs, &table.kinds, steps, start, text, out))
 }
 
-/// The same state, field by field. A state that a call takes or returns stands in memory, and a copy of it in registers.
+/// The same state, field by field. A state that a call takes or returns stands in memory, and a copy of it in
+/// registers.
 #[inline(always)]
 fn copied(state: FillState) -> FillState
     ensures { result ≡ state }
@@ -114,7 +118,8 @@ fn fill_on<const MASKS: bool>(
     ensures within { (result.count ≤ length out.old) × (result.row < 65536) × (result.at ≤ length text.now) }
     ensures stops { result.count < length out.old → result.at ≡ length text.now }
     ensures no_room { length out.old ≡ 0 → result ≡ start }
-    ensures in_order { (from : ℕ) → IsInOrder out.old start.count from start.at → IsInOrder out.new result.count from result.at }
+    ensures in_order { (from : ℕ) → IsInOrder out.old start.count from start.at
+        → IsInOrder out.new result.count from result.at }
     ensures reached { (cell : ℕ → Cell) (lefts : List Left) (all : Ahead) → IsFlatBy lefts table.now cell
         → Reached profile cell lefts text.now all start (given_in out.old start.count)
         → Reached profile cell lefts text.now all result (given_in out.new result.count) }
@@ -126,8 +131,8 @@ fn fill_on<const MASKS: bool>(
     here
 }
 
-/// Takes blocks of bytes and common scalars until another comes, the block is full or the text ends, whatever may follow the
-/// text.
+/// Takes blocks of bytes and common scalars until another comes, the block is full or the text ends, whatever may
+/// follow the text.
 #[inline(never)]
 pub fn fill_common(
     table: &FlatTable,
@@ -139,8 +144,10 @@ pub fn fill_common(
     requires { (start.count ≤ length out.old) × (start.row < 65536) × (start.at ≤ length text.now) }
     ensures within { (result.count ≤ length out.old) × (result.row < 65536) × (result.at ≤ length text.now) }
     ensures onward { (start.at ≤ result.at) × (start.count ≤ result.count) }
-    ensures in_order { (from : ℕ) → IsInOrder out.old start.count from start.at → IsInOrder out.new result.count from result.at }
-    ensures reached { (cell : ℕ → Cell) (lefts : List Left) (more : List ℕ) (all : Ahead) → IsFlatBy lefts table.now cell
+    ensures in_order { (from : ℕ) → IsInOrder out.old start.count from start.at
+        → IsInOrder out.new result.count from result.at }
+    ensures reached { (cell : ℕ → Cell) (lefts : List Left) (more : List ℕ) (all : Ahead)
+        → IsFlatBy lefts table.now cell
         → Reached profile cell lefts (text.now ++ more) all start (given_in out.old start.count)
         → Reached profile cell lefts (text.now ++ more) all result (given_in out.new result.count) }
 {
@@ -166,7 +173,8 @@ fn further<const MASKS: bool>(
     requires { (here.count < length out.old) × (here.row < 65536) × (here.at < length text.now) }
     ensures within { (result.count ≤ length out.old) × (result.row < 65536) × (result.at ≤ length text.now) }
     ensures onward { here.count + here.at < result.count + result.at }
-    ensures in_order { (from : ℕ) → IsInOrder out.old here.count from here.at → IsInOrder out.new result.count from result.at }
+    ensures in_order { (from : ℕ) → IsInOrder out.old here.count from here.at
+        → IsInOrder out.new result.count from result.at }
     ensures both { (here.count ≤ result.count) × (here.at ≤ result.at) }
     ensures reached { (cell : ℕ → Cell) (lefts : List Left) (all : Ahead) → IsFlatBy lefts table.now cell
         → Reached profile cell lefts text.now all here (given_in out.old here.count)
@@ -186,8 +194,8 @@ struct Part {
     until: usize,
 }
 
-/// Takes blocks of bytes and then common scalars, up to the first that begins where blocks are tried again or after it, unless
-/// another scalar comes or the block is full before.
+/// Takes blocks of bytes and then common scalars, up to the first that begins where blocks are tried again or after
+/// it, unless another scalar comes or the block is full before.
 #[inline(always)]
 fn common_part<const MASKS: bool>(
     table: &FlatTable,
@@ -197,10 +205,13 @@ fn common_part<const MASKS: bool>(
     out: &mut [RawBreak],
 ) -> Part
     requires { (here.count ≤ length out.old) × (here.row < 65536) × (here.at < length text.now) }
-    ensures within { (result.here.count ≤ length out.old) × (result.here.row < 65536) × (result.here.at ≤ length text.now) × (result.until ≤ length text.now) }
+    ensures within { (result.here.count ≤ length out.old) × (result.here.row < 65536)
+        × (result.here.at ≤ length text.now) × (result.until ≤ length text.now) }
     ensures onward { (here.count ≤ result.here.count) × (here.at ≤ result.here.at) × (here.at < result.until) }
-    ensures in_order { (from : ℕ) → IsInOrder out.old here.count from here.at → IsInOrder out.new result.here.count from result.here.at }
-    ensures reached { (cell : ℕ → Cell) (lefts : List Left) (more : List ℕ) (all : Ahead) → IsFlatBy lefts table.now cell
+    ensures in_order { (from : ℕ) → IsInOrder out.old here.count from here.at
+        → IsInOrder out.new result.here.count from result.here.at }
+    ensures reached { (cell : ℕ → Cell) (lefts : List Left) (more : List ℕ) (all : Ahead)
+        → IsFlatBy lefts table.now cell
         → Reached profile cell lefts (text.now ++ more) all here (given_in out.old here.count)
         → Reached profile cell lefts (text.now ++ more) all result.here (given_in out.new result.here.count) }
 {
@@ -214,8 +225,8 @@ fn common_part<const MASKS: bool>(
     }
 }
 
-/// Takes scalars that begin before a byte, as long as none of four bytes, no ill-formed bytes and no held position come, whatever
-/// may follow the text. It calls nothing, so that all it has stays in registers.
+/// Takes scalars that begin before a byte, as long as none of four bytes, no ill-formed bytes and no held position
+/// come, whatever may follow the text. It calls nothing, so that all it has stays in registers.
 #[inline(never)]
 pub(crate) fn quick(
     kinds: &[u8; CODES],
@@ -225,13 +236,16 @@ pub(crate) fn quick(
     text: &[u8],
     out: &mut [RawBreak],
 ) -> FillState
-    requires { (start.count ≤ length out.old) × (start.row < 65536) × (start.at ≤ length text.now) × (stop ≤ length text.now) }
+    requires { (start.count ≤ length out.old) × (start.row < 65536) × (start.at ≤ length text.now)
+        × (stop ≤ length text.now) }
     ensures within { (result.count ≤ length out.old) × (result.row < 65536) × (result.at ≤ length text.now) }
     ensures onward { (start.at ≤ result.at) × (start.count ≤ result.count) }
-    ensures in_order { (from : ℕ) → IsInOrder out.old start.count from start.at → IsInOrder out.new result.count from result.at }
+    ensures in_order { (from : ℕ) → IsInOrder out.old start.count from start.at
+        → IsInOrder out.new result.count from result.at }
     ensures boundary { (more : List ℕ) (place : ℕ) → stop ≤ place
         → boundary_from (text.now ++ more) result.at place ≡ boundary_from (text.now ++ more) start.at place }
-    ensures reached { (profile : Profile) (cell : ℕ → Cell) (lefts : List Left) (more : List ℕ) (all : Ahead) → AreSwift profile lefts steps.now → AreFlatKinds kinds.now cell
+    ensures reached { (profile : Profile) (cell : ℕ → Cell) (lefts : List Left) (more : List ℕ) (all : Ahead)
+        → AreSwift profile lefts steps.now → AreFlatKinds kinds.now cell
         → Reached profile cell lefts (text.now ++ more) all start (given_in out.old start.count)
         → Reached profile cell lefts (text.now ++ more) all result (given_in out.new result.count) }
 {
@@ -248,13 +262,16 @@ fn scalars(
     text: &[u8],
     out: &mut [RawBreak],
 ) -> FillState
-    requires { (start.count ≤ length out.old) × (start.row < 65536) × (start.at ≤ length text.now) × (stop ≤ length text.now) }
+    requires { (start.count ≤ length out.old) × (start.row < 65536) × (start.at ≤ length text.now)
+        × (stop ≤ length text.now) }
     ensures within { (result.count ≤ length out.old) × (result.row < 65536) × (result.at ≤ length text.now) }
     ensures onward { (start.at ≤ result.at) × (start.count ≤ result.count) }
-    ensures in_order { (from : ℕ) → IsInOrder out.old start.count from start.at → IsInOrder out.new result.count from result.at }
+    ensures in_order { (from : ℕ) → IsInOrder out.old start.count from start.at
+        → IsInOrder out.new result.count from result.at }
     ensures boundary { (more : List ℕ) (place : ℕ) → stop ≤ place
         → boundary_from (text.now ++ more) result.at place ≡ boundary_from (text.now ++ more) start.at place }
-    ensures reached { (profile : Profile) (cell : ℕ → Cell) (lefts : List Left) (more : List ℕ) (all : Ahead) → AreSwift profile lefts steps.now → AreFlatKinds kinds.now cell
+    ensures reached { (profile : Profile) (cell : ℕ → Cell) (lefts : List Left) (more : List ℕ) (all : Ahead)
+        → AreSwift profile lefts steps.now → AreFlatKinds kinds.now cell
         → Reached profile cell lefts (text.now ++ more) all start (given_in out.old start.count)
         → Reached profile cell lefts (text.now ++ more) all result (given_in out.new result.count) }
 {
@@ -279,13 +296,16 @@ pub(crate) fn runs(
     text: &[u8],
     out: &mut [RawBreak],
 ) -> FillState
-    requires { (start.count ≤ length out.old) × (start.row < 65536) × (start.at ≤ length text.now) × (stop ≤ length text.now) }
+    requires { (start.count ≤ length out.old) × (start.row < 65536) × (start.at ≤ length text.now)
+        × (stop ≤ length text.now) }
     ensures within { (result.count ≤ length out.old) × (result.row < 65536) × (result.at ≤ length text.now) }
     ensures onward { (start.at ≤ result.at) × (start.count ≤ result.count) }
-    ensures in_order { (from : ℕ) → IsInOrder out.old start.count from start.at → IsInOrder out.new result.count from result.at }
+    ensures in_order { (from : ℕ) → IsInOrder out.old start.count from start.at
+        → IsInOrder out.new result.count from result.at }
     ensures boundary { (more : List ℕ) (place : ℕ) → stop ≤ place
         → boundary_from (text.now ++ more) result.at place ≡ boundary_from (text.now ++ more) start.at place }
-    ensures reached { (profile : Profile) (cell : ℕ → Cell) (lefts : List Left) (more : List ℕ) (all : Ahead) → AreSwift profile lefts steps.now → AreFlatKinds kinds.now cell
+    ensures reached { (profile : Profile) (cell : ℕ → Cell) (lefts : List Left) (more : List ℕ) (all : Ahead)
+        → AreSwift profile lefts steps.now → AreFlatKinds kinds.now cell
         → Reached profile cell lefts (text.now ++ more) all start (given_in out.old start.count)
         → Reached profile cell lefts (text.now ++ more) all result (given_in out.new result.count) }
 {
@@ -299,8 +319,8 @@ pub(crate) fn runs(
     run(Width::Three, kinds, steps, behind_one, stop, text, out)
 }
 
-/// A run of scalars of one width. In a text most scalars have the width of the one before, so a loop of its own for each
-/// width seldom goes where the processor does not expect it.
+/// A run of scalars of one width. In a text most scalars have the width of the one before, so a loop of its own for
+/// each width seldom goes where the processor does not expect it.
 #[inline(always)]
 fn run(
     width: Width,
@@ -311,13 +331,16 @@ fn run(
     text: &[u8],
     out: &mut [RawBreak],
 ) -> FillState
-    requires { (start.count ≤ length out.old) × (start.row < 65536) × (start.at ≤ length text.now) × (stop ≤ length text.now) }
+    requires { (start.count ≤ length out.old) × (start.row < 65536) × (start.at ≤ length text.now)
+        × (stop ≤ length text.now) }
     ensures within { (result.count ≤ length out.old) × (result.row < 65536) × (result.at ≤ length text.now) }
     ensures onward { (start.at ≤ result.at) × (start.count ≤ result.count) }
-    ensures in_order { (from : ℕ) → IsInOrder out.old start.count from start.at → IsInOrder out.new result.count from result.at }
+    ensures in_order { (from : ℕ) → IsInOrder out.old start.count from start.at
+        → IsInOrder out.new result.count from result.at }
     ensures boundary { (more : List ℕ) (place : ℕ) → stop ≤ place
         → boundary_from (text.now ++ more) result.at place ≡ boundary_from (text.now ++ more) start.at place }
-    ensures reached { (profile : Profile) (cell : ℕ → Cell) (lefts : List Left) (more : List ℕ) (all : Ahead) → AreSwift profile lefts steps.now → AreFlatKinds kinds.now cell
+    ensures reached { (profile : Profile) (cell : ℕ → Cell) (lefts : List Left) (more : List ℕ) (all : Ahead)
+        → AreSwift profile lefts steps.now → AreFlatKinds kinds.now cell
         → Reached profile cell lefts (text.now ++ more) all start (given_in out.old start.count)
         → Reached profile cell lefts (text.now ++ more) all result (given_in out.new result.count) }
 {
@@ -351,7 +374,8 @@ fn take_one(
     requires { (here.count < length out.old) × (here.row < 65536) × (here.at < length text.now) }
     ensures within { (result.count ≤ length out.old) × (result.row < 65536) × (result.at ≤ length text.now) }
     ensures onward { (here.at < result.at) × (here.count ≤ result.count) }
-    ensures in_order { (from : ℕ) → IsInOrder out.old here.count from here.at → IsInOrder out.new result.count from result.at }
+    ensures in_order { (from : ℕ) → IsInOrder out.old here.count from here.at
+        → IsInOrder out.new result.count from result.at }
     ensures reached { (cell : ℕ → Cell) (lefts : List Left) (all : Ahead) → IsFlatBy lefts table.now cell
         → Reached profile cell lefts text.now all here (given_in out.old here.count)
         → Reached profile cell lefts text.now all result (given_in out.new result.count) }
@@ -374,7 +398,8 @@ pub fn put(out: &mut [RawBreak], count: usize, at: usize, code: u16) -> usize
     ensures kept { take count out.new ≡ take count out.old }
     ensures breaks { AreBreaks out.old count → AreBreaks out.new result }
     ensures in_order { (from to : ℕ) → at < to → IsInOrder out.old count from at → AreInOrder out.new result from to }
-    ensures front { IsCode code → given_in out.new result ≡ given_in out.old count ++ with_break at (verdict_coded code) [] }
+    ensures front { IsCode code → given_in out.new result ≡ given_in out.old count
+        ++ with_break at (verdict_coded code) [] }
 {
     let shown = shown_of(code);
     let place = &mut out[count];
@@ -384,13 +409,15 @@ pub fn put(out: &mut [RawBreak], count: usize, at: usize, code: u16) -> usize
     count + usize::from(is_break(code))
 }
 
-/// Writes the break of a number after those in the front of the block, whatever its verdict is, and returns how many these are now.
+/// Writes the break of a number after those in the front of the block, whatever its verdict is, and returns how many
+/// these are now.
 #[inline(always)]
 pub(crate) fn put_break(out: &mut [RawBreak], count: usize, at: usize, code: u16) -> usize
     requires { count < length out.old }
     ensures more { result ≡ count + 1 }
     ensures in_order { (from to : ℕ) → at < to → IsInOrder out.old count from at → AreInOrder out.new result from to }
-    ensures front { is_no (verdict_coded code).kind ≡ false → given_in out.new result ≡ given_in out.old count ++ with_break at (verdict_coded code) [] }
+    ensures front { is_no (verdict_coded code).kind ≡ false → given_in out.new result ≡ given_in out.old count
+        ++ with_break at (verdict_coded code) [] }
 {
     let shown = shown_of_break(code);
     let entry = &mut out[count];

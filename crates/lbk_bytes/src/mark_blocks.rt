@@ -12,13 +12,13 @@ ghost use Rattle.lbk_bytes.specs.Marking.{Marked};
 ghost use Rattle.lbk_bytes.specs.Marks.{is_marked};
 ghost use Rattle.lbk_bytes.specs.Reached.{Ahead, AreSwift};
 
-use crate::blocks::{BLOCK, Marks, behind_byte, kept_below, marks_ahead};
+use crate::blocks::{BLOCK, Marks, behind_byte, kept_up_to, marks_ahead};
 use crate::fill_state::FillState;
 use crate::marks::mark_bits;
 use lbk_rules::Neighbours;
 
-/// Takes blocks of bytes, as many as come one after the other, and the front of one in which a byte is special or of no scalar of
-/// one or two bytes in the block.
+/// Takes blocks of bytes, as many as come one after the other, and the front of one in which a byte is special or of
+/// no scalar of one or two bytes in the block.
 #[inline(never)]
 pub(crate) fn mark_blocks(
     pairs: &Neighbours,
@@ -27,10 +27,12 @@ pub(crate) fn mark_blocks(
     text: &[u8],
     words: &mut [u64],
 ) -> FillState
-    requires { (start.row < 65536) × (from ≤ start.at) × (start.at ≤ length text.now) × (length text.now ≤ from + 64 * length words.old) }
+    requires { (start.row < 65536) × (from ≤ start.at) × (start.at ≤ length text.now)
+        × (length text.now ≤ from + 64 * length words.old) }
     ensures within { (result.row < 65536) × (start.at ≤ result.at) × (result.at ≤ length text.now) }
     ensures after { (i : ℕ) → result.at ≤ from + i → is_marked words.new i ≡ is_marked words.old i }
-    ensures marked { (profile : Profile) (cell : ℕ → Cell) (lefts : List Left) (steps : List FlatStep) (kinds : List ℕ) (more : List ℕ) (all : Ahead) → AreSwift profile lefts steps
+    ensures marked { (profile : Profile) (cell : ℕ → Cell) (lefts : List Left) (steps : List FlatStep)
+        (kinds : List ℕ) (more : List ℕ) (all : Ahead) → AreSwift profile lefts steps
         → AreFlatKinds kinds cell → AreTold steps kinds pairs.now
         → Marked profile cell lefts (text.now ++ more) all from (length text.now) start words.old
         → Marked profile cell lefts (text.now ++ more) all from (length text.now) result words.new }
@@ -53,10 +55,12 @@ fn mark_block(
     text: &[u8],
     words: &mut [u64],
 ) -> FillState
-    requires { (here.row < 65536) × (from ≤ here.at) × (here.at ≤ length text.now) × (length text.now ≤ from + 64 * length words.old) }
+    requires { (here.row < 65536) × (from ≤ here.at) × (here.at ≤ length text.now)
+        × (length text.now ≤ from + 64 * length words.old) }
     ensures within { (result.row < 65536) × (here.at ≤ result.at) × (result.at ≤ length text.now) }
     ensures after { (i : ℕ) → result.at ≤ from + i → is_marked words.new i ≡ is_marked words.old i }
-    ensures marked { (profile : Profile) (cell : ℕ → Cell) (lefts : List Left) (steps : List FlatStep) (kinds : List ℕ) (more : List ℕ) (all : Ahead) → AreSwift profile lefts steps
+    ensures marked { (profile : Profile) (cell : ℕ → Cell) (lefts : List Left) (steps : List FlatStep)
+        (kinds : List ℕ) (more : List ℕ) (all : Ahead) → AreSwift profile lefts steps
         → AreFlatKinds kinds cell → AreTold steps kinds pairs.now
         → Marked profile cell lefts (text.now ++ more) all from (length text.now) here words.old
         → Marked profile cell lefts (text.now ++ more) all from (length text.now) result words.new }
@@ -65,7 +69,7 @@ fn mark_block(
         return here;
     };
     let taken = marks.stops.trailing_zeros() as usize;
-    mark_bits(words, here.at - from, kept_below(marks.standing, taken));
+    mark_bits(words, here.at - from, kept_up_to(marks.standing, taken));
     behind_byte(pairs, 0, here.at + taken, text)
 }
 
@@ -73,7 +77,8 @@ fn mark_block(
 #[inline(always)]
 fn marks_here(pairs: &Neighbours, here: FillState, text: &[u8]) -> Option<Marks>
     requires { here.at ≤ length text.now }
-    ensures { IfSome result (λ marks. AreMarks pairs.now text.now here.at marks × Rests pairs.now here text.now × (here.at + 64 ≤ length text.now)) }
+    ensures { IfSome result (λ marks. AreMarks pairs.now text.now here.at marks × Rests pairs.now here text.now
+        × (here.at + 64 ≤ length text.now)) }
 {
     if here.at == 0 {
         return None;

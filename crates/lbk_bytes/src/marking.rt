@@ -21,7 +21,7 @@ use crate::steps::{pairs_of, steps_of};
 use crate::tries::next_try;
 use lbk_rules::{FlatTable, Profile, is_break};
 
-/// How many breaks are looked at together.
+/// How many breaks are examined together.
 const ROOM: usize = 16;
 
 /// A break that stands nowhere.
@@ -31,8 +31,8 @@ const NO_BREAK: RawBreak = RawBreak {
     rule: 0,
 };
 
-/// Sets a bit for each break from the start on, the first for the byte there, and clears all other bits of the words. Goes on
-/// until each byte with a bit was taken, or the text ends. What comes at the end is not set.
+/// Sets a bit for each break from the start on, the first for the byte there, and clears all other bits of the words.
+/// Goes on until each byte with a bit was taken, or the text ends. What comes at the end is not set.
 pub fn fill_marks(
     table: &FlatTable,
     profile: Profile,
@@ -48,7 +48,8 @@ pub fn fill_marks(
     ensures after { (i : ℕ) → result.at ≤ start.at + i → is_marked words.new i ≡ false }
     ensures marked { (cell : ℕ → Cell) (lefts : List Left) (all : Ahead) → IsFlatBy lefts table.now cell
         → Reached profile cell lefts text.now all (uncounted start) []
-        → Marked profile cell lefts text.now all start.at (min (length text.now) (start.at + 64 * length words.old)) result words.new }
+        → Marked profile cell lefts text.now all start.at (min (length text.now) (start.at + 64 * length words.old))
+        result words.new }
 {
     clear(words);
     let mut block = [NO_BREAK; ROOM];
@@ -84,7 +85,8 @@ fn mark_further(
     block: &mut [RawBreak],
     words: &mut [u64],
 ) -> FillState
-    requires { (here.row < 65536) × (from ≤ here.at) × (here.at < stop) × (stop ≤ length text.now) × (stop ≤ from + 64 * length words.old) }
+    requires { (here.row < 65536) × (from ≤ here.at) × (here.at < stop) × (stop ≤ length text.now)
+        × (stop ≤ from + 64 * length words.old) }
     ensures within { (result.row < 65536) × (here.at < result.at) × (result.at ≤ length text.now) }
     ensures near { result.at ≤ stop + 3 }
     ensures after { (i : ℕ) → result.at ≤ from + i → is_marked words.new i ≡ is_marked words.old i }
@@ -109,7 +111,8 @@ fn mark_common(
     block: &mut [RawBreak],
     words: &mut [u64],
 ) -> FillState
-    requires { (here.row < 65536) × (from ≤ here.at) × (here.at ≤ length front.now) × (length front.now ≤ from + 64 * length words.old) }
+    requires { (here.row < 65536) × (from ≤ here.at) × (here.at ≤ length front.now)
+        × (length front.now ≤ from + 64 * length words.old) }
     ensures within { (result.row < 65536) × (here.at ≤ result.at) × (result.at ≤ length front.now) }
     ensures after { (i : ℕ) → result.at ≤ from + i → is_marked words.new i ≡ is_marked words.old i }
     ensures marked { (cell : ℕ → Cell) (lefts : List Left) (more : List ℕ) (all : Ahead) → IsFlatBy lefts table.now cell
@@ -130,7 +133,8 @@ fn mark_scalars(
     block: &mut [RawBreak],
     words: &mut [u64],
 ) -> FillState
-    requires { (here.row < 65536) × (from ≤ here.at) × (here.at ≤ length front.now) × (length front.now ≤ from + 64 * length words.old) }
+    requires { (here.row < 65536) × (from ≤ here.at) × (here.at ≤ length front.now)
+        × (length front.now ≤ from + 64 * length words.old) }
     ensures within { (result.row < 65536) × (here.at ≤ result.at) × (result.at ≤ length front.now) }
     ensures after { (i : ℕ) → result.at ≤ from + i → is_marked words.new i ≡ is_marked words.old i }
     ensures marked { (cell : ℕ → Cell) (lefts : List Left) (more : List ℕ) (all : Ahead) → IsFlatBy lefts table.now cell
@@ -158,11 +162,13 @@ fn mark_one(
     text: &[u8],
     words: &mut [u64],
 ) -> FillState
-    requires { (here.row < 65536) × (from ≤ here.at) × (here.at < length text.now) × (here.at < from + 64 * length words.old) }
+    requires { (here.row < 65536) × (from ≤ here.at) × (here.at < length text.now)
+        × (here.at < from + 64 * length words.old) }
     ensures within { (result.row < 65536) × (here.at < result.at) × (result.at ≤ length text.now) }
     ensures near { result.at ≤ here.at + 4 }
     ensures after { (i : ℕ) → result.at ≤ from + i → is_marked words.new i ≡ is_marked words.old i }
-    ensures marked { (cell : ℕ → Cell) (lefts : List Left) (all : Ahead) (stop : ℕ) → IsFlatBy lefts table.now cell → here.at < stop
+    ensures marked { (cell : ℕ → Cell) (lefts : List Left) (all : Ahead) (stop : ℕ) → IsFlatBy lefts table.now cell
+        → here.at < stop
         → Marked profile cell lefts text.now all from stop here words.old
         → Marked profile cell lefts text.now all from stop result words.new }
 {
@@ -179,9 +185,11 @@ fn mark_one(
 pub fn mark_end(table: &FlatTable, goes_on: bool, row: usize, words: &mut [u64], index: usize)
     requires { (index < 64 * length words.old) × (row < 65536) }
     ensures after { (i : ℕ) → index < i → is_marked words.new i ≡ is_marked words.old i }
-    ensures marked { (profile : Profile) (cell : ℕ → Cell) (lefts : List Left) (taken : List ℕ) (from : ℕ) → IsFlatBy lefts table.now cell → KnowsTaken cell lefts row taken
+    ensures marked { (profile : Profile) (cell : ℕ → Cell) (lefts : List Left) (taken : List ℕ) (from : ℕ)
+        → IsFlatBy lefts table.now cell → KnowsTaken cell lefts row taken
         → (0 < row → 0 < length taken)
-        → (i : ℕ) → is_marked words.new i ≡ (is_marked words.old i || stands_among (from + i) (end_in goes_on profile cell taken (from + index))) }
+        → (i : ℕ) → is_marked words.new i
+        ≡ (is_marked words.old i || stands_among (from + i) (end_in goes_on profile cell taken (from + index))) }
 {
     let code = end_code(table, goes_on, row);
     mark(words, index, is_break(code));

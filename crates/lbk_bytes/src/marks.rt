@@ -1,6 +1,7 @@
 //! Bits in words of 64, one for each byte of a text from a place on.
 
-ghost use Rattle.std.specs.Prelude.{◌≡◌, ℕ, ◌+◌, ◌-◌, ◌*◌, ◌/◌, ◌%◌, ◌<◌, ◌≤◌, ◌==◌, ◌&&◌, ◌||◌, false, length, map, nat_le, slice_index_or};
+ghost use Rattle.std.specs.Prelude.{◌≡◌, ℕ, ◌+◌, ◌-◌, ◌*◌, ◌/◌, ◌%◌, ◌<◌, ◌≤◌, ◌==◌, ◌&&◌, ◌||◌, false, length, map};
+ghost use Rattle.std.specs.Prelude.{nat_le, slice_index_or};
 ghost use Rattle.lbk_masks.specs.Sets.{is_set};
 ghost use Rattle.lbk_bytes.specs.Marks.{is_marked, stands_among};
 ghost use Rattle.lbk_bytes.specs.Order.{no_break};
@@ -56,8 +57,10 @@ fn join(words: &mut [u64], word: usize, bits: u64)
 #[inline(always)]
 pub(crate) fn mark_breaks(breaks: &[RawBreak], from: usize, words: &mut [u64])
     requires { (k : ℕ) → k < length breaks.now
-        → (from ≤ (slice_index_or breaks.now k no_break).at) × ((slice_index_or breaks.now k no_break).at < from + 64 * length words.old) }
-    ensures { (i : ℕ) → is_marked words.new i ≡ (is_marked words.old i || stands_among (from + i) (map shown breaks.now)) }
+        → (from ≤ (slice_index_or breaks.now k no_break).at)
+        × ((slice_index_or breaks.now k no_break).at < from + 64 * length words.old) }
+    ensures { (i : ℕ) → is_marked words.new i
+        ≡ (is_marked words.old i || stands_among (from + i) (map shown breaks.now)) }
 {
     for found in breaks {
         mark(words, found.at - from, true);

@@ -25,8 +25,8 @@ const SHOWN: [u16; VERDICTS as usize] = [
 /// The number of the verdict by which a line may break by the last rule.
 const BY_THE_LAST_RULE: usize = 75;
 
-/// What a break shows of the verdict of a number: 256 times the number of its rule, and the number of its kind. Whatever the
-/// number is, it is that of some verdict.
+/// What a break shows of the verdict of a number: 256 times the number of its rule, and the number of its kind.
+/// Whatever the number is, it is that of some verdict.
 #[inline(always)]
 pub fn shown_of(code: u16) -> u16
     ensures { result ≡ numbers_of (verdict_coded code) }
@@ -37,8 +37,8 @@ pub fn shown_of(code: u16) -> u16
     SHOWN[(code % RULES) as usize]
 }
 
-/// What a break shows of the verdict of a number. Where a line does not break by that, it is what a break by rule 31 shows, so that
-/// made-up numbers give breaks, too.
+/// What a break shows of the verdict of a number. Where a line does not break by that, it is what a break by rule 31
+/// shows, so that made-up numbers give breaks, too.
 #[inline(always)]
 pub(crate) fn shown_of_break(code: u16) -> u16
     ensures some { (verdict : Verdict) × (result ≡ numbers_of verdict) × (is_no verdict.kind ≡ false) }

@@ -11,8 +11,8 @@ const FEW: usize = 12;
 /// How many bytes are then taken one by one.
 const MANY: usize = 1024;
 
-/// Whether these bytes of the first 64 of a text, or of all where it has fewer, a bit each, are so many that a block costs more
-/// than it saves.
+/// Whether these bytes of the first 64 of a text, or of all where it has fewer, a bit each, are so many that a block
+/// costs more than it saves.
 #[inline(always)]
 pub(crate) fn are_many(strays: u64, length: usize) -> bool {
     FEW * length.min(BLOCK) < BLOCK * strays.count_ones() as usize
@@ -42,8 +42,8 @@ pub(crate) fn next_try<const MASKS: bool>(at: usize, text: &[u8]) -> usize
     at + pause
 }
 
-/// How many bytes are taken one by one at the front of these: many where scalars that blocks leave to steps are usual, and else
-/// as few as can be.
+/// How many bytes are taken one by one at the front of these: many where scalars that blocks leave to steps are
+/// usual, and else as few as can be.
 #[inline(always)]
 fn pause(text: &[u8]) -> usize
     requires { 64 ≤ length text.now }

@@ -2,7 +2,8 @@
 use Rattle.std.specs.Prelude.{◌≡◌, ◌⊎◌, ℕ, List}
 use Rattle.std.specs.Borrow.{Bor}
 use Rattle.lbk_ucd.specs.declared.faults.UcdCause.{UcdCause}
-use Rattle.lbk_ucd.specs.declared.faults.UcdCause.TheVariants.{FileTooLong, LineTooLong, RowSyntax, Range, UnknownValue, Overlap, TooManyRows, Memory}
+use Rattle.lbk_ucd.specs.declared.faults.UcdCause.TheVariants.{FileTooLong, LineTooLong, RowSyntax, Range}
+use Rattle.lbk_ucd.specs.declared.faults.UcdCause.TheVariants.{UnknownValue, Overlap, TooManyRows, Memory}
 use Rattle.lbk_ucd.specs.declared.faults.UcdFault.{UcdFault}
 use Rattle.lbk_ucd.specs.declared.tables.Files.{Files}
 use Rattle.lbk_ucd.specs.declared.which.Which.{Which}

@@ -18,12 +18,12 @@ use lbk_bytes::RawBreak;
 use lbk_calls::{State, give_breaks};
 use lbk_rules::FlatTable;
 
-/// Puts the next breaks of a text (UAX #14, section 3) into the front of the block, from the state on, and returns how many:
-/// as many as the block holds, or all that are left. The text may be any bytes: each longest piece that begins no scalar is
-/// read as U+FFFD (Unicode Standard, section 3.9).
+/// Puts the next breaks of a text (UAX #14, section 3) into the front of the block, from the state on, and returns
+/// how many: as many as the block holds, or all that are left. The text may be any bytes: each longest piece that
+/// begins no scalar is read as U+FFFD (Unicode Standard, section 3.9).
 ///
-/// Where the block has no room, or the state is past the text or at its end, or names no profile, the state stays and no break
-/// comes. What stands in the block after the breaks is unspecified. Whatever the table and the state hold, the breaks are
+/// Where the block has no room, or the state is past the text or at its end, or names no profile, the state stays and
+/// no break comes. What stands in the block after the breaks is unspecified. With any table and state, the breaks are
 /// breaks of rules, in order, from the state's place on, and the state goes forward with them.
 #[unsafe(no_mangle)]
 pub extern "C" fn lbk_breaks(
@@ -40,14 +40,17 @@ pub extern "C" fn lbk_breaks(
     ensures onward { state.old.at ≤ state.new.at }
     ensures inside { state.old.at ≤ length text.now → state.new.at ≤ length text.now }
     ensures at_end { state.old.ended ≡ 0 → 0 < state.new.ended → state.new.at ≡ length text.now }
-    ensures all { state.old.profile ≤ 3 → state.old.at ≤ length text.now → result < length out.old → 0 < state.new.ended }
+    ensures all { state.old.profile ≤ 3 → state.old.at ≤ length text.now → result < length out.old
+        → 0 < state.new.ended }
     ensures start { (cell : ℕ → Cell) (profile : Profile) → IsFlatOf table.now cell → state.old ≡ start_in profile
         → Comes cell table.now text.now state.old (breaks_of_bytes profile cell text.now) }
-    // A part of the text that begins at any of its bytes, and after which the text may go on. Cut where lbk_cut says, the breaks of
-    // the parts are those of the text, one after another.
-    ensures part { (cell : ℕ → Cell) (profile : Profile) (goes_on : Bool) (at : ℕ) → IsFlatOf table.now cell → at ≤ length text.now
+    // A part of the text that begins at any of its bytes, and after which the text may go on. Cut where lbk_cut says,
+    // the breaks of the parts are those of the text, one after another.
+    ensures part { (cell : ℕ → Cell) (profile : Profile) (goes_on : Bool) (at : ℕ) → IsFlatOf table.now cell
+        → at ≤ length text.now
         → state.old ≡ part_start goes_on profile at
-        → Comes cell table.now text.now state.old (map (moved at) (breaks_of_part goes_on profile cell (drop at text.now))) }
+        → Comes cell table.now text.now state.old
+        (map (moved at) (breaks_of_part goes_on profile cell (drop at text.now))) }
     ensures count { (cell : ℕ → Cell) (to_come : List Break) → Comes cell table.now text.now state.old to_come
         → result ≡ min (length out.old) (length to_come) }
     ensures front { (cell : ℕ → Cell) (to_come : List Break) → Comes cell table.now text.now state.old to_come

@@ -12,12 +12,12 @@ ghost use Rattle.lbk_chunks.specs.Cuts.{cuts_of};
 use lbk_chunks::{Chunk, ChunkState, Limits, chunks};
 use lbk_rules::FlatTable;
 
-/// Puts the next chunks of a text into the front of the block, from the state on, and returns how many: as many as the block
-/// holds, or all that are left. The text may be any bytes.
+/// Puts the next chunks of a text into the front of the block, from the state on, and returns how many: as many as
+/// the block holds, or all that are left. The text may be any bytes.
 ///
-/// Where the block has no room, no chunk is left, or the limits are out of range, the state stays and no chunk comes. What
-/// stands in the block after the chunks is unspecified. Whatever the table and the state hold, each chunk starts at the end of
-/// the one before or earlier, and ends past it and within the text.
+/// Where the block has no room, no chunk is left, or the limits are out of range, the state stays and no chunk comes.
+/// What stands in the block after the chunks is unspecified. With any table and state, each chunk starts at the end
+/// of the one before or earlier, and ends past it and within the text.
 #[unsafe(no_mangle)]
 pub extern "C" fn lbk_chunks(
     table: &FlatTable,
@@ -26,14 +26,18 @@ pub extern "C" fn lbk_chunks(
     text: &[u8],
     out: &mut [Chunk],
 ) -> usize
-    ensures start { (cell : ℕ → Cell) (profile : Profile) (to_come : List Chunk) → IsFlatOf table.now cell → are_limits limits.now ≡ true
+    ensures start { (cell : ℕ → Cell) (profile : Profile) (to_come : List Chunk) → IsFlatOf table.now cell
+        → are_limits limits.now ≡ true
         → state.old ≡ state_start profile → AreChunks limits.now (cuts_of profile cell text.now) text_start to_come
         → ChunksCome cell table.now text.now limits.now state.old to_come }
-    ensures count { (cell : ℕ → Cell) (to_come : List Chunk) → ChunksCome cell table.now text.now limits.now state.old to_come
+    ensures count { (cell : ℕ → Cell) (to_come : List Chunk)
+        → ChunksCome cell table.now text.now limits.now state.old to_come
         → result ≡ min (length out.old) (length to_come) }
-    ensures front { (cell : ℕ → Cell) (to_come : List Chunk) → ChunksCome cell table.now text.now limits.now state.old to_come
+    ensures front { (cell : ℕ → Cell) (to_come : List Chunk)
+        → ChunksCome cell table.now text.now limits.now state.old to_come
         → take result out.new ≡ take result to_come }
-    ensures rest { (cell : ℕ → Cell) (to_come : List Chunk) → ChunksCome cell table.now text.now limits.now state.old to_come
+    ensures rest { (cell : ℕ → Cell) (to_come : List Chunk)
+        → ChunksCome cell table.now text.now limits.now state.old to_come
         → ChunksCome cell table.now text.now limits.now state.new (drop result to_come) }
     ensures told { AreTold state.old.told state.new.told (length text.now) (take result out.new) }
     ensures none { result ≡ 0 → state.new ≡ state.old }

@@ -11,8 +11,9 @@ ghost use Rattle.lbk_calls.specs.Labels.{filled};
 use lbk_calls::ClassLabel;
 use lbk_rules::FlatTable;
 
-/// The line breaking class of a scalar value once rule LB1 has resolved it (UAX #14, sections 5.1 and 6.1), as `AL`: ASCII,
-/// filled up by zeros. For a number that is no scalar value it is zeros. Whatever the table holds, it is the name of some class.
+/// The line breaking class of a scalar value once rule LB1 has resolved it (UAX #14, sections 5.1 and 6.1), as `AL`:
+/// ASCII, filled up by zeros. For a number that is no scalar value it is zeros. With any table, it is the name of
+/// some class.
 #[unsafe(no_mangle)]
 pub extern "C" fn lbk_class(table: &FlatTable, scalar: u32) -> ClassLabel
     ensures class { (cell : ℕ → Cell) → IsFlatOf table.now cell → IsScalar scalar

@@ -9,12 +9,12 @@ ghost use Rattle.lbk_cuts.specs.Cuts.{IsCutAfter, IsCutBefore, IsPieceStart, Joi
 use lbk_cuts::{cut, cut_before};
 use lbk_rules::FlatTable;
 
-/// The first byte at or after `at` at which a part of a text may begin: one before which a line must end (UAX #14, section
-/// 6.1, rules LB4 and LB5), or the end of the text. A place past the text counts as its end, and 0 is its start, at which the
-/// first part begins.
+/// The first byte at or after `at` at which a part of a text may begin: one before which a line must end (UAX #14,
+/// section 6.1, rules LB4 and LB5), or the end of the text. A place past the text counts as its end, and 0 is its
+/// start, at which the first part begins.
 ///
-/// The breaks of the parts are those of the whole: the places of a later part count from its start, and where another part
-/// follows a part, its end is by rule 4 or 5, in the place of 3.
+/// The breaks of the parts are those of the whole: the places of a later part count from its start, and where another
+/// part follows a part, its end is by rule 4 or 5, in the place of 3.
 #[unsafe(no_mangle)]
 pub extern "C" fn lbk_cut(table: &FlatTable, text: &[u8], at: usize) -> usize
     ensures within { result ≤ length text.now }
@@ -24,7 +24,8 @@ pub extern "C" fn lbk_cut(table: &FlatTable, text: &[u8], at: usize) -> usize
     // Whatever the table, no part begins within a scalar, nor within bytes that are read as one U+FFFD.
     ensures begins { IsPieceStart text.now result }
     ensures first { (cell : ℕ → Cell) → IsFlatOf table.now cell → IsCutAfter cell text.now at result }
-    ensures joined { (cell : ℕ → Cell) (profile : Profile) → IsFlatOf table.now cell → 0 < result → result < length text.now
+    ensures joined { (cell : ℕ → Cell) (profile : Profile) → IsFlatOf table.now cell → 0 < result
+        → result < length text.now
         → JoinsAt profile cell text.now result }
 {
     cut(table, text, at)
@@ -38,7 +39,8 @@ pub extern "C" fn lbk_cut_before(table: &FlatTable, text: &[u8], at: usize) -> u
     ensures before { result ≤ at }
     ensures begins { IsPieceStart text.now result }
     ensures last { (cell : ℕ → Cell) → IsFlatOf table.now cell → IsCutBefore cell text.now at result }
-    ensures joined { (cell : ℕ → Cell) (profile : Profile) → IsFlatOf table.now cell → 0 < result → result < length text.now
+    ensures joined { (cell : ℕ → Cell) (profile : Profile) → IsFlatOf table.now cell → 0 < result
+        → result < length text.now
         → JoinsAt profile cell text.now result }
 {
     cut_before(table, text, at)

@@ -15,24 +15,30 @@ ghost use Rattle.lbk_calls.specs.Coming.{Comes};
 ghost use Rattle.lbk_calls.specs.UnitsComing.{PositionsCome, UnitsCome};
 ghost use Rattle.lbk_words.specs.Words.{words_on};
 
-/// What comes from a state on hangs on the state and on the bytes of the text from its place on. Whatever stands before the
-/// place, as many bytes as there were: the same breaks come. So it is of units, of positions, and of words.
+/// What comes from a state on hangs on the state and on the bytes of the text from its place on. Whatever stands
+/// before the place, as many bytes as there were: the same breaks come. So it is of units, of positions, and of
+/// words.
 pub fn only_bytes_from_a_state_on()
     ensures breaks { (cell : ℕ → Cell) (table : FlatTable) (text other : List ℕ) (state : State) (to_come : List Break)
         → Comes cell table text state to_come → state.at ≤ length other → drop state.at other ≡ drop state.at text
         → Comes cell table other state to_come }
     ensures utf16 { (cell : ℕ → Cell) (table : FlatTable) (text other : List ℕ) (state : State) (to_come : List Break)
-        → UnitsCome pieces_of_utf16 cell table text state to_come → state.at ≤ length other → drop state.at other ≡ drop state.at text
+        → UnitsCome pieces_of_utf16 cell table text state to_come → state.at ≤ length other → drop state.at other
+        ≡ drop state.at text
         → UnitsCome pieces_of_utf16 cell table other state to_come }
     ensures utf32 { (cell : ℕ → Cell) (table : FlatTable) (text other : List ℕ) (state : State) (to_come : List Break)
-        → UnitsCome pieces_of_utf32 cell table text state to_come → state.at ≤ length other → drop state.at other ≡ drop state.at text
+        → UnitsCome pieces_of_utf32 cell table text state to_come → state.at ≤ length other → drop state.at other
+        ≡ drop state.at text
         → UnitsCome pieces_of_utf32 cell table other state to_come }
     // Of positions, by what the encoding reads of some units.
-    ensures positions { (pieces_of : List ℕ → List Decoded) (cell : ℕ → Cell) (table : FlatTable) (text other : List ℕ) (state : State) (to_come : List Break)
-        → PositionsCome pieces_of cell table text state to_come → state.at ≤ length other → drop state.at other ≡ drop state.at text
+    ensures positions { (pieces_of : List ℕ → List Decoded) (cell : ℕ → Cell) (table : FlatTable)
+        (text other : List ℕ) (state : State) (to_come : List Break)
+        → PositionsCome pieces_of cell table text state to_come → state.at ≤ length other → drop state.at other
+        ≡ drop state.at text
         → PositionsCome pieces_of cell table other state to_come }
     // Of words a state is the byte from which they come.
-    ensures words { (text other : List ℕ) (at : ℕ) → drop at other ≡ drop at text → words_on other at ≡ words_on text at }
+    ensures words { (text other : List ℕ) (at : ℕ) → drop at other ≡ drop at text → words_on other at
+        ≡ words_on text at }
 {}
 
 /// No step of a table's digest (FNV-1a) leads two numbers from one digest to the same, nor two digests by one number.
@@ -43,10 +49,11 @@ pub fn no_step_leads_two_to_one()
         → digest_with one number ≡ digest_with other number → one ≡ other }
 {}
 
-/// A whole table of which one number is given another value is no longer whole, whether that is the digest or one that the
-/// digest is of.
+/// A whole table of which one number is given another value is no longer whole, whether that is the digest or one
+/// that the digest is of.
 pub fn one_changed_number_is_found()
-    ensures content { (table other : FlatTable) (one changed : ℕ) → IsWhole table → IsWhole other → other.digest ≡ table.digest
+    ensures content { (table other : FlatTable) (one changed : ℕ) → IsWhole table → IsWhole other → other.digest
+        ≡ table.digest
         → DifferInOne table other one changed → changed ≡ one }
     ensures digest { (table other : FlatTable) → IsWhole table → IsWhole other → numbers_of other ≡ numbers_of table
         → other.digest ≡ table.digest }

@@ -1,6 +1,7 @@
 //! The breaks of a text as bits, one for each byte.
 
-ghost use Rattle.std.specs.Prelude.{◌≡◌, ℕ, Bool, false, suc, ◌+◌, ◌-◌, ◌*◌, ◌<◌, ◌≤◌, ◌⊎◌, [], List, drop, length, map, min};
+ghost use Rattle.std.specs.Prelude.{◌≡◌, ℕ, Bool, false, suc, ◌+◌, ◌-◌, ◌*◌, ◌<◌, ◌≤◌, ◌⊎◌, [], List, drop, length};
+ghost use Rattle.std.specs.Prelude.{map, min};
 ghost use Rattle.lbk_rules.specs.declared.Break.{Break};
 ghost use Rattle.lbk_rules.specs.declared.Cell.{Cell};
 ghost use Rattle.lbk_rules.specs.declared.Left.{Left};
@@ -20,13 +21,14 @@ use lbk_rules::{FlatTable, Profile};
 /// How many bits a word has.
 const BITS: usize = 64;
 
-/// Sets a bit for each of the next places of a text, from the state's on, at which `lbk_breaks` gives a break: the lowest bit of
-/// the first word for the state's place, and all other bits are cleared. Returns of how many places the words tell, the text's end
-/// being one: of as many as they have bits, or of all that are left. The state goes on at the first scalar behind those.
+/// Sets a bit for each of the next places of a text, from the state's on, at which `lbk_breaks` gives a break: the
+/// lowest bit of the first word for the state's place, and all other bits are cleared. Returns of how many places the
+/// words tell, the text's end being one: of as many as they have bits, or of all that are left. The state goes on at
+/// the first scalar after those.
 ///
-/// Where there are no words, or the state is past the text or at its end, or names no profile, the state stays and all bits are
-/// cleared. Whatever the table and the state hold, no bit is set of a place that is not told of, and the state goes on at most
-/// three bytes after the last that is.
+/// Where there are no words, or the state is past the text or at its end, or names no profile, the state stays and
+/// all bits are cleared. With any table and state, no bit is set of a place that is not told of, and the state goes
+/// on at most three bytes after the last that is.
 #[unsafe(no_mangle)]
 pub extern "C" fn lbk_marks(
     table: &FlatTable,
@@ -43,23 +45,28 @@ pub extern "C" fn lbk_marks(
     ensures inside { state.old.at ≤ length text.now → state.new.at ≤ length text.now }
     ensures near { state.new.at ≤ state.old.at + 64 * length words.old + 3 }
     ensures at_end { state.old.ended ≡ 0 → 0 < state.new.ended → state.new.at ≡ length text.now }
-    // Where the end was told of, nothing is left. Else the state stands behind the places that were told of.
+    // Where the end was told of, nothing is left. Else the state stands after the places that were told of.
     ensures all { state.old.profile ≤ 3 → state.old.ended ≡ 0 → state.old.at ≤ length text.now
         → length text.now < state.old.at + 64 * length words.old → 0 < state.new.ended }
     ensures more { state.old.profile ≤ 3 → state.old.ended ≡ 0 → state.old.at + 64 * length words.old ≤ length text.now
         → (state.new.ended ≡ 0) × (state.old.at + 64 * length words.old ≤ state.new.at) }
     ensures start { (cell : ℕ → Cell) (profile : Profile) → IsFlatOf table.now cell → state.old ≡ start_in profile
         → Comes cell table.now text.now state.old (breaks_of_bytes profile cell text.now) }
-    ensures part { (cell : ℕ → Cell) (profile : Profile) (goes_on : Bool) (at : ℕ) → IsFlatOf table.now cell → at ≤ length text.now
+    ensures part { (cell : ℕ → Cell) (profile : Profile) (goes_on : Bool) (at : ℕ) → IsFlatOf table.now cell
+        → at ≤ length text.now
         → state.old ≡ part_start goes_on profile at
-        → Comes cell table.now text.now state.old (map (moved at) (breaks_of_part goes_on profile cell (drop at text.now))) }
-    // The bits that are set are the places of the breaks to come, which are those that lbk_breaks gives from this state.
+        → Comes cell table.now text.now state.old
+        (map (moved at) (breaks_of_part goes_on profile cell (drop at text.now))) }
+    // The bits that are set are the places of the breaks to come, which are those that lbk_breaks gives from this
+    // state.
     ensures bits { (cell : ℕ → Cell) (to_come : List Break) → Comes cell table.now text.now state.old to_come
         → (i : ℕ) → i < 64 * length words.old → is_marked words.new i ≡ stands_among (state.old.at + i) to_come }
     ensures rest { (cell : ℕ → Cell) (to_come : List Break) → Comes cell table.now text.now state.old to_come
         → Comes cell table.now text.now state.new (from_on (state.old.at + 64 * length words.old) to_come) }
-    // The state stands at the first scalar behind the places told of, of those that are read from its place on, or at the end.
-    ensures boundary { (cell : ℕ → Cell) (to_come : List Break) → Comes cell table.now text.now state.old to_come → state.old.ended ≡ 0
+    // The state stands at the first scalar after the places told of, of those that are read from its place on, or at
+    // the end.
+    ensures boundary { (cell : ℕ → Cell) (to_come : List Break) → Comes cell table.now text.now state.old to_come
+        → state.old.ended ≡ 0
         → state.new.at ≡ boundary_from text.now state.old.at (state.old.at + 64 * length words.old) }
     ensures ended { 0 < state.old.ended → (result ≡ 0) × (state.new ≡ state.old) }
     ensures past { length text.now < state.old.at → (result ≡ 0) × (state.new ≡ state.old) }
@@ -94,7 +101,8 @@ fn go_on(
         → (state.new.ended ≡ 0) × (state.old.at + 64 * length words.old ≤ state.new.at) }
     ensures marks { (cell : ℕ → Cell) (lefts : List Left) (to_come : List Break) → IsFlatBy lefts table.now cell
         → ReachedBy (onward_in state.old.profile) profile cell lefts text.now to_come (from_state (plain state.old)) []
-        → MarksBy (onward_in state.old.profile) profile cell lefts text.now to_come state.old.at (plain state.new) words.new }
+        → MarksBy (onward_in state.old.profile) profile cell lefts text.now to_come state.old.at (plain state.new)
+        words.new }
     ensures no_room { length words.old ≡ 0 → state.new ≡ state.old }
 {
     let from = state.at;

@@ -21,14 +21,14 @@ use lbk_bytes::RawBreak;
 use lbk_calls::{State, next_positions};
 use lbk_rules::FlatTable;
 
-/// Puts the next positions of a text into the front of the block, from the state on, and returns how many: as many as the block
-/// holds, or all that are left. A text of n scalars has n + 1 positions (UAX #14, section 6): one before each scalar, and
-/// one at the end. Each comes once, with the verdict of the first rule that matches there, No among them. The text
-/// may be any bytes, read as `lbk_breaks` reads them.
+/// Puts the next positions of a text into the front of the block, from the state on, and returns how many: as many as
+/// the block holds, or all that are left. A text of n scalars has n + 1 positions (UAX #14, section 6): one before
+/// each scalar, and one at the end. Each comes once, with the verdict of the first rule that matches there, No among
+/// them. The text may be any bytes, read as `lbk_breaks` reads them.
 ///
-/// Where the block has no room, or the state is past the text or at its end, or names no profile, the state stays and no position
-/// comes. Whatever the table and the state hold, the positions are of rules and in order, from the state's place on, and the
-/// state goes forward with them.
+/// Where the block has no room, or the state is past the text or at its end, or names no profile, the state stays and
+/// no position comes. With any table and state, the positions are of rules and in order, from the state's place on,
+/// and the state goes forward with them.
 #[unsafe(no_mangle)]
 pub extern "C" fn lbk_positions(
     table: &FlatTable,
@@ -44,25 +44,32 @@ pub extern "C" fn lbk_positions(
     ensures onward { state.old.at ≤ state.new.at }
     ensures inside { state.old.at ≤ length text.now → state.new.at ≤ length text.now }
     ensures at_end { state.old.ended ≡ 0 → 0 < state.new.ended → state.new.at ≡ length text.now }
-    ensures all { state.old.profile ≤ 1 → state.old.at ≤ length text.now → result < length out.old → 0 < state.new.ended }
+    ensures all { state.old.profile ≤ 1 → state.old.at ≤ length text.now → result < length out.old
+        → 0 < state.new.ended }
     ensures start { (cell : ℕ → Cell) (profile : Profile) → IsFlatOf table.now cell → state.old ≡ start_in profile
         → PositionsCome pieces cell table.now text.now state.old (positions_of_bytes profile cell text.now) }
     // Of a part of the text that begins at any of its bytes.
     ensures part { (cell : ℕ → Cell) (profile : Profile) (at : ℕ) → IsFlatOf table.now cell → at ≤ length text.now
         → state.old ≡ part_start false profile at
-        → PositionsCome pieces cell table.now text.now state.old (map (moved at) (positions_of_bytes profile cell (drop at text.now))) }
-    ensures count { (cell : ℕ → Cell) (to_come : List Break) → PositionsCome pieces cell table.now text.now state.old to_come
+        → PositionsCome pieces cell table.now text.now state.old
+        (map (moved at) (positions_of_bytes profile cell (drop at text.now))) }
+    ensures count { (cell : ℕ → Cell) (to_come : List Break)
+        → PositionsCome pieces cell table.now text.now state.old to_come
         → result ≡ min (length out.old) (length to_come) }
-    ensures front { (cell : ℕ → Cell) (to_come : List Break) → PositionsCome pieces cell table.now text.now state.old to_come
+    ensures front { (cell : ℕ → Cell) (to_come : List Break)
+        → PositionsCome pieces cell table.now text.now state.old to_come
         → given_in out.new result ≡ take result to_come }
-    ensures rest { (cell : ℕ → Cell) (to_come : List Break) → PositionsCome pieces cell table.now text.now state.old to_come
+    ensures rest { (cell : ℕ → Cell) (to_come : List Break)
+        → PositionsCome pieces cell table.now text.now state.old to_come
         → PositionsCome pieces cell table.now text.now state.new (drop result to_come) }
     // The breaks of a text are those of its positions where a line may or must end.
     ensures breaks { (cell : ℕ → Cell) (profile : Profile)
         → breaks_among (positions_of_bytes profile cell text.now) ≡ breaks_of_bytes profile cell text.now }
     // Of well-formed text the positions are those of its scalars.
-    ensures well_formed { (cell : ℕ → Cell) (profile : Profile) (scalars : List ℕ) → all_scalars scalars ≡ true → text.now ≡ encode_utf8_all scalars
-        → positions_of_bytes profile cell text.now ≡ map (placed_in encode_utf8_all scalars) (positions_of_utf32 profile cell scalars) }
+    ensures well_formed { (cell : ℕ → Cell) (profile : Profile) (scalars : List ℕ) → all_scalars scalars ≡ true
+        → text.now ≡ encode_utf8_all scalars
+        → positions_of_bytes profile cell text.now
+        ≡ map (placed_in encode_utf8_all scalars) (positions_of_utf32 profile cell scalars) }
     ensures ended { 0 < state.old.ended → (result ≡ 0) × (state.new ≡ state.old) }
     ensures past { length text.now < state.old.at → (result ≡ 0) × (state.new ≡ state.old) }
     ensures unknown { 1 < state.old.profile → (result ≡ 0) × (state.new ≡ state.old) }
@@ -71,12 +78,13 @@ pub extern "C" fn lbk_positions(
     lbk_calls::lbk_positions(table, state, text, out)
 }
 
-/// Puts the next positions of a text in UTF-16 into the front of the block, as `lbk_positions` does of one in UTF-8, and returns
-/// how many. Places are in units of 16 bits. The text may be any units, read as `lbk_breaks_utf16` reads them.
+/// Puts the next positions of a text in UTF-16 into the front of the block, as `lbk_positions` does of one in UTF-8,
+/// and returns how many. Places are in units of 16 bits. The text may be any units, read as `lbk_breaks_utf16` reads
+/// them.
 ///
-/// Where the block has no room, or the state is past the text or at its end, or names no profile, the state stays and no position
-/// comes. Whatever the table and the state hold, the positions are of rules and in order, from the state's place on, and the
-/// state goes forward with them.
+/// Where the block has no room, or the state is past the text or at its end, or names no profile, the state stays and
+/// no position comes. With any table and state, the positions are of rules and in order, from the state's place on,
+/// and the state goes forward with them.
 #[unsafe(no_mangle)]
 pub extern "C" fn lbk_positions_utf16(
     table: &FlatTable,
@@ -92,24 +100,31 @@ pub extern "C" fn lbk_positions_utf16(
     ensures onward { state.old.at ≤ state.new.at }
     ensures inside { state.old.at ≤ length text.now → state.new.at ≤ length text.now }
     ensures at_end { state.old.ended ≡ 0 → 0 < state.new.ended → state.new.at ≡ length text.now }
-    ensures all { state.old.profile ≤ 1 → state.old.at ≤ length text.now → result < length out.old → 0 < state.new.ended }
+    ensures all { state.old.profile ≤ 1 → state.old.at ≤ length text.now → result < length out.old
+        → 0 < state.new.ended }
     ensures start { (cell : ℕ → Cell) (profile : Profile) → IsFlatOf table.now cell → state.old ≡ start_in profile
         → PositionsCome pieces_of_utf16 cell table.now text.now state.old (positions_of_utf16 profile cell text.now) }
     ensures part { (cell : ℕ → Cell) (profile : Profile) (at : ℕ) → IsFlatOf table.now cell → at ≤ length text.now
         → state.old ≡ part_start false profile at
-        → PositionsCome pieces_of_utf16 cell table.now text.now state.old (map (moved at) (positions_of_utf16 profile cell (drop at text.now))) }
-    ensures count { (cell : ℕ → Cell) (to_come : List Break) → PositionsCome pieces_of_utf16 cell table.now text.now state.old to_come
+        → PositionsCome pieces_of_utf16 cell table.now text.now state.old
+        (map (moved at) (positions_of_utf16 profile cell (drop at text.now))) }
+    ensures count { (cell : ℕ → Cell) (to_come : List Break)
+        → PositionsCome pieces_of_utf16 cell table.now text.now state.old to_come
         → result ≡ min (length out.old) (length to_come) }
-    ensures front { (cell : ℕ → Cell) (to_come : List Break) → PositionsCome pieces_of_utf16 cell table.now text.now state.old to_come
+    ensures front { (cell : ℕ → Cell) (to_come : List Break)
+        → PositionsCome pieces_of_utf16 cell table.now text.now state.old to_come
         → given_in out.new result ≡ take result to_come }
-    ensures rest { (cell : ℕ → Cell) (to_come : List Break) → PositionsCome pieces_of_utf16 cell table.now text.now state.old to_come
+    ensures rest { (cell : ℕ → Cell) (to_come : List Break)
+        → PositionsCome pieces_of_utf16 cell table.now text.now state.old to_come
         → PositionsCome pieces_of_utf16 cell table.now text.now state.new (drop result to_come) }
     // The breaks of a text are those of its positions where a line may or must end.
     ensures breaks { (cell : ℕ → Cell) (profile : Profile)
         → breaks_among (positions_of_utf16 profile cell text.now) ≡ breaks_of_utf16 profile cell text.now }
     // Of well-formed text the positions are those of its scalars.
-    ensures well_formed { (cell : ℕ → Cell) (profile : Profile) (scalars : List ℕ) → all_scalars scalars ≡ true → text.now ≡ encode_utf16_all scalars
-        → positions_of_utf16 profile cell text.now ≡ map (placed_in encode_utf16_all scalars) (positions_of_utf32 profile cell scalars) }
+    ensures well_formed { (cell : ℕ → Cell) (profile : Profile) (scalars : List ℕ) → all_scalars scalars ≡ true
+        → text.now ≡ encode_utf16_all scalars
+        → positions_of_utf16 profile cell text.now
+        ≡ map (placed_in encode_utf16_all scalars) (positions_of_utf32 profile cell scalars) }
     ensures ended { 0 < state.old.ended → (result ≡ 0) × (state.new ≡ state.old) }
     ensures past { length text.now < state.old.at → (result ≡ 0) × (state.new ≡ state.old) }
     ensures unknown { 1 < state.old.profile → (result ≡ 0) × (state.new ≡ state.old) }
@@ -118,12 +133,13 @@ pub extern "C" fn lbk_positions_utf16(
     next_positions(table, state, text, out)
 }
 
-/// Puts the next positions of a text in UTF-32 into the front of the block, as `lbk_positions` does of one in UTF-8, and returns
-/// how many. Places are in units of 32 bits. The text may be any units, read as `lbk_breaks_utf32` reads them.
+/// Puts the next positions of a text in UTF-32 into the front of the block, as `lbk_positions` does of one in UTF-8,
+/// and returns how many. Places are in units of 32 bits. The text may be any units, read as `lbk_breaks_utf32` reads
+/// them.
 ///
-/// Where the block has no room, or the state is past the text or at its end, or names no profile, the state stays and no position
-/// comes. Whatever the table and the state hold, the positions are of rules and in order, from the state's place on, and the
-/// state goes forward with them.
+/// Where the block has no room, or the state is past the text or at its end, or names no profile, the state stays and
+/// no position comes. With any table and state, the positions are of rules and in order, from the state's place on,
+/// and the state goes forward with them.
 #[unsafe(no_mangle)]
 pub extern "C" fn lbk_positions_utf32(
     table: &FlatTable,
@@ -139,17 +155,22 @@ pub extern "C" fn lbk_positions_utf32(
     ensures onward { state.old.at ≤ state.new.at }
     ensures inside { state.old.at ≤ length text.now → state.new.at ≤ length text.now }
     ensures at_end { state.old.ended ≡ 0 → 0 < state.new.ended → state.new.at ≡ length text.now }
-    ensures all { state.old.profile ≤ 1 → state.old.at ≤ length text.now → result < length out.old → 0 < state.new.ended }
+    ensures all { state.old.profile ≤ 1 → state.old.at ≤ length text.now → result < length out.old
+        → 0 < state.new.ended }
     ensures start { (cell : ℕ → Cell) (profile : Profile) → IsFlatOf table.now cell → state.old ≡ start_in profile
         → PositionsCome pieces_of_utf32 cell table.now text.now state.old (positions_of_utf32 profile cell text.now) }
     ensures part { (cell : ℕ → Cell) (profile : Profile) (at : ℕ) → IsFlatOf table.now cell → at ≤ length text.now
         → state.old ≡ part_start false profile at
-        → PositionsCome pieces_of_utf32 cell table.now text.now state.old (map (moved at) (positions_of_utf32 profile cell (drop at text.now))) }
-    ensures count { (cell : ℕ → Cell) (to_come : List Break) → PositionsCome pieces_of_utf32 cell table.now text.now state.old to_come
+        → PositionsCome pieces_of_utf32 cell table.now text.now state.old
+        (map (moved at) (positions_of_utf32 profile cell (drop at text.now))) }
+    ensures count { (cell : ℕ → Cell) (to_come : List Break)
+        → PositionsCome pieces_of_utf32 cell table.now text.now state.old to_come
         → result ≡ min (length out.old) (length to_come) }
-    ensures front { (cell : ℕ → Cell) (to_come : List Break) → PositionsCome pieces_of_utf32 cell table.now text.now state.old to_come
+    ensures front { (cell : ℕ → Cell) (to_come : List Break)
+        → PositionsCome pieces_of_utf32 cell table.now text.now state.old to_come
         → given_in out.new result ≡ take result to_come }
-    ensures rest { (cell : ℕ → Cell) (to_come : List Break) → PositionsCome pieces_of_utf32 cell table.now text.now state.old to_come
+    ensures rest { (cell : ℕ → Cell) (to_come : List Break)
+        → PositionsCome pieces_of_utf32 cell table.now text.now state.old to_come
         → PositionsCome pieces_of_utf32 cell table.now text.now state.new (drop result to_come) }
     // The breaks of a text are those of its positions where a line may or must end.
     ensures breaks { (cell : ℕ → Cell) (profile : Profile)

@@ -18,8 +18,8 @@ use std::alloc::Global;
 /// Fills the table by the four property files LineBreak.txt, EastAsianWidth.txt, DerivedGeneralCategory.txt and
 /// emoji-data.txt (UAX #44, section 4.2), and returns zeros; or the first fault of the first file that has one.
 ///
-/// Cause 8 comes where an allocation was refused: at a line of a file, or at none while the table was made. After a fault
-/// the table is as it was.
+/// Cause 8 comes where an allocation was refused: at a line of a file, or at none while the table was made. After a
+/// fault the table is as it was.
 #[unsafe(no_mangle)]
 pub extern "C" fn lbk_read(
     alloc: Global,
@@ -29,14 +29,19 @@ pub extern "C" fn lbk_read(
     category: &[u8],
     emoji: &[u8],
 ) -> Fault
-    ensures lawful { result.cause ≡ 0 → AreLawful (files_of line_break.entry east_asian.entry category.entry emoji.entry) }
-    ensures table { result.cause ≡ 0 → (cell : ℕ → Cell) → AreCellsOf (files_of line_break.entry east_asian.entry category.entry emoji.entry) cell
+    ensures lawful { result.cause ≡ 0
+        → AreLawful (files_of line_break.entry east_asian.entry category.entry emoji.entry) }
+    ensures table { result.cause ≡ 0 → (cell : ℕ → Cell)
+        → AreCellsOf (files_of line_break.entry east_asian.entry category.entry emoji.entry) cell
         → IsFlatOf table.new cell }
     ensures whole { result.cause ≡ 0 → IsWhole table.new }
     ensures steps { result.cause ≡ 0 → AreStepsAlone table.new }
-    ensures kinds { result.cause ≡ 0 → AreKindsAlone table.new (cell_of_files (files_of line_break.entry east_asian.entry category.entry emoji.entry)) }
+    ensures kinds { result.cause ≡ 0
+        → AreKindsAlone table.new (cell_of_files
+        (files_of line_break.entry east_asian.entry category.entry emoji.entry)) }
     ensures none { result.cause ≡ 0 → result ≡ no_fault }
-    ensures refused { 0 < result.cause → IsFaultOf (files_of line_break.entry east_asian.entry category.entry emoji.entry) result }
+    ensures refused { 0 < result.cause
+        → IsFaultOf (files_of line_break.entry east_asian.entry category.entry emoji.entry) result }
     ensures untouched { 0 < result.cause → table.new ≡ table.old }
 {
     let files = Files {
@@ -57,8 +62,8 @@ pub extern "C" fn lbk_read(
 
 /// Does what `lbk_read` does, of the four files that Unicode 15.0.0 published and of no others; CR LF counts as LF.
 ///
-/// Cause 10 comes for the first file that is not the published one, whatever else is wrong with the four. After a fault the
-/// table is as it was.
+/// Cause 10 comes for the first file that is not the published one, whatever else is wrong with the four. After a
+/// fault the table is as it was.
 #[unsafe(no_mangle)]
 pub extern "C" fn lbk_read_published(
     alloc: Global,
@@ -68,14 +73,19 @@ pub extern "C" fn lbk_read_published(
     category: &[u8],
     emoji: &[u8],
 ) -> Fault
-    ensures published { result.cause ≡ 0 → ArePublished (files_of line_break.entry east_asian.entry category.entry emoji.entry) }
-    ensures table { result.cause ≡ 0 → (cell : ℕ → Cell) → AreCellsOf (files_of line_break.entry east_asian.entry category.entry emoji.entry) cell
+    ensures published { result.cause ≡ 0
+        → ArePublished (files_of line_break.entry east_asian.entry category.entry emoji.entry) }
+    ensures table { result.cause ≡ 0 → (cell : ℕ → Cell)
+        → AreCellsOf (files_of line_break.entry east_asian.entry category.entry emoji.entry) cell
         → IsFlatOf table.new cell }
     ensures whole { result.cause ≡ 0 → IsWhole table.new }
     ensures steps { result.cause ≡ 0 → AreStepsAlone table.new }
-    ensures kinds { result.cause ≡ 0 → AreKindsAlone table.new (cell_of_files (files_of line_break.entry east_asian.entry category.entry emoji.entry)) }
+    ensures kinds { result.cause ≡ 0
+        → AreKindsAlone table.new (cell_of_files
+        (files_of line_break.entry east_asian.entry category.entry emoji.entry)) }
     ensures none { result.cause ≡ 0 → result ≡ no_fault }
-    ensures refused { 0 < result.cause → IsFaultOfPublished (files_of line_break.entry east_asian.entry category.entry emoji.entry) result }
+    ensures refused { 0 < result.cause
+        → IsFaultOfPublished (files_of line_break.entry east_asian.entry category.entry emoji.entry) result }
     ensures untouched { 0 < result.cause → table.new ≡ table.old }
 {
     let files = Files {

@@ -47,8 +47,8 @@ pub record GoesBy (from : Onward) (profile : Profile) (cell : ℕ → Cell) (lef
   pub front : given ≡ take count to_come
   pub onto : OntoBy from profile cell lefts text state (drop count to_come)
 
--- of the places from a byte on the bits tell at which those to come stand, and those behind come from the state on, which stands
--- at the first scalar behind the places, or at the text's end
+-- of the places from a byte on the bits tell at which those to come stand, and those behind come from the state on,
+-- which stands at the first scalar behind the places, or at the text's end
 pub record MarksBy (from : Onward) (profile : Profile) (cell : ℕ → Cell) (lefts : List Left) (text : List ℕ) (to_come : List Break) (place : ℕ) (state : State) (words : List ℕ) : Type 0 where
   pub bits : (i : ℕ) → i < 64 * length words → is_marked words i ≡ stands_among (place + i) to_come
   pub onto : OntoBy from profile cell lefts text state (from_on (place + 64 * length words) to_come)

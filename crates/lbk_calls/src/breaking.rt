@@ -1,6 +1,7 @@
 //! The breaks of a text, a block at a time.
 
-ghost use Rattle.std.specs.Prelude.{◌≡◌, ℕ, Bool, suc, ◌<◌, ◌≤◌, ◌⊎◌, [], List, MatchOption, drop, length, map, min, take};
+ghost use Rattle.std.specs.Prelude.{◌≡◌, ℕ, Bool, suc, ◌<◌, ◌≤◌, ◌⊎◌, [], List, MatchOption, drop, length, map, min};
+ghost use Rattle.std.specs.Prelude.{take};
 ghost use Rattle.std.specs.Str.{IsUtf8, chars};
 ghost use Rattle.lbk_rules.specs.declared.Break.{Break};
 ghost use Rattle.lbk_rules.specs.declared.Cell.{Cell};
@@ -20,12 +21,12 @@ use crate::interface::State;
 use lbk_bytes::{FillState, RawBreak, fill, goes_on, plain_number, profile_numbered, put_end};
 use lbk_rules::{FlatTable, Profile};
 
-/// Puts the next breaks of a text (UAX #14, section 3) into the front of the block, from the state on, and returns how many:
-/// as many as the block holds, or all that are left. The text may be any bytes: each longest piece that begins no scalar is
-/// read as U+FFFD (Unicode Standard, section 3.9).
+/// Puts the next breaks of a text (UAX #14, section 3) into the front of the block, from the state on, and returns
+/// how many: as many as the block holds, or all that are left. The text may be any bytes: each longest piece that
+/// begins no scalar is read as U+FFFD (Unicode Standard, section 3.9).
 ///
-/// Where the block has no room, or the state is past the text or at its end, or names no profile, the state stays and no break
-/// comes. What stands in the block after the breaks is unspecified. Whatever the table and the state hold, the breaks are
+/// Where the block has no room, or the state is past the text or at its end, or names no profile, the state stays and
+/// no break comes. What stands in the block after the breaks is unspecified. With any table and state, the breaks are
 /// breaks of rules, in order, from the state's place on, and the state goes forward with them.
 #[unsafe(no_mangle)]
 pub extern "C" fn lbk_breaks(
@@ -42,14 +43,17 @@ pub extern "C" fn lbk_breaks(
     ensures onward { state.old.at ≤ state.new.at }
     ensures inside { state.old.at ≤ length text.now → state.new.at ≤ length text.now }
     ensures at_end { state.old.ended ≡ 0 → 0 < state.new.ended → state.new.at ≡ length text.now }
-    ensures all { state.old.profile ≤ 3 → state.old.at ≤ length text.now → result < length out.old → 0 < state.new.ended }
+    ensures all { state.old.profile ≤ 3 → state.old.at ≤ length text.now → result < length out.old
+        → 0 < state.new.ended }
     ensures start { (cell : ℕ → Cell) (profile : Profile) → IsFlatOf table.now cell → state.old ≡ start_in profile
         → Comes cell table.now text.now state.old (breaks_of_bytes profile cell text.now) }
-    // A part of the text that begins at any of its bytes, and after which the text may go on. Cut where lbk_cut says, the breaks of
-    // the parts are those of the text, one after another.
-    ensures part { (cell : ℕ → Cell) (profile : Profile) (goes_on : Bool) (at : ℕ) → IsFlatOf table.now cell → at ≤ length text.now
+    // A part of the text that begins at any of its bytes, and after which the text may go on. Cut where lbk_cut says,
+    // the breaks of the parts are those of the text, one after another.
+    ensures part { (cell : ℕ → Cell) (profile : Profile) (goes_on : Bool) (at : ℕ) → IsFlatOf table.now cell
+        → at ≤ length text.now
         → state.old ≡ part_start goes_on profile at
-        → Comes cell table.now text.now state.old (map (moved at) (breaks_of_part goes_on profile cell (drop at text.now))) }
+        → Comes cell table.now text.now state.old
+        (map (moved at) (breaks_of_part goes_on profile cell (drop at text.now))) }
     ensures count { (cell : ℕ → Cell) (to_come : List Break) → Comes cell table.now text.now state.old to_come
         → result ≡ min (length out.old) (length to_come) }
     ensures front { (cell : ℕ → Cell) (to_come : List Break) → Comes cell table.now text.now state.old to_come
@@ -66,12 +70,12 @@ pub extern "C" fn lbk_breaks(
     give_breaks::<false>(table, state, text, out)
 }
 
-/// Puts the next breaks of a text (UAX #14, section 3) into the front of the block, from the state on, and returns how many:
-/// as many as the block holds, or all that are left. The text may be any bytes: each longest piece that begins no scalar is
-/// read as U+FFFD (Unicode Standard, section 3.9).
+/// Puts the next breaks of a text (UAX #14, section 3) into the front of the block, from the state on, and returns
+/// how many: as many as the block holds, or all that are left. The text may be any bytes: each longest piece that
+/// begins no scalar is read as U+FFFD (Unicode Standard, section 3.9).
 ///
-/// Where the block has no room, or the state is past the text or at its end, or names no profile, the state stays and no break
-/// comes. What stands in the block after the breaks is unspecified. Whatever the table and the state hold, the breaks are
+/// Where the block has no room, or the state is past the text or at its end, or names no profile, the state stays and
+/// no break comes. What stands in the block after the breaks is unspecified. With any table and state, the breaks are
 /// breaks of rules, in order, from the state's place on, and the state goes forward with them.
 pub fn give_breaks<const MASKS: bool>(
     table: &FlatTable,
@@ -87,14 +91,17 @@ pub fn give_breaks<const MASKS: bool>(
     ensures onward { state.old.at ≤ state.new.at }
     ensures inside { state.old.at ≤ length text.now → state.new.at ≤ length text.now }
     ensures at_end { state.old.ended ≡ 0 → 0 < state.new.ended → state.new.at ≡ length text.now }
-    ensures all { state.old.profile ≤ 3 → state.old.at ≤ length text.now → result < length out.old → 0 < state.new.ended }
+    ensures all { state.old.profile ≤ 3 → state.old.at ≤ length text.now → result < length out.old
+        → 0 < state.new.ended }
     ensures start { (cell : ℕ → Cell) (profile : Profile) → IsFlatOf table.now cell → state.old ≡ start_in profile
         → Comes cell table.now text.now state.old (breaks_of_bytes profile cell text.now) }
-    // A part of the text that begins at any of its bytes, and after which the text may go on. Cut where lbk_cut says, the breaks of
-    // the parts are those of the text, one after another.
-    ensures part { (cell : ℕ → Cell) (profile : Profile) (goes_on : Bool) (at : ℕ) → IsFlatOf table.now cell → at ≤ length text.now
+    // A part of the text that begins at any of its bytes, and after which the text may go on. Cut where lbk_cut says,
+    // the breaks of the parts are those of the text, one after another.
+    ensures part { (cell : ℕ → Cell) (profile : Profile) (goes_on : Bool) (at : ℕ) → IsFlatOf table.now cell
+        → at ≤ length text.now
         → state.old ≡ part_start goes_on profile at
-        → Comes cell table.now text.now state.old (map (moved at) (breaks_of_part goes_on profile cell (drop at text.now))) }
+        → Comes cell table.now text.now state.old
+        (map (moved at) (breaks_of_part goes_on profile cell (drop at text.now))) }
     ensures count { (cell : ℕ → Cell) (to_come : List Break) → Comes cell table.now text.now state.old to_come
         → result ≡ min (length out.old) (length to_come) }
     ensures front { (cell : ℕ → Cell) (to_come : List Break) → Comes cell table.now text.now state.old to_come
@@ -122,8 +129,8 @@ pub fn plain(state: &State) -> State
     State { profile, ..*state }
 }
 
-/// The profile of a state from which breaks may come of a text of this length: none where the state names no profile, has
-/// given all, or is past the text.
+/// The profile of a state from which breaks may come of a text of this length: none where the state names no profile,
+/// has given all, or is past the text.
 pub fn going_profile(state: &State, len: usize) -> Option<Profile>
     ensures { MatchOption result (IsSpent state.now len) (λ profile. IsGoing profile state.now len) }
 {
@@ -156,7 +163,8 @@ fn go_on<const MASKS: bool>(
     ensures all { result < length out.old → 0 < state.new.ended }
     ensures goes { (cell : ℕ → Cell) (lefts : List Left) (to_come : List Break) → IsFlatBy lefts table.now cell
         → ReachedBy (onward_in state.old.profile) profile cell lefts text.now to_come (from_state (plain state.old)) []
-        → GoesBy (onward_in state.old.profile) profile cell lefts text.now to_come (plain state.new) (given_in out.new result) result (length out.old) }
+        → GoesBy (onward_in state.old.profile) profile cell lefts text.now to_come (plain state.new)
+        (given_in out.new result) result (length out.old) }
     ensures no_room { length out.old ≡ 0 → (result ≡ 0) × (state.new ≡ state.old) }
 {
     let start = FillState {

@@ -5,8 +5,8 @@ ghost use Rattle.lbk_rules.specs.FlatTable.{IsWhole};
 
 use lbk_rules::FlatTable;
 
-/// Whether the table is whole: its layout is that of this version, and its digest is that of its numbers. So it is of each
-/// table that `lbk_read` filled, also after it was kept in a file.
+/// Whether the table is whole: its layout is that of this version, and its digest is that of its numbers. So it is of
+/// each table that `lbk_read` filled, also after it was kept in a file.
 #[unsafe(no_mangle)]
 pub extern "C" fn lbk_check(table: &FlatTable) -> bool
     ensures { IsTrue result ↔ IsWhole table.now }

@@ -5,9 +5,9 @@ ghost use Rattle.lbk_calls.specs.Columns.{no_break};
 
 use lbk_bytes::RawBreak;
 
-/// Writes the breaks in the front of a block into columns, as many as each column holds, and returns how many: the low 32 bits
-/// of their places, counted from `from` on, and the numbers of their kinds and rules. What stands in the columns after them
-/// stays.
+/// Writes the breaks in the front of a block into columns, as many as each column holds, and returns how many: the
+/// low 32 bits of their places, counted from `from` on, and the numbers of their kinds and rules. What stands in the
+/// columns after them stays.
 #[unsafe(no_mangle)]
 pub extern "C" fn lbk_columns(
     breaks: &[RawBreak],
@@ -17,7 +17,8 @@ pub extern "C" fn lbk_columns(
     rule: &mut [u8],
 ) -> usize
     ensures count { result ≡ min (length breaks.now) (min (length at.old) (min (length kind.old) (length rule.old))) }
-    ensures at { (k : ℕ) → k < result → slice_index_or at.new k 0 ≡ ((slice_index_or breaks.now k no_break).at + from) % 2 ^ 64 % 2 ^ 32 }
+    ensures at { (k : ℕ) → k < result → slice_index_or at.new k 0
+        ≡ ((slice_index_or breaks.now k no_break).at + from) % 2 ^ 64 % 2 ^ 32 }
     ensures kind { (k : ℕ) → k < result → slice_index_or kind.new k 0 ≡ (slice_index_or breaks.now k no_break).kind }
     ensures rule { (k : ℕ) → k < result → slice_index_or rule.new k 0 ≡ (slice_index_or breaks.now k no_break).rule }
     ensures at_after { (k : ℕ) → result ≤ k → slice_index_or at.new k 0 ≡ slice_index_or at.old k 0 }

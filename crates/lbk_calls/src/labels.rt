@@ -6,8 +6,8 @@ ghost use Rattle.lbk_calls.specs.Labels.{filled, label_numbered};
 use crate::interface::RuleLabel;
 use lbk_rules::Rule;
 
-/// The name of the rule that has a number, without `LB`, as `8a` for 65: ASCII, filled up by zeros. For a number that no rule
-/// has it is zeros.
+/// The name of the rule that has a number, without `LB`, as `8a` for 65: ASCII, filled up by zeros. For a number that
+/// no rule has it is zeros.
 #[unsafe(no_mangle)]
 pub extern "C" fn lbk_label(rule: u8) -> RuleLabel
     ensures { result.text ≡ label_numbered rule }

@@ -1,9 +1,9 @@
-//! The calls that take no memory, for a caller in another language: the breaks and the positions of a text, a block at a time,
-//! the names of rules and classes, whether a table is whole, and breaks as columns.
+//! The calls that take no memory, for a caller in another language: the breaks and the positions of a text, a block
+//! at a time, the names of rules and classes, whether a table is whole, and breaks as columns.
 //!
-//! The functions under `no_mangle` are the exports of the module for JavaScript, which `scripts/module` builds: this very crate
-//! for WebAssembly. Their loops go without masks, since that target has no vectors. The library for C (`lbk_c`) calls the same
-//! functions, and breaks come by masks there.
+//! The functions under `no_mangle` are the exports of the module for JavaScript, which `scripts/module` builds: this
+//! very crate for WebAssembly. Their loops go without masks, since that target has no vectors. The library for C
+//! (`lbk_c`) calls the same functions, and breaks come by masks there.
 #![tactic(auto)]
 
 mod breaking;

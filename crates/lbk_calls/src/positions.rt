@@ -29,14 +29,14 @@ use lbk_units::{Unit, fill_positions, put_position};
 /// The number of the verdict at the start of a text, by rule 2.
 const START: u16 = 0;
 
-/// Puts the next positions of a text into the front of the block, from the state on, and returns how many: as many as the block
-/// holds, or all that are left. A text of n scalars has n + 1 positions (UAX #14, section 6): one before each scalar, and
-/// one at the end. Each comes once, with the verdict of the first rule that matches there, No among them. The text
-/// may be any bytes, read as `lbk_breaks` reads them.
+/// Puts the next positions of a text into the front of the block, from the state on, and returns how many: as many as
+/// the block holds, or all that are left. A text of n scalars has n + 1 positions (UAX #14, section 6): one before
+/// each scalar, and one at the end. Each comes once, with the verdict of the first rule that matches there, No among
+/// them. The text may be any bytes, read as `lbk_breaks` reads them.
 ///
-/// Where the block has no room, or the state is past the text or at its end, or names no profile, the state stays and no position
-/// comes. Whatever the table and the state hold, the positions are of rules and in order, from the state's place on, and the
-/// state goes forward with them.
+/// Where the block has no room, or the state is past the text or at its end, or names no profile, the state stays and
+/// no position comes. With any table and state, the positions are of rules and in order, from the state's place on,
+/// and the state goes forward with them.
 #[unsafe(no_mangle)]
 pub extern "C" fn lbk_positions(
     table: &FlatTable,
@@ -52,25 +52,32 @@ pub extern "C" fn lbk_positions(
     ensures onward { state.old.at ≤ state.new.at }
     ensures inside { state.old.at ≤ length text.now → state.new.at ≤ length text.now }
     ensures at_end { state.old.ended ≡ 0 → 0 < state.new.ended → state.new.at ≡ length text.now }
-    ensures all { state.old.profile ≤ 1 → state.old.at ≤ length text.now → result < length out.old → 0 < state.new.ended }
+    ensures all { state.old.profile ≤ 1 → state.old.at ≤ length text.now → result < length out.old
+        → 0 < state.new.ended }
     ensures start { (cell : ℕ → Cell) (profile : Profile) → IsFlatOf table.now cell → state.old ≡ start_in profile
         → PositionsCome pieces cell table.now text.now state.old (positions_of_bytes profile cell text.now) }
     // Of a part of the text that begins at any of its bytes.
     ensures part { (cell : ℕ → Cell) (profile : Profile) (at : ℕ) → IsFlatOf table.now cell → at ≤ length text.now
         → state.old ≡ part_start false profile at
-        → PositionsCome pieces cell table.now text.now state.old (map (moved at) (positions_of_bytes profile cell (drop at text.now))) }
-    ensures count { (cell : ℕ → Cell) (to_come : List Break) → PositionsCome pieces cell table.now text.now state.old to_come
+        → PositionsCome pieces cell table.now text.now state.old
+        (map (moved at) (positions_of_bytes profile cell (drop at text.now))) }
+    ensures count { (cell : ℕ → Cell) (to_come : List Break)
+        → PositionsCome pieces cell table.now text.now state.old to_come
         → result ≡ min (length out.old) (length to_come) }
-    ensures front { (cell : ℕ → Cell) (to_come : List Break) → PositionsCome pieces cell table.now text.now state.old to_come
+    ensures front { (cell : ℕ → Cell) (to_come : List Break)
+        → PositionsCome pieces cell table.now text.now state.old to_come
         → given_in out.new result ≡ take result to_come }
-    ensures rest { (cell : ℕ → Cell) (to_come : List Break) → PositionsCome pieces cell table.now text.now state.old to_come
+    ensures rest { (cell : ℕ → Cell) (to_come : List Break)
+        → PositionsCome pieces cell table.now text.now state.old to_come
         → PositionsCome pieces cell table.now text.now state.new (drop result to_come) }
     // The breaks of a text are those of its positions where a line may or must end.
     ensures breaks { (cell : ℕ → Cell) (profile : Profile)
         → breaks_among (positions_of_bytes profile cell text.now) ≡ breaks_of_bytes profile cell text.now }
     // Of well-formed text the positions are those of its scalars.
-    ensures well_formed { (cell : ℕ → Cell) (profile : Profile) (scalars : List ℕ) → all_scalars scalars ≡ true → text.now ≡ encode_utf8_all scalars
-        → positions_of_bytes profile cell text.now ≡ map (placed_in encode_utf8_all scalars) (positions_of_utf32 profile cell scalars) }
+    ensures well_formed { (cell : ℕ → Cell) (profile : Profile) (scalars : List ℕ) → all_scalars scalars ≡ true
+        → text.now ≡ encode_utf8_all scalars
+        → positions_of_bytes profile cell text.now
+        ≡ map (placed_in encode_utf8_all scalars) (positions_of_utf32 profile cell scalars) }
     ensures ended { 0 < state.old.ended → (result ≡ 0) × (state.new ≡ state.old) }
     ensures past { length text.now < state.old.at → (result ≡ 0) × (state.new ≡ state.old) }
     ensures unknown { 1 < state.old.profile → (result ≡ 0) × (state.new ≡ state.old) }
@@ -94,17 +101,23 @@ pub fn next_positions<U: Unit>(
     ensures onward { state.old.at ≤ state.new.at }
     ensures inside { state.old.at ≤ length text.now → state.new.at ≤ length text.now }
     ensures at_end { state.old.ended ≡ 0 → 0 < state.new.ended → state.new.at ≡ length text.now }
-    ensures all { state.old.profile ≤ 1 → state.old.at ≤ length text.now → result < length out.old → 0 < state.new.ended }
+    ensures all { state.old.profile ≤ 1 → state.old.at ≤ length text.now → result < length out.old
+        → 0 < state.new.ended }
     ensures start { (cell : ℕ → Cell) (profile : Profile) → IsFlatOf table.now cell → state.old ≡ start_in profile
-        → PositionsCome U.pieces_of cell table.now text.now state.old (positions_of_pieces profile cell (U.pieces_of text.now)) }
+        → PositionsCome U.pieces_of cell table.now text.now state.old
+        (positions_of_pieces profile cell (U.pieces_of text.now)) }
     ensures part { (cell : ℕ → Cell) (profile : Profile) (at : ℕ) → IsFlatOf table.now cell → at ≤ length text.now
         → state.old ≡ part_start false profile at
-        → PositionsCome U.pieces_of cell table.now text.now state.old (map (moved at) (positions_of_pieces profile cell (U.pieces_of (drop at text.now)))) }
-    ensures count { (cell : ℕ → Cell) (to_come : List Break) → PositionsCome U.pieces_of cell table.now text.now state.old to_come
+        → PositionsCome U.pieces_of cell table.now text.now state.old
+        (map (moved at) (positions_of_pieces profile cell (U.pieces_of (drop at text.now)))) }
+    ensures count { (cell : ℕ → Cell) (to_come : List Break)
+        → PositionsCome U.pieces_of cell table.now text.now state.old to_come
         → result ≡ min (length out.old) (length to_come) }
-    ensures front { (cell : ℕ → Cell) (to_come : List Break) → PositionsCome U.pieces_of cell table.now text.now state.old to_come
+    ensures front { (cell : ℕ → Cell) (to_come : List Break)
+        → PositionsCome U.pieces_of cell table.now text.now state.old to_come
         → given_in out.new result ≡ take result to_come }
-    ensures rest { (cell : ℕ → Cell) (to_come : List Break) → PositionsCome U.pieces_of cell table.now text.now state.old to_come
+    ensures rest { (cell : ℕ → Cell) (to_come : List Break)
+        → PositionsCome U.pieces_of cell table.now text.now state.old to_come
         → PositionsCome U.pieces_of cell table.now text.now state.new (drop result to_come) }
     ensures ended { 0 < state.old.ended → (result ≡ 0) × (state.new ≡ state.old) }
     ensures past { length text.now < state.old.at → (result ≡ 0) × (state.new ≡ state.old) }
@@ -136,7 +149,8 @@ fn go_on<U: Unit>(
     ensures all { result < length out.old → 0 < state.new.ended }
     ensures goes { (cell : ℕ → Cell) (lefts : List Left) (to_come : List Break) → IsFlatBy lefts table.now cell
         → UnitsReachedBy onward_all profile cell lefts (on_from U.pieces_of text.now) to_come (from_state state.old) []
-        → UnitsGo onward_all U.pieces_of profile cell lefts text.now to_come state.new (given_in out.new result) result (length out.old) }
+        → UnitsGo onward_all U.pieces_of profile cell lefts text.now to_come state.new (given_in out.new result)
+        result (length out.old) }
     ensures no_room { length out.old ≡ 0 → (result ≡ 0) × (state.new ≡ state.old) }
 {
     let start = FillState {

@@ -25,13 +25,13 @@ use lbk_bytes::{FillState, RawBreak, put_end};
 use lbk_rules::{FlatTable, Profile};
 use lbk_units::{Unit, fill_units};
 
-/// Puts the next breaks of a text in UTF-16 into the front of the block, as `lbk_breaks` does of one in UTF-8, and returns how
-/// many. Places are in units of 16 bits. The text may be any units: a surrogate without its other half is read as U+FFFD at its
-/// place (Unicode Standard, section 3.9, D91).
+/// Puts the next breaks of a text in UTF-16 into the front of the block, as `lbk_breaks` does of one in UTF-8, and
+/// returns how many. Places are in units of 16 bits. The text may be any units: a surrogate without its other half is
+/// read as U+FFFD at its place (Unicode Standard, section 3.9, D91).
 ///
-/// Where the block has no room, or the state is past the text or at its end, or names no profile, the state stays and no break
-/// comes. Whatever the table and the state hold, the breaks are breaks of rules, in order, from the state's place on, and the
-/// state goes forward with them.
+/// Where the block has no room, or the state is past the text or at its end, or names no profile, the state stays and
+/// no break comes. With any table and state, the breaks are breaks of rules, in order, from the state's place on, and
+/// the state goes forward with them.
 #[unsafe(no_mangle)]
 pub extern "C" fn lbk_breaks_utf16(
     table: &FlatTable,
@@ -47,22 +47,29 @@ pub extern "C" fn lbk_breaks_utf16(
     ensures onward { state.old.at ≤ state.new.at }
     ensures inside { state.old.at ≤ length text.now → state.new.at ≤ length text.now }
     ensures at_end { state.old.ended ≡ 0 → 0 < state.new.ended → state.new.at ≡ length text.now }
-    ensures all { state.old.profile ≤ 1 → state.old.at ≤ length text.now → result < length out.old → 0 < state.new.ended }
+    ensures all { state.old.profile ≤ 1 → state.old.at ≤ length text.now → result < length out.old
+        → 0 < state.new.ended }
     ensures start { (cell : ℕ → Cell) (profile : Profile) → IsFlatOf table.now cell → state.old ≡ start_in profile
         → UnitsCome pieces_of_utf16 cell table.now text.now state.old (breaks_of_utf16 profile cell text.now) }
     // Of a part of the text that begins at any of its units.
     ensures part { (cell : ℕ → Cell) (profile : Profile) (at : ℕ) → IsFlatOf table.now cell → at ≤ length text.now
         → state.old ≡ part_start false profile at
-        → UnitsCome pieces_of_utf16 cell table.now text.now state.old (map (moved at) (breaks_of_utf16 profile cell (drop at text.now))) }
-    ensures count { (cell : ℕ → Cell) (to_come : List Break) → UnitsCome pieces_of_utf16 cell table.now text.now state.old to_come
+        → UnitsCome pieces_of_utf16 cell table.now text.now state.old
+        (map (moved at) (breaks_of_utf16 profile cell (drop at text.now))) }
+    ensures count { (cell : ℕ → Cell) (to_come : List Break)
+        → UnitsCome pieces_of_utf16 cell table.now text.now state.old to_come
         → result ≡ min (length out.old) (length to_come) }
-    ensures front { (cell : ℕ → Cell) (to_come : List Break) → UnitsCome pieces_of_utf16 cell table.now text.now state.old to_come
+    ensures front { (cell : ℕ → Cell) (to_come : List Break)
+        → UnitsCome pieces_of_utf16 cell table.now text.now state.old to_come
         → given_in out.new result ≡ take result to_come }
-    ensures rest { (cell : ℕ → Cell) (to_come : List Break) → UnitsCome pieces_of_utf16 cell table.now text.now state.old to_come
+    ensures rest { (cell : ℕ → Cell) (to_come : List Break)
+        → UnitsCome pieces_of_utf16 cell table.now text.now state.old to_come
         → UnitsCome pieces_of_utf16 cell table.now text.now state.new (drop result to_come) }
     // Of well-formed text the breaks are those of its scalars.
-    ensures well_formed { (cell : ℕ → Cell) (profile : Profile) (scalars : List ℕ) → all_scalars scalars ≡ true → text.now ≡ encode_utf16_all scalars
-        → breaks_of_utf16 profile cell text.now ≡ map (placed_in encode_utf16_all scalars) (breaks_of_utf32 profile cell scalars) }
+    ensures well_formed { (cell : ℕ → Cell) (profile : Profile) (scalars : List ℕ) → all_scalars scalars ≡ true
+        → text.now ≡ encode_utf16_all scalars
+        → breaks_of_utf16 profile cell text.now
+        ≡ map (placed_in encode_utf16_all scalars) (breaks_of_utf32 profile cell scalars) }
     ensures ended { 0 < state.old.ended → (result ≡ 0) × (state.new ≡ state.old) }
     ensures past { length text.now < state.old.at → (result ≡ 0) × (state.new ≡ state.old) }
     ensures unknown { 1 < state.old.profile → (result ≡ 0) × (state.new ≡ state.old) }
@@ -86,17 +93,23 @@ pub fn next_breaks<U: Unit>(
     ensures onward { state.old.at ≤ state.new.at }
     ensures inside { state.old.at ≤ length text.now → state.new.at ≤ length text.now }
     ensures at_end { state.old.ended ≡ 0 → 0 < state.new.ended → state.new.at ≡ length text.now }
-    ensures all { state.old.profile ≤ 1 → state.old.at ≤ length text.now → result < length out.old → 0 < state.new.ended }
+    ensures all { state.old.profile ≤ 1 → state.old.at ≤ length text.now → result < length out.old
+        → 0 < state.new.ended }
     ensures start { (cell : ℕ → Cell) (profile : Profile) → IsFlatOf table.now cell → state.old ≡ start_in profile
-        → UnitsCome U.pieces_of cell table.now text.now state.old (breaks_of_pieces profile cell (U.pieces_of text.now)) }
+        → UnitsCome U.pieces_of cell table.now text.now state.old
+        (breaks_of_pieces profile cell (U.pieces_of text.now)) }
     ensures part { (cell : ℕ → Cell) (profile : Profile) (at : ℕ) → IsFlatOf table.now cell → at ≤ length text.now
         → state.old ≡ part_start false profile at
-        → UnitsCome U.pieces_of cell table.now text.now state.old (map (moved at) (breaks_of_pieces profile cell (U.pieces_of (drop at text.now)))) }
-    ensures count { (cell : ℕ → Cell) (to_come : List Break) → UnitsCome U.pieces_of cell table.now text.now state.old to_come
+        → UnitsCome U.pieces_of cell table.now text.now state.old
+        (map (moved at) (breaks_of_pieces profile cell (U.pieces_of (drop at text.now)))) }
+    ensures count { (cell : ℕ → Cell) (to_come : List Break)
+        → UnitsCome U.pieces_of cell table.now text.now state.old to_come
         → result ≡ min (length out.old) (length to_come) }
-    ensures front { (cell : ℕ → Cell) (to_come : List Break) → UnitsCome U.pieces_of cell table.now text.now state.old to_come
+    ensures front { (cell : ℕ → Cell) (to_come : List Break)
+        → UnitsCome U.pieces_of cell table.now text.now state.old to_come
         → given_in out.new result ≡ take result to_come }
-    ensures rest { (cell : ℕ → Cell) (to_come : List Break) → UnitsCome U.pieces_of cell table.now text.now state.old to_come
+    ensures rest { (cell : ℕ → Cell) (to_come : List Break)
+        → UnitsCome U.pieces_of cell table.now text.now state.old to_come
         → UnitsCome U.pieces_of cell table.now text.now state.new (drop result to_come) }
     ensures ended { 0 < state.old.ended → (result ≡ 0) × (state.new ≡ state.old) }
     ensures past { length text.now < state.old.at → (result ≡ 0) × (state.new ≡ state.old) }
@@ -128,7 +141,8 @@ fn go_on<U: Unit>(
     ensures all { result < length out.old → 0 < state.new.ended }
     ensures goes { (cell : ℕ → Cell) (lefts : List Left) (to_come : List Break) → IsFlatBy lefts table.now cell
         → UnitsReached profile cell lefts (on_from U.pieces_of text.now) to_come (from_state state.old) []
-        → UnitsGo onward U.pieces_of profile cell lefts text.now to_come state.new (given_in out.new result) result (length out.old) }
+        → UnitsGo onward U.pieces_of profile cell lefts text.now to_come state.new (given_in out.new result) result
+        (length out.old) }
     ensures no_room { length out.old ≡ 0 → (result ≡ 0) × (state.new ≡ state.old) }
 {
     let start = FillState {

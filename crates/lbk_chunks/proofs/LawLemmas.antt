@@ -22,7 +22,7 @@ told-by : (l : Limits) (cuts : List Cut) (h : Here) (end : Cut) (behind : List C
 told-by l cuts h end [] = refl
 told-by l cuts h end (next ∷ more) = told-among end (find (may_start l h end next) (cuts_past h.start cuts))
 
-after-told : (l : Limits) (cuts : List Cut) (h : Here) (end : Cut) → (after l cuts h end).told ≡ end.at
+pub after-told : (l : Limits) (cuts : List Cut) (h : Here) (end : Cut) → (after l cuts h end).told ≡ end.at
 after-told l cuts h end = told-by l cuts h end (cuts_past end.at cuts)
 
 -- a chunk does not end before the first cut ahead
@@ -59,7 +59,7 @@ cond-from : (b : Bool) (from : ℕ) (x y : Cut) → from ≤ x.at → from ≤ y
 cond-from true from x y first second = first
 cond-from false from x y first second = second
 
-end-from : (l : Limits) (h : Here) (first : Cut) (more : List Cut) → AreCutsPast first.at more → first.at ≤ (end_of l h first more).at
+pub end-from : (l : Limits) (h : Here) (first : Cut) (more : List Cut) → AreCutsPast first.at more → first.at ≤ (end_of l h first more).at
 end-from l h first more past =
     let good = fitting-rising l h first.at more past in
     let full = last-from first.at first (fitting l h more) (omega arith) good in
@@ -148,7 +148,7 @@ start-among : (at : ℕ) (end : Cut) (found : Option Cut) → at < end.at → Pl
 start-among at end None below placed = below
 start-among at end (Some c) below placed = omega (arith, placed)
 
-start-by : (l : Limits) (cuts : List Cut) (h : Here) (end : Cut) (behind : List Cut) → AreCutsPast 0 cuts → h.start < end.at → h.start < (start_before l cuts h end behind).start
+pub start-by : (l : Limits) (cuts : List Cut) (h : Here) (end : Cut) (behind : List Cut) → AreCutsPast 0 cuts → h.start < end.at → h.start < (start_before l cuts h end behind).start
 start-by l cuts h end [] rising below = below
 start-by l cuts h end (next ∷ more) rising below =
     start-among h.start end (find (may_start l h end next) (cuts_past h.start cuts)) below
@@ -162,7 +162,7 @@ start-told-among end p (c ∷ cs) each = by-test (p c) refl (start-told-among en
     by-test true is more = each c is
     by-test false is more = more
 
-start-told : (l : Limits) (cuts : List Cut) (h : Here) (end : Cut) (behind : List Cut) → (start_before l cuts h end behind).start ≤ end.at
+pub start-told : (l : Limits) (cuts : List Cut) (h : Here) (end : Cut) (behind : List Cut) → (start_before l cuts h end behind).start ≤ end.at
 start-told l cuts h end [] = omega arith
 start-told l cuts h end (next ∷ more) = start-told-among end (may_start l h end next) (cuts_past h.start cuts) (λ c may. below c (nat_lt c.at end.at) refl may)
   where

@@ -49,7 +49,7 @@ cuts-passed count at w ws (b ∷ bs) ends past =
     ap₂ (λ (within : Bool) (n : ℕ). cond within (cuts_among (count + 1) ws bs) (cut_by b n ∷ cuts_among (count + 1) ws bs)) (sym one.0) (omega arith)
     ∙ ap (λ l. cond (is_within (w ∷ ws) b.at) l (cut_by b (count + words_before (w ∷ ws) b.at) ∷ l)) others
 
-cuts-passed-first : (count : ℕ) (w : Word) (ws : List Word) (b : Break) (bs : List Break) → w.end ≤ b.at → AreBreaksPast b.at bs
+pub cuts-passed-first : (count : ℕ) (w : Word) (ws : List Word) (b : Break) (bs : List Break) → w.end ≤ b.at → AreBreaksPast b.at bs
     → cuts_among (count + 1) ws (b ∷ bs) ≡ cuts_among count (w ∷ ws) (b ∷ bs)
 cuts-passed-first count w ws b bs ends past =
     let others = cuts-passed count b.at w ws bs ends past in

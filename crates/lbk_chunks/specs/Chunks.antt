@@ -1,5 +1,6 @@
 -- Chunks: the cuts of a text at which documents are cut for search and retrieval.
-use Rattle.std.specs.Prelude.{◌≡◌, ℕ, ◌-◌, ◌*◌, ◌/◌, ◌<◌, ◌≤◌, ◌&&◌, ◌||◌, ◌==◌, Bool, not, nat_le, nat_lt, List, [], ◌∷◌, Option, Some, None, find, if◌then◌else◌}
+use Rattle.std.specs.Prelude.{◌≡◌, ℕ, ◌-◌, ◌*◌, ◌/◌, ◌<◌, ◌≤◌, ◌&&◌, ◌||◌, ◌==◌, Bool, not, nat_le, nat_lt, List, []}
+use Rattle.std.specs.Prelude.{◌∷◌, Option, Some, None, find, if◌then◌else◌}
 use Rattle.std.specs.List.{list_all}
 use Rattle.std.specs.Option.{unwrap_or}
 use Rattle.lbk_chunks.specs.declared.chunk.Chunk.{Chunk}
@@ -43,16 +44,16 @@ abbrev pub last_early : Limits → Here → Option Cut → List Cut → Option C
 last_early l here found [] = found
 last_early l here found (c ∷ cs) = last_early l here (if is_early l here c then Some c else found) cs
 
--- where a chunk ends, if these cuts are ahead: what has no cut within the limits stands alone; what is left is told whole if it
--- fits; else it is as long as fits, or up to the last early end
+-- where a chunk ends, if these cuts are ahead: what has no cut within the limits stands alone; what is left is told
+-- whole if it fits; else it is as long as fits, or up to the last early end
 abbrev pub end_of : Limits → Here → Cut → List Cut → Cut
 end_of l here first more =
     if not (fits l here first) then first
     else (if list_all (fits l here) more then last_of first more
     else unwrap_or (last_early l here None (first ∷ fitting l here more)) (last_of first (fitting l here more)))
 
--- the next chunk may start at this cut, before the end of this one: little enough is said twice, at most half of this chunk, and
--- the cut behind its end still fits
+-- the next chunk may start at this cut, before the end of this one: little enough is said twice, at most half of this
+-- chunk, and the cut behind its end still fits
 abbrev pub may_start : Limits → Here → Cut → Cut → Cut → Bool
 may_start l here end next c =
     nat_lt c.at end.at && (nat_le (end.at - c.at) l.overlap && (nat_le (2 * (end.at - c.at)) (end.at - here.start)
@@ -92,7 +93,8 @@ AreChunks l cuts here (chunk ∷ chunks) =
     × (chunk ≡ chunk_to l here (end_of l here first more))
     × AreChunks l cuts (after l cuts here (end_of l here first more)) chunks
 
--- chunks of which each starts at the end of the one before or earlier, and ends past it and within the text; these end at two places
+-- chunks of which each starts at the end of the one before or earlier, and ends past it and within the text; these
+-- end at two places
 abbrev pub AreTold : ℕ → ℕ → ℕ → List Chunk → Type 0
 AreTold from to size [] = from ≡ to
 AreTold from to size (c ∷ cs) = (c.start ≤ from) × (from < c.end) × (c.end ≤ size) × AreTold c.end to size cs

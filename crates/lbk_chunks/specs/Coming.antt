@@ -1,5 +1,6 @@
 -- What is to come of a text from a place on.
-use Rattle.std.specs.Prelude.{◌≡◌, ℕ, true, ◌+◌, ◌-◌, ◌<◌, ◌≤◌, ◌==◌, List, [], ◌∷◌, ◌++◌, drop, length, map, min, take, slice_index_or, Option, Some, None, if◌then◌else◌}
+use Rattle.std.specs.Prelude.{◌≡◌, ℕ, true, ◌+◌, ◌-◌, ◌<◌, ◌≤◌, ◌==◌, List, [], ◌∷◌, ◌++◌, drop, length, map, min}
+use Rattle.std.specs.Prelude.{take, slice_index_or, Option, Some, None, if◌then◌else◌}
 use Rattle.std.specs.List.{list_all}
 use Rattle.lbk_rules.specs.declared.Break.{Break}
 use Rattle.lbk_rules.specs.declared.Cell.{Cell}
@@ -24,7 +25,8 @@ use Rattle.lbk_chunks.specs.declared.cut_block.Mark.{Mark}
 use Rattle.lbk_chunks.specs.declared.word_block.WordBlock.{WordBlock}
 use Rattle.lbk_chunks.specs.declared.window.Window.{Window}
 use Rattle.lbk_chunks.specs.declared.chunking.Given.{Given}
-use Rattle.lbk_chunks.specs.Chunks.{AreChunks, Here, after, are_limits, chunk_to, cuts_past, end_of, fits, fitting, last_early, last_of}
+use Rattle.lbk_chunks.specs.Chunks.{AreChunks, Here, after, are_limits, chunk_to, cuts_past, end_of, fits, fitting}
+use Rattle.lbk_chunks.specs.Chunks.{last_early, last_of}
 use Rattle.lbk_chunks.specs.Cuts.{cuts_among}
 pub use Rattle.lbk_chunks.specs.Cuts.{AreCutsPast}
 

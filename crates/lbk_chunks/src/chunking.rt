@@ -1,13 +1,16 @@
 //! Chunks, a block at a time.
 
-ghost use Rattle.std.specs.Prelude.{◌≡◌, ℕ, ◌<◌, ◌≤◌, [], false, true, List, IfSome, MatchOption, drop, length, min, take, if◌then◌else◌};
+ghost use Rattle.std.specs.Prelude.{◌≡◌, ℕ, ◌<◌, ◌≤◌, [], false, true, List, IfSome, MatchOption, drop, length, min};
+ghost use Rattle.std.specs.Prelude.{take, if◌then◌else◌};
 ghost use Rattle.lbk_rules.specs.declared.Cell.{Cell};
 ghost use Rattle.lbk_values.specs.declared.profile.Profile.{Profile};
 ghost use Rattle.lbk_rules.specs.FlatTable.{IsFlatOf};
 ghost use Rattle.lbk_chunks.specs.declared.chunk.Chunk.{Chunk};
 ghost use Rattle.lbk_chunks.specs.declared.cut.Cut.{Cut};
-ghost use Rattle.lbk_chunks.specs.Chunks.{AreChunks, AreTold, after, are_limits, cuts_past, fits, is_early, may_start, text_start};
-ghost use Rattle.lbk_chunks.specs.Coming.{AreGiven, AreKept, ChunksCome, IsCutOf, IsEnd, IsGiven, IsKept, IsStanding, Knows, here_of, state_start};
+ghost use Rattle.lbk_chunks.specs.Chunks.{AreChunks, AreTold, after, are_limits, cuts_past, fits, is_early};
+ghost use Rattle.lbk_chunks.specs.Chunks.{may_start, text_start};
+ghost use Rattle.lbk_chunks.specs.Coming.{AreGiven, AreKept, ChunksCome, IsCutOf, IsEnd, IsGiven, IsKept, IsStanding};
+ghost use Rattle.lbk_chunks.specs.Coming.{Knows, here_of, state_start};
 ghost use Rattle.lbk_chunks.specs.Cuts.{AreCutsPast, cuts_of};
 
 use crate::chunk::{Chunk, ChunkState, Limits};
@@ -16,11 +19,11 @@ use crate::cut_block::Mark;
 use crate::window::Window;
 use lbk_rules::FlatTable;
 
-/// Puts the next chunks of a text into the front of the block, from the state on, and returns how many: as many as the block
-/// holds, or all that are left. The text may be any bytes.
+/// Puts the next chunks of a text into the front of the block, from the state on, and returns how many: as many as
+/// the block holds, or all that are left. The text may be any bytes.
 ///
-/// Where the block has no room, no chunk is left, or the limits are out of range, the state stays and no chunk comes. What
-/// stands in the block after the chunks is unspecified.
+/// Where the block has no room, no chunk is left, or the limits are out of range, the state stays and no chunk comes.
+/// What stands in the block after the chunks is unspecified.
 pub fn chunks(
     table: &FlatTable,
     limits: &Limits,
@@ -29,14 +32,18 @@ pub fn chunks(
     out: &mut [Chunk],
 ) -> usize
     ensures within { result ≤ length out.old }
-    ensures start { (cell : ℕ → Cell) (profile : Profile) (to_come : List Chunk) → IsFlatOf table.now cell → are_limits limits.now ≡ true
+    ensures start { (cell : ℕ → Cell) (profile : Profile) (to_come : List Chunk) → IsFlatOf table.now cell
+        → are_limits limits.now ≡ true
         → state.old ≡ state_start profile → AreChunks limits.now (cuts_of profile cell text.now) text_start to_come
         → ChunksCome cell table.now text.now limits.now state.old to_come }
-    ensures count { (cell : ℕ → Cell) (to_come : List Chunk) → ChunksCome cell table.now text.now limits.now state.old to_come
+    ensures count { (cell : ℕ → Cell) (to_come : List Chunk)
+        → ChunksCome cell table.now text.now limits.now state.old to_come
         → result ≡ min (length out.old) (length to_come) }
-    ensures front { (cell : ℕ → Cell) (to_come : List Chunk) → ChunksCome cell table.now text.now limits.now state.old to_come
+    ensures front { (cell : ℕ → Cell) (to_come : List Chunk)
+        → ChunksCome cell table.now text.now limits.now state.old to_come
         → take result out.new ≡ take result to_come }
-    ensures rest { (cell : ℕ → Cell) (to_come : List Chunk) → ChunksCome cell table.now text.now limits.now state.old to_come
+    ensures rest { (cell : ℕ → Cell) (to_come : List Chunk)
+        → ChunksCome cell table.now text.now limits.now state.old to_come
         → ChunksCome cell table.now text.now limits.now state.new (drop result to_come) }
     ensures told { AreTold state.old.told state.new.told (length text.now) (take result out.new) }
     ensures none { result ≡ 0 → state.new ≡ state.old }
@@ -79,9 +86,11 @@ fn give_chunks(
     ensures told { AreTold state.old.told state.new.told (length text.now) (take result out.new) }
     ensures none { result ≡ 0 → state.new ≡ state.old }
     ensures order { state.new.start ≤ state.new.told }
-    ensures given { (cell : ℕ → Cell) (cuts : List Cut) (to_come : List Chunk) → Knows cell table.now text.now cuts window.old state.old
+    ensures given { (cell : ℕ → Cell) (cuts : List Cut) (to_come : List Chunk)
+        → Knows cell table.now text.now cuts window.old state.old
         → AreChunks limits.now cuts (here_of state.old) to_come
-        → AreGiven cell table.now text.now limits.now cuts to_come result out.new window.new state.new × (result ≡ min (length out.old) (length to_come)) }
+        → AreGiven cell table.now text.now limits.now cuts to_come result out.new window.new state.new
+        × (result ≡ min (length out.old) (length to_come)) }
 {
     let mut count = 0;
     while count < out.len() {
@@ -114,7 +123,8 @@ fn next_chunk(
     requires { IsKept text.now window.old }
     ensures kept { IsKept text.now window.new }
     ensures home { window.new.home ≡ window.old.home }
-    ensures are { (cell : ℕ → Cell) (cuts : List Cut) → AreCutsPast 0 cuts → AreKept cell table.now text.now cuts window.old → AreKept cell table.now text.now cuts window.new }
+    ensures are { (cell : ℕ → Cell) (cuts : List Cut) → AreCutsPast 0 cuts
+        → AreKept cell table.now text.now cuts window.old → AreKept cell table.now text.now cuts window.new }
     ensures given { (cell : ℕ → Cell) (cuts : List Cut) → Knows cell table.now text.now cuts window.old state.now
         → MatchOption result (cuts_past state.now.told cuts ≡ []) (IsGiven limits.now cuts state.now) }
     ensures places { IfSome result (λ given. (given.chunk.start ≡ state.now.start)
@@ -150,9 +160,11 @@ fn chunk_end(
     requires { IsKept text.now window.old }
     ensures kept { IsKept text.now window.new }
     ensures home { window.new.home ≡ window.old.home }
-    ensures are { (cell : ℕ → Cell) (cuts : List Cut) → AreCutsPast 0 cuts → AreKept cell table.now text.now cuts window.old → AreKept cell table.now text.now cuts window.new }
+    ensures are { (cell : ℕ → Cell) (cuts : List Cut) → AreCutsPast 0 cuts
+        → AreKept cell table.now text.now cuts window.old → AreKept cell table.now text.now cuts window.new }
     ensures end { (cell : ℕ → Cell) (cuts : List Cut) → Knows cell table.now text.now cuts window.old state.now
-        → MatchOption result (cuts_past state.now.told cuts ≡ []) (λ end. IsEnd limits.now cuts state.now end × IsCutOf cuts end) }
+        → MatchOption result (cuts_past state.now.told cuts ≡ [])
+        (λ end. IsEnd limits.now cuts state.now end × IsCutOf cuts end) }
     ensures places { IfSome result (λ end. (state.now.told < end.at) × (end.at ≤ length text.now)) }
 {
     let Some(first) = window.first_past(table, text, state.told) else {
@@ -196,9 +208,12 @@ fn next_start(
     requires { IsKept text.now window.old }
     ensures kept { IsKept text.now window.new }
     ensures home { window.new.home ≡ window.old.home }
-    ensures are { (cell : ℕ → Cell) (cuts : List Cut) → AreCutsPast 0 cuts → AreKept cell table.now text.now cuts window.old → AreKept cell table.now text.now cuts window.new }
-    ensures next { (cell : ℕ → Cell) (cuts : List Cut) → Knows cell table.now text.now cuts window.old state.now → state.now.told < end.now.at → IsCutOf cuts end.now
-        → (here_of result ≡ after limits.now cuts (here_of state.now) end.now) × IsStanding cuts result.start result.place.words }
+    ensures are { (cell : ℕ → Cell) (cuts : List Cut) → AreCutsPast 0 cuts
+        → AreKept cell table.now text.now cuts window.old → AreKept cell table.now text.now cuts window.new }
+    ensures next { (cell : ℕ → Cell) (cuts : List Cut) → Knows cell table.now text.now cuts window.old state.now
+        → state.now.told < end.now.at → IsCutOf cuts end.now
+        → (here_of result ≡ after limits.now cuts (here_of state.now) end.now)
+        × IsStanding cuts result.start result.place.words }
     ensures told { (result.told ≡ end.now.at) × (result.start ≤ result.told) }
     ensures onward { state.now.start ≤ end.now.at → state.now.start ≤ result.start }
 {
@@ -226,7 +241,8 @@ fn next_start(
 /// A byte up to which no cut starts the next chunk, since too much would be said twice.
 fn start_from(limits: &Limits, state: &ChunkState, end: usize) -> usize
     ensures start { state.now.start ≤ result }
-    ensures none { (last next cut : Cut) → last.at ≡ end → state.now.start < end → state.now.start < cut.at → cut.at ≤ result
+    ensures none { (last next cut : Cut) → last.at ≡ end → state.now.start < end → state.now.start < cut.at
+        → cut.at ≤ result
         → may_start limits.now (here_of state.now) last next cut ≡ false }
 {
     let half = end.saturating_sub(state.start) / 2;
@@ -241,7 +257,12 @@ fn start_from(limits: &Limits, state: &ChunkState, end: usize) -> usize
 /// The state at a cut. Of its place only the number of words is right.
 #[inline(always)]
 fn started(state: &ChunkState, cut: &Cut, told: usize) -> ChunkState
-    ensures { result ≡ record { place = record state.now.place { words = cut.now.words }; start = cut.now.at; told = told } }
+    ensures { result ≡ record {
+      place = record state.now.place { words = cut.now.words };
+      start = cut.now.at;
+      told =
+          told;
+    } }
 {
     ChunkState {
         place: Place {

@@ -1,13 +1,15 @@
 //! The cuts of a text, a block at a time.
 
-ghost use Rattle.std.specs.Prelude.{◌≡◌, ◌⊎◌, ℕ, ◌+◌, ◌-◌, ◌<◌, ◌≤◌, List, ◌∷◌, ◌++◌, length, map, slice_index_or, take};
+ghost use Rattle.std.specs.Prelude.{◌≡◌, ◌⊎◌, ℕ, ◌+◌, ◌-◌, ◌<◌, ◌≤◌, List, ◌∷◌, ◌++◌, length, map, slice_index_or};
+ghost use Rattle.std.specs.Prelude.{take};
 ghost use Rattle.lbk_bytes.specs.Order.{no_break};
 ghost use Rattle.lbk_bytes.specs.Shown.{raw_of};
 ghost use Rattle.lbk_rules.specs.declared.Break.{Break};
 ghost use Rattle.lbk_rules.specs.declared.Cell.{Cell};
 ghost use Rattle.lbk_calls.specs.Coming.{Comes};
 ghost use Rattle.lbk_chunks.specs.declared.cut.Cut.{Cut};
-ghost use Rattle.lbk_chunks.specs.Coming.{AreAmong, AreFirst, AreNext, AreRead, StandWithin, IsAhead, breaks_left, no_cut};
+ghost use Rattle.lbk_chunks.specs.Coming.{AreAmong, AreFirst, AreNext, AreRead, StandWithin, IsAhead, breaks_left};
+ghost use Rattle.lbk_chunks.specs.Coming.{no_cut};
 
 use crate::cut::{Cut, Place};
 use crate::word_block::WordBlock;
@@ -37,11 +39,14 @@ pub(crate) fn fill_cuts(
     requires room { room ≤ 64 }
     requires read { AreRead text.now words.old }
     ensures read { AreRead text.now words.new }
-    ensures first { (cell : ℕ → Cell) (cuts : List Cut) → IsAhead cell table.now text.now place cuts → AreFirst cell table.now text.now cuts room out.new result }
+    ensures first { (cell : ℕ → Cell) (cuts : List Cut) → IsAhead cell table.now text.now place cuts
+        → AreFirst cell table.now text.now cuts room out.new result }
     ensures room { result.count ≤ room }
     ensures within { StandWithin (length text.now) result.count out.new }
-    ensures counted { 0 < result.count → result.count ≡ room → result.place.words ≡ (slice_index_or out.new (result.count - 1) no_cut).words }
-    ensures shorter { (result.count ≡ 0) ⊎ (breaks_left text.now result.place.breaks < breaks_left text.now place.breaks) }
+    ensures counted { 0 < result.count → result.count ≡ room → result.place.words
+        ≡ (slice_index_or out.new (result.count - 1) no_cut).words }
+    ensures shorter { (result.count ≡ 0)
+        ⊎ (breaks_left text.now result.place.breaks < breaks_left text.now place.breaks) }
     ensures onward { breaks_left text.now result.place.breaks ≤ breaks_left text.now place.breaks }
 {
     let mut here = Filled { count: 0, place };
@@ -109,13 +114,16 @@ fn add_cuts(
     requires most { room ≤ 64 }
     requires read { AreRead text.now words.old }
     ensures read { AreRead text.now words.new }
-    ensures among { (cuts : List Cut) (found rest : List Break) → map raw_of found ≡ take count breaks.now → AreAmong text.now cuts (found ++ rest) start out.old
+    ensures among { (cuts : List Cut) (found rest : List Break) → map raw_of found ≡ take count breaks.now
+        → AreAmong text.now cuts (found ++ rest) start out.old
         → AreAmong text.now cuts rest result out.new }
     ensures same { result.place.breaks ≡ start.place.breaks }
     ensures few { (start.count ≤ result.count) × (result.count ≤ room) }
-    ensures within { (size : ℕ) → ((k : ℕ) → k < count → (slice_index_or breaks.now k no_break).at ≤ size) → StandWithin size start.count out.old
+    ensures within { (size : ℕ) → ((k : ℕ) → k < count → (slice_index_or breaks.now k no_break).at ≤ size)
+        → StandWithin size start.count out.old
         → StandWithin size result.count out.new }
-    ensures counted { 0 < count → result.count ≡ room → result.place.words ≡ (slice_index_or out.new (result.count - 1) no_cut).words }
+    ensures counted { 0 < count → result.count ≡ room → result.place.words
+        ≡ (slice_index_or out.new (result.count - 1) no_cut).words }
 {
     let mut here = start;
     let mut k = 0;
@@ -138,12 +146,15 @@ fn add_cut(
     requires room { start.count < 64 }
     requires read { AreRead text.now words.old }
     ensures read { AreRead text.now words.new }
-    ensures among { (cuts : List Cut) (first : Break) (rest : List Break) → raw_of first ≡ found → AreAmong text.now cuts (first ∷ rest) start out.old
+    ensures among { (cuts : List Cut) (first : Break) (rest : List Break) → raw_of first ≡ found
+        → AreAmong text.now cuts (first ∷ rest) start out.old
         → AreAmong text.now cuts rest result out.new }
     ensures same { result.place.breaks ≡ start.place.breaks }
     ensures few { (start.count ≤ result.count) × (result.count ≤ start.count + 1) }
-    ensures within { (size : ℕ) → found.at ≤ size → StandWithin size start.count out.old → StandWithin size result.count out.new }
-    ensures counted { result.count ≡ start.count + 1 → result.place.words ≡ (slice_index_or out.new (result.count - 1) no_cut).words }
+    ensures within { (size : ℕ) → found.at ≤ size → StandWithin size start.count out.old
+        → StandWithin size result.count out.new }
+    ensures counted { result.count ≡ start.count + 1 → result.place.words
+        ≡ (slice_index_or out.new (result.count - 1) no_cut).words }
 {
     let at = found.at;
     let place = pass_words(text, at, start.place, words);

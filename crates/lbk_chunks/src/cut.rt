@@ -1,4 +1,4 @@
-//! Cuts of a text, and the places behind them.
+//! Cuts of a text, and the places after them.
 
 use lbk_calls::State;
 use lbk_words::Word;
@@ -20,7 +20,7 @@ pub struct Cut {
 #[repr(C)]
 #[derive(Clone, Copy)]
 pub struct Place {
-    /// The state behind the last break that was read.
+    /// The state after the last break that was read.
     pub breaks: State,
     /// The byte from which the words come that were not read.
     pub from: usize,

@@ -1,6 +1,7 @@
 //! Cuts of a text that follow one another.
 
-ghost use Rattle.std.specs.Prelude.{◌≡◌, ◌⊎◌, ℕ, ◌-◌, ◌<◌, ◌≤◌, ◌&&◌, ◌==◌, nat_le, nat_lt, length, List, slice_index_or, if◌then◌else◌};
+ghost use Rattle.std.specs.Prelude.{◌≡◌, ◌⊎◌, ℕ, ◌-◌, ◌<◌, ◌≤◌, ◌&&◌, ◌==◌, nat_le, nat_lt, length, List};
+ghost use Rattle.std.specs.Prelude.{slice_index_or, if◌then◌else◌};
 ghost use Rattle.lbk_rules.specs.declared.Cell.{Cell};
 ghost use Rattle.lbk_chunks.specs.declared.cut.Cut.{Cut};
 ghost use Rattle.lbk_chunks.specs.Coming.{AreCutsPast, AreRead, IsBlock, IsMark, IsSafe, breaks_left, no_cut};
@@ -49,8 +50,10 @@ impl CutBlock {
         ensures read { AreRead text.now words.new }
         ensures safe { IsSafe text.now result }
         ensures before { (result.before ≡ mark) × (result.room ≡ room) }
-        ensures block { (cell : ℕ → Cell) (cuts : List Cut) → AreCutsPast 0 cuts → IsMark cell table.now text.now cuts mark → IsBlock cell table.now text.now cuts result }
-        ensures shorter { (result.count ≡ 0) ⊎ (breaks_left text.now result.behind.place.breaks < breaks_left text.now mark.place.breaks) }
+        ensures block { (cell : ℕ → Cell) (cuts : List Cut) → AreCutsPast 0 cuts
+            → IsMark cell table.now text.now cuts mark → IsBlock cell table.now text.now cuts result }
+        ensures shorter { (result.count ≡ 0)
+            ⊎ (breaks_left text.now result.behind.place.breaks < breaks_left text.now mark.place.breaks) }
         ensures onward { breaks_left text.now result.behind.place.breaks ≤ breaks_left text.now mark.place.breaks }
     {
         let mut cuts = [Cut {

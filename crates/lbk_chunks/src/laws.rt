@@ -10,19 +10,24 @@ ghost use Rattle.lbk_chunks.specs.Chunks.{AreChunks, Here, cuts_past, end_of, fi
 ghost use Rattle.lbk_chunks.specs.Cuts.{AreCutsPast, cuts_of};
 ghost use Rattle.lbk_chunks.specs.Laws.{AreJoined, AreWithin, IsFull, StartsRise, last_end};
 
-/// There are chunks from each place on, and they come to the last cut, which is the end of a text. Each is within the limits
-/// or stands alone, and no longer one would do. Each starts past the start of the one before it. Without overlap, one after
-/// another, they are the text.
+/// There are chunks from each place on, and they come to the last cut, which is the end of a text. Each is within the
+/// limits or stands alone, and no longer one would do. Each starts past the start of the one before it. Without
+/// overlap, one after another, they are the text.
 pub fn chunks_of_cuts()
     ensures rising { (profile : Profile) (cell : ℕ → Cell) (text : List ℕ) → AreCutsPast 0 (cuts_of profile cell text) }
-    ensures exist { (l : Limits) (cuts : List Cut) (here : Here) → AreCutsPast 0 cuts → (chunks : List Chunk) × AreChunks l cuts here chunks }
+    ensures exist { (l : Limits) (cuts : List Cut) (here : Here) → AreCutsPast 0 cuts → (chunks : List Chunk)
+        × AreChunks l cuts here chunks }
     ensures whole { (l : Limits) (cuts : List Cut) (here : Here) (chunks : List Chunk) → AreChunks l cuts here chunks
         → cuts_past (last_end here.told chunks) cuts ≡ [] }
-    ensures within { (l : Limits) (cuts : List Cut) (here : Here) (chunks : List Chunk) → AreChunks l cuts here chunks → AreWithin l chunks }
-    ensures joined { (l : Limits) (cuts : List Cut) (here : Here) (chunks : List Chunk) → l.overlap ≡ 0 → AreChunks l cuts here chunks
+    ensures within { (l : Limits) (cuts : List Cut) (here : Here) (chunks : List Chunk) → AreChunks l cuts here chunks
+        → AreWithin l chunks }
+    ensures joined { (l : Limits) (cuts : List Cut) (here : Here) (chunks : List Chunk) → l.overlap ≡ 0
+        → AreChunks l cuts here chunks
         → AreJoined here.start chunks }
-    ensures starts { (l : Limits) (cuts : List Cut) (here : Here) (c : Chunk) (cs : List Chunk) → AreCutsPast 0 cuts → here.start ≤ here.told
+    ensures starts { (l : Limits) (cuts : List Cut) (here : Here) (c : Chunk) (cs : List Chunk) → AreCutsPast 0 cuts
+        → here.start ≤ here.told
         → AreChunks l cuts here (c ∷ cs) → StartsRise c.start cs }
-    ensures full { (l : Limits) (cuts : List Cut) (here : Here) (first : Cut) (more : List Cut) → AreCutsPast 0 cuts → cuts_past here.told cuts ≡ first ∷ more
+    ensures full { (l : Limits) (cuts : List Cut) (here : Here) (first : Cut) (more : List Cut) → AreCutsPast 0 cuts
+        → cuts_past here.told cuts ≡ first ∷ more
         → fits l here first ≡ true → IsFull l cuts here (end_of l here first more) }
 {}

@@ -36,7 +36,8 @@ impl Window {
     pub(crate) fn new(table: &FlatTable, text: &[u8], home: Mark) -> Window
         ensures kept { IsKept text.now result }
         ensures home { result.home ≡ home }
-        ensures are { (cell : ℕ → Cell) (cuts : List Cut) → AreCutsPast 0 cuts → IsMark cell table.now text.now cuts home → AreKept cell table.now text.now cuts result }
+        ensures are { (cell : ℕ → Cell) (cuts : List Cut) → AreCutsPast 0 cuts
+            → IsMark cell table.now text.now cuts home → AreKept cell table.now text.now cuts result }
     {
         let mut words = WordBlock::none();
         let newer = CutBlock::read(table, text, home, FIRST, &mut words);
@@ -55,8 +56,10 @@ impl Window {
         requires { IsKept text.now self.old }
         ensures kept { IsKept text.now self.new }
         ensures home { self.new.home ≡ self.old.home }
-        ensures are { (cell : ℕ → Cell) (cuts : List Cut) → AreCutsPast 0 cuts → AreKept cell table.now text.now cuts self.old → AreKept cell table.now text.now cuts self.new }
-        ensures first { (cell : ℕ → Cell) (cuts : List Cut) → AreCutsPast 0 cuts → AreKept cell table.now text.now cuts self.old → self.old.home.at ≤ at
+        ensures are { (cell : ℕ → Cell) (cuts : List Cut) → AreCutsPast 0 cuts
+            → AreKept cell table.now text.now cuts self.old → AreKept cell table.now text.now cuts self.new }
+        ensures first { (cell : ℕ → Cell) (cuts : List Cut) → AreCutsPast 0 cuts
+            → AreKept cell table.now text.now cuts self.old → self.old.home.at ≤ at
             → MatchOption result (cuts_past at cuts ≡ []) (λ cut. cuts_past at cuts ≡ cut ∷ cuts_past cut.at cuts) }
         ensures places { IfSome result (λ cut. (at < cut.at) × (cut.at ≤ length text.now)) }
     {
@@ -77,7 +80,8 @@ impl Window {
         requires { IsKept text.now self.old }
         ensures kept { IsKept text.now self.new }
         ensures home { self.new.home ≡ self.old.home }
-        ensures are { (cell : ℕ → Cell) (cuts : List Cut) → AreCutsPast 0 cuts → AreKept cell table.now text.now cuts self.old → AreKept cell table.now text.now cuts self.new }
+        ensures are { (cell : ℕ → Cell) (cuts : List Cut) → AreCutsPast 0 cuts
+            → AreKept cell table.now text.now cuts self.old → AreKept cell table.now text.now cuts self.new }
         ensures before { self.old.home.at ≤ at → self.new.newer.before.at ≤ at }
     {
         if self.newer.before.at <= at {
@@ -92,10 +96,14 @@ impl Window {
         requires full { self.old.newer.count ≡ self.old.newer.room }
         ensures kept { IsKept text.now self.new }
         ensures home { self.new.home ≡ self.old.home }
-        ensures are { (cell : ℕ → Cell) (cuts : List Cut) → AreCutsPast 0 cuts → AreKept cell table.now text.now cuts self.old → AreKept cell table.now text.now cuts self.new }
+        ensures are { (cell : ℕ → Cell) (cuts : List Cut) → AreCutsPast 0 cuts
+            → AreKept cell table.now text.now cuts self.old → AreKept cell table.now text.now cuts self.new }
         ensures before { self.new.newer.before ≡ self.old.newer.behind }
-        ensures shorter { (self.new.newer.count ≡ 0) ⊎ (breaks_left text.now self.new.newer.behind.place.breaks < breaks_left text.now self.old.newer.behind.place.breaks) }
-        ensures onward { breaks_left text.now self.new.newer.behind.place.breaks ≤ breaks_left text.now self.old.newer.behind.place.breaks }
+        ensures shorter { (self.new.newer.count ≡ 0)
+            ⊎ (breaks_left text.now self.new.newer.behind.place.breaks < breaks_left text.now
+            self.old.newer.behind.place.breaks) }
+        ensures onward { breaks_left text.now self.new.newer.behind.place.breaks ≤ breaks_left text.now
+            self.old.newer.behind.place.breaks }
     {
         let older = self.newer;
         let room = (older.room * 2).min(BLOCK);
@@ -109,8 +117,10 @@ impl Window {
         requires { IsKept text.now self.old }
         ensures kept { IsKept text.now self.new }
         ensures home { self.new.home ≡ self.old.home }
-        ensures are { (cell : ℕ → Cell) (cuts : List Cut) → AreCutsPast 0 cuts → AreKept cell table.now text.now cuts self.old → AreKept cell table.now text.now cuts self.new }
-        ensures first { (cell : ℕ → Cell) (cuts : List Cut) → AreCutsPast 0 cuts → AreKept cell table.now text.now cuts self.old → self.old.home.at ≤ at
+        ensures are { (cell : ℕ → Cell) (cuts : List Cut) → AreCutsPast 0 cuts
+            → AreKept cell table.now text.now cuts self.old → AreKept cell table.now text.now cuts self.new }
+        ensures first { (cell : ℕ → Cell) (cuts : List Cut) → AreCutsPast 0 cuts
+            → AreKept cell table.now text.now cuts self.old → self.old.home.at ≤ at
             → MatchOption result (cuts_past at cuts ≡ []) (λ cut. cuts_past at cuts ≡ cut ∷ cuts_past cut.at cuts) }
         ensures places { IfSome result (λ cut. (at < cut.at) × (cut.at ≤ length text.now)) }
     {
@@ -133,7 +143,8 @@ impl Window {
     pub(crate) fn settle(&mut self, at: usize)
         ensures kept { (text : List ℕ) → IsKept text self.old → IsKept text self.new }
         ensures home { self.old.home.at ≤ at → self.new.home.at ≤ at }
-        ensures are { (cell : ℕ → Cell) (table : FlatTable) (text : List ℕ) (cuts : List Cut) → AreKept cell table text cuts self.old → AreKept cell table text cuts self.new }
+        ensures are { (cell : ℕ → Cell) (table : FlatTable) (text : List ℕ) (cuts : List Cut)
+            → AreKept cell table text cuts self.old → AreKept cell table text cuts self.new }
     {
         if self.newer.before.at <= at {
             self.home = self.newer.before;
@@ -145,8 +156,10 @@ impl Window {
     /// The place of the cut at which a state stands.
     pub(crate) fn place_of(&mut self, table: &FlatTable, text: &[u8], at: usize) -> Place
         requires { IsKept text.now self.old }
-        ensures { (cell : ℕ → Cell) (cuts : List Cut) (words : ℕ) → AreCutsPast 0 cuts → AreKept cell table.now text.now cuts self.old → self.old.home.at ≤ at
-            → IsStanding cuts at words → IsAhead cell table.now text.now result (cuts_past at cuts) × (result.words ≡ words) }
+        ensures { (cell : ℕ → Cell) (cuts : List Cut) (words : ℕ) → AreCutsPast 0 cuts
+            → AreKept cell table.now text.now cuts self.old → self.old.home.at ≤ at
+            → IsStanding cuts at words → IsAhead cell table.now text.now result (cuts_past at cuts)
+            × (result.words ≡ words) }
     {
         let mut here = self.near(table, text, at);
         let mut block = [Cut {
@@ -173,7 +186,8 @@ impl Window {
         requires { IsKept text.now self.old }
         ensures kept { IsKept text.now self.new }
         ensures before { self.old.home.at ≤ at → result.at ≤ at }
-        ensures mark { (cell : ℕ → Cell) (cuts : List Cut) → AreCutsPast 0 cuts → AreKept cell table.now text.now cuts self.old → IsMark cell table.now text.now cuts result }
+        ensures mark { (cell : ℕ → Cell) (cuts : List Cut) → AreCutsPast 0 cuts
+            → AreKept cell table.now text.now cuts self.old → IsMark cell table.now text.now cuts result }
     {
         let many = self.many_up_to(at);
         let mut cuts = [Cut {

@@ -4,7 +4,7 @@ use Rattle.std.specs.Prelude.{◌↔◌}
 use Rattle.lbk_feed.specs.declared.traits.Source.{Ghosts as SourceMembers}
 use Rattle.lbk_args.specs.Task.{Task}
 use Rattle.lbk_files.specs.FileFault.{LoadCounts}
-use Rattle.lbk_cmd.specs.Acts.{Performs, PerformsAlone, RunsOver}
+use Rattle.lbk_cmd.specs.Acts.{Performs, PerformsAlone, RunsTask}
 use Rattle.lbk_cmd.specs.Devices.{Devices}
 use Rattle.lbk_cmd.specs.Operands.{Reads, ReadsAlone, ReadsEach, ReadsNoFile, ReadsText, Standing, standing}
 use Rattle.lbk_cmd.specs.declared.ending.Ending.{Ending}
@@ -21,13 +21,13 @@ each_by One Other by (name ∷ names) before after (devices, ending, one, inr (g
     (devices, ending, by name before.devices devices ending one, inr (goes_on, each_by One Other by names _ after further))
 
 module _ {F : Type 0} (source : SourceMembers F) where
-  no_file : (Runs : Devices → Devices → Ending → Type 0) (name : List ℕ) (before after : Devices) (ending : Ending)
+  no_file : (Runs : List ℕ → Devices → Devices → Ending → Type 0) (name : List ℕ) (before after : Devices) (ending : Ending)
       → ReadsText source (λ _. Some None) Runs name before after ending → ReadsNoFile Runs name before after ending
   no_file Runs name before after ending (inl reader) = inl reader
   no_file Runs name before after ending (inr (other, inl unopened)) = inr (other, unopened)
   no_file Runs name before after ending (inr (other, inr reads)) = absurd reads.whole
 
-  reads_alone : (Runs : Devices → Devices → Ending → Type 0) (names : List (List ℕ)) (before after : Devices) (ending : Ending)
+  reads_alone : (Runs : List ℕ → Devices → Devices → Ending → Type 0) (names : List (List ℕ)) (before after : Devices) (ending : Ending)
       → Reads source (λ _. Some None) Runs names (standing before None Done) (standing after None ending)
       → ReadsAlone Runs names before after ending
   reads_alone Runs [] before after ending reads = reads.0
@@ -40,15 +40,15 @@ module _ {F : Type 0} (source : SourceMembers F) where
       → PerformsAlone file task counts counts' before after ending
   performs_alone file task counts counts' before after ending (inl stops) = inl stops.0
   performs_alone file task counts counts' before after ending (inr (cell, cells, reads)) =
-      inr (cell, cells, reads_alone (RunsOver task.part task.engine task.sign task.profile cell) task.texts before after ending reads)
+      inr (cell, cells, reads_alone (RunsTask task cell) task.texts before after ending reads)
 
   by_reader : (told file : List ℕ → Option (Option (List ℕ))) (task : Task) (counts counts' : LoadCounts) (before after : Standing)
       → task.texts ≡ [] → Performs source file told task counts counts' before after
       → (after.refused ≡ before.refused) × PerformsAlone file task counts counts' before.devices after.devices after.ending
   by_reader told file task counts counts' before after none (inl (stops, same)) = (same, inl stops)
   by_reader told file task counts counts' before after none (inr (cell, cells, reads)) =
-      let whole = subst (λ (names : List (List ℕ)). Reads source told (RunsOver task.part task.engine task.sign task.profile cell) names before after) none reads in
-      let alone = subst (λ (names : List (List ℕ)). ReadsAlone (RunsOver task.part task.engine task.sign task.profile cell) names before.devices after.devices after.ending)
+      let whole = subst (λ (names : List (List ℕ)). Reads source told (RunsTask task cell) names before after) none reads in
+      let alone = subst (λ (names : List (List ℕ)). ReadsAlone (RunsTask task cell) names before.devices after.devices after.ending)
       (sym none) whole.0 in
       (whole.1, inr (cell, cells, alone))
 
@@ -58,9 +58,9 @@ module _ {F : Type 0} (source : SourceMembers F) where
       → Performs source file told task counts counts' before after
   over_texts told file task counts counts' before after none (same, inl stops) = inl (stops, same)
   over_texts told file task counts counts' before after none (same, inr (cell, cells, alone)) =
-      let whole = subst (λ (names : List (List ℕ)). ReadsAlone (RunsOver task.part task.engine task.sign task.profile cell) names before.devices after.devices after.ending)
+      let whole = subst (λ (names : List (List ℕ)). ReadsAlone (RunsTask task cell) names before.devices after.devices after.ending)
       none alone in
-      let reads = subst (λ (names : List (List ℕ)). Reads source told (RunsOver task.part task.engine task.sign task.profile cell) names before after)
+      let reads = subst (λ (names : List (List ℕ)). Reads source told (RunsTask task cell) names before after)
       (sym none) (whole, same) in
       inr (cell, cells, reads)
 

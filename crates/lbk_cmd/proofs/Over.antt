@@ -1,5 +1,5 @@
 -- The texts that are read, from the first to the last.
-use Rattle.std.proofs.Common.{◌≡◌, ◌+◌, ◌<◌, ◌≤◌, ℕ, true, false, suc, List, [], ◌∷◌, Option, inl, inr, map, length, drop, drop-cons, drop_of_length-le, sym, subst, refl, eqb-true, true≢false, arith}
+use Rattle.std.proofs.Common.{◌≡◌, ◌+◌, ◌<◌, ◌≤◌, ℕ, true, false, suc, List, [], ◌∷◌, Option, inl, inr, map, length, drop, drop-cons, drop_of_length-le, sym, subst, refl, codes, eqb-true, true≢false, arith}
 use Rattle.std.specs.Prelude.{◌==◌}
 use Rattle.std.specs.Borrow.{Bor}
 use Rattle.std.specs.List.{slice_index_or}
@@ -9,7 +9,7 @@ use Rattle.lbk_cmd.specs.Devices.{Devices}
 use Rattle.lbk_cmd.specs.Ending.{ending_after, is_last}
 use Rattle.lbk_cmd.specs.Operands.{Reads, ReadsText, ReadsTexts, Refusals, Standing, refused_after, standing}
 
-module _ {F : Type 0} (source : SourceMembers F) (told : List ℕ → Option (Option (List ℕ))) (Runs : Devices → Devices → Ending → Type 0) where
+module _ {F : Type 0} (source : SourceMembers F) (told : List ℕ → Option (Option (List ℕ))) (Runs : List ℕ → Devices → Devices → Ending → Type 0) where
   -- a text that is the last
   pub last_read : (names : List (Bor (List ℕ))) (i : ℕ) (d : Bor (List ℕ)) → i < length names → (before : Standing) (devices : Devices) (ending : Ending)
       (here : List ℕ → Option (Option (List ℕ))) → here ≡ told → ReadsText source here Runs (slice_index_or names i d).now before.devices devices ending
@@ -40,7 +40,7 @@ module _ {F : Type 0} (source : SourceMembers F) (told : List ℕ → Option (Op
 
   -- no text is named, or some are
   pub reader_read : (names all : List (Bor (List ℕ))) (before after : Standing) → names ≡ all → (length names == 0) ≡ true
-      → Runs before.devices after.devices after.ending → after.refused ≡ before.refused → Reads source told Runs (map (λ name. name.now) all) before after
+      → Runs (codes "-") before.devices after.devices after.ending → after.refused ≡ before.refused → Reads source told Runs (map (λ name. name.now) all) before after
   reader_read [] all before after are none runs same =
       subst (λ (ns : List (Bor (List ℕ))). Reads source told Runs (map (λ name. name.now) ns) before after) are (runs, same)
   reader_read (name ∷ names) all before after are none runs same =

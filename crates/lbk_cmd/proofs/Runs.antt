@@ -1,5 +1,5 @@
 -- From what is ready to what a task performs.
-use Rattle.std.proofs.Common.{◌≡◌, ℕ, true, false, suc, List, [], ◌∷◌, Option, Result, Err, map, length, inl, inr, sym, subst, refl, true≢false, eqb-true, arith}
+use Rattle.std.proofs.Common.{◌≡◌, ℕ, Bool, true, false, suc, List, [], ◌∷◌, Option, Result, Err, map, length, inl, inr, sym, subst, refl, true≢false, eqb-true, arith}
 use Rattle.std.specs.Prelude.{◌==◌}
 use Rattle.std.specs.Borrow.{Bor}
 use Rattle.lbk_feed.specs.declared.traits.Source.{Ghosts as SourceMembers}
@@ -18,22 +18,23 @@ use Rattle.lbk_files.specs.Ready.{IsReadyFor, IsStoppedAt}
 use Rattle.lbk_cmd.specs.Devices.{Devices}
 use Rattle.lbk_cmd.specs.Operands.{Reads, Refusals, Standing, standing}
 use Rattle.lbk_cmd.specs.declared.ending.Ending.TheVariants.{Done}
-use Rattle.lbk_cmd.specs.Acts.{RunsOver, Performs}
+use Rattle.lbk_cmd.specs.Acts.{Performs, RunsOver, RunsReady}
+use Rattle.lbk_cmd.specs.Titles.{RunsNamed}
 
 -- an engine that runs on what is ready for a task performs it
 pub ready_performs : {F : Type 0} (source : SourceMembers F) (file text : List ℕ → Option (Option (List ℕ))) (task : Task) (counts counts' : LoadCounts) (ready : Ready)
     (before after : Standing) → IsReadyFor file task ready
-    → Reads source text (RunsOver ready.part ready.engine ready.sign.now ready.profile (page_cell ready.cells)) (map (λ name. name.now) ready.texts.items) before after
+    → Reads source text (RunsReady ready) (map (λ name. name.now) ready.texts.items) before after
     → Performs source file text task counts counts' before after
 ready_performs source file text task counts counts' ready before after is reads = inr (
   page_cell ready.cells,
   is.cells,
-  subst (λ (part : Option Part). Reads source text (RunsOver part task.engine task.sign task.profile (page_cell ready.cells)) task.texts before after) is.part
-      (subst (λ (engine : Engine). Reads source text (RunsOver ready.part engine task.sign task.profile (page_cell ready.cells)) task.texts before after) is.engine
-      (subst (λ (mark : List ℕ). Reads source text (RunsOver ready.part ready.engine mark task.profile (page_cell ready.cells)) task.texts before after) is.sign
-      (subst (λ (profile : Profile). Reads source text (RunsOver ready.part ready.engine ready.sign.now profile (page_cell ready.cells)) task.texts before after) is.profile
-      (subst (λ (names : List (List ℕ)). Reads source text (RunsOver ready.part ready.engine ready.sign.now ready.profile (page_cell ready.cells)) names before after) is.texts
-      reads)))),
+  subst (λ (part : Option Part). Reads source text (RunsNamed task.names (RunsOver part task.engine task.sign task.profile (page_cell ready.cells))) task.texts before after) is.part
+      (subst (λ (engine : Engine). Reads source text (RunsNamed task.names (RunsOver ready.part engine task.sign task.profile (page_cell ready.cells))) task.texts before after) is.engine
+      (subst (λ (mark : List ℕ). Reads source text (RunsNamed task.names (RunsOver ready.part ready.engine mark task.profile (page_cell ready.cells))) task.texts before after) is.sign
+      (subst (λ (profile : Profile). Reads source text (RunsNamed task.names (RunsOver ready.part ready.engine ready.sign.now profile (page_cell ready.cells))) task.texts before after) is.profile
+      (subst (λ (names : Bool). Reads source text (RunsNamed names (RunsOver ready.part ready.engine ready.sign.now ready.profile (page_cell ready.cells))) task.texts before after) is.names
+      (subst (λ (texts : List (List ℕ)). Reads source text (RunsReady ready) texts before after) is.texts reads))))),
 )
 
 -- what is performed, by what the texts told before they heard what is asked for

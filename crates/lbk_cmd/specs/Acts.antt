@@ -1,5 +1,6 @@
 -- What a run of the program does, by its words.
-use Rattle.std.specs.Prelude.{◌≡◌, ◌⊎◌, ◌+◌, ◌≤◌, ◌↔◌, ℕ, Bool, List, Option, None, Some, Result, IfOk, IfSome, IsErrOf, IsTrue, IsUtf8, OnOk, if◌then◌else◌}
+use Rattle.std.specs.Prelude.{◌≡◌, ◌⊎◌, ◌+◌, ◌≤◌, ◌↔◌, ℕ, Bool, List, Option, None, Some, Result, IfOk, IfSome}
+use Rattle.std.specs.Prelude.{IsErrOf, IsTrue, IsUtf8, OnOk, if◌then◌else◌}
 use Rattle.std.specs.Str.{chars}
 use Rattle.std.specs.Io.KnownBytes.{Appends, IsAtEnd}
 use Rattle.lbk_feed.specs.Runs.{Ran}
@@ -13,7 +14,9 @@ use Rattle.lbk_notation.specs.Replay as replay
 use Rattle.lbk_cmd.specs.Engines.{engine_of, lines_of, marking, segmenting, showing}
 use Rattle.lbk_cmd.specs.Run.{Engine as TextEngine, IsRun, failed_reads_with, failed_writes_with, is_failed_read}
 use Rattle.lbk_cmd.specs.Ranges.{RangeRuns}
+use Rattle.lbk_cmd.specs.Titles.{RunsNamed}
 use Rattle.lbk_cmd.specs.Texts.{lines_from, segment_text, show_text, signed_text}
+use Rattle.lbk_rules.specs.CellPages.{page_cell}
 use Rattle.lbk_rules.specs.declared.Cell.{Cell}
 use Rattle.lbk_values.specs.declared.profile.Profile.{Profile}
 use Rattle.lbk_values.specs.declared.profile.Profile.TheVariants.{First}
@@ -32,6 +35,7 @@ use Rattle.lbk_files.specs.SampleFiles.{AreSampleCells, IsSampleFault}
 use Rattle.lbk_files.specs.FileFault.{AreCellsFrom, LoadCounts}
 use Rattle.lbk_files.specs.Named.{files_of}
 use Rattle.lbk_files.specs.Ready.{IsStoppedAt}
+use Rattle.lbk_files.specs.declared.readiness.Ready.{Ready}
 use Rattle.lbk_cmd.specs.declared.faults.CmdFault.{CmdFault}
 use Rattle.lbk_cmd.specs.declared.ending.Ending.{Ending}
 use Rattle.lbk_cmd.specs.declared.engine.Lines.{Lines}
@@ -39,7 +43,8 @@ use Rattle.lbk_cmd.specs.Devices.{Devices}
 use Rattle.lbk_cmd.specs.Operands.{Reads, ReadsAlone, Standing}
 use Rattle.lbk_cmd.specs.Ending.{ending_of_files, ending_of_replay, ending_of_stop, ending_of_text}
 
--- what `mark`, `show` and `segment` do where they differ only in the text that they write: to the devices, with the answer
+-- what `mark`, `show` and `segment` do where they differ only in the text that they write: to the devices, with the
+-- answer
 pub record TextRuns (text : List ℕ → List ℕ) (engine : TextEngine) (before after : Devices) (answer : Result (Unit {0}) CmdFault) : Type 0 where
   pub shown : OnOk answer (IfSome before.unread (λ input. IsUtf8 input × Appends before.written after.written (text input)))
   pub ended : OnOk answer (IsTrue after.has_ended × IsAtEnd after.unread)
@@ -113,18 +118,27 @@ RunsOver (Some part) (Show limit) mark profile cell = RangeEnds part (showing ce
 RunsOver (Some part) (Segment limit) mark profile cell = RangeEnds part (segmenting cell profile limit)
 RunsOver (Some part) (Replay kinds) mark profile cell = EngineRuns (Replay kinds) mark profile cell
 
--- a task: its files stop the run and no text is opened, or its engine runs with its option and profile on the cells of the
--- files, over its texts, or over its range of each
+-- what a task runs over the text of a name, by cells
+abbrev pub RunsTask : Task → (ℕ → Cell) → List ℕ → Devices → Devices → Ending → Type 0
+RunsTask task cell = RunsNamed task.names (RunsOver task.part task.engine task.sign task.profile cell)
+
+-- what is ready, in the same way
+abbrev pub RunsReady : Ready → List ℕ → Devices → Devices → Ending → Type 0
+RunsReady ready =
+    RunsNamed ready.names (RunsOver ready.part ready.engine ready.sign.now ready.profile (page_cell ready.cells))
+
+-- a task: its files stop the run and no text is opened, or its engine runs with its option and profile on the cells
+-- of the files, over its texts, or over its range of each
 abbrev pub Performs : {F : Type 0} → SourceMembers F → (List ℕ → Option (Option (List ℕ))) → (List ℕ → Option (Option (List ℕ))) → Task
     → LoadCounts → LoadCounts → Standing → Standing → Type 0
 Performs source file text task counts counts' before after =
     (StopsBefore (IsStoppedAt file task counts counts') before.devices after.devices after.ending × (after.refused ≡ before.refused))
     ⊎ ((cell : ℕ → Cell) × AreCellsFrom (files_of file task.files) cell
-    × Reads source text (RunsOver task.part task.engine task.sign task.profile cell) task.texts before after)
+    × Reads source text (RunsTask task cell) task.texts before after)
 
 -- a task, where there are no files of text
 abbrev pub PerformsAlone : (List ℕ → Option (Option (List ℕ))) → Task → LoadCounts → LoadCounts → Devices → Devices → Ending → Type 0
 PerformsAlone file task counts counts' before after ending =
     StopsBefore (IsStoppedAt file task counts counts') before after ending
     ⊎ ((cell : ℕ → Cell) × AreCellsFrom (files_of file task.files) cell
-    × ReadsAlone (RunsOver task.part task.engine task.sign task.profile cell) task.texts before after ending)
+    × ReadsAlone (RunsTask task cell) task.texts before after ending)

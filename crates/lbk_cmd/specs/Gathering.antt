@@ -1,5 +1,6 @@
 -- Lines that are gathered until a read is due.
-use Rattle.std.specs.Prelude.{◌≡◌, ◌⊎◌, ℕ, ◌+◌, Bool, true, false, List, [], ◌++◌, length, Option, None, Some, Result, Ok, Err}
+use Rattle.std.specs.Prelude.{◌≡◌, ◌⊎◌, ℕ, ◌+◌, Bool, true, false, List, [], ◌++◌, length, Option, None, Some, Result}
+use Rattle.std.specs.Prelude.{Ok, Err}
 use Rattle.std.specs.Io.KnownBytes.{Appends}
 use Rattle.lbk_feed.specs.Devices.{Reads}
 use Rattle.lbk_passage.specs.Marks.{Marked}
@@ -15,7 +16,8 @@ use Rattle.lbk_cmd.specs.declared.faults.CmdFault.TheVariants.{Memory, Passage}
 abbrev pub HasWritten : Option (List ℕ) → Option (List ℕ) → List ℕ → List ℕ → Type 0
 HasWritten written written' before after = (after ≡ []) × Appends written written' before
 
--- the lines of the passage that a segmenter lent stand behind those that waited, if one was lent and memory could grow for them;
+-- the lines of the passage that a segmenter lent stand behind those that waited, if one was lent and memory could
+-- grow for them;
 -- `at` is then the byte of the text behind it
 abbrev pub Puts : Engine → State → Result (Option LentPassage) PassageFault → List ℕ → List ℕ → ℕ → Result Bool CmdFault → Type 0
 Puts e s (Ok None) before after at answer = (answer ≡ Ok false) × (after ≡ before)

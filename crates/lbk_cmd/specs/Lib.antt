@@ -10,6 +10,7 @@ pub mod Devices
 pub mod Operands
 pub mod MemoryTexts
 pub mod Ranges
+pub mod Titles
 pub mod Acts
 pub mod Headline
 pub mod Broken

@@ -1,10 +1,10 @@
 -- Why a run is refused, as a person reads it in one line.
-use Rattle.std.specs.Prelude.{ℕ, Bool, false, List, [], ◌∷◌, ◌++◌, Option, Some, None, codes, decimal, if◌then◌else◌, nat_eq, nat_lt}
+use Rattle.std.specs.Prelude.{ℕ, Bool, false, List, [], ◌∷◌, ◌++◌, Option, Some, None, codes, decimal, if◌then◌else◌}
+use Rattle.std.specs.Prelude.{nat_eq, nat_lt}
 use Rattle.std.specs.Borrow.{Bor}
 use Rattle.std.specs.Fmt.{◌++?◌}
 use Rattle.std.specs.List.{ends_with}
 use Rattle.std.specs.Str.{bytes_eq}
-use Rattle.std.specs.declared.io.ErrorKind.{ErrorKind}
 use Rattle.std.specs.declared.io.ErrorKind.TheVariants.{NotFound, Other, Uncategorized}
 use Rattle.lbk_feed.specs.Text.{greatest_limit, longest_text}
 use Rattle.lbk_ucd.specs.declared.which.Which.{Which}
@@ -31,18 +31,21 @@ use Rattle.lbk_cmd.specs.declared.faults.CmdFault.TheVariants as cmd
 use Rattle.lbk_cmd.specs.declared.message.Caller.{Caller}
 use Rattle.lbk_cmd.specs.declared.message.Caller.TheVariants.{Call, NoWords, Words}
 use Rattle.lbk_cmd.specs.declared.message.Message.{Message}
-use Rattle.lbk_cmd.specs.declared.message.Input.{Input}
-use Rattle.lbk_cmd.specs.declared.message.Input.TheVariants as of_input
-use Rattle.lbk_cmd.specs.declared.message.Name.{Name}
-use Rattle.lbk_cmd.specs.declared.message.Name.TheVariants as of_file
+use Rattle.lbk_cmd.specs.declared.parts_of_messages.Input.{Input}
+use Rattle.lbk_cmd.specs.declared.parts_of_messages.Input.TheVariants as of_input
+use Rattle.lbk_cmd.specs.declared.parts_of_messages.Name.{Name}
+use Rattle.lbk_cmd.specs.declared.parts_of_messages.Name.TheVariants as of_file
+use Rattle.lbk_cmd.specs.declared.parts_of_messages.Reason.{Reason}
+use Rattle.lbk_cmd.specs.declared.parts_of_messages.Reason.TheVariants.{System, IsOutput}
 
--- the system's reason behind a colon, where the program words it; the kit says nothing of its own words
-abbrev pub why_text : Option ErrorKind → Option (List ℕ)
+-- the reason behind a colon, where the program words it; the kit says nothing of the system's other words
+abbrev pub why_text : Option Reason → Option (List ℕ)
 why_text None = Some []
-why_text (Some Other) = Some []
-why_text (Some Uncategorized) = Some []
-why_text (Some NotFound) = Some (codes ": no such file")
-why_text (Some kind) = None
+why_text (Some IsOutput) = Some (codes ": input file is output file")
+why_text (Some (System Other)) = Some []
+why_text (Some (System Uncategorized)) = Some []
+why_text (Some (System NotFound)) = Some (codes ": no such file")
+why_text (Some (System kind)) = None
 
 -- the file of a kind, as the words name it
 abbrev pub name_in : FileNames → Which → FileName
@@ -71,11 +74,15 @@ abbrev pub advice : Caller → Which → ClaimCause → List ℕ
 advice (Words engine files) which Changed = codes "; get it anew, or name a file of your own by " ++ option_of which
 advice _ which cause = []
 
+-- the text of a name
+abbrev pub operand_text : List ℕ → List ℕ
+operand_text name = if bytes_eq name (codes "-") then codes "standard input" else one_line name
+
 -- the input, and the output
 abbrev pub input_text : Caller → Option (Bor (List ℕ)) → List ℕ
 input_text Call None = codes "the input"
 input_text _ None = codes "standard input"
-input_text _ (Some name) = if bytes_eq name.now (codes "-") then codes "standard input" else one_line name.now
+input_text _ (Some name) = operand_text name.now
 
 abbrev pub output_text : Caller → List ℕ
 output_text Call = codes "the output"
@@ -110,7 +117,7 @@ invalid_text is_utf16 =
     if is_utf16 then codes "invalid UTF-8; it begins as UTF-16 does: iconv -f UTF-16 -t UTF-8 makes UTF-8 of it" else codes "invalid UTF-8"
 
 -- what failed, behind it that it did, and why
-abbrev pub failed_text : List ℕ → List ℕ → Option ErrorKind → Option (List ℕ)
+abbrev pub failed_text : List ℕ → List ℕ → Option Reason → Option (List ℕ)
 failed_text what did reason = Some what ++? (Some did ++? why_text reason)
 
 abbrev pub unread_text : Message → Option (List ℕ)

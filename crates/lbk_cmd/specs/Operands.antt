@@ -34,9 +34,9 @@ over_file source file devices = record {
   failed_writes = devices.failed_writes;
 }
 
--- the run goes over a file in the place of its reader, which stays as it was: from the file as it was opened, all of whose bytes
--- are still to be read, where these are told, to the file as the run left it. Both are values of the type of files, which code
--- that knows no more of that type has only from opening a file and from reading it
+-- the run goes over a file in the place of its reader, which stays as it was: from the file as it was opened, all of
+-- whose bytes are still to be read, where these are told, to the file as the run left it. Both are values of the type
+-- of files, which code that knows no more of that type has only from opening a file and from reading it
 pub record ReadsFile {F : Type 0} (source : SourceMembers F) (told : Option (Option (List ℕ))) (Runs : Devices → Devices → Ending → Type 0)
     (before after : Devices) (ending : Ending) : Type 0 where
   pub opened : F
@@ -50,11 +50,11 @@ pub record IsUnopened (told : Option (Option (List ℕ))) (before after : Device
   pub is : after ≡ before
   pub fault : ((ending ≡ Refused Open) × IsUnreadable told) ⊎ (ending ≡ Refused Memory)
 
--- the text of a name: `-` is the run's reader, any other name that of a file
-abbrev pub ReadsText : {F : Type 0} → SourceMembers F → (List ℕ → Option (Option (List ℕ))) → (Devices → Devices → Ending → Type 0)
-    → List ℕ → Devices → Devices → Ending → Type 0
-ReadsText source told Runs name before after ending = ((name ≡ codes "-") × Runs before after ending)
-    ⊎ ((name ≢ codes "-") × (IsUnopened (told name) before after ending ⊎ ReadsFile source (told name) Runs before after ending))
+-- the text of a name, over which `Runs` says what runs: `-` is the run's reader, any other name that of a file
+abbrev pub ReadsText : {F : Type 0} → SourceMembers F → (List ℕ → Option (Option (List ℕ)))
+    → (List ℕ → Devices → Devices → Ending → Type 0) → List ℕ → Devices → Devices → Ending → Type 0
+ReadsText source told Runs name before after ending = ((name ≡ codes "-") × Runs name before after ending)
+    ⊎ ((name ≢ codes "-") × (IsUnopened (told name) before after ending ⊎ ReadsFile source (told name) (Runs name) before after ending))
 
 -- what was refused, after a text that ended so
 abbrev pub refused_after : Refusals → List ℕ → Ending → Refusals
@@ -70,23 +70,24 @@ ReadsEach ReadsOne (name ∷ names) before after =
     ⊎ ((is_last ending ≡ false) × ReadsEach ReadsOne names
     (standing devices (refused_after before.refused name ending) (ending_after before.ending ending)) after))
 
-abbrev pub ReadsTexts : {F : Type 0} → SourceMembers F → (List ℕ → Option (Option (List ℕ))) → (Devices → Devices → Ending → Type 0)
-    → List (List ℕ) → Standing → Standing → Type 0
+abbrev pub ReadsTexts : {F : Type 0} → SourceMembers F → (List ℕ → Option (Option (List ℕ)))
+    → (List ℕ → Devices → Devices → Ending → Type 0) → List (List ℕ) → Standing → Standing → Type 0
 ReadsTexts source told Runs = ReadsEach (ReadsText source told Runs)
 
 -- the run's reader where no text is named, and else the texts
-abbrev pub Reads : {F : Type 0} → SourceMembers F → (List ℕ → Option (Option (List ℕ))) → (Devices → Devices → Ending → Type 0)
-    → List (List ℕ) → Standing → Standing → Type 0
-Reads source told Runs [] before after = Runs before.devices after.devices after.ending × (after.refused ≡ before.refused)
+abbrev pub Reads : {F : Type 0} → SourceMembers F → (List ℕ → Option (Option (List ℕ)))
+    → (List ℕ → Devices → Devices → Ending → Type 0) → List (List ℕ) → Standing → Standing → Type 0
+Reads source told Runs [] before after =
+    Runs (codes "-") before.devices after.devices after.ending × (after.refused ≡ before.refused)
 Reads source told Runs (name ∷ names) before after = ReadsTexts source told Runs (name ∷ names) before after
 
 -- where there are no files of text, none of these can be opened; `-` is the run's reader
-abbrev pub ReadsNoFile : (Devices → Devices → Ending → Type 0) → List ℕ → Devices → Devices → Ending → Type 0
-ReadsNoFile Runs name before after ending = ((name ≡ codes "-") × Runs before after ending)
+abbrev pub ReadsNoFile : (List ℕ → Devices → Devices → Ending → Type 0) → List ℕ → Devices → Devices → Ending → Type 0
+ReadsNoFile Runs name before after ending = ((name ≡ codes "-") × Runs name before after ending)
     ⊎ ((name ≢ codes "-") × IsUnopened (Some None) before after ending)
 
 -- the run's reader where no text is named, and else the texts, none of which is a file
-abbrev pub ReadsAlone : (Devices → Devices → Ending → Type 0) → List (List ℕ) → Devices → Devices → Ending → Type 0
-ReadsAlone Runs [] before after ending = Runs before after ending
+abbrev pub ReadsAlone : (List ℕ → Devices → Devices → Ending → Type 0) → List (List ℕ) → Devices → Devices → Ending → Type 0
+ReadsAlone Runs [] before after ending = Runs (codes "-") before after ending
 ReadsAlone Runs (name ∷ names) before after ending =
     ReadsEach (ReadsNoFile Runs) (name ∷ names) (standing before None Done) (standing after None ending)

@@ -1,5 +1,7 @@
 -- What is read and written of a part of a text: of the passages that begin in a range of its bytes.
-use Rattle.std.specs.Prelude.{◌≡◌, ◌⊎◌, ◌&&◌, ℕ, ◌+◌, ◌<◌, ◌≤◌, ◌↔◌, ⊤, Bool, not, List, [], ◌∷◌, ◌++◌, length, Result, Ok, Err, IfSome, IsErrOf, IsTrue, IsUtf8, OnOk, if◌then◌else◌, nat_lt, encode_utf8_all}
+use Rattle.std.specs.Prelude.{◌≡◌, ◌⊎◌, ◌&&◌, ℕ, ◌+◌, ◌<◌, ◌≤◌, ◌↔◌, ⊤, Bool, not, List, [], ◌∷◌, ◌++◌, length}
+use Rattle.std.specs.Prelude.{Result, Ok, Err, IfSome, IsErrOf, IsTrue, IsUtf8, OnOk, if◌then◌else◌, nat_lt}
+use Rattle.std.specs.Prelude.{encode_utf8_all}
 use Rattle.std.specs.List.{flat_map}
 use Rattle.std.specs.Str.{chars}
 use Rattle.std.specs.Io.KnownBytes.{Appends, IsAtEnd}
@@ -13,7 +15,8 @@ use Rattle.lbk_passage.specs.declared.faults.PassageFault.{PassageFault}
 use Rattle.lbk_passage.specs.declared.faults.PassageFault.TheVariants as passage
 use Rattle.lbk_args.specs.declared.order.Part.{Part}
 use Rattle.lbk_cmd.specs.Devices.{Devices}
-use Rattle.lbk_cmd.specs.Run.{ComesTo, Engine, IsHeldUp, IsRefused, IsSettled, IsWhole, KeepsUp, failed_reads_with, failed_writes_with, is_failed_read, passages_by}
+use Rattle.lbk_cmd.specs.Run.{ComesTo, Engine, IsHeldUp, IsRefused, IsSettled, IsWhole, KeepsUp, failed_reads_with}
+use Rattle.lbk_cmd.specs.Run.{failed_writes_with, is_failed_read, passages_by}
 use Rattle.lbk_cmd.specs.Texts.{lines_from}
 use Rattle.lbk_cmd.specs.declared.faults.CmdFault.{CmdFault}
 use Rattle.lbk_cmd.specs.declared.faults.CmdFault.TheVariants.{Memory, Passage, Write}
@@ -34,8 +37,8 @@ within part e = record e { lines = lines_within part e.lines }
 abbrev pub text_within : (ℕ → List Marked → List ℕ) → ℕ → ℕ → List (List Marked) → List ℕ
 text_within lines from to passages = lines_from (lines_within (record { from = from; to = to }) lines) 0 passages
 
--- ranges one after another: the first from `from` on, each up to one of these bytes, where the next begins. What is written of
--- all of them, whether none ends before it begins, and where the last ends
+-- ranges one after another: the first from `from` on, each up to one of these bytes, where the next begins. What is
+-- written of all of them, whether none ends before it begins, and where the last ends
 abbrev pub text_by_ranges : (ℕ → List Marked → List ℕ) → ℕ → List ℕ → List (List Marked) → List ℕ
 text_by_ranges lines from [] passages = []
 text_by_ranges lines from (to ∷ tos) passages = text_within lines from to passages ++ text_by_ranges lines to tos passages
@@ -52,7 +55,8 @@ end_of_ranges from (to ∷ tos) = end_of_ranges to tos
 abbrev pub next_start : {e : Engine} {bytes out : List ℕ} → IsSettled e bytes out → ℕ
 next_start settled = length (encode_utf8_all (flat_map scalars_of settled.given))
 
--- the range was passed: `out` is written of passages that some first scalars of the bytes settle, and that reach up to byte `to`
+-- the range was passed: `out` is written of passages that some first scalars of the bytes settle, and that reach up
+-- to byte `to`
 pub record HasPassed (e : Engine) (to : ℕ) (bytes out : List ℕ) : Type 0 where
   pub settled : IsSettled e bytes out
   pub reaches : to ≤ next_start settled
@@ -68,9 +72,9 @@ pub record IsHeldUpWithin (e : Engine) (from to : ℕ) (ended : Bool) (bytes out
   pub late : from ≤ next_start held_up.settled
   pub begins : next_start held_up.settled < to
 
--- what was read and what was written, by the answer: as in a run over the whole text, except that no more has to be read once
--- the range was passed, and that no passage behind it is refused. `ended`: a read has given no byte; `AtEnd`: the text was
--- read to its end
+-- what was read and what was written, by the answer: as in a run over the whole text, except that no more has to be
+-- read once the range was passed, and that no passage behind it is refused. `ended`: a read has given no byte;
+-- `AtEnd`: the text was read to its end
 abbrev pub RangeComesTo : {X : Type 0} → Engine → ℕ → ℕ → Bool → Type 0 → Result X CmdFault → List ℕ → List ℕ → Type 0
 RangeComesTo e from to ended AtEnd (Ok x) bytes out = (AtEnd × IsWhole e bytes out) ⊎ HasPassed e to bytes out
 RangeComesTo e from to ended AtEnd (Err (Passage passage.Limit)) bytes out = (bytes ≡ []) × (out ≡ [])
@@ -79,8 +83,8 @@ RangeComesTo e from to ended AtEnd (Err (Passage why)) bytes out = IsRefusedBefo
 RangeComesTo {X} e from to ended AtEnd (Err Write) bytes out = ComesTo {X = X} e ended (Err Write) bytes out
 RangeComesTo e from to ended AtEnd (Err Memory) bytes out = IsHeldUpWithin e from to ended bytes out
 
--- no read was made, or the last one, like those before it, for a passage that begins before byte `end`: what the bytes of all
--- reads but the last settle ends before it
+-- no read was made, or the last one, like those before it, for a passage that begins before byte `end`: what the
+-- bytes of all reads but the last settle ends before it
 abbrev pub ReadsBefore : {e : Engine} {from to : Reads} {bytes out : List ℕ} → ℕ → KeepsUp e from to bytes out → Type 0
 ReadsBefore {e} {from} {to} {bytes} {out} end keeps_up = IsStill [] bytes from to ⊎ (next_start keeps_up.settled < end)
 

@@ -1,5 +1,6 @@
 -- What an engine reads and writes.
-use Rattle.std.specs.Prelude.{◌≡◌, ◌⊎◌, ℕ, ◌+◌, ◌<◌, ◌≤◌, Bool, true, false, List, [], ◌∷◌, ◌++◌, length, Result, Ok, Err, IsUtf8, encode_utf8_all}
+use Rattle.std.specs.Prelude.{◌≡◌, ◌⊎◌, ℕ, ◌+◌, ◌<◌, ◌≤◌, Bool, true, false, List, [], ◌∷◌, ◌++◌, length, Result, Ok}
+use Rattle.std.specs.Prelude.{Err, IsUtf8, encode_utf8_all}
 use Rattle.std.specs.List.{AllByRecursion, flat_map}
 use Rattle.std.specs.Str.{chars}
 use Rattle.lbk_feed.specs.Devices.{Reads, count_up}
@@ -68,8 +69,8 @@ abbrev pub AreAll : Engine → List ℕ → List ℕ → List ℕ → Type 0
 AreAll e bytes scalars behind =
     (encode_utf8_all scalars ≡ well_formed_prefix (counted bytes)) × (length (encode_utf8_all behind) ≤ e.limit)
 
--- why a run stops behind these scalars, the last of which are those of the paragraph in progress; `rest` are the bytes read
--- behind them. A failed read is the answer only where these may still go on to a scalar
+-- why a run stops behind these scalars, the last of which are those of the paragraph in progress; `rest` are the
+-- bytes read behind them. A failed read is the answer only where these may still go on to a scalar
 abbrev pub Lies : Engine → PassageFault → Bool → List ℕ → List ℕ → List ℕ → List ℕ → Type 0
 Lies e fault.Limit ended bytes scalars behind rest = ⊥
 Lies e fault.Memory ended bytes scalars behind rest = ⊥
@@ -110,9 +111,9 @@ ComesTo e ended (Err (Passage fault.Limit)) bytes out = (bytes ≡ []) × (out �
 ComesTo e ended (Err (Passage fault.Memory)) bytes out = ((bytes ≡ []) × (out ≡ [])) ⊎ IsHeldUp e ended bytes out
 ComesTo e ended (Err (Passage why)) bytes out = IsRefused e why ended bytes out
 
--- nothing is kept back: of the bytes that all reads but the last gave, at least one each, the lines of all passages that they
--- settle were written. Behind the scalars that settle them stood nothing, or the first bytes of a scalar. `from` and `to` are
--- the reads before the run and after it
+-- nothing is kept back: of the bytes that all reads but the last gave, at least one each, the lines of all passages
+-- that they settle were written. Behind the scalars that settle them stood nothing, or the first bytes of a scalar.
+-- `from` and `to` are the reads before the run and after it
 pub record KeepsUp (e : Engine) (from to : Reads) (bytes out : List ℕ) : Type 0 where
   pub before : List ℕ
   pub last : List ℕ

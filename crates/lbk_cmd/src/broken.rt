@@ -92,7 +92,8 @@ fn shown_text<R: Source>(
     limit: u32,
     profile: Profile,
 ) -> Result<Vec<u8>, CmdFault>
-    ensures whole { IfOk result (λ text. IsShown (showing (page_cell cells.now) profile limit) (R.unread reader.old) text.items) }
+    ensures whole { IfOk result (λ text. IsShown (showing (page_cell cells.now) profile limit) (R.unread reader.old)
+        text.items) }
     ensures done { OnOk result (Shows (page_cell cells.now) limit profile
         (reader_alone R.Source reader.old) (reader_alone R.Source reader.new) (Ok (tt {0}))) }
     ensures refused { IfErr result (ShowStops (page_cell cells.now) limit profile

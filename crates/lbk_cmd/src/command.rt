@@ -23,14 +23,14 @@ use lbk_files::{Store, prepare, read_order, sample_cells};
 use lbk_rules::Profile;
 use std::alloc::Global;
 
-/// Runs the engine that the arguments after the program's name ask for, by the property files that they name, over the
-/// text of the reader, to the writer. Without arguments it shows that text by the sample files, in the first profile, with
-/// paragraphs of at most 65,536 bytes.
+/// Runs the engine that the arguments after the program's name ask for, by the property files that they name, over
+/// the text of the reader, to the writer. Without arguments it shows that text by the sample files, in the first
+/// profile, with paragraphs of at most 65,536 bytes.
 ///
-/// The result says how the run ended. `Help` and `Usage` come for arguments that ask for no engine, and `Refused` has the
-/// fault of the step that failed: nothing was read or written where that was a property file. A file is loaded only for
-/// words that are accepted. `Memory` comes before any load, where a load was refused memory, for well-formed files once all
-/// four are loaded, or at a text.
+/// The result says how the run ended. `Help` and `Usage` come for arguments that ask for no engine, and `Refused` has
+/// the fault of the step that failed: nothing was read or written where that was a property file. A file is loaded
+/// only for words that are accepted. `Memory` comes before any load, where a load was refused memory, for well-formed
+/// files once all four are loaded, or at a text.
 ///
 /// It has no files of text: where arguments name some, `-` is the text of the reader, each other is refused as one that
 /// cannot be opened, and the run ends with `Reported`. `run_over_texts` opens them.
@@ -46,12 +46,14 @@ pub fn run<'a, S: Store, R: Source, W: Sink>(
         (devices_of R.Source W.Sink reader.old writer.old) (devices_of R.Source W.Sink reader.new writer.new) result }
     ensures plain { (task : Task) → IsPlainFor task (map (λ w. w.now) words.entry.now)
         → PerformsAlone (S.file store.old) task
-        (counts_of (S.load_count store.old) (S.refusal_count store.old)) (counts_of (S.load_count store.new) (S.refusal_count store.new))
+        (counts_of (S.load_count store.old) (S.refusal_count store.old))
+        (counts_of (S.load_count store.new) (S.refusal_count store.new))
         (devices_of R.Source W.Sink reader.old writer.old) (devices_of R.Source W.Sink reader.new writer.new) result }
     ensures accepted { (task : Task) → words.entry.now ≢ [] → AreAccepted (map (λ w. w.now) words.entry.now)
         → task_by (map (λ w. w.now) words.entry.now) ≡ Some task
         → PerformsAlone (S.file store.old) task
-        (counts_of (S.load_count store.old) (S.refusal_count store.old)) (counts_of (S.load_count store.new) (S.refusal_count store.new))
+        (counts_of (S.load_count store.old) (S.refusal_count store.old))
+        (counts_of (S.load_count store.new) (S.refusal_count store.new))
         (devices_of R.Source W.Sink reader.old writer.old) (devices_of R.Source W.Sink reader.new writer.new) result }
     ensures others { words.entry.now ≢ [] → ¬ (AreAccepted (map (λ w. w.now) words.entry.now))
         → StopsBefore (IsStoppedByWords (map (λ w. w.now) words.entry.now))
@@ -85,13 +87,15 @@ pub fn run_over_texts<'a, S: Store, T: Texts<'a>, R: Source, W: Sink>(
         (devices_of R.Source W.Sink reader.old writer.old) (devices_of R.Source W.Sink reader.new writer.new) result }
     ensures plain { (task : Task) → IsPlainFor task (map (λ w. w.now) words.entry.now)
         → Performs T.File.Source (S.file store.old) (T.contents texts.old) task
-        (counts_of (S.load_count store.old) (S.refusal_count store.old)) (counts_of (S.load_count store.new) (S.refusal_count store.new))
+        (counts_of (S.load_count store.old) (S.refusal_count store.old))
+        (counts_of (S.load_count store.new) (S.refusal_count store.new))
         (standing (devices_of R.Source W.Sink reader.old writer.old) (T.refused texts.old) Done)
         (standing (devices_of R.Source W.Sink reader.new writer.new) (T.refused texts.new) result) }
     ensures accepted { (task : Task) → words.entry.now ≢ [] → AreAccepted (map (λ w. w.now) words.entry.now)
         → task_by (map (λ w. w.now) words.entry.now) ≡ Some task
         → Performs T.File.Source (S.file store.old) (T.contents texts.old) task
-        (counts_of (S.load_count store.old) (S.refusal_count store.old)) (counts_of (S.load_count store.new) (S.refusal_count store.new))
+        (counts_of (S.load_count store.old) (S.refusal_count store.old))
+        (counts_of (S.load_count store.new) (S.refusal_count store.new))
         (standing (devices_of R.Source W.Sink reader.old writer.old) (T.refused texts.old) Done)
         (standing (devices_of R.Source W.Sink reader.new writer.new) (T.refused texts.new) result) }
     ensures others { words.entry.now ≢ [] → ¬ (AreAccepted (map (λ w. w.now) words.entry.now))
@@ -129,7 +133,8 @@ fn perform_order<'a, S: Store, T: Texts<'a>, R: Source, W: Sink>(
     writer: &mut W,
 ) -> Ending
     ensures performs { Performs T.File.Source (S.file store.old) (T.contents texts.old) (task_of order.entry)
-        (counts_of (S.load_count store.old) (S.refusal_count store.old)) (counts_of (S.load_count store.new) (S.refusal_count store.new))
+        (counts_of (S.load_count store.old) (S.refusal_count store.old))
+        (counts_of (S.load_count store.new) (S.refusal_count store.new))
         (standing (devices_of R.Source W.Sink reader.old writer.old) (T.refused texts.old) Done)
         (standing (devices_of R.Source W.Sink reader.new writer.new) (T.refused texts.new) result) }
     ensures texts { T.contents texts.new ≡ T.contents texts.old }

@@ -1,7 +1,8 @@
 //! How a run of the program ends.
 
 ghost use Rattle.std.specs.Prelude.{◌≡◌};
-ghost use Rattle.lbk_cmd.specs.Ending.{ending_after, ending_of_files, ending_of_replay, ending_of_text, is_last, status_of};
+ghost use Rattle.lbk_cmd.specs.Ending.{ending_after, ending_of_files, ending_of_replay, ending_of_text, is_last};
+ghost use Rattle.lbk_cmd.specs.Ending.{status_of};
 
 use super::faults::CmdFault;
 use super::message::Message;
@@ -49,7 +50,8 @@ pub enum Ending {
 }
 
 impl Ending {
-    /// The exit status: 0 done or help, 1 refused, 2 invalid arguments, 3 a replay with lines that differ or are refused.
+    /// The exit status: 0 done or help, 1 refused, 2 invalid arguments, 3 a replay with lines that differ or are
+    /// refused.
     pub fn status(&self) -> u8
         ensures { result ≡ status_of self.now }
     {

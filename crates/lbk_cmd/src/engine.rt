@@ -57,10 +57,10 @@ pub fn mark_with<R: Source, W: Sink, C: CellSource>(
 /// Writes the marks, scalars and rules of a text (UAX #14, section 6), each passage in a line of its own: the marks
 /// of its positions with its scalars between them, a tab, `#`, and the number of the rule that decided each position.
 ///
-/// The lines of the passages that what was read settles are written before the next read, and before a fault is returned: a
-/// passage's once the scalar after it was seen, or the end of the text.
+/// The lines of the passages that what was read settles are written before the next read, and before a fault is
+/// returned: a passage's once the scalar after it was seen, or the end of the text.
 /// `limit` is the most bytes of a paragraph, 1 to 16,777,216. `Passage` says why no more passages come, `Write` that
-/// the writer failed, `Memory` that memory could not grow for a line, of which nothing was written.
+/// the writer failed, `Memory` that memory cannot grow for a line, of which nothing was written.
 pub fn show<R: Source, W: Sink, C: CellSource>(
     alloc: Global,
     reader: &mut R,

@@ -14,7 +14,7 @@ use thiserror::Error;
 #[derive(Clone, Copy, Debug, PartialEq, Eq, Error)]
 #[error("{}", Message::of_call(RunFault::Cmd(*self)))]
 pub enum CmdFault {
-    /// A passage was refused, or memory could not grow for it.
+    /// A passage was refused, or memory cannot grow for it.
     Passage(PassageFault),
     /// The writer failed in this call.
     Write,

@@ -1,6 +1,7 @@
-//! Lines that wait for those behind them, as long as no read is due.
+//! Lines that wait for those after them, as long as no read is due.
 
-ghost use Rattle.std.specs.Prelude.{ℕ, ◌≡◌, ◌≤◌, ◌<◌, ◌⊎◌, ◌^◌, ◌++◌, List, [], length, take, true, vec_len, Err, OnOk, OnErr};
+ghost use Rattle.std.specs.Prelude.{ℕ, ◌≡◌, ◌≤◌, ◌<◌, ◌⊎◌, ◌^◌, ◌++◌, List, [], length, take, true, vec_len, Err};
+ghost use Rattle.std.specs.Prelude.{OnOk, OnErr};
 ghost use Rattle.std.specs.Io.KnownBytes.{Appends};
 ghost use Rattle.lbk_feed.specs.Devices.{failures_after};
 ghost use Rattle.lbk_rules.specs.declared.Cell.{Cell};
@@ -74,11 +75,13 @@ impl Gathered {
     ) -> Result<(), Failed>
         ensures state { state_of C.cell_of segmenter.new
             ≡ record (state_of C.cell_of segmenter.old) { is_settled = (state_of C.cell_of segmenter.new).is_settled } }
-        ensures due { OnOk result (HasWritten (W.written writer.old) (W.written writer.new) self.old.lines.items self.new.lines.items
+        ensures due { OnOk result (HasWritten (W.written writer.old) (W.written writer.new) self.old.lines.items
+            self.new.lines.items
             ⊎ ((self.new.lines.items ≡ self.old.lines.items) × (writer.new ≡ writer.old)
             × ((state_of C.cell_of segmenter.new).is_settled ≡ true))) }
         ensures few { OnOk result (vec_len self.new.lines < 2 ^ 16) }
-        ensures front { OnErr result ((n : ℕ) × Appends (W.written writer.old) (W.written writer.new) (take n self.old.lines.items)) }
+        ensures front { OnErr result
+            ((n : ℕ) × Appends (W.written writer.old) (W.written writer.new) (take n self.old.lines.items)) }
         ensures failures { W.failure_count writer.new ≡ failures_after (W.failure_count writer.old) result }
         ensures at { self.new.at ≡ self.old.at }
     {
@@ -90,9 +93,11 @@ impl Gathered {
 
     /// Writes the lines.
     pub fn write<W: Sink>(&mut self, writer: &mut W) -> Result<(), Failed>
-        ensures written { OnOk result (HasWritten (W.written writer.old) (W.written writer.new) self.old.lines.items self.new.lines.items) }
+        ensures written { OnOk result
+            (HasWritten (W.written writer.old) (W.written writer.new) self.old.lines.items self.new.lines.items) }
         ensures few { OnOk result (vec_len self.new.lines ≡ 0) }
-        ensures front { OnErr result ((n : ℕ) × Appends (W.written writer.old) (W.written writer.new) (take n self.old.lines.items)) }
+        ensures front { OnErr result
+            ((n : ℕ) × Appends (W.written writer.old) (W.written writer.new) (take n self.old.lines.items)) }
         ensures failures { W.failure_count writer.new ≡ failures_after (W.failure_count writer.old) result }
         ensures nothing { self.old.lines.items ≡ [] → (result ≡ Ok tt) × (writer.new ≡ writer.old) }
         ensures at { self.new.at ≡ self.old.at }
@@ -102,8 +107,8 @@ impl Gathered {
         Ok(())
     }
 
-    /// Puts the lines of the next passage behind the others, and returns whether one came. After a fault none of its lines
-    /// stand there.
+    /// Puts the lines of the next passage after the others, and returns whether one came. After a fault none of its
+    /// lines stand there.
     pub fn put_next<R: Source, C: CellSource>(
         &mut self,
         lines: Lines<'_>,
@@ -115,7 +120,8 @@ impl Gathered {
         ensures puts { (limit : ℕ) → PutsNext (engine_of lines.entry (C.cell_of cells.now) profile limit)
             (state_of C.cell_of segmenter.old) (state_of C.cell_of segmenter.new)
             (R.unread reader.old) (R.unread reader.new) (R.has_ended reader.old) (R.has_ended reader.new)
-            (R.reads_made reader.old) (R.reads_made reader.new) (R.failure_count reader.old) (R.failure_count reader.new)
+            (R.reads_made reader.old) (R.reads_made reader.new) (R.failure_count reader.old)
+            (R.failure_count reader.new)
             self.old.lines.items self.new.lines.items self.new.at result }
         ensures settled { (state_of C.cell_of segmenter.old).is_settled ≡ true → reader.new ≡ reader.old }
     {
@@ -133,10 +139,12 @@ impl Gathered {
         segmenter: &mut Segmenter<'_, C>,
         reader: &mut R,
     ) -> Result<bool, CmdFault>
-        ensures puts { (cell : ℕ → Cell) (profile : specs.Profile) (limit : ℕ) → PutsNext (engine_of kinds.Segmented cell profile limit)
+        ensures puts { (cell : ℕ → Cell) (profile : specs.Profile) (limit : ℕ)
+            → PutsNext (engine_of kinds.Segmented cell profile limit)
             (state_of C.cell_of segmenter.old) (state_of C.cell_of segmenter.new)
             (R.unread reader.old) (R.unread reader.new) (R.has_ended reader.old) (R.has_ended reader.new)
-            (R.reads_made reader.old) (R.reads_made reader.new) (R.failure_count reader.old) (R.failure_count reader.new)
+            (R.reads_made reader.old) (R.reads_made reader.new) (R.failure_count reader.old)
+            (R.failure_count reader.new)
             self.old.lines.items self.new.lines.items self.new.at result }
         ensures settled { (state_of C.cell_of segmenter.old).is_settled ≡ true → reader.new ≡ reader.old }
     {
@@ -169,7 +177,8 @@ impl Gathered {
         ensures puts { (limit : ℕ) → PutsNext (engine_of lines.entry (C.cell_of cells.now) profile limit)
             (state_of C.cell_of segmenter.old) (state_of C.cell_of segmenter.new)
             (R.unread reader.old) (R.unread reader.new) (R.has_ended reader.old) (R.has_ended reader.new)
-            (R.reads_made reader.old) (R.reads_made reader.new) (R.failure_count reader.old) (R.failure_count reader.new)
+            (R.reads_made reader.old) (R.reads_made reader.new) (R.failure_count reader.old)
+            (R.failure_count reader.new)
             self.old.lines.items self.new.lines.items self.new.at result }
         ensures settled { (state_of C.cell_of segmenter.old).is_settled ≡ true → reader.new ≡ reader.old }
     {
@@ -189,8 +198,8 @@ impl Gathered {
         }
     }
 
-    /// Puts the lines of a passage behind the others, by its text and the verdict at its end. After an error some of them may
-    /// stand there.
+    /// Puts the lines of a passage behind the others, by its text and the verdict at its end. After an error some of
+    /// them may stand there.
     fn push_text<C: CellSource>(
         &mut self,
         lines: Lines<'_>,
@@ -202,7 +211,8 @@ impl Gathered {
         requires kind { ¬ (lines ≡ kinds.Segmented) }
         requires some { 0 < length text.now }
         requires few { length text.now < 2 ^ 32 }
-        ensures text { OnOk result ((s : State) (ms : List Marked) (p : Passage) → s.cell ≡ C.cell_of cells.now → s.profile ≡ profile
+        ensures text { OnOk result ((s : State) (ms : List Marked) (p : Passage) → s.cell ≡ C.cell_of cells.now
+            → s.profile ≡ profile
             → IsPassage s ms p → p.text.now ≡ text.now → p.end ≡ end → is_must end.kind ≡ true
             → self.new.lines.items ≡ self.old.lines.items ++ lines_of lines.entry (C.cell_of cells.now) p.start ms) }
         ensures kept { take (length self.old.lines.items) self.new.lines.items ≡ self.old.lines.items }
@@ -225,7 +235,8 @@ impl Gathered {
         }
     }
 
-    /// The same as `put_next`, for a passage that begins before the end of a range: where it begins before the range, it is passed over.
+    /// The same as `put_next`, for a passage that begins before the end of a range: where it begins before the range,
+    /// it is passed over.
     pub fn put_within<R: Source, C: CellSource>(
         &mut self,
         part: Part,
@@ -240,11 +251,13 @@ impl Gathered {
         ensures puts { (limit : ℕ) → PutsNext (within part (engine_of lines.entry (C.cell_of cells.now) profile limit))
             (state_of C.cell_of segmenter.old) (state_of C.cell_of segmenter.new)
             (R.unread reader.old) (R.unread reader.new) (R.has_ended reader.old) (R.has_ended reader.new)
-            (R.reads_made reader.old) (R.reads_made reader.new) (R.failure_count reader.old) (R.failure_count reader.new)
+            (R.reads_made reader.old) (R.reads_made reader.new) (R.failure_count reader.old)
+            (R.failure_count reader.new)
             self.old.lines.items self.new.lines.items self.new.at result }
         ensures settled { (state_of C.cell_of segmenter.old).is_settled ≡ true → reader.new ≡ reader.old }
         // Memory grows for no passage before the range.
-        ensures memory { (result ≡ Err CmdFault.Memory) ⊎ (result ≡ Err (CmdFault.Passage PassageFault.Memory)) → part.from ≤ self.old.at }
+        ensures memory { (result ≡ Err CmdFault.Memory) ⊎ (result ≡ Err (CmdFault.Passage PassageFault.Memory))
+            → part.from ≤ self.old.at }
     {
         if self.at >= u64::from(part.from) {
             return self.put_next(lines, segmenter, reader, cells, profile);

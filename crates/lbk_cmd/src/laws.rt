@@ -34,26 +34,29 @@ ghost use Rattle.lbk_cmd.specs.Operands.{Standing};
 use lbk_files::Opens;
 
 /// For all property files, every text and either profile: the passages joined are the text, their breaks are the
-/// positions, kinds and rules that the first matching rule gives on the whole text (UAX #14, section 6), and the line written
-/// of each passage is read back as its scalars and marks.
+/// positions, kinds and rules that the first matching rule gives on the whole text (UAX #14, section 6), and the line
+/// written of each passage is read back as its scalars and marks.
 ///
 /// `read_cells` gives such cells of files that it accepts, `show` writes the lines of these passages however the bytes
 /// of the text were cut, and `read_line` accepts exactly the lines of the grammar.
 pub fn headline()
     ensures holds { (files : Files) (profile : Profile) (cell : ℕ → Cell) (text : List ℕ) → AreCellsOf files cell
-        → AllByRecursion (λ scalar. IsScalar scalar) text → ArePassagesOf files profile text (passages profile cell text) }
+        → AllByRecursion (λ scalar. IsScalar scalar) text
+        → ArePassagesOf files profile text (passages profile cell text) }
     // No other cutting of the text is like that.
     ensures only { (files : Files) (profile : Profile) (cell : ℕ → Cell) (text : List ℕ) (other : List (List Marked))
-        → AreCellsOf files cell → AllByRecursion (λ scalar. IsScalar scalar) text → ArePassagesOf files profile text other
+        → AreCellsOf files cell → AllByRecursion (λ scalar. IsScalar scalar) text
+        → ArePassagesOf files profile text other
         → other ≡ passages profile cell text }
 {}
 
-/// What `read_passages` returns depends only on the files and the bytes of the text, however the reader gives them; and it
-/// is what a segmenter lends of the text.
+/// What `read_passages` returns depends only on the files and the bytes of the text, however the reader gives them;
+/// and it is what a segmenter lends of the text.
 pub fn passages_of_bytes()
     ensures once { (files : Files) (profile : Profile) (bytes : List ℕ) (one other : List Owned)
         → AreRead files profile (Some bytes) one → AreRead files profile (Some bytes) other → one ≡ other }
-    ensures lent { (s : State) (ms : List Marked) (p : Passage) → IsPassage s ms p → lent_as p ≡ owned_passage s.cell p.start ms }
+    ensures lent { (s : State) (ms : List Marked) (p : Passage) → IsPassage s ms p → lent_as p
+        ≡ owned_passage s.cell p.start ms }
 {}
 
 /// A passage's line has at most 12 bytes per byte of the passage's text and 9 more, its line end among them. Without
@@ -61,12 +64,14 @@ pub fn passages_of_bytes()
 pub fn shown_lines()
     ensures short { (ms : List Marked) → length (shown_passage ms) ≤ 12 * length (text_of ms) + 9 }
     ensures says { (ms : List Marked) → AllByRecursion (λ scalar. IsScalar scalar) (scalars_of ms)
-        → IsLine Kinds (passage_line (scalars_of ms) (verdicts_of ms)) (Some (passage_marks (scalars_of ms) (verdicts_of ms))) }
+        → IsLine Kinds (passage_line (scalars_of ms) (verdicts_of ms))
+        (Some (passage_marks (scalars_of ms) (verdicts_of ms))) }
 {}
 
-/// What is written of a text may be written of its parts apart, where a line must end between each and the next. `mark` writes
-/// of each part what it writes of the part by itself. So does `show`, except the last label of a part: it is 3 of a part by itself,
-/// and 4 or 5 where another follows. `segment` writes that rule too, and the places of the whole text.
+/// What is written of a text may be written of its parts apart, where a line must end between each and the next.
+/// `mark` writes of each part what it writes of the part by itself. So does `show`, except the last label of a part:
+/// it is 3 of a part by itself, and 4 or 5 where another follows. `segment` writes that rule too, and the places of
+/// the whole text.
 pub fn joined_lines()
     ensures mark { (sign : List ℕ) (profile : Profile) (cell : ℕ → Cell) (parts : List (List ℕ)) → AreParts cell parts
         → signed_text sign cell (passages profile cell (flat_map (λ part. part) parts))
@@ -76,24 +81,30 @@ pub fn joined_lines()
     ensures segment { (profile : Profile) (cell : ℕ → Cell) (parts : List (List ℕ)) → AreParts cell parts
         → segment_text cell (passages profile cell (flat_map (λ part. part) parts))
         ≡ of_parts (lines_in (segmented_passage cell) profile cell) 0 parts }
-    ensures label { (profile : Profile) (cell : ℕ → Cell) (first : ℕ) (rest : List ℕ) → DiffersInLabel profile cell (first ∷ rest) }
+    ensures label { (profile : Profile) (cell : ℕ → Cell) (first : ℕ) (rest : List ℕ)
+        → DiffersInLabel profile cell (first ∷ rest) }
 {}
 
-/// What is written of the passages of ranges, each of which begins where the one before it ends, is, joined, what is written of
-/// the range of all: `mark`, `show` and `segment` over ranges that tile a text write what they write of the text.
+/// What is written of the passages of ranges, each of which begins where the one before it ends, is, joined, what is
+/// written of the range of all: `mark`, `show` and `segment` over ranges that tile a text write what they write of
+/// the text.
 pub fn joined_ranges()
-    ensures whole { (lines : Lines) (profile : Profile) (cell : ℕ → Cell) (text : List ℕ) (tos : List ℕ) → AreRanges 0 tos
+    ensures whole { (lines : Lines) (profile : Profile) (cell : ℕ → Cell) (text : List ℕ) (tos : List ℕ)
+        → AreRanges 0 tos
         → length (encode_utf8_all text) ≤ end_of_ranges 0 tos
-        → text_by_ranges (lines_of lines cell) 0 tos (passages profile cell text) ≡ lines_from (lines_of lines cell) 0 (passages profile cell text) }
-    ensures range { (lines : Lines) (profile : Profile) (cell : ℕ → Cell) (text : List ℕ) (from : ℕ) (tos : List ℕ) → AreRanges from tos
+        → text_by_ranges (lines_of lines cell) 0 tos (passages profile cell text)
+        ≡ lines_from (lines_of lines cell) 0 (passages profile cell text) }
+    ensures range { (lines : Lines) (profile : Profile) (cell : ℕ → Cell) (text : List ℕ) (from : ℕ) (tos : List ℕ)
+        → AreRanges from tos
         → text_by_ranges (lines_of lines cell) from tos (passages profile cell text)
         ≡ text_within (lines_of lines cell) from (end_of_ranges from tos) (passages profile cell text) }
 {}
 
-/// A task that names no text has one meaning: with files of text, whatever they are, `run_over_texts` does what `run` does, and
-/// reports nothing of them.
+/// A task that names no text has one meaning: with files of text, whatever they are, `run_over_texts` does what `run`
+/// does, and reports nothing of them.
 pub fn one_run_without_texts<T: Opens>(texts: &T)
-    ensures { (file : List ℕ → Option (Option (List ℕ))) (task : Task) (counts after_counts : LoadCounts) (before after : Standing)
+    ensures { (file : List ℕ → Option (Option (List ℕ))) (task : Task) (counts after_counts : LoadCounts)
+        (before after : Standing)
         → task.texts ≡ []
         → (Performs T.File.Source file (T.contents texts.now) task counts after_counts before after
         ↔ ((after.refused ≡ before.refused)

@@ -12,6 +12,7 @@ mod message;
 mod offsets;
 mod operands;
 mod owned;
+mod parts_of_messages;
 mod passages;
 mod performing;
 mod placing;
@@ -19,6 +20,7 @@ mod ranges;
 mod segmented;
 mod shown;
 mod signed;
+mod titles;
 
 pub use broken::{BreakFault, break_text};
 pub use command::{run, run_over_texts};
@@ -32,4 +34,5 @@ pub use lbk_files::{
 pub use message::{Caller, Message};
 pub use operands::{MemoryTexts, Texts};
 pub use owned::{OwnedPassage, Word};
+pub use parts_of_messages::Reason;
 pub use passages::read_passages;

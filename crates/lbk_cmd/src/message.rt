@@ -2,18 +2,21 @@
 
 ghost use Rattle.std.specs.Prelude.{◌≡◌, Some, option_map};
 ghost use Rattle.std.specs.Fmt.{DisplaysOnOk};
-ghost use Rattle.lbk_cmd.specs.Message.{advice_of, advice_of_folder, at_byte, file_text, folder_of, input_text, invalid_text, limit_of, message_text, name_in, not_utf8_text, of_call, option_of, output_text, paragraph_text, passage_text, text_of_input, text_of_name, than_limit, too_long_text, unloaded_text, unpublished_text, unread_text, unwritten_text, why_text};
+ghost use Rattle.lbk_cmd.specs.Message.{at_byte, file_text, folder_of, input_text, invalid_text, limit_of};
+ghost use Rattle.lbk_cmd.specs.Message.{message_text, name_in, not_utf8_text, of_call, option_of, output_text};
+ghost use Rattle.lbk_cmd.specs.Message.{paragraph_text, passage_text, text_of_input, text_of_name, than_limit};
+ghost use Rattle.lbk_cmd.specs.Message.{too_long_text, unloaded_text, unpublished_text, unread_text, unwritten_text};
 
 use super::ending::RunFault;
 use super::faults::CmdFault;
-use lbk_args::{DEFAULT_LIMIT, Engine, FileName, FileNames, OneLine};
+use super::parts_of_messages::{FolderAdvice, Input, Name, Reason, Why};
+use lbk_args::{DEFAULT_LIMIT, Engine, FileName, FileNames};
 use lbk_feed::TEXT_MAX;
-use lbk_files::{CellsFault, ClaimCause, NamedFault, file_name, name_in_database};
+use lbk_files::{CellsFault, ClaimCause, NamedFault};
 use lbk_notation::ReplayFault;
 use lbk_passage::{LIMIT_MAX, PassageFault};
 use lbk_ucd::Which;
 use std::fmt;
-use std::io::ErrorKind;
 
 /// Who asked for a run: by this its files and devices are named.
 #[derive(Clone, Copy)]
@@ -38,8 +41,8 @@ pub struct Message<'a> {
     pub caller: Caller<'a>,
     /// The operand that names the text; none is standard input.
     pub text: Option<&'a str>,
-    /// The system's reason, where a file or a device failed.
-    pub reason: Option<ErrorKind>,
+    /// Why a file or a device failed.
+    pub reason: Option<Reason>,
     /// Whether the text begins as UTF-16 does.
     pub is_utf16: bool,
 }
@@ -113,8 +116,8 @@ impl<'a> Message<'a> {
     {
         match (self.text, self.caller) {
             (None, Caller::Call) => Input::OfCall,
-            (None | Some("-"), _) => Input::Standard,
-            (Some(name), _) => Input::Named(name),
+            (None, _) => Input::Standard,
+            (Some(name), _) => Input::of_operand(name),
         }
     }
 
@@ -266,17 +269,6 @@ fn than_limit<W: fmt::Write>(f: &mut fmt::Formatter<W>, limit: Option<u32>) -> f
     }
 }
 
-/// How to go on where a file of a folder cannot be read.
-fn advice_of_folder(folder: &str) -> &'static str
-    ensures { result.now ≡ advice_of_folder folder.now }
-{
-    if folder.as_bytes().ends_with(b".zip") {
-        "; unpack it, and name the folder"
-    } else {
-        "; Debian's package unicode-data has the files: --ucd /usr/share/unicode"
-    }
-}
-
 /// The option that names a file of one's own.
 fn option_of(which: Which) -> &'static str
     ensures { result.now ≡ option_of which }
@@ -297,84 +289,5 @@ fn name_in<'a>(files: FileNames<'a>, which: Which) -> FileName<'a>
         Which::EastAsianWidth => files.east_asian,
         Which::Category => files.category,
         Which::Emoji => files.emoji,
-    }
-}
-
-/// The system's reason, after a colon where it gives one.
-#[derive(Clone, Copy)]
-struct Why(Option<ErrorKind>);
-
-impl fmt::Display for Why {
-    ghost output = { λ why. why_text why.0 };
-
-    fn fmt<W: fmt::Write>(&self, f: &mut fmt::Formatter<W>) -> fmt::Result {
-        match self.0 {
-            None | Some(ErrorKind::Other | ErrorKind::Uncategorized) => Ok(()),
-            Some(ErrorKind::NotFound) => write!(f, ": no such file"),
-            Some(kind) => write!(f, ": {kind}"),
-        }
-    }
-}
-
-/// How to go on where a file cannot be read, of a folder if it is of one.
-#[derive(Clone, Copy)]
-struct FolderAdvice<'a>(Option<&'a str>);
-
-impl<'a> fmt::Display for FolderAdvice<'a> {
-    ghost output = { λ advice. Some (advice_of (option_map (λ folder. folder.now) advice.0)) };
-
-    fn fmt<W: fmt::Write>(&self, f: &mut fmt::Formatter<W>) -> fmt::Result {
-        match self.0 {
-            Some(folder) => f.write_str(advice_of_folder(folder)),
-            None => Ok(()),
-        }
-    }
-}
-
-/// The name of a property file.
-#[derive(Clone, Copy)]
-enum Name<'a> {
-    /// That of the Unicode Character Database.
-    Plain(Which),
-    /// That of a sample file.
-    Sample(Which),
-    /// As it stands in the words.
-    Given(&'a str),
-    /// That of a file in a folder.
-    InFolder(&'a str, Which),
-}
-
-impl<'a> fmt::Display for Name<'a> {
-    ghost output = { λ name. Some (text_of_name name) };
-
-    fn fmt<W: fmt::Write>(&self, f: &mut fmt::Formatter<W>) -> fmt::Result {
-        match *self {
-            Name::Plain(which) => f.write_str(file_name(which)),
-            Name::Sample(which) => write!(f, "sample {}", file_name(which)),
-            Name::Given(name) => write!(f, "{}", OneLine(name)),
-            Name::InFolder(folder, which) => {
-                write!(f, "{}/{}", OneLine(folder), name_in_database(which))
-            }
-        }
-    }
-}
-
-/// The input of a run.
-#[derive(Clone, Copy)]
-enum Input<'a> {
-    OfCall,
-    Standard,
-    Named(&'a str),
-}
-
-impl<'a> fmt::Display for Input<'a> {
-    ghost output = { λ input. Some (text_of_input input) };
-
-    fn fmt<W: fmt::Write>(&self, f: &mut fmt::Formatter<W>) -> fmt::Result {
-        match *self {
-            Input::OfCall => f.write_str("the input"),
-            Input::Standard => f.write_str("standard input"),
-            Input::Named(name) => write!(f, "{}", OneLine(name)),
-        }
     }
 }

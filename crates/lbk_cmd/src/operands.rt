@@ -22,7 +22,8 @@ pub trait Texts<'a>: Opens {
 
     /// Reports that the text of a name was refused, and why.
     fn refuse(&mut self, name: &str, fault: RunFault)
-        ensures refused { refused self.new ≡ option_map (λ before. before ++ (name.now, fault) ∷ []) (refused self.old) }
+        ensures refused { refused self.new
+            ≡ option_map (λ before. before ++ (name.now, fault) ∷ []) (refused self.old) }
         ensures contents { Self.contents self.new ≡ Self.contents self.old };
 }
 
@@ -74,7 +75,8 @@ impl<'a> Texts<'a> for MemoryTexts<'_> {
     /// Notes the fault, as long as memory can grow for it.
     fn refuse(&mut self, _name: &str, fault: RunFault)
         ensures noted { Notes fault self.old self.new }
-        ensures refused { refusals_told_by self.new ≡ option_map (λ before. before ++ (_name.now, fault) ∷ []) (refusals_told_by self.old) }
+        ensures refused { refusals_told_by self.new
+            ≡ option_map (λ before. before ++ (_name.now, fault) ∷ []) (refusals_told_by self.old) }
         ensures contents { told_by self.new ≡ told_by self.old }
     {
         let _ = self.refused.push(fault);

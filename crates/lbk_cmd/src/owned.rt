@@ -43,7 +43,7 @@ impl Model for OwnedPassage {
 }
 
 impl OwnedPassage {
-    /// A passage that a segmenter lends. An error comes where memory could not grow.
+    /// A passage that a segmenter lends. Returns an error if memory could not grow.
     pub(crate) fn of(alloc: Global, passage: &Passage<'_>) -> Result<OwnedPassage, AllocError>
         requires { IsPlaced passage.now }
         ensures { IfOk result (λ owned. owned ≡ lent_as passage.now) }

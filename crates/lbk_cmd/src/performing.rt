@@ -2,7 +2,7 @@
 
 ghost use Rattle.std.specs.Prelude.{◌≡◌, map};
 ghost use Rattle.lbk_rules.specs.CellPages.{page_cell};
-ghost use Rattle.lbk_cmd.specs.Acts.{EngineRuns, RangeEnds, RunsOver, form_of};
+ghost use Rattle.lbk_cmd.specs.Acts.{EngineRuns, RangeEnds, RunsOver, RunsReady, form_of};
 ghost use Rattle.lbk_cmd.specs.Devices.{devices_of};
 ghost use Rattle.lbk_cmd.specs.Engines.{engine_of};
 ghost use Rattle.lbk_cmd.specs.Operands.{Reads, ReadsText, ReadsTexts, refused_after, standing};
@@ -12,6 +12,7 @@ use super::ending::{Ending, RunFault};
 use super::engine::{Lines, mark_with, segment, show};
 use super::operands::Texts;
 use super::ranges::write_range;
+use super::titles::write_title;
 use lbk_args::{Engine, Part};
 use lbk_feed::{Sink, Source};
 use lbk_files::{LoadFault, Opens, Ready};
@@ -27,7 +28,7 @@ pub(crate) fn perform<'a, T: Texts<'a>, R: Source, W: Sink>(
     reader: &mut R,
     writer: &mut W,
 ) -> Ending
-    ensures reads { Reads T.File.Source (T.contents texts.old) (RunsOver ready.now.part ready.now.engine ready.now.sign.now ready.now.profile (page_cell ready.now.cells))
+    ensures reads { Reads T.File.Source (T.contents texts.old) (RunsReady ready.now)
         (map (λ name. name.now) ready.now.texts.items)
         (standing (devices_of R.Source W.Sink reader.old writer.old) (T.refused texts.old) Done)
         (standing (devices_of R.Source W.Sink reader.new writer.new) (T.refused texts.new) result) }
@@ -35,7 +36,7 @@ pub(crate) fn perform<'a, T: Texts<'a>, R: Source, W: Sink>(
 {
     let names = ready.texts.as_slice();
     if names.is_empty() {
-        perform_one(alloc, ready, reader, writer)
+        perform_titled(alloc, ready, "-", reader, writer)
     } else {
         perform_all(alloc, ready, names, texts, reader, writer)
     }
@@ -50,7 +51,7 @@ fn perform_all<'a, T: Texts<'a>, R: Source, W: Sink>(
     reader: &mut R,
     writer: &mut W,
 ) -> Ending
-    ensures reads { ReadsTexts T.File.Source (T.contents texts.old) (RunsOver ready.now.part ready.now.engine ready.now.sign.now ready.now.profile (page_cell ready.now.cells))
+    ensures reads { ReadsTexts T.File.Source (T.contents texts.old) (RunsReady ready.now)
         (map (λ name. name.now) names.now)
         (standing (devices_of R.Source W.Sink reader.old writer.old) (T.refused texts.old) Done)
         (standing (devices_of R.Source W.Sink reader.new writer.new) (T.refused texts.new) result) }
@@ -88,16 +89,37 @@ fn perform_named<T: Opens, R: Source, W: Sink>(
     reader: &mut R,
     writer: &mut W,
 ) -> Ending
-    ensures { ReadsText T.File.Source (T.contents texts.now) (RunsOver ready.now.part ready.now.engine ready.now.sign.now ready.now.profile (page_cell ready.now.cells)) name.now
+    ensures { ReadsText T.File.Source (T.contents texts.now) (RunsReady ready.now) name.now
         (devices_of R.Source W.Sink reader.old writer.old) (devices_of R.Source W.Sink reader.new writer.new) result }
 {
     if name == "-" {
-        return perform_one(alloc, ready, reader, writer);
+        return perform_titled(alloc, ready, name, reader, writer);
     }
     match texts.open(name) {
-        Ok(mut file) => perform_one(alloc, ready, &mut file, writer),
+        Ok(mut file) => perform_titled(alloc, ready, name, &mut file, writer),
         Err(LoadFault::Unreadable) => Ending::Refused(RunFault::Open),
         Err(LoadFault::Memory) => Ending::Refused(RunFault::Memory),
+    }
+}
+
+/// Runs the engine that is ready over the text of a name, behind the line of the name if this is asked for.
+#[tactic(none)]
+fn perform_titled<R: Source, W: Sink>(
+    alloc: Global,
+    ready: &Ready<'_>,
+    name: &str,
+    reader: &mut R,
+    writer: &mut W,
+) -> Ending
+    ensures { RunsReady ready.now name.now
+        (devices_of R.Source W.Sink reader.old writer.old) (devices_of R.Source W.Sink reader.new writer.new) result }
+{
+    if !ready.names {
+        return perform_one(alloc, ready, reader, writer);
+    }
+    match write_title(alloc, name, writer) {
+        Ok(()) => perform_one(alloc, ready, reader, writer),
+        Err(fault) => Ending::of_text(Err(fault)),
     }
 }
 

@@ -13,8 +13,9 @@ use lbk_passage::Segmenter;
 use lbk_rules::{CellSource, Profile};
 use std::alloc::Global;
 
-/// Writes the lines of the passages that begin in a range of bytes, as they are of the whole text. The text is read from its
-/// start, passages before the range are passed over, and no more is read once one ended at the end of the range or after it.
+/// Writes the lines of the passages that begin in a range of bytes, as they are of the whole text. The text is read
+/// from its start, passages before the range are passed over, and no more is read once one ended at the end of the
+/// range or after it.
 ///
 /// `limit` and the faults are those of `show`: what stands before the range is refused as in a run over the whole text.
 pub fn write_range<R: Source, W: Sink, C: CellSource>(

@@ -1,6 +1,7 @@
 //! The text that `mark` writes of a passage.
 
-ghost use Rattle.std.specs.Prelude.{◌≡◌, ◌<◌, ◌≤◌, ◌^◌, ◌++◌, [], List, drop, length, map, take, IfOk, IfSome, OnOk, None, false};
+ghost use Rattle.std.specs.Prelude.{◌≡◌, ◌<◌, ◌≤◌, ◌^◌, ◌++◌, [], List, drop, length, map, take, IfOk, IfSome, OnOk};
+ghost use Rattle.std.specs.Prelude.{None, false};
 ghost use Rattle.std.specs.List.{last_or};
 ghost use Rattle.std.specs.Option.{option_map_or};
 ghost use Rattle.std.specs.Str.{chars};
@@ -23,8 +24,8 @@ pub const NO_BREAKS: [Break; BLOCK] = [Break {
     rule: Rule::Lb31,
 }; BLOCK];
 
-/// Puts the text of a passage at the end of `out`, with a mark at each position where a line may end, and with a line end where
-/// the text has none. `block` is a list to work in. After an error some of it may stand there.
+/// Puts the text of a passage at the end of `out`, with a mark at each position where a line may end, and with a line
+/// end where the text has none. `block` is a list to work in. After an error some of it may stand there.
 #[tactic(auto, using(crate::proofs::Places::front_append))]
 pub fn push_signed<C: CellSource>(
     out: &mut Vec<u8>,
@@ -79,8 +80,8 @@ fn push_rest(out: &mut Vec<u8>, text: &[u8], start: usize) -> Result<(), AllocEr
     out.extend_from_slice(&text[start..])
 }
 
-/// Puts the text from the byte `start` up to the last of these breaks at the end of `out`, with their signs, and returns
-/// where the rest begins.
+/// Puts the text from the byte `start` up to the last of these breaks at the end of `out`, with their signs, and
+/// returns where the rest begins.
 #[tactic(auto, using(crate::proofs::Places::front_append))]
 fn push_block(
     out: &mut Vec<u8>,
@@ -91,7 +92,8 @@ fn push_block(
 ) -> Result<usize, AllocError>
     requires { IsCut start (length text.now) block.now }
     ensures put { IfOk result (λ next. (more : List Break)
-        → out.new.items ++ signed_from mark.now text.now next more ≡ out.old.items ++ signed_from mark.now text.now start (block.now ++ more)) }
+        → out.new.items ++ signed_from mark.now text.now next more ≡ out.old.items
+        ++ signed_from mark.now text.now start (block.now ++ more)) }
     ensures cut { IfOk result (λ next. (more : List Break)
         → IsCut start (length text.now) (block.now ++ more) → IsCut next (length text.now) more) }
     ensures kept { take (length out.old.items) out.new.items ≡ out.old.items }

@@ -1,5 +1,6 @@
 -- Where a text of any bytes may be cut, so that its parts are decided apart.
-use Rattle.std.specs.Prelude.{◌≡◌, ◌⊎◌, ℕ, ◌+◌, ◌-◌, ◌<◌, ◌≤◌, false, true, List, [], ◌∷◌, ◌++◌, length, map, min, take, drop}
+use Rattle.std.specs.Prelude.{◌≡◌, ◌⊎◌, ℕ, ◌+◌, ◌-◌, ◌<◌, ◌≤◌, false, true, List, [], ◌∷◌, ◌++◌, length, map, min}
+use Rattle.std.specs.Prelude.{take, drop}
 use Rattle.std.specs.List.{flat_map}
 use Rattle.bstr.specs.Utf8.{lossy_chars, pieces}
 use Rattle.lbk_rules.specs.declared.Break.{Break}
@@ -23,7 +24,8 @@ EndsBefore cell text place =
 abbrev pub IsSafeCut : (ℕ → Cell) → List ℕ → ℕ → Type 0
 IsSafeCut cell text place = (place ≡ 0) ⊎ (place ≡ length text) ⊎ EndsBefore cell text place
 
--- the first place at or after `at` at which a part may begin · the last one at or before it. A place past the text counts as its end
+-- the first place at or after `at` at which a part may begin · the last one at or before it. A place past the text
+-- counts as its end
 pub record IsCutAfter (cell : ℕ → Cell) (text : List ℕ) (at result : ℕ) : Type 0 where
   pub within : result ≤ length text
   pub behind : min at (length text) ≤ result
@@ -46,8 +48,8 @@ positions_of_part profile cell part =
     take (length (positions_of_bytes profile cell part) - 1) (positions_of_bytes profile cell part)
     ++ open_end profile cell (lossy_chars part) (length part)
 
--- cut there, the breaks and the positions of the text are those of its parts, if the places of the second are moved by the bytes
--- of the first. The position at the cut comes once, as the last of the first part
+-- cut there, the breaks and the positions of the text are those of its parts, if the places of the second are moved
+-- by the bytes of the first. The position at the cut comes once, as the last of the first part
 pub record JoinsAt (profile : Profile) (cell : ℕ → Cell) (text : List ℕ) (place : ℕ) : Type 0 where
   pub breaks :
       breaks_of_bytes profile cell text

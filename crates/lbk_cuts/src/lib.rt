@@ -1,4 +1,5 @@
-//! Where a text of any bytes may be cut into parts, so that the breaks of the parts, one after another, are those of the text.
+//! Where a text of any bytes may be cut into parts, so that the breaks of the parts, one after another, are those of
+//! the text.
 #![tactic(auto)]
 
 mod laws;

@@ -12,12 +12,12 @@ ghost use Rattle.lbk_cuts.specs.Looking.{LastIs, NextIs};
 use bstr::{decode_last_lossy, decode_lossy};
 use lbk_rules::{Class, FlatTable};
 
-/// The first byte at or after `at` at which a part of a text may begin: one before which a line must end (UAX #14, section
-/// 6.1, rules LB4 and LB5), or the end of the text. A place past the text counts as its end, and 0 is its start, at which the
-/// first part begins.
+/// The first byte at or after `at` at which a part of a text may begin: one before which a line must end (UAX #14,
+/// section 6.1, rules LB4 and LB5), or the end of the text. A place past the text counts as its end, and 0 is its
+/// start, at which the first part begins.
 ///
-/// The breaks of the parts are those of the whole: the places of a later part count from its start, and where another part
-/// follows a part, its end is by rule 4 or 5, in the place of 3.
+/// The breaks of the parts are those of the whole: the places of a later part count from its start, and where another
+/// part follows a part, its end is by rule 4 or 5, in the place of 3.
 pub fn cut(table: &FlatTable, text: &[u8], at: usize) -> usize
     ensures within { result ≤ length text.now }
     ensures past { length text.now ≤ at → result ≡ length text.now }
@@ -26,7 +26,8 @@ pub fn cut(table: &FlatTable, text: &[u8], at: usize) -> usize
     // Whatever the table, no part begins within a scalar, nor within bytes that are read as one U+FFFD.
     ensures begins { IsPieceStart text.now result }
     ensures first { (cell : ℕ → Cell) → IsFlatOf table.now cell → IsCutAfter cell text.now at result }
-    ensures joined { (cell : ℕ → Cell) (profile : Profile) → IsFlatOf table.now cell → 0 < result → result < length text.now
+    ensures joined { (cell : ℕ → Cell) (profile : Profile) → IsFlatOf table.now cell → 0 < result
+        → result < length text.now
         → JoinsAt profile cell text.now result }
 {
     if text.len() <= at {
@@ -45,7 +46,8 @@ pub fn cut_before(table: &FlatTable, text: &[u8], at: usize) -> usize
     ensures before { result ≤ at }
     ensures begins { IsPieceStart text.now result }
     ensures last { (cell : ℕ → Cell) → IsFlatOf table.now cell → IsCutBefore cell text.now at result }
-    ensures joined { (cell : ℕ → Cell) (profile : Profile) → IsFlatOf table.now cell → 0 < result → result < length text.now
+    ensures joined { (cell : ℕ → Cell) (profile : Profile) → IsFlatOf table.now cell → 0 < result
+        → result < length text.now
         → JoinsAt profile cell text.now result }
 {
     if text.len() <= at {
@@ -62,7 +64,8 @@ fn first_cut(table: &FlatTable, text: &[u8], start: usize) -> usize
     ensures behind { start + (decoded (drop start text.now)).size ≤ result }
     ensures begins { IsPieceStart text.now result }
     ensures safe { (cell : ℕ → Cell) → AreFlatKinds table.now.kinds cell → IsSafeCut cell text.now result }
-    ensures least { (cell : ℕ → Cell) (place : ℕ) → AreFlatKinds table.now.kinds cell → start < place → place < result → ¬ IsSafeCut cell text.now place }
+    ensures least { (cell : ℕ → Cell) (place : ℕ) → AreFlatKinds table.now.kinds cell → start < place → place < result
+        → ¬ IsSafeCut cell text.now place }
 {
     let (mut last, size) = class_at(table, text, start);
     let mut place = start + size;
@@ -84,7 +87,8 @@ fn last_cut(table: &FlatTable, text: &[u8], start: usize) -> usize
     ensures before { result ≤ start }
     ensures begins { IsPieceStart text.now result }
     ensures safe { (cell : ℕ → Cell) → AreFlatKinds table.now.kinds cell → IsSafeCut cell text.now result }
-    ensures greatest { (cell : ℕ → Cell) (place : ℕ) → AreFlatKinds table.now.kinds cell → result < place → place ≤ start → ¬ IsSafeCut cell text.now place }
+    ensures greatest { (cell : ℕ → Cell) (place : ℕ) → AreFlatKinds table.now.kinds cell → result < place
+        → place ≤ start → ¬ IsSafeCut cell text.now place }
 {
     let (mut next, _) = class_at(table, text, start);
     let mut place = start;
@@ -127,7 +131,8 @@ fn class_before(table: &FlatTable, text: &[u8], place: usize) -> (Class, usize)
     requires within { place ≤ length text.now }
     requires begins { IsPieceStart text.now place }
     ensures last { (cell : ℕ → Cell) → AreFlatKinds table.now.kinds cell → LastIs cell text.now place result.0 }
-    ensures first { (cell : ℕ → Cell) → AreFlatKinds table.now.kinds cell → NextIs cell text.now (place - result.1) result.0 }
+    ensures first { (cell : ℕ → Cell) → AreFlatKinds table.now.kinds cell
+        → NextIs cell text.now (place - result.1) result.0 }
     ensures some { 0 < result.1 }
     ensures fits { result.1 ≤ place }
     ensures begins { IsPieceStart text.now (place - result.1) }

@@ -1,7 +1,8 @@
 -- What is wrong with a property file, in words.
 use Rattle.std.specs.Prelude.{ℕ, List, codes}
 use Rattle.lbk_ucd.specs.declared.faults.UcdCause.{UcdCause}
-use Rattle.lbk_ucd.specs.declared.faults.UcdCause.TheVariants.{FileTooLong, LineTooLong, RowSyntax, Range, UnknownValue, Overlap, TooManyRows, Memory}
+use Rattle.lbk_ucd.specs.declared.faults.UcdCause.TheVariants.{FileTooLong, LineTooLong, RowSyntax, Range}
+use Rattle.lbk_ucd.specs.declared.faults.UcdCause.TheVariants.{UnknownValue, Overlap, TooManyRows, Memory}
 
 abbrev pub cause_text : UcdCause → List ℕ
 cause_text FileTooLong = codes "the file has more than 8388608 bytes"

@@ -28,8 +28,8 @@ const EMOJI: [u8; 32] = [
     0xeb, 0x02, 0x58, 0x66, 0x74, 0x07, 0x91, 0xf9, 0xc2, 0xd0, 0xb5, 0x5c, 0xc4, 0x5a, 0x34, 0x70,
 ];
 
-/// Whether a file is, byte for byte, that of its name in Unicode 15.0.0, where CR LF at the end of a line counts as LF. A
-/// file of more than 8,388,608 bytes is none, and is not read.
+/// Whether a file is, byte for byte, that of its name in Unicode 15.0.0, where CR LF at the end of a line counts as
+/// LF. A file of more than 8,388,608 bytes is none, and is not read.
 pub fn is_published(which: Which, bytes: &[u8]) -> bool
     ensures { IsTrue result ↔ IsPublished which bytes.now }
 {

@@ -1,5 +1,6 @@
 -- What one call of a device does: its counts, its end, and its bytes where the device tells them.
-use Rattle.std.specs.Prelude.{◌≡◌, ℕ, ◌+◌, ◌-◌, ◌^◌, ◌<◌, ◌==◌, ◌&&◌, ◌||◌, min, nat_lt, Bool, List, length, take, Option, None, Some, Result, Ok, Err, MatchResult, ⊤}
+use Rattle.std.specs.Prelude.{◌≡◌, ℕ, ◌+◌, ◌-◌, ◌^◌, ◌<◌, ◌==◌, ◌&&◌, ◌||◌, min, nat_lt, Bool, List, length, take}
+use Rattle.std.specs.Prelude.{Option, None, Some, Result, Ok, Err, MatchResult, ⊤}
 use Rattle.std.specs.Io.KnownBytes.{Keeps, Appends, Consumes, IsAtEnd}
 
 -- how many reads were made, and how many bytes the last of them gave: none where it failed, or where none was made

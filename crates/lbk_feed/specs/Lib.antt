@@ -9,6 +9,7 @@ pub mod Device
 pub mod MemorySource
 pub mod MemorySink
 pub mod RepeatedSource
+pub mod Within
 -- What only carries proofs.
 pub mod Block
 pub mod Judge

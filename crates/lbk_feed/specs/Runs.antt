@@ -1,4 +1,5 @@
--- What is said of a run that reads a stream and writes another: what it took, what it put out, and when a device failed.
+-- What is said of a run that reads a stream and writes another: what it took, what it put out, and when a device
+-- failed.
 use Rattle.std.specs.Prelude.{◌≡◌, ℕ, ◌-◌, ◌^◌, ◌<◌, Bool, true, false, List, ◌++◌, take, Option, Some}
 use Rattle.std.specs.Io.KnownBytes.{Consumes, Appends, prepend_known}
 use Rattle.lbk_feed.specs.Devices.{KeepsIfTold}

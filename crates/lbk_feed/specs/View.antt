@@ -1,5 +1,6 @@
 -- A feed as its callers see it, and what its calls say of it.
-use Rattle.std.specs.Prelude.{◌≡◌, ◌⊎◌, ℕ, ◌+◌, ◌<◌, ◌≤◌, Bool, true, false, ◌||◌, List, [], ◌++◌, length, Option, None, Some, IfSome, IfNone, is_some, Result, Ok, Err, IfOk, MatchOption, ⊤, IsUtf8}
+use Rattle.std.specs.Prelude.{◌≡◌, ◌⊎◌, ℕ, ◌+◌, ◌<◌, ◌≤◌, Bool, true, false, ◌||◌, List, [], ◌++◌, length, Option}
+use Rattle.std.specs.Prelude.{None, Some, IfSome, IfNone, is_some, Result, Ok, Err, IfOk, MatchOption, ⊤, IsUtf8}
 use Rattle.std.specs.Borrow.{Bor}
 use Rattle.std.specs.Io.KnownBytes.{prepend_known, Keeps, IsAtEnd}
 use Rattle.lbk_feed.specs.declared.faults.FeedFault.{FeedFault}
@@ -104,8 +105,8 @@ pub record Steps (old new : View) (before after : Option (List ℕ)) (fault : Op
 abbrev pub IsStill : List ℕ → List ℕ → Reads → Reads → Type 0
 IsStill held held' from to = (held' ≡ held) × (to ≡ from)
 
--- reads are made only while the bytes held may go on to a piece: before the last of them, those that the others gave, at
--- least one each, still could
+-- reads are made only while the bytes held may go on to a piece: before the last of them, those that the others gave,
+-- at least one each, still could
 pub record AreDue (given : ℕ) (held held' : List ℕ) (from to : Reads) : Type 0 where
   pub seen : List ℕ
   pub last : List ℕ

@@ -10,7 +10,7 @@ use std::io::{Read, Write};
 
 /// A source over any reader of std, or a sink over any writer of std.
 ///
-/// A call that was interrupted fails, and so does a write that takes no byte of a list that is not empty.
+/// An interrupted call fails. A write that accepts no byte of a buffer with bytes also fails.
 ///
 /// ```rust
 /// let mut room = [0; 5];
@@ -36,7 +36,7 @@ impl<D> Device<D> {
         }
     }
 
-    /// What the device is over, as its calls left it.
+    /// Returns the inner reader or writer.
     pub fn into_inner(self) -> D
         ensures { result ≡ inner_of self }
     {

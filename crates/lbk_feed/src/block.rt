@@ -1,4 +1,4 @@
-//! The bytes that were read and not yet used up.
+//! The buffer for bytes that were read and not yet consumed.
 
 ghost use Rattle.std.specs.Prelude.{◌≤◌};
 
@@ -7,7 +7,7 @@ use crate::traits::{Failed, Source};
 /// How many bytes a block holds.
 const BLOCK: usize = 4096;
 
-/// Up to 4,096 bytes in a row: used up at the front, read to the end.
+/// A buffer of 4,096 bytes: consumed at the front, filled at the end.
 #[derive(Drop)]
 pub struct Block {
     bytes: [u8; BLOCK],
@@ -44,7 +44,7 @@ impl Block {
         self.end - self.start
     }
 
-    /// Lets the first n bytes go.
+    /// Drops the first n bytes.
     pub fn consume(&mut self, n: usize)
         requires { n ≤ length (items self.old) }
         ensures { items self.new ≡ drop n (items self.old) }
@@ -52,7 +52,7 @@ impl Block {
         self.start += n;
     }
 
-    /// Moves what is held to the front, so that all the room there is comes after it.
+    /// Moves the held bytes to the front, so that all free room is after them.
     fn move_to_front(&mut self)
         ensures items { items self.new ≡ items self.old }
         ensures start { self.new.start ≡ 0 }
@@ -62,7 +62,7 @@ impl Block {
         self.start = 0;
     }
 
-    /// Makes one read, after what is held, and returns how many bytes it gave.
+    /// Reads once, after the held bytes, and returns the number of bytes read.
     pub fn read_from<R: Source>(&mut self, reader: &mut R) -> Result<usize, Failed>
         requires { length (items self.old) < 4096 }
         ensures fills { Fills (items self.old) (items self.new) (R.unread reader.old) (R.unread reader.new) result }

@@ -1,4 +1,4 @@
-//! Devices over memory, whose reads and writes are cut and fail where a test wants it.
+//! In-memory devices for tests, with short and failing reads and writes.
 
 mod memory_sink;
 mod memory_source;

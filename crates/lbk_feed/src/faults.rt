@@ -5,13 +5,13 @@
 pub enum FeedFault {
     /// The reader failed in this call.
     Read,
-    /// The bytes from `at` on, counted from 0, are ill-formed, or the input ended inside a scalar there.
+    /// The bytes from offset `at` on are ill-formed, or the input ended inside a scalar there.
     ///
     /// `at` is the length of the longest well-formed prefix of what was read, of its first 1,073,741,824 bytes
     /// (Unicode Standard, Table 3-7).
     NotUtf8 { at: u64 },
-    /// More than 1,073,741,824 bytes were read, and the first of them are well-formed, or end inside a scalar.
+    /// More than 1,073,741,824 bytes were read, and that many are well-formed, or end inside a scalar.
     TextTooLong,
-    /// An earlier call has returned one of the others.
+    /// An earlier call returned one of the other faults.
     Spent,
 }

@@ -1,4 +1,4 @@
-//! What was read and is not yet used up, and how far it is well-formed.
+//! The bytes that were read and not yet consumed, and how many of them are well-formed.
 #![tactic(auto, unfolding(crate::specs::Intake::view_of))]
 
 ghost use Rattle.std.specs.Prelude.{◌≡◌};
@@ -12,11 +12,11 @@ use crate::limits::TEXT_MAX;
 use crate::traits::{Failed, Source};
 use std::str;
 
-/// The most reads that one call can want: at most three bytes are held when a read is wanted, each read gives
-/// at least one, and four bytes are a scalar or at fault.
+/// The most reads of one call: at most three bytes are held before a read, each read returns at least one, and four
+/// bytes are a scalar or ill-formed.
 const READS: usize = 4;
 
-/// The bytes held, how many at their front are ready to be lent, and what stands after those.
+/// The held bytes, how many of them are ready to be lent, and what follows those.
 #[derive(Drop)]
 pub struct Intake {
     block: Block,
@@ -29,10 +29,12 @@ pub struct Intake {
 }
 
 impl Intake {
-    ghost use Rattle.std.specs.Prelude.{◌+◌, ◌≤◌, ◌<◌, ◌⊎◌, ◌||◌, true, false, length, drop, IfErr, OnOk, OnErr, IfSome, IfNone, IsOk, is_err, []};
+    ghost use Rattle.std.specs.Prelude.{◌+◌, ◌≤◌, ◌<◌, ◌⊎◌, ◌||◌, true, false, length, drop, IfErr, OnOk, OnErr};
+    ghost use Rattle.std.specs.Prelude.{IfSome, IfNone, IsOk, is_err, []};
     ghost use Rattle.std.specs.Str.{IsCharBoundary};
     ghost use Rattle.lbk_feed.specs.Devices.{failures_after};
-    ghost use Rattle.lbk_feed.specs.View.{new_view, IsFront, LendsFront, LiesIn, Steps, Pays, Agrees, IsOfText, IsIdle, fault_of, failures_with};
+    ghost use Rattle.lbk_feed.specs.View.{new_view, IsFront, LendsFront, LiesIn, Steps, Pays, Agrees, IsOfText};
+    ghost use Rattle.lbk_feed.specs.View.{IsIdle, fault_of, failures_with};
     ghost use Rattle.lbk_feed.specs.Intake.{view_of, WantsMore, IsSettled, Draws, DrawsAndFails};
 
     pub fn new() -> Intake
@@ -65,7 +67,7 @@ impl Intake {
         unsafe { str::from_utf8_unchecked(bytes) }
     }
 
-    /// Uses up the first n bytes that are ready.
+    /// Consumes the first n ready bytes.
     pub fn use_up(&mut self, n: usize)
         requires { IsCharBoundary (view_of self.old).ready n }
         ensures held { (view_of self.new).held ≡ drop n (view_of self.old).held }
@@ -81,7 +83,7 @@ impl Intake {
         self.given += n as u64;
     }
 
-    /// Whether nothing is ready, and only a read can say what comes.
+    /// Whether nothing is ready, and a read is needed.
     fn wants_more(&self) -> bool
         ensures yes { result ≡ true → WantsMore self.now }
         ensures no { result ≡ false → IsSettled self.now }
@@ -95,7 +97,7 @@ impl Intake {
         !self.is_ended
     }
 
-    /// What is wrong with the bytes held, where nothing is ready and no read is due.
+    /// The fault of the held bytes, if nothing is ready and no read is needed.
     fn fault(&self) -> Option<FeedFault>
         requires { IsSettled self.now }
         ensures lies { IfSome result (λ e. ((view_of self.now).ready ≡ []) × LiesIn e (view_of self.now)) }
@@ -119,7 +121,7 @@ impl Intake {
         None
     }
 
-    /// Makes one read where one is due.
+    /// Reads once, if a read is needed.
     fn read_more<R: Source>(&mut self, reader: &mut R) -> Result<(), Failed>
         requires due { WantsMore self.old }
         requires unspent { self.old.is_spent ≡ false }
@@ -141,7 +143,7 @@ impl Intake {
         Ok(())
     }
 
-    /// Reads where a read is due, until a piece is ready, a fault is certain or the end is met.
+    /// Reads until a piece is ready, a fault is certain, or the end is reached.
     fn refill<R: Source>(&mut self, reader: &mut R) -> Result<(), Failed>
         requires due { WantsMore self.old }
         requires unspent { self.old.is_spent ≡ false }
@@ -163,7 +165,7 @@ impl Intake {
         unreachable!()
     }
 
-    /// Returns what is wrong with the bytes held, once and for all.
+    /// Returns the fault of the held bytes, and `Spent` from then on.
     fn finish(&mut self) -> Result<(), FeedFault>
         requires settled { IsSettled self.old }
         requires unspent { self.old.is_spent ≡ false }
@@ -183,7 +185,7 @@ impl Intake {
         }
     }
 
-    /// Makes sure that a piece is ready or the end was met, by reads where they are due.
+    /// Reads until a piece is ready or the end is reached.
     pub fn settle<R: Source>(&mut self, reader: &mut R) -> Result<(), FeedFault>
         ensures steps { Steps (view_of self.old) (view_of self.new) (R.unread reader.old) (R.unread reader.new)
             (fault_of result) }

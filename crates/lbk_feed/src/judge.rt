@@ -1,4 +1,4 @@
-//! How far bytes are well-formed, and what stands there.
+//! How many leading bytes are well-formed, and what follows them.
 
 ghost use Rattle.std.specs.Prelude.{◌≡◌, ◌≢◌, ◌≤◌, true, false};
 ghost use Rattle.std.specs.Str.Lossy.{utf8_valid_len};
@@ -13,9 +13,9 @@ use simdutf8::compat;
 pub enum Stop {
     /// Nothing.
     Whole,
-    /// Some bytes of one scalar, but not all of them.
+    /// The leading bytes of a scalar, without the rest.
     Cut,
-    /// Bytes that no scalar's bytes go on from.
+    /// Bytes that begin no scalar.
     Faulty,
 }
 
@@ -35,7 +35,7 @@ pub struct Judgement {
     pub stop: Stop,
 }
 
-/// Judges the bytes held after `given` others, as many of them as a text may have.
+/// Judges the bytes after the first `given` ones of a text, up to the size limit of a text.
 pub fn judge(held: &[u8], given: u64) -> Judgement
     requires { given ≤ TEXT_MAX }
     ensures ready_len { result.ready_len ≡ utf8_valid_len (in_reach given held.now) }

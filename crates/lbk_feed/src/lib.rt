@@ -1,4 +1,4 @@
-//! Devices that give and take bytes, and the feed, which makes well-formed UTF-8 of what one gives.
+//! Devices that read and write bytes, and the feed, which makes well-formed UTF-8 of what a device reads.
 #![tactic(auto)]
 
 mod adapter;
@@ -9,6 +9,7 @@ mod intake;
 mod judge;
 pub mod laws;
 mod limits;
+pub mod noted;
 mod pieces;
 mod tally;
 mod traits;

@@ -1,7 +1,7 @@
-//! How many bytes a text and its parts may have.
+//! The size limits of a text and of a paragraph.
 
-/// The most bytes of a text: 2 to the power of 30.
+/// The greatest size of a text in bytes: 1 GiB.
 pub const TEXT_MAX: u64 = 1_073_741_824;
 
-/// The most bytes that a limit may give a paragraph: 2 to the power of 24.
+/// The greatest limit of a paragraph in bytes: 16 MiB.
 pub const LIMIT_MAX: u32 = 16_777_216;

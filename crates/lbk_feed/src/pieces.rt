@@ -1,12 +1,14 @@
-//! Well-formed pieces of what a reader gives.
+//! Well-formed pieces of a reader's bytes.
 
-ghost use Rattle.std.specs.Prelude.{◌≡◌, ◌+◌, ◌≤◌, ◌<◌, drop, length, true, false, IfOk, IfSome, IsOkAnd, IsSomeAnd, IsUtf8, []};
+ghost use Rattle.std.specs.Prelude.{◌≡◌, ◌+◌, ◌≤◌, ◌<◌, drop, length, true, false, IfOk, IfSome, IsOkAnd, IsSomeAnd};
+ghost use Rattle.std.specs.Prelude.{IsUtf8, []};
 ghost use Rattle.std.specs.Borrow.{sem};
 ghost use Rattle.std.specs.Io.BufRead.{Rests};
 ghost use Rattle.std.specs.Str.{IsCharBoundary};
 ghost use Rattle.std.specs.Bool.{OnTrue, OnFalse};
 ghost use Rattle.lbk_feed.specs.Text.{longest_text};
-ghost use Rattle.lbk_feed.specs.View.{new_view, IsFront, LendsFront, IsIdle, Steps, Pays, Agrees, AfterPiece, fault_of, failures_with};
+ghost use Rattle.lbk_feed.specs.View.{new_view, IsFront, LendsFront, IsIdle, Steps, Pays, Agrees, AfterPiece};
+ghost use Rattle.lbk_feed.specs.View.{fault_of, failures_with};
 ghost use Rattle.lbk_feed.specs.contracts.pieces.Feed.{the_row};
 
 use crate::faults::FeedFault;
@@ -14,10 +16,9 @@ use crate::intake::Intake;
 use crate::traits::Source;
 use std::marker::Model;
 
-/// Makes well-formed pieces of UTF-8 of the bytes that a reader gives, however its reads are cut (Unicode Standard,
-/// Table 3-7).
+/// Makes well-formed pieces of UTF-8 from a reader's bytes, for reads of any size (Unicode Standard, Table 3-7).
 ///
-/// One reader serves all calls of a feed. No call takes memory.
+/// Pass the same reader to all calls of a feed. No call allocates.
 #[derive(Drop)]
 pub struct Feed {
     intake: Intake,
@@ -43,7 +44,7 @@ impl Feed {
         }
     }
 
-    /// How many bytes were used up so far; never more than 1,073,741,824.
+    /// How many bytes were consumed so far; at most 1,073,741,824.
     pub fn given(&self) -> u64
         ensures given { result ≡ self.now.given }
         ensures within { result ≤ longest_text }
@@ -51,7 +52,7 @@ impl Feed {
         self.intake.given()
     }
 
-    /// The well-formed bytes that were read and not yet used up.
+    /// The well-formed bytes that were read and not yet consumed.
     pub fn ready(&self) -> &str
         ensures ready { result.now ≡ self.now.ready }
         ensures front { IsFront self.now }
@@ -60,20 +61,20 @@ impl Feed {
         self.intake.ready()
     }
 
-    /// Uses up the first `n` bytes of `ready`, of which none ends inside a scalar.
+    /// Consumes the first `n` bytes of `ready`. `n` must be on a character boundary.
     pub fn advance(&mut self, n: usize)
         requires { IsCharBoundary self.old.ready n }
-        ensures used { self.new ≡ record self.old { held = drop n self.old.held; ready = drop n self.old.ready; given = self.old.given + n } }
+        ensures used { self.new ≡ record self.old
+            { held = drop n self.old.held; ready = drop n self.old.ready; given = self.old.given + n } }
         ensures front { IsFront self.new }
         ensures lends { LendsFront self.new }
     {
         self.intake.use_up(n);
     }
 
-    /// Reads where a read is due, until a piece stands in `ready`, and returns whether one does; if not, the text
-    /// is at its end.
+    /// Reads until `ready` has a piece, and returns whether it has one; `false` is the end of the text.
     ///
-    /// It is `piece` with nothing lent: it makes the same reads, and meets the same faults.
+    /// It is `piece` without the loan: it makes the same reads, and returns the same faults.
     pub fn settle<R: Source>(&mut self, reader: &mut R) -> Result<bool, FeedFault>
         ensures steps { Steps self.old self.new (R.unread reader.old) (R.unread reader.new) (fault_of result) }
         ensures pays { Pays self.old self.new (R.reads_made reader.old) (R.reads_made reader.new) }
@@ -88,7 +89,7 @@ impl Feed {
         ensures spent { self.old.is_spent ≡ true → result ≡ Err FeedFault.Spent }
         ensures spent_only { result ≡ Err FeedFault.Spent → self.old.is_spent ≡ true }
 
-        // Where a piece is ready, the end was met, or a fault was returned or is certain, no read is made.
+        // Where a piece is ready, the end was reached, or a fault was returned or is certain, no read is made.
         ensures idle { IsIdle self.old → reader.new ≡ reader.old }
         ensures read { result ≡ Err FeedFault.Read → ¬ (IsIdle self.old) }
         ensures reads { (R.reads_made reader.new).count ≤ (R.reads_made reader.old).count + 4 }
@@ -99,10 +100,11 @@ impl Feed {
         Ok(!self.intake.ready().is_empty())
     }
 
-    /// The next piece, which is all that is ready and never empty, or `None` at the end of the text.
+    /// The next piece: all ready bytes, at least one; or `None` at the end of the text.
     ///
-    /// What `advance` does not use up is lent again. `NotUtf8` and `TextTooLong` come once all well-formed bytes before
-    /// them were used up, `Read` where a read failed, and `Spent` after any of these. At most four reads are made.
+    /// Bytes that `advance` does not consume are lent again. Errors are `NotUtf8` and `TextTooLong`, once all
+    /// well-formed bytes before the fault were consumed; `Read`, if a read failed; and `Spent` after any of these. A
+    /// call makes at most four reads.
     pub fn piece<R: Source>(&mut self, reader: &mut R) -> Result<Option<&str>, FeedFault>
         ensures* after_borrow { sem 𝓛 (Rests the_row self.entry (λ new.
             AfterPiece self.old new (R.unread reader.old) (R.unread reader.new)
@@ -117,7 +119,7 @@ impl Feed {
         ensures spent { self.old.is_spent ≡ true → result ≡ Err FeedFault.Spent }
         ensures spent_only { result ≡ Err FeedFault.Spent → self.old.is_spent ≡ true }
 
-        // Where a piece is ready, the end was met, or a fault was returned or is certain, no read is made.
+        // Where a piece is ready, the end was reached, or a fault was returned or is certain, no read is made.
         ensures idle { IsIdle self.old → reader.new ≡ reader.old }
         ensures read { result ≡ Err FeedFault.Read → ¬ (IsIdle self.old) }
         ensures reads { (R.reads_made reader.new).count ≤ (R.reads_made reader.old).count + 4 }

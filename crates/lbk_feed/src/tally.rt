@@ -5,7 +5,7 @@ ghost use Rattle.lbk_feed.specs.Devices.{count_up, given_by, failures_after, end
 
 use super::traits::Failed;
 
-/// The reads and the failures of a device, how many bytes the last read gave, and whether the end was met.
+/// The counts of a device: reads, failures, the size of the last read, and whether the end was reached.
 #[derive(Clone, Copy, Debug)]
 pub struct Tally {
     pub reads: u64,
@@ -29,7 +29,7 @@ impl Tally {
         }
     }
 
-    /// Notes a read into a list of `room` bytes.
+    /// Records a read into a buffer of `room` bytes.
     pub fn note_read(&mut self, outcome: &Result<usize, Failed>, room: usize)
         ensures reads { self.new.reads ≡ count_up self.old.reads }
         ensures gave { self.new.gave ≡ given_by outcome.now }
@@ -47,7 +47,7 @@ impl Tally {
         }
     }
 
-    /// Notes a write.
+    /// Records a write.
     pub fn note_write(&mut self, outcome: &Result<usize, Failed>)
         ensures { self.new ≡ record self.old { failures = failures_after self.old.failures outcome.now } }
     {

@@ -1,4 +1,4 @@
-//! What the calls above ask of a reader and of a writer.
+//! The interfaces of readers and writers.
 
 ghost use Rattle.std.specs.Prelude.{◌≡◌, ℕ, ◌<◌, ◌≤◌, Bool, List, Option, length, IfOk};
 ghost use Rattle.lbk_feed.specs.Devices.{Reads, count_up, given_by, failures_after, ended_after, Takes, Puts};
@@ -7,24 +7,24 @@ ghost use Rattle.lbk_feed.specs.Devices.{Reads, count_up, given_by, failures_aft
 #[derive(Clone, Copy, Debug, PartialEq, Eq)]
 pub struct Failed;
 
-/// A reader whose failures and whose end can be asked for.
+/// A reader that counts its reads and failures, and knows whether it has ended.
 ///
-/// A count stays at `u64::MAX` once it is there.
+/// Counts saturate at `u64::MAX`.
 pub trait Source {
-    // The bytes that reads have not given yet, where the source tells them.
+    // The bytes that are still unread, if the source tells them.
     ghost unread: { Self → Option (List ℕ) };
 
-    // How many reads were made, and how many bytes the last of them gave.
+    // How many reads were made, and the size of the last one.
     ghost reads_made: { Self → Reads };
 
     ghost failure_count: { Self → ℕ };
 
     ghost has_ended: { Self → Bool };
 
-    /// Reads into the front of `buf`, and returns how many bytes.
+    /// Reads into the front of `buf`, and returns the number of bytes.
     ///
-    /// No byte into a `buf` that is not empty is the end. An `Err` takes none; after it a source need not
-    /// tell what is unread.
+    /// 0 for a `buf` that is not empty means the end. An `Err` takes no byte; after it a source need not tell what is
+    /// unread.
     fn read(&mut self, buf: &mut [u8]) -> Result<usize, Failed>
         ensures within { IfOk result (λ n. n ≤ length buf.old) }
         ensures bytes { Takes (unread self.old) (unread self.new) result buf.new }
@@ -33,7 +33,7 @@ pub trait Source {
         ensures failures { failure_count self.new ≡ failures_after (failure_count self.old) result }
         ensures ended { has_ended self.new ≡ ended_after (has_ended self.old) result (length buf.old) };
 
-    /// How many reads were made, those that failed among them.
+    /// How many reads were made, including failed ones.
     fn reads(&self) -> u64
         ensures { result ≡ (reads_made self.now).count };
 
@@ -41,21 +41,21 @@ pub trait Source {
     fn failures(&self) -> u64
         ensures { result ≡ failure_count self.now };
 
-    /// Whether a read into a list that is not empty has given no byte.
+    /// Whether a read into a buffer that is not empty returned 0.
     fn ended(&self) -> bool
         ensures { result ≡ has_ended self.now };
 }
 
-/// A writer whose failures can be asked for.
+/// A writer that counts its failures.
 ///
-/// The count stays at `u64::MAX` once it is there.
+/// The count saturates at `u64::MAX`.
 pub trait Sink {
-    // The bytes that were written, where the sink tells them.
+    // The bytes that were written, if the sink tells them.
     ghost written: { Self → Option (List ℕ) };
 
     ghost failure_count: { Self → ℕ };
 
-    /// Writes bytes from the front of `bytes`, and returns how many: at least one where there is one.
+    /// Writes leading bytes of `bytes`, and returns how many: at least one, unless `bytes` is empty.
     ///
     /// An `Err` wrote nothing.
     fn write(&mut self, bytes: &[u8]) -> Result<usize, Failed>

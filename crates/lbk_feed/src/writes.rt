@@ -1,4 +1,4 @@
-//! Writing as much as there is.
+//! Writing a whole buffer.
 
 ghost use Rattle.std.specs.Prelude.{◌≡◌, ℕ, [], take, IsOk, OnOk, OnErr};
 ghost use Rattle.std.specs.Io.KnownBytes.{Appends};
@@ -8,9 +8,9 @@ ghost use Rattle.lbk_feed.specs.Writes.{HasWritten};
 
 use crate::traits::{Failed, Sink};
 
-/// Writes all of `bytes`, in as many writes as it takes, each of at least one byte; so of no bytes it makes none.
+/// Writes all of `bytes`, in writes of at least one byte each; an empty buffer needs no write.
 ///
-/// The first write that fails is the last one, and is the `Err`: what was written then is the front of `bytes`.
+/// It stops at the first write that fails, with an `Err`; a prefix of `bytes` is written then.
 pub fn write_all<W: Sink>(writer: &mut W, bytes: &[u8]) -> Result<(), Failed>
     ensures ok { OnOk result (Appends (W.written writer.old) (W.written writer.new) bytes.now) }
     ensures front { (n : ℕ) × Appends (W.written writer.old) (W.written writer.new) (take n bytes.now) }

@@ -103,12 +103,14 @@ IsLoadRefused four before after = (which : Which) × IsFirst four which (λ file
 abbrev pub AllLoaded : FourFiles → LoadCounts → LoadCounts → (Files → Type 0) → Type 0
 AllLoaded four before after Are = ((files : Files) × AreLoaded four files × Are files) × LoadsTo Emoji before after
 
--- out of memory comes before any load, where a name has to be made; in a load; or once all four files are loaded and lawful
+-- out of memory comes before any load, where a name has to be made; in a load; or once all four files are loaded and
+-- lawful
 abbrev pub IsOutOfMemory : FourFiles → LoadCounts → LoadCounts → Type 0
 IsOutOfMemory four before after =
     (IsAnyClaimed four × (after ≡ before)) ⊎ (IsLoadRefused four before after ⊎ AllLoaded four before after AreLawful)
 
--- a file cannot be read or is not the published one, and no more is loaded; or all are loaded and refused; or out of memory
+-- a file cannot be read or is not the published one, and no more is loaded; or all are loaded and refused; or out of
+-- memory
 abbrev pub IsFileFault : FourFiles → LoadCounts → LoadCounts → CellsFault → Type 0
 IsFileFault four before after (Load which) = IsFirst four which (λ file. IsUnreadable file.contents) × LoadsTo which before after
 IsFileFault four before after (Claim which cause) = IsFirst four which (IsUnlikeItsClaim which cause) × LoadsTo which before after

@@ -53,7 +53,8 @@ pub record NamesVersion (which : Which) (bytes : List ℕ) (version : Numbers) :
 abbrev pub rules_version : Numbers
 rules_version = record { major = 15; minor = 0; update = 0 }
 
--- what is wrong with a file that is not the published one: it names no version of its own, another than 15.0.0, or 15.0.0
+-- what is wrong with a file that is not the published one: it names no version of its own, another than 15.0.0, or
+-- 15.0.0
 abbrev pub IsNamedWrong : Which → List ℕ → ClaimCause → Type 0
 IsNamedWrong which bytes Title = ¬ ((version : Numbers) × NamesVersion which bytes version)
 IsNamedWrong which bytes (Version version) = NamesVersion which bytes version × (version ≢ rules_version)

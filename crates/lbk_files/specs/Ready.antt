@@ -11,12 +11,13 @@ use Rattle.lbk_files.specs.declared.faults.Stop.{Stop}
 use Rattle.lbk_files.specs.declared.faults.Stop.TheVariants.{Help, Usage, Refused}
 use Rattle.lbk_files.specs.declared.readiness.Ready.{Ready}
 
--- the task's engine, profile, part and sign, the cells of its files, and the names of its texts
+-- the task's engine, profile, part, sign and flag of names, the cells of its files, and the names of its texts
 pub record IsReadyFor (file : List ℕ → Option (Option (List ℕ))) (task : Task) (ready : Ready) : Type 0 where
   pub engine : ready.engine ≡ task.engine
   pub profile : ready.profile ≡ task.profile
   pub part : ready.part ≡ task.part
   pub sign : ready.sign.now ≡ task.sign
+  pub names : ready.names ≡ task.names
   pub cells : AreCellsFrom (files_of file task.files) (page_cell ready.cells)
   pub texts : map (λ name. name.now) ready.texts.items ≡ task.texts
 

@@ -19,14 +19,14 @@ pub trait Opens {
 
     /// Opens the file of a name.
     ///
-    /// `Unreadable` comes where it cannot be opened, `Memory` where memory could not grow for that.
+    /// `Unreadable` is returned if it cannot be opened, `Memory` where memory cannot grow for that.
     fn open(&self, name: &str) -> Result<Self::File, LoadFault>
         ensures opened { IfOk result (λ file. AreLeft (contents self.now name.now) (Self.File.unread file)) }
         ensures fault { IfErr result (IsLoadFault (contents self.now name.now)) };
 }
 
-/// A store that opens each file and reads the first bytes of it. As a store it tells nothing of what files hold, since a
-/// read may fail.
+/// A store that opens each file and reads the first bytes of it. As a store it tells nothing of what files hold,
+/// since a read may fail.
 #[derive(Drop)]
 pub struct FileStore<'a, O> {
     opener: &'a O,
@@ -62,7 +62,8 @@ impl<'a, O: Opens> Store for FileStore<'a, O> {
         ensures front { IfOk result (λ bytes. IsFront (O.contents (opener_of self.old) name.now) most bytes.items) }
         ensures fault { IfErr result (IsRefusalOf O.File.Source (O.contents (opener_of self.old) name.now)) }
         ensures opener { opener_of self.new ≡ opener_of self.old }
-        ensures loaded { MatchResult result (λ bytes. IsFront (tells self.old name.now) most bytes.items) (IsLoadFault (tells self.old name.now)) }
+        ensures loaded { MatchResult result (λ bytes. IsFront (tells self.old name.now) most bytes.items)
+            (IsLoadFault (tells self.old name.now)) }
         ensures within { IfOk result (λ bytes. vec_len bytes ≤ most + 1) }
         ensures files { tells self.new ≡ tells self.old }
         ensures loads { loads_of self.new ≡ count_up (loads_of self.old) }

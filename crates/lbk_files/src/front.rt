@@ -10,10 +10,10 @@ use std::alloc::Global;
 
 const BLOCK: usize = 16_384;
 
-/// The first `most + 1` bytes that a reader gives, or all of them if it has fewer, in at most `most + 1` reads, and one more than
-/// bytes came.
+/// The first `most + 1` bytes that a reader gives, or all of them if it has fewer, in at most `most + 1` reads, and
+/// one more than bytes came.
 ///
-/// `Unreadable` comes where a read fails, `Memory` where memory could not grow.
+/// `Unreadable` is returned if a read fails, `Memory` where memory could not grow.
 pub fn read_front<R: Source>(
     alloc: Global,
     reader: &mut R,
@@ -25,8 +25,10 @@ pub fn read_front<R: Source>(
     ensures within { IfOk result (λ bytes. vec_len bytes ≤ most + 1) }
     ensures ended { IfOk result (λ bytes. vec_len bytes < most + 1 → IsTrue (R.has_ended reader.new)) }
     ensures reads { (R.reads_made reader.new).count ≤ (R.reads_made reader.old).count + (most + 1) }
-    ensures each_gave { IfOk result (λ bytes. (R.reads_made reader.new).count ≤ (R.reads_made reader.old).count + (vec_len bytes + 1)) }
-    ensures failed { IsErrOf result LoadFault.Unreadable → R.failure_count reader.new ≡ count_up (R.failure_count reader.old) }
+    ensures each_gave { IfOk result (λ bytes. (R.reads_made reader.new).count ≤ (R.reads_made reader.old).count
+        + (vec_len bytes + 1)) }
+    ensures failed { IsErrOf result LoadFault.Unreadable → R.failure_count reader.new
+        ≡ count_up (R.failure_count reader.old) }
     ensures failure { R.failure_count reader.old < R.failure_count reader.new → result ≡ Err LoadFault.Unreadable }
 {
     let mut front = Vec::new(alloc);

@@ -30,9 +30,11 @@ pub fn load_cells<S: Store>(
     names: &FileNames<'_>,
     store: &mut S,
 ) -> Result<CellPages, CellsFault>
-    ensures loaded { MatchResult result (λ pages. AreCellsFrom (files_of (S.file store.old) (files_of_names names.now)) (page_cell pages))
+    ensures loaded { MatchResult result
+        (λ pages. AreCellsFrom (files_of (S.file store.old) (files_of_names names.now)) (page_cell pages))
         (IsFileFault (files_of (S.file store.old) (files_of_names names.now))
-        (counts_of (S.load_count store.old) (S.refusal_count store.old)) (counts_of (S.load_count store.new) (S.refusal_count store.new))) }
+        (counts_of (S.load_count store.old) (S.refusal_count store.old))
+        (counts_of (S.load_count store.new) (S.refusal_count store.new))) }
     ensures refused { S.refusal_count store.old < S.refusal_count store.new → result ≡ Err CellsFault.Memory }
     ensures files { S.file store.new ≡ S.file store.old }
     ensures loads { S.load_count store.new ≤ S.load_count store.old + 4 }
@@ -51,9 +53,11 @@ fn load_places<S: Store>(
     places: &Places<'_>,
     store: &mut S,
 ) -> Result<CellPages, CellsFault>
-    ensures loaded { MatchResult result (λ pages. AreCellsFrom (files_at (S.file store.old) places.now) (page_cell pages))
+    ensures loaded { MatchResult result
+        (λ pages. AreCellsFrom (files_at (S.file store.old) places.now) (page_cell pages))
         (IsFileFault (files_at (S.file store.old) places.now)
-        (counts_of (S.load_count store.old) (S.refusal_count store.old)) (counts_of (S.load_count store.new) (S.refusal_count store.new))) }
+        (counts_of (S.load_count store.old) (S.refusal_count store.old))
+        (counts_of (S.load_count store.new) (S.refusal_count store.new))) }
     ensures refused { S.refusal_count store.old < S.refusal_count store.new → result ≡ Err CellsFault.Memory }
     ensures files { S.file store.new ≡ S.file store.old }
     ensures loads { S.load_count store.new ≤ S.load_count store.old + 4 }
@@ -100,7 +104,8 @@ fn load_claimed<S: Store>(
     store: &mut S,
     which: Which,
 ) -> Result<Vec<u8>, CellsFault>
-    ensures loaded { MatchResult result (λ bytes. IsLoaded which (record { contents = S.file store.old name.now; is_claimed = true }) bytes.items)
+    ensures loaded { MatchResult result
+        (λ bytes. IsLoaded which (record { contents = S.file store.old name.now; is_claimed = true }) bytes.items)
         (IsOneFault which (record { contents = S.file store.old name.now; is_claimed = true })) }
     ensures refusals { S.refusal_count store.new ≡ refusals_by (S.refusal_count store.old) result }
     ensures files { S.file store.new ≡ S.file store.old }
@@ -121,7 +126,8 @@ fn load_named<S: Store>(
     store: &mut S,
     which: Which,
 ) -> Result<Vec<u8>, CellsFault>
-    ensures loaded { MatchResult result (λ bytes. IsLoaded which (told_of (S.file store.old) which (given name.now)) bytes.items)
+    ensures loaded { MatchResult result
+        (λ bytes. IsLoaded which (told_of (S.file store.old) which (given name.now)) bytes.items)
         (IsOneFault which (told_of (S.file store.old) which (given name.now))) }
     ensures refusals { S.refusal_count store.new ≡ refusals_by (S.refusal_count store.old) result }
     ensures files { S.file store.new ≡ S.file store.old }

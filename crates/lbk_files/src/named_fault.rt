@@ -10,7 +10,8 @@ use lbk_database::{cause_text, file_name};
 use lbk_ucd::{UcdFault, Which};
 use std::fmt;
 
-/// A fault of the property files after the name of its file: `NAME: cause`, or `NAME:LINE: cause` where a line is meant.
+/// A fault of the property files after the name of its file: `NAME: cause`, or `NAME:LINE: cause` where a line is
+/// meant.
 /// `Memory` is of no file, and has no name.
 #[derive(Clone, Copy)]
 pub struct NamedFault<N> {

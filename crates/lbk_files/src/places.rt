@@ -29,11 +29,12 @@ pub(crate) struct Places<'a> {
     pub(crate) emoji: Place<'a>,
 }
 
-/// The names by which the files are loaded. An error comes where memory could not grow for the name of a file of a folder.
+/// The names by which the files are loaded. Returns an error if memory cannot grow for the name of a file of a folder.
 pub(crate) fn places_of<'a>(alloc: Global, names: &FileNames<'a>) -> Result<Places<'a>, AllocError>
     ensures places { IfOk result (λ places. (file : List ℕ → Option (Option (List ℕ)))
         → files_at file places ≡ files_of file (files_of_names names.now)) }
-    ensures refused { OnErr result ((file : List ℕ → Option (Option (List ℕ))) → IsAnyClaimed (files_of file (files_of_names names.now))) }
+    ensures refused { OnErr result ((file : List ℕ → Option (Option (List ℕ)))
+        → IsAnyClaimed (files_of file (files_of_names names.now))) }
 {
     Ok(Places {
         line_break: place_of(alloc, names.line_break, Which::LineBreak)?,
@@ -46,7 +47,8 @@ pub(crate) fn places_of<'a>(alloc: Global, names: &FileNames<'a>) -> Result<Plac
 fn place_of<'a>(alloc: Global, file: FileName<'a>, which: Which) -> Result<Place<'a>, AllocError>
     ensures place { IfOk result (λ place. (told : List ℕ → Option (Option (List ℕ)))
         → told_at told place ≡ told_of told which (named_of file.entry)) }
-    ensures refused { OnErr result ((told : List ℕ → Option (Option (List ℕ))) → IsTrue (told_of told which (named_of file.entry)).is_claimed) }
+    ensures refused { OnErr result ((told : List ℕ → Option (Option (List ℕ)))
+        → IsTrue (told_of told which (named_of file.entry)).is_claimed) }
 {
     match file {
         FileName::Given(name) => Ok(Place::Given(name)),

@@ -4,7 +4,8 @@ ghost use Rattle.std.specs.Prelude.{◌≡◌, ◌∷◌, ◌≤◌, ℕ, List, 
 ghost use Rattle.std.specs.Str.Parse.{AllDigits};
 ghost use Rattle.lbk_database.specs.Digests.{IsPublished};
 ghost use Rattle.lbk_files.specs.declared.published.Version.{Version};
-ghost use Rattle.lbk_files.specs.Published.{BeginsWithNumber, BeginsWithVersion, BeginsWithoutDigit, EndsVersion, IsClaimCause, NamesVersion, name_before_version, words_before_version};
+ghost use Rattle.lbk_files.specs.Published.{BeginsWithNumber, BeginsWithVersion, BeginsWithoutDigit, EndsVersion};
+ghost use Rattle.lbk_files.specs.Published.{IsClaimCause, NamesVersion, name_before_version, words_before_version};
 
 use bstr::ByteSlice;
 use lbk_database::is_published;
@@ -39,8 +40,8 @@ pub enum ClaimCause {
 /// Tests that a file is, byte for byte, the one of its name that Unicode 15.0.0 published, by its SHA-256 digest, where
 /// CR LF at the end of a line counts as LF.
 ///
-/// Of any other file, `Version` is the version that it names where that is not 15.0.0, `Changed` comes where it names
-/// 15.0.0, and `Title` where it names none; `laws::refused_files_have_one_cause`.
+/// Of any other file, `Version` is the version that it names where that is not 15.0.0, `Changed` is returned if it
+/// names 15.0.0, and `Title` where it names none; `laws::refused_files_have_one_cause`.
 pub fn check_claim(which: Which, bytes: &[u8]) -> Result<(), ClaimCause>
     ensures { MatchResult result (λ _. IsPublished which bytes.now) (IsClaimCause which bytes.now) }
 {
@@ -56,7 +57,8 @@ pub fn check_claim(which: Which, bytes: &[u8]) -> Result<(), ClaimCause>
 
 /// The version that a file of this name has.
 fn version_in(which: Which, bytes: &[u8]) -> Option<Version>
-    ensures { MatchOption result (¬ ((version : Version) × NamesVersion which bytes.now version)) (NamesVersion which bytes.now) }
+    ensures { MatchOption result (¬ ((version : Version) × NamesVersion which bytes.now version))
+        (NamesVersion which bytes.now) }
 {
     if !bytes.starts_with_str(name_before_version(which).as_bytes()) {
         return None;
@@ -68,7 +70,8 @@ fn version_in(which: Which, bytes: &[u8]) -> Option<Version>
 
 /// The version that bytes begin with.
 fn version_at(bytes: &[u8]) -> Option<Version>
-    ensures { MatchOption result (¬ ((version : Version) × BeginsWithVersion bytes.now version)) (BeginsWithVersion bytes.now) }
+    ensures { MatchOption result (¬ ((version : Version) × BeginsWithVersion bytes.now version))
+        (BeginsWithVersion bytes.now) }
 {
     let (major, rest) = number(bytes)?;
     let (minor, rest) = number(after_dot(rest)?)?;

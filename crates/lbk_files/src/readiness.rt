@@ -15,14 +15,15 @@ use lbk_args::{Engine, Order, Part, WordsFault, parse};
 use lbk_rules::{CellPages, Profile};
 use std::alloc::Global;
 
-/// An engine with its option, the profile, which passages of each text, unless all, the sign of `mark`, the cells of the files
-/// and the names of the texts.
+/// An engine with its option, the profile, which passages of each text, unless all, the sign of `mark`, whether lines
+/// with their names are written, the cells of the files and the names of the texts.
 #[derive(Drop)]
 pub struct Ready<'a> {
     pub engine: Engine,
     pub profile: Profile,
     pub part: Option<Part>,
     pub sign: &'a str,
+    pub names: bool,
     pub cells: CellPages,
     pub texts: Vec<&'a str>,
 }
@@ -49,8 +50,8 @@ pub fn read_order<'a>(alloc: Global, words: &'a [&'a str]) -> Result<Order<'a>, 
 
 /// Loads the files that an order names, and reads these.
 ///
-/// The error is that of the first step that fails: `Memory` comes before any load, in a load, or for well-formed files once
-/// all four are loaded.
+/// The error is that of the first step that fails: `Memory` comes before any load, in a load, or for well-formed
+/// files once all four are loaded.
 pub fn prepare<'a, S: Store>(
     alloc: Global,
     order: Order<'a>,
@@ -58,7 +59,8 @@ pub fn prepare<'a, S: Store>(
 ) -> Result<Ready<'a>, CellsFault>
     ensures made { MatchResult result (IsReadyFor (S.file store.old) (task_of order.entry))
         (IsFileFault (files_of (S.file store.old) (files_of_names order.entry.files))
-        (counts_of (S.load_count store.old) (S.refusal_count store.old)) (counts_of (S.load_count store.new) (S.refusal_count store.new))) }
+        (counts_of (S.load_count store.old) (S.refusal_count store.old))
+        (counts_of (S.load_count store.new) (S.refusal_count store.new))) }
     ensures refused { S.refusal_count store.old < S.refusal_count store.new → result ≡ Err CellsFault.Memory }
     ensures loads { S.load_count store.new ≤ S.load_count store.old + 4 }
     ensures files { S.file store.new ≡ S.file store.old }
@@ -69,6 +71,7 @@ pub fn prepare<'a, S: Store>(
         profile: order.profile,
         part: order.part,
         sign: order.sign,
+        names: order.names,
         cells,
         texts: order.texts,
     })

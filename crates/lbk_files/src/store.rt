@@ -33,11 +33,12 @@ pub trait Store {
 
     /// The first `most + 1` bytes of a file, or all of them if it has fewer.
     ///
-    /// `Unreadable` comes where it cannot be opened or read, `Memory` where memory could not grow. No load changes what
+    /// `Unreadable` is returned if it cannot be opened or read, `Memory` where memory could not grow. No load changes what
     /// the store tells.
     fn load(&mut self, alloc: Global, name: &str, most: usize) -> Result<Vec<u8>, LoadFault>
         requires { most < 2 ^ 64 - 1 }
-        ensures loaded { MatchResult result (λ bytes. IsFront (file self.old name.now) most bytes.items) (IsLoadFault (file self.old name.now)) }
+        ensures loaded { MatchResult result (λ bytes. IsFront (file self.old name.now) most bytes.items)
+            (IsLoadFault (file self.old name.now)) }
         ensures within { IfOk result (λ bytes. vec_len bytes ≤ most + 1) }
         ensures files { file self.new ≡ file self.old }
         ensures loads { load_count self.new ≡ count_up (load_count self.old) }

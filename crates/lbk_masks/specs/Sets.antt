@@ -1,5 +1,6 @@
 -- Sets of bytes, and where those of neighbours meet.
-use Rattle.std.specs.Prelude.{◌≡◌, ℕ, zero, suc, ◌<◌, ◌/◌, ◌%◌, ◌==◌, List, [], Bool, not, get_or, bit_and, if◌then◌else◌}
+use Rattle.std.specs.Prelude.{◌≡◌, ℕ, zero, suc, ◌<◌, ◌/◌, ◌%◌, ◌==◌, List, [], Bool, not, get_or, bit_and}
+use Rattle.std.specs.Prelude.{if◌then◌else◌}
 use Rattle.std.specs.Int.{bit_at}
 use Rattle.lbk_masks.specs.declared.ByteSets.{ByteSets}
 use Rattle.lbk_masks.specs.declared.halves.HalfSets.{HalfSets}
@@ -24,8 +25,8 @@ chosen bit low high byte = if bit_and byte bit == 0 then low else high
 abbrev pub meets : ℕ → ℕ → Bool
 meets left right = not (bit_and left right == 0)
 
--- the class of a byte, in the low half of a number: of what the row of its high half has the low half, or from 128 on the
--- high half
+-- the class of a byte, in the low half of a number: of what the row of its high half has the low half, or from 128 on
+-- the high half
 abbrev pub class_in : List (List ℕ) → ℕ → ℕ
 class_in rows byte =
     let halves = picked (get_or rows (byte / 16 % 8) []) byte in

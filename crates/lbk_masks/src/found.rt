@@ -30,7 +30,7 @@ pub(crate) struct Found {
 }
 
 impl Found {
-    /// What is found before any byte is looked at, where `before` is the left set of the byte before them.
+    /// What is found before any byte is examined, where `before` is the left set of the byte before them.
     #[inline(always)]
     pub(crate) fn nothing(before: u8) -> Found
         ensures found { (sets : ByteSets) (text : List ℕ) → AreFound sets before text 0 result }
@@ -49,7 +49,8 @@ impl Found {
 #[inline(always)]
 pub(crate) fn joined(bits: u64, at: usize, more: u64) -> u64
     requires { at ≤ 48 }
-    ensures { (known : ℕ) (is : ℕ → Bool) → at ≤ known → known ≤ at + 16 → ((i : ℕ) → is_set more i ≡ (nat_lt i 16 && is (at + i)))
+    ensures { (known : ℕ) (is : ℕ → Bool) → at ≤ known → known ≤ at + 16
+        → ((i : ℕ) → is_set more i ≡ (nat_lt i 16 && is (at + i)))
         → AreBits known is bits → AreBits (at + 16) is result }
 {
     bits | (more << at)

@@ -1,4 +1,4 @@
-//! Sets of bytes, told by the halves of a byte.
+//! Sets of bytes, decided by the halves of a byte.
 
 ghost use Rattle.std.specs.Prelude.{◌≡◌, ℕ, ◌<◌, ◌≤◌, ◌&&◌, length, get_or, nat_le, nat_lt};
 ghost use Rattle.lbk_masks.specs.Sets.{is_in, is_set};

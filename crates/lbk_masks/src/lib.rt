@@ -3,27 +3,33 @@
 //! Each byte has two sets of up to eight things: one as the left of two neighbours, one as the right. A byte stands out
 //! where its right set meets the left set of the byte before it, and is special where they meet in one of the first two
 //! things. All of it holds whatever the sets are.
-//! Bytes are looked at 16 at a time. Of a text of fewer than 64 the last 16 are looked at whatever was looked at before.
+//! Bytes are examined 16 at a time. Of a text of fewer than 64 the last 16 are examined whatever was looked at before.
 #![tactic(auto)]
 
-ghost use Rattle.std.specs.Prelude.{◌≡◌, ◌/◌, ◌%◌, ℕ, ◌+◌, ◌<◌, ◌≤◌, ◌∷◌, ◌&&◌, List, length, get_or, bit_and, min, nat_le, nat_lt};
+ghost use Rattle.std.specs.Prelude.{◌≡◌, ◌/◌, ◌%◌, ℕ, ◌+◌, ◌<◌, ◌≤◌, ◌∷◌, ◌&&◌, List, length, get_or, bit_and, min};
+ghost use Rattle.std.specs.Prelude.{nat_le, nat_lt};
 ghost use Rattle.lbk_masks.specs.Found.{AreEdges, AreFound};
-ghost use Rattle.lbk_masks.specs.Sets.{HasLanes, chosen, class_in, is_set, left_before, left_in, meets, picked, right_in};
+ghost use Rattle.lbk_masks.specs.Sets.{HasLanes, chosen, class_in, is_set, left_before, left_in, meets, picked};
+ghost use Rattle.lbk_masks.specs.Sets.{right_in};
 ghost use Rattle.lbk_masks.specs.Strays.{is_stray};
 
 mod bits;
+mod covering;
 mod found;
 mod halves;
+mod letters;
 
 pub use bits::{first_set, kept_below, kept_from, without_first};
+pub use covering::{Behind, Bytes, Covering, LETTER, Related, cover};
 use found::{Edges, Found, joined};
 pub use halves::{HalfSets, wide};
+pub use letters::{firsts_of_letters, stands_for_all};
 use std::simd::prelude::*;
 
 /// How many bytes at most have a bit.
 const BITS: usize = 64;
 
-/// How many bytes are looked at together.
+/// How many bytes are examined together.
 const LANES: usize = 16;
 
 /// The things in which every byte that meets another is special.
@@ -33,8 +39,8 @@ pub const SPECIAL: u8 = 3;
 #[repr(C)]
 #[derive(Clone, Copy)]
 pub struct ByteSets {
-    /// The classes of the bytes below 128 in rows of 16, in the low half of each number. Its high half is the class of the byte
-    /// that is greater by 128, so that one look-up serves all bytes.
+    /// The classes of the bytes below 128 in rows of 16, in the low half of each number. Its high half is the class
+    /// of the byte that is greater by 128, so that one look-up serves all bytes.
     pub classes: [[u8; 16]; 8],
     /// The set of a class on the left of two neighbours.
     pub left: [u8; 16],
@@ -68,15 +74,16 @@ impl ByteSets {
         of_class(&self.right, class_of(&self.classes, byte))
     }
 
-    /// What is known of the first 64 bytes of a text, or of all where it has fewer, where `before` is the left set of the byte
-    /// before them.
+    /// What is known of the first 64 bytes of a text, or of all where it has fewer, where `before` is the left set of
+    /// the byte before them.
     #[inline(always)]
     pub fn masks(&self, before: u8, text: &[u8]) -> Masks
         requires { 16 < length text.now }
         ensures standing { (i : ℕ) → i < 64 → i < length text.now → is_set result.standing i
             ≡ meets (left_before self.now before text.now i) (right_in self.now (get_or text.now i 0)) }
         ensures special { (i : ℕ) → i < 64 → i < length text.now → is_set result.special i
-            ≡ meets (left_before self.now before text.now i) (bit_and (right_in self.now (get_or text.now i 0)) SPECIAL) }
+            ≡ meets (left_before self.now before text.now i)
+            (bit_and (right_in self.now (get_or text.now i 0)) SPECIAL) }
         ensures strays { (i : ℕ) → i < 64 → is_set result.strays i ≡ is_stray text.now i }
     {
         let found = self.found(before, text);
@@ -87,7 +94,7 @@ impl ByteSets {
         }
     }
 
-    /// What is found of these bytes. The last 16 of them are looked at last, whatever was looked at before.
+    /// What is found of these bytes. The last 16 of them are examined last, whatever was looked at before.
     #[inline(always)]
     fn found(&self, before: u8, text: &[u8]) -> Found
         requires { 16 < length text.now }
@@ -103,7 +110,7 @@ impl ByteSets {
         self.last(text, end, found)
     }
 
-    /// What is found where the last 16 bytes before a place are looked at too.
+    /// What is found where the last 16 bytes before a place are examined too.
     #[inline(always)]
     fn last(&self, text: &[u8], end: usize, so_far: Found) -> Found
         requires { (16 < end) × (end ≤ 64) × (end ≤ length text.now) }
@@ -115,11 +122,12 @@ impl ByteSets {
         self.further(text, at, Found { left, ..so_far })
     }
 
-    /// What is found where 16 bytes from a place on are looked at too. The left set of the byte before them is known.
+    /// What is found where 16 bytes from a place on are examined too. The left set of the byte before them is known.
     #[inline(always)]
     fn further(&self, text: &[u8], at: usize, so_far: Found) -> Found
         requires { (at ≤ 48) × (at + 16 ≤ length text.now) }
-        ensures found { (before known : ℕ) → at ≤ known → known ≤ at + 16 → get_or so_far.left 15 0 ≡ left_before self.now before text.now at
+        ensures found { (before known : ℕ) → at ≤ known → known ≤ at + 16 → get_or so_far.left 15 0
+            ≡ left_before self.now before text.now at
             → AreFound self.now before text.now known so_far → AreFound self.now before text.now (at + 16) result }
         ensures left { (before : ℕ) → get_or result.left 15 0 ≡ left_before self.now before text.now (at + 16) }
     {
@@ -171,7 +179,8 @@ fn strays_by(edges: Edges) -> u64
 #[inline(always)]
 fn edges_further(block: u8x16, at: usize, so_far: Edges) -> Edges
     requires { at ≤ 48 }
-    ensures { (text : List ℕ) (known : ℕ) → at ≤ known → known ≤ at + 16 → ((i : ℕ) → i < 16 → get_or block i 0 ≡ get_or text (at + i) 0)
+    ensures { (text : List ℕ) (known : ℕ) → at ≤ known → known ≤ at + 16
+        → ((i : ℕ) → i < 16 → get_or block i 0 ≡ get_or text (at + i) 0)
         → AreEdges text known so_far → AreEdges text (at + 16) result }
 {
     Edges {
@@ -234,7 +243,8 @@ fn both(one: u8x16, other: u8x16) -> u8x16
 /// What one of two rows has at the low half of each byte, by the lowest bit of its high half.
 #[inline(always)]
 fn in_rows(low: [u8; 16], high: [u8; 16], bytes: u8x16) -> u8x16
-    ensures { HasLanes result (λ i. chosen 16 (picked low (get_or bytes i 0)) (picked high (get_or bytes i 0)) (get_or bytes i 0)) }
+    ensures { HasLanes result (λ i. chosen 16 (picked low (get_or bytes i 0)) (picked high (get_or bytes i 0))
+        (get_or bytes i 0)) }
 {
     chosen(16, picked(low, bytes), picked(high, bytes), bytes)
 }
@@ -251,7 +261,8 @@ fn classes(rows: &[[u8; 16]; 8], bytes: u8x16) -> u8x16
     let low = chosen(32, a, b, bytes);
     let high = chosen(32, c, d, bytes);
     let halves = chosen(64, low, high, bytes);
-    // (of the halves alone, since a choice between a number and its high half would become a shift that differs by lane)
+    // (of the halves alone, since a choice between a number and its high half would become a shift that differs by
+    // lane)
     let above = low_halves(high_halves(halves));
     chosen(128, low_halves(halves), above, bytes)
 }

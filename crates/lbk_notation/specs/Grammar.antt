@@ -1,8 +1,9 @@
 -- The grammar of a line, as a relation between its bytes and what they say, with no limit of length:
 --     ws* [ mark (ws+ hex ws+ mark)* ws* ] [ # any bytes but LF ]
--- where a carriage return as the very last byte may stand in place of the comment. A line without marks, blank or a comment,
--- says nothing.
-use Rattle.std.specs.Prelude.{◌≡◌, ◌≢◌, ℕ, ◌+◌, ◌*◌, ◌<◌, Bool, ◌==◌, ltb, ◌||◌, if◌then◌else◌, IsTrue, List, [], ◌∷◌, ◌++◌, map, Option, Some, None, ◌⊎◌}
+-- where a carriage return as the very last byte may stand in place of the comment. A line without marks, blank or a
+-- comment, says nothing.
+use Rattle.std.specs.Prelude.{◌≡◌, ◌≢◌, ℕ, ◌+◌, ◌*◌, ◌<◌, Bool, ◌==◌, ltb, ◌||◌, if◌then◌else◌, IsTrue, List, [], ◌∷◌}
+use Rattle.std.specs.Prelude.{◌++◌, map, Option, Some, None, ◌⊎◌}
 use Rattle.std.specs.List.{AllByRecursion}
 use Rattle.lbk_notation.specs.declared.marks.Form.{Form}
 use Rattle.lbk_notation.specs.declared.marks.Form.TheVariants.{Plain, Kinds}

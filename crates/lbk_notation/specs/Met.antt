@@ -1,5 +1,6 @@
 -- The least difference so far, with the answers of a machine. Only proofs need this.
-use Rattle.std.specs.Prelude.{◌≡◌, ◌⊎◌, ℕ, ◌≤◌, Bool, true, false, nat_lt, ◌||◌, if◌then◌else◌, List, length, slice_get, Some, ⊤}
+use Rattle.std.specs.Prelude.{◌≡◌, ◌⊎◌, ℕ, ◌≤◌, Bool, true, false, nat_lt, ◌||◌, if◌then◌else◌, List, length}
+use Rattle.std.specs.Prelude.{slice_get, Some, ⊤}
 use Rattle.lbk_rules.specs.declared.Cell.{Cell}
 use Rattle.lbk_rules.specs.declared.Kind.{Kind}
 use Rattle.lbk_rules.specs.declared.Kind.TheVariants as K

@@ -1,5 +1,6 @@
 -- What a replay writes and answers, by what it read.
-use Rattle.std.specs.Prelude.{◌≡◌, ℕ, ◌+◌, ◌<◌, ◌≤◌, Bool, true, false, List, ◌++◌, length, take, Option, None, Some, Result, Ok, Err}
+use Rattle.std.specs.Prelude.{◌≡◌, ℕ, ◌+◌, ◌<◌, ◌≤◌, Bool, true, false, List, ◌++◌, length, take, Option, None, Some}
+use Rattle.std.specs.Prelude.{Result, Ok, Err}
 use Rattle.std.specs.Io.KnownBytes.{Appends}
 use Rattle.lbk_rules.specs.declared.Cell.{Cell}
 use Rattle.lbk_values.specs.declared.profile.Profile.{Profile}
@@ -59,8 +60,8 @@ IsStoppedReplay cell form profile ended read out =
     IsStopped (IsEndedText cell form profile) (λ bytes all. (report : Report) × IsReplayText cell form profile bytes report all)
     ended read out
 
--- out of memory at some place: what went out is what the lines ended before that place write, or, once the end was met, what
--- all lines write, without the counts
+-- out of memory at some place: what went out is what the lines ended before that place write, or, once the end was
+-- met, what all lines write, without the counts
 pub data IsOutOfMemory (cell : ℕ → Cell) (form : Form) (profile : Profile) (ended : Type 0) (read out : List ℕ) : Type 0 where
   between_lines : (first later : List ℕ) → read ≡ first ++ later → IsEndedText cell form profile first out
       → IsOutOfMemory cell form profile ended read out
@@ -78,8 +79,8 @@ IsReplay cell form profile ended (Err StreamTooLong) read out =
 IsReplay cell form profile ended (Err Write) read out = IsStoppedReplay cell form profile ended (take longest_stream read) out
 IsReplay cell form profile ended (Err Memory) read out = IsOutOfMemory cell form profile ended (take longest_stream read) out
 
--- nothing is kept back: of the bytes that all reads but the last gave, at least one each, what the lines write that they end
--- was written; `from` and `to` are the reads before the run and after it
+-- nothing is kept back: of the bytes that all reads but the last gave, at least one each, what the lines write that
+-- they end was written; `from` and `to` are the reads before the run and after it
 pub record KeepsUp (cell : ℕ → Cell) (form : Form) (profile : Profile) (from to : Reads) (read out : List ℕ) : Type 0 where
   pub before : List ℕ
   pub last : List ℕ

@@ -1,5 +1,6 @@
 -- How far a replay has come, and what its steps do.
-use Rattle.std.specs.Prelude.{◌≡◌, ℕ, ◌+◌, ◌<◌, ◌≤◌, Bool, true, false, List, [], ◌++◌, length, Option, Result, Ok, Err, MatchResult}
+use Rattle.std.specs.Prelude.{◌≡◌, ℕ, ◌+◌, ◌<◌, ◌≤◌, Bool, true, false, List, [], ◌++◌, length, Option, Result, Ok}
+use Rattle.std.specs.Prelude.{Err, MatchResult}
 use Rattle.std.specs.Io.KnownBytes.{Appends}
 use Rattle.lbk_feed.specs.Devices.{Reads}
 use Rattle.lbk_rules.specs.declared.Cell.{Cell}
@@ -77,8 +78,8 @@ abbrev pub is_read_fault_of : Result ReplayState ReplayFault → Bool
 is_read_fault_of (Err Read) = true
 is_read_fault_of _ = false
 
--- what was read to the end of the stream, or to a fault, and written of it; at the end the last of the reads gave no byte, and
--- each of the others gave one at least
+-- what was read to the end of the stream, or to a fault, and written of it; at the end the last of the reads gave no
+-- byte, and each of the others gave one at least
 abbrev pub HasRead : (ℕ → Cell) → Form → Profile → Reads → Reads → Result ReplayState ReplayFault → List ℕ → List ℕ → Type 0
 HasRead cell form profile from to (Ok progress) read out =
     (to.gave ≡ 0) × (to.count ≤ from.count + (length read + 1)) × Stands cell form profile progress read out

@@ -1,6 +1,7 @@
--- What the reader does over the bytes of a line. Only the contracts of its parts cite this: what has to be believed is the
--- grammar.
-use Rattle.std.specs.Prelude.{◌≡◌, ℕ, ◌+◌, ◌-◌, ◌*◌, ◌^◌, ◌<◌, ◌≤◌, Bool, true, false, ◌==◌, ltb, leb, ◌||◌, ◌&&◌, if◌then◌else◌, List, [], ◌∷◌, ◌++◌, Option, Some, Result, Ok, Err}
+-- What the reader does over the bytes of a line. Only the contracts of its parts cite this: what has to be believed
+-- is the grammar.
+use Rattle.std.specs.Prelude.{◌≡◌, ℕ, ◌+◌, ◌-◌, ◌*◌, ◌^◌, ◌<◌, ◌≤◌, Bool, true, false, ◌==◌, ltb, leb, ◌||◌, ◌&&◌}
+use Rattle.std.specs.Prelude.{if◌then◌else◌, List, [], ◌∷◌, ◌++◌, Option, Some, Result, Ok, Err}
 use Rattle.lbk_notation.specs.declared.faults.LineFault.{LineFault}
 use Rattle.lbk_notation.specs.declared.faults.LineFault.TheVariants.{LineTooLong, Bad, Memory}
 use Rattle.lbk_notation.specs.declared.marks.Form.{Form}
@@ -8,9 +9,11 @@ use Rattle.lbk_notation.specs.declared.marks.Form.TheVariants.{Kinds}
 use Rattle.lbk_notation.specs.declared.marks.Mark.{Mark}
 use Rattle.lbk_notation.specs.declared.marks.Mark.TheVariants.{No, May, Must}
 use Rattle.lbk_notation.specs.declared.reader.Sort.{Sort}
-use Rattle.lbk_notation.specs.declared.reader.Sort.TheVariants.{Space, Digit, Lead, Times, Division, Exclamation, Return, Hash, LineFeed, Other}
+use Rattle.lbk_notation.specs.declared.reader.Sort.TheVariants.{Space, Digit, Lead, Times, Division, Exclamation}
+use Rattle.lbk_notation.specs.declared.reader.Sort.TheVariants.{Return, Hash, LineFeed, Other}
 use Rattle.lbk_notation.specs.declared.reader.State.{State}
-use Rattle.lbk_notation.specs.declared.reader.State.TheVariants.{Start, Half, Marked, Spaced, Digits, Coded, Comment, Ended}
+use Rattle.lbk_notation.specs.declared.reader.State.TheVariants.{Start, Half, Marked, Spaced, Digits, Coded, Comment}
+use Rattle.lbk_notation.specs.declared.reader.State.TheVariants.{Ended}
 use Rattle.lbk_notation.specs.declared.reader.Taken.{Taken}
 use Rattle.lbk_notation.specs.declared.reader.Taken.TheVariants.{Dead, On, OneScalar, OneMark}
 use Rattle.lbk_notation.specs.Grammar.{is_space}

@@ -1,5 +1,5 @@
--- What a line of the notation says: scalars, and a mark at each position, from the one before the first scalar to the one
--- after the last.
+-- What a line of the notation says: scalars, and a mark at each position, from the one before the first scalar to the
+-- one after the last.
 use Rattle.std.specs.Prelude.{ℕ, ◌+◌, ◌==◌, if◌then◌else◌, List, length, Option, Some, None}
 use Rattle.lbk_notation.specs.declared.marks.Mark.{Mark}
 

@@ -1,5 +1,5 @@
--- The line that is written: marks and scalars with one space between each two and no other white space, each scalar as its
--- one token.
+-- The line that is written: marks and scalars with one space between each two and no other white space, each scalar
+-- as its one token.
 use Rattle.std.specs.Prelude.{◌≡◌, ℕ, ◌/◌, ◌%◌, ltb, if◌then◌else◌, List, [], ◌∷◌, ◌++◌, map, take}
 use Rattle.lbk_notation.specs.declared.marks.Form.{Form}
 use Rattle.lbk_notation.specs.declared.marks.Form.TheVariants.{Plain}

@@ -1,4 +1,4 @@
-//! What the definitions of a test file and its replay amount to, as the contracts of functions that do nothing.
+//! What the definitions of a test file and its replay amount to, as the contracts of functions with empty bodies.
 
 ghost use Rattle.std.specs.Prelude.{◌≡◌, ℕ, List, ◌++◌};
 ghost use Rattle.std.specs.List.{AllByRecursion};
@@ -23,7 +23,8 @@ pub fn lines_make_up_the_file()
 pub fn one_replay_text()
     ensures line { (cell : ℕ → Cell) (form : Form) (profile : Profile) (bytes : List ℕ) (finding other : Finding)
         → IsFinding cell form profile bytes finding → IsFinding cell form profile bytes other → other ≡ finding }
-    ensures file { (cell : ℕ → Cell) (form : Form) (profile : Profile) (bytes : List ℕ) (report other : Report) (out another : List ℕ)
+    ensures file { (cell : ℕ → Cell) (form : Form) (profile : Profile) (bytes : List ℕ) (report other : Report)
+        (out another : List ℕ)
         → IsReplayText cell form profile bytes report out → IsReplayText cell form profile bytes other another
         → (other ≡ report) × (another ≡ out) }
 {}
@@ -34,7 +35,8 @@ pub fn settled_text_stays()
     ensures more { (cell : ℕ → Cell) (form : Form) (profile : Profile) (bytes more out longer : List ℕ)
         → IsEndedText cell form profile bytes out → IsEndedText cell form profile (bytes ++ more) longer
         → (later : List ℕ) × (longer ≡ out ++ later) }
-    ensures whole { (cell : ℕ → Cell) (form : Form) (profile : Profile) (bytes more out whole : List ℕ) (report : Report)
+    ensures whole { (cell : ℕ → Cell) (form : Form) (profile : Profile) (bytes more out whole : List ℕ)
+        (report : Report)
         → IsEndedText cell form profile bytes out → IsReplayText cell form profile (bytes ++ more) report whole
         → (later : List ℕ) × (whole ≡ out ++ later) }
 {}

@@ -1,9 +1,11 @@
 //! Whole test files against the rules.
 
-ghost use Rattle.std.specs.Prelude.{◌≡◌, ◌+◌, ◌<◌, ◌≤◌, ◌⊎◌, ℕ, List, [], ◌∷◌, length, take, IsTrue, IfSome, IfOk, IfErr, OnOk, IsErrOf};
+ghost use Rattle.std.specs.Prelude.{◌≡◌, ◌+◌, ◌<◌, ◌≤◌, ◌⊎◌, ℕ, List, [], ◌∷◌, length, take, IsTrue, IfSome, IfOk};
+ghost use Rattle.std.specs.Prelude.{IfErr, OnOk, IsErrOf};
 ghost use Rattle.std.specs.Io.KnownBytes.{Appends, IsAtEnd};
 ghost use Rattle.lbk_notation.specs.ReplayState.{Ends, HasRead, Uses, is_read_fault_of};
-ghost use Rattle.lbk_notation.specs.Replay.{IsReplayRun, IsReplayed, failed_reads_with, failed_writes_with, fault_in, is_read_fault};
+ghost use Rattle.lbk_notation.specs.Replay.{IsReplayRun, IsReplayed, failed_reads_with, failed_writes_with, fault_in};
+ghost use Rattle.lbk_notation.specs.Replay.{is_read_fault};
 ghost use Rattle.lbk_notation.specs.Stream.{longest_stream};
 ghost use Rattle.lbk_feed.specs.Runs.{HasFailed, Ran};
 
@@ -30,8 +32,8 @@ const BLOCK: usize = 4096;
 /// order mark at the front of the file is passed over. One line is held at a time, and none that is too long.
 ///
 /// After `Read` what went out is that of the lines whose LF was read, and no counts; after `StreamTooLong` that of
-/// the lines ended among the first 1,073,741,824 bytes; after `Write` a prefix of the output, and after `Memory` a prefix of
-/// whole lines. In both is what the lines write that the bytes of all reads but the last end.
+/// the lines ended among the first 1,073,741,824 bytes; after `Write` a prefix of the output, and after `Memory` a
+/// prefix of whole lines. In both is what the lines write that the bytes of all reads but the last end.
 ///
 /// ```rust
 /// let mut sink = MemorySink::new(alloc, ROOM)?;
@@ -50,18 +52,23 @@ pub fn replay<R: Source, W: Sink, C: CellSource>(
         IsReplayed (C.cell_of cells.now) form profile input report (W.written writer.old) (W.written writer.new))) }
 
     // What is written of what was read, whatever the result.
-    ensures run { Ran (is_read_fault result) (R.unread reader.old) (R.unread reader.new) (W.written writer.old) (W.written writer.new)
+    ensures run { Ran (is_read_fault result) (R.unread reader.old) (R.unread reader.new) (W.written writer.old)
+        (W.written writer.new)
         (IsReplayRun (C.cell_of cells.now) form profile (R.reads_made reader.old) (R.reads_made reader.new)
         (IsTrue (R.has_ended reader.new) × IsAtEnd (R.unread reader.new)) result) }
     ensures ended { OnOk result (IsTrue (R.has_ended reader.new) × IsAtEnd (R.unread reader.new)) }
 
     // When a device's fault comes, and how much is read.
-    ensures read { IsErrOf result ReplayFault.Read → HasFailed (R.failure_count reader.old) (R.failure_count reader.new) }
+    ensures read { IsErrOf result ReplayFault.Read
+        → HasFailed (R.failure_count reader.old) (R.failure_count reader.new) }
     ensures read_failed { R.failure_count reader.old < R.failure_count reader.new → result ≡ Err ReplayFault.Read }
-    ensures failed_reads { R.failure_count reader.new ≡ failed_reads_with (R.failure_count reader.old) (fault_in result) }
-    ensures write { IsErrOf result ReplayFault.Write → HasFailed (W.failure_count writer.old) (W.failure_count writer.new) }
+    ensures failed_reads { R.failure_count reader.new
+        ≡ failed_reads_with (R.failure_count reader.old) (fault_in result) }
+    ensures write { IsErrOf result ReplayFault.Write
+        → HasFailed (W.failure_count writer.old) (W.failure_count writer.new) }
     ensures write_failed { W.failure_count writer.old < W.failure_count writer.new → result ≡ Err ReplayFault.Write }
-    ensures failed_writes { W.failure_count writer.new ≡ failed_writes_with (W.failure_count writer.old) (fault_in result) }
+    ensures failed_writes { W.failure_count writer.new
+        ≡ failed_writes_with (W.failure_count writer.old) (fault_in result) }
     ensures reads { (R.reads_made reader.new).count ≤ (R.reads_made reader.old).count + (longest_stream + 1) }
 {
     let replayer = Replayer {
@@ -80,16 +87,21 @@ fn read_all<R: Source, W: Sink, C: CellSource>(
     writer: &mut W,
     replayer: &Replayer<C>,
 ) -> Result<ReplayState, ReplayFault>
-    ensures run { Ran (is_read_fault_of result) (R.unread reader.old) (R.unread reader.new) (W.written writer.old) (W.written writer.new)
+    ensures run { Ran (is_read_fault_of result) (R.unread reader.old) (R.unread reader.new) (W.written writer.old)
+        (W.written writer.new)
         (HasRead (C.cell_of replayer.now.cells.now) replayer.now.form replayer.now.profile
         (R.reads_made reader.old) (R.reads_made reader.new) result) }
     ensures ended { OnOk result (IsTrue (R.has_ended reader.new) × IsAtEnd (R.unread reader.new)) }
-    ensures read { IsErrOf result ReplayFault.Read → HasFailed (R.failure_count reader.old) (R.failure_count reader.new) }
+    ensures read { IsErrOf result ReplayFault.Read
+        → HasFailed (R.failure_count reader.old) (R.failure_count reader.new) }
     ensures read_failed { R.failure_count reader.old < R.failure_count reader.new → result ≡ Err ReplayFault.Read }
-    ensures failed_reads { R.failure_count reader.new ≡ failed_reads_with (R.failure_count reader.old) (fault_in result) }
-    ensures write { IsErrOf result ReplayFault.Write → HasFailed (W.failure_count writer.old) (W.failure_count writer.new) }
+    ensures failed_reads { R.failure_count reader.new
+        ≡ failed_reads_with (R.failure_count reader.old) (fault_in result) }
+    ensures write { IsErrOf result ReplayFault.Write
+        → HasFailed (W.failure_count writer.old) (W.failure_count writer.new) }
     ensures write_failed { W.failure_count writer.old < W.failure_count writer.new → result ≡ Err ReplayFault.Write }
-    ensures failed_writes { W.failure_count writer.new ≡ failed_writes_with (W.failure_count writer.old) (fault_in result) }
+    ensures failed_writes { W.failure_count writer.new
+        ≡ failed_writes_with (W.failure_count writer.old) (fault_in result) }
     ensures none_failed { OnOk result (W.failure_count writer.new ≡ W.failure_count writer.old) }
     ensures reads { (R.reads_made reader.new).count ≤ (R.reads_made reader.old).count + (longest_stream + 1) }
 {
@@ -119,13 +131,16 @@ fn take_all<W: Sink, C: CellSource>(
     bytes: &[u8],
 ) -> Result<(), ReplayFault>
     requires { progress.old.taken + length bytes.now ≤ longest_stream }
-    ensures uses { Uses (C.cell_of replayer.now.cells.now) replayer.now.form replayer.now.profile progress.old progress.new
+    ensures uses { Uses (C.cell_of replayer.now.cells.now) replayer.now.form replayer.now.profile progress.old
+        progress.new
         bytes.now (W.written writer.old) (W.written writer.new) result }
     ensures taken { OnOk result (progress.new.taken ≡ progress.old.taken + length bytes.now) }
     ensures only { IfErr result (λ fault. (fault ≡ ReplayFault.Memory) ⊎ (fault ≡ ReplayFault.Write)) }
-    ensures write { IsErrOf result ReplayFault.Write → HasFailed (W.failure_count writer.old) (W.failure_count writer.new) }
+    ensures write { IsErrOf result ReplayFault.Write
+        → HasFailed (W.failure_count writer.old) (W.failure_count writer.new) }
     ensures write_failed { W.failure_count writer.old < W.failure_count writer.new → result ≡ Err ReplayFault.Write }
-    ensures failed_writes { W.failure_count writer.new ≡ failed_writes_with (W.failure_count writer.old) (fault_in result) }
+    ensures failed_writes { W.failure_count writer.new
+        ≡ failed_writes_with (W.failure_count writer.old) (fault_in result) }
     ensures none_failed { OnOk result (W.failure_count writer.new ≡ W.failure_count writer.old) }
 {
     for byte in bytes {
@@ -143,13 +158,16 @@ fn take<W: Sink, C: CellSource>(
     byte: u8,
 ) -> Result<(), ReplayFault>
     requires { progress.old.taken < longest_stream }
-    ensures uses { Uses (C.cell_of replayer.now.cells.now) replayer.now.form replayer.now.profile progress.old progress.new
+    ensures uses { Uses (C.cell_of replayer.now.cells.now) replayer.now.form replayer.now.profile progress.old
+        progress.new
         (byte ∷ []) (W.written writer.old) (W.written writer.new) result }
     ensures taken { progress.new.taken ≡ progress.old.taken + 1 }
     ensures only { IfErr result (λ fault. (fault ≡ ReplayFault.Memory) ⊎ (fault ≡ ReplayFault.Write)) }
-    ensures write { IsErrOf result ReplayFault.Write → HasFailed (W.failure_count writer.old) (W.failure_count writer.new) }
+    ensures write { IsErrOf result ReplayFault.Write
+        → HasFailed (W.failure_count writer.old) (W.failure_count writer.new) }
     ensures write_failed { W.failure_count writer.old < W.failure_count writer.new → result ≡ Err ReplayFault.Write }
-    ensures failed_writes { W.failure_count writer.new ≡ failed_writes_with (W.failure_count writer.old) (fault_in result) }
+    ensures failed_writes { W.failure_count writer.new
+        ≡ failed_writes_with (W.failure_count writer.old) (fault_in result) }
     ensures none_failed { OnOk result (W.failure_count writer.new ≡ W.failure_count writer.old) }
 {
     if byte != b'\n' {
@@ -170,9 +188,11 @@ fn finish<W: Sink, C: CellSource>(
     ensures ends { Ends (C.cell_of replayer.now.cells.now) replayer.now.form replayer.now.profile progress
         (W.written writer.old) (W.written writer.new) result }
     ensures only { IfErr result (λ fault. (fault ≡ ReplayFault.Memory) ⊎ (fault ≡ ReplayFault.Write)) }
-    ensures write { IsErrOf result ReplayFault.Write → HasFailed (W.failure_count writer.old) (W.failure_count writer.new) }
+    ensures write { IsErrOf result ReplayFault.Write
+        → HasFailed (W.failure_count writer.old) (W.failure_count writer.new) }
     ensures write_failed { W.failure_count writer.old < W.failure_count writer.new → result ≡ Err ReplayFault.Write }
-    ensures failed_writes { W.failure_count writer.new ≡ failed_writes_with (W.failure_count writer.old) (fault_in result) }
+    ensures failed_writes { W.failure_count writer.new
+        ≡ failed_writes_with (W.failure_count writer.old) (fault_in result) }
     ensures none_failed { OnOk result (W.failure_count writer.new ≡ W.failure_count writer.old) }
 {
     let mut progress = progress;
@@ -188,9 +208,11 @@ fn put<W: Sink>(writer: &mut W, bytes: &[u8]) -> Result<(), ReplayFault>
     ensures ok { OnOk result (Appends (W.written writer.old) (W.written writer.new) bytes.now) }
     ensures front { (n : ℕ) × Appends (W.written writer.old) (W.written writer.new) (take n bytes.now) }
     ensures only { IfErr result (λ fault. fault ≡ ReplayFault.Write) }
-    ensures write { IsErrOf result ReplayFault.Write → HasFailed (W.failure_count writer.old) (W.failure_count writer.new) }
+    ensures write { IsErrOf result ReplayFault.Write
+        → HasFailed (W.failure_count writer.old) (W.failure_count writer.new) }
     ensures write_failed { W.failure_count writer.old < W.failure_count writer.new → result ≡ Err ReplayFault.Write }
-    ensures failed_writes { W.failure_count writer.new ≡ failed_writes_with (W.failure_count writer.old) (fault_in result) }
+    ensures failed_writes { W.failure_count writer.new
+        ≡ failed_writes_with (W.failure_count writer.old) (fault_in result) }
     ensures none_failed { OnOk result (W.failure_count writer.new ≡ W.failure_count writer.old) }
 {
     match write_all(writer, bytes) {

@@ -1,4 +1,4 @@
-//! What the definitions amount to, as the contracts of functions that do nothing.
+//! What the definitions amount to, as the contracts of functions with empty bodies.
 
 ghost use Rattle.std.specs.Prelude.{◌≡◌, ◌≢◌, ℕ, ◌+◌, ◌*◌, ◌≤◌, List, ◌∷◌, ◌++◌, Option, Some, length};
 ghost use Rattle.std.specs.Char.{IsScalar};

@@ -17,7 +17,7 @@ use std::alloc::{AllocError, Global};
 pub(crate) const LONGEST: usize = 268_435_456;
 
 /// Reads a line of the notation, without its line end: its scalars and marks, or None for a blank line or
-/// a comment. A line over 268,435,456 bytes is `LineTooLong`, which is looked at first; one that is none
+/// a comment. A line over 268,435,456 bytes is `LineTooLong`, which is checked first; one that is none
 /// of the notation is `Bad`, with the place where it stops being the beginning of any line. `Memory` may
 /// come in place of a line with marks, where an allocation was refused; the other results need no memory.
 pub fn read_line(alloc: Global, bytes: &[u8], form: Form) -> Result<Option<TestLine>, LineFault>
@@ -40,7 +40,7 @@ pub fn read_line(alloc: Global, bytes: &[u8], form: Form) -> Result<Option<TestL
     }
 }
 
-/// Reads a line that is not too long, or says where it goes wrong. An error comes where an allocation was refused.
+/// Reads a line that is not too long, or says where it goes wrong. Returns an error if an allocation was refused.
 fn read_bytes(
     alloc: Global,
     bytes: &[u8],

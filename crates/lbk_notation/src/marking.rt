@@ -11,8 +11,8 @@ use super::test_line::TestLine;
 use lbk_rules::{CellSource, Kind, Profile, Stepper, Verdict};
 use std::alloc::{AllocError, Global};
 
-/// The scalars of a text, and at each position what the rules say of it (UAX #14, section 6). An error comes where memory
-/// could not grow.
+/// The scalars of a text, and at each position what the rules say of it (UAX #14, section 6). Returns an error if
+/// memory could not grow.
 pub fn mark_text<C: CellSource>(
     alloc: Global,
     cells: &C,

@@ -13,9 +13,9 @@ use super::writing::{push_mark, push_scalar};
 use lbk_rules::Verdict;
 use std::alloc::AllocError;
 
-/// Puts the line of a passage at the end of the text, without a line end: its marks and scalars in form
+/// Appends the line of a passage to the text, without a line end: its marks and scalars in form
 /// Kinds, a tab, `#`, and the numbers of the rules that decided, each after a space. The verdicts are those
-/// of all its positions, one more than its scalars. An error comes where memory could not grow; a front of the line may
+/// of all its positions, one more than its scalars. Returns an error if memory could not grow; a front of the line may
 /// stand there then.
 pub fn push_passage_line(
     text: &mut Vec<u8>,

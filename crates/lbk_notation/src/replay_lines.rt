@@ -77,7 +77,8 @@ fn push_difference(
     file: Mark,
     rules: Verdict,
 ) -> Result<(), AllocError>
-    ensures { OnOk result (text.new.items ≡ text.old.items ++ (32 ∷ (decimal position ++ (32 ∷ (mark_bytes (shown form file)
+    ensures { OnOk result (text.new.items ≡ text.old.items
+        ++ (32 ∷ (decimal position ++ (32 ∷ (mark_bytes (shown form file)
         ++ (32 ∷ (mark_bytes (shown form (mark_of rules.kind)) ++ (32 ∷ (label_of rules.rule ++ 10 ∷ []))))))))) }
 {
     push_number(text, position as u64)?;

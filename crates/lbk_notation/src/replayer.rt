@@ -21,9 +21,10 @@ pub struct Replayer<'a, C: CellSource> {
 }
 
 impl<C: CellSource> Replayer<'_, C> {
-    /// What a line comes to, given without its line end. `Memory` comes only of a line with marks.
+    /// What a line comes to, given without its line end. `Memory` is returned only for a line with marks.
     pub fn finding(&self, alloc: Global, line: &[u8]) -> Result<Finding, ReplayFault>
-        ensures finding { IfOk result (IsFinding (C.cell_of self.now.cells.now) self.now.form self.now.profile line.now) }
+        ensures finding { IfOk result
+            (IsFinding (C.cell_of self.now.cells.now) self.now.form self.now.profile line.now) }
         ensures only { IfErr result (λ fault. fault ≡ ReplayFault.Memory) }
         ensures memory { IfErr result (λ fault. HasMarks self.now.form line.now) }
     {

@@ -1,6 +1,7 @@
 //! What is written is read again.
 
-ghost use Rattle.std.specs.Prelude.{◌≡◌, ◌+◌, ◌<◌, ◌≤◌, ◌⊎◌, ◌↔◌, ℕ, List, Option, Some, length, IfOk, IfErr, OnOk, IsErrOf};
+ghost use Rattle.std.specs.Prelude.{◌≡◌, ◌+◌, ◌<◌, ◌≤◌, ◌⊎◌, ◌↔◌, ℕ, List, Option, Some, length, IfOk, IfErr, OnOk};
+ghost use Rattle.std.specs.Prelude.{IsErrOf};
 ghost use Rattle.std.specs.Char.{IsScalar};
 ghost use Rattle.std.specs.List.{AllByRecursion};
 ghost use Rattle.std.specs.Str.{encode_utf8_all};
@@ -22,7 +23,7 @@ use super::writing::write_line;
 use std::alloc::Global;
 
 /// Writes a line and reads what it wrote: in form Kinds the line itself, in Plain the line with each Must
-/// as a May. `LineTooLong` comes where the written line is over 268,435,456 bytes, `Memory` where an
+/// as a May. `LineTooLong` is returned if the written line is over 268,435,456 bytes, `Memory` where an
 /// allocation was refused.
 pub fn read_back(alloc: Global, line: &TestLine, form: Form) -> Result<Option<TestLine>, LineFault>
     ensures same { IfOk result (λ read. read ≡ Some (shown_line form line.now)) }

@@ -1,6 +1,7 @@
 //! Writing a line of the notation.
 
-ghost use Rattle.std.specs.Prelude.{◌≡◌, ◌+◌, ◌/◌, ◌%◌, ◌<◌, ◌≤◌, ◌++◌, ◌∷◌, [], Option, Some, length, IfOk, OnOk, OnErr, EachIndex, slice_index};
+ghost use Rattle.std.specs.Prelude.{◌≡◌, ◌+◌, ◌/◌, ◌%◌, ◌<◌, ◌≤◌, ◌++◌, ◌∷◌, [], Option, Some, length, IfOk, OnOk};
+ghost use Rattle.std.specs.Prelude.{OnErr, EachIndex, slice_index};
 ghost use Rattle.std.specs.Char.{IsScalar};
 ghost use Rattle.lbk_notation.specs.Grammar.{IsLine, digit_byte, mark_bytes};
 ghost use Rattle.lbk_notation.specs.TestLine.{Line};
@@ -11,7 +12,7 @@ use super::test_line::TestLine;
 use std::alloc::{AllocError, Global};
 
 /// The line as bytes, without a line end: marks and hex tokens with one space between them, each token
-/// with the fewest digits that are four or more. Form Plain has `÷` for every break. An error comes where memory could
+/// with the fewest digits that are four or more. Form Plain has `÷` for every break. Returns an error if memory could
 /// not grow.
 pub fn write_line(alloc: Global, line: &TestLine, form: Form) -> Result<Vec<u8>, AllocError>
     ensures text { IfOk result (λ bytes. bytes.items ≡ written_line form line.now) }
@@ -25,7 +26,7 @@ pub fn write_line(alloc: Global, line: &TestLine, form: Form) -> Result<Vec<u8>,
     Ok(text)
 }
 
-/// Puts the written line of these, the marks being one more than the scalars, at the end of the text. An error comes
+/// Appends the written line of these, the marks being one more than the scalars, to the text. An error comes
 /// where memory could not grow; a front of the line may stand there then.
 pub fn push_line(
     text: &mut Vec<u8>,
@@ -45,7 +46,7 @@ pub fn push_line(
     Ok(())
 }
 
-/// Puts a space, a scalar's token, a space and the mark after it at the end of the text. An error comes where memory
+/// Appends a space, a scalar's token, a space and the mark after it to the text. Returns an error if memory
 /// could not grow; a front of these may stand there then.
 pub fn push_scalar(
     text: &mut Vec<u8>,
@@ -62,7 +63,7 @@ pub fn push_scalar(
     push_mark(text, mark, form)
 }
 
-/// Puts a mark at the end of the text, in the form's writing. An error comes where memory could not grow; the text is as
+/// Appends a mark to the text, in the form's writing. Returns an error if memory could not grow; the text is as
 /// before then.
 pub fn push_mark(text: &mut Vec<u8>, mark: Mark, form: Form) -> Result<(), AllocError>
     ensures text { OnOk result (text.new.items ≡ text.old.items ++ mark_bytes (shown form mark)) }
@@ -76,7 +77,7 @@ pub fn push_mark(text: &mut Vec<u8>, mark: Mark, form: Form) -> Result<(), Alloc
     }
 }
 
-/// Puts the token of a scalar, with a space before it and one after it, at the end of the text: four hex digits, or five or
+/// Appends the token of a scalar, with a space before it and one after it, to the text: four hex digits, or five or
 /// six where it needs them.
 fn push_token(text: &mut Vec<u8>, code: u32) -> Result<(), AllocError>
     requires { code < 0x11_0000 }

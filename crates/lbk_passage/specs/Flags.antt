@@ -1,5 +1,6 @@
 -- What bytes tell of scalars: that no line must end behind them, and that they are letters.
-use Rattle.std.specs.Prelude.{◌≡◌, ℕ, ◌<◌, ◌≤◌, Bool, true, false, List, ◌++◌, Option, Some, None, length, slice_index_or, encode_utf8_all, drop}
+use Rattle.std.specs.Prelude.{◌≡◌, ℕ, ◌<◌, ◌≤◌, Bool, true, false, List, ◌++◌, Option, Some, None, length}
+use Rattle.std.specs.Prelude.{slice_index_or, encode_utf8_all, drop}
 use Rattle.std.specs.Str.{chars, IsCharBoundary}
 use Rattle.lbk_rules.specs.declared.Class.{Class}
 use Rattle.lbk_rules.specs.declared.Cell.{Cell}
@@ -7,7 +8,8 @@ use Rattle.lbk_rules.specs.Ends.{ends_line}
 use Rattle.lbk_rules.specs.FirstBytes as FirstBytes
 use Rattle.lbk_passage.specs.Stays.{stays, last_class}
 
--- a line must end behind no scalar whose first byte has true in the list, and each byte that continues a scalar has true
+-- a line must end behind no scalar whose first byte has true in the list, and each byte that continues a scalar has
+-- true
 pub record AreQuiet (cell : ℕ → Cell) (is_quiet : List Bool) : Type 0 where
   pub first : FirstBytes.AreQuiet cell is_quiet
   pub later : (byte : ℕ) → 128 ≤ byte → byte < 192 → slice_index_or is_quiet byte false ≡ true
@@ -30,8 +32,8 @@ abbrev pub is_end : Option Class → Bool
 is_end None = false
 is_end (Some class) = ends_line class
 
--- the scalars of a piece up to the byte `len`, behind one of class `first`, belong to its paragraph, and the last of all
--- is of class `last`
+-- the scalars of a piece up to the byte `len`, behind one of class `first`, belong to its paragraph, and the last of
+-- all is of class `last`
 pub record Passes (cell : ℕ → Cell) (first : Option Class) (piece : List ℕ) (room len : ℕ) (last : Option Class) : Type 0 where
   pub taken : List ℕ
   pub all : chars piece ≡ taken ++ chars (drop len piece)

@@ -1,5 +1,7 @@
 -- How far a paragraph reaches, and what the steps of gathering it leave.
-use Rattle.std.specs.Prelude.{◌≡◌, ◌⊎◌, ℕ, ◌+◌, ◌<◌, ◌≤◌, Bool, true, false, ◌||◌, List, [], ◌∷◌, ◌++◌, length, take, drop, Option, None, Some, Result, Ok, Err, IfOk, IfErr, is_ok, is_some, option_map, encode_utf8, encode_utf8_all, string_bytes, string_len, IsUtf8}
+use Rattle.std.specs.Prelude.{◌≡◌, ◌⊎◌, ℕ, ◌+◌, ◌<◌, ◌≤◌, Bool, true, false, ◌||◌, List, [], ◌∷◌, ◌++◌, length, take}
+use Rattle.std.specs.Prelude.{drop, Option, None, Some, Result, Ok, Err, IfOk, IfErr, is_ok, is_some, option_map}
+use Rattle.std.specs.Prelude.{encode_utf8, encode_utf8_all, string_bytes, string_len, IsUtf8}
 use Rattle.std.specs.Str.{chars}
 use Rattle.std.specs.Bool.{OnTrue, OnFalse}
 use Rattle.std.specs.Io.KnownBytes.{prepend_known}
@@ -96,8 +98,8 @@ pub record Settles (old new : Paragraph) (unread unread' : Option (List ℕ)) (e
   pub stands : IfOk r (λ stands. OnTrue stands (0 < length new.feed.ready))
   pub ends : IfOk r (λ stands. OnFalse stands ((new.feed.held ≡ []) × (new.feed.is_ended ≡ true)))
 
--- before the last of some reads, from when nothing was gathered, no line must end in what was gathered, and behind it was
--- what may go on: all that was held at first and that the other reads gave
+-- before the last of some reads, from when nothing was gathered, no line must end in what was gathered, and behind it
+-- was what may go on: all that was held at first and that the other reads gave
 pub record WasOpen (cell : ℕ → Cell) (limit : ℕ) (old : View) (all : List ℕ) (reads reads' : Reads) : Type 0 where
   pub text : List ℕ
   pub utf8 : IsUtf8 text

@@ -1,5 +1,6 @@
 -- What a call of `next` gives, what it leaves, and what its faults say.
-use Rattle.std.specs.Prelude.{◌≡◌, ◌⊎◌, ℕ, ◌+◌, ◌<◌, ◌≤◌, Bool, true, false, ◌||◌, not, List, [], ◌∷◌, ◌++◌, length, Option, None, Some, Result, Ok, Err, IsUtf8, encode_utf8, encode_utf8_all}
+use Rattle.std.specs.Prelude.{◌≡◌, ◌⊎◌, ℕ, ◌+◌, ◌<◌, ◌≤◌, Bool, true, false, ◌||◌, not, List, [], ◌∷◌, ◌++◌, length}
+use Rattle.std.specs.Prelude.{Option, None, Some, Result, Ok, Err, IsUtf8, encode_utf8, encode_utf8_all}
 use Rattle.std.specs.Io.KnownBytes.{prepend_known, Keeps, IsAtEnd}
 use Rattle.lbk_feed.specs.Devices.{KeepsIfTold, Reads, count_up}
 use Rattle.lbk_feed.specs.Text.{longest_text, well_formed_prefix, counted, IsNotUtf8At, IsTooLong}
@@ -10,7 +11,8 @@ use Rattle.lbk_passage.specs.Segments.{segments_of}
 use Rattle.lbk_passage.specs.Pieces.{pieces_of}
 use Rattle.lbk_passage.specs.State.{State}
 use Rattle.lbk_passage.specs.declared.faults.PassageFault.{PassageFault}
-use Rattle.lbk_passage.specs.declared.faults.PassageFault.TheVariants.{Limit, Memory, Read, NotUtf8, TextTooLong, ParagraphTooLong, Spent}
+use Rattle.lbk_passage.specs.declared.faults.PassageFault.TheVariants.{Limit, Memory, Read, NotUtf8, TextTooLong}
+use Rattle.lbk_passage.specs.declared.faults.PassageFault.TheVariants.{ParagraphTooLong, Spent}
 use Rattle.lbk_passage.specs.declared.passage.Passage.{Passage}
 
 -- the fault of an answer
@@ -113,8 +115,8 @@ pub record BeginsWithAll (scalars : List ℕ) (ps : List (List Marked)) : Type 0
   pub is : ps ≡ first ∷ others
   pub holds : scalars_of first ≡ scalars ++ behind
 
--- where a fault of the text lies: behind the scalars seen, and for too long a paragraph, in their last. A failed read is
--- the answer only where the bytes behind them may still go on to a scalar
+-- where a fault of the text lies: behind the scalars seen, and for too long a paragraph, in their last. A failed read
+-- is the answer only where the bytes behind them may still go on to a scalar
 abbrev pub LiesBehind : PassageFault → State → List ℕ → List ℕ → Type 0
 LiesBehind Limit s seen rest = ⊥
 LiesBehind Memory s seen rest = ⊥
@@ -135,8 +137,8 @@ IsAllSeen (ParagraphTooLong start) s seen = Unit {0}
 IsAllSeen _ s seen = AfterEach s.start (λ used. used ++ encode_utf8_all seen ≡ well_formed_prefix (counted (used ++ s.held)))
 
 -- the segmenter stops by a fault of its reader or its text. The scalars seen, which begin the bytes held, are at most
--- one passage, and begin the first passage of every text that goes on from them. All of them lie within the bytes that a
--- text may have
+-- one passage, and begin the first passage of every text that goes on from them. All of them lie within the bytes
+-- that a text may have
 pub record Stops (s : State) (fault : PassageFault) : Type 0 where
   pub seen : List ℕ
   pub rest : List ℕ
@@ -156,8 +158,8 @@ Answers old new (Err Memory) = Waits new
 Answers old new (Err Spent) = old.is_spent ≡ true
 Answers old new (Err fault) = Stops new fault
 
--- the bytes held settle no passage: the scalars seen, which begin them, are at most one passage, and begin the first passage of
--- every text that goes on from them. They are all well-formed bytes held, or go past the limit
+-- the bytes held settle no passage: the scalars seen, which begin them, are at most one passage, and begin the first
+-- passage of every text that goes on from them. They are all well-formed bytes held, or go past the limit
 pub record IsOpen (s : State) : Type 0 where
   pub seen : List ℕ
   pub rest : List ℕ
@@ -174,10 +176,11 @@ pub record DecidesAlike (old new : State) : Type 0 where
   pub profile : new.profile ≡ old.profile
   pub limit : new.limit ≡ old.limit
 
--- reads are made only while no passage and no fault is certain: before the last of them, those held at first and those that
--- the other reads gave, at least one each, settle none. Of `all`, the bytes held in the end and those given, these are all but
--- the bytes of the last read. They are scalars within the limit that are at most one passage, and begin the first passage of
--- every text that goes on from them, and behind them nothing, or the first bytes of a scalar
+-- reads are made only while no passage and no fault is certain: before the last of them, those held at first and
+-- those that the other reads gave, at least one each, settle none. Of `all`, the bytes held in the end and those
+-- given, these are all but the bytes of the last read. They are scalars within the limit that are at most one
+-- passage, and begin the first passage of every text that goes on from them, and behind them nothing, or the first
+-- bytes of a scalar
 pub record WereDue (s : State) (all : List ℕ) (from to : Reads) : Type 0 where
   pub seen : List ℕ
   pub rest : List ℕ

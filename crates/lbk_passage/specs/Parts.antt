@@ -16,8 +16,8 @@ abbrev pub passages_in : Profile → (ℕ → Cell) → Bool → List ℕ → Li
 passages_in profile cell follows part =
     if follows then with_last (ended (end_before_more cell part)) (passages profile cell part) else passages profile cell part
 
--- what is said of passages one after another, joined: `say at ms` of one that begins at byte `at` of the text. The first
--- begins at byte `at`
+-- what is said of passages one after another, joined: `say at ms` of one that begins at byte `at` of the text. The
+-- first begins at byte `at`
 abbrev pub of_passages : {X : Type 0} → (ℕ → List Marked → List X) → ℕ → List (List Marked) → List X
 of_passages say at [] = []
 of_passages say at (ms ∷ passages) = say at ms ++ of_passages say (at + length (text_of ms)) passages

@@ -1,5 +1,6 @@
 -- Where paragraphs end, told by two classes: no machine is asked.
-use Rattle.std.specs.Prelude.{◌≡◌, ℕ, ◌+◌, Bool, true, false, ◌&&◌, not, ◌≤◌, List, [], ◌∷◌, ◌++◌, length, drop, Option, Some, None, string_bytes}
+use Rattle.std.specs.Prelude.{◌≡◌, ℕ, ◌+◌, Bool, true, false, ◌&&◌, not, ◌≤◌, List, [], ◌∷◌, ◌++◌, length, drop}
+use Rattle.std.specs.Prelude.{Option, Some, None, string_bytes}
 use Rattle.std.specs.Str.{chars, is_utf8}
 use Rattle.lbk_feed.specs.Text.{longest_text}
 use Rattle.lbk_rules.specs.declared.Class.{Class}

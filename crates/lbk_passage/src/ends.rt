@@ -1,4 +1,4 @@
-//! Where a paragraph ends, told by two classes.
+//! Where a paragraph ends, decided by two classes.
 
 ghost use Rattle.std.specs.Prelude.{◌≡◌};
 ghost use Rattle.lbk_passage.specs.Stays.{ends_at, end_before};

@@ -8,7 +8,7 @@ use lbk_feed::FeedFault;
 /// Why a segmenter is refused, or gives no passage.
 #[derive(Clone, Copy, Debug, PartialEq, Eq)]
 pub enum PassageFault {
-    /// The limit is not 1 to 16,777,216 bytes. It is looked at first.
+    /// The limit is not 1 to 16,777,216 bytes. It is examined first.
     Limit,
     /// Memory could not grow. The passage stays, and the same call can be made again.
     Memory,

@@ -11,7 +11,7 @@ const ASCII: u8 = 0x80;
 /// The first byte value above those that continue a scalar.
 const FIRST: u8 = 0xC0;
 
-/// How many bytes are looked at in one turn.
+/// How many bytes are examined in one turn.
 const TURN: usize = 8;
 
 /// For each byte what it tells of its scalar. Most bytes of most texts tell enough, by one read.
@@ -56,7 +56,8 @@ impl ByteFlags {
         requires end { end ≤ length bytes.now }
         ensures within { (start ≤ result) × (result ≤ end) }
         ensures passed { ArePassed self.now.is_quiet bytes.now start result }
-        ensures stops { result < end → slice_index_or self.now.is_quiet (slice_index_or bytes.now result 0) false ≡ false }
+        ensures stops { result < end → slice_index_or self.now.is_quiet (slice_index_or bytes.now result 0) false
+            ≡ false }
     {
         let mut at = start;
         while end - at >= TURN && self.are_quiet(bytes, at) {

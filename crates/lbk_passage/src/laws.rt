@@ -1,7 +1,8 @@
 //! What the passages of a text have in common, over definitions only. Each law is the contract of a function
 //! that does nothing.
 
-ghost use Rattle.std.specs.Prelude.{◌≡◌, ◌⊎◌, ℕ, ◌<◌, List, [], ◌∷◌, ◌++◌, false, true, length, map, encode_utf8_all, IsTrue, IsUtf8};
+ghost use Rattle.std.specs.Prelude.{◌≡◌, ◌⊎◌, ℕ, ◌<◌, List, [], ◌∷◌, ◌++◌, false, true, length, map, encode_utf8_all};
+ghost use Rattle.std.specs.Prelude.{IsTrue, IsUtf8};
 ghost use Rattle.std.specs.List.{AllByRecursion, flat_map};
 ghost use Rattle.std.specs.Str.{chars};
 ghost use Rattle.lbk_rules.specs.declared.Cell.{Cell};
@@ -20,7 +21,8 @@ ghost use Rattle.lbk_passage.specs.Next.{ComesFirst, IsDone, Stops};
 ghost use Rattle.lbk_passage.specs.Runs.{HasGiven};
 
 /// The paragraph law, for passages: after an earlier text that is empty, or after whose last scalar a line must end,
-/// the passages of a text are those that it has by itself, with the same marks (UAX #14, section 6.1, rules LB4 and LB5).
+/// the passages of a text are those that it has by itself, with the same marks (UAX #14, section 6.1, rules LB4 and
+/// LB5).
 pub fn behind_an_earlier_text()
     ensures { (profile : Profile) (cell : ℕ → Cell) (earlier text : List ℕ)
         → (earlier ≡ []) ⊎ ((verdict_between_in profile (map cell earlier) (map cell text)).kind ≡ Must)
@@ -32,14 +34,15 @@ pub fn behind_an_earlier_text()
 pub fn one_cutting()
     ensures joined { (profile : Profile) (cell : ℕ → Cell) (text : List ℕ)
         → flat_map (λ ms. ms) (passages profile cell text) ≡ marks profile cell text }
-    ensures ends { (profile : Profile) (cell : ℕ → Cell) (text : List ℕ) → AllByRecursion EndsOnce (passages profile cell text) }
+    ensures ends { (profile : Profile) (cell : ℕ → Cell) (text : List ℕ)
+        → AllByRecursion EndsOnce (passages profile cell text) }
     ensures only { (profile : Profile) (cell : ℕ → Cell) (text : List ℕ) (other : List (List Marked))
         → flat_map (λ ms. ms) other ≡ marks profile cell text → AllByRecursion EndsOnce other
         → other ≡ passages profile cell text }
 {}
 
-/// The segments of all passages of a text end at the breaks of the whole text, in their order, each at its byte and with
-/// its kind and rule (UAX #14, section 3).
+/// The segments of all passages of a text end at the breaks of the whole text, in their order, each at its byte and
+/// with its kind and rule (UAX #14, section 3).
 pub fn segments_end_at_breaks()
     ensures { (profile : Profile) (cell : ℕ → Cell) (text : List ℕ)
         → segment_breaks 0 (passages profile cell text) ≡ breaks profile cell text }
@@ -56,7 +59,7 @@ pub fn run_begins()
     ensures { (profile : Profile) (cell : ℕ → Cell) (left : List ℕ) → HasGiven profile cell [] left }
 {}
 
-/// A passage more: where it comes first in the text still to come, those given before it and it are the first ones of
+/// A passage more: where it comes first in the rest of the text, those given before it and it are the first ones of
 /// the whole text. The bytes left before it are its own, those after it, and those unread; at the end none are unread.
 pub fn run_goes_on()
     ensures { (s : State) (given : List (List Marked)) (passage : List Marked) (behind unread : List ℕ)
@@ -70,25 +73,32 @@ pub fn run_goes_on()
 pub fn run_ends()
     ensures whole { (s : State) (given : List (List Marked)) → HasGiven s.profile s.cell given s.held → IsDone s
         → passages s.profile s.cell (flat_map scalars_of given) ≡ given }
-    ensures stopped { (s : State) (fault : PassageFault) (given : List (List Marked)) (unread : List ℕ) (stops : Stops s fault)
+    ensures stopped { (s : State) (fault : PassageFault) (given : List (List Marked)) (unread : List ℕ)
+        (stops : Stops s fault)
         → HasGiven s.profile s.cell given (s.held ++ unread) → 0 < length stops.seen → (more : List ℕ)
         → passages s.profile s.cell (flat_map scalars_of given ++ (stops.seen ++ more))
         ≡ given ++ passages s.profile s.cell (stops.seen ++ more) }
 {}
 
-/// Texts between which a line must end may be cut into passages apart. Joined, these are the passages of the whole, except
-/// the end of the first text: a text ends by rule 3, and by rule 4 or 5 where another follows. So are their segments and
-/// their pieces, the words among them, if the places of the second are moved by the bytes of the first (UAX #14, section
-/// 6.1, rules LB3 to LB5).
+/// Texts between which a line must end may be cut into passages apart. Joined, these are the passages of the whole,
+/// except the end of the first text: a text ends by rule 3, and by rule 4 or 5 where another follows. So are their
+/// segments and their pieces, the words among them, if the places of the second are moved by the bytes of the first
+/// (UAX #14, section 6.1, rules LB3 to LB5).
 pub fn joined_texts()
-    ensures passages { (profile : Profile) (cell : ℕ → Cell) (first second : List ℕ) → IsTrue (must_end_between cell first second)
-        → passages profile cell (first ++ second) ≡ passages_in profile cell true first ++ passages profile cell second }
-    ensures segments { (profile : Profile) (cell : ℕ → Cell) (first second : List ℕ) → IsTrue (must_end_between cell first second)
+    ensures passages { (profile : Profile) (cell : ℕ → Cell) (first second : List ℕ)
+        → IsTrue (must_end_between cell first second)
+        → passages profile cell (first ++ second) ≡ passages_in profile cell true first
+        ++ passages profile cell second }
+    ensures segments { (profile : Profile) (cell : ℕ → Cell) (first second : List ℕ)
+        → IsTrue (must_end_between cell first second)
         → segments_at 0 (passages profile cell (first ++ second))
-        ≡ segments_before profile cell true first ++ segments_in profile cell (length (encode_utf8_all first)) false second }
-    ensures pieces { (profile : Profile) (cell : ℕ → Cell) (first second : List ℕ) → IsTrue (must_end_between cell first second)
+        ≡ segments_before profile cell true first
+        ++ segments_in profile cell (length (encode_utf8_all first)) false second }
+    ensures pieces { (profile : Profile) (cell : ℕ → Cell) (first second : List ℕ)
+        → IsTrue (must_end_between cell first second)
         → pieces_at cell 0 (passages profile cell (first ++ second))
-        ≡ pieces_at cell 0 (passages profile cell first) ++ pieces_in profile cell (length (encode_utf8_all first)) false second }
+        ≡ pieces_at cell 0 (passages profile cell first)
+        ++ pieces_in profile cell (length (encode_utf8_all first)) false second }
 {}
 
 /// So may any number of parts: each is cut by itself, with the byte at which it begins and whether another follows it.
@@ -96,7 +106,9 @@ pub fn joined_parts()
     ensures passages { (profile : Profile) (cell : ℕ → Cell) (parts : List (List ℕ)) → AreParts cell parts
         → passages profile cell (flat_map (λ part. part) parts) ≡ of_parts (λ at. passages_in profile cell) 0 parts }
     ensures segments { (profile : Profile) (cell : ℕ → Cell) (parts : List (List ℕ)) → AreParts cell parts
-        → segments_at 0 (passages profile cell (flat_map (λ part. part) parts)) ≡ of_parts (segments_in profile cell) 0 parts }
+        → segments_at 0 (passages profile cell (flat_map (λ part. part) parts))
+        ≡ of_parts (segments_in profile cell) 0 parts }
     ensures pieces { (profile : Profile) (cell : ℕ → Cell) (parts : List (List ℕ)) → AreParts cell parts
-        → pieces_at cell 0 (passages profile cell (flat_map (λ part. part) parts)) ≡ of_parts (pieces_in profile cell) 0 parts }
+        → pieces_at cell 0 (passages profile cell (flat_map (λ part. part) parts))
+        ≡ of_parts (pieces_in profile cell) 0 parts }
 {}

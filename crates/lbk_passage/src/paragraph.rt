@@ -30,7 +30,8 @@ pub struct Paragraph {
 }
 
 impl Paragraph {
-    ghost use Rattle.std.specs.Prelude.{ℕ, ◌-◌, ◌+◌, ◌<◌, ◌∷◌, true, [], drop, length, OnOk, IfOk, IsCharBoundary, string_bytes};
+    ghost use Rattle.std.specs.Prelude.{ℕ, ◌-◌, ◌+◌, ◌<◌, ◌∷◌, true, [], drop, length, OnOk, IfOk, IsCharBoundary};
+    ghost use Rattle.std.specs.Prelude.{string_bytes};
     ghost use Rattle.lbk_feed.specs.View.{IsFront, LendsFront};
     ghost use Rattle.lbk_passage.specs.State.{state_with, new_state};
     ghost use Rattle.lbk_passage.specs.Stays.{IsWhole};
@@ -43,7 +44,8 @@ impl Paragraph {
     /// A paragraph of at most `limit` bytes, for which room is reserved.
     pub fn new(alloc: Global, limit: u32) -> Result<Paragraph, AllocError>
         requires { limit ≤ greatest_limit }
-        ensures state { IfOk result (λ p. (cell : ℕ → Cell) (profile : Profile) → state_with cell profile p ≡ new_state cell profile limit) }
+        ensures state { IfOk result (λ p. (cell : ℕ → Cell) (profile : Profile) → state_with cell profile p
+            ≡ new_state cell profile limit) }
         ensures room { IfOk result (λ p. string_capacity p.text ≡ limit) }
     {
         Ok(Paragraph {
@@ -65,7 +67,7 @@ impl Paragraph {
         self.text.as_str()
     }
 
-    /// How many bytes of the whole text stand before the paragraph.
+    /// The number of bytes of the whole text before the paragraph.
     pub fn start(&self) -> u64
         ensures start { result ≡ self.now.feed.given - string_len self.now.text }
     {
@@ -79,7 +81,7 @@ impl Paragraph {
         self.feed.given()
     }
 
-    /// Lets the paragraph go, which was given.
+    /// Releases a paragraph that was already returned.
     pub fn release(&mut self)
         ensures { IsSame self.old self.new false self.old.is_spent }
     {
@@ -123,14 +125,15 @@ impl Paragraph {
         Ok(end)
     }
 
-    /// Gathers the paragraph if the bytes that are ready settle it: if a line must end before one of their scalars. Returns
-    /// whether it is held, or a fault was met, so that the next `fill` makes no read.
+    /// Gathers the paragraph if the bytes that are ready settle it: if a line must end before one of their scalars.
+    /// Returns whether it is held, or a fault was met, so that the next `fill` makes no read.
     pub fn look_ahead<C: CellSource>(&mut self, cells: &C, flags: &ByteFlags) -> bool
         requires quiet { AreQuiet (C.cell_of cells.now) flags.now.is_quiet }
         requires whole { self.old.is_held ≡ true → IsWhole (C.cell_of cells.now) self.old }
         ensures state { (cell : ℕ → Cell) (profile : Profile)
             → state_with cell profile self.new ≡ record (state_with cell profile self.old) { is_settled = result } }
-        ensures remains { result ≡ false → (profile : Profile) → IsOpen (state_with (C.cell_of cells.now) profile self.old) }
+        ensures remains { result ≡ false → (profile : Profile)
+            → IsOpen (state_with (C.cell_of cells.now) profile self.old) }
         ensures whole { self.new.is_held ≡ true → IsWhole (C.cell_of cells.now) self.new }
     {
         if self.is_held || self.is_spent {
@@ -209,7 +212,8 @@ impl Paragraph {
     /// How far the paragraph reaches into the piece that is ready, after a scalar of class `last`.
     fn reach<C: CellSource>(&self, cells: &C, flags: &ByteFlags, last: Option<Class>) -> Reach
         requires { AreQuiet (C.cell_of cells.now) flags.now.is_quiet }
-        ensures reaches { Reaches (C.cell_of cells.now) last self.now.feed.ready (self.now.limit - string_len self.now.text) result }
+        ensures reaches { Reaches (C.cell_of cells.now) last self.now.feed.ready
+            (self.now.limit - string_len self.now.text) result }
         ensures place { IsCharBoundary self.now.feed.ready result.len }
         ensures lends { LendsFront self.now.feed }
         ensures front { IsFront self.now.feed }

@@ -16,7 +16,7 @@ use lbk_rules::{Kind, Rule, Verdict};
 /// ```
 #[derive(Clone, Copy, Debug)]
 pub struct Passage<'a> {
-    /// How many bytes of the whole text stand before it.
+    /// The number of bytes of the whole text before it.
     pub start: u64,
     /// Its text.
     pub text: &'a str,
@@ -31,7 +31,7 @@ pub struct Passage<'a> {
 /// The text of a passage, whose segments and words were not found.
 #[derive(Clone, Copy, Debug)]
 pub struct PassageText<'a> {
-    /// How many bytes of the whole text stand before it.
+    /// The number of bytes of the whole text before it.
     pub start: u64,
     /// Its text.
     pub text: &'a str,

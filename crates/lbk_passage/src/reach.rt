@@ -96,7 +96,8 @@ fn pass_quiet<C: CellSource>(
     requires quiet { AreQuiet (C.cell_of cells.now) flags.now.is_quiet }
     requires order { here.len ≤ most }
     requires most { IsCharBoundary piece.now most }
-    ensures passes { (first : Option Class) (room : ℕ) → most ≤ room → Passes (C.cell_of cells.now) first piece.now room here.len here.last
+    ensures passes { (first : Option Class) (room : ℕ) → most ≤ room
+        → Passes (C.cell_of cells.now) first piece.now room here.len here.last
         → Passes (C.cell_of cells.now) first piece.now room result.len result.last }
     ensures onward { here.len ≤ result.len }
 {

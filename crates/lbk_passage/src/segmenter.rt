@@ -1,6 +1,7 @@
 //! The passages of a text, one after another.
 
-ghost use Rattle.std.specs.Prelude.{◌≡◌, [], ◌≤◌, ◌<◌, ◌+◌, ◌^◌, ◌↔◌, ◌⊎◌, ◌-◌, true, false, length, string_len, string_bytes, IfOk, IfErr, IfSome, OnOk, IsErrOf};
+ghost use Rattle.std.specs.Prelude.{◌≡◌, [], ◌≤◌, ◌<◌, ◌+◌, ◌^◌, ◌↔◌, ◌⊎◌, ◌-◌, true, false, length, string_len};
+ghost use Rattle.std.specs.Prelude.{string_bytes, IfOk, IfErr, IfSome, OnOk, IsErrOf};
 ghost use Rattle.std.specs.Borrow.{sem};
 ghost use Rattle.std.specs.Io.BufRead.{Rests};
 ghost use Rattle.std.specs.Str.{chars};
@@ -55,7 +56,7 @@ impl<'a, C: CellSource> Segmenter<'a, C> {
 
     /// A segmenter that has read nothing. It reserves room for the `limit` bytes of one paragraph and nothing else.
     ///
-    /// `Limit` comes exactly where the limit is not 1 to 16,777,216, `Memory` where the room could not be had.
+    /// `Limit` is returned exactly if the limit is not 1 to 16,777,216, `Memory` where the room could not be had.
     pub fn new(
         alloc: Global,
         cells: &'a C,
@@ -87,11 +88,13 @@ impl<'a, C: CellSource> Segmenter<'a, C> {
     /// The next passage, or `None` at the end of the text and from then on.
     ///
     /// It is given once the scalar after it, or the end of the text, was seen, after at most `limit + 8` reads. A
-    /// fault of the reader or of the text (`Read`, `NotUtf8`, `TextTooLong`, `ParagraphTooLong`) comes at its place, once
-    /// the passages before it were given, and `Spent` from then on. `Memory` comes where the passage has more segments or
-    /// pieces than there was room for, and memory could not grow; it stays, and the same call made again reads nothing.
+    /// fault of the reader or of the text (`Read`, `NotUtf8`, `TextTooLong`, `ParagraphTooLong`) comes at its place,
+    /// once the passages before it were given, and `Spent` from then on. `Memory` is returned if the passage has more
+    /// segments or pieces than there was room for, and memory could not grow; it stays, and the same call made again
+    /// reads nothing.
     pub fn next<R: Source>(&mut self, reader: &mut R) -> Result<Option<Passage<'_>>, PassageFault>
-        ensures* after_borrow { sem 𝓛 (Rests (the_row (record { mir = named 1; lft = [] }) C.row C.CellSource) self.entry (λ new.
+        ensures* after_borrow { sem 𝓛
+            (Rests (the_row (record { mir = named 1; lft = [] }) C.row C.CellSource) self.entry (λ new.
             AfterNext (state_of C.cell_of self.old) (state_of C.cell_of new) (R.unread reader.old) (R.unread reader.new)
             (R.has_ended reader.old) (R.has_ended reader.new)
             (R.reads_made reader.old) (R.reads_made reader.new) result
@@ -100,12 +103,14 @@ impl<'a, C: CellSource> Segmenter<'a, C> {
         ensures lent { IfOk result (λ o. IfSome o IsPlaced) }
         ensures spent { (state_of C.cell_of self.old).is_spent ≡ true → result ≡ Err PassageFault.Spent }
         ensures spent_only { result ≡ Err PassageFault.Spent → (state_of C.cell_of self.old).is_spent ≡ true }
-        // `None` stays: it leaves nothing held and the end met.
-        ensures again { IsDone (state_of C.cell_of self.old) → (state_of C.cell_of self.old).is_spent ≡ false → result ≡ Ok None }
+        // `None` stays: it leaves nothing held and the end reached.
+        ensures again { IsDone (state_of C.cell_of self.old) → (state_of C.cell_of self.old).is_spent ≡ false → result
+            ≡ Ok None }
         // Where the end was seen before, or a fault was returned, no read is made.
         ensures settled { (state_of C.cell_of self.old).is_settled ≡ true → reader.new ≡ reader.old }
         ensures ended { (state_of C.cell_of self.old).is_ended ≡ true → reader.new ≡ reader.old }
-        ensures reads { (R.reads_made reader.new).count ≤ (R.reads_made reader.old).count + ((state_of C.cell_of self.old).limit + 8) }
+        ensures reads { (R.reads_made reader.new).count ≤ (R.reads_made reader.old).count
+            + ((state_of C.cell_of self.old).limit + 8) }
         // `Read` is returned exactly where a read failed.
         ensures failures { R.failure_count reader.new ≡ failures_with (R.failure_count reader.old) (fault_in result) }
     {
@@ -125,23 +130,26 @@ impl<'a, C: CellSource> Segmenter<'a, C> {
         Ok(Some(self.lend(end)))
     }
 
-    /// The text of the next passage and the verdict at its end, without its segments and words, or `None` at the end of the
-    /// text. Reads and faults are those of `next`, and so is what later calls give.
+    /// The text of the next passage and the verdict at its end, without its segments and words, or `None` at the end
+    /// of the text. Reads and faults are those of `next`, and so is what later calls give.
     pub fn next_text<R: Source>(
         &mut self,
         reader: &mut R,
     ) -> Result<Option<PassageText<'_>>, PassageFault>
-        ensures* after_borrow { sem 𝓛 (Rests (the_row (record { mir = named 1; lft = [] }) C.row C.CellSource) self.entry (λ new.
+        ensures* after_borrow { sem 𝓛
+            (Rests (the_row (record { mir = named 1; lft = [] }) C.row C.CellSource) self.entry (λ new.
             LendsText (state_of C.cell_of self.old) (state_of C.cell_of new) (R.unread reader.old) (R.unread reader.new)
             (R.has_ended reader.old) (R.has_ended reader.new)
             (R.reads_made reader.old) (R.reads_made reader.new) result
             × (found_by new ≡ found_by self.old))) }
         ensures spent { (state_of C.cell_of self.old).is_spent ≡ true → result ≡ Err PassageFault.Spent }
         ensures spent_only { result ≡ Err PassageFault.Spent → (state_of C.cell_of self.old).is_spent ≡ true }
-        ensures again { IsDone (state_of C.cell_of self.old) → (state_of C.cell_of self.old).is_spent ≡ false → result ≡ Ok None }
+        ensures again { IsDone (state_of C.cell_of self.old) → (state_of C.cell_of self.old).is_spent ≡ false → result
+            ≡ Ok None }
         ensures settled { (state_of C.cell_of self.old).is_settled ≡ true → reader.new ≡ reader.old }
         ensures ended { (state_of C.cell_of self.old).is_ended ≡ true → reader.new ≡ reader.old }
-        ensures reads { (R.reads_made reader.new).count ≤ (R.reads_made reader.old).count + ((state_of C.cell_of self.old).limit + 8) }
+        ensures reads { (R.reads_made reader.new).count ≤ (R.reads_made reader.old).count
+            + ((state_of C.cell_of self.old).limit + 8) }
         // Nothing grows, so it is never out of memory.
         ensures memory { ¬ (result ≡ Err PassageFault.Memory) }
         ensures failures { R.failure_count reader.new ≡ failures_with (R.failure_count reader.old) (fault_in result) }
@@ -157,17 +165,22 @@ impl<'a, C: CellSource> Segmenter<'a, C> {
         }))
     }
 
-    /// Passes over the next passage, without finding its segments and words, and returns the byte of the text after it, or
+    /// Passes over the next passage, without finding its segments and words, and returns the byte of the text after
+    /// it, or
     /// `None` at the end of the text. Reads and faults are those of `next`, and so is what later calls give.
     pub fn pass<R: Source>(&mut self, reader: &mut R) -> Result<Option<u64>, PassageFault>
-        ensures passes { PassesOver (state_of C.cell_of self.old) (state_of C.cell_of self.new) (R.unread reader.old) (R.unread reader.new)
-            (R.has_ended reader.old) (R.has_ended reader.new) (R.reads_made reader.old) (R.reads_made reader.new) result }
+        ensures passes { PassesOver (state_of C.cell_of self.old) (state_of C.cell_of self.new) (R.unread reader.old)
+            (R.unread reader.new)
+            (R.has_ended reader.old) (R.has_ended reader.new) (R.reads_made reader.old) (R.reads_made reader.new)
+            result }
         ensures spent { (state_of C.cell_of self.old).is_spent ≡ true → result ≡ Err PassageFault.Spent }
         ensures spent_only { result ≡ Err PassageFault.Spent → (state_of C.cell_of self.old).is_spent ≡ true }
-        ensures again { IsDone (state_of C.cell_of self.old) → (state_of C.cell_of self.old).is_spent ≡ false → result ≡ Ok None }
+        ensures again { IsDone (state_of C.cell_of self.old) → (state_of C.cell_of self.old).is_spent ≡ false → result
+            ≡ Ok None }
         ensures settled { (state_of C.cell_of self.old).is_settled ≡ true → reader.new ≡ reader.old }
         ensures ended { (state_of C.cell_of self.old).is_ended ≡ true → reader.new ≡ reader.old }
-        ensures reads { (R.reads_made reader.new).count ≤ (R.reads_made reader.old).count + ((state_of C.cell_of self.old).limit + 8) }
+        ensures reads { (R.reads_made reader.new).count ≤ (R.reads_made reader.old).count
+            + ((state_of C.cell_of self.old).limit + 8) }
         // Nothing grows, so it is never out of memory.
         ensures memory { ¬ (result ≡ Err PassageFault.Memory) }
         ensures found { found_by self.new ≡ found_by self.old }
@@ -180,8 +193,9 @@ impl<'a, C: CellSource> Segmenter<'a, C> {
         Ok(Some(self.paragraph.given()))
     }
 
-    /// Finds the next passage among the bytes that were read already, where these settle it: where a line must end before one of
-    /// them. Returns whether the next call of `next` or `pass` makes no read. What it finds is kept for that call.
+    /// Finds the next passage among the bytes that were read already, where these settle it: where a line must end
+    /// before one of them. Returns whether the next call of `next` or `pass` makes no read. What it finds is kept for
+    /// that call.
     pub fn look_ahead(&mut self) -> bool
         ensures state { state_of C.cell_of self.new ≡ record (state_of C.cell_of self.old) { is_settled = result } }
         ensures remains { result ≡ false → IsOpen (state_of C.cell_of self.old) }

@@ -1,6 +1,7 @@
 //! The segments of a passage.
 
-ghost use Rattle.std.specs.Prelude.{◌≡◌, ◌+◌, ◌<◌, ◌≤◌, ◌^◌, ◌++◌, List, false, length, vec_capacity, vec_len, All, IfOk, OnOk, OnErr};
+ghost use Rattle.std.specs.Prelude.{◌≡◌, ◌+◌, ◌<◌, ◌≤◌, ◌^◌, ◌++◌, List, false, length, vec_capacity, vec_len, All};
+ghost use Rattle.std.specs.Prelude.{IfOk, OnOk, OnErr};
 ghost use Rattle.std.specs.Str.{chars};
 ghost use Rattle.lbk_rules.specs.declared.Break.{Break};
 ghost use Rattle.lbk_passage.specs.Breaks.{breaks, is_no};
@@ -16,7 +17,8 @@ use std::alloc::AllocError;
 /// How many breaks are found at a time.
 pub(crate) const BLOCK: usize = 64;
 
-/// A block that nothing was found into. It is filled again and again, since to make one costs as much as some breaks do.
+/// A block that nothing was found into. It is filled again and again, since to make one costs as much as some breaks
+/// do.
 pub(crate) const NO_BREAKS: [Break; BLOCK] = [Break {
     at: 0,
     kind: Kind::No,
@@ -24,8 +26,8 @@ pub(crate) const NO_BREAKS: [Break; BLOCK] = [Break {
 }; BLOCK];
 
 /// Writes the segments of a passage in place of what the list held: those of its text by itself, the last with the
-/// verdict `end` (UAX #14, section 6). What the block held does not matter, and what it holds then is unspecified. Where memory could not grow the
-/// list holds some of them.
+/// verdict `end` (UAX #14, section 6). What the block held does not matter, and what it holds then is unspecified.
+/// Where memory could not grow the list holds some of them.
 pub fn cut_lines<C: CellSource>(
     cells: &C,
     profile: Profile,

@@ -1,8 +1,9 @@
 //! The door to the rules of line breaking: Unicode Standard Annex #14, Unicode 15.0, with all that decides by them.
 //!
-//! What callers need of the rules stands here: a text is seen as a list of [`Cell`]s, one a scalar, which a [`CellSource`]
-//! gives; [`decide`] returns for a position in it whether the line may break, must break or must not, and the rule that
-//! decided; [`Machine`] and [`LateMachine`] do so cell by cell, holding a few fields. The rules are written down in
+//! What callers need of the rules stands here: a text is seen as a list of [`Cell`]s, one a scalar, which a
+//! [`CellSource`] gives; [`decide`] returns for a position in it whether the line may break, must break or must not,
+//! and the rule that decided; [`Machine`] and [`LateMachine`] do so cell by cell, holding a few fields. The rules are
+//! written down in
 //! `lbk_uax14`, the tables of steps in `lbk_steps`. The crate `lbk_breaks` finds the breaks of a text in memory, and is
 //! faster.
 #![tactic(auto)]

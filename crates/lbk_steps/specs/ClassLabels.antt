@@ -1,7 +1,15 @@
 -- The names of line breaking classes (UAX #14, section 5.1), as LineBreak.txt has them.
 use Rattle.std.specs.Prelude.{ℕ, List, codes}
 use Rattle.lbk_uax14.specs.declared.classes.Class.{Class}
-use Rattle.lbk_uax14.specs.declared.classes.Class.TheVariants.{Alphabetic, BreakBoth, BreakAfter, BreakBefore, MandatoryBreak, ContingentBreak, ClosePunctuation, CombiningMark, CloseParenthesis, CarriageReturn, EBase, EModifier, Exclamation, Glue, H2, H3, HebrewLetter, Hyphen, Ideographic, Inseparable, InfixNumeric, JL, JT, JV, LineFeed, NextLine, Nonstarter, Numeric, OpenPunctuation, PostfixNumeric, PrefixNumeric, Quotation, RegionalIndicator, Space, BreakSymbols, WordJoiner, ZWSpace, ZWJ}
+use Rattle.lbk_uax14.specs.declared.classes.Class.TheVariants.{Alphabetic, BreakBoth, BreakAfter, BreakBefore}
+use Rattle.lbk_uax14.specs.declared.classes.Class.TheVariants.{MandatoryBreak, ContingentBreak, ClosePunctuation}
+use Rattle.lbk_uax14.specs.declared.classes.Class.TheVariants.{CombiningMark, CloseParenthesis, CarriageReturn, EBase}
+use Rattle.lbk_uax14.specs.declared.classes.Class.TheVariants.{EModifier, Exclamation, Glue, H2, H3, HebrewLetter}
+use Rattle.lbk_uax14.specs.declared.classes.Class.TheVariants.{Hyphen, Ideographic, Inseparable, InfixNumeric, JL, JT}
+use Rattle.lbk_uax14.specs.declared.classes.Class.TheVariants.{JV, LineFeed, NextLine, Nonstarter, Numeric}
+use Rattle.lbk_uax14.specs.declared.classes.Class.TheVariants.{OpenPunctuation, PostfixNumeric, PrefixNumeric}
+use Rattle.lbk_uax14.specs.declared.classes.Class.TheVariants.{Quotation, RegionalIndicator, Space, BreakSymbols}
+use Rattle.lbk_uax14.specs.declared.classes.Class.TheVariants.{WordJoiner, ZWSpace, ZWJ}
 
 abbrev pub class_label : Class → List ℕ
 class_label Alphabetic = codes "AL"

@@ -1,5 +1,7 @@
--- The table of steps as plain numbers: the kinds of all codes, and what happens at a cell of each kind in both profiles.
-use Rattle.std.specs.Prelude.{◌≡◌, ◌⊎◌, ℕ, ◌+◌, ◌*◌, ◌<◌, ◌≤◌, ◌/◌, ◌%◌, true, false, List, [], ◌∷◌, fold, length, map, slice_index, slice_index_or, reverse}
+-- The table of steps as plain numbers: the kinds of all codes, and what happens at a cell of each kind in both
+-- profiles.
+use Rattle.std.specs.Prelude.{◌≡◌, ◌⊎◌, ℕ, ◌+◌, ◌*◌, ◌<◌, ◌≤◌, ◌/◌, ◌%◌, true, false, List, [], ◌∷◌, fold, length}
+use Rattle.std.specs.Prelude.{map, slice_index, slice_index_or, reverse}
 use Rattle.std.specs.Char.{IsScalar}
 use Rattle.lbk_uax14.specs.declared.cells.Cell.{Cell}
 use Rattle.lbk_uax14.specs.declared.codes.TheConstants.{VERDICTS}

@@ -1,5 +1,6 @@
 -- A number for each normal cell, its kind: its place among 42, and 42 more for an unassigned pictograph.
-use Rattle.std.specs.Prelude.{◌≡◌, ℕ, ◌+◌, ◌*◌, ◌%◌, ◌<◌, ◌==◌, ◌&&◌, ◌||◌, Bool, false, List, if◌then◌else◌, length, nat_le, slice_index, slice_index_or}
+use Rattle.std.specs.Prelude.{◌≡◌, ℕ, ◌+◌, ◌*◌, ◌%◌, ◌<◌, ◌==◌, ◌&&◌, ◌||◌, Bool, false, List, if◌then◌else◌, length}
+use Rattle.std.specs.Prelude.{nat_le, slice_index, slice_index_or}
 use Rattle.std.specs.Char.{IsScalar}
 use Rattle.std.specs.Int.{from_bool}
 use Rattle.lbk_uax14.specs.declared.cells.Cell.{Cell}

@@ -1,6 +1,6 @@
 -- What sets of bytes tell of the steps by two bytes that stand side by side.
 use Rattle.std.specs.Prelude.{◌≡◌, ◌⊎◌, ℕ, ◌+◌, ◌<◌, ◌≤◌, ◌%◌, Bool, false, not, List, bit_and, fold, slice_index_or}
-use Rattle.lbk_cover.specs.Letters.{StandsForAll}
+use Rattle.lbk_masks.specs.Letters.{StandsForAll}
 use Rattle.lbk_masks.specs.Sets.{left_in, meets, right_in}
 use Rattle.lbk_masks.specs.declared.TheConstants.{SPECIAL}
 use Rattle.lbk_uax14.specs.Breaks.{is_no}
@@ -19,8 +19,8 @@ is_special pairs before byte = meets (left_in pairs.sets before) (bit_and (right
 abbrev pub step_behind : List FlatStep → List ℕ → Neighbours → ℕ → ℕ → FlatStep
 step_behind steps kinds pairs before byte = slice_index_or steps (slice_index_or pairs.rows before 0 + slice_index_or kinds byte 0) no_flat_step
 
--- the two bytes alone tell what the step does: the byte is a scalar, or stands for all that it begins; its step leads to its
--- row, is not held, and is a break's where the sets meet
+-- the two bytes alone tell what the step does: the byte is a scalar, or stands for all that it begins; its step leads
+-- to its row, is not held, and is a break's where the sets meet
 pub record AreSettled (steps : List FlatStep) (kinds : List ℕ) (pairs : Neighbours) (before byte : ℕ) : Type 0 where
   pub begins : (byte < 128) ⊎ StandsForAll kinds pairs.rows pairs.sets byte
   pub apart : ¬ ((step_behind steps kinds pairs before byte).code ≡ HELD)

@@ -55,8 +55,8 @@ IsPlace place = (place % WIDTH ≡ 0) × (place / WIDTH < ROWS)
 unfoldable pub left_at : ℕ → Left
 left_at place = row_left (place / 128)
 
--- what a step from the row at a place by a cell tells: the verdict before the cell as if nothing followed, and the row that
--- knows of the cell too
+-- what a step from the row at a place by a cell tells: the verdict before the cell as if nothing followed, and the
+-- row that knows of the cell too
 pub record IsStepFrom (profile : Profile) (place kind : ℕ) (step : Step) : Type 0 where
   pub begins : IsPlace step.next
   pub leads : (side : Side) → facts side ≡ left_at place → facts (kind_cell kind ∷ side) ≡ left_at step.next

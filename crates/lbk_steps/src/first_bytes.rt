@@ -31,8 +31,10 @@ pub(crate) fn quiet_first_bytes<C: CellRuns>(source: &C) -> [bool; 256]
 /// Leaves out the first bytes of the scalars from `first` to `last`.
 fn leave_out(quiet: &mut [bool; 256], first: u32, last: u32)
     requires { last ≤ 0x10FFFF }
-    ensures gone { (code : ℕ) → first ≤ code → code ≤ last → IsScalar code → slice_index_or quiet.new (first_byte code) false ≡ false }
-    ensures others { (byte : ℕ) → slice_index_or quiet.new byte false ≡ true → slice_index_or quiet.old byte false ≡ true }
+    ensures gone { (code : ℕ) → first ≤ code → code ≤ last → IsScalar code
+        → slice_index_or quiet.new (first_byte code) false ≡ false }
+    ensures others { (byte : ℕ) → slice_index_or quiet.new byte false ≡ true → slice_index_or quiet.old byte false
+        ≡ true }
 {
     for code in first..last + 1 {
         if let Some(c) = char::from_u32(code) {

@@ -1,8 +1,11 @@
 //! The table of steps as plain numbers in one block, which a caller may keep where it likes.
 
-ghost use Rattle.std.specs.Prelude.{◌≡◌, ◌+◌, ◌*◌, ◌/◌, ◌%◌, ◌^◌, ◌<◌, ◌≤◌, ℕ, ◌↔◌, IsTrue, IfOk, OnErr, fold, length, slice_index};
+ghost use Rattle.std.specs.Prelude.{◌≡◌, ◌+◌, ◌*◌, ◌/◌, ◌%◌, ◌^◌, ◌<◌, ◌≤◌, ℕ, ◌↔◌, IsTrue, IfOk, OnErr, fold};
+ghost use Rattle.std.specs.Prelude.{length, slice_index};
 ghost use Rattle.lbk_uax14.specs.declared.cells.Cell.{Cell};
-ghost use Rattle.lbk_steps.specs.FlatTable.{AreFlatKinds, AreKindsAlone, AreNumbered, AreStepsAlone, IsFlatOf, IsNumbered, IsNumberedAt, IsWhole, digest_of, digest_with, digest_with_step};
+ghost use Rattle.lbk_steps.specs.FlatTable.{AreFlatKinds, AreKindsAlone, AreNumbered, AreStepsAlone, IsFlatOf};
+ghost use Rattle.lbk_steps.specs.FlatTable.{IsNumbered, IsNumberedAt, IsWhole, digest_of, digest_with};
+ghost use Rattle.lbk_steps.specs.FlatTable.{digest_with_step};
 ghost use Rattle.lbk_uax14.specs.Normal.{normal};
 ghost use Rattle.lbk_steps.specs.CellOfTables.{cell_of_tables};
 
@@ -26,8 +29,8 @@ pub const LAYOUT: u64 = 3;
 /// How many codes there are.
 pub(crate) const CODES: usize = 0x11_0000;
 
-/// The number of a verdict by rule 15b. It is none of the first [`VERDICTS`], so that a loop that goes by these leaves at a
-/// held position too.
+/// The number of a verdict by rule 15b. It is none of the first [`VERDICTS`], so that a loop that goes by these
+/// leaves at a held position too.
 pub const HELD: u16 = VERDICTS + 16;
 
 /// What a digest begins with: the offset basis of FNV-1a for 64 bits.
@@ -40,16 +43,16 @@ const DIGEST_PRIME: u64 = 0x100_0000_01b3;
 #[repr(C)]
 #[derive(Clone, Copy, PartialEq, Eq, Debug)]
 pub struct FlatStep {
-    /// The number of the verdict before the cell, as `lbk_uax14::code_of` counts them. In the second profile, of that where
-    /// what follows leaves a closing quotation mark closed.
+    /// The number of the verdict before the cell, as `lbk_uax14::code_of` counts them. In the second profile, of that
+    /// where what follows leaves a closing quotation mark closed.
     pub code: u16,
     /// The place at which the row after the cell begins.
     pub next: u16,
 }
 
 /// The kinds of all scalar values, and for both profiles what happens at a cell of each kind: plain numbers, without
-/// pointers. Each row of steps has one for each kind, and is named by the place of its first step; the row at 0 knows of
-/// no cell.
+/// pointers. Each row of steps has one for each kind, and is named by the place of its first step; the row at 0 knows
+/// of no cell.
 #[repr(C)]
 pub struct FlatTable {
     /// The number of the layout, [`LAYOUT`].
@@ -100,8 +103,8 @@ impl FlatTable {
         Ok(())
     }
 
-    /// Whether its layout is that of this version and its digest is that of its numbers. So it is of each table that `fill`
-    /// made, and of none of them in which one number was changed since.
+    /// Whether its layout is that of this version and its digest is that of its numbers. So it is of each table that
+    /// `fill` made, and of none of them in which one number was changed since.
     pub fn is_whole(&self) -> bool
         ensures { IsTrue result ↔ IsWhole self.now }
     {

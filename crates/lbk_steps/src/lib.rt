@@ -1,8 +1,8 @@
 //! Texts decided by a table of steps, as the rules of `lbk_uax14` decide them; sources of cells.
 //!
 //! A [`CellSource`] knows the cells of all scalars: the tables of the property files, or [`CellPages`] made of them,
-//! which is fast. [`Stepper`] decides a text scalar by scalar by such a source; the crate `lbk_breaks` finds the breaks of
-//! a text in memory, and is faster.
+//! which is fast. [`Stepper`] decides a text scalar by scalar by such a source; the crate `lbk_breaks` finds the
+//! breaks of a text in memory, and is faster.
 #![tactic(auto)]
 
 mod ahead;

@@ -8,8 +8,7 @@ ghost use Rattle.lbk_steps.specs.FlatTable.{digest_with};
 
 use crate::flat_table::{CODES, FlatStep, HELD, STEPS, digest_kinds, digest_with};
 use crate::kinds::KINDS;
-use lbk_cover::{LETTER, Related, cover, firsts_of_letters, stands_for_all};
-use lbk_masks::{ByteSets, SPECIAL};
+use lbk_masks::{ByteSets, LETTER, Related, SPECIAL, cover, firsts_of_letters, stands_for_all};
 use lbk_uax14::is_break;
 
 /// How many bytes are scalars.
@@ -22,10 +21,11 @@ const NO_ROW: u16 = 1;
 #[repr(C)]
 #[derive(Clone, Copy)]
 pub struct Neighbours {
-    /// Sets by which a byte stands out where a line may or must break before it, and is special where the two bytes by themselves
-    /// do not tell that.
+    /// Sets by which a byte stands out where a line may or must break before it, and is special where the two bytes
+    /// by themselves do not tell that.
     pub sets: ByteSets,
-    /// The place of the row after each byte that is not special, or after the scalar that it begins; or a number that is no row's.
+    /// The place of the row after each byte that is not special, or after the scalar that it begins; or a number that
+    /// is no row's.
     pub rows: [u16; 256],
 }
 

@@ -1,6 +1,7 @@
 //! The machine that steps by the rows of steps.
 
-ghost use Rattle.std.specs.Prelude.{◌≡◌, ◌+◌, ◌<◌, ℕ, List, [], ◌∷◌, ◌++◌, length, map, reverse, true, false, ⊤, IfNone, IfSome};
+ghost use Rattle.std.specs.Prelude.{◌≡◌, ◌+◌, ◌<◌, ℕ, List, [], ◌∷◌, ◌++◌, length, map, reverse, true, false, ⊤};
+ghost use Rattle.std.specs.Prelude.{IfNone, IfSome};
 ghost use Rattle.lbk_steps.specs.Kinds.{kind_of};
 ghost use Rattle.lbk_steps.specs.Rows.{IsPlace, steps_in};
 
@@ -72,8 +73,8 @@ impl<'a, C: CellSource> RowMachine<'a, C> {
         }
     }
 
-    /// Takes the next scalar: the verdict of the position before it, whatever follows, unless it is by rule 15b. Exactly
-    /// then the position is held, and what follows decides it.
+    /// Takes the next scalar: the verdict of the position before it, whatever follows, unless it is by rule 15b.
+    /// Exactly then the position is held, and what follows decides it.
     #[inline]
     pub fn step(&mut self, c: char) -> Verdict
         ensures held { (profile : Profile) (cell : ℕ → Cell) (taken : List ℕ) (more : List Cell)
@@ -91,8 +92,8 @@ impl<'a, C: CellSource> RowMachine<'a, C> {
         verdict_of(step.shown)
     }
 
-    /// Takes the next scalar, if what follows does not decide the position before it: the verdict there. None comes where
-    /// the position is held, and the scalar is not taken then.
+    /// Takes the next scalar, if what follows does not decide the position before it: the verdict there. None comes
+    /// where the position is held, and the scalar is not taken then.
     #[inline(always)]
     pub fn step_unless_held(&mut self, c: char) -> Option<Verdict>
         ensures decides { (profile : Profile) (cell : ℕ → Cell) (taken : List ℕ) (more : List Cell)

@@ -26,7 +26,8 @@ pub trait CellSource {
         kind_of(self.cell(c))
     }
 
-    /// The kinds of the first codes, where the source keeps them: by those of all codes a loop finds a kind by one read.
+    /// The kinds of the first codes, where the source keeps them: by those of all codes a loop finds a kind by one
+    /// read.
     #[inline]
     fn kinds(&self) -> &[u8]
         ensures { AreKindsOf (cell_of self.now) result.now }
@@ -34,8 +35,8 @@ pub trait CellSource {
         &[]
     }
 
-    /// For each byte whether it is known that a line must end after no scalar that begins with it (UAX #14, rules LB4 and
-    /// LB5). A text is cut into paragraphs without it too, only slower.
+    /// For each byte whether it is known that a line must end after no scalar that begins with it (UAX #14, rules LB4
+    /// and LB5). A text is cut into paragraphs without it too, only slower.
     fn quiet_first_bytes(&self) -> [bool; 256]
         ensures { AreQuiet (cell_of self.now) result }
     {

@@ -31,9 +31,9 @@ impl HeldRow {
     }
 }
 
-/// Decides the positions of a text one after another in either profile, scalar by scalar and without looking back,
-/// by the cells of a source and the rows of steps (UAX #14, section 6). In the second profile it may hold a position open until the unit after a closing quotation mark begins. Positions count
-/// scalars from 0.
+/// Decides the positions of a text one after another in either profile, scalar by scalar and without looking back, by
+/// the cells of a source and the rows of steps (UAX #14, section 6). In the second profile it may hold a position
+/// open until the unit after a closing quotation mark begins. Positions count scalars from 0.
 ///
 /// ```rust
 /// let mut stepper = Stepper::start(cells, profile);
@@ -113,7 +113,8 @@ impl<'a, C: CellSource> Stepper<'a, C> {
         self.step_with_held(c)
     }
 
-    /// The same where a position is held before the step or after it, which is rare. Its values are set up here, and not in
+    /// The same where a position is held before the step or after it, which is rare. Its values are set up here, and
+    /// not in
     /// `step`; and `holding` and `late`, which it calls, take the stepper by value, so that a loop has its own in registers.
     #[inline(always)]
     fn step_with_held(&mut self, c: char) -> Out

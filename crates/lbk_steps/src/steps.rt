@@ -18,19 +18,20 @@ use crate::kinds::{KINDS, cell_of_kind};
 use crate::row_steps::{FIRST_STEPS, ROWS, SAMPLES, SECOND_STEPS};
 use lbk_uax14::{Kind, Left, Profile, Rule, Verdict};
 
-/// How many steps a row has: one for each number that 7 bits have, so that any number is that of one, once it is masked.
+/// How many steps a row has: one for each number that 7 bits have, so that any number is that of one, once it is
+/// masked.
 pub const WIDTH: usize = 128;
 
 /// The number of rule 15b.
 const RULE_15B: u16 = 8 * 15 + 2;
 
-/// What happens at a cell of some kind after some cells. Each row of steps knows what the rules ask of some cells, and is named
-/// by its place: 128 times its number among the rows. The row at 0 knows of no cell.
+/// What happens at a cell of some kind after some cells. Each row of steps knows what the rules ask of some cells,
+/// and is named by its place: 128 times its number among the rows. The row at 0 knows of no cell.
 #[repr(C)]
 #[derive(Clone, Copy, PartialEq, Eq, Debug)]
 pub struct Step {
-    /// The number of the verdict before the cell: 256 times that of its rule, and that of its kind. In the second profile, of the
-    /// verdict where what follows leaves a closing quotation mark closed.
+    /// The number of the verdict before the cell: 256 times that of its rule, and that of its kind. In the second
+    /// profile, of the verdict where what follows leaves a closing quotation mark closed.
     pub shown: u16,
     /// The place of the row after the cell.
     pub next: u16,
@@ -53,7 +54,8 @@ pub fn rows_of(profile: Profile) -> &'static Rows
 #[inline(always)]
 pub fn step_from(rows: &Rows, place: usize, kind: u8) -> Step
     requires { IsPlace place }
-    ensures { (profile : Profile) → rows.now ≡ steps_in profile → IsStepFrom profile place (kind % WIDTH % KINDS) result }
+    ensures { (profile : Profile) → rows.now ≡ steps_in profile
+        → IsStepFrom profile place (kind % WIDTH % KINDS) result }
 {
     let all = rows.as_flattened();
     all[usize::from(kind) % WIDTH..][place]
@@ -110,7 +112,8 @@ pub fn is_held(shown: u16) -> bool
     shown / 256 == RULE_15B
 }
 
-/// The kinds by their numbers, and Must again, so that any number is that of one, once it is masked, and 0 alone that of No.
+/// The kinds by their numbers, and Must again, so that any number is that of one, once it is masked, and 0 alone that
+/// of No.
 static KINDS_BY_NUMBER: [Kind; 4] = [Kind::No, Kind::May, Kind::Must, Kind::Must];
 
 /// The kind of a number: one read, since it is asked for at each character.

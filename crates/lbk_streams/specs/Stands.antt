@@ -1,5 +1,6 @@
 -- How far a call has come with a piece of a text, and what is to come from a stream on.
-use Rattle.std.specs.Prelude.{◌≡◌, ℕ, ◌+◌, min, ◌≤◌, ◌<◌, ◌%◌, ◌^◌, Bool, true, false, Some, List, [], ◌∷◌, ◌++◌, length, drop, take}
+use Rattle.std.specs.Prelude.{◌≡◌, ℕ, ◌+◌, min, ◌≤◌, ◌<◌, ◌%◌, ◌^◌, Bool, true, false, Some, List, [], ◌∷◌, ◌++◌}
+use Rattle.std.specs.Prelude.{length, drop, take}
 use Rattle.bstr.specs.Utf8.{pieces}
 use Rattle.lbk_rules.specs.declared.Break.{Break}
 use Rattle.lbk_rules.specs.declared.Cell.{Cell}

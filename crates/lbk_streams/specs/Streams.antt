@@ -1,5 +1,6 @@
 -- A text that comes in pieces: what a stream holds of its bytes, and which breaks these do not settle.
-use Rattle.std.specs.Prelude.{◌≡◌, ℕ, ◌+◌, ◌-◌, ◌^◌, ◌<◌, ◌≤◌, min, length, ◌==◌, ◌||◌, Bool, true, false, ◌⊎◌, List, [], ◌∷◌, ◌++◌, map, take, if◌then◌else◌}
+use Rattle.std.specs.Prelude.{◌≡◌, ℕ, ◌+◌, ◌-◌, ◌^◌, ◌<◌, ◌≤◌, min, length, ◌==◌, ◌||◌, Bool, true, false, ◌⊎◌, List}
+use Rattle.std.specs.Prelude.{[], ◌∷◌, ◌++◌, map, take, if◌then◌else◌}
 use Rattle.std.specs.List.{AllByRecursion}
 use Rattle.bstr.specs.Utf8.{lossy_chars}
 use Rattle.lbk_rules.specs.declared.Break.{Break}
@@ -20,12 +21,13 @@ use Rattle.lbk_bytes.specs.Profiles.{profile_number}
 abbrev pub cut_bytes : Stream → List ℕ
 cut_bytes stream = take stream.cut_size stream.cut
 
--- how many breaks may come yet of what a stream holds by itself: one for each byte that was cut, one for the position that waits,
--- and the end
+-- how many breaks may come yet of what a stream holds by itself: one for each byte that was cut, one for the position
+-- that waits, and the end
 abbrev pub most_left : Stream → ℕ
 most_left stream = length (cut_bytes stream) + min stream.held_code 1 + (1 - stream.ended)
 
--- the stream at the start of a text, or of a part of one that begins at a byte, and after which the text goes on or ends
+-- the stream at the start of a text, or of a part of one that begins at a byte, and after which the text goes on or
+-- ends
 abbrev pub part_stream : Bool → Profile → ℕ → Stream
 part_stream goes_on profile at = record {
   at = at;
@@ -50,8 +52,8 @@ place_of stream = record { at = stream.at; held_at = stream.held_at; row = strea
 abbrev pub next_place : Place → ℕ
 next_place place = if place.held_code == 0 then place.at else place.held_at
 
--- A stream whose places can be counted on, where so many bytes follow: the place that waits is an earlier one, and the stream has fewer
--- than 2^64 bytes. So it is of each stream at its start
+-- A stream whose places can be counted on, where so many bytes follow: the place that waits is an earlier one, and
+-- the stream has fewer than 2^64 bytes. So it is of each stream at its start
 pub record IsSound (stream : Stream) (more : ℕ) : Type 0 where
   pub waits : 0 < stream.held_code → stream.held_at < stream.at
   pub fits : stream.at + length (cut_bytes stream) + more < 2 ^ 64
@@ -60,7 +62,8 @@ pub record IsSound (stream : Stream) (more : ℕ) : Type 0 where
 abbrev pub cells_of : (ℕ → Cell) → List ℕ → List Cell
 cells_of cell bytes = map normal (map cell (lossy_chars bytes))
 
--- the break at the position that waits, if one does, where these bytes follow: none, if they close the quotation (rule 15b)
+-- the break at the position that waits, if one does, where these bytes follow: none, if they close the quotation
+-- (rule 15b)
 abbrev pub late_break : (ℕ → Cell) → Place → List ℕ → List Break
 late_break cell place bytes =
     if place.held_code == 0 || leaves_closed (units_after false (cells_of cell bytes))

@@ -29,12 +29,15 @@ pub(crate) fn take_piece(
     requires { (start.cut.size ≤ 4) × (start.count ≤ length out.old) × (start.taken ≤ length piece.now) }
     ensures within { (result.cut.size ≤ 4) × (result.count ≤ length out.old) × (result.taken ≤ length piece.now) }
     ensures all { result.count < length out.old → result.taken ≡ length piece.now }
-    ensures unfinished { result.count < length out.old → (result.cut.size ≡ 0) ⊎ (could_go_on (front_of result.cut) ≡ true) }
+    ensures unfinished { result.count < length out.old → (result.cut.size ≡ 0)
+        ⊎ (could_go_on (front_of result.cut) ≡ true) }
     ensures few { result.count < length out.old → result.cut.size < 4 }
     ensures breaks { AreBreaks out.old start.count → AreBreaks out.new result.count }
     ensures counted { AreFew start result }
-    ensures ordered { (base from : ℕ) → base + length piece.now < 2 ^ 64 → IsOrdered out.old base from start → IsOrdered out.new base from result }
-    ensures feeds { (cell : ℕ → Cell) (lefts : List Left) (base : ℕ) (more : List ℕ) (all : Ahead) → IsFlatBy lefts table.now cell
+    ensures ordered { (base from : ℕ) → base + length piece.now < 2 ^ 64 → IsOrdered out.old base from start
+        → IsOrdered out.new base from result }
+    ensures feeds { (cell : ℕ → Cell) (lefts : List Left) (base : ℕ) (more : List ℕ) (all : Ahead)
+        → IsFlatBy lefts table.now cell
         → Feeds profile cell lefts base piece.now more start all (given_in out.old start.count)
         → Feeds profile cell lefts base piece.now more result all (given_in out.new result.count) }
 {
@@ -49,12 +52,15 @@ pub(crate) fn take_piece(
 fn drain(table: &FlatTable, profile: Profile, start: Feeding, out: &mut [RawBreak]) -> Feeding
     requires { (start.cut.size ≤ 4) × (start.count ≤ length out.old) }
     ensures within { (result.cut.size ≤ 4) × (result.count ≤ length out.old) × (result.taken ≡ start.taken) }
-    ensures unfinished { result.count < length out.old → (result.cut.size ≡ 0) ⊎ (could_go_on (front_of result.cut) ≡ true) }
+    ensures unfinished { result.count < length out.old → (result.cut.size ≡ 0)
+        ⊎ (could_go_on (front_of result.cut) ≡ true) }
     ensures few { result.count < length out.old → result.cut.size < 4 }
     ensures breaks { AreBreaks out.old start.count → AreBreaks out.new result.count }
     ensures counted { AreFew start result }
-    ensures ordered { (base from : ℕ) → base + start.taken < 2 ^ 64 → IsOrdered out.old base from start → IsOrdered out.new base from result }
-    ensures feeds { (cell : ℕ → Cell) (lefts : List Left) (base : ℕ) (piece more : List ℕ) (all : Ahead) → IsFlatBy lefts table.now cell
+    ensures ordered { (base from : ℕ) → base + start.taken < 2 ^ 64 → IsOrdered out.old base from start
+        → IsOrdered out.new base from result }
+    ensures feeds { (cell : ℕ → Cell) (lefts : List Left) (base : ℕ) (piece more : List ℕ) (all : Ahead)
+        → IsFlatBy lefts table.now cell
         → Feeds profile cell lefts base piece more start all (given_in out.old start.count)
         → Feeds profile cell lefts base piece more result all (given_in out.new result.count) }
 {
@@ -68,7 +74,8 @@ fn drain(table: &FlatTable, profile: Profile, start: Feeding, out: &mut [RawBrea
 /// Whether a scalar or ill-formed bytes stand in the front, whatever follows.
 fn is_whole(cut: &Cut) -> bool
     requires { cut.now.size ≤ 4 }
-    ensures whole { result ≡ true → (0 < cut.now.size) × (0 < length (front_of cut.now)) × (could_go_on (front_of cut.now) ≡ false) }
+    ensures whole { result ≡ true → (0 < cut.now.size) × (0 < length (front_of cut.now))
+        × (could_go_on (front_of cut.now) ≡ false) }
     ensures unfinished { result ≡ false → (cut.now.size ≡ 0) ⊎ (could_go_on (front_of cut.now) ≡ true) }
     ensures few { result ≡ false → cut.now.size < 4 }
 {
@@ -90,8 +97,10 @@ pub(crate) fn take_cut(
     ensures onward { result.cut.size + (length out.old - result.count) < here.cut.size + (length out.old - here.count) }
     ensures breaks { AreBreaks out.old here.count → AreBreaks out.new result.count }
     ensures counted { AreFew here result }
-    ensures ordered { (base from : ℕ) → base + here.taken < 2 ^ 64 → IsOrdered out.old base from here → IsOrdered out.new base from result }
-    ensures feeds { (cell : ℕ → Cell) (lefts : List Left) (base : ℕ) (piece more : List ℕ) (all : Ahead) → IsFlatBy lefts table.now cell
+    ensures ordered { (base from : ℕ) → base + here.taken < 2 ^ 64 → IsOrdered out.old base from here
+        → IsOrdered out.new base from result }
+    ensures feeds { (cell : ℕ → Cell) (lefts : List Left) (base : ℕ) (piece more : List ℕ) (all : Ahead)
+        → IsFlatBy lefts table.now cell
         → decoded (front_of here.cut ++ (drop here.taken piece ++ more)) ≡ decoded (front_of here.cut)
         → Feeds profile cell lefts base piece more here all (given_in out.old here.count)
         → Feeds profile cell lefts base piece more result all (given_in out.new result.count) }
@@ -125,13 +134,17 @@ fn take_more(
     out: &mut [RawBreak],
 ) -> Feeding
     requires { (here.cut.size < 4) × (here.count < length out.old) × (here.taken < length piece.now) }
-    ensures within { (result.cut.size ≤ 4) × (result.count ≤ length out.old) × (here.taken < result.taken) × (result.taken ≤ length piece.now) }
-    ensures unfinished { result.count < length out.old → (result.cut.size ≡ 0) ⊎ (could_go_on (front_of result.cut) ≡ true) }
+    ensures within { (result.cut.size ≤ 4) × (result.count ≤ length out.old) × (here.taken < result.taken)
+        × (result.taken ≤ length piece.now) }
+    ensures unfinished { result.count < length out.old → (result.cut.size ≡ 0)
+        ⊎ (could_go_on (front_of result.cut) ≡ true) }
     ensures few { result.count < length out.old → result.cut.size < 4 }
     ensures breaks { AreBreaks out.old here.count → AreBreaks out.new result.count }
     ensures counted { AreFew here result }
-    ensures ordered { (base from : ℕ) → base + length piece.now < 2 ^ 64 → IsOrdered out.old base from here → IsOrdered out.new base from result }
-    ensures feeds { (cell : ℕ → Cell) (lefts : List Left) (base : ℕ) (more : List ℕ) (all : Ahead) → IsFlatBy lefts table.now cell
+    ensures ordered { (base from : ℕ) → base + length piece.now < 2 ^ 64 → IsOrdered out.old base from here
+        → IsOrdered out.new base from result }
+    ensures feeds { (cell : ℕ → Cell) (lefts : List Left) (base : ℕ) (more : List ℕ) (all : Ahead)
+        → IsFlatBy lefts table.now cell
         → Feeds profile cell lefts base piece.now more here all (given_in out.old here.count)
         → Feeds profile cell lefts base piece.now more result all (given_in out.new result.count) }
 {
@@ -159,12 +172,15 @@ fn take_run(
     out: &mut [RawBreak],
 ) -> Feeding
     requires { (here.cut.size ≡ 0) × (here.count < length out.old) × (here.taken + 4 ≤ length piece.now) }
-    ensures within { (result.cut.size ≤ 4) × (result.count ≤ length out.old) × (here.taken < result.taken) × (result.taken ≤ length piece.now) }
+    ensures within { (result.cut.size ≤ 4) × (result.count ≤ length out.old) × (here.taken < result.taken)
+        × (result.taken ≤ length piece.now) }
     ensures unfinished { result.count < length out.old → result.cut.size ≡ 0 }
     ensures breaks { AreBreaks out.old here.count → AreBreaks out.new result.count }
     ensures counted { AreFew here result }
-    ensures ordered { (base from : ℕ) → base + length piece.now < 2 ^ 64 → IsOrdered out.old base from here → IsOrdered out.new base from result }
-    ensures feeds { (cell : ℕ → Cell) (lefts : List Left) (base : ℕ) (more : List ℕ) (all : Ahead) → IsFlatBy lefts table.now cell
+    ensures ordered { (base from : ℕ) → base + length piece.now < 2 ^ 64 → IsOrdered out.old base from here
+        → IsOrdered out.new base from result }
+    ensures feeds { (cell : ℕ → Cell) (lefts : List Left) (base : ℕ) (more : List ℕ) (all : Ahead)
+        → IsFlatBy lefts table.now cell
         → Feeds profile cell lefts base piece.now more here all (given_in out.old here.count)
         → Feeds profile cell lefts base piece.now more result all (given_in out.new result.count) }
 {

@@ -1,5 +1,5 @@
-//! The breaks of a text that comes in pieces, cut at any byte, from a stream that is a value of plain fields. The call of the
-//! library for C stands on it.
+//! The breaks of a text that comes in pieces, cut at any byte, from a stream that is a value of plain fields. The
+//! call of the library for C stands on it.
 #![tactic(auto)]
 
 mod cutting;

@@ -21,12 +21,16 @@ pub(crate) fn skim(
     piece: &[u8],
     out: &mut [RawBreak],
 ) -> Feeding
-    requires { (here.cut.size ≡ 0) × (here.place.held_code ≡ 0) × (here.count ≤ length out.old) × (0 < here.taken) × (here.taken ≤ length piece.now) }
-    ensures within { (result.cut.size ≡ 0) × (result.count ≤ length out.old) × (here.taken ≤ result.taken) × (result.taken ≤ length piece.now) }
+    requires { (here.cut.size ≡ 0) × (here.place.held_code ≡ 0) × (here.count ≤ length out.old) × (0 < here.taken)
+        × (here.taken ≤ length piece.now) }
+    ensures within { (result.cut.size ≡ 0) × (result.count ≤ length out.old) × (here.taken ≤ result.taken)
+        × (result.taken ≤ length piece.now) }
     ensures breaks { AreBreaks out.old here.count → AreBreaks out.new result.count }
     ensures counted { AreFew here result }
-    ensures ordered { (base from : ℕ) → base + length piece.now < 2 ^ 64 → IsOrdered out.old base from here → IsOrdered out.new base from result }
-    ensures feeds { (cell : ℕ → Cell) (lefts : List Left) (base : ℕ) (more : List ℕ) (all : Ahead) → IsFlatBy lefts table.now cell
+    ensures ordered { (base from : ℕ) → base + length piece.now < 2 ^ 64 → IsOrdered out.old base from here
+        → IsOrdered out.new base from result }
+    ensures feeds { (cell : ℕ → Cell) (lefts : List Left) (base : ℕ) (more : List ℕ) (all : Ahead)
+        → IsFlatBy lefts table.now cell
         → Feeds profile cell lefts base piece.now more here all (given_in out.old here.count)
         → Feeds profile cell lefts base piece.now more result all (given_in out.new result.count) }
 {
@@ -61,12 +65,14 @@ fn skim_into(
     room: &mut [RawBreak],
 ) -> FillState
     requires { from ≤ length piece.now }
-    ensures within { (result.count ≤ length room.old) × (result.row < 65536) × (from ≤ result.at) × (result.at ≤ length piece.now) }
+    ensures within { (result.count ≤ length room.old) × (result.row < 65536) × (from ≤ result.at)
+        × (result.at ≤ length piece.now) }
     ensures breaks { AreBreaks room.new result.count }
     ensures few { result.count + from ≤ result.at }
     ensures in_order { from ≤ place.at → place.at + (result.at - from) < 2 ^ 64
         → AreInOrder room.new result.count place.at (place.at + (result.at - from)) }
-    ensures stands { (cell : ℕ → Cell) (lefts : List Left) (more : List ℕ) (all : Ahead) (next : Place) → IsFlatBy lefts table.now cell
+    ensures stands { (cell : ℕ → Cell) (lefts : List Left) (more : List ℕ) (all : Ahead) (next : Place)
+        → IsFlatBy lefts table.now cell
         → place.held_code ≡ 0 → 0 < from → from ≤ place.at
         → next.at ≡ place.at + (result.at - from) → next.row ≡ result.row → next.held_code ≡ 0
         → Stands profile cell lefts place (drop from piece.now ++ more) all []
@@ -87,7 +93,8 @@ fn move_by(out: &mut [RawBreak], count: usize, by: u64)
     requires { count ≤ length out.old }
     ensures moved { given_in out.new count ≡ map (moved by) (given_in out.old count) }
     ensures breaks { AreBreaks out.old count → AreBreaks out.new count }
-    ensures in_order { (from to : ℕ) → to + by ≤ 2 ^ 64 → AreInOrder out.old count from to → AreInOrder out.new count (from + by) (to + by) }
+    ensures in_order { (from to : ℕ) → to + by ≤ 2 ^ 64 → AreInOrder out.old count from to
+        → AreInOrder out.new count (from + by) (to + by) }
 {
     let mut k = 0;
     while k < count {

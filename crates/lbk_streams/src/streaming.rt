@@ -1,6 +1,7 @@
 //! A text that comes in pieces.
 
-ghost use Rattle.std.specs.Prelude.{◌≡◌, ◌⊎◌, ℕ, Bool, suc, min, ◌+◌, ◌-◌, ◌^◌, ◌<◌, ◌≤◌, ◌++◌, true, false, [], List, MatchOption, None, Some, drop, length, map, take};
+ghost use Rattle.std.specs.Prelude.{◌≡◌, ◌⊎◌, ℕ, Bool, suc, min, ◌+◌, ◌-◌, ◌^◌, ◌<◌, ◌≤◌, ◌++◌, true, false, []};
+ghost use Rattle.std.specs.Prelude.{List, MatchOption, None, Some, drop, length, map, take};
 ghost use Rattle.lbk_rules.specs.declared.Break.{Break};
 ghost use Rattle.lbk_rules.specs.declared.Cell.{Cell};
 ghost use Rattle.lbk_rules.specs.declared.Left.{Left};
@@ -12,7 +13,8 @@ ghost use Rattle.lbk_bytes.specs.Order.{AreBreaks, AreInOrder};
 ghost use Rattle.lbk_bytes.specs.Shown.{given_in};
 ghost use Rattle.lbk_bytes.specs.Profiles.{goes_on, plain_number, profile_numbered};
 ghost use Rattle.lbk_streams.specs.Stands.{Ahead, AreFew, Feeds, Gives, IsOrdered, IsPlaced, Streams, front_of};
-ghost use Rattle.lbk_streams.specs.Streams.{AreUnsettled, IsSound, cut_bytes, most_left, next_place, part_stream, place_of, stream_start};
+ghost use Rattle.lbk_streams.specs.Streams.{AreUnsettled, IsSound, cut_bytes, most_left, next_place, part_stream};
+ghost use Rattle.lbk_streams.specs.Streams.{place_of, stream_start};
 
 use crate::cutting::cut_of;
 use crate::feeding::{take_cut, take_piece};
@@ -20,15 +22,15 @@ use crate::stream::{Fed, Feeding, Place, Stream};
 use lbk_bytes::{RawBreak, goes_on, plain_number, profile_numbered, put_end};
 use lbk_rules::{FlatTable, Profile};
 
-/// Takes the next piece of a stream, and puts the breaks that it settles (UAX #14, section 3) into the front of the block, as
-/// many as that holds. All bytes of the piece are taken, unless the block is full. Where `last`, nothing follows the piece: the
-/// breaks left are settled then, and the end is the last of them.
+/// Takes the next piece of a stream, and puts the breaks that it settles (UAX #14, section 3) into the front of the
+/// block, as many as that holds. All bytes of the piece are taken, unless the block is full. Where `last`, nothing
+/// follows the piece: the breaks left are settled then, and the end is the last of them.
 ///
-/// The bytes may be any: over all calls the breaks are those of the joined pieces, as `lbk_breaks` has them, at places from the
-/// start of the stream, or of the text of which it is a part. Where the block has no room, nothing is taken and the stream
-/// stays. Where the stream has ended or names no profile, all is taken and no break comes.
-/// Whatever the table and the stream hold, the breaks are breaks of rules, and calls while the block comes back full come to an
-/// end. Whatever the table holds, the places of a stream rise from its start on.
+/// The bytes may be any: over all calls the breaks are those of the joined pieces, as in `lbk_breaks`, at places from
+/// the start of the stream, or of the text of which it is a part. Where the block has no room, nothing is taken and
+/// the stream stays. Where the stream has ended or names no profile, all is taken and no break comes. With any table
+/// and stream, the breaks are breaks of rules, and calls while the block is full come to an end. With any table, the
+/// places of a stream rise from its start on.
 pub fn feed(
     table: &FlatTable,
     stream: &mut Stream,
@@ -41,31 +43,42 @@ pub fn feed(
     ensures profile_same { stream.new.profile ≡ stream.old.profile }
     // Of any table and stream: at most one break for each byte, one that waited and the end.
     ensures breaks { AreBreaks out.new result.count }
-    ensures few { result.count + most_left stream.new + (length piece.now - result.taken) ≤ most_left stream.old + length piece.now }
+    ensures few { result.count + most_left stream.new + (length piece.now - result.taken) ≤ most_left stream.old
+        + length piece.now }
     // And of any table, from a stream's start on: their places rise, in a call and from one call to the next.
-    ensures in_order { IsSound stream.old (length piece.now) → AreInOrder out.new result.count (next_place (place_of stream.old)) (suc stream.new.at) }
-    ensures before_stream { IsSound stream.old (length piece.now) → stream.new.ended ≡ 0 → (next_place (place_of stream.old) ≤ next_place (place_of stream.new))
+    ensures in_order { IsSound stream.old (length piece.now)
+        → AreInOrder out.new result.count (next_place (place_of stream.old)) (suc stream.new.at) }
+    ensures before_stream { IsSound stream.old (length piece.now) → stream.new.ended ≡ 0
+        → (next_place (place_of stream.old) ≤ next_place (place_of stream.new))
         × AreInOrder out.new result.count (next_place (place_of stream.old)) (next_place (place_of stream.new)) }
     ensures sound { IsSound stream.old (length piece.now) → IsSound stream.new (length piece.now - result.taken) }
     ensures place { IsSound stream.old (length piece.now) → stream.old.ended ≡ 0 → stream.old.profile ≤ 3
         → stream.new.at + length (cut_bytes stream.new) ≡ stream.old.at + length (cut_bytes stream.old) + result.taken }
     ensures only_last { last ≡ false → stream.new.ended ≡ stream.old.ended }
-    ensures start { (cell : ℕ → Cell) (profile : Profile) (text : List ℕ) → IsFlatOf table.now cell → length text < 2 ^ 64
-        → stream.old ≡ stream_start profile → Streams cell table.now stream.old text (breaks_of_bytes profile cell text) }
-    // A part of a text: places count from the text's start, if the part's place is given, and the text may go on after it.
-    ensures part { (cell : ℕ → Cell) (profile : Profile) (goes_on : Bool) (at : ℕ) (text : List ℕ) → IsFlatOf table.now cell → at + length text < 2 ^ 64
+    ensures start { (cell : ℕ → Cell) (profile : Profile) (text : List ℕ) → IsFlatOf table.now cell
+        → length text < 2 ^ 64
+        → stream.old ≡ stream_start profile
+        → Streams cell table.now stream.old text (breaks_of_bytes profile cell text) }
+    // A part of a text: places count from the text's start, if the part's place is given, and the text may go on
+    // after it.
+    ensures part { (cell : ℕ → Cell) (profile : Profile) (goes_on : Bool) (at : ℕ) (text : List ℕ)
+        → IsFlatOf table.now cell → at + length text < 2 ^ 64
         → stream.old ≡ part_stream goes_on profile at
         → Streams cell table.now stream.old text (map (moved at) (breaks_of_part goes_on profile cell text)) }
     // Whatever bytes follow the piece (none, where it is the last): what comes of all of them comes first of this call.
-    ensures front { (cell : ℕ → Cell) (more : List ℕ) (to_come : List Break) → Streams cell table.now stream.old (piece.now ++ more) to_come
+    ensures front { (cell : ℕ → Cell) (more : List ℕ) (to_come : List Break)
+        → Streams cell table.now stream.old (piece.now ++ more) to_come
         → (last ≡ true → more ≡ []) → given_in out.new result.count ≡ take result.count to_come }
-    ensures rest { (cell : ℕ → Cell) (more : List ℕ) (to_come : List Break) → Streams cell table.now stream.old (piece.now ++ more) to_come
+    ensures rest { (cell : ℕ → Cell) (more : List ℕ) (to_come : List Break)
+        → Streams cell table.now stream.old (piece.now ++ more) to_come
         → (last ≡ true → more ≡ [])
         → Streams cell table.now stream.new (drop result.taken piece.now ++ more) (drop result.count to_come) }
-    ensures settled { (cell : ℕ → Cell) (more : List ℕ) (to_come : List Break) → Streams cell table.now stream.old (piece.now ++ more) to_come
+    ensures settled { (cell : ℕ → Cell) (more : List ℕ) (to_come : List Break)
+        → Streams cell table.now stream.old (piece.now ++ more) to_come
         → last ≡ false → stream.old.ended ≡ 0 → result.count < length out.old
         → AreUnsettled cell stream.new more (drop result.count to_come) }
-    ensures seen { (cell : ℕ → Cell) (more : List ℕ) (to_come : List Break) → Streams cell table.now stream.old (piece.now ++ more) to_come
+    ensures seen { (cell : ℕ → Cell) (more : List ℕ) (to_come : List Break)
+        → Streams cell table.now stream.old (piece.now ++ more) to_come
         → (last ≡ true → more ≡ []) → stream.old.ended ≡ 0
         → stream.new.at + length (cut_bytes stream.new) ≡ stream.old.at + length (cut_bytes stream.old) + result.taken }
     ensures cut { stream.old.cut_size ≤ 4 → stream.new.cut_size ≤ 4 }
@@ -74,7 +87,8 @@ pub fn feed(
     ensures end { (cell : ℕ → Cell) (to_come : List Break) → Streams cell table.now stream.old piece.now to_come
         → last ≡ true → result.count < length out.old → result.count ≡ length to_come }
     ensures ended { last ≡ true → result.count < length out.old → 0 < stream.new.ended ⊎ (3 < stream.old.profile) }
-    ensures stays { 0 < stream.old.ended ⊎ ((3 < stream.old.profile) ⊎ (length out.old ≡ 0)) → (result.count ≡ 0) × (stream.new ≡ stream.old) }
+    ensures stays { 0 < stream.old.ended ⊎ ((3 < stream.old.profile) ⊎ (length out.old ≡ 0)) → (result.count ≡ 0)
+        × (stream.new ≡ stream.old) }
     ensures no_room { length out.old ≡ 0 → result.taken ≡ 0 }
 {
     if out.is_empty() {
@@ -103,9 +117,12 @@ fn go_with(
     ensures all_taken { result.count < length out.old → result.taken ≡ length piece.now }
     ensures profile_same { stream.new.profile ≡ stream.old.profile }
     ensures breaks { AreBreaks out.new result.count }
-    ensures few { result.count + most_left stream.new + (length piece.now - result.taken) ≤ most_left stream.old + length piece.now }
-    ensures in_order { IsSound stream.old (length piece.now) → AreInOrder out.new result.count (next_place (place_of stream.old)) (suc stream.new.at) }
-    ensures before_stream { IsSound stream.old (length piece.now) → stream.new.ended ≡ 0 → (next_place (place_of stream.old) ≤ next_place (place_of stream.new))
+    ensures few { result.count + most_left stream.new + (length piece.now - result.taken) ≤ most_left stream.old
+        + length piece.now }
+    ensures in_order { IsSound stream.old (length piece.now)
+        → AreInOrder out.new result.count (next_place (place_of stream.old)) (suc stream.new.at) }
+    ensures before_stream { IsSound stream.old (length piece.now) → stream.new.ended ≡ 0
+        → (next_place (place_of stream.old) ≤ next_place (place_of stream.new))
         × AreInOrder out.new result.count (next_place (place_of stream.old)) (next_place (place_of stream.new)) }
     ensures sound { IsSound stream.old (length piece.now) → IsSound stream.new (length piece.now - result.taken) }
     ensures place { IsSound stream.old (length piece.now)
@@ -113,10 +130,13 @@ fn go_with(
     ensures only_last { last ≡ false → stream.new.ended ≡ stream.old.ended }
     ensures ended { last ≡ true → result.count < length out.old → 0 < stream.new.ended }
     ensures cut { stream.new.cut_size ≤ 4 }
-    ensures closed { last ≡ true → result.count < length out.old → (stream.new.cut_size ≡ 0) × (stream.new.held_code ≡ 0) }
-    ensures gives { (cell : ℕ → Cell) (more : List ℕ) (to_come : List Break) → Streams cell table.now stream.old (piece.now ++ more) to_come
+    ensures closed { last ≡ true → result.count < length out.old → (stream.new.cut_size ≡ 0)
+        × (stream.new.held_code ≡ 0) }
+    ensures gives { (cell : ℕ → Cell) (more : List ℕ) (to_come : List Break)
+        → Streams cell table.now stream.old (piece.now ++ more) to_come
         → (last ≡ true → more ≡ [])
-        → Gives cell table.now stream.old stream.new piece.now more last to_come result (given_in out.new result.count) (length out.old) }
+        → Gives cell table.now stream.old stream.new piece.now more last to_come result
+        (given_in out.new result.count) (length out.old) }
 {
     let start = start_of(stream);
     let here = take_piece(table, profile, start, piece, out);
@@ -145,7 +165,8 @@ fn live_profile(stream: &Stream) -> Option<Profile>
 /// Where a call begins.
 fn start_of(stream: &Stream) -> Feeding
     ensures place { result.place ≡ place_of stream.now }
-    ensures cut { (result.cut.size ≤ 4) × (front_of result.cut ≡ cut_bytes stream.now) × (result.cut.size ≡ length (cut_bytes stream.now)) }
+    ensures cut { (result.cut.size ≤ 4) × (front_of result.cut ≡ cut_bytes stream.now)
+        × (result.cut.size ≡ length (cut_bytes stream.now)) }
     ensures fresh { (result.taken ≡ 0) × (result.count ≡ 0) }
 {
     Feeding {
@@ -165,7 +186,8 @@ fn start_of(stream: &Stream) -> Feeding
 fn keep(stream: &mut Stream, here: Feeding)
     requires { here.cut.size ≤ 4 }
     ensures place { place_of stream.new ≡ here.place }
-    ensures cut { (cut_bytes stream.new ≡ front_of here.cut) × (length (cut_bytes stream.new) ≡ here.cut.size) × (stream.new.cut_size ≡ here.cut.size) }
+    ensures cut { (cut_bytes stream.new ≡ front_of here.cut) × (length (cut_bytes stream.new) ≡ here.cut.size)
+        × (stream.new.cut_size ≡ here.cut.size) }
     ensures same { (stream.new.profile ≡ stream.old.profile) × (stream.new.ended ≡ stream.old.ended) }
 {
     let cut = here.cut.bytes;
@@ -185,8 +207,10 @@ fn finish(table: &FlatTable, profile: Profile, start: Feeding, out: &mut [RawBre
     ensures same { start.count ≡ length out.old → (result ≡ start) × (out.new ≡ out.old) }
     ensures breaks { AreBreaks out.old start.count → AreBreaks out.new result.count }
     ensures counted { AreFew start result }
-    ensures ordered { (base from : ℕ) → base + start.taken < 2 ^ 64 → IsOrdered out.old base from start → IsOrdered out.new base from result }
-    ensures feeds { (cell : ℕ → Cell) (lefts : List Left) (base : ℕ) (piece : List ℕ) (all : Ahead) → IsFlatBy lefts table.now cell
+    ensures ordered { (base from : ℕ) → base + start.taken < 2 ^ 64 → IsOrdered out.old base from start
+        → IsOrdered out.new base from result }
+    ensures feeds { (cell : ℕ → Cell) (lefts : List Left) (base : ℕ) (piece : List ℕ) (all : Ahead)
+        → IsFlatBy lefts table.now cell
         → (start.count < length out.old → start.taken ≡ length piece)
         → Feeds profile cell lefts base piece [] start all (given_in out.old start.count)
         → Feeds profile cell lefts base piece [] result all (given_in out.new result.count) }
@@ -204,17 +228,24 @@ fn close(table: &FlatTable, stream: &mut Stream, here: Feeding, out: &mut [RawBr
     ensures within { (result.count ≤ length out.old) × (result.taken ≡ here.taken) }
     ensures breaks { AreBreaks out.old here.count → AreBreaks out.new result.count }
     ensures few { result.count + most_left stream.new ≤ here.count + min here.place.held_code 1 + here.cut.size + 1 }
-    ensures in_order { (base from : ℕ) → IsOrdered out.old base from here → AreInOrder out.new result.count from (suc here.place.at) }
-    ensures placed { (base from : ℕ) → IsOrdered out.old base from here → stream.new.ended ≡ 0 → IsPlaced out.new result.count from (place_of stream.new) }
-    ensures waits { (base from : ℕ) → IsOrdered out.old base from here → 0 < stream.new.held_code → stream.new.held_at < stream.new.at }
+    ensures in_order { (base from : ℕ) → IsOrdered out.old base from here
+        → AreInOrder out.new result.count from (suc here.place.at) }
+    ensures placed { (base from : ℕ) → IsOrdered out.old base from here → stream.new.ended ≡ 0
+        → IsPlaced out.new result.count from (place_of stream.new) }
+    ensures waits { (base from : ℕ) → IsOrdered out.old base from here → 0 < stream.new.held_code
+        → stream.new.held_at < stream.new.at }
     ensures profile_same { stream.new.profile ≡ stream.old.profile }
-    ensures full { here.count ≡ length out.old → (result.count ≡ here.count) × (out.new ≡ out.old) × (place_of stream.new ≡ here.place)
+    ensures full { here.count ≡ length out.old → (result.count ≡ here.count) × (out.new ≡ out.old)
+        × (place_of stream.new ≡ here.place)
         × (cut_bytes stream.new ≡ front_of here.cut) × (stream.new.ended ≡ stream.old.ended) }
     ensures ended { here.count < length out.old → (stream.new.ended ≡ 1) × (stream.new.held_code ≡ 0) }
-    ensures seen { (stream.new.at ≡ here.place.at) × (length (cut_bytes stream.new) ≡ here.cut.size) × (stream.new.cut_size ≡ here.cut.size) }
-    ensures end { here.count < length out.old → (profile : Profile) (cell : ℕ → Cell) (lefts : List Left) (taken : List ℕ) → IsFlatBy lefts table.now cell
+    ensures seen { (stream.new.at ≡ here.place.at) × (length (cut_bytes stream.new) ≡ here.cut.size)
+        × (stream.new.cut_size ≡ here.cut.size) }
+    ensures end { here.count < length out.old
+        → (profile : Profile) (cell : ℕ → Cell) (lefts : List Left) (taken : List ℕ) → IsFlatBy lefts table.now cell
         → KnowsTaken cell lefts here.place.row taken → (0 < here.place.row → 0 < length taken)
-        → given_in out.new result.count ≡ given_in out.old here.count ++ end_in (goes_on stream.old.profile) profile cell taken here.place.at }
+        → given_in out.new result.count ≡ given_in out.old here.count
+        ++ end_in (goes_on stream.old.profile) profile cell taken here.place.at }
 {
     let goes_on = goes_on(stream.profile);
     keep(stream, here);

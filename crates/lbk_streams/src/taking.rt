@@ -1,6 +1,7 @@
 //! One scalar of a stream.
 
-ghost use Rattle.std.specs.Prelude.{◌≡◌, ℕ, min, ◌+◌, ◌<◌, ◌≤◌, ◌%◌, ◌^◌, true, false, List, drop, length, if◌then◌else◌};
+ghost use Rattle.std.specs.Prelude.{◌≡◌, ℕ, min, ◌+◌, ◌<◌, ◌≤◌, ◌%◌, ◌^◌, true, false, List, drop, length};
+ghost use Rattle.std.specs.Prelude.{if◌then◌else◌};
 ghost use Rattle.bstr.specs.Utf8.{decoded, or_replacement};
 ghost use Rattle.lbk_rules.specs.declared.Cell.{Cell};
 ghost use Rattle.lbk_rules.specs.declared.Left.{Left};
@@ -45,11 +46,14 @@ pub(crate) fn take_scalar(
     ensures few { result.count + min result.place.held_code 1 ≤ count + min place.held_code 1 + 1 }
     ensures met { result.passed ≡ false → result.count + min result.place.held_code 1 ≤ count + min place.held_code 1 }
     ensures at { result.place.at ≡ (if result.passed then (place.at + size) % 2 ^ 64 else place.at) }
-    ensures placed { (from : ℕ) → 0 < size → place.at + size < 2 ^ 64 → IsPlaced out.old count from place → IsPlaced out.new result.count from result.place }
-    ensures stands { (cell : ℕ → Cell) (lefts : List Left) (bytes : List ℕ) (all : Ahead) → IsFlatBy lefts table.now cell
+    ensures placed { (from : ℕ) → 0 < size → place.at + size < 2 ^ 64 → IsPlaced out.old count from place
+        → IsPlaced out.new result.count from result.place }
+    ensures stands { (cell : ℕ → Cell) (lefts : List Left) (bytes : List ℕ) (all : Ahead)
+        → IsFlatBy lefts table.now cell
         → 0 < length bytes → c ≡ or_replacement (decoded bytes).char → size ≡ (decoded bytes).size
         → Stands profile cell lefts place bytes all (given_in out.old count)
-        → Stands profile cell lefts result.place (if result.passed then drop size bytes else bytes) all (given_in out.new result.count) }
+        → Stands profile cell lefts result.place (if result.passed then drop size bytes else bytes) all
+        (given_in out.new result.count) }
 {
     let met = meet(table, place, c, out, count);
     if met.count == out.len() {
@@ -67,8 +71,10 @@ fn meet(table: &FlatTable, place: Place, c: char, out: &mut [RawBreak], count: u
     ensures few { result.count + min result.place.held_code 1 ≤ count + min place.held_code 1 }
     ensures at { result.place.at ≡ place.at }
     ensures placed { (from : ℕ) → IsPlaced out.old count from place → IsPlaced out.new result.count from result.place }
-    ensures joins { (cell : ℕ → Cell) → AreFlatKinds table.now.kinds cell → 0 < result.place.held_code → mark (normal (cell c)).class ≡ true }
-    ensures stands { (profile : Profile) (cell : ℕ → Cell) (lefts : List Left) (bytes : List ℕ) (all : Ahead) → IsFlatBy lefts table.now cell
+    ensures joins { (cell : ℕ → Cell) → AreFlatKinds table.now.kinds cell → 0 < result.place.held_code
+        → mark (normal (cell c)).class ≡ true }
+    ensures stands { (profile : Profile) (cell : ℕ → Cell) (lefts : List Left) (bytes : List ℕ) (all : Ahead)
+        → IsFlatBy lefts table.now cell
         → 0 < length bytes → c ≡ or_replacement (decoded bytes).char
         → Stands profile cell lefts place bytes all (given_in out.old count)
         → Stands profile cell lefts result.place bytes all (given_in out.new result.count) }
@@ -125,8 +131,10 @@ fn pass(
     ensures breaks { AreBreaks out.old count → AreBreaks out.new result.count }
     ensures few { result.count + min result.place.held_code 1 ≤ count + min place.held_code 1 + 1 }
     ensures at { result.place.at ≡ (place.at + size) % 2 ^ 64 }
-    ensures placed { (from : ℕ) → 0 < size → place.at + size < 2 ^ 64 → IsPlaced out.old count from place → IsPlaced out.new result.count from result.place }
-    ensures stands { (cell : ℕ → Cell) (lefts : List Left) (bytes : List ℕ) (all : Ahead) → IsFlatBy lefts table.now cell
+    ensures placed { (from : ℕ) → 0 < size → place.at + size < 2 ^ 64 → IsPlaced out.old count from place
+        → IsPlaced out.new result.count from result.place }
+    ensures stands { (cell : ℕ → Cell) (lefts : List Left) (bytes : List ℕ) (all : Ahead)
+        → IsFlatBy lefts table.now cell
         → 0 < length bytes → c ≡ or_replacement (decoded bytes).char → size ≡ (decoded bytes).size
         → (0 < place.held_code → mark (normal (cell c)).class ≡ true)
         → Stands profile cell lefts place bytes all (given_in out.old count)
@@ -175,8 +183,8 @@ fn pass(
     }
 }
 
-/// Whether a position waits for what follows: by rule 15b it is no break where the quotation is closed, and where it stays
-/// open the first profile decides.
+/// Whether a position waits for what follows: by rule 15b it is no break where the quotation is closed, and where it
+/// stays open the first profile decides.
 fn waits(profile: Profile, code: u16, otherwise: u16) -> bool
     ensures held { result ≡ true → (profile ≡ Second) × (code ≡ HELD) × (is_no (verdict_coded otherwise).kind ≡ false) }
     ensures decided { result ≡ false → profile ≡ Second → code ≡ HELD → is_no (verdict_coded otherwise).kind ≡ true }

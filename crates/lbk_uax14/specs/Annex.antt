@@ -20,7 +20,8 @@ pub record EndsInSpacesAfter (x : Set) (cells : List Cell) : Type 0 where
   pub of_set : x cell.class ≡ true
   pub all_spaces : AllByRecursion (λ (c : Cell). SP c.class ≡ true) spaces
 
--- the longest run of indicators that ends a list: all of it are indicators, and what comes before it does not end in one
+-- the longest run of indicators that ends a list: all of it are indicators, and what comes before it does not end in
+-- one
 pub record EndsInRun (cells run : List Cell) : Type 0 where
   pub before : List Cell
   pub joined : cells ≡ before ++ run
@@ -41,7 +42,8 @@ pub record BeginsIn (x : Set) (cells : List Cell) : Type 0 where
   pub joined : cells ≡ cell ∷ after
   pub of_set : x cell.class ≡ true
 
--- an opening quotation mark and spaces end a list, and before the mark stands nothing, or what leaves it open (rule LB15a)
+-- an opening quotation mark and spaces end a list, and before the mark stands nothing, or what leaves it open (rule
+-- LB15a)
 pub record EndsInOpenQuotation (cells : List Cell) : Type 0 where
   pub before : List Cell
   pub quotation : Cell

@@ -2,9 +2,11 @@
 use Rattle.std.specs.Prelude.{Bool, false, ◌||◌, ◌&&◌, if◌then◌else◌}
 use Rattle.lbk_uax14.specs.declared.cells.Cell.{Cell}
 use Rattle.lbk_uax14.specs.declared.classes.Class.{Class}
-use Rattle.lbk_uax14.specs.declared.classes.Class.TheVariants.{Alphabetic, ClosePunctuation, Ideographic, JT, JV, LineFeed, Nonstarter, Space}
+use Rattle.lbk_uax14.specs.declared.classes.Class.TheVariants.{Alphabetic, ClosePunctuation, Ideographic, JT, JV}
+use Rattle.lbk_uax14.specs.declared.classes.Class.TheVariants.{LineFeed, Nonstarter, Space}
 use Rattle.lbk_uax14.specs.declared.classes.Quote.TheVariants.{Neither, Initial}
-use Rattle.lbk_uax14.specs.Classes.{Set, ◌or◌, none_of, B2, BB, BK, CB, CL, CP, CR, EB, EM, EX, GL, isH2, isH3, IN, LF, NL, NS, OP, PR, QU, SP, WJ, ZW, isZWJ}
+use Rattle.lbk_uax14.specs.Classes.{Set, ◌or◌, none_of, B2, BB, BK, CB, CL, CP, CR, EB, EM, EX, GL, isH2, isH3, IN}
+use Rattle.lbk_uax14.specs.Classes.{LF, NL, NS, OP, PR, QU, SP, WJ, ZW, isZWJ}
 use Rattle.lbk_uax14.specs.Sides.{opening}
 
 -- Of the last cell, rules LB4 to LB10 ask whether it is BK, CR, or LF or NL, whether it is SP or ZW,

@@ -6,7 +6,8 @@ use Rattle.lbk_uax14.specs.declared.verdicts.Kind.TheVariants.{May}
 use Rattle.lbk_uax14.specs.declared.verdicts.Rule.TheVariants.{Lb31}
 use Rattle.lbk_uax14.specs.declared.cells.Cell.{Cell}
 use Rattle.lbk_uax14.specs.Sides.{Side}
-use Rattle.lbk_uax14.specs.Rules.{Line, cell_rules, joining_rules, opening_rules, quotation_rules, space_rules, hyphen_rules, affix_rules, number_rules, syllable_rules, letter_rules}
+use Rattle.lbk_uax14.specs.Rules.{Line, cell_rules, joining_rules, opening_rules, quotation_rules, space_rules}
+use Rattle.lbk_uax14.specs.Rules.{hyphen_rules, affix_rules, number_rules, syllable_rules, letter_rules}
 use Rattle.lbk_uax14.specs.Units.{units}
 use Rattle.lbk_uax14.specs.Facts.{units_before}
 

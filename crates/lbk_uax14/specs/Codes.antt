@@ -3,7 +3,11 @@ use Rattle.std.specs.Prelude.{ℕ, ◌+◌, ◌*◌, ◌==◌, ◌<◌, ◌%◌,
 use Rattle.lbk_uax14.specs.declared.verdicts.Kind.{Kind}
 use Rattle.lbk_uax14.specs.declared.verdicts.Kind.TheVariants.{No, May, Must}
 use Rattle.lbk_uax14.specs.declared.verdicts.Rule.{Rule}
-use Rattle.lbk_uax14.specs.declared.verdicts.Rule.TheVariants.{Lb2, Lb3, Lb4, Lb5, Lb6, Lb7, Lb8, Lb8a, Lb9, Lb11, Lb12, Lb12a, Lb13, Lb14, Lb15, Lb15a, Lb15b, Lb16, Lb17, Lb18, Lb19, Lb20, Lb21, Lb21a, Lb21b, Lb22, Lb23, Lb23a, Lb24, Lb25, Lb26, Lb27, Lb28, Lb29, Lb30, Lb30a, Lb30b, Lb31}
+use Rattle.lbk_uax14.specs.declared.verdicts.Rule.TheVariants.{Lb2, Lb3, Lb4, Lb5, Lb6, Lb7, Lb8, Lb8a, Lb9, Lb11}
+use Rattle.lbk_uax14.specs.declared.verdicts.Rule.TheVariants.{Lb12, Lb12a, Lb13, Lb14, Lb15, Lb15a, Lb15b, Lb16}
+use Rattle.lbk_uax14.specs.declared.verdicts.Rule.TheVariants.{Lb17, Lb18, Lb19, Lb20, Lb21, Lb21a, Lb21b, Lb22, Lb23}
+use Rattle.lbk_uax14.specs.declared.verdicts.Rule.TheVariants.{Lb23a, Lb24, Lb25, Lb26, Lb27, Lb28, Lb29, Lb30, Lb30a}
+use Rattle.lbk_uax14.specs.declared.verdicts.Rule.TheVariants.{Lb30b, Lb31}
 use Rattle.lbk_uax14.specs.declared.verdicts.Verdict.{Verdict}
 
 -- the number of a kind
@@ -12,8 +16,8 @@ kind_number No = 0
 kind_number May = 1
 kind_number Must = 2
 
--- the number of a rule: 8 times its own, and the place of its letter, so that no rule of a later version of Unicode changes
--- that of another
+-- the number of a rule: 8 times its own, and the place of its letter, so that no rule of a later version of Unicode
+-- changes that of another
 abbrev pub rule_number : Rule → ℕ
 rule_number Lb2 = 8 * 2
 rule_number Lb3 = 8 * 3
@@ -70,7 +74,7 @@ rule_numbered number = unwrap_or (find (λ rule. rule_number rule == number) rul
 abbrev pub IsCode : ℕ → Type 0
 IsCode code = code < 152
 
--- the verdict of a number, which counts verdicts by kind and then by rule. A verdict by which a line does not break has two
--- numbers: one below 38, and one from 114 on
+-- the verdict of a number, which counts verdicts by kind and then by rule. A verdict by which a line does not break
+-- has two numbers: one below 38, and one from 114 on
 unfoldable pub verdict_coded : ℕ → Verdict
 verdict_coded code = record { kind = kind_numbered (code / 38); rule = slice_index_or rules (code % 38) Lb2 }

@@ -8,7 +8,8 @@ use Rattle.lbk_uax14.specs.declared.facts.Left.{Left}
 use Rattle.lbk_uax14.specs.declared.facts.Before.{Before}
 use Rattle.lbk_uax14.specs.Asked.{asked_of_cell, asked_before_spaces, asked_of_unit}
 use Rattle.lbk_uax14.specs.Classes.{◌or◌, B2, BA, CL, CP, HL, HY, OP, QU, ZW}
-use Rattle.lbk_uax14.specs.Sides.{Side, is_nothing, at, before_spaces, behind, past_spaces, at_odd_run, opens_quotation, leaves_closed}
+use Rattle.lbk_uax14.specs.Sides.{Side, is_nothing, at, before_spaces, behind, past_spaces, at_odd_run}
+use Rattle.lbk_uax14.specs.Sides.{opens_quotation, leaves_closed}
 use Rattle.lbk_uax14.specs.Units.{unit}
 pub use Rattle.lbk_uax14.specs.Units.{space, nearest, heads}
 

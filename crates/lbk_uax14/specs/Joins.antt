@@ -1,7 +1,8 @@
--- Texts that are decided in parts: what is said of the whole is what is said of each part alone, joined, with the places of a
--- part moved by the bytes before it, and with the end of a part that another follows by rule 4 or 5 in the place of 3 (UAX
--- #14, section 6.1, rules LB3 to LB5).
-use Rattle.std.specs.Prelude.{◌≡◌, ℕ, ◌+◌, Bool, true, false, List, [], ◌∷◌, ◌++◌, length, map, encode_utf8_all, if◌then◌else◌}
+-- Texts that are decided in parts: what is said of the whole is what is said of each part alone, joined, with the
+-- places of a part moved by the bytes before it, and with the end of a part that another follows by rule 4 or 5 in
+-- the place of 3 (UAX #14, section 6.1, rules LB3 to LB5).
+use Rattle.std.specs.Prelude.{◌≡◌, ℕ, ◌+◌, Bool, true, false, List, [], ◌∷◌, ◌++◌, length, map, encode_utf8_all}
+use Rattle.std.specs.Prelude.{if◌then◌else◌}
 use Rattle.lbk_uax14.specs.declared.breaks.Break.{Break}
 use Rattle.lbk_uax14.specs.declared.cells.Cell.{Cell}
 use Rattle.lbk_uax14.specs.declared.verdicts.Rule.{Rule}
@@ -11,7 +12,8 @@ use Rattle.lbk_uax14.specs.Breaks.{breaks}
 use Rattle.lbk_uax14.specs.Ends.{end_after, end_of_text, ends_between}
 use Rattle.lbk_uax14.specs.Marks.{Marked, ended, marks}
 
--- a line must end between two texts, by the classes of the last scalar of the first and of the first scalar of the second
+-- a line must end between two texts, by the classes of the last scalar of the first and of the first scalar of the
+-- second
 abbrev pub must_end_between : (ℕ → Cell) → List ℕ → List ℕ → Bool
 must_end_between cell [] second = false
 must_end_between cell (c ∷ []) [] = false
@@ -24,8 +26,8 @@ AreParts cell [] = Unit {0}
 AreParts cell (part ∷ []) = Unit {0}
 AreParts cell (part ∷ next ∷ parts) = (must_end_between cell part next ≡ true) × AreParts cell (next ∷ parts)
 
--- what is said of parts, joined: `say at follows part` is said of a part that begins at byte `at` of the text, and which
--- another part follows or not; the first begins at byte `at`
+-- what is said of parts, joined: `say at follows part` is said of a part that begins at byte `at` of the text, and
+-- which another part follows or not; the first begins at byte `at`
 abbrev pub of_parts : {X : Type 0} → (ℕ → Bool → List ℕ → List X) → ℕ → List (List ℕ) → List X
 of_parts say at [] = []
 of_parts say at (part ∷ []) = say at false part

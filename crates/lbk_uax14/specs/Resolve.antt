@@ -7,7 +7,15 @@ use Rattle.lbk_values.specs.declared.values.EastAsian.TheVariants as Width
 use Rattle.lbk_values.specs.declared.values.Category.{Category}
 use Rattle.lbk_values.specs.declared.values.Category.TheVariants.{Lu, Ll, Lt, Lm, Lo, Nd, Nl, No, Mn, Mc, Pi, Pf, Cn}
 use Rattle.lbk_uax14.specs.declared.classes.Class.{Class}
-use Rattle.lbk_uax14.specs.declared.classes.Class.TheVariants.{Alphabetic, BreakBoth, BreakAfter, BreakBefore, MandatoryBreak, ContingentBreak, ClosePunctuation, CombiningMark, CloseParenthesis, CarriageReturn, EBase, EModifier, Exclamation, Glue, H2, H3, HebrewLetter, Hyphen, Ideographic, Inseparable, InfixNumeric, JL, JT, JV, LineFeed, NextLine, Nonstarter, Numeric, OpenPunctuation, PostfixNumeric, PrefixNumeric, Quotation, RegionalIndicator, Space, BreakSymbols, WordJoiner, ZWSpace, ZWJ}
+use Rattle.lbk_uax14.specs.declared.classes.Class.TheVariants.{Alphabetic, BreakBoth, BreakAfter, BreakBefore}
+use Rattle.lbk_uax14.specs.declared.classes.Class.TheVariants.{MandatoryBreak, ContingentBreak, ClosePunctuation}
+use Rattle.lbk_uax14.specs.declared.classes.Class.TheVariants.{CombiningMark, CloseParenthesis, CarriageReturn, EBase}
+use Rattle.lbk_uax14.specs.declared.classes.Class.TheVariants.{EModifier, Exclamation, Glue, H2, H3, HebrewLetter}
+use Rattle.lbk_uax14.specs.declared.classes.Class.TheVariants.{Hyphen, Ideographic, Inseparable, InfixNumeric, JL, JT}
+use Rattle.lbk_uax14.specs.declared.classes.Class.TheVariants.{JV, LineFeed, NextLine, Nonstarter, Numeric}
+use Rattle.lbk_uax14.specs.declared.classes.Class.TheVariants.{OpenPunctuation, PostfixNumeric, PrefixNumeric}
+use Rattle.lbk_uax14.specs.declared.classes.Class.TheVariants.{Quotation, RegionalIndicator, Space, BreakSymbols}
+use Rattle.lbk_uax14.specs.declared.classes.Class.TheVariants.{WordJoiner, ZWSpace, ZWJ}
 use Rattle.lbk_uax14.specs.declared.classes.Quote.{Quote}
 use Rattle.lbk_uax14.specs.declared.classes.Quote.TheVariants.{Neither, Initial, Final}
 use Rattle.lbk_uax14.specs.declared.cells.Cell.{Cell}

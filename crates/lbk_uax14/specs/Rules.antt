@@ -3,13 +3,21 @@
 use Rattle.std.specs.Prelude.{Bool, ◌&&◌, if◌then◌else◌, List, [], ◌∷◌, ◌++◌, map, reverse}
 use Rattle.lbk_uax14.specs.declared.verdicts.Kind.TheVariants.{No, May, Must}
 use Rattle.lbk_uax14.specs.declared.verdicts.Rule.{Rule}
-use Rattle.lbk_uax14.specs.declared.verdicts.Rule.TheVariants.{Lb2, Lb3, Lb4, Lb5, Lb6, Lb7, Lb8, Lb8a, Lb9, Lb11, Lb12, Lb12a, Lb13, Lb14, Lb15, Lb15a, Lb15b, Lb16, Lb17, Lb18, Lb19, Lb20, Lb21, Lb21a, Lb21b, Lb22, Lb23, Lb23a, Lb24, Lb25, Lb26, Lb27, Lb28, Lb29, Lb30, Lb30a, Lb30b, Lb31}
+use Rattle.lbk_uax14.specs.declared.verdicts.Rule.TheVariants.{Lb2, Lb3, Lb4, Lb5, Lb6, Lb7, Lb8, Lb8a, Lb9, Lb11}
+use Rattle.lbk_uax14.specs.declared.verdicts.Rule.TheVariants.{Lb12, Lb12a, Lb13, Lb14, Lb15, Lb15a, Lb15b, Lb16}
+use Rattle.lbk_uax14.specs.declared.verdicts.Rule.TheVariants.{Lb17, Lb18, Lb19, Lb20, Lb21, Lb21a, Lb21b, Lb22, Lb23}
+use Rattle.lbk_uax14.specs.declared.verdicts.Rule.TheVariants.{Lb23a, Lb24, Lb25, Lb26, Lb27, Lb28, Lb29, Lb30, Lb30a}
+use Rattle.lbk_uax14.specs.declared.verdicts.Rule.TheVariants.{Lb30b, Lb31}
 use Rattle.lbk_values.specs.declared.profile.Profile.{Profile}
 use Rattle.lbk_values.specs.declared.profile.Profile.TheVariants.{First, Second}
 use Rattle.lbk_uax14.specs.declared.verdicts.Verdict.{Verdict}
 use Rattle.lbk_uax14.specs.declared.cells.Cell.{Cell}
-use Rattle.lbk_uax14.specs.Classes.{◌or◌, none_of, AL, B2, BA, BB, BK, CB, CL, CP, CR, EB, EM, EX, GL, isH2, isH3, HL, HY, ID, IN, IS, isJL, isJT, isJV, LF, NL, NS, NU, OP, PO, PR, QU, RI, SP, SY, WJ, ZW, isZWJ, hard, mark}
-use Rattle.lbk_uax14.specs.Sides.{Condition, is_nothing, at, behind, at_narrow, at_odd_run, at_pictograph, past_spaces, opens_quotation, closes_quotation, on_left, on_right, between, over_spaces, everywhere}
+use Rattle.lbk_uax14.specs.Classes.{◌or◌, none_of, AL, B2, BA, BB, BK, CB, CL, CP, CR, EB, EM, EX, GL, isH2, isH3, HL}
+use Rattle.lbk_uax14.specs.Classes.{HY, ID, IN, IS, isJL, isJT, isJV, LF, NL, NS, NU, OP, PO, PR, QU, RI, SP, SY, WJ}
+use Rattle.lbk_uax14.specs.Classes.{ZW, isZWJ, hard, mark}
+use Rattle.lbk_uax14.specs.Sides.{Condition, is_nothing, at, behind, at_narrow, at_odd_run, at_pictograph}
+use Rattle.lbk_uax14.specs.Sides.{past_spaces, opens_quotation, closes_quotation, on_left, on_right, between}
+use Rattle.lbk_uax14.specs.Sides.{over_spaces, everywhere}
 use Rattle.lbk_uax14.specs.Units.{units}
 
 -- a line of the table: what it answers where its condition holds

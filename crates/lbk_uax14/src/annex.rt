@@ -5,7 +5,8 @@ ghost use Rattle.lbk_uax14.specs.declared.cells.Cell.{Cell};
 ghost use Rattle.lbk_uax14.specs.Classes.{Set};
 ghost use Rattle.lbk_uax14.specs.Sides.{past_spaces, at_odd_run, opens_quotation, closes_quotation};
 ghost use Rattle.lbk_uax14.specs.Units.{heads, unit, units};
-ghost use Rattle.lbk_uax14.specs.Annex.{HasNoSpace, EndsInSpacesAfter, EndsInRun, EndsInOpenQuotation, BeginsInClosedQuotation, is_odd, is_head};
+ghost use Rattle.lbk_uax14.specs.Annex.{HasNoSpace, EndsInSpacesAfter, EndsInRun, EndsInOpenQuotation};
+ghost use Rattle.lbk_uax14.specs.Annex.{BeginsInClosedQuotation, is_odd, is_head};
 
 /// 'X SP*': some place of the left holds a class of X, which has no space, and all later places hold SP.
 pub fn spaces()

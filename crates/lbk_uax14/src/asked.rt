@@ -2,7 +2,8 @@
 //! one.
 
 ghost use Rattle.std.specs.Prelude.{◌≡◌};
-ghost use Rattle.lbk_uax14.specs.Asked.{asked_before_spaces, asked_class, asked_of_cell, asked_of_unit, decides_before_30b};
+ghost use Rattle.lbk_uax14.specs.Asked.{asked_before_spaces, asked_class, asked_of_cell, asked_of_unit};
+ghost use Rattle.lbk_uax14.specs.Asked.{decides_before_30b};
 
 use crate::cells::Cell;
 use crate::classes::{Class, Quote};

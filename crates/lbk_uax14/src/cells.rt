@@ -44,8 +44,8 @@ impl Cell {
         self.class.is(Class::Quotation) && matches!(self.quote, Quote::Final)
     }
 
-    /// Whether the unit that it heads leaves a closing quotation mark before it closed (rule LB15b). None comes where it
-    /// heads no unit: it is a mark, and `fresh` is false.
+    /// Whether the unit that it heads leaves a closing quotation mark before it closed (rule LB15b). None comes where
+    /// it heads no unit: it is a mark, and `fresh` is false.
     pub fn unit_closes(self, fresh: bool) -> Option<bool>
         ensures { result ≡ (if fresh || none_of mark self.class then Some (closes_before (unit self).class) else None) }
     {

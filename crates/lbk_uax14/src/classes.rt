@@ -1,7 +1,9 @@
 //! Line breaking classes, and the sets of them that the rules ask for (UAX #14, section 5.1).
 
 ghost use Rattle.std.specs.Prelude.{◌≡◌};
-ghost use Rattle.lbk_uax14.specs.Classes.{is, hard, mark, closes_before, opens_after, ◌or◌, AL, BA, BK, CL, CP, CR, EB, EM, EX, GL, isH2, isH3, HL, HY, ID, IS, isJL, isJT, isJV, LF, NL, NS, NU, OP, PO, PR, QU, SP, SY, WJ, ZW};
+ghost use Rattle.lbk_uax14.specs.Classes.{is, hard, mark, closes_before, opens_after, ◌or◌, AL, BA, BK, CL, CP, CR};
+ghost use Rattle.lbk_uax14.specs.Classes.{EB, EM, EX, GL, isH2, isH3, HL, HY, ID, IS, isJL, isJT, isJV, LF, NL, NS};
+ghost use Rattle.lbk_uax14.specs.Classes.{NU, OP, PO, PR, QU, SP, SY, WJ, ZW};
 
 /// A line breaking class once rule LB1 has resolved the text (UAX #14, section 5.1): the values of
 /// `Line_Break` without AI, CJ, SA, SG and XX.

@@ -14,8 +14,8 @@ pub const RULES: u16 = 38;
 pub const VERDICTS: u16 = 3 * RULES;
 
 impl Rule {
-    /// The rule of a number, which is 8 times its own and the place of its letter: 65 for rule 8a. None comes for a number
-    /// that no rule has.
+    /// The rule of a number, which is 8 times its own and the place of its letter: 65 for rule 8a. None comes for a
+    /// number that no rule has.
     #[inline(always)]
     pub fn numbered(number: u8) -> Option<Rule>
         ensures { result ≡ find (λ rule. rule_number rule == number) rules }
@@ -64,7 +64,8 @@ impl Rule {
     }
 }
 
-/// The number of a verdict among all verdicts: 38 times the number of its kind, and the place of its rule among the rules.
+/// The number of a verdict among all verdicts: 38 times the number of its kind, and the place of its rule among the
+/// rules.
 pub fn code_of(verdict: Verdict) -> u16
     ensures verdict { verdict_coded result ≡ verdict }
     ensures few { result < VERDICTS }

@@ -1,6 +1,7 @@
 //! The machine of either profile, which decides a position late where what follows decides it.
 
-ghost use Rattle.std.specs.Prelude.{◌≡◌, ◌+◌, ◌<◌, ◌≤◌, ℕ, List, [], ◌∷◌, ◌++◌, length, reverse, Some, None, if◌then◌else◌, slice_get, option_map};
+ghost use Rattle.std.specs.Prelude.{◌≡◌, ◌+◌, ◌<◌, ◌≤◌, ℕ, List, [], ◌∷◌, ◌++◌, length, reverse, Some, None};
+ghost use Rattle.std.specs.Prelude.{if◌then◌else◌, slice_get, option_map};
 ghost use Rattle.std.specs.Option.{ForSome};
 ghost use Rattle.lbk_uax14.specs.Answers.{count_of, written};
 ghost use Rattle.lbk_uax14.specs.Verdict.{verdict_in};

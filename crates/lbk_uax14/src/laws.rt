@@ -1,6 +1,7 @@
 //! What the verdicts of a text have in common, over definitions only. Each law is the contract of a
 //! function that does nothing.
-ghost use Rattle.std.specs.Prelude.{◌≡◌, ℕ, ◌+◌, ◌-◌, ◌<◌, ◌≤◌, ◌⊎◌, true, false, not, List, [], ◌∷◌, ◌++◌, length, map, reverse, take, drop, encode_utf8_all, IsSome, IsTrue, Some, None};
+ghost use Rattle.std.specs.Prelude.{◌≡◌, ℕ, ◌+◌, ◌-◌, ◌<◌, ◌≤◌, ◌⊎◌, true, false, not, List, [], ◌∷◌, ◌++◌, length};
+ghost use Rattle.std.specs.Prelude.{map, reverse, take, drop, encode_utf8_all, IsSome, IsTrue, Some, None};
 ghost use Rattle.std.specs.List.{flat_map};
 ghost use Rattle.lbk_uax14.specs.declared.cells.Cell.{Cell};
 ghost use Rattle.lbk_uax14.specs.declared.late_machine.LateMachine.{LateMachine};
@@ -157,18 +158,23 @@ pub fn normal_cells()
         → is_held profile (map normal left) (map normal right) ≡ is_held profile left right }
 {}
 
-/// Texts between which a line must end may be decided apart. Joined, their marks are those of the whole, except at the end of
-/// the first: a text ends by rule 3, and by rule 4 or 5 where another follows. Their breaks are those of the whole, if the
-/// places of the second are moved by the bytes of the first (UAX #14, section 6.1, rules LB3 to LB5).
+/// Texts between which a line must end may be decided apart. Joined, their marks are those of the whole, except at
+/// the end of the first: a text ends by rule 3, and by rule 4 or 5 where another follows. Their breaks are those of
+/// the whole, if the places of the second are moved by the bytes of the first (UAX #14, section 6.1, rules LB3 to
+/// LB5).
 pub fn joined_texts()
-    ensures marks { (profile : Profile) (cell : ℕ → Cell) (first second : List ℕ) → IsTrue (must_end_between cell first second)
+    ensures marks { (profile : Profile) (cell : ℕ → Cell) (first second : List ℕ)
+        → IsTrue (must_end_between cell first second)
         → marks profile cell (first ++ second) ≡ marks_in profile cell true first ++ marks profile cell second }
-    ensures breaks { (profile : Profile) (cell : ℕ → Cell) (first second : List ℕ) → IsTrue (must_end_between cell first second)
+    ensures breaks { (profile : Profile) (cell : ℕ → Cell) (first second : List ℕ)
+        → IsTrue (must_end_between cell first second)
         → breaks profile cell (first ++ second)
-        ≡ breaks_before profile cell true first ++ breaks_in profile cell (length (encode_utf8_all first)) false second }
+        ≡ breaks_before profile cell true first
+        ++ breaks_in profile cell (length (encode_utf8_all first)) false second }
 {}
 
-/// So may any number of parts: each is decided by itself, with the byte at which it begins and whether another follows it.
+/// So may any number of parts: each is decided by itself, with the byte at which it begins and whether another
+/// follows it.
 pub fn joined_parts()
     ensures marks { (profile : Profile) (cell : ℕ → Cell) (parts : List (List ℕ)) → AreParts cell parts
         → marks profile cell (flat_map (λ part. part) parts) ≡ of_parts (λ at. marks_in profile cell) 0 parts }

@@ -1,8 +1,7 @@
 //! The rules of line breaking: Unicode Standard Annex #14, Unicode 15.0, over cells.
 //!
-//! A text is seen as a list of [`Cell`]s, one a scalar. [`decide`] returns for a position in it
-//! whether the line may break, must break or must not, and the rule that decided. The crate `lbk_steps` decides texts, and
-//! is fast.
+//! A text is seen as a list of [`Cell`]s, one a scalar. [`decide`] returns for a position in it whether the line may
+//! break, must break or must not, and the rule that decided. The crate `lbk_steps` decides texts, and is fast.
 #![tactic(auto)]
 
 pub mod annex;

@@ -2,7 +2,8 @@
 //! decides.
 ghost use Rattle.std.specs.Prelude.{◌≡◌, ◌&&◌, [], ◌∷◌};
 ghost use Rattle.lbk_values.specs.declared.profile.Profile.TheVariants.{First, Second};
-ghost use Rattle.lbk_uax14.specs.Chain.{choose, from_11, from_14, from_15, from_16, from_19, from_23, from_25, from_26, from_28, from_cells};
+ghost use Rattle.lbk_uax14.specs.Chain.{choose, from_11, from_14, from_15, from_16, from_19, from_23, from_25};
+ghost use Rattle.lbk_uax14.specs.Chain.{from_26, from_28, from_cells};
 ghost use Rattle.lbk_uax14.specs.Classes.{ZW, hard, is};
 ghost use Rattle.lbk_uax14.specs.Facts.{class_cell, closes_in, facts, units_before, Sees};
 ghost use Rattle.lbk_uax14.specs.Rules.{cell_rules};

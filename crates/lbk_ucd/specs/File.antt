@@ -1,12 +1,14 @@
--- What a property file assigns to codes, and the first fault of one that is not lawful. The lines of a file are looked at
--- in its order, and each is judged against those before it.
-use Rattle.std.specs.Prelude.{ℕ, ◌≡◌, ◌+◌, ◌<◌, ◌≤◌, Bool, ◌||◌, ◌==◌, nat_eq, nat_lt, if◌then◌else◌, List, [], ◌∷◌, length, take, drop, Option, Some, None, IsSome, ◌⊎◌, slice_index_or}
+-- What a property file assigns to codes, and the first fault of one that is not lawful. The lines of a file are
+-- looked at in its order, and each is judged against those before it.
+use Rattle.std.specs.Prelude.{ℕ, ◌≡◌, ◌+◌, ◌<◌, ◌≤◌, Bool, ◌||◌, ◌==◌, nat_eq, nat_lt, if◌then◌else◌, List, [], ◌∷◌}
+use Rattle.std.specs.Prelude.{length, take, drop, Option, Some, None, IsSome, ◌⊎◌, slice_index_or}
 use Rattle.std.specs.List.{find, filter_map, list_any, slice_split, starts_with}
 use Rattle.std.specs.Option.{option_map}
 use Rattle.std.specs.Str.{bytes_eq}
 use Rattle.lbk_ucd.specs.declared.ranges.Row.{Row}
 use Rattle.lbk_ucd.specs.declared.faults.UcdCause.{UcdCause}
-use Rattle.lbk_ucd.specs.declared.faults.UcdCause.TheVariants.{FileTooLong, LineTooLong, RowSyntax, Range, UnknownValue, Overlap, TooManyRows, Memory}
+use Rattle.lbk_ucd.specs.declared.faults.UcdCause.TheVariants.{FileTooLong, LineTooLong, RowSyntax, Range}
+use Rattle.lbk_ucd.specs.declared.faults.UcdCause.TheVariants.{UnknownValue, Overlap, TooManyRows, Memory}
 use Rattle.lbk_ucd.specs.PropertyLine.{Entry, Meaning, nothing, row, default, meaning_of}
 use Rattle.lbk_ucd.specs.Rows.{shares, value_at}
 
@@ -67,7 +69,8 @@ module _ {V : Type 0} where
   abbrev pub defaults_in : Format V → List (List ℕ) → List (Row V)
   defaults_in format lines = filter_map (default_in format) lines
 
-  -- the cause of a row or a default that would be kept: it may share no code with these rows, and there is room beside so many
+  -- the cause of a row or a default that would be kept: it may share no code with these rows, and there is room
+  -- beside so many
   abbrev pub cause_of_kept : List (Row V) → ℕ → ℕ → ℕ → Option UcdCause
   cause_of_kept rows count first last = if list_any (shares first last) rows then Some Overlap else cause_of_room count
 
@@ -76,7 +79,8 @@ module _ {V : Type 0} where
   cause_of_value format rows count entry None = if format.others then None else Some UnknownValue
   cause_of_value format rows count entry (Some value) = cause_of_kept rows count entry.first entry.last
 
-  -- that of a row or a default line; the last code is above 10FFFF where the first is, unless the first is above the last
+  -- that of a row or a default line; the last code is above 10FFFF where the first is, unless the first is above the
+  -- last
   unfoldable pub cause_of_entry : Format V → List (Row V) → ℕ → Entry → Option UcdCause
   cause_of_entry format rows count entry =
       if nat_lt entry.last entry.first || nat_lt 0x10FFFF entry.last then Some Range
@@ -134,7 +138,8 @@ module _ {V : Type 0} where
     pub gives : IsSome (row_in format (slice_index_or (lines_of bytes) index [])) ⊎ IsSome (default_in format (slice_index_or (lines_of bytes) index []))
     pub before : IsLawfulBefore format (lines_of bytes) (index + 1)
 
-  -- The value of a code: that of the row that holds it, else that of the last default that holds it, else that of unlisted codes.
+  -- The value of a code: that of the row that holds it, else that of the last default that holds it, else that of
+  -- unlisted codes.
   unfoldable pub property_of : Format V → List ℕ → ℕ → V
   property_of format bytes code =
       value_at (rows_in format (lines_of bytes)) (defaults_in format (lines_of bytes)) format.unlisted code

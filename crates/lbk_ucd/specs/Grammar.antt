@@ -1,5 +1,5 @@
--- The grammar of a line of a property file (UAX #44, section 4.2), as a relation between the bytes of a line without its LF
--- and what they say. `meaning_of` answers just what it relates.
+-- The grammar of a line of a property file (UAX #44, section 4.2), as a relation between the bytes of a line without
+-- its LF and what they say. `meaning_of` answers just what it relates.
 use Rattle.std.specs.Prelude.{ℕ, ◌≡◌, ◌≢◌, ◌<◌, ◌≤◌, Bool, true, false, List, [], ◌∷◌, ◌++◌, length, codes, ◌⊎◌}
 use Rattle.std.specs.List.{list_all}
 use Rattle.std.specs.Str.Parse.{digits_value}

@@ -1,4 +1,5 @@
--- The names of the property values (PropertyValueAliases.txt of the Unicode Character Database), exact in case, and what tells the four files apart.
+-- The names of the property values (PropertyValueAliases.txt of the Unicode Character Database), exact in case, and
+-- what tells the four files apart.
 use Rattle.std.specs.Prelude.{ℕ, Bool, true, false, List, [], ◌∷◌, codes}
 use Rattle.lbk_values.specs.declared.values.LineBreak.{LineBreak}
 use Rattle.lbk_values.specs.declared.values.LineBreak.TheVariants as lb

@@ -1,6 +1,9 @@
--- What a line of a property file says, in the parts that it is made of (UAX #44, section 4.2). A line is given without its LF.
-use Rattle.std.specs.Prelude.{ℕ, ◌-◌, Bool, true, false, ◌&&◌, ◌||◌, not, ◌==◌, nat_eq, nat_lt, nat_le, if◌then◌else◌, List, length, take, drop, codes, slice_index, Option, Some, None, option_and_then}
-use Rattle.std.specs.List.{prefix_len, suffix_len, position_or_len, before_first, after_first, list_any, list_all, starts_with}
+-- What a line of a property file says, in the parts that it is made of (UAX #44, section 4.2). A line is given
+-- without its LF.
+use Rattle.std.specs.Prelude.{ℕ, ◌-◌, Bool, true, false, ◌&&◌, ◌||◌, not, ◌==◌, nat_eq, nat_lt, nat_le, if◌then◌else◌}
+use Rattle.std.specs.Prelude.{List, length, take, drop, codes, slice_index, Option, Some, None, option_and_then}
+use Rattle.std.specs.List.{prefix_len, suffix_len, position_or_len, before_first, after_first, list_any, list_all}
+use Rattle.std.specs.List.{starts_with}
 use Rattle.std.specs.Char.{is_digit, is_ascii_alphanumeric}
 use Rattle.std.specs.Str.Parse.{digits_value}
 use Rattle.std.specs.Option.{option_map, option_map_or}

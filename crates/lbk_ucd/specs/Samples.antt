@@ -1,6 +1,7 @@
 -- The sample files, each by the constant that has its bytes.
 use Rattle.std.specs.Prelude.{◌≡◌}
-use Rattle.lbk_ucd.specs.declared.samples.TheConstants.{SAMPLE_LINE_BREAK, SAMPLE_EAST_ASIAN, SAMPLE_CATEGORY, SAMPLE_EMOJI}
+use Rattle.lbk_ucd.specs.declared.samples.TheConstants.{SAMPLE_LINE_BREAK, SAMPLE_EAST_ASIAN, SAMPLE_CATEGORY}
+use Rattle.lbk_ucd.specs.declared.samples.TheConstants.{SAMPLE_EMOJI}
 use Rattle.lbk_ucd.specs.declared.tables.Files.{Files}
 
 -- these are the bytes of the sample files

@@ -1,7 +1,8 @@
 //! The reader of one property file, line by line.
 
 ghost use Rattle.std.specs.Prelude.{◌≡◌, ◌≤◌, ◌==◌, ℕ, [], ◌∷◌, None, Some, IfOk, IfErr, OnOk, cond};
-ghost use Rattle.lbk_ucd.specs.File.{cause_of_room, cause_of_kept, cause_of_entry, cause_beside, valued, row_in, default_in, IsLawful, IsRefusal, property_of, without_mark};
+ghost use Rattle.lbk_ucd.specs.File.{cause_of_room, cause_of_kept, cause_of_entry, cause_beside, valued, row_in};
+ghost use Rattle.lbk_ucd.specs.File.{default_in, IsLawful, IsRefusal, property_of, without_mark};
 ghost use Rattle.std.specs.List.{slice_split};
 ghost use Rattle.lbk_ucd.specs.Reading.{Adds, IsAnswered, count_of};
 ghost use Rattle.lbk_ucd.specs.Ranges.{IsRange};
@@ -30,7 +31,8 @@ pub(crate) fn read_file<V: Copy>(
     bytes: &[u8],
 ) -> Result<Assigned<V>, UcdFault>
     ensures lawful { OnOk result (IsLawful (shown_format format.now) bytes.now) }
-    ensures properties { IfOk result (λ assigned. (code : ℕ) → value_of assigned code ≡ property_of (shown_format format.now) bytes.now code) }
+    ensures properties { IfOk result
+        (λ assigned. (code : ℕ) → value_of assigned code ≡ property_of (shown_format format.now) bytes.now code) }
     ensures file { IfErr result (λ fault. fault.file ≡ which) }
     ensures refused { IfErr result (λ fault. IsRefusal (shown_format format.now) bytes.now fault.line fault.cause) }
 {
@@ -78,9 +80,12 @@ fn take_line<V: Copy>(
     format: &Format<V>,
     line: &[u8],
 ) -> Result<(), UcdCause>
-    ensures none { OnOk result (cause_beside (shown_format format.now) gathered.old.rows.items (count_of gathered.old) line.now ≡ None) }
-    ensures adds { OnOk result (Adds (row_in (shown_format format.now) line.now) (default_in (shown_format format.now) line.now) gathered.old gathered.new) }
-    ensures answered { IfErr result (IsAnswered (cause_beside (shown_format format.now) gathered.old.rows.items (count_of gathered.old) line.now)
+    ensures none { OnOk result (cause_beside (shown_format format.now) gathered.old.rows.items (count_of gathered.old)
+        line.now ≡ None) }
+    ensures adds { OnOk result (Adds (row_in (shown_format format.now) line.now)
+        (default_in (shown_format format.now) line.now) gathered.old gathered.new) }
+    ensures answered { IfErr result (IsAnswered
+        (cause_beside (shown_format format.now) gathered.old.rows.items (count_of gathered.old) line.now)
         (row_in (shown_format format.now) line.now) (default_in (shown_format format.now) line.now)) }
 {
     if line.len() > LONGEST_LINE {
@@ -102,10 +107,13 @@ fn take_entry<V: Copy>(
     entry: Entry<'_>,
     is_default: bool,
 ) -> Result<(), UcdCause>
-    ensures none { OnOk result (cause_of_entry (shown_format format.now) (cond is_default [] gathered.old.rows.items) (count_of gathered.old) (shown_entry entry.entry) ≡ None) }
+    ensures none { OnOk result (cause_of_entry (shown_format format.now) (cond is_default [] gathered.old.rows.items)
+        (count_of gathered.old) (shown_entry entry.entry) ≡ None) }
     ensures adds { OnOk result (Adds (cond is_default None (valued (shown_format format.now) (shown_entry entry.entry)))
         (cond is_default (valued (shown_format format.now) (shown_entry entry.entry)) None) gathered.old gathered.new) }
-    ensures answered { IfErr result (IsAnswered (cause_of_entry (shown_format format.now) (cond is_default [] gathered.old.rows.items) (count_of gathered.old) (shown_entry entry.entry))
+    ensures answered { IfErr result (IsAnswered
+        (cause_of_entry (shown_format format.now) (cond is_default [] gathered.old.rows.items) (count_of gathered.old)
+        (shown_entry entry.entry))
         (cond is_default None (valued (shown_format format.now) (shown_entry entry.entry)))
         (cond is_default (valued (shown_format format.now) (shown_entry entry.entry)) None)) }
 {
@@ -134,9 +142,11 @@ fn take_entry<V: Copy>(
 /// Keeps a row, unless it shares a code with one that is kept, or there is no room.
 fn keep_row<V: Copy>(gathered: &mut Gathered<V>, row: Row<V>) -> Result<(), UcdCause>
     requires { IsRange row }
-    ensures none { OnOk result (cause_of_kept gathered.old.rows.items (count_of gathered.old) row.first row.last ≡ None) }
+    ensures none { OnOk result (cause_of_kept gathered.old.rows.items (count_of gathered.old) row.first row.last
+        ≡ None) }
     ensures adds { OnOk result (Adds (Some row) None gathered.old gathered.new) }
-    ensures answered { IfErr result (IsAnswered (cause_of_kept gathered.old.rows.items (count_of gathered.old) row.first row.last) (Some row) None) }
+    ensures answered { IfErr result (IsAnswered
+        (cause_of_kept gathered.old.rows.items (count_of gathered.old) row.first row.last) (Some row) None) }
 {
     if gathered.any_shares(row.first, row.last) {
         return Err(UcdCause::Overlap);

@@ -16,7 +16,8 @@ use std::alloc::Global;
 #[tactic(auto, unfolding(crate::specs::Names::line_break_format))]
 pub(crate) fn read_line_break(alloc: Global, bytes: &[u8]) -> Result<Assigned<LineBreak>, UcdFault>
     ensures lawful { OnOk result (IsLawful line_break_format bytes.now) }
-    ensures properties { IfOk result (λ assigned. (code : ℕ) → value_of assigned code ≡ property_of line_break_format bytes.now code) }
+    ensures properties { IfOk result
+        (λ assigned. (code : ℕ) → value_of assigned code ≡ property_of line_break_format bytes.now code) }
     ensures file { IfErr result (λ fault. fault.file ≡ Which.LineBreak) }
     ensures refused { IfErr result (λ fault. IsRefusal line_break_format bytes.now fault.line fault.cause) }
 {
@@ -27,7 +28,8 @@ pub(crate) fn read_line_break(alloc: Global, bytes: &[u8]) -> Result<Assigned<Li
 #[tactic(auto, unfolding(crate::specs::Names::east_asian_format))]
 pub(crate) fn read_east_asian(alloc: Global, bytes: &[u8]) -> Result<Assigned<EastAsian>, UcdFault>
     ensures lawful { OnOk result (IsLawful east_asian_format bytes.now) }
-    ensures properties { IfOk result (λ assigned. (code : ℕ) → value_of assigned code ≡ property_of east_asian_format bytes.now code) }
+    ensures properties { IfOk result
+        (λ assigned. (code : ℕ) → value_of assigned code ≡ property_of east_asian_format bytes.now code) }
     ensures file { IfErr result (λ fault. fault.file ≡ Which.EastAsianWidth) }
     ensures refused { IfErr result (λ fault. IsRefusal east_asian_format bytes.now fault.line fault.cause) }
 {
@@ -38,7 +40,8 @@ pub(crate) fn read_east_asian(alloc: Global, bytes: &[u8]) -> Result<Assigned<Ea
 #[tactic(auto, unfolding(crate::specs::Names::category_format))]
 pub(crate) fn read_category(alloc: Global, bytes: &[u8]) -> Result<Assigned<Category>, UcdFault>
     ensures lawful { OnOk result (IsLawful category_format bytes.now) }
-    ensures properties { IfOk result (λ assigned. (code : ℕ) → value_of assigned code ≡ property_of category_format bytes.now code) }
+    ensures properties { IfOk result
+        (λ assigned. (code : ℕ) → value_of assigned code ≡ property_of category_format bytes.now code) }
     ensures file { IfErr result (λ fault. fault.file ≡ Which.Category) }
     ensures refused { IfErr result (λ fault. IsRefusal category_format bytes.now fault.line fault.cause) }
 {
@@ -49,7 +52,8 @@ pub(crate) fn read_category(alloc: Global, bytes: &[u8]) -> Result<Assigned<Cate
 #[tactic(auto, unfolding(crate::specs::Names::emoji_format))]
 pub(crate) fn read_emoji(alloc: Global, bytes: &[u8]) -> Result<Assigned<bool>, UcdFault>
     ensures lawful { OnOk result (IsLawful emoji_format bytes.now) }
-    ensures properties { IfOk result (λ assigned. (code : ℕ) → value_of assigned code ≡ property_of emoji_format bytes.now code) }
+    ensures properties { IfOk result
+        (λ assigned. (code : ℕ) → value_of assigned code ≡ property_of emoji_format bytes.now code) }
     ensures file { IfErr result (λ fault. fault.file ≡ Which.Emoji) }
     ensures refused { IfErr result (λ fault. IsRefusal emoji_format bytes.now fault.line fault.cause) }
 {

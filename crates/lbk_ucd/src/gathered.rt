@@ -1,5 +1,6 @@
 //! What the lines of one file have given so far.
-ghost use Rattle.std.specs.Prelude.{◌≡◌, ◌+◌, ◌<◌, ◌≤◌, ℕ, false, [], ◌∷◌, ◌++◌, length, not, nat_lt, IfOk, OnOk, OnErr};
+ghost use Rattle.std.specs.Prelude.{◌≡◌, ◌+◌, ◌<◌, ◌≤◌, ℕ, false, [], ◌∷◌, ◌++◌, length, not, nat_lt, IfOk, OnOk};
+ghost use Rattle.std.specs.Prelude.{OnErr};
 ghost use Rattle.std.specs.List.{All, AllPairs, list_any};
 ghost use Rattle.lbk_ucd.specs.Ranges.{AreMarked, IsRange};
 ghost use Rattle.lbk_ucd.specs.Rows.{shares, AreApart, value_at};
@@ -99,7 +100,9 @@ impl<V: Copy> Gathered<V> {
 
     /// What the rows and defaults assign to codes. Where there are none, no memory is taken.
     pub(crate) fn assigned(&self, alloc: Global) -> Result<Assigned<V>, AllocError>
-        ensures values { IfOk result (λ assigned. (code : ℕ) → value_of assigned code ≡ value_at self.now.rows.items self.now.defaults.items self.now.unlisted code) }
+        ensures values { IfOk result
+            (λ assigned. (code : ℕ) → value_of assigned code
+            ≡ value_at self.now.rows.items self.now.defaults.items self.now.unlisted code) }
         ensures refused { OnErr result (0 < count_of self.now) }
     {
         if self.count() == 0 {

@@ -1,4 +1,4 @@
-//! Laws of the definitions that the contracts cite. Each stands as the contract of a function that does nothing.
+//! Laws of the definitions that the contracts cite. Each is the contract of a function with an empty body.
 ghost use Rattle.std.specs.Prelude.{◌≡◌, ◌==◌, ◌≤◌, ◌↔◌, ◌⊎◌, ℕ, Bool, true, false, not, List, Some};
 ghost use Rattle.std.specs.List.{AllPairs, list_any, list_all, join_with_byte};
 ghost use Rattle.lbk_ucd.specs.declared.ranges.Row.{Row};
@@ -12,15 +12,18 @@ ghost use Rattle.lbk_ucd.specs.Grammar.{IsSaid};
 ghost use Rattle.lbk_ucd.specs.PropertyLine.{Meaning, meaning_of};
 ghost use Rattle.lbk_ucd.specs.Rows.{holds, shares, AreApart};
 
-/// What a line of a property file says is what the grammar relates to its bytes, and nothing else (UAX #44, section 4.2).
+/// What a line of a property file says is what the grammar relates to its bytes, and nothing else (UAX #44, section
+/// 4.2).
 pub fn lines_say_what_the_grammar_has()
-    ensures { (defaults : Bool) (line : List ℕ) (meaning : Meaning) → (meaning_of defaults line ≡ Some meaning) ↔ IsSaid defaults line meaning }
+    ensures { (defaults : Bool) (line : List ℕ) (meaning : Meaning) → (meaning_of defaults line ≡ Some meaning)
+        ↔ IsSaid defaults line meaning }
 {}
 
 /// The lines of a file, with an LF between each two, are the file without its byte order mark, and no line holds an LF.
 pub fn lines_make_up_the_file()
     ensures joined { (bytes : List ℕ) → join_with_byte 10 (lines_of bytes) ≡ without_mark bytes }
-    ensures apart { (bytes : List ℕ) → list_all (λ line. not (list_any (λ byte. byte == 10) line)) (lines_of bytes) ≡ true }
+    ensures apart { (bytes : List ℕ) → list_all (λ line. not (list_any (λ byte. byte == 10) line)) (lines_of bytes)
+        ≡ true }
 {}
 
 /// A row shares a code with a range exactly if some code of the range is one that the row holds.
@@ -31,20 +34,24 @@ pub fn shared_codes_are_held<V: Copy>()
 
 /// A file is well-formed or has a fault, never both, and never two faults.
 pub fn files_have_one_fault_or_none<V: Copy>()
-    ensures either { (format : Format V) (bytes : List ℕ) → IsLawful format bytes ⊎ ((line : ℕ) × (cause : UcdCause) × IsFault format bytes line cause) }
-    ensures not_both { (format : Format V) (bytes : List ℕ) (line : ℕ) (cause : UcdCause) → IsLawful format bytes → IsFault format bytes line cause → ⊥ }
+    ensures either { (format : Format V) (bytes : List ℕ) → IsLawful format bytes
+        ⊎ ((line : ℕ) × (cause : UcdCause) × IsFault format bytes line cause) }
+    ensures not_both { (format : Format V) (bytes : List ℕ) (line : ℕ) (cause : UcdCause) → IsLawful format bytes
+        → IsFault format bytes line cause → ⊥ }
     ensures one { (format : Format V) (bytes : List ℕ) (line other : ℕ) (cause why : UcdCause)
         → IsFault format bytes line cause → IsFault format bytes other why → (line ≡ other) × (cause ≡ why) }
 {}
 
 /// No code is in two kept rows of a well-formed file, so the row that holds a code is one.
 pub fn kept_rows_are_apart<V: Copy>()
-    ensures { (format : Format V) (bytes : List ℕ) → IsLawful format bytes → AllPairs AreApart (rows_in format (lines_of bytes)) }
+    ensures { (format : Format V) (bytes : List ℕ) → IsLawful format bytes
+        → AllPairs AreApart (rows_in format (lines_of bytes)) }
 {}
 
 /// Files without a fault are refused only where memory runs out.
 pub fn lawful_files_want_memory()
-    ensures { (files : Files) (fault : UcdFault) → AreLawful files → IsRefused files fault → fault.cause ≡ UcdCause.Memory }
+    ensures { (files : Files) (fault : UcdFault) → AreLawful files → IsRefused files fault → fault.cause
+        ≡ UcdCause.Memory }
 {}
 
 /// The sample files have no fault.

@@ -7,11 +7,13 @@ ghost use Rattle.lbk_ucd.specs.Rows.{first_value};
 use crate::ranges::{LAST_CODE, Row, next_from, stretch_from};
 use std::alloc::{AllocError, Global};
 
-/// Rows that share no code, sorted by their codes, in which a code has the value of the last of these rows that holds it.
+/// Rows that share no code, sorted by their codes, in which a code has the value of the last of these rows that holds
+/// it.
 pub(crate) fn flatten<V: Copy>(alloc: Global, rows: &[Row<V>]) -> Result<Vec<Row<V>>, AllocError>
     requires { All IsRange rows.now }
     ensures ordered { IfOk result (λ flat. IsInOrder flat.items) }
-    ensures values { IfOk result (λ flat. (code : ℕ) → first_value code flat.items ≡ first_value code (reverse rows.now)) }
+    ensures values { IfOk result (λ flat. (code : ℕ) → first_value code flat.items
+        ≡ first_value code (reverse rows.now)) }
 {
     if are_in_order(rows) {
         return Vec::from_slice(alloc, rows);

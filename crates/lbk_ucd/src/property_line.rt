@@ -3,7 +3,8 @@
 ghost use Rattle.std.specs.Prelude.{◌≡◌, ◌==◌, ◌-◌, ◌≤◌, length};
 ghost use Rattle.std.specs.List.{prefix_len, suffix_len, position_or_len, before_first, after_first, list_all};
 ghost use Rattle.std.specs.Option.{option_map};
-ghost use Rattle.lbk_ucd.specs.PropertyLine.{is_space, is_name_byte, code_of, pair_of, range_of, name_of, entry_of, default_of, meaning_of, trimmed, trimmed_start, without_return};
+ghost use Rattle.lbk_ucd.specs.PropertyLine.{is_space, is_name_byte, code_of, pair_of, range_of, name_of, entry_of};
+ghost use Rattle.lbk_ucd.specs.PropertyLine.{default_of, meaning_of, trimmed, trimmed_start, without_return};
 ghost use Rattle.lbk_ucd.specs.Shown.{shown_entry, shown_meaning, shown_name};
 
 /// The codes from `first` to `last`, and the name of a value.

@@ -78,10 +78,18 @@ impl Tables {
     #[tactic(auto, unfolding(crate::specs::Tables::line_break_of, crate::specs::Tables::east_asian_of, crate::specs::Tables::category_of, crate::specs::Tables::is_pictographic_of))]
     pub fn read(alloc: Global, files: Files<'_>) -> Result<Tables, UcdFault>
         ensures lawful { OnOk result (AreLawful files.entry) }
-        ensures line_break { IfOk result (λ tables. (code : ℕ) → line_break_of tables code ≡ property_of line_break_format files.entry.line_break.now code) }
-        ensures east_asian { IfOk result (λ tables. (code : ℕ) → east_asian_of tables code ≡ property_of east_asian_format files.entry.east_asian.now code) }
-        ensures category { IfOk result (λ tables. (code : ℕ) → category_of tables code ≡ property_of category_format files.entry.category.now code) }
-        ensures pictographic { IfOk result (λ tables. (code : ℕ) → is_pictographic_of tables code ≡ property_of emoji_format files.entry.emoji.now code) }
+        ensures line_break { IfOk result
+            (λ tables. (code : ℕ) → line_break_of tables code
+            ≡ property_of line_break_format files.entry.line_break.now code) }
+        ensures east_asian { IfOk result
+            (λ tables. (code : ℕ) → east_asian_of tables code
+            ≡ property_of east_asian_format files.entry.east_asian.now code) }
+        ensures category { IfOk result
+            (λ tables. (code : ℕ) → category_of tables code
+            ≡ property_of category_format files.entry.category.now code) }
+        ensures pictographic { IfOk result
+            (λ tables. (code : ℕ) → is_pictographic_of tables code
+            ≡ property_of emoji_format files.entry.emoji.now code) }
         ensures refused { IfErr result (IsRefused files.entry) }
     {
         let line_break = read_line_break(alloc, files.line_break)?;
@@ -132,9 +140,9 @@ impl Tables {
         self.pictographic.value(code)
     }
 
-    /// The four properties of a code, which is at most 10FFFF, and a last code up to which all codes have them. So all
-    /// codes are gone through range by range: from 0, and each time from the code after `last` and near the places found,
-    /// until `last` is 10FFFF.
+    /// The four properties of a code, which is at most 10FFFF, and a last code up to which all codes have them. So
+    /// all codes are gone through range by range: from 0, and each time from the code after `last` and near the
+    /// places found, until `last` is 10FFFF.
     #[tactic(auto, unfolding(crate::specs::Tables::line_break_of, crate::specs::Tables::east_asian_of, crate::specs::Tables::category_of, crate::specs::Tables::is_pictographic_of))]
     pub fn run(&self, code: u32, near: Places) -> Run
         requires { code ≤ 0x10FFFF }
@@ -142,7 +150,8 @@ impl Tables {
         ensures line_break { (k : ℕ) → code ≤ k → k ≤ result.last → line_break_of self.now k ≡ result.line_break }
         ensures east_asian { (k : ℕ) → code ≤ k → k ≤ result.last → east_asian_of self.now k ≡ result.east_asian }
         ensures category { (k : ℕ) → code ≤ k → k ≤ result.last → category_of self.now k ≡ result.category }
-        ensures pictographic { (k : ℕ) → code ≤ k → k ≤ result.last → is_pictographic_of self.now k ≡ result.is_pictographic }
+        ensures pictographic { (k : ℕ) → code ≤ k → k ≤ result.last → is_pictographic_of self.now k
+            ≡ result.is_pictographic }
     {
         let line_break = self.line_break.stretch(code, near.line_break);
         let east_asian = self.east_asian.stretch(code, near.east_asian);

@@ -28,15 +28,18 @@ impl Taken {
     pub(crate) fn any(&self, first: u32, last: u32) -> bool
         requires rises { first ≤ last }
         requires within { last ≤ 0x10FFFF }
-        ensures yes { result ≡ true → (k : ℕ) × (first ≤ k) × (k ≤ last) × (slice_index_or self.now.marks.items k false ≡ true) }
-        ensures no { result ≡ false → (k : ℕ) → first ≤ k → k ≤ last → slice_index_or self.now.marks.items k false ≡ false }
+        ensures yes { result ≡ true → (k : ℕ) × (first ≤ k) × (k ≤ last)
+            × (slice_index_or self.now.marks.items k false ≡ true) }
+        ensures no { result ≡ false → (k : ℕ) → first ≤ k → k ≤ last → slice_index_or self.now.marks.items k false
+            ≡ false }
     {
         !self.marks.is_empty() && any_marked(&self.marks, first as usize, last as usize)
     }
 
     /// Makes room for marks. Which codes are taken stays.
     pub(crate) fn reserve(&mut self) -> Result<(), AllocError>
-        ensures same { (k : ℕ) → slice_index_or self.new.marks.items k false ≡ slice_index_or self.old.marks.items k false }
+        ensures same { (k : ℕ) → slice_index_or self.new.marks.items k false
+            ≡ slice_index_or self.old.marks.items k false }
         ensures room { OnOk result (length self.new.marks.items ≡ CODES) }
     {
         if self.marks.is_empty() {
@@ -51,7 +54,8 @@ impl Taken {
         requires within { last ≤ 0x10FFFF }
         requires room { length self.old.marks.items ≡ CODES }
         ensures inside { (k : ℕ) → first ≤ k → k ≤ last → slice_index_or self.new.marks.items k false ≡ true }
-        ensures outside { (k : ℕ) → (k < first) ⊎ (last < k) → slice_index_or self.new.marks.items k false ≡ slice_index_or self.old.marks.items k false }
+        ensures outside { (k : ℕ) → (k < first) ⊎ (last < k) → slice_index_or self.new.marks.items k false
+            ≡ slice_index_or self.old.marks.items k false }
     {
         for code in first as usize..last as usize + 1 {
             self.marks[code] = true;

@@ -1,5 +1,5 @@
--- The positions of any units, read as their breaks are: one before the first piece, and one after each, with what the rules
--- say there (UAX #14, section 6). An empty text has one, too.
+-- The positions of any units, read as their breaks are: one before the first piece, and one after each, with what the
+-- rules say there (UAX #14, section 6). An empty text has one, too.
 use Rattle.std.specs.Prelude.{ℕ, ◌+◌, List, [], ◌∷◌, map, not}
 use Rattle.std.specs.List.{filter}
 use Rattle.bstr.specs.Utf8.{Decoded, pieces}
@@ -12,7 +12,8 @@ use Rattle.lbk_rules.specs.Verdict.{verdict_between_in}
 use Rattle.lbk_bytes.specs.Reached.{scalars_of}
 use Rattle.lbk_units.specs.Units.{pieces_of_utf16, pieces_of_utf32}
 
--- the positions after some pieces, the first of which begins at unit `at`, by the marks of the scalars that they are read as
+-- the positions after some pieces, the first of which begins at unit `at`, by the marks of the scalars that they are
+-- read as
 abbrev pub positions_after : ℕ → List Decoded → List Marked → List Break
 positions_after at [] ms = []
 positions_after at (p ∷ ps) [] = []

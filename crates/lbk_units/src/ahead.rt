@@ -27,9 +27,11 @@ pub(crate) fn code_ahead<U: Unit>(
     rest: &[U],
 ) -> u16
     requires { row < 65536 }
-    ensures { (cell : ℕ → Cell) (lefts : List Left) (taken : List ℕ) → IsFlatBy lefts table.now cell → KnowsTaken cell lefts row taken
+    ensures { (cell : ℕ → Cell) (lefts : List Left) (taken : List ℕ) → IsFlatBy lefts table.now cell
+        → KnowsTaken cell lefts row taken
         → IsCode result
-        × (verdict_coded result ≡ verdict_between_in profile (map cell taken) (cell c ∷ map cell (scalars_of (U.pieces_of rest.now)))) }
+        × (verdict_coded result ≡ verdict_between_in profile (map cell taken)
+        (cell c ∷ map cell (scalars_of (U.pieces_of rest.now)))) }
 {
     match profile {
         Profile::First => step_at(&table.first, row, table.kinds[c as usize]).code,
@@ -40,9 +42,11 @@ pub(crate) fn code_ahead<U: Unit>(
 /// The same in the second profile.
 fn second_code<U: Unit>(table: &FlatTable, row: usize, c: char, rest: &[U]) -> u16
     requires { row < 65536 }
-    ensures { (cell : ℕ → Cell) (lefts : List Left) (taken : List ℕ) → IsFlatBy lefts table.now cell → KnowsTaken cell lefts row taken
+    ensures { (cell : ℕ → Cell) (lefts : List Left) (taken : List ℕ) → IsFlatBy lefts table.now cell
+        → KnowsTaken cell lefts row taken
         → IsCode result
-        × (verdict_coded result ≡ verdict_between_in Second (map cell taken) (cell c ∷ map cell (scalars_of (U.pieces_of rest.now)))) }
+        × (verdict_coded result ≡ verdict_between_in Second (map cell taken)
+        (cell c ∷ map cell (scalars_of (U.pieces_of rest.now)))) }
 {
     let kind = table.kinds[c as usize];
     let second = step_at(&table.second, row, kind);
@@ -55,11 +59,12 @@ fn second_code<U: Unit>(table: &FlatTable, row: usize, c: char, rest: &[U]) -> u
     step_at(&table.first, row, kind).code
 }
 
-/// Whether the unit of the rules after `c` leaves a closing quotation mark closed, where `rest` is the text after `c`: also
-/// where none comes.
+/// Whether the unit of the rules after `c` leaves a closing quotation mark closed, where `rest` is the text after
+/// `c`: also where none comes.
 fn closes_ahead<U: Unit>(table: &FlatTable, c: char, rest: &[U]) -> bool
     ensures { (cell : ℕ → Cell) → AreFlatKinds table.now.kinds cell
-        → result ≡ leaves_closed (units_after (hard (normal (cell c)).class) (map normal (map cell (scalars_of (U.pieces_of rest.now))))) }
+        → result ≡ leaves_closed (units_after (hard (normal (cell c)).class)
+        (map normal (map cell (scalars_of (U.pieces_of rest.now))))) }
 {
     let mut fresh = table.cell(c).leaves_fresh();
     let mut at = 0;

@@ -22,7 +22,8 @@ pub(crate) fn decide_unit<U: Unit>(
 ) -> Decided
     requires { (row < 65536) × (at < length text.now) }
     ensures within { (result.row < 65536) × (at < result.at) × (result.at ≤ length text.now) }
-    ensures decided { (cell : ℕ → Cell) (lefts : List Left) (taken : List ℕ) → IsFlatBy lefts table.now cell → KnowsTaken cell lefts row taken
+    ensures decided { (cell : ℕ → Cell) (lefts : List Left) (taken : List ℕ) → IsFlatBy lefts table.now cell
+        → KnowsTaken cell lefts row taken
         → IsUnitDecided profile cell lefts (on_from U.pieces_of text.now) at taken result }
 {
     let piece = U::front(&text[at..]);

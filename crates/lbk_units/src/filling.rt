@@ -31,7 +31,8 @@ pub fn fill_units<U: Unit>(
     ensures within { (result.count ≤ length out.old) × (result.row < 65536) × (result.at ≤ length text.now) }
     ensures stops { result.count < length out.old → result.at ≡ length text.now }
     ensures no_room { length out.old ≡ 0 → result ≡ start }
-    ensures in_order { (from : ℕ) → IsInOrder out.old start.count from start.at → IsInOrder out.new result.count from result.at }
+    ensures in_order { (from : ℕ) → IsInOrder out.old start.count from start.at
+        → IsInOrder out.new result.count from result.at }
     ensures reached { (cell : ℕ → Cell) (lefts : List Left) (all : List Break) → IsFlatBy lefts table.now cell
         → UnitsReached profile cell lefts (on_from U.pieces_of text.now) all start (given_in out.old start.count)
         → UnitsReached profile cell lefts (on_from U.pieces_of text.now) all result (given_in out.new result.count) }
@@ -55,7 +56,8 @@ fn further<U: Unit>(
     requires { (here.count < length out.old) × (here.row < 65536) × (here.at < length text.now) }
     ensures within { (result.count ≤ length out.old) × (result.row < 65536) × (result.at ≤ length text.now) }
     ensures onward { here.count + here.at < result.count + result.at }
-    ensures in_order { (from : ℕ) → IsInOrder out.old here.count from here.at → IsInOrder out.new result.count from result.at }
+    ensures in_order { (from : ℕ) → IsInOrder out.old here.count from here.at
+        → IsInOrder out.new result.count from result.at }
     ensures both { (here.count ≤ result.count) × (here.at ≤ result.at) }
     ensures reached { (cell : ℕ → Cell) (lefts : List Left) (all : List Break) → IsFlatBy lefts table.now cell
         → UnitsReached profile cell lefts (on_from U.pieces_of text.now) all here (given_in out.old here.count)
@@ -80,8 +82,10 @@ fn run<U: Unit>(
     requires { (start.count ≤ length out.old) × (start.row < 65536) × (start.at ≤ length text.now) }
     ensures within { (result.count ≤ length out.old) × (result.row < 65536) × (result.at ≤ length text.now) }
     ensures onward { (start.at ≤ result.at) × (start.count ≤ result.count) }
-    ensures in_order { (from : ℕ) → IsInOrder out.old start.count from start.at → IsInOrder out.new result.count from result.at }
-    ensures reached { (profile : Profile) (cell : ℕ → Cell) (lefts : List Left) (all : List Break) → AreSwift profile lefts steps.now → AreFlatKinds kinds.now cell
+    ensures in_order { (from : ℕ) → IsInOrder out.old start.count from start.at
+        → IsInOrder out.new result.count from result.at }
+    ensures reached { (profile : Profile) (cell : ℕ → Cell) (lefts : List Left) (all : List Break)
+        → AreSwift profile lefts steps.now → AreFlatKinds kinds.now cell
         → UnitsReached profile cell lefts (on_from U.pieces_of text.now) all start (given_in out.old start.count)
         → UnitsReached profile cell lefts (on_from U.pieces_of text.now) all result (given_in out.new result.count) }
 {
@@ -112,7 +116,8 @@ fn take_one<U: Unit>(
     requires { (here.count < length out.old) × (here.row < 65536) × (here.at < length text.now) }
     ensures within { (result.count ≤ length out.old) × (result.row < 65536) × (result.at ≤ length text.now) }
     ensures onward { (here.at < result.at) × (here.count ≤ result.count) }
-    ensures in_order { (from : ℕ) → IsInOrder out.old here.count from here.at → IsInOrder out.new result.count from result.at }
+    ensures in_order { (from : ℕ) → IsInOrder out.old here.count from here.at
+        → IsInOrder out.new result.count from result.at }
     ensures reached { (cell : ℕ → Cell) (lefts : List Left) (all : List Break) → IsFlatBy lefts table.now cell
         → UnitsReached profile cell lefts (on_from U.pieces_of text.now) all here (given_in out.old here.count)
         → UnitsReached profile cell lefts (on_from U.pieces_of text.now) all result (given_in out.new result.count) }

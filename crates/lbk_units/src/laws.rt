@@ -10,15 +10,20 @@ ghost use Rattle.lbk_units.specs.Encodings.{encode_utf16_all, placed_in};
 ghost use Rattle.lbk_units.specs.Positions.{positions_of_bytes, positions_of_utf16, positions_of_utf32};
 ghost use Rattle.lbk_units.specs.Units.{breaks_of_utf16, breaks_of_utf32};
 
-/// The same scalars have the same breaks and positions in UTF-8, UTF-16 and UTF-32 (Unicode Standard, section 3.9), each by the
-/// same rule and of the same kind, at the units that spell the scalars before it. In UTF-32 a unit is a scalar.
+/// The same scalars have the same breaks and positions in UTF-8, UTF-16 and UTF-32 (Unicode Standard, section 3.9),
+/// each by the same rule and of the same kind, at the units that spell the scalars before it. In UTF-32 a unit is a
+/// scalar.
 pub fn same_in_each_encoding()
     ensures utf8 { (profile : Profile) (cell : ℕ → Cell) (scalars : List ℕ) → all_scalars scalars ≡ true
-        → breaks_of_bytes profile cell (encode_utf8_all scalars) ≡ map (placed_in encode_utf8_all scalars) (breaks_of_utf32 profile cell scalars) }
+        → breaks_of_bytes profile cell (encode_utf8_all scalars)
+        ≡ map (placed_in encode_utf8_all scalars) (breaks_of_utf32 profile cell scalars) }
     ensures utf16 { (profile : Profile) (cell : ℕ → Cell) (scalars : List ℕ) → all_scalars scalars ≡ true
-        → breaks_of_utf16 profile cell (encode_utf16_all scalars) ≡ map (placed_in encode_utf16_all scalars) (breaks_of_utf32 profile cell scalars) }
+        → breaks_of_utf16 profile cell (encode_utf16_all scalars)
+        ≡ map (placed_in encode_utf16_all scalars) (breaks_of_utf32 profile cell scalars) }
     ensures positions_utf8 { (profile : Profile) (cell : ℕ → Cell) (scalars : List ℕ) → all_scalars scalars ≡ true
-        → positions_of_bytes profile cell (encode_utf8_all scalars) ≡ map (placed_in encode_utf8_all scalars) (positions_of_utf32 profile cell scalars) }
+        → positions_of_bytes profile cell (encode_utf8_all scalars)
+        ≡ map (placed_in encode_utf8_all scalars) (positions_of_utf32 profile cell scalars) }
     ensures positions_utf16 { (profile : Profile) (cell : ℕ → Cell) (scalars : List ℕ) → all_scalars scalars ≡ true
-        → positions_of_utf16 profile cell (encode_utf16_all scalars) ≡ map (placed_in encode_utf16_all scalars) (positions_of_utf32 profile cell scalars) }
+        → positions_of_utf16 profile cell (encode_utf16_all scalars)
+        ≡ map (placed_in encode_utf16_all scalars) (positions_of_utf32 profile cell scalars) }
 {}

@@ -1,5 +1,5 @@
-//! The breaks of texts in UTF-16 and UTF-32, and the positions of texts in UTF-8, too: a block is filled from a place of the
-//! text on, as with breaks over bytes. What reads a scalar differs between the encodings, the steps do not.
+//! The breaks of texts in UTF-16 and UTF-32, and the positions of texts in UTF-8, too: a block is filled from a place
+//! of the text on, as with breaks over bytes. What reads a scalar differs between the encodings, the steps do not.
 #![tactic(auto)]
 
 mod ahead;

@@ -17,8 +17,8 @@ use crate::unit::Unit;
 use lbk_bytes::{FillState, RawBreak, shown_of};
 use lbk_rules::{FlatTable, Profile};
 
-/// Goes on until the block is full or the text ends, and writes the positions before the scalars taken after those in the
-/// front of the block.
+/// Goes on until the block is full or the text ends, and writes the positions before the scalars taken after those in
+/// the front of the block.
 pub fn fill_positions<U: Unit>(
     table: &FlatTable,
     profile: Profile,
@@ -33,8 +33,10 @@ pub fn fill_positions<U: Unit>(
     ensures in_order { (from : ℕ) → IsInOrderBy IsPosition out.old start.count from start.at
         → IsInOrderBy IsPosition out.new result.count from result.at }
     ensures reached { (cell : ℕ → Cell) (lefts : List Left) (all : List Break) → IsFlatBy lefts table.now cell
-        → UnitsReachedBy onward_all profile cell lefts (on_from U.pieces_of text.now) all start (given_in out.old start.count)
-        → UnitsReachedBy onward_all profile cell lefts (on_from U.pieces_of text.now) all result (given_in out.new result.count) }
+        → UnitsReachedBy onward_all profile cell lefts (on_from U.pieces_of text.now) all start
+        (given_in out.old start.count)
+        → UnitsReachedBy onward_all profile cell lefts (on_from U.pieces_of text.now) all result
+        (given_in out.new result.count) }
 {
     let mut here = start;
     while here.count < out.len() && here.at < text.len() {
@@ -52,8 +54,10 @@ pub fn fill_positions<U: Unit>(
 pub fn put_position(out: &mut [RawBreak], count: usize, at: usize, code: u16) -> usize
     requires { count < length out.old }
     ensures more { result ≡ count + 1 }
-    ensures in_order { (from to : ℕ) → at < to → IsInOrderBy IsPosition out.old count from at → ArePositionsInOrder out.new result from to }
-    ensures front { IsCode code → given_in out.new result ≡ given_in out.old count ++ break_by at (verdict_coded code) ∷ [] }
+    ensures in_order { (from to : ℕ) → at < to → IsInOrderBy IsPosition out.old count from at
+        → ArePositionsInOrder out.new result from to }
+    ensures front { IsCode code → given_in out.new result ≡ given_in out.old count
+        ++ break_by at (verdict_coded code) ∷ [] }
 {
     let shown = shown_of(code);
     let place = &mut out[count];

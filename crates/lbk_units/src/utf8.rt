@@ -11,8 +11,8 @@ impl Unit for u8 {
 
     ghost ends = { pieces-nil };
 
-    /// One to four units are a scalar (Unicode Standard, section 3.9, table 3-7). The longest piece that begins none is read as
-    /// one U+FFFD.
+    /// One to four units are a scalar (Unicode Standard, section 3.9, table 3-7). The longest piece that begins none
+    /// is read as one U+FFFD.
     #[inline(always)]
     fn front(units: &[u8]) -> Piece {
         let (scalar, size) = decode_lossy(units);

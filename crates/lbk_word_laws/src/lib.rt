@@ -25,13 +25,15 @@ pub fn words_of_a_passage()
 /// that UAX #29 has a word boundary wherever the cells' classes say that a line must end (rules
 /// WB3a and LB4 to LB5).
 pub fn words_of_all_passages()
-    ensures { (profile : Profile) (cell : ℕ → Cell) (text : List ℕ) → AgreeOnLines cell → AgreeOnLetters cell (chars text) → IsUtf8 text
+    ensures { (profile : Profile) (cell : ℕ → Cell) (text : List ℕ) → AgreeOnLines cell
+        → AgreeOnLetters cell (chars text) → IsUtf8 text
         → words_of text ≡ words_of_passages cell 0 (passages profile cell (chars text)) }
 {}
 
-/// The words of any bytes are those of their parts, cut where a line must end, if the places of the second are moved by the
-/// bytes of the first: where UAX #29 has a word boundary wherever the cells' classes say that a line must end.
+/// The words of any bytes are those of their parts, cut where a line must end, if the places of the second are moved
+/// by the bytes of the first: where UAX #29 has a word boundary wherever the cells' classes say that a line must end.
 pub fn words_of_parts()
-    ensures { (cell : ℕ → Cell) (text : List ℕ) (place : ℕ) → AgreeOnLines cell → place ≤ length text → EndsBefore cell text place
+    ensures { (cell : ℕ → Cell) (text : List ℕ) (place : ℕ) → AgreeOnLines cell → place ≤ length text
+        → EndsBefore cell text place
         → words_of text ≡ words_of (take place text) ++ map (moved_word place) (words_of (drop place text)) }
 {}

@@ -1,5 +1,6 @@
 -- Words among ASCII, as bytes and their neighbours tell them.
-use Rattle.std.specs.Prelude.{◌≡◌, ℕ, ◌+◌, ◌-◌, ◌<◌, ◌≤◌, Bool, true, false, not, ◌&&◌, ◌||◌, ◌==◌, nat_le, nat_lt, List, get_or, if◌then◌else◌}
+use Rattle.std.specs.Prelude.{◌≡◌, ℕ, ◌+◌, ◌-◌, ◌<◌, ◌≤◌, Bool, true, false, not, ◌&&◌, ◌||◌, ◌==◌, nat_le, nat_lt}
+use Rattle.std.specs.Prelude.{List, get_or, if◌then◌else◌}
 use Rattle.lbk_masks.specs.Sets.{is_set}
 use Rattle.lbk_words.specs.declared.blocks.Marks.{Marks}
 use Rattle.lbk_words.specs.declared.blocks.Edges.{Edges}

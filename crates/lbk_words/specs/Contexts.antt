@@ -4,7 +4,8 @@ use Rattle.ucd_breaks.specs.WordBreak.{word_break}
 use Rattle.ucd_breaks.specs.declared.WordBreak.{WordBreak}
 use Rattle.ucd_breaks.specs.declared.WordBreak.TheVariants.{Other}
 use Rattle.ucd_emoji.specs.Binary.{is_extended_pictographic}
-use Rattle.unicode_segmentation.specs.Word.{break_by_pair, is_ignored, is_regional, joins, significant, starts_with_half_flag, value_at}
+use Rattle.unicode_segmentation.specs.Word.{break_by_pair, is_ignored, is_regional, joins, significant}
+use Rattle.unicode_segmentation.specs.Word.{starts_with_half_flag, value_at}
 
 -- The values of the last scalars. Where there are none, the values are `Other`, which no rule names.
 pub record Context : Type 0 where

@@ -1,5 +1,6 @@
 -- How far a block is filled with the words of a text.
-use Rattle.std.specs.Prelude.{◌≡◌, ℕ, ◌+◌, ◌<◌, ◌≤◌, Bool, List, ◌∷◌, ◌++◌, drop, length, reverse, take, [], if◌then◌else◌}
+use Rattle.std.specs.Prelude.{◌≡◌, ℕ, ◌+◌, ◌<◌, ◌≤◌, Bool, List, ◌∷◌, ◌++◌, drop, length, reverse, take, []}
+use Rattle.std.specs.Prelude.{if◌then◌else◌}
 use Rattle.bstr.specs.Utf8.{Decoded, pieces}
 use Rattle.unicode_segmentation.specs.Segments.{cut, prepend}
 use Rattle.unicode_segmentation.specs.Word.{is_word_break}
@@ -10,8 +11,8 @@ use Rattle.lbk_words.specs.Letters.{has_letter}
 use Rattle.lbk_words.specs.Rows.{canonical, row_context, row_word}
 use Rattle.lbk_words.specs.Words.{AreRising, IsBoundary, bytes_of, parts_of, scalars_of, scalars_on, words_on}
 
--- of a text that is taken alone from the byte `start` on, the first `count` words are in the front of a block, and the others are those
--- from the boundary `at` on
+-- of a text that is taken alone from the byte `start` on, the first `count` words are in the front of a block, and
+-- the others are those from the boundary `at` on
 pub record IsFilled (text : List ℕ) (start at count : ℕ) (out : List Word) : Type 0 where
   pub room : count ≤ length out
   pub onward : start ≤ at

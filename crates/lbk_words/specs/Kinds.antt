@@ -1,8 +1,12 @@
--- The kinds of scalars: a number for the value of Word_Break, whether it is a letter or a number, and Extended_Pictographic.
+-- The kinds of scalars: a number for the value of Word_Break, whether it is a letter or a number, and
+-- Extended_Pictographic.
 use Rattle.std.specs.Prelude.{ℕ, Bool, true, false, ◌&&◌, ◌||◌, ◌==◌, nat_le, nat_lt, List, [], ◌∷◌, slice_index_or}
 use Rattle.ucd_breaks.specs.WordBreak.{word_break, word_break_number}
 use Rattle.ucd_breaks.specs.declared.WordBreak.{WordBreak}
-use Rattle.ucd_breaks.specs.declared.WordBreak.TheVariants.{Cr, DoubleQuote, ExtendNumLet, Extend, Format, HebrewLetter, Katakana, ALetter, Lf, MidNumLet, MidLetter, MidNum, Newline, Numeric, RegionalIndicator, SingleQuote, WSegSpace, Other, Zwj}
+use Rattle.ucd_breaks.specs.declared.WordBreak.TheVariants.{Cr, DoubleQuote, ExtendNumLet, Extend, Format}
+use Rattle.ucd_breaks.specs.declared.WordBreak.TheVariants.{HebrewLetter, Katakana, ALetter, Lf, MidNumLet, MidLetter}
+use Rattle.ucd_breaks.specs.declared.WordBreak.TheVariants.{MidNum, Newline, Numeric, RegionalIndicator, SingleQuote}
+use Rattle.ucd_breaks.specs.declared.WordBreak.TheVariants.{WSegSpace, Other, Zwj}
 use Rattle.ucd_emoji.specs.Binary.{is_extended_pictographic}
 use Rattle.lbk_words.specs.Letters.{is_letter_or_number}
 

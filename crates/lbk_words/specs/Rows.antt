@@ -1,9 +1,13 @@
 -- Contexts that the rules do not tell apart, and the steps between them.
-use Rattle.std.specs.Prelude.{◌≡◌, ℕ, ◌+◌, ◌*◌, ◌/◌, ◌%◌, ◌<◌, Bool, true, false, not, ◌&&◌, ◌||◌, ◌==◌, [], ◌∷◌, slice_index, slice_index_or, unwrap_or, if◌then◌else◌}
+use Rattle.std.specs.Prelude.{◌≡◌, ℕ, ◌+◌, ◌*◌, ◌/◌, ◌%◌, ◌<◌, Bool, true, false, not, ◌&&◌, ◌||◌, ◌==◌, [], ◌∷◌}
+use Rattle.std.specs.Prelude.{slice_index, slice_index_or, unwrap_or, if◌then◌else◌}
 use Rattle.ucd_breaks.specs.WordBreak.{word_break}
 use Rattle.ucd_breaks.specs.declared.WordBreak.{WordBreak}
-use Rattle.ucd_breaks.specs.declared.WordBreak.TheVariants.{Cr, DoubleQuote, ExtendNumLet, HebrewLetter, Katakana, ALetter, Lf, MidNumLet, MidLetter, MidNum, Newline, Numeric, SingleQuote, WSegSpace, Other, Zwj}
-use Rattle.unicode_segmentation.specs.Word.{break_by_pair, is_ah_letter, is_hebrew_letter, is_numeric, is_regional, joins}
+use Rattle.ucd_breaks.specs.declared.WordBreak.TheVariants.{Cr, DoubleQuote, ExtendNumLet, HebrewLetter, Katakana}
+use Rattle.ucd_breaks.specs.declared.WordBreak.TheVariants.{ALetter, Lf, MidNumLet, MidLetter, MidNum, Newline}
+use Rattle.ucd_breaks.specs.declared.WordBreak.TheVariants.{Numeric, SingleQuote, WSegSpace, Other, Zwj}
+use Rattle.unicode_segmentation.specs.Word.{break_by_pair, is_ah_letter, is_hebrew_letter, is_numeric, is_regional}
+use Rattle.unicode_segmentation.specs.Word.{joins}
 use Rattle.lbk_words.specs.declared.steps.Step.{Step}
 use Rattle.lbk_words.specs.declared.step_table.TheConstants.{STEPS}
 use Rattle.lbk_words.specs.Contexts.{Context, breaks_by, context_after}
@@ -85,7 +89,8 @@ step_number answer row kind = slice_index (slice_index_or STEPS (answer * 43 + r
 abbrev pub told : ℕ → Step
 told n = record { next = n % 64; cuts = (n / 64 % 2) == 1; counts = (n / 128 % 2) == 1; asks = (n / 256 % 2) == 1 }
 
--- of the part so far of this row, what the next scalar makes of it, where the first value behind that is not passed over is `far`
+-- of the part so far of this row, what the next scalar makes of it, where the first value behind that is not passed
+-- over is `far`
 pub record IsStep (row c : ℕ) (far : WordBreak) (step : Step) : Type 0 where
   pub next : step.next < 43
   pub counts : step.counts ≡ (step.cuts && row_word row)

@@ -1,6 +1,6 @@
--- The words of any bytes, read as UTF-8: the parts between neighbouring word boundaries (UAX #29, section 4) that have a letter
--- or a number. Each longest piece of the bytes that begins no scalar is read as U+FFFD (Unicode Standard, section 3.9, table 3-7)
--- and keeps its own bytes.
+-- The words of any bytes, read as UTF-8: the parts between neighbouring word boundaries (UAX #29, section 4) that
+-- have a letter or a number. Each longest piece of the bytes that begins no scalar is read as U+FFFD (Unicode
+-- Standard, section 3.9, table 3-7) and keeps its own bytes.
 use Rattle.std.specs.Prelude.{◌≡◌, ℕ, ◌+◌, ◌<◌, ◌≤◌, List, [], ◌∷◌, ◌++◌, drop, length, map, take, if◌then◌else◌}
 use Rattle.std.specs.Str.{chars}
 use Rattle.bstr.specs.Utf8.{Decoded, or_replacement, pieces}
@@ -22,7 +22,8 @@ bytes_of (p ∷ ps) = p.size + bytes_of ps
 abbrev pub parts_of : List ℕ → List (List ℕ)
 parts_of scalars = cut is_word_break [] scalars []
 
--- the words among parts, of which the first begins at byte `at`, and whose scalars are read from bytes as `reads` has it
+-- the words among parts, of which the first begins at byte `at`, and whose scalars are read from bytes as `reads` has
+-- it
 abbrev pub words_among : ℕ → List Decoded → List (List ℕ) → List Word
 words_among at reads [] = []
 words_among at reads (part ∷ parts) =
@@ -47,8 +48,8 @@ words_of text = words_on text 0
 abbrev pub scalars_on : List ℕ → ℕ → List ℕ
 scalars_on text at = scalars_of (pieces (drop at text))
 
--- of a text that is taken alone from the byte `from` on, word boundaries stand at its start and its end, and at the byte `to`: some of
--- its parts are before it, and the others are those from there on
+-- of a text that is taken alone from the byte `from` on, word boundaries stand at its start and its end, and at the
+-- byte `to`: some of its parts are before it, and the others are those from there on
 pub record IsBoundary (text : List ℕ) (from to : ℕ) : Type 0 where
   pub reads : List Decoded
   pub read : pieces (drop from text) ≡ reads ++ pieces (drop to text)

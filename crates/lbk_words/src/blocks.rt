@@ -9,7 +9,7 @@ use crate::parts::fill_by_scalars;
 use crate::word::{Filled, Word};
 use lbk_masks::{HalfSets, first_set, kept_below, kept_from, wide, without_first};
 
-/// How many bytes are looked at together.
+/// How many bytes are examined together.
 pub(crate) const BLOCK: usize = 64;
 
 /// The last of them, whose next byte is not looked at.
@@ -79,7 +79,8 @@ pub(crate) fn marks_of(bytes: &[u8]) -> Marks
 /// Those of some bits that are between two of the others.
 #[inline(always)]
 fn between(bits: u64, others: u64) -> u64
-    ensures { (i : ℕ) → i < 63 → is_set result i ≡ (is_set bits i && ((nat_lt 0 i && is_set others (i - 1)) && is_set others (i + 1))) }
+    ensures { (i : ℕ) → i < 63 → is_set result i
+        ≡ (is_set bits i && ((nat_lt 0 i && is_set others (i - 1)) && is_set others (i + 1))) }
 {
     bits & ((others << 1) & (others >> 1))
 }
@@ -105,7 +106,8 @@ fn edges_from(marks: Marks, first: usize) -> Edges
 #[inline(always)]
 fn fill_runs(base: usize, found: Edges, here: Filled, out: &mut [Word]) -> Filled
     requires { (base ≤ here.at) × (base + 64 < 2 ^ 64) × (here.count ≤ length out.old) }
-    ensures filled { (text : List ℕ) (start : ℕ) → base + 64 ≤ length text → AreEdges (drop base text) (here.at - base) found
+    ensures filled { (text : List ℕ) (start : ℕ) → base + 64 ≤ length text
+        → AreEdges (drop base text) (here.at - base) found
         → IsFilled text start here.at here.count out.old → IsFilled text start result.at result.count out.new }
     ensures onward { (bytes : List ℕ) → AreEdges bytes (here.at - base) found → here.at ≤ result.at }
     ensures count { (here.count ≤ result.count) × (result.count ≤ length out.old) }
@@ -137,7 +139,8 @@ fn fill_runs(base: usize, found: Edges, here: Filled, out: &mut [Word]) -> Fille
 /// scalar by scalar.
 pub(crate) fn fill_by_marks(text: &[u8], start: Filled, out: &mut [Word]) -> Filled
     requires { (start.count < length out.old) × (start.at + 64 ≤ length text.now) }
-    ensures filled { (from : ℕ) → IsFilled text.now from start.at start.count out.old → IsFilled text.now from result.at result.count out.new }
+    ensures filled { (from : ℕ) → IsFilled text.now from start.at start.count out.old
+        → IsFilled text.now from result.at result.count out.new }
     ensures onward { (start.at ≤ result.at) × (start.count ≤ result.count) }
     ensures within { (result.at ≤ length text.now) × (result.count ≤ length out.old) }
     ensures further { result.count < length out.old → start.at < result.at }

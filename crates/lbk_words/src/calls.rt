@@ -1,5 +1,5 @@
-//! The words of a text, a block at a time, for a caller in another language. The function under `no_mangle` is the export of the
-//! module for JavaScript that `scripts/module` builds of this crate.
+//! The words of a text, a block at a time, for a caller in another language. The function under `no_mangle` is the
+//! export of the module for JavaScript that `scripts/module` builds of this crate.
 
 ghost use Rattle.std.specs.Prelude.{◌≡◌, ◌<◌, ◌≤◌, drop, length, min, take};
 ghost use Rattle.lbk_words.specs.Words.{AreRising, IsBoundary, words_on};

@@ -77,7 +77,7 @@ fn ends_from(text: &[u8], start: usize) -> PartEnds
     }
 }
 
-/// Where parts end among the first 64 bytes, behind one at which one begins.
+/// Where parts end among the first 64 bytes, after one at which one begins.
 #[inline(always)]
 fn ends_in(bytes: &[u8], first: usize) -> u64
     requires { (64 ≤ length bytes.now) × (first < 63) }

@@ -8,11 +8,13 @@ use crate::blocks::{BLOCK, fill_by_marks};
 use crate::parts::fill_by_scalars;
 use crate::word::{Filled, Word};
 
-/// Puts the first words of what a text has from the byte `start` on, as a text of its own, into the front of a block: as many as
-/// it holds, or all. The others come from the byte on that is returned, which is the text's end where the block has more room.
+/// Puts the first words of what a text has from the byte `start` on, as a text of its own, into the front of a block:
+/// as many as it holds, or all. The others come from the byte on that is returned, which is the text's end where the
+/// block has more room.
 ///
-/// The text may be any bytes: each longest piece that begins no scalar is read as U+FFFD (Unicode Standard, section 3.9). The words
-/// are the same with masks, by which words among ASCII are found, and without: these are for targets that have no vectors.
+/// The text may be any bytes: each longest piece that begins no scalar is read as U+FFFD (Unicode Standard, section
+/// 3.9). The words are the same with masks, by which words among ASCII are found, and without: these are for targets
+/// that have no vectors.
 pub fn fill<const MASKS: bool>(text: &[u8], start: usize, out: &mut [Word]) -> Filled
     ensures count { result.count ≡ min (length out.old) (length (words_on text.now start)) }
     ensures front { take result.count out.new ≡ take result.count (words_on text.now start) }
@@ -39,7 +41,8 @@ pub fn fill<const MASKS: bool>(text: &[u8], start: usize, out: &mut [Word]) -> F
 #[inline(always)]
 fn fill_further<const MASKS: bool>(text: &[u8], here: Filled, out: &mut [Word]) -> Filled
     requires { (here.count < length out.old) × (here.at < length text.now) }
-    ensures filled { (start : ℕ) → IsFilled text.now start here.at here.count out.old → IsFilled text.now start result.at result.count out.new }
+    ensures filled { (start : ℕ) → IsFilled text.now start here.at here.count out.old
+        → IsFilled text.now start result.at result.count out.new }
     ensures onward { (here.at ≤ result.at) × (here.count ≤ result.count) }
     ensures within { (result.at ≤ length text.now) × (result.count ≤ length out.old) }
     ensures further { result.count < length out.old → here.at < result.at }

@@ -1,4 +1,4 @@
-//! What holds of the words of a text, over definitions only. Each law is the contract of a function that does nothing.
+//! What holds of the words of a text, over definitions only. Each law is the contract of a function with an empty body.
 
 ghost use Rattle.std.specs.Prelude.{◌≡◌, ℕ, List, [], true, IsUtf8};
 ghost use Rattle.unicode_segmentation.specs.Segments.{cut};
@@ -13,5 +13,6 @@ pub fn words_of_text()
 /// After a word boundary the parts of a text are those of what comes, as a text of its own: nothing before changes them
 /// (UAX #29, section 4.1). `before` has the scalars before the place, nearest first.
 pub fn behind_a_boundary()
-    ensures { (before after : List ℕ) → is_word_break before after ≡ true → cut is_word_break before after [] ≡ parts_of after }
+    ensures { (before after : List ℕ) → is_word_break before after ≡ true → cut is_word_break before after []
+        ≡ parts_of after }
 {}

@@ -27,7 +27,8 @@ pub(crate) struct Filling {
 /// Goes on filling a block from a boundary, up to the first boundary from `stop` on, or as far as there is room.
 pub(crate) fn fill_by_scalars(text: &[u8], here: Filled, stop: usize, out: &mut [Word]) -> Filled
     requires { (here.count < length out.old) × (here.at < stop) × (stop ≤ length text.now) }
-    ensures filled { (start : ℕ) → IsFilled text.now start here.at here.count out.old → IsFilled text.now start result.at result.count out.new }
+    ensures filled { (start : ℕ) → IsFilled text.now start here.at here.count out.old
+        → IsFilled text.now start result.at result.count out.new }
     ensures onward { (here.at ≤ result.at) × (here.count ≤ result.count) }
     ensures within { (result.at ≤ length text.now) × (result.count ≤ length out.old) }
     ensures far { result.count < length out.old → stop ≤ result.at }
@@ -90,8 +91,10 @@ pub(crate) fn part_end(text: &[u8], start: usize) -> usize
 #[inline(always)]
 fn taken(part: Filling, step: Step, end: usize, out: &mut [Word]) -> Filling
     requires { part.count < length out.old }
-    ensures filling { (text : List ℕ) (start code : ℕ) → IsFilling text start part out.old → IsReadAt text part.at code end
-        → IsStep part.row code (value_at (significant (scalars_on text end)) 0) step → IsFilling text start result out.new }
+    ensures filling { (text : List ℕ) (start code : ℕ) → IsFilling text start part out.old
+        → IsReadAt text part.at code end
+        → IsStep part.row code (value_at (significant (scalars_on text end)) 0) step
+        → IsFilling text start result out.new }
     ensures at { result.at ≡ end }
     ensures row { result.row ≡ step.next }
     ensures count { (part.count ≤ result.count) × (result.count ≤ part.count + 1) }
@@ -113,7 +116,8 @@ fn taken(part: Filling, step: Step, end: usize, out: &mut [Word]) -> Filling
 #[inline(always)]
 fn ended(part: Filling, out: &mut [Word]) -> Filled
     requires { (part.count < length out.old) × (part.row < 43) }
-    ensures filled { (text : List ℕ) (start : ℕ) → IsFilling text start part out.old → length text ≤ part.at → IsFilled text start result.at result.count out.new }
+    ensures filled { (text : List ℕ) (start : ℕ) → IsFilling text start part out.old → length text ≤ part.at
+        → IsFilled text start result.at result.count out.new }
     ensures at { result.at ≡ part.at }
     ensures count { (part.count ≤ result.count) × (result.count ≤ part.count + 1) }
 {

@@ -10,7 +10,8 @@ use crate::kinds::kind_of;
 use crate::scalars::answer_ahead;
 use crate::step_table::{ARE_WORDS, FIRST_ROWS, STEPS};
 
-/// How many rows there are. A row is what the rules ask of a part so far, and whether the part has a letter or a number.
+/// How many rows there are. A row is what the rules ask of a part so far, and whether the part has a letter or a
+/// number.
 pub(crate) const ROWS: usize = 43;
 
 /// What one more scalar makes of a part.
@@ -22,7 +23,7 @@ pub(crate) struct Step {
     pub(crate) cuts: bool,
     /// Whether it ends there and is a word.
     pub(crate) counts: bool,
-    /// Whether the step may be another one by what is behind the scalar.
+    /// Whether the step may be another one by what is after the scalar.
     pub(crate) asks: bool,
 }
 
@@ -69,7 +70,7 @@ pub(crate) fn step_of_byte(row: usize, byte: u8) -> Step
     step_at(0, row, kind_of(u32::from(byte)) as usize)
 }
 
-/// The step that the table has for a row and a kind, and an answer to what is behind the scalar.
+/// The step that the table has for a row and a kind, and an answer to what is after the scalar.
 #[inline(always)]
 fn step_at(answer: usize, row: usize, kind: usize) -> Step
     requires { (answer < 4) × (row < 43) × (kind < 32) }

@@ -2,7 +2,7 @@
 //! as std words it.
 
 use lbk_args::{Engine, FileName, FileNames};
-use lbk_cmd::{Caller, CmdFault, Message, RunFault};
+use lbk_cmd::{Caller, CmdFault, Message, Reason, RunFault};
 use lbk_notation::ReplayFault;
 use lbk_passage::PassageFault;
 use lbk_ucd::Which;
@@ -125,7 +125,7 @@ fn check(rt: &impl Abort, alloc: Global, row: &Row, kind: ErrorKind) -> Result<(
         fault,
         caller,
         text,
-        reason: Some(kind),
+        reason: Some(Reason::System(kind)),
         is_utf16: false,
     };
     let told = format!(in alloc; "{message}")?;
@@ -162,7 +162,7 @@ fn folders(rt: HostRuntime) -> Result<(), Fail> {
                 },
             },
             text: None,
-            reason: Some(ErrorKind::NotFound),
+            reason: Some(Reason::System(ErrorKind::NotFound)),
             is_utf16: false,
         };
         let told = format!(in rt.alloc(); "{message}")?;

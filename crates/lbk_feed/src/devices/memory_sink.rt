@@ -1,4 +1,4 @@
-//! Memory that is written to, up to a room.
+//! A sink into memory of a given size.
 #![tactic(auto, unfolding(crate::specs::MemorySink::sink_bytes, crate::specs::MemorySink::sink_room, crate::specs::MemorySink::most_in_a_write, crate::specs::MemorySink::sink_tally))]
 
 ghost use Rattle.std.specs.Prelude.{◌≡◌, ◌<◌, ◌≤◌, ◌-◌, ◌↔◌, [], min, max, length, vec_capacity, Some, IfOk, IsErr};
@@ -9,7 +9,7 @@ use crate::tally::Tally;
 use crate::traits::{Failed, Sink};
 use std::alloc::{AllocError, Global};
 
-/// A sink into memory, which takes a number of bytes and then fails.
+/// A sink into memory that accepts a number of bytes, and then fails.
 #[derive(Drop)]
 pub struct MemorySink {
     bytes: Vec<u8>,
@@ -23,9 +23,9 @@ pub struct MemorySink {
 impl MemorySink {
     ghost use Rattle.lbk_feed.specs.MemorySink.{sink_bytes, sink_room, most_in_a_write, sink_tally};
 
-    /// Takes `room` bytes, all that a write offers while there is room, and then fails.
+    /// A sink that accepts `room` bytes, as many in each write as fit, and then fails.
     ///
-    /// The memory is taken here, and none later.
+    /// Allocates here, and not later.
     pub fn new(alloc: Global, room: usize) -> Result<MemorySink, AllocError>
         ensures bytes { IfOk result (λ s. sink_bytes s ≡ []) }
         ensures room { IfOk result (λ s. sink_room s ≡ room) }
@@ -40,7 +40,7 @@ impl MemorySink {
         })
     }
 
-    /// The same sink, of which a write takes at most `most` bytes; 0 is read as 1.
+    /// The same sink with at most `most` bytes in a write; 0 means 1.
     pub fn at_most(self, most: usize) -> MemorySink
         ensures bytes { sink_bytes result ≡ sink_bytes self }
         ensures room { sink_room result ≡ sink_room self }
@@ -98,8 +98,8 @@ impl Sink for MemorySink {
 
     ghost failure_count = { λ s. (sink_tally s).failures };
 
-    /// Fails where there is a byte to write and no room left, and nowhere else; else takes as many bytes as there is
-    /// room for and one write may take.
+    /// Fails exactly if there is a byte to write and no room left. Otherwise accepts as many bytes as the room and the
+    /// limit of a write allow.
     fn write(&mut self, bytes: &[u8]) -> Result<usize, Failed>
         ensures within { IfOk result (λ n. n ≤ length bytes.now) }
         ensures some { 0 < length bytes.now → IfOk result (λ n. 0 < n) }

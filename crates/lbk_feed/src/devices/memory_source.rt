@@ -1,10 +1,11 @@
-//! Bytes in memory, read in pieces, with a read that fails.
+//! A source over bytes in memory, with reads of given sizes, and one that fails.
 #![tactic(auto, unfolding(crate::specs::MemorySource::source_bytes, crate::specs::MemorySource::source_sizes, crate::specs::MemorySource::failing_read, crate::specs::MemorySource::source_tally))]
 
 ghost use Rattle.std.specs.Prelude.{◌≡◌, ◌≤◌, ◌↔◌, [], min, length, Some, None, IsErr, IfOk, OnOk, OnErr};
 ghost use Rattle.lbk_feed.specs.Devices.{count_up, given_by, failures_after, ended_after, Takes};
 ghost use Rattle.lbk_feed.specs.Tally.{IsFresh, reads_in};
-ghost use Rattle.lbk_feed.specs.MemorySource.{source_bytes, source_sizes, next_size_of, later_sizes, failing_read, source_tally};
+ghost use Rattle.lbk_feed.specs.MemorySource.{source_bytes, source_sizes, next_size_of, later_sizes, failing_read};
+ghost use Rattle.lbk_feed.specs.MemorySource.{source_tally};
 
 use crate::tally::Tally;
 use crate::traits::{Failed, Source};
@@ -19,7 +20,7 @@ pub struct MemorySource<'a> {
 }
 
 impl<'a> MemorySource<'a> {
-    /// Gives `bytes`, as many in each read as there is room for.
+    /// A source of `bytes` that fills the buffer in each read.
     pub fn new(bytes: &'a [u8]) -> MemorySource<'a>
         ensures bytes { source_bytes result ≡ bytes.now }
         ensures sizes { source_sizes result ≡ [] }
@@ -29,9 +30,9 @@ impl<'a> MemorySource<'a> {
         MemorySource::cut(bytes, &[])
     }
 
-    /// Gives `bytes`, in reads of the sizes in turn, the last of them for all that follow.
+    /// A source of `bytes` with reads of these sizes in turn; the last size is that of all later reads.
     ///
-    /// A read gives fewer where there is no more room or where the bytes end; a size of 0 is read as 1.
+    /// A read returns less if the buffer is smaller or the bytes end. A size of 0 means 1.
     pub fn cut(bytes: &'a [u8], sizes: &'a [usize]) -> MemorySource<'a>
         ensures bytes { source_bytes result ≡ bytes.now }
         ensures sizes { source_sizes result ≡ sizes.now }
@@ -46,7 +47,7 @@ impl<'a> MemorySource<'a> {
         }
     }
 
-    /// The same source, whose read of that number, counted from 0, fails; the next one goes on.
+    /// The same source with a failing read: the one with this number, counted from 0. The next read continues.
     pub fn failing_at(self, read: u64) -> MemorySource<'a>
         ensures bytes { source_bytes result ≡ source_bytes self.entry }
         ensures sizes { source_sizes result ≡ source_sizes self.entry }
@@ -59,7 +60,7 @@ impl<'a> MemorySource<'a> {
         }
     }
 
-    /// The most bytes that the next read gives.
+    /// The size limit of the next read.
     fn next_size(&mut self) -> usize
         ensures size { result ≡ next_size_of (source_sizes self.old) }
         ensures sizes { source_sizes self.new ≡ later_sizes (source_sizes self.old) }
@@ -80,7 +81,8 @@ impl<'a> MemorySource<'a> {
     fn give(&mut self, buf: &mut [u8]) -> Result<usize, Failed>
         ensures within { IfOk result (λ n. n ≤ length buf.old) }
         ensures fails { IsErr result ↔ (failing_read self.old ≡ Some (source_tally self.old).reads) }
-        ensures size { IfOk result (λ n. n ≡ min (min (next_size_of (source_sizes self.old)) (length buf.old)) (length (source_bytes self.old))) }
+        ensures size { IfOk result (λ n. n
+            ≡ min (min (next_size_of (source_sizes self.old)) (length buf.old)) (length (source_bytes self.old))) }
         ensures bytes { Takes (Some (source_bytes self.old)) (Some (source_bytes self.new)) result buf.new }
         ensures sizes { OnOk result (source_sizes self.new ≡ later_sizes (source_sizes self.old)) }
         ensures same_sizes { OnErr result (source_sizes self.new ≡ source_sizes self.old) }
@@ -107,18 +109,20 @@ impl Source for MemorySource<'_> {
 
     ghost has_ended = { λ s. (source_tally s).ended };
 
-    /// Fails where it is the read that is to fail, and nowhere else; else gives as many bytes as the next size, the
-    /// room and the bytes left allow.
+    /// Fails exactly if it is the failing read. Otherwise returns as many bytes as the next size, the buffer and the
+    /// remaining bytes allow.
     fn read(&mut self, buf: &mut [u8]) -> Result<usize, Failed>
         ensures within { IfOk result (λ n. n ≤ length buf.old) }
         ensures bytes { Takes (Some (source_bytes self.old)) (Some (source_bytes self.new)) result buf.new }
         ensures reads { (reads_in (source_tally self.new)).count ≡ count_up (reads_in (source_tally self.old)).count }
         ensures gave { (reads_in (source_tally self.new)).gave ≡ given_by result }
         ensures failures { (source_tally self.new).failures ≡ failures_after (source_tally self.old).failures result }
-        ensures ended { (source_tally self.new).ended ≡ ended_after (source_tally self.old).ended result (length buf.old) }
+        ensures ended { (source_tally self.new).ended
+            ≡ ended_after (source_tally self.old).ended result (length buf.old) }
 
         ensures fails { IsErr result ↔ (failing_read self.old ≡ Some (source_tally self.old).reads) }
-        ensures size { IfOk result (λ n. n ≡ min (min (next_size_of (source_sizes self.old)) (length buf.old)) (length (source_bytes self.old))) }
+        ensures size { IfOk result (λ n. n
+            ≡ min (min (next_size_of (source_sizes self.old)) (length buf.old)) (length (source_bytes self.old))) }
         ensures sizes { OnOk result (source_sizes self.new ≡ later_sizes (source_sizes self.old)) }
         ensures same_sizes { OnErr result (source_sizes self.new ≡ source_sizes self.old) }
         ensures failing { failing_read self.new ≡ failing_read self.old }

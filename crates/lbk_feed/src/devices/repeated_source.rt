@@ -1,4 +1,4 @@
-//! One byte as often as it is wanted, for inputs that are too long to hold.
+//! A source of one repeated byte, for inputs that are too long to hold.
 #![tactic(auto, unfolding(crate::specs::RepeatedSource::repeated_bytes, crate::specs::RepeatedSource::repeated_tally))]
 
 ghost use Rattle.std.specs.Prelude.{◌≡◌, ◌<◌, ◌≤◌, [], ◌++◌, min, length, take, replicate, Some, IfOk, IsOk};
@@ -9,7 +9,7 @@ ghost use Rattle.lbk_feed.specs.RepeatedSource.{repeated_bytes, repeated_tally};
 use crate::tally::Tally;
 use crate::traits::{Failed, Source};
 
-/// A source that gives one byte again and again, and holds none.
+/// A source that repeats one byte, without a buffer.
 #[derive(Drop)]
 pub struct RepeatedSource {
     byte: u8,
@@ -18,7 +18,7 @@ pub struct RepeatedSource {
 }
 
 impl RepeatedSource {
-    /// Gives `byte` `count` times, as many in each read as there is room for.
+    /// A source of `count` times `byte` that fills the buffer in each read.
     pub fn new(byte: u8, count: u64) -> RepeatedSource
         ensures bytes { repeated_bytes result ≡ replicate count byte }
         ensures fresh { IsFresh (repeated_tally result) }
@@ -53,14 +53,17 @@ impl Source for RepeatedSource {
 
     ghost has_ended = { λ s. (repeated_tally s).ended };
 
-    /// Never fails, and gives as many bytes as the room and the bytes left allow.
+    /// Never fails. Returns as many bytes as the buffer and the remaining bytes allow.
     fn read(&mut self, buf: &mut [u8]) -> Result<usize, Failed>
         ensures within { IfOk result (λ n. n ≤ length buf.old) }
         ensures bytes { Takes (Some (repeated_bytes self.old)) (Some (repeated_bytes self.new)) result buf.new }
-        ensures reads { (reads_in (repeated_tally self.new)).count ≡ count_up (reads_in (repeated_tally self.old)).count }
+        ensures reads { (reads_in (repeated_tally self.new)).count
+            ≡ count_up (reads_in (repeated_tally self.old)).count }
         ensures gave { (reads_in (repeated_tally self.new)).gave ≡ given_by result }
-        ensures failures { (repeated_tally self.new).failures ≡ failures_after (repeated_tally self.old).failures result }
-        ensures ended { (repeated_tally self.new).ended ≡ ended_after (repeated_tally self.old).ended result (length buf.old) }
+        ensures failures { (repeated_tally self.new).failures
+            ≡ failures_after (repeated_tally self.old).failures result }
+        ensures ended { (repeated_tally self.new).ended
+            ≡ ended_after (repeated_tally self.old).ended result (length buf.old) }
 
         ensures ok { IsOk result }
         ensures size { IfOk result (λ n. n ≡ min (length (repeated_bytes self.old)) (length buf.old)) }

@@ -1,6 +1,7 @@
 //! Pages that are kept once, while they are gathered.
 
-ghost use Rattle.std.specs.Prelude.{◌≡◌, ◌≢◌, ℕ, ◌+◌, ◌<◌, ◌≤◌, ◌^◌, length, map, slice_index_or, [], ◌∷◌, ◌++◌, IfOk, MatchOption, All};
+ghost use Rattle.std.specs.Prelude.{◌≡◌, ◌≢◌, ℕ, ◌+◌, ◌<◌, ◌≤◌, ◌^◌, length, map, slice_index_or, [], ◌∷◌, ◌++◌};
+ghost use Rattle.std.specs.Prelude.{IfOk, MatchOption, All};
 ghost use Rattle.lbk_steps.specs.Pages.{AreDistinct, cell_number, digest_of, digest_with};
 
 use super::Page;
@@ -98,8 +99,8 @@ fn digest(page: &Page) -> u128
         .fold(0, |digest, cell| digest_with(digest, *cell))
 }
 
-/// The digest after one more cell. The upper half goes into the lower, since a plain sum of multiples can be made to come
-/// out the same for thousands of pages.
+/// The digest after one more cell. The upper half goes into the lower, since a plain sum of multiples can be made to
+/// come out the same for thousands of pages.
 fn digest_with(digest: u128, cell: Cell) -> u128
     ensures { result ≡ digest_with digest cell }
 {

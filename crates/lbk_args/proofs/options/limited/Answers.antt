@@ -2,6 +2,6 @@ use Rattle.lbk_args.proofs.options.limited.Goals as goal
 
 pub returns : goal.returns
 returns c =
-    c.with_option.ensures _ _ c.texts_operand.ensures.rule (c.with_option-command-4.ensures _ _ c.profile_option.ensures.rule
-    (c.with_option-command-3.ensures _ _ c.byte_option-2.ensures.rule (c.with_option-command-2.ensures _ _ c.byte_option.ensures.rule
-    (c.with_option-command.ensures _ _ c.limit_option.ensures.rule c.with_files.ensures))))
+    c.with_shared.ensures _ (c.with_option.ensures _ _ c.byte_option-2.ensures.rule
+    (c.with_option-command-2.ensures _ _ c.byte_option.ensures.rule
+    (c.with_option-command.ensures _ _ c.limit_option.ensures.rule c.with_files.ensures)))

@@ -1,5 +1,6 @@
 use Rattle.std.proofs.Common.{◌≡◌, ◌-◌, sym, subst, ap, ◌∙◌, arith}
-use Rattle.lbk_bytes.specs.Blocks.{IsLowest, row_before}
+use Rattle.lbk_masks.specs.Bits.{IsLowest}
+use Rattle.lbk_bytes.specs.Blocks.{row_before}
 use Rattle.lbk_bytes.proofs.blocks.stopped.Goals as goal
 
 pub returns-clause-some : goal.returns-clause-some

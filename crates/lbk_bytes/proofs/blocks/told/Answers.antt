@@ -27,8 +27,8 @@ finish-requires-clause-ahead c =
     let is_at : here.at ≡ at + begin = omega arith in
     let stops = c.kept_from.result in
     let some = lowest-from c.args.marks.stops begin stops (omega arith) (omega arith) c.kept_from.ensures in
-    ahead-begins at begin (trailing_zeros w64 stops) c.args.marks.standing c.kept_from-2.result (record { count = here.count; past = here.at; left = c.kept_below.result })
-    some (zeros-few stops) is_at c.kept_from-2.ensures c.kept_below.ensures
+    ahead-begins at begin (trailing_zeros w64 stops) c.args.marks.standing c.kept_from-2.result (record { count = here.count; past = here.at; left = c.kept_up_to.result })
+    some (zeros-few stops) is_at c.kept_from-2.ensures c.kept_up_to.ensures
 
 pub returns-clause-reached : goal.returns-clause-reached
 returns-clause-reached c = λ profile cell lefts more all swift are_kinds told are_marks start.
@@ -49,7 +49,7 @@ returns-clause-reached c = λ profile cell lefts more all swift are_kinds told a
     are_marks rests is_at some few inside start.knows.0
     (λ i after h. sym (c.kept_from.ensures.same i after (omega arith)) ∙ zeros-below stops fits i h)
     (λ h. sym (c.kept_from.ensures.same taken some h) ∙ zeros-end stops fits h) in
-    let marked : BlockState = record { count = here.count; past = here.at; left = c.kept_below.result } in
-    let left = are-left pairs text at begin taken c.args.marks.standing c.kept_from-2.result marked few inside some is_at c.kept_from-2.ensures c.kept_below.ensures are_marks.standing in
+    let marked : BlockState = record { count = here.count; past = here.at; left = c.kept_up_to.result } in
+    let left = are-left pairs text at begin taken c.args.marks.standing c.kept_from-2.result marked few inside some is_at c.kept_from-2.ensures c.kept_up_to.ensures are_marks.standing in
     c.finish.ensures.reached profile cell lefts more all begin block left
     (arrive profile cell lefts text more all pairs c.args.out.now here.count here.row here.at here.at rests.row (end-low text here.at rests.below) start)

@@ -17,11 +17,11 @@ pub returns-clause-after : goal.returns-clause-after
 returns-clause-after c = λ i past.
     let here = c.args.here in
     let index = here.at - c.args.from in
-    let kept = c.kept_below.result in
+    let kept = c.kept_up_to.result in
     let taken = trailing_zeros w64 c.in-Some.marks.stops in
     let is_at = c.behind_byte.ensures.place.1 in
     let none : is_set kept (i - index) ≡ false =
-    ⊎_elim (λ (few : i - index < 64). c.kept_below.ensures.none (i - index) (omega arith) few) (λ (far : 64 ≤ i - index). none-past kept (i - index) (omega arith) far) (cases_lt (i - index) 64) in
+    ⊎_elim (λ (few : i - index < 64). c.kept_up_to.ensures.none (i - index) (omega arith) few) (λ (far : 64 ≤ i - index). none-past kept (i - index) (omega arith) far) (cases_lt (i - index) 64) in
     c.mark_bits.ensures i ∙ or-false (is_marked c.args.words.now i) (leb index i && is_set kept (i - index)) (and_right (leb index i) (is_set kept (i - index)) none)
 
 pub returns-clause-marked : goal.returns-clause-marked
@@ -37,7 +37,7 @@ returns-clause-marked c = λ profile cell lefts steps kinds more all swift are_k
     let fits : marks.stops < 2 ^ 64 = omega arith in
     let taken = trailing_zeros w64 marks.stops in
     let few = zeros-few marks.stops in
-    let kept = c.kept_below.result in
+    let kept = c.kept_up_to.result in
     let room : here.at + taken ≤ length text = omega arith in
     let is_at : here.at ≡ here.at + 0 = omega arith in
     Marked-more profile cell lefts (text ++ more) all c.args.from (length text) here there c.args.words.now c.mark_bits.new.words (omega arith)
@@ -47,7 +47,7 @@ returns-clause-marked c = λ profile cell lefts steps kinds more all swift are_k
     (λ i after h. zeros-below marks.stops fits i h)
     (λ h. zeros-end marks.stops fits h) in
     let all_taken = block-taken profile cell lefts text more rest steps kinds pairs here.row here.at taken marks.standing kept room block
-    (λ i h. are_marks.standing i h (omega arith)) c.kept_below.ensures rests.row rests.below start in
+    (λ i h. are_marks.standing i h (omega arith)) c.kept_up_to.ensures rests.row rests.below start in
     let place = c.behind_byte.ensures.place.1 in
     record {
       given = all_taken.given;

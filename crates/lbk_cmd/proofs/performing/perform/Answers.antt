@@ -6,7 +6,7 @@ pub returns-then-is_empty-clause-reads : goal.returns-then-is_empty-clause-reads
 returns-then-is_empty-clause-reads g c =
     let same : c.as_slice-names.result.now ≡ c.args.ready.now.texts.items = search rules in
     reader_read g.T.File.Source _ _ c.as_slice-names.result.now c.args.ready.now.texts.items _ _ same (sym c.is_empty.ensures ∙ c.if-is_empty.true)
-    c.perform_one.ensures refl
+    c.perform_titled.ensures refl
 
 pub returns-then-is_empty-clause-contents : goal.returns-then-is_empty-clause-contents
 returns-then-is_empty-clause-contents g c = refl

@@ -1,6 +1,5 @@
 use Rattle.std.proofs.Common.{◌∙◌, sym, refl, arith}
-use Rattle.lbk_rules.specs.CellPages.{page_cell}
-use Rattle.lbk_cmd.specs.Acts.{RunsOver}
+use Rattle.lbk_cmd.specs.Acts.{RunsReady}
 use Rattle.lbk_cmd.specs.Devices.{devices_of}
 use Rattle.lbk_cmd.specs.Operands.{standing}
 use Rattle.lbk_cmd.proofs.Over.{all_read, last_read, next_read}
@@ -12,7 +11,7 @@ loop-name-init g c = record { reads = λ after reads. reads; contents = refl }
 pub returns-then-is_last-clause-reads : goal.returns-then-is_last-clause-reads
 returns-then-is_last-clause-reads g c =
     c.loop-name.invariant.reads _ (last_read g.T.File.Source (g.T.Opens.contents c.args.texts.now)
-    (RunsOver c.args.ready.now.part c.args.ready.now.engine c.args.ready.now.sign.now c.args.ready.now.profile (page_cell c.args.ready.now.cells))
+    (RunsReady c.args.ready.now)
     c.args.names.now c.loop-name.name-index _ c.loop-name-test.true
     (standing (devices_of g.R.Source g.W.Sink c.loop-name.reader c.loop-name.writer) (g.T.Texts.refused c.loop-name.texts) c.loop-name.so_far)
     (devices_of g.R.Source g.W.Sink c.perform_named-ending.new.reader c.perform_named-ending.new.writer) c.perform_named-ending.result
@@ -26,7 +25,7 @@ pub loop-name-preserved : goal.loop-name-preserved
 loop-name-preserved g c = record {
   reads = λ after further.
       c.loop-name.invariant.reads after (next_read g.T.File.Source (g.T.Opens.contents c.args.texts.now)
-      (RunsOver c.args.ready.now.part c.args.ready.now.engine c.args.ready.now.sign.now c.args.ready.now.profile (page_cell c.args.ready.now.cells))
+      (RunsReady c.args.ready.now)
       c.args.names.now c.loop-name.name-index _ c.loop-name-test.true
       (standing (devices_of g.R.Source g.W.Sink c.loop-name.reader c.loop-name.writer) (g.T.Texts.refused c.loop-name.texts) c.loop-name.so_far)
       (devices_of g.R.Source g.W.Sink c.perform_named-ending.new.reader c.perform_named-ending.new.writer) c.perform_named-ending.result
@@ -39,7 +38,7 @@ loop-name-preserved g c = record {
 pub returns-clause-reads : goal.returns-clause-reads
 returns-clause-reads g c =
     c.loop-name.invariant.reads _ (all_read g.T.File.Source (g.T.Opens.contents c.args.texts.now)
-    (RunsOver c.args.ready.now.part c.args.ready.now.engine c.args.ready.now.sign.now c.args.ready.now.profile (page_cell c.args.ready.now.cells))
+    (RunsReady c.args.ready.now)
     c.args.names.now c.loop-name.name-index _ (omega arith))
 
 pub returns-clause-contents : goal.returns-clause-contents

@@ -1,6 +1,5 @@
 use Rattle.std.proofs.Common.{◌≡◌, drop, map}
-use Rattle.lbk_rules.specs.CellPages.{page_cell}
-use Rattle.lbk_cmd.specs.Acts.{RunsOver}
+use Rattle.lbk_cmd.specs.Acts.{RunsReady}
 use Rattle.lbk_cmd.specs.Devices.{devices_of}
 use Rattle.lbk_cmd.specs.Operands.{ReadsTexts, Standing, standing}
 use Rattle.lbk_cmd.specs.declared.ending.Ending.TheVariants.{Done}
@@ -10,10 +9,10 @@ use Rattle.lbk_cmd.proofs.performing.perform_all.Given as goal
 abbrev pub invariant-loop-name : goal.invariant-loop-name
 invariant-loop-name g l = record {
   reads : (after : Standing)
-      → ReadsTexts g.T.File.Source (g.T.Opens.contents l.fn.texts) (RunsOver l.ready.part l.ready.engine l.ready.sign.now l.ready.profile (page_cell l.ready.cells))
+      → ReadsTexts g.T.File.Source (g.T.Opens.contents l.fn.texts) (RunsReady l.ready)
       (map (λ name. name.now) (drop l.name-index l.names))
       (standing (devices_of g.R.Source g.W.Sink l.reader l.writer) (g.T.Texts.refused l.texts) l.so_far) after
-      → ReadsTexts g.T.File.Source (g.T.Opens.contents l.fn.texts) (RunsOver l.ready.part l.ready.engine l.ready.sign.now l.ready.profile (page_cell l.ready.cells))
+      → ReadsTexts g.T.File.Source (g.T.Opens.contents l.fn.texts) (RunsReady l.ready)
       (map (λ name. name.now) l.names)
       (standing (devices_of g.R.Source g.W.Sink l.fn.reader l.fn.writer) (g.T.Texts.refused l.fn.texts) Done) after;
   contents : g.T.Opens.contents l.texts ≡ g.T.Opens.contents l.fn.texts;

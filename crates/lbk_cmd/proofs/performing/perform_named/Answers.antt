@@ -8,16 +8,16 @@ other : (name : List ℕ) → bytes_eq name (codes "-") ≡ false → name ≢ c
 other name differs same = true≢false (sym ((bytes_eq-Decides name (codes "-")).1 same) ∙ differs)
 
 pub returns-then-eq : goal.returns-then-eq
-returns-then-eq g c = inl ((bytes_eq-Decides c.args.name.now (codes "-")).0 (sym c.eq.ensures ∙ c.if-eq.true), c.perform_one.ensures)
+returns-then-eq g c = inl ((bytes_eq-Decides c.args.name.now (codes "-")).0 (sym c.eq.ensures ∙ c.if-eq.true), c.perform_titled.ensures)
 
 pub returns-in-Ok : goal.returns-in-Ok
 returns-in-Ok g c = inr (
   other c.args.name.now (sym c.eq.ensures ∙ c.if-eq.false),
   inr (record {
     opened = c.in-Ok.file;
-    left = c.perform_one-in-Ok.new.reader;
+    left = c.perform_titled-in-Ok.new.reader;
     whole = c.in-Ok.ensures.opened;
-    runs = c.perform_one-in-Ok.ensures;
+    runs = c.perform_titled-in-Ok.ensures;
     is = refl;
   }),
 )

@@ -1,9 +1,0 @@
-use Rattle.std.proofs.Common.{arith}
-use Rattle.lbk_bytes.proofs.BitLemmas.{all-below, kept-below}
-use Rattle.lbk_bytes.proofs.blocks.kept_below.Goals as goal
-
-pub returns-then-count-eq-BLOCK : goal.returns-then-count-eq-BLOCK
-returns-then-count-eq-BLOCK c = all-below c.args.bits c.args.count (omega arith)
-
-pub returns : goal.returns
-returns c = kept-below c.args.bits c.args.count (omega arith)

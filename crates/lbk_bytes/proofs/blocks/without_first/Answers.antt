@@ -1,5 +1,0 @@
-use Rattle.lbk_bytes.proofs.BitLemmas.{are-cleared}
-use Rattle.lbk_bytes.proofs.blocks.without_first.Goals as goal
-
-pub returns-clause-cleared : goal.returns-clause-cleared
-returns-clause-cleared c = λ index few lowest. are-cleared c.args.bits index c.requires few lowest

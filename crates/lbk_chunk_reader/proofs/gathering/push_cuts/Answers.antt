@@ -1,0 +1,55 @@
+use Rattle.std.proofs.Common.{◌+◌, ◌<◌, ◌^◌, ◌∙◌, arith, length, sym}
+use Rattle.std.proofs.lemmas.Grind.{common_steps}
+use Rattle.lbk_word_laws.specs.PassageWords.{words_in_pieces}
+use Rattle.lbk_chunk_reader.proofs.WordLemmas.{no-items, pushed-all, pushed-none, pushed-on, pushed-over}
+use Rattle.lbk_chunk_reader.proofs.gathering.push_cuts.Goals as goal
+
+pub loop-segment-init : goal.loop-segment-init
+loop-segment-init c = record {
+  pushed = λ is. pushed-none c.args.start c.args.words c.args.segments.now c.args.pieces.now c.args.cuts.now.items is;
+  grows = omega arith;
+}
+
+pub loop-segment-preserved-in_ok-push : goal.loop-segment-preserved-in_ok-push
+loop-segment-preserved-in_ok-push c =
+    let l = c.loop-segment in
+    let here = c.pass_words-here in
+    record {
+      pushed = λ is. (
+          let p = l.invariant.pushed is in
+          let few : l.here.count + length (words_in_pieces c.args.start l.here.left.now) < 2 ^ 64 = omega (arith, p.same, is.few) in
+          let passed = here.ensures.passed p.from p.joined few in
+          let within = c.is_within.ensures passed.from passed.joined here.ensures.past in
+          pushed-on c.args.start c.args.words c.args.segments.now c.args.pieces.now c.args.cuts.now.items l.cuts.items l.here.count here.result.count l.here.left.now here.result.left.now
+          l.left.now c.in-Some.rest.now c.in-Some.segment.now c.in-Some.ensures.cases.0 p passed c.push.new.self.items c.in_ok-push.ensures.items
+          (sym within.0 ∙ c.if-not-is_within.true) within.1);
+      grows = omega (arith, l.invariant.grows, c.in_ok-push.ensures.len);
+    }
+
+pub loop-segment-preserved : goal.loop-segment-preserved
+loop-segment-preserved c =
+    let l = c.loop-segment in
+    let here = c.pass_words-here in
+    record {
+      pushed = λ is. (
+          let p = l.invariant.pushed is in
+          let few : l.here.count + length (words_in_pieces c.args.start l.here.left.now) < 2 ^ 64 = omega (arith, p.same, is.few) in
+          let passed = here.ensures.passed p.from p.joined few in
+          let within = c.is_within.ensures passed.from passed.joined here.ensures.past in
+          pushed-over c.args.start c.args.words c.args.segments.now c.args.pieces.now c.args.cuts.now.items l.cuts.items l.here.count here.result.count l.here.left.now here.result.left.now
+          l.left.now c.in-Some.rest.now c.in-Some.segment.now c.in-Some.ensures.cases.0 p passed (sym within.0 ∙ c.if-not-is_within.false));
+      grows = l.invariant.grows;
+    }
+
+pub returns-clause-cuts : goal.returns-clause-cuts
+returns-clause-cuts c = λ is.
+    let l = c.loop-segment in
+    pushed-all c.args.start c.args.words c.args.segments.now c.args.pieces.now c.args.cuts.now.items l.cuts.items l.here.count l.here.left.now l.left.now
+    (no-items l.left.now c.in_default.ensures.cases) (l.invariant.pushed is)
+
+pub returns-clause-words : goal.returns-clause-words
+returns-clause-words c = λ is.
+    let l = c.loop-segment in
+    let p = l.invariant.pushed is in
+    let few : l.here.count + length (words_in_pieces c.args.start l.here.left.now) < 2 ^ 64 = omega (arith, p.same, is.few) in
+    c.words_behind.ensures c.args.start few ∙ p.same

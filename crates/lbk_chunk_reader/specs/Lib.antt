@@ -1,0 +1,12 @@
+-- What a reader has to believe.
+pub mod Numbered
+pub mod Cuts
+pub mod Reader
+pub mod Shown
+-- What only carries proofs.
+pub mod Between
+pub mod Choosing
+pub mod Pieces
+pub mod Standing
+pub mod Taking
+pub mod Window

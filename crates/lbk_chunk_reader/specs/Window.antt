@@ -1,0 +1,33 @@
+-- The cuts that a window holds.
+use Rattle.std.specs.Prelude.{◌≡◌, ◌+◌, List, [], ◌++◌, drop, length, map}
+use Rattle.lbk_chunks.specs.declared.chunk.Limits.{Limits}
+use Rattle.lbk_chunks.specs.declared.cut.Cut.{Cut}
+use Rattle.lbk_passage.specs.declared.passage.Passage.{Passage}
+use Rattle.lbk_word_laws.specs.PassageWords.{words_in_pieces}
+use Rattle.lbk_chunk_reader.specs.declared.window.Window.{Window}
+use Rattle.lbk_chunk_reader.specs.Cuts.{cuts_between}
+use Rattle.lbk_chunk_reader.specs.Numbered.{numbered}
+
+abbrev pub cuts_in : Window → List Cut
+cuts_in w = map numbered (drop w.passed w.cuts.items)
+
+-- none, at the start of a text
+pub record IsNewWindow (l : Limits) (w : Window) : Type 0 where
+  pub limits : w.limits ≡ l
+  pub cuts : cuts_in w ≡ []
+  pub here : w.here ≡ record { start = 0; words = 0; told = 0 }
+  pub words : w.words ≡ 0
+
+-- the same cuts, at the same place
+pub record IsSameWindow (old new : Window) : Type 0 where
+  pub limits : new.limits ≡ old.limits
+  pub cuts : cuts_in new ≡ cuts_in old
+  pub here : new.here ≡ old.here
+  pub words : new.words ≡ old.words
+
+-- the cuts of a passage were put behind the others
+pub record IsTaken (p : Passage) (old new : Window) : Type 0 where
+  pub limits : new.limits ≡ old.limits
+  pub cuts : cuts_in new ≡ cuts_in old ++ cuts_between p.start old.words p.segments.now p.pieces.now
+  pub here : new.here ≡ old.here
+  pub words : new.words ≡ old.words + length (words_in_pieces p.start p.pieces.now)

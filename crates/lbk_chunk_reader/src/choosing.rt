@@ -1,0 +1,136 @@
+//! Where a chunk ends and where the next one starts, among cuts of which the first are known.
+
+ghost use Rattle.std.specs.Prelude.{◌≡◌, ◌≤◌, [], IfSome, None, Some, if◌then◌else◌, length, map, true};
+ghost use Rattle.lbk_chunks.specs.Chunks.{chunk_to, cuts_past, fits, is_early, may_start};
+ghost use Rattle.lbk_chunk_reader.specs.Numbered.{here_of, numbered, numbered_chunk};
+ghost use Rattle.lbk_chunk_reader.specs.Choosing.{IsEndAmong, start_among_known};
+
+use crate::cut::{Chunk, Cut, Here};
+use lbk_chunks::Limits;
+use lbk_rules::Kind;
+
+/// The cuts past a byte.
+pub(crate) fn past(cuts: &[Cut], at: usize) -> &[Cut]
+    ensures past { map numbered result.now ≡ cuts_past at (map numbered cuts.now) }
+    ensures fewer { length result.now ≤ length cuts.now }
+{
+    let mut left = cuts;
+    while let Some((first, rest)) = left.split_first() {
+        if at < first.at {
+            return left;
+        }
+        left = rest;
+    }
+    left
+}
+
+/// The cut at which the chunk from here on ends, where the known ones settle it or are all.
+pub(crate) fn end_among(limits: &Limits, here: &Here, ahead: &[Cut], is_whole: bool) -> Option<Cut>
+    ensures end { IfSome result (λ end. IsEndAmong limits.now (here_of here.now) (map numbered ahead.now) is_whole
+        (numbered end)) }
+    ensures none { result ≡ None → is_whole ≡ true → ahead.now ≡ [] }
+{
+    let Some((first, more)) = ahead.split_first() else {
+        return None;
+    };
+    if !fits(limits, here, first) {
+        return Some(*first);
+    }
+    let mut last = *first;
+    let mut early = early_or(limits, here, first, None);
+    let mut left = more;
+    while let Some((next, rest)) = left.split_first() {
+        if !fits(limits, here, next) {
+            return Some(early.unwrap_or(last));
+        }
+        last = *next;
+        early = early_or(limits, here, next, early);
+        left = rest;
+    }
+    if is_whole { Some(last) } else { None }
+}
+
+/// Where the chunk behind one that ends at a cut starts: `behind` are the known cuts past that end, `told` those up
+/// to it.
+pub(crate) fn start_behind(
+    limits: &Limits,
+    here: &Here,
+    end: &Cut,
+    behind: &[Cut],
+    told: &[Cut],
+) -> Here
+    ensures { here_of result ≡ start_among_known limits.now (here_of here.now) (numbered end.now)
+        (map numbered behind.now) (map numbered told.now) }
+{
+    let fresh = start_at(end, end.at);
+    if limits.overlap == 0 {
+        return fresh;
+    }
+    let Some((next, _)) = behind.split_first() else {
+        return fresh;
+    };
+    let mut left = told;
+    while let Some((cut, rest)) = left.split_first() {
+        if may_start(limits, here, end, next, cut) {
+            return start_at(cut, end.at);
+        }
+        left = rest;
+    }
+    fresh
+}
+
+/// The chunk from here on that ends at a cut.
+pub(crate) fn chunk_to(limits: &Limits, here: &Here, end: &Cut) -> Chunk
+    ensures { numbered_chunk result ≡ chunk_to limits.now (here_of here.now) (numbered end.now) }
+{
+    Chunk {
+        start: here.start,
+        end: end.at,
+        words: end.words.saturating_sub(here.words),
+        kind: end.kind,
+        rule: end.rule,
+        alone: !fits(limits, here, end),
+    }
+}
+
+/// A cut at which the chunk may end early, or else what was found so far.
+fn early_or(limits: &Limits, here: &Here, cut: &Cut, early: Option<Cut>) -> Option<Cut>
+    ensures { result ≡ (if is_early limits.now (here_of here.now) (numbered cut.now) then Some cut.now else early) }
+{
+    if matches!(cut.kind, Kind::Must) && limits.least <= cut.at.saturating_sub(here.told) {
+        return Some(*cut);
+    }
+    early
+}
+
+/// A start at a cut.
+fn start_at(cut: &Cut, told: usize) -> Here
+    ensures { result ≡ record { start = cut.now.at; words = cut.now.words; told = told } }
+{
+    Here {
+        start: cut.at,
+        words: cut.words,
+        told,
+    }
+}
+
+/// Whether the next chunk may start at a cut before the end of this one.
+fn may_start(limits: &Limits, here: &Here, end: &Cut, next: &Cut, cut: &Cut) -> bool
+    ensures { result ≡ may_start limits.now (here_of here.now) (numbered end.now) (numbered next.now)
+        (numbered cut.now) }
+{
+    let twice = end.at.saturating_sub(cut.at);
+    let size = end.at.saturating_sub(here.start);
+    cut.at < end.at
+        && twice <= limits.overlap
+        && twice <= size.saturating_sub(twice)
+        && fits(limits, &start_at(cut, end.at), next)
+}
+
+/// Whether a chunk from here on that ends at a cut is within the limits.
+fn fits(limits: &Limits, here: &Here, cut: &Cut) -> bool
+    ensures { result ≡ fits limits.now (here_of here.now) (numbered cut.now) }
+{
+    cut.at.saturating_sub(here.start) <= limits.most
+        && (limits.words == 0 || cut.words.saturating_sub(here.words) <= limits.words)
+}

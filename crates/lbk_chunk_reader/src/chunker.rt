@@ -1,0 +1,156 @@
+//! The chunks of a text, one after another.
+
+ghost use Rattle.std.specs.Prelude.{◌≡◌, ◌≤◌, ◌↔◌, ◌⊎◌, false, true, Ok, None, Err, IfErr, IfOk, IsErrOf, OnErr, OnOk};
+ghost use Rattle.std.proofs.Props.{props};
+ghost use Rattle.lbk_chunks.specs.Chunks.{are_limits};
+ghost use Rattle.lbk_passage.specs.Shown.{state_of};
+ghost use Rattle.lbk_chunk_reader.specs.Between.{AreCutsBetween-prop};
+ghost use Rattle.lbk_chunk_reader.specs.Taking.{TakesNext};
+ghost use Rattle.lbk_chunk_reader.specs.Standing.{Stands};
+
+use crate::cut::Chunk;
+use crate::faults::ChunkFault;
+use crate::window::Window;
+use lbk_chunks::Limits;
+use lbk_feed::Source;
+use lbk_passage::{PassageFault, Segmenter};
+use lbk_rules::{CellSource, Profile};
+use std::alloc::Global;
+
+/// Cuts a text of any length into chunks. It holds the text of one passage, and the cuts of one passage and one chunk.
+///
+/// One reader serves all calls. The text of a paragraph has at most as many bytes as the limit says.
+///
+/// ```rust
+/// let mut chunker = Chunker::new(rt.alloc(), &cells, limits, 65_536, Profile::First)?;
+/// while let Some(chunk) = chunker.next(&mut reader)? {
+///     println!(rt; "{}..{}", chunk.start, chunk.end)?;
+/// }
+/// ```
+#[derive(Drop)]
+pub struct Chunker<'a, C: CellSource> {
+    segmenter: Segmenter<'a, C>,
+    window: Window,
+    /// Whether all passages were given.
+    is_whole: bool,
+    is_spent: bool,
+    ghost stands: { is_spent ≡ false → Stands window (state_of C.cell_of segmenter) is_whole } by { Prim.hlevel (props, AreCutsBetween-prop) },
+}
+
+impl<'a, C: CellSource> Chunker<'a, C> {
+    ghost use Rattle.lbk_passage.specs.State.{IsLimit};
+    ghost use Rattle.lbk_chunk_reader.specs.Reader.{Answers, ReadsOn, new_view};
+    ghost use Rattle.lbk_chunk_reader.specs.Shown.{is_spent, view_of};
+
+    /// A chunker that has read nothing, for chunks within these limits. It reserves room for the `limit` bytes of one
+    /// paragraph and nothing else.
+    ///
+    /// `Limits` comes exactly where those are out of range, and else `Limit` exactly where the limit is not 1 to
+    /// 16,777,216, `Memory` where the room could not be had.
+    pub fn new(
+        alloc: Global,
+        cells: &'a C,
+        limits: Limits,
+        limit: u32,
+        profile: Profile,
+    ) -> Result<Chunker<'a, C>, ChunkFault>
+        ensures limits { IsErrOf result ChunkFault.Limits ↔ (are_limits limits ≡ false) }
+        ensures limit { are_limits limits ≡ true → IsErrOf result (ChunkFault.Passage PassageFault.Limit)
+            ↔ (¬ (IsLimit limit)) }
+        ensures only { IfErr result (λ fault. (fault ≡ ChunkFault.Limits)
+            ⊎ ((fault ≡ ChunkFault.Passage PassageFault.Limit)
+            ⊎ (fault ≡ ChunkFault.Passage PassageFault.Memory))) }
+        ensures view { IfOk result (λ c. view_of C.cell_of c ≡ new_view (C.cell_of cells.now) profile limits limit) }
+        ensures unspent { IfOk result (λ c. is_spent c ≡ false) }
+    {
+        if !are_limits(&limits) {
+            return Err(ChunkFault::Limits);
+        }
+        let window = Window::new(alloc, limits);
+        match Segmenter::new(alloc, cells, limit, profile) {
+            Ok(segmenter) => Ok(Chunker {
+                segmenter,
+                window,
+                is_whole: false,
+                is_spent: false,
+            }),
+            Err(fault) => Err(ChunkFault::Passage(fault)),
+        }
+    }
+
+    /// The next chunk, or `None` once all were given.
+    ///
+    /// It is given once a cut is known that no longer fits, or the end of the text was seen. A fault of the reader or
+    /// of the text comes once the chunks before it were given that are settled, as `Segmenter` returns it. After an
+    /// error no more chunks come: each later call returns `Spent`.
+    pub fn next<R: Source>(&mut self, reader: &mut R) -> Result<Option<Chunk>, PassageFault>
+        ensures answer { Answers (view_of C.cell_of self.old) (view_of C.cell_of self.new) (R.unread reader.old)
+            (R.unread reader.new) (is_spent self.old) result }
+        ensures spent { is_spent self.old ≡ true → (result ≡ Err PassageFault.Spent) × (reader.new ≡ reader.old) }
+        ensures unspent { OnOk result (is_spent self.new ≡ false) }
+        ensures stopped { OnErr result (is_spent self.new ≡ true) }
+    {
+        if self.is_spent {
+            return Err(PassageFault::Spent);
+        }
+        loop {
+            if let Some(chunk) = self.window.next(self.is_whole) {
+                return Ok(Some(chunk));
+            }
+            if self.is_whole {
+                return Ok(None);
+            }
+            match self.read_on(reader) {
+                Ok(()) => {}
+                Err(fault) => return Err(fault),
+            }
+        }
+    }
+
+    /// Reads the next passage, or sees that there is none.
+    fn read_on<R: Source>(&mut self, reader: &mut R) -> Result<(), PassageFault>
+        requires going { self.old.is_whole ≡ false }
+        requires unspent { self.old.is_spent ≡ false }
+        ensures unspent { OnOk result (self.new.is_spent ≡ false) }
+        ensures stopped { OnErr result (self.new.is_spent ≡ true) }
+        ensures reads { ReadsOn (view_of C.cell_of self.old) (view_of C.cell_of self.new) (R.unread reader.old)
+            (R.unread reader.new) self.new.is_whole result }
+    {
+        match take_next(&mut self.window, &mut self.segmenter, reader) {
+            Ok(came) => {
+                self.is_whole = !came;
+                Ok(())
+            }
+            Err(fault) => {
+                self.is_spent = true;
+                Err(fault)
+            }
+        }
+    }
+}
+
+/// Takes the cuts of the next passage, and returns whether one came.
+fn take_next<R: Source, C: CellSource>(
+    window: &mut Window,
+    segmenter: &mut Segmenter<'_, C>,
+    reader: &mut R,
+) -> Result<bool, PassageFault>
+    requires { window.old.words ≤ (state_of C.cell_of segmenter.old).start }
+    ensures { TakesNext (state_of C.cell_of segmenter.old) (state_of C.cell_of segmenter.new) (R.unread reader.old)
+        (R.unread reader.new) window.old window.new result }
+{
+    let Some(passage) = segmenter.next(reader)? else {
+        return Ok(false);
+    };
+    match window.take(&passage) {
+        Ok(()) => Ok(true),
+        Err(_) => Err(PassageFault::Memory),
+    }
+}
+
+/// Whether the limits are in range.
+fn are_limits(limits: &Limits) -> bool
+    ensures { result ≡ are_limits limits.now }
+{
+    0 < limits.most && limits.least <= limits.most && limits.overlap <= limits.most / 2
+}

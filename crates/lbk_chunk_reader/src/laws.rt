@@ -1,0 +1,46 @@
+//! What holds of the chunks of a run, over definitions only: each law is the contract of a function that does nothing.
+
+ghost use Rattle.std.specs.Prelude.{◌≡◌, ℕ, true, List, [], ◌++◌, IsUtf8, encode_utf8_all};
+ghost use Rattle.std.specs.Str.{chars};
+ghost use Rattle.lbk_rules.specs.declared.Cell.{Cell};
+ghost use Rattle.lbk_values.specs.declared.profile.Profile.{Profile};
+ghost use Rattle.lbk_chunks.specs.declared.chunk.Chunk.{Chunk};
+ghost use Rattle.lbk_chunks.specs.declared.chunk.Limits.{Limits};
+ghost use Rattle.lbk_chunks.specs.Chunks.{AreChunks, text_start};
+ghost use Rattle.lbk_chunks.specs.Cuts.{cuts_of};
+ghost use Rattle.lbk_passage.specs.Next.{IsDone};
+ghost use Rattle.lbk_passage.specs.Passages.{passages};
+ghost use Rattle.lbk_word_laws.specs.Agreement.{AgreeOnLetters, AgreeOnLines};
+ghost use Rattle.lbk_chunk_reader.specs.Cuts.{cuts_of_passages};
+ghost use Rattle.lbk_chunk_reader.specs.Reader.{ChunksCome, HasGiven, View, new_view};
+
+/// The cuts of a text, passage by passage, are those of the whole text, where the cells of its scalars have the
+/// letters and numbers that `lbk_words` knows, and UAX #29 has a word boundary wherever the cells' classes say that a
+/// line must end.
+pub fn cuts_of_all_passages()
+    ensures { (profile : Profile) (cell : ℕ → Cell) (text : List ℕ) → AgreeOnLines cell
+        → AgreeOnLetters cell (chars text) → IsUtf8 text
+        → cuts_of profile cell text ≡ cuts_of_passages cell 0 0 (passages profile cell (chars text)) }
+{}
+
+/// Calls one after another give the chunks of the one and then of the other.
+pub fn run_goes_on()
+    ensures { (first between last : View) (got more scalars others : List ℕ) (given later : List Chunk)
+        → HasGiven first between got scalars given
+        → HasGiven between last more others later
+        → HasGiven first last (got ++ more) (scalars ++ others) (given ++ later) }
+{}
+
+/// Where a run from the start of a text ends, its chunks were given: the bytes read are the text, and these are the
+/// chunks of its cuts.
+pub fn run_ends()
+    ensures bytes { (cell : ℕ → Cell) (profile : Profile) (limits : Limits) (limit : ℕ) (last : View)
+        (got scalars : List ℕ) (given : List Chunk)
+        → HasGiven (new_view cell profile limits limit) last got scalars given → IsDone last.passages → got
+        ≡ encode_utf8_all scalars }
+    ensures chunks { (cell : ℕ → Cell) (profile : Profile) (limits : Limits) (limit : ℕ) (last : View)
+        (got scalars : List ℕ) (given : List Chunk)
+        → HasGiven (new_view cell profile limits limit) last got scalars given → IsDone last.passages
+        → ChunksCome last [] []
+        → AreChunks limits (cuts_of_passages cell 0 0 (passages profile cell scalars)) text_start given }
+{}

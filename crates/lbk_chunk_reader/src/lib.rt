@@ -1,0 +1,15 @@
+//! Chunks of a text that comes through a reader: those that the whole text has (`lbk_chunks`).
+#![tactic(auto)]
+
+mod choosing;
+mod chunker;
+mod cut;
+mod faults;
+mod gathering;
+mod laws;
+mod window;
+
+pub use chunker::Chunker;
+pub use cut::Chunk;
+pub use faults::ChunkFault;
+pub use laws::{cuts_of_all_passages, run_ends, run_goes_on};

@@ -1,0 +1,36 @@
+//! The line with the name of a text before what is written of it.
+
+ghost use Rattle.std.specs.Prelude.{◌≡◌, IfOk, string_bytes};
+ghost use Rattle.lbk_cmd.specs.Run.{failed_writes_with};
+ghost use Rattle.lbk_cmd.specs.Titles.{IsTitleWritten, title};
+
+use super::faults::CmdFault;
+use super::parts_of_messages::Input;
+use lbk_feed::{Sink, write_all};
+use std::alloc::{AllocError, Global};
+
+/// Writes the line with the name of a text.
+pub(crate) fn write_title<W: Sink>(
+    alloc: Global,
+    name: &str,
+    writer: &mut W,
+) -> Result<(), CmdFault>
+    ensures written { IsTitleWritten name.now (W.written writer.old) (W.written writer.new) result }
+    ensures failures { W.failure_count writer.new ≡ failed_writes_with (W.failure_count writer.old) result }
+{
+    let Ok(line) = title(alloc, name) else {
+        return Err(CmdFault::Memory);
+    };
+    match write_all(writer, line.as_bytes()) {
+        Ok(()) => Ok(()),
+        Err(_) => Err(CmdFault::Write),
+    }
+}
+
+/// The line.
+fn title(alloc: Global, name: &str) -> Result<String, AllocError>
+    ensures { IfOk result (λ line. string_bytes line ≡ title name.now) }
+{
+    let name = Input::of_operand(name);
+    format!(in alloc; "==> {name} <==\n")
+}

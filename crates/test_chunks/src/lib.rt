@@ -1,0 +1,5 @@
+//! Tests of chunks over a reader.
+#![tactic(auto)]
+
+mod cuttings;
+mod rows;
