@@ -245,8 +245,8 @@ typedef struct lbk_limits {
 typedef struct lbk_chunk_state {
     lbk_state breaks; /* after the last cut that was read */
     size_t from;      /* the offset from which words were not read */
-    lbk_word word;    /* the word that was read last, if it is not behind the cut */
-    size_t words;     /* how many words are behind the cut */
+    lbk_word word;    /* the word that was read last */
+    size_t words;     /* how many words were counted */
     size_t start;     /* where the next chunk starts */
     size_t told;      /* where the last one ended */
 } lbk_chunk_state;

@@ -19,14 +19,7 @@ use std::alloc::Global;
 
 /// Cuts a text of any length into chunks. It holds the text of one passage, and the cuts of one passage and one chunk.
 ///
-/// One reader serves all calls. The text of a paragraph has at most as many bytes as the limit says.
-///
-/// ```rust
-/// let mut chunker = Chunker::new(rt.alloc(), &cells, limits, 65_536, Profile::First)?;
-/// while let Some(chunk) = chunker.next(&mut reader)? {
-///     println!(rt; "{}..{}", chunk.start, chunk.end)?;
-/// }
-/// ```
+/// Pass the same reader to all calls. The limit is the greatest size of a paragraph in bytes.
 #[derive(Drop)]
 pub struct Chunker<'a, C: CellSource> {
     segmenter: Segmenter<'a, C>,
