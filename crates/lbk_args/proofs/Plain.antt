@@ -1,12 +1,12 @@
 -- Plain words are accepted, and ask for what they say.
 use Rattle.std.proofs.Common.{◌≡◌, ◌∙◌, ℕ, Bool, true, false, List, [], ◌∷◌, ◌++◌, Option, Some, None, inl, inr, refl, sym, ap, ap₂, subst, codes, arith}
-use Rattle.std.specs.Prelude.{◌==◌, ◌⊎◌, ◌||◌, ⊤, drop, fold, if◌then◌else◌, is_some, option_and_then, option_map}
+use Rattle.std.specs.Prelude.{◌==◌, ◌⊎◌, if◌then◌else◌, option_and_then, option_map}
 use Rattle.std.specs.Fmt.{decimal}
 use Rattle.std.specs.Str.{chars}
-use Rattle.clap.specs.Faults.{check_fault, default_fault, defaults_fault, entered_fault, fault_of, given_default_fault, level_fault}
+use Rattle.clap.specs.Faults.{fault_of}
 use Rattle.clap.specs.Kinds.{Kinds, or_else, value_kinds}
-use Rattle.clap.specs.Simple.{Shape, built, built_leaf, entered, filled, inherited, marked_built, with_index, with_leaf_noted}
-use Rattle.clap.specs.Walk.{Held, Row, Rule, Text, Walk, finished, has_row, idle, nothing_held, reading_by, rows_after, settled, with_default}
+use Rattle.clap.specs.Simple.{Shape, built, built_leaf, filled, inherited, marked_built, with_index, with_leaf_noted}
+use Rattle.clap.specs.Walk.{Held, Row, Rule, Text, Walk, finished, idle, nothing_held, reading_by}
 use Rattle.clap.specs.declared.builder.value_parser.ValueParser.TheVariants.{Unsigned}
 use Rattle.clap.specs.declared.parser.matches.ValueSource.TheVariants.{CommandLine}
 use Rattle.clap.proofs.OnLiterals.{clap_on_literals}
@@ -17,7 +17,7 @@ use Rattle.lbk_args.specs.declared.order.Engine.TheVariants.{Mark, Show, Segment
 use Rattle.lbk_args.specs.declared.order.Part.{Part}
 use Rattle.lbk_args.specs.Accepted.{faults_of, task_fault}
 use Rattle.lbk_feed.specs.Text.{greatest_limit}
-use Rattle.lbk_args.specs.Command.{byte_rule, default_limit, default_limit_text, flag_rule, lbk_app, limited_app, mark_app, number_rule, profile_rule, replay_app, texts_rule, value_rule}
+use Rattle.lbk_args.specs.Command.{default_limit, default_limit_text, flag_rule, lbk_app, limited_app, mark_app, number_rule, profile_rule, replay_app, value_rule}
 use Rattle.lbk_args.specs.PlainWords.{AreEngineWords, AreFolderWords, AreFourWords, AreKindsWords, AreLimitWords, AreProfileWords, IsPlainFor, IsPlainName, folder_files, given_files, name_of_engine, profile_word}
 use Rattle.lbk_args.specs.Task.{NamedFiles, Task, files_in, limit_in, number_or, names_in, part_in, profile_in, sign_in, task_by, task_in, texts_in}
 use Rattle.lbk_args.specs.Sign.{default_sign}
@@ -124,59 +124,61 @@ performs words task clean asks fits = record {
   asks = asks;
 }
 
--- a subcommand of the program, by its name and as it is built
-record IsSub (name : Text) (s : Shape) : Type 0 where
-  enters : Enters (built lbk_app) name
-  faults : (words : List Text) → entered_fault (built lbk_app) (Some (name, words)) ≡ level_fault s [] nothing_held words false []
-  rows : (words : List Text) → entered (built lbk_app) (Some (name, words)) ≡ Some (name, rows_after s.rules [] words)
-  checks : (words : List Text) → check_fault (built lbk_app).top (finished (built lbk_app).top.rules nothing_held)
-      (is_some (entered (built lbk_app) (Some (name, words)))) ≡ []
-
-mark_is_sub : IsSub (codes "mark") (sub mark_app.top)
+enters_mark : Enters (built lbk_app) (codes "mark")
 unfolding clap_on_literals
-mark_is_sub = record {
-  enters = record { walks = refl; clean = refl; defaults = refl };
-  faults = λ words. refl;
-  rows = λ words. refl;
-  checks = λ words. refl;
-}
+enters_mark = record { walks = refl; clean = refl; defaults = refl }
 
-show_is_sub : IsSub (codes "show") (sub (limited_app (codes "show")).top)
+enters_show : Enters (built lbk_app) (codes "show")
 unfolding clap_on_literals
-show_is_sub = record {
-  enters = record { walks = refl; clean = refl; defaults = refl };
-  faults = λ words. refl;
-  rows = λ words. refl;
-  checks = λ words. refl;
-}
+enters_show = record { walks = refl; clean = refl; defaults = refl }
 
-segment_is_sub : IsSub (codes "segment") (sub (limited_app (codes "segment")).top)
+enters_segment : Enters (built lbk_app) (codes "segment")
 unfolding clap_on_literals
-segment_is_sub = record {
-  enters = record { walks = refl; clean = refl; defaults = refl };
-  faults = λ words. refl;
-  rows = λ words. refl;
-  checks = λ words. refl;
-}
+enters_segment = record { walks = refl; clean = refl; defaults = refl }
 
-replay_is_sub : IsSub (codes "replay") (sub replay_app.top)
+enters_replay : Enters (built lbk_app) (codes "replay")
 unfolding clap_on_literals
-replay_is_sub = record {
-  enters = record { walks = refl; clean = refl; defaults = refl };
-  faults = λ words. refl;
-  rows = λ words. refl;
-  checks = λ words. refl;
-}
+enters_replay = record { walks = refl; clean = refl; defaults = refl }
 
-sub_performs : (name : Text) (s : Shape) (words : List Text) (rows : List Row) (task : Task) → IsSub name s → Takes s words rows
-    → task_in (name, rows) ≡ Some task → task_fault (Some task) ≡ [] → Performs (name ∷ words) task
-sub_performs name s words rows task is takes same fits =
-    performs (name ∷ words) task (entered_clean (built lbk_app) name words is.enters (is.faults words ∙ takes.clean) (is.checks words))
-    (ap (option_and_then task_in)
-    (entered_rows (built lbk_app) name words is.enters ∙ is.rows words ∙ ap (λ (r : List Row). Some (name, r)) takes.rows_are) ∙ same) fits
+-- the subcommands over texts: `mark`, and those without a sign
+data Sub : Type 0 where
+  marks : Sub
+  limits : Text → Sub
+
+abbrev limited_shape : Sub → Shape
+limited_shape marks = sub mark_app.top
+limited_shape (limits name) = sub (limited_app name).top
 
 abbrev replay_shape : Shape
 replay_shape = sub replay_app.top
+
+mark_performs : (words : List Text) (rows : List Row) (task : Task) → Takes (limited_shape marks) words rows
+    → task_in (codes "mark", rows) ≡ Some task → task_fault (Some task) ≡ [] → Performs (codes "mark" ∷ words) task
+mark_performs words rows task takes same fits =
+    performs (codes "mark" ∷ words) task (entered_clean (built lbk_app) (codes "mark") words enters_mark takes.clean refl)
+    (ap (option_and_then task_in)
+    (entered_rows (built lbk_app) (codes "mark") words enters_mark ∙ ap (λ (r : List Row). Some (codes "mark", r)) takes.rows_are) ∙ same) fits
+
+show_performs : (words : List Text) (rows : List Row) (task : Task) → Takes (limited_shape (limits (codes "show"))) words rows
+    → task_in (codes "show", rows) ≡ Some task → task_fault (Some task) ≡ [] → Performs (codes "show" ∷ words) task
+show_performs words rows task takes same fits =
+    performs (codes "show" ∷ words) task (entered_clean (built lbk_app) (codes "show") words enters_show takes.clean refl)
+    (ap (option_and_then task_in)
+    (entered_rows (built lbk_app) (codes "show") words enters_show ∙ ap (λ (r : List Row). Some (codes "show", r)) takes.rows_are) ∙ same) fits
+
+segment_performs : (words : List Text) (rows : List Row) (task : Task) → Takes (limited_shape (limits (codes "segment"))) words rows
+    → task_in (codes "segment", rows) ≡ Some task → task_fault (Some task) ≡ [] → Performs (codes "segment" ∷ words) task
+segment_performs words rows task takes same fits =
+    performs (codes "segment" ∷ words) task (entered_clean (built lbk_app) (codes "segment") words enters_segment takes.clean refl)
+    (ap (option_and_then task_in)
+    (entered_rows (built lbk_app) (codes "segment") words enters_segment ∙ ap (λ (r : List Row). Some (codes "segment", r)) takes.rows_are) ∙ same) fits
+
+replay_performs : (words : List Text) (rows : List Row) (task : Task) → Takes replay_shape words rows
+    → task_in (codes "replay", rows) ≡ Some task → task_fault (Some task) ≡ [] → Performs (codes "replay" ∷ words) task
+replay_performs words rows task takes same fits =
+    performs (codes "replay" ∷ words) task (entered_clean (built lbk_app) (codes "replay") words enters_replay takes.clean refl)
+    (ap (option_and_then task_in)
+    (entered_rows (built lbk_app) (codes "replay") words enters_replay ∙ ap (λ (r : List Row). Some (codes "replay", r)) takes.rows_are) ∙ same) fits
 
 -- ---- the words behind the files
 
@@ -188,49 +190,6 @@ built_profile_rule = built_rule profile_rule
 
 abbrev kinds_rule : Rule
 kinds_rule = built_rule (flag_rule (codes "kinds"))
-
--- a subcommand over texts: the rules of its files, these, and others of its own behind them
-abbrev rules_of_texts : List Rule
-rules_of_texts = limit_rule ∷ built_rule (byte_rule (codes "from")) ∷ built_rule (byte_rule (codes "to"))
-    ∷ built_profile_rule ∷ built_rule (flag_rule (codes "names")) ∷ built_rule texts_rule ∷ []
-
-abbrev limited_shape : Shape → List Rule → Shape
-limited_shape base more = with_files base (rules_of_texts ++ more)
-
--- rules without default values
-abbrev AreBare : List Rule → Type 0
-AreBare [] = ⊤
-AreBare (a ∷ rules) = (a.defaults ≡ []) × AreBare rules
-
--- the rules of its own have no default values, and none of all is required
-record IsLimited (base : Shape) (more : List Rule) : Type 0 where
-  bare : AreBare more
-  checks : (rows : List Row) → check_fault (limited_shape base more) rows false ≡ []
-
-either_way : {X : Type 0} (b : Bool) (x : X) → (if b then x else x) ≡ x
-either_way false x = refl
-either_way true x = refl
-
-bare_row : (a : Rule) (rows : List Row) → a.defaults ≡ [] → with_default rows a ≡ rows
-bare_row a rows none = rw none (either_way (has_row a.id rows) rows)
-
-bare_rows : (more : List Rule) (rows : List Row) → AreBare more → fold with_default rows more ≡ rows
-bare_rows [] rows bare = refl
-bare_rows (a ∷ more) rows (none, bare) =
-    ap (λ (r : List Row). fold with_default r more) (bare_row a rows none) ∙ bare_rows more rows bare
-
-bare_fault : (a : Rule) (rows : List Row) → a.defaults ≡ [] → default_fault rows a ≡ []
-bare_fault a rows none = rw none (by (has_row a.id rows))
-  where
-    by : (b : Bool) → (if b || true then [] else given_default_fault a []) ≡ []
-    by false = refl
-    by true = refl
-
-bare_faults : (more : List Rule) (rows : List Row) → AreBare more → defaults_fault rows more ≡ []
-unfolding defaults_fault
-bare_faults [] rows bare = refl
-bare_faults (a ∷ more) rows (none, bare) = ap₂ (λ (ks : Kinds) (r : List Row). or_else ks (defaults_fault r more))
-    (bare_fault a rows none) (bare_row a rows none) ∙ bare_faults more rows bare
 
 -- a text that the option of the limit takes, or that of the profile
 abbrev IsLimitText : Text → Type 0
@@ -270,83 +229,115 @@ limit_rows fs d = file_rows fs ++ found limit_rule d ∷ []
 abbrev kinds_rows : Files → List Row
 kinds_rows fs = file_rows fs ++ found kinds_rule (codes "true") ∷ []
 
--- what is found behind the last word, but for the rules of its own
-abbrev limited_rows : Shape → List Rule → Held → List Row
-limited_rows base more held =
-    fold with_default (settled (limited_shape base more).rules held).rows (with_files base rules_of_texts).rules
+limited_alone : (which : Sub) (fs : Files) → ArePlain fs
+    → Takes (limited_shape which) (words_before fs []) (finished (limited_shape which).rules (behind fs))
+unfolding clap_on_literals
+limited_alone marks (folder u) plain =
+    taken (limited_shape marks) (words_before (folder u) []) (between (behind (folder u)) idle)
+    (walked_files (limited_shape marks) _ (folder u) [] _ plain (done (limited_shape marks) _)) refl refl refl
+limited_alone (limits name) (folder u) plain =
+    taken (limited_shape (limits name)) (words_before (folder u) []) (between (behind (folder u)) idle)
+    (walked_files (limited_shape (limits name)) _ (folder u) [] _ plain (done (limited_shape (limits name)) _)) refl refl refl
+limited_alone marks (four l e c m) plain =
+    taken (limited_shape marks) (words_before (four l e c m) []) (between (behind (four l e c m)) idle)
+    (walked_files (limited_shape marks) _ (four l e c m) [] _ plain (done (limited_shape marks) _)) refl refl refl
+limited_alone (limits name) (four l e c m) plain =
+    taken (limited_shape (limits name)) (words_before (four l e c m) []) (between (behind (four l e c m)) idle)
+    (walked_files (limited_shape (limits name)) _ (four l e c m) [] _ plain (done (limited_shape (limits name)) _)) refl refl refl
 
-limited_found : (base : Shape) (more : List Rule) (held : Held) → AreBare more
-    → finished (limited_shape base more).rules held ≡ limited_rows base more held
-limited_found base more held bare = bare_rows more (limited_rows base more held) bare
+limited_profile : (which : Sub) (fs : Files) (p : Text) → ArePlain fs → IsPlainName p → IsProfileText p
+    → Takes (limited_shape which) (words_before fs (codes "--profile" ∷ p ∷ []))
+    (finished (limited_shape which).rules (behind_profile (file_rows fs) p))
+unfolding clap_on_literals
+limited_profile marks (folder u) p plain pp good =
+    let s = limited_shape marks in
+    taken s (words_before (folder u) (codes "--profile" ∷ p ∷ [])) (between (behind_profile (file_rows (folder u)) p) idle)
+    (walked_files s _ (folder u) _ _ plain
+    (pair s (behind (folder u)) (pending (file_rows (folder u)) (codes "profile") []) (behind_profile (file_rows (folder u)) p) (codes "profile") (codes "--profile")
+    p [] _ refl refl pp refl (done s _))) (ap (λ (ks : Kinds). or_else ks []) good) refl refl
+limited_profile (limits name) (folder u) p plain pp good =
+    let s = limited_shape (limits name) in
+    taken s (words_before (folder u) (codes "--profile" ∷ p ∷ [])) (between (behind_profile (file_rows (folder u)) p) idle)
+    (walked_files s _ (folder u) _ _ plain
+    (pair s (behind (folder u)) (pending (file_rows (folder u)) (codes "profile") []) (behind_profile (file_rows (folder u)) p) (codes "profile") (codes "--profile")
+    p [] _ refl refl pp refl (done s _))) (ap (λ (ks : Kinds). or_else ks []) good) refl refl
+limited_profile marks (four l e c m) p plain pp good =
+    let s = limited_shape marks in
+    taken s (words_before (four l e c m) (codes "--profile" ∷ p ∷ [])) (between (behind_profile (file_rows (four l e c m)) p) idle)
+    (walked_files s _ (four l e c m) _ _ plain
+    (pair s (behind (four l e c m)) (pending (file_rows (four l e c m)) (codes "profile") []) (behind_profile (file_rows (four l e c m)) p) (codes "profile") (codes "--profile")
+    p [] _ refl refl pp refl (done s _))) (ap (λ (ks : Kinds). or_else ks []) good) refl refl
+limited_profile (limits name) (four l e c m) p plain pp good =
+    let s = limited_shape (limits name) in
+    taken s (words_before (four l e c m) (codes "--profile" ∷ p ∷ [])) (between (behind_profile (file_rows (four l e c m)) p) idle)
+    (walked_files s _ (four l e c m) _ _ plain
+    (pair s (behind (four l e c m)) (pending (file_rows (four l e c m)) (codes "profile") []) (behind_profile (file_rows (four l e c m)) p) (codes "profile") (codes "--profile")
+    p [] _ refl refl pp refl (done s _))) (ap (λ (ks : Kinds). or_else ks []) good) refl refl
 
-module _ (base : Shape) (more : List Rule) (is : IsLimited base more) where
-  limited_alone : (fs : Files) → ArePlain fs
-      → Takes (limited_shape base more) (words_before fs []) (finished (limited_shape base more).rules (behind fs))
-  unfolding clap_on_literals
-  limited_alone (folder u) plain =
-      let s = limited_shape base more in
-      taken s (words_before (folder u) []) (between (behind (folder u)) idle) (walked_files base (rules_of_texts ++ more) (folder u) [] _ plain (done s _))
-      refl (bare_faults more _ is.bare) (is.checks _)
-  limited_alone (four l e c m) plain =
-      let s = limited_shape base more in
-      taken s (words_before (four l e c m) []) (between (behind (four l e c m)) idle)
-      (walked_files base (rules_of_texts ++ more) (four l e c m) [] _ plain (done s _)) refl (bare_faults more _ is.bare) (is.checks _)
+limited_limit : (which : Sub) (fs : Files) (d : Text) → ArePlain fs → IsPlainName d → IsLimitText d
+    → Takes (limited_shape which) (words_before fs (codes "--limit" ∷ d ∷ [])) (finished (limited_shape which).rules (behind_limit fs d))
+unfolding clap_on_literals
+limited_limit marks (folder u) d plain pd good =
+    let s = limited_shape marks in
+    taken s (words_before (folder u) (codes "--limit" ∷ d ∷ [])) (between (behind_limit (folder u) d) idle)
+    (walked_files s _ (folder u) _ _ plain
+    (pair s (behind (folder u)) (pending (file_rows (folder u)) (codes "limit") []) (behind_limit (folder u) d) (codes "limit") (codes "--limit")
+    d [] _ refl refl pd refl (done s _))) (ap (λ (ks : Kinds). or_else ks []) good) refl refl
+limited_limit (limits name) (folder u) d plain pd good =
+    let s = limited_shape (limits name) in
+    taken s (words_before (folder u) (codes "--limit" ∷ d ∷ [])) (between (behind_limit (folder u) d) idle)
+    (walked_files s _ (folder u) _ _ plain
+    (pair s (behind (folder u)) (pending (file_rows (folder u)) (codes "limit") []) (behind_limit (folder u) d) (codes "limit") (codes "--limit")
+    d [] _ refl refl pd refl (done s _))) (ap (λ (ks : Kinds). or_else ks []) good) refl refl
+limited_limit marks (four l e c m) d plain pd good =
+    let s = limited_shape marks in
+    taken s (words_before (four l e c m) (codes "--limit" ∷ d ∷ [])) (between (behind_limit (four l e c m) d) idle)
+    (walked_files s _ (four l e c m) _ _ plain
+    (pair s (behind (four l e c m)) (pending (file_rows (four l e c m)) (codes "limit") []) (behind_limit (four l e c m) d) (codes "limit") (codes "--limit")
+    d [] _ refl refl pd refl (done s _))) (ap (λ (ks : Kinds). or_else ks []) good) refl refl
+limited_limit (limits name) (four l e c m) d plain pd good =
+    let s = limited_shape (limits name) in
+    taken s (words_before (four l e c m) (codes "--limit" ∷ d ∷ [])) (between (behind_limit (four l e c m) d) idle)
+    (walked_files s _ (four l e c m) _ _ plain
+    (pair s (behind (four l e c m)) (pending (file_rows (four l e c m)) (codes "limit") []) (behind_limit (four l e c m) d) (codes "limit") (codes "--limit")
+    d [] _ refl refl pd refl (done s _))) (ap (λ (ks : Kinds). or_else ks []) good) refl refl
 
-  limited_profile : (fs : Files) (p : Text) → ArePlain fs → IsPlainName p → IsProfileText p
-      → Takes (limited_shape base more) (words_before fs (codes "--profile" ∷ p ∷ []))
-      (finished (limited_shape base more).rules (behind_profile (file_rows fs) p))
-  unfolding clap_on_literals
-  limited_profile (folder u) p plain pp good =
-      let s = limited_shape base more in
-      taken s (words_before (folder u) (codes "--profile" ∷ p ∷ [])) (between (behind_profile (file_rows (folder u)) p) idle)
-      (walked_files base (rules_of_texts ++ more) (folder u) _ _ plain
-      (pair s (behind (folder u)) (pending (file_rows (folder u)) (codes "profile") []) (behind_profile (file_rows (folder u)) p) (codes "profile") (codes "--profile")
-      p [] _ refl refl pp refl (done s _))) (ap (λ (ks : Kinds). or_else ks []) good) (bare_faults more _ is.bare) (is.checks _)
-  limited_profile (four l e c m) p plain pp good =
-      let s = limited_shape base more in
-      taken s (words_before (four l e c m) (codes "--profile" ∷ p ∷ [])) (between (behind_profile (file_rows (four l e c m)) p) idle)
-      (walked_files base (rules_of_texts ++ more) (four l e c m) _ _ plain
-      (pair s (behind (four l e c m)) (pending (file_rows (four l e c m)) (codes "profile") []) (behind_profile (file_rows (four l e c m)) p) (codes "profile") (codes "--profile")
-      p [] _ refl refl pp refl (done s _))) (ap (λ (ks : Kinds). or_else ks []) good) (bare_faults more _ is.bare) (is.checks _)
-
-  limited_limit : (fs : Files) (d : Text) → ArePlain fs → IsPlainName d → IsLimitText d
-      → Takes (limited_shape base more) (words_before fs (codes "--limit" ∷ d ∷ [])) (finished (limited_shape base more).rules (behind_limit fs d))
-  unfolding clap_on_literals
-  limited_limit (folder u) d plain pd good =
-      let s = limited_shape base more in
-      taken s (words_before (folder u) (codes "--limit" ∷ d ∷ [])) (between (behind_limit (folder u) d) idle)
-      (walked_files base (rules_of_texts ++ more) (folder u) _ _ plain
-      (pair s (behind (folder u)) (pending (file_rows (folder u)) (codes "limit") []) (behind_limit (folder u) d) (codes "limit") (codes "--limit")
-      d [] _ refl refl pd refl (done s _))) (ap (λ (ks : Kinds). or_else ks []) good) (bare_faults more _ is.bare) (is.checks _)
-  limited_limit (four l e c m) d plain pd good =
-      let s = limited_shape base more in
-      taken s (words_before (four l e c m) (codes "--limit" ∷ d ∷ [])) (between (behind_limit (four l e c m) d) idle)
-      (walked_files base (rules_of_texts ++ more) (four l e c m) _ _ plain
-      (pair s (behind (four l e c m)) (pending (file_rows (four l e c m)) (codes "limit") []) (behind_limit (four l e c m) d) (codes "limit") (codes "--limit")
-      d [] _ refl refl pd refl (done s _))) (ap (λ (ks : Kinds). or_else ks []) good) (bare_faults more _ is.bare) (is.checks _)
-
-  limited_both : (fs : Files) (d p : Text) → ArePlain fs → IsPlainName d → IsLimitText d → IsPlainName p → IsProfileText p
-      → Takes (limited_shape base more) (words_before fs (codes "--limit" ∷ d ∷ codes "--profile" ∷ p ∷ []))
-      (finished (limited_shape base more).rules (behind_profile (limit_rows fs d) p))
-  unfolding clap_on_literals
-  limited_both (folder u) d p plain pd good pp fits =
-      let s = limited_shape base more in
-      taken s (words_before (folder u) (codes "--limit" ∷ d ∷ codes "--profile" ∷ p ∷ [])) (between (behind_profile (limit_rows (folder u) d) p) idle)
-      (walked_files base (rules_of_texts ++ more) (folder u) _ _ plain
-      (pair s (behind (folder u)) (pending (file_rows (folder u)) (codes "limit") []) (behind_limit (folder u) d) (codes "limit") (codes "--limit")
-      d _ _ refl refl pd refl
-      (pair s (behind_limit (folder u) d) (pending (limit_rows (folder u) d) (codes "profile") []) (behind_profile (limit_rows (folder u) d) p) (codes "profile") (codes "--profile")
-      p [] _ refl (ap (λ (ks : Kinds). or_else (or_else ks []) []) good) pp refl (done s _)))) (ap (λ (ks : Kinds). or_else ks []) fits)
-      (bare_faults more _ is.bare) (is.checks _)
-  limited_both (four l e c m) d p plain pd good pp fits =
-      let s = limited_shape base more in
-      taken s (words_before (four l e c m) (codes "--limit" ∷ d ∷ codes "--profile" ∷ p ∷ [])) (between (behind_profile (limit_rows (four l e c m) d) p) idle)
-      (walked_files base (rules_of_texts ++ more) (four l e c m) _ _ plain
-      (pair s (behind (four l e c m)) (pending (file_rows (four l e c m)) (codes "limit") []) (behind_limit (four l e c m) d) (codes "limit") (codes "--limit")
-      d _ _ refl refl pd refl
-      (pair s (behind_limit (four l e c m) d) (pending (limit_rows (four l e c m) d) (codes "profile") []) (behind_profile (limit_rows (four l e c m) d) p) (codes "profile") (codes "--profile")
-      p [] _ refl (ap (λ (ks : Kinds). or_else (or_else ks []) []) good) pp refl (done s _)))) (ap (λ (ks : Kinds). or_else ks []) fits)
-      (bare_faults more _ is.bare) (is.checks _)
+limited_both : (which : Sub) (fs : Files) (d p : Text) → ArePlain fs → IsPlainName d → IsLimitText d → IsPlainName p → IsProfileText p
+    → Takes (limited_shape which) (words_before fs (codes "--limit" ∷ d ∷ codes "--profile" ∷ p ∷ []))
+    (finished (limited_shape which).rules (behind_profile (limit_rows fs d) p))
+unfolding clap_on_literals
+limited_both marks (folder u) d p plain pd good pp fits =
+    let s = limited_shape marks in
+    taken s (words_before (folder u) (codes "--limit" ∷ d ∷ codes "--profile" ∷ p ∷ [])) (between (behind_profile (limit_rows (folder u) d) p) idle)
+    (walked_files s _ (folder u) _ _ plain
+    (pair s (behind (folder u)) (pending (file_rows (folder u)) (codes "limit") []) (behind_limit (folder u) d) (codes "limit") (codes "--limit")
+    d _ _ refl refl pd refl
+    (pair s (behind_limit (folder u) d) (pending (limit_rows (folder u) d) (codes "profile") []) (behind_profile (limit_rows (folder u) d) p) (codes "profile") (codes "--profile")
+    p [] _ refl (ap (λ (ks : Kinds). or_else (or_else ks []) []) good) pp refl (done s _)))) (ap (λ (ks : Kinds). or_else ks []) fits) refl refl
+limited_both (limits name) (folder u) d p plain pd good pp fits =
+    let s = limited_shape (limits name) in
+    taken s (words_before (folder u) (codes "--limit" ∷ d ∷ codes "--profile" ∷ p ∷ [])) (between (behind_profile (limit_rows (folder u) d) p) idle)
+    (walked_files s _ (folder u) _ _ plain
+    (pair s (behind (folder u)) (pending (file_rows (folder u)) (codes "limit") []) (behind_limit (folder u) d) (codes "limit") (codes "--limit")
+    d _ _ refl refl pd refl
+    (pair s (behind_limit (folder u) d) (pending (limit_rows (folder u) d) (codes "profile") []) (behind_profile (limit_rows (folder u) d) p) (codes "profile") (codes "--profile")
+    p [] _ refl (ap (λ (ks : Kinds). or_else (or_else ks []) []) good) pp refl (done s _)))) (ap (λ (ks : Kinds). or_else ks []) fits) refl refl
+limited_both marks (four l e c m) d p plain pd good pp fits =
+    let s = limited_shape marks in
+    taken s (words_before (four l e c m) (codes "--limit" ∷ d ∷ codes "--profile" ∷ p ∷ [])) (between (behind_profile (limit_rows (four l e c m) d) p) idle)
+    (walked_files s _ (four l e c m) _ _ plain
+    (pair s (behind (four l e c m)) (pending (file_rows (four l e c m)) (codes "limit") []) (behind_limit (four l e c m) d) (codes "limit") (codes "--limit")
+    d _ _ refl refl pd refl
+    (pair s (behind_limit (four l e c m) d) (pending (limit_rows (four l e c m) d) (codes "profile") []) (behind_profile (limit_rows (four l e c m) d) p) (codes "profile") (codes "--profile")
+    p [] _ refl (ap (λ (ks : Kinds). or_else (or_else ks []) []) good) pp refl (done s _)))) (ap (λ (ks : Kinds). or_else ks []) fits) refl refl
+limited_both (limits name) (four l e c m) d p plain pd good pp fits =
+    let s = limited_shape (limits name) in
+    taken s (words_before (four l e c m) (codes "--limit" ∷ d ∷ codes "--profile" ∷ p ∷ [])) (between (behind_profile (limit_rows (four l e c m) d) p) idle)
+    (walked_files s _ (four l e c m) _ _ plain
+    (pair s (behind (four l e c m)) (pending (file_rows (four l e c m)) (codes "limit") []) (behind_limit (four l e c m) d) (codes "limit") (codes "--limit")
+    d _ _ refl refl pd refl
+    (pair s (behind_limit (four l e c m) d) (pending (limit_rows (four l e c m) d) (codes "profile") []) (behind_profile (limit_rows (four l e c m) d) p) (codes "profile") (codes "--profile")
+    p [] _ refl (ap (λ (ks : Kinds). or_else (or_else ks []) []) good) pp refl (done s _)))) (ap (λ (ks : Kinds). or_else ks []) fits) refl refl
 
 -- ---- `replay`
 
@@ -429,107 +420,125 @@ task_found engine rows = option_map (λ files. record {
   texts = texts_in rows;
 }) (files_in rows)
 
-record Finds (s : Shape) (words : List Text) (fs : Files) (limit : ℕ) (profile : Profile) : Type 0 where
+record Finds (which : Sub) (words : List Text) (fs : Files) (limit : ℕ) (profile : Profile) : Type 0 where
   rows : List Row
-  takes : Takes s words rows
+  takes : Takes (limited_shape which) words rows
   asks : (engine : ℕ → Engine) → task_found engine rows ≡ Some (task_with (engine limit) fs profile)
 
--- by what is found but for the rules of the subcommand's own
-limited_finds : (base : Shape) (more : List Rule) → IsLimited base more → (words : List Text) (fs : Files) (limit : ℕ) (profile : Profile)
-    (held : Held) → Takes (limited_shape base more) words (finished (limited_shape base more).rules held)
-    → ((engine : ℕ → Engine) → task_found engine (limited_rows base more held) ≡ Some (task_with (engine limit) fs profile))
-    → Finds (limited_shape base more) words fs limit profile
-limited_finds base more is words fs limit profile held takes asks = record {
-  rows = finished (limited_shape base more).rules held;
-  takes = takes;
-  asks = λ engine. ap (task_found engine) (limited_found base more held is.bare) ∙ asks engine;
-}
-
-limited_plain : (base : Shape) (more : List Rule) → IsLimited base more → (fs : Files) (limit : ℕ) (profile : Profile) (own last : List Text)
-    → ArePlain fs → AreLimitWords limit own → AreProfileWords profile last → Finds (limited_shape base more) (words_before fs (own ++ last)) fs limit profile
+limited_plain : (which : Sub) (fs : Files) (limit : ℕ) (profile : Profile) (own last : List Text) → ArePlain fs
+    → AreLimitWords limit own → AreProfileWords profile last → Finds which (words_before fs (own ++ last)) fs limit profile
 unfolding clap_on_literals
-limited_plain base more is (folder []) limit profile own last plain given others = absurd plain
-limited_plain base more is (folder (u ∷ us)) limit profile own last plain (inl none) (inl first) = rw (none.0, first.0, none.1, first.1)
-    (limited_finds base more is _ _ _ _ (behind (folder (u ∷ us))) (limited_alone base more is (folder (u ∷ us)) plain) (λ engine. refl))
-limited_plain base more is (folder (u ∷ us)) limit profile own last plain (inl none) (inr given) = rw (none.0, given, none.1)
-    (limited_finds base more is _ _ _ _ (behind_profile (file_rows (folder (u ∷ us))) (profile_word profile))
-    (limited_profile base more is (folder (u ∷ us)) (profile_word profile) plain (profile_plain profile) (profile_taken profile))
-    (λ engine. ap (λ (p : Profile). Some (task_with (engine default_limit) (folder (u ∷ us)) p)) (profile_read profile)))
-limited_plain base more is (folder (u ∷ us)) limit profile own last plain (inr number) (inl first) = rw (number.0, first.0, first.1)
-    (limited_finds base more is _ _ _ _ (behind_limit (folder (u ∷ us)) (decimal limit))
-    (limited_limit base more is (folder (u ∷ us)) (decimal limit) plain (limit_plain limit number.2) (limit_taken limit number.1 number.2))
-    (λ engine. ap (λ (n : ℕ). Some (task_with (engine n) (folder (u ∷ us)) First)) (sym (limit_read default_limit limit number.2))))
-limited_plain base more is (folder (u ∷ us)) limit profile own last plain (inr number) (inr given) = rw (number.0, given)
-    (limited_finds base more is _ _ _ _ (behind_profile (limit_rows (folder (u ∷ us)) (decimal limit)) (profile_word profile))
-    (limited_both base more is (folder (u ∷ us)) (decimal limit) (profile_word profile) plain (limit_plain limit number.2) (limit_taken limit number.1 number.2)
-    (profile_plain profile) (profile_taken profile))
-    (λ engine. ap₂ (λ (n : ℕ) (p : Profile). Some (task_with (engine n) (folder (u ∷ us)) p)) (sym (limit_read default_limit limit number.2)) (profile_read profile)))
-limited_plain base more is (four l e c m) limit profile own last plain (inl none) (inl first) = rw (none.0, first.0, none.1, first.1)
-    (limited_finds base more is _ _ _ _ (behind (four l e c m)) (limited_alone base more is (four l e c m) plain) (λ engine. refl))
-limited_plain base more is (four l e c m) limit profile own last plain (inl none) (inr given) = rw (none.0, given, none.1)
-    (limited_finds base more is _ _ _ _ (behind_profile (file_rows (four l e c m)) (profile_word profile))
-    (limited_profile base more is (four l e c m) (profile_word profile) plain (profile_plain profile) (profile_taken profile))
-    (λ engine. ap (λ (p : Profile). Some (task_with (engine default_limit) (four l e c m) p)) (profile_read profile)))
-limited_plain base more is (four l e c m) limit profile own last plain (inr number) (inl first) = rw (number.0, first.0, first.1)
-    (limited_finds base more is _ _ _ _ (behind_limit (four l e c m) (decimal limit))
-    (limited_limit base more is (four l e c m) (decimal limit) plain (limit_plain limit number.2) (limit_taken limit number.1 number.2))
-    (λ engine. ap (λ (n : ℕ). Some (task_with (engine n) (four l e c m) First)) (sym (limit_read default_limit limit number.2))))
-limited_plain base more is (four l e c m) limit profile own last plain (inr number) (inr given) = rw (number.0, given)
-    (limited_finds base more is _ _ _ _ (behind_profile (limit_rows (four l e c m) (decimal limit)) (profile_word profile))
-    (limited_both base more is (four l e c m) (decimal limit) (profile_word profile) plain (limit_plain limit number.2) (limit_taken limit number.1 number.2)
-    (profile_plain profile) (profile_taken profile))
-    (λ engine. ap₂ (λ (n : ℕ) (p : Profile). Some (task_with (engine n) (four l e c m) p)) (sym (limit_read default_limit limit number.2)) (profile_read profile)))
-
--- the rules of a subcommand's own, behind the eleven that all over texts have
-abbrev own_rules : Shape → List Rule
-own_rules s = drop 11 s.rules
-
-mark_is_limited : IsLimited (sub mark_app.top) (own_rules (sub mark_app.top))
-unfolding clap_on_literals
-mark_is_limited = record { bare = (refl, refl, tt); checks = λ rows. refl }
-
-name_is_limited : (name : Text) → IsLimited (sub (limited_app name).top) (own_rules (sub (limited_app name).top))
-unfolding clap_on_literals
-name_is_limited name = record { bare = (refl, tt); checks = λ rows. refl }
+limited_plain marks (folder []) limit profile own last plain given more = absurd plain
+limited_plain marks (folder (u ∷ us)) limit profile own last plain (inl none) (inl first) = rw (none.0, first.0, none.1, first.1)
+    (record { rows = _; takes = limited_alone marks (folder (u ∷ us)) plain; asks = λ engine. refl })
+limited_plain marks (folder (u ∷ us)) limit profile own last plain (inl none) (inr given) = rw (none.0, given, none.1) (record {
+  rows = _;
+  takes = limited_profile marks (folder (u ∷ us)) (profile_word profile) plain (profile_plain profile) (profile_taken profile);
+  asks = λ engine. ap (λ (p : Profile). Some (task_with (engine default_limit) (folder (u ∷ us)) p)) (profile_read profile);
+})
+limited_plain marks (folder (u ∷ us)) limit profile own last plain (inr number) (inl first) = rw (number.0, first.0, first.1) (record {
+  rows = _;
+  takes = limited_limit marks (folder (u ∷ us)) (decimal limit) plain (limit_plain limit number.2) (limit_taken limit number.1 number.2);
+  asks = λ engine. ap (λ (n : ℕ). Some (task_with (engine n) (folder (u ∷ us)) First)) (sym (limit_read default_limit limit number.2));
+})
+limited_plain marks (folder (u ∷ us)) limit profile own last plain (inr number) (inr given) = rw (number.0, given) (record {
+  rows = _;
+  takes = limited_both marks (folder (u ∷ us)) (decimal limit) (profile_word profile) plain (limit_plain limit number.2) (limit_taken limit number.1 number.2)
+      (profile_plain profile) (profile_taken profile);
+  asks = λ engine. ap₂ (λ (n : ℕ) (p : Profile). Some (task_with (engine n) (folder (u ∷ us)) p)) (sym (limit_read default_limit limit number.2)) (profile_read profile);
+})
+limited_plain marks (four l e c m) limit profile own last plain (inl none) (inl first) = rw (none.0, first.0, none.1, first.1)
+    (record { rows = _; takes = limited_alone marks (four l e c m) plain; asks = λ engine. refl })
+limited_plain marks (four l e c m) limit profile own last plain (inl none) (inr given) = rw (none.0, given, none.1) (record {
+  rows = _;
+  takes = limited_profile marks (four l e c m) (profile_word profile) plain (profile_plain profile) (profile_taken profile);
+  asks = λ engine. ap (λ (p : Profile). Some (task_with (engine default_limit) (four l e c m) p)) (profile_read profile);
+})
+limited_plain marks (four l e c m) limit profile own last plain (inr number) (inl first) = rw (number.0, first.0, first.1) (record {
+  rows = _;
+  takes = limited_limit marks (four l e c m) (decimal limit) plain (limit_plain limit number.2) (limit_taken limit number.1 number.2);
+  asks = λ engine. ap (λ (n : ℕ). Some (task_with (engine n) (four l e c m) First)) (sym (limit_read default_limit limit number.2));
+})
+limited_plain marks (four l e c m) limit profile own last plain (inr number) (inr given) = rw (number.0, given) (record {
+  rows = _;
+  takes = limited_both marks (four l e c m) (decimal limit) (profile_word profile) plain (limit_plain limit number.2) (limit_taken limit number.1 number.2)
+      (profile_plain profile) (profile_taken profile);
+  asks = λ engine. ap₂ (λ (n : ℕ) (p : Profile). Some (task_with (engine n) (four l e c m) p)) (sym (limit_read default_limit limit number.2)) (profile_read profile);
+})
+limited_plain (limits name) (folder []) limit profile own last plain given more = absurd plain
+limited_plain (limits name) (folder (u ∷ us)) limit profile own last plain (inl none) (inl first) = rw (none.0, first.0, none.1, first.1)
+    (record { rows = _; takes = limited_alone (limits name) (folder (u ∷ us)) plain; asks = λ engine. refl })
+limited_plain (limits name) (folder (u ∷ us)) limit profile own last plain (inl none) (inr given) = rw (none.0, given, none.1) (record {
+  rows = _;
+  takes = limited_profile (limits name) (folder (u ∷ us)) (profile_word profile) plain (profile_plain profile) (profile_taken profile);
+  asks = λ engine. ap (λ (p : Profile). Some (task_with (engine default_limit) (folder (u ∷ us)) p)) (profile_read profile);
+})
+limited_plain (limits name) (folder (u ∷ us)) limit profile own last plain (inr number) (inl first) = rw (number.0, first.0, first.1) (record {
+  rows = _;
+  takes = limited_limit (limits name) (folder (u ∷ us)) (decimal limit) plain (limit_plain limit number.2) (limit_taken limit number.1 number.2);
+  asks = λ engine. ap (λ (n : ℕ). Some (task_with (engine n) (folder (u ∷ us)) First)) (sym (limit_read default_limit limit number.2));
+})
+limited_plain (limits name) (folder (u ∷ us)) limit profile own last plain (inr number) (inr given) = rw (number.0, given) (record {
+  rows = _;
+  takes = limited_both (limits name) (folder (u ∷ us)) (decimal limit) (profile_word profile) plain (limit_plain limit number.2) (limit_taken limit number.1 number.2)
+      (profile_plain profile) (profile_taken profile);
+  asks = λ engine. ap₂ (λ (n : ℕ) (p : Profile). Some (task_with (engine n) (folder (u ∷ us)) p)) (sym (limit_read default_limit limit number.2)) (profile_read profile);
+})
+limited_plain (limits name) (four l e c m) limit profile own last plain (inl none) (inl first) = rw (none.0, first.0, none.1, first.1)
+    (record { rows = _; takes = limited_alone (limits name) (four l e c m) plain; asks = λ engine. refl })
+limited_plain (limits name) (four l e c m) limit profile own last plain (inl none) (inr given) = rw (none.0, given, none.1) (record {
+  rows = _;
+  takes = limited_profile (limits name) (four l e c m) (profile_word profile) plain (profile_plain profile) (profile_taken profile);
+  asks = λ engine. ap (λ (p : Profile). Some (task_with (engine default_limit) (four l e c m) p)) (profile_read profile);
+})
+limited_plain (limits name) (four l e c m) limit profile own last plain (inr number) (inl first) = rw (number.0, first.0, first.1) (record {
+  rows = _;
+  takes = limited_limit (limits name) (four l e c m) (decimal limit) plain (limit_plain limit number.2) (limit_taken limit number.1 number.2);
+  asks = λ engine. ap (λ (n : ℕ). Some (task_with (engine n) (four l e c m) First)) (sym (limit_read default_limit limit number.2));
+})
+limited_plain (limits name) (four l e c m) limit profile own last plain (inr number) (inr given) = rw (number.0, given) (record {
+  rows = _;
+  takes = limited_both (limits name) (four l e c m) (decimal limit) (profile_word profile) plain (limit_plain limit number.2) (limit_taken limit number.1 number.2)
+      (profile_plain profile) (profile_taken profile);
+  asks = λ engine. ap₂ (λ (n : ℕ) (p : Profile). Some (task_with (engine n) (four l e c m) p)) (sym (limit_read default_limit limit number.2)) (profile_read profile);
+})
 
 replay_plain : (fs : Files) (kinds : Bool) (profile : Profile) (own last : List Text) → ArePlain fs → AreKindsWords kinds own
     → AreProfileWords profile last → Performs (codes "replay" ∷ words_before fs (own ++ last)) (task_with (Replay kinds) fs profile)
 unfolding clap_on_literals
 replay_plain (folder []) kinds profile own last plain given more = absurd plain
 replay_plain (folder (u ∷ us)) kinds profile own last plain (inl none) (inl first) =
-    rw (none.0, first.0, none.1, first.1) (sub_performs (codes "replay") replay_shape _ _ _ replay_is_sub (replay_alone (folder (u ∷ us)) plain) refl (nothing_wrong (Replay false) (folder (u ∷ us)) First))
+    rw (none.0, first.0, none.1, first.1) (replay_performs _ _ _ (replay_alone (folder (u ∷ us)) plain) refl (nothing_wrong (Replay false) (folder (u ∷ us)) First))
 replay_plain (folder (u ∷ us)) kinds profile own last plain (inl none) (inr given) =
-    rw (none.0, given, none.1) (sub_performs (codes "replay") replay_shape _ _ _ replay_is_sub (replay_profile (folder (u ∷ us)) (profile_word profile) plain (profile_plain profile) (profile_taken profile))
+    rw (none.0, given, none.1) (replay_performs _ _ _ (replay_profile (folder (u ∷ us)) (profile_word profile) plain (profile_plain profile) (profile_taken profile))
     (ap (λ (p : Profile). Some (task_with (Replay false) (folder (u ∷ us)) p)) (profile_read profile)) (nothing_wrong (Replay false) (folder (u ∷ us)) profile))
 replay_plain (folder (u ∷ us)) kinds profile own last plain (inr flag) (inl first) =
-    rw (flag.0, first.0, flag.1, first.1) (sub_performs (codes "replay") replay_shape _ _ _ replay_is_sub (replay_kinds (folder (u ∷ us)) plain) refl (nothing_wrong (Replay true) (folder (u ∷ us)) First))
+    rw (flag.0, first.0, flag.1, first.1) (replay_performs _ _ _ (replay_kinds (folder (u ∷ us)) plain) refl (nothing_wrong (Replay true) (folder (u ∷ us)) First))
 replay_plain (folder (u ∷ us)) kinds profile own last plain (inr flag) (inr given) =
-    rw (flag.0, given, flag.1) (sub_performs (codes "replay") replay_shape _ _ _ replay_is_sub (replay_both (folder (u ∷ us)) (profile_word profile) plain (profile_plain profile) (profile_taken profile))
+    rw (flag.0, given, flag.1) (replay_performs _ _ _ (replay_both (folder (u ∷ us)) (profile_word profile) plain (profile_plain profile) (profile_taken profile))
     (ap (λ (p : Profile). Some (task_with (Replay true) (folder (u ∷ us)) p)) (profile_read profile)) (nothing_wrong (Replay true) (folder (u ∷ us)) profile))
 replay_plain (four l e c m) kinds profile own last plain (inl none) (inl first) =
-    rw (none.0, first.0, none.1, first.1) (sub_performs (codes "replay") replay_shape _ _ _ replay_is_sub (replay_alone (four l e c m) plain) refl (nothing_wrong (Replay false) (four l e c m) First))
+    rw (none.0, first.0, none.1, first.1) (replay_performs _ _ _ (replay_alone (four l e c m) plain) refl (nothing_wrong (Replay false) (four l e c m) First))
 replay_plain (four l e c m) kinds profile own last plain (inl none) (inr given) =
-    rw (none.0, given, none.1) (sub_performs (codes "replay") replay_shape _ _ _ replay_is_sub (replay_profile (four l e c m) (profile_word profile) plain (profile_plain profile) (profile_taken profile))
+    rw (none.0, given, none.1) (replay_performs _ _ _ (replay_profile (four l e c m) (profile_word profile) plain (profile_plain profile) (profile_taken profile))
     (ap (λ (p : Profile). Some (task_with (Replay false) (four l e c m) p)) (profile_read profile)) (nothing_wrong (Replay false) (four l e c m) profile))
 replay_plain (four l e c m) kinds profile own last plain (inr flag) (inl first) =
-    rw (flag.0, first.0, flag.1, first.1) (sub_performs (codes "replay") replay_shape _ _ _ replay_is_sub (replay_kinds (four l e c m) plain) refl (nothing_wrong (Replay true) (four l e c m) First))
+    rw (flag.0, first.0, flag.1, first.1) (replay_performs _ _ _ (replay_kinds (four l e c m) plain) refl (nothing_wrong (Replay true) (four l e c m) First))
 replay_plain (four l e c m) kinds profile own last plain (inr flag) (inr given) =
-    rw (flag.0, given, flag.1) (sub_performs (codes "replay") replay_shape _ _ _ replay_is_sub (replay_both (four l e c m) (profile_word profile) plain (profile_plain profile) (profile_taken profile))
+    rw (flag.0, given, flag.1) (replay_performs _ _ _ (replay_both (four l e c m) (profile_word profile) plain (profile_plain profile) (profile_taken profile))
     (ap (λ (p : Profile). Some (task_with (Replay true) (four l e c m) p)) (profile_read profile)) (nothing_wrong (Replay true) (four l e c m) profile))
 
 engine_plain : (fs : Files) (engine : Engine) (profile : Profile) (own last : List Text) → ArePlain fs → AreEngineWords engine own
     → AreProfileWords profile last → Performs (name_of_engine engine ∷ words_before fs (own ++ last)) (task_with engine fs profile)
-unfolding clap_on_literals
 engine_plain fs (Mark limit) profile own last plain given more =
-    let f = limited_plain _ _ mark_is_limited fs limit profile own last plain given more in
-    sub_performs (codes "mark") (sub mark_app.top) _ f.rows _ mark_is_sub f.takes (f.asks Mark) (nothing_wrong (Mark limit) fs profile)
+    let f = limited_plain marks fs limit profile own last plain given more in
+    mark_performs (words_before fs (own ++ last)) f.rows (task_with (Mark limit) fs profile) f.takes (f.asks Mark) (nothing_wrong (Mark limit) fs profile)
 engine_plain fs (Show limit) profile own last plain given more =
-    let f = limited_plain _ _ (name_is_limited (codes "show")) fs limit profile own last plain given more in
-    sub_performs (codes "show") (sub (limited_app (codes "show")).top) _ f.rows _ show_is_sub f.takes (f.asks Show) (nothing_wrong (Show limit) fs profile)
+    let f = limited_plain (limits (codes "show")) fs limit profile own last plain given more in
+    show_performs (words_before fs (own ++ last)) f.rows (task_with (Show limit) fs profile) f.takes (f.asks Show) (nothing_wrong (Show limit) fs profile)
 engine_plain fs (Segment limit) profile own last plain given more =
-    let f = limited_plain _ _ (name_is_limited (codes "segment")) fs limit profile own last plain given more in
-    sub_performs (codes "segment") (sub (limited_app (codes "segment")).top) _ f.rows _ segment_is_sub f.takes (f.asks Segment)
-    (nothing_wrong (Segment limit) fs profile)
+    let f = limited_plain (limits (codes "segment")) fs limit profile own last plain given more in
+    segment_performs (words_before fs (own ++ last)) f.rows (task_with (Segment limit) fs profile) f.takes (f.asks Segment) (nothing_wrong (Segment limit) fs profile)
 engine_plain fs (Replay kinds) profile own last plain given more = replay_plain fs kinds profile own last plain given more
 
 -- the words of the files are those of a folder or of four names
