@@ -465,7 +465,7 @@ size_t lbk_words(lbk_word_state *state, const char *text, size_t size, lbk_word 
  * Without overlap the chunks, joined, are the text.
  *
  * Pass the whole text to each call. All calls for a text together take time in proportion to its size, for any limits;
- * each call also reads the last chunk again, and what follows it up to the limits.
+ * each call also reads the last chunk again, what follows it up to the limits, and up to 64 words more.
  *
  *   - Ill-formed bytes are replaced as in lbk_breaks.
  *   - Returns 0 and leaves the state unchanged if `room` is 0, if no chunk is left, and for limits that lbk_limits
