@@ -1,11 +1,13 @@
 use Rattle.std.proofs.Common.{◌≡◌, ◌∙◌, rules, sym, refl}
+use Rattle.lbk_cmd.specs.Acts.{RunsReady}
 use Rattle.lbk_cmd.proofs.Over.{reader_read, texts_read}
 use Rattle.lbk_cmd.proofs.performing.perform.Goals as goal
 
 pub returns-then-is_empty-clause-reads : goal.returns-then-is_empty-clause-reads
 returns-then-is_empty-clause-reads g c =
     let same : c.as_slice-names.result.now ≡ c.args.ready.now.texts.items = search rules in
-    reader_read g.T.File.Source _ _ c.as_slice-names.result.now c.args.ready.now.texts.items _ _ same (sym c.is_empty.ensures ∙ c.if-is_empty.true)
+    reader_read g.T.File.Source (g.T.Opens.contents c.args.texts.now) (RunsReady c.args.ready.now)
+    c.as_slice-names.result.now c.args.ready.now.texts.items _ _ same (sym c.is_empty.ensures ∙ c.if-is_empty.true)
     c.perform_titled.ensures refl
 
 pub returns-then-is_empty-clause-contents : goal.returns-then-is_empty-clause-contents

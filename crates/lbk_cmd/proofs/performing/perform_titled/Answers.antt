@@ -8,7 +8,7 @@ pub returns-in-Ok : goal.returns-in-Ok
 returns-in-Ok g c = rw c.if-not-ready.false (inl (
   _,
   record { written = c.in-Ok.ensures.written; failed_writes = c.in-Ok.ensures.failures; reader = refl },
-  c.perform_one.ensures,
+  c.perform_one-in-Ok.ensures,
 ))
 
 pub returns-in-Err : goal.returns-in-Err
