@@ -1,4 +1,4 @@
-"""Each call of the library for C in a thread with little stack: lbk_read and lbk_read_published in 32 KiB, the others in 16 KiB.
+"""Each call of the library for C in a thread with little stack: reading files and chunks in 32 KiB, the others in 16 KiB.
 
 The files are those of the stored runs, the published ones where they are there, and made ones that need most work: rows and
 default lines out of order, as many as a file may have.
@@ -12,8 +12,8 @@ from checks.harness import TOP
 from checks.hostile_input.property_files import ROWS, class_of, default, row, shuffled_codes
 from checks.unicode_files import MISSING, NAMES, published
 
-READ_STACK = 32_768
-STACK = 16_384
+LARGE = 32_768
+SMALL = 16_384
 
 
 def made_files(room):
@@ -58,5 +58,5 @@ def run(tally, _arguments):
         else:
             tally.leave_out(MISSING)
         for what, files in sources.items():
-            words = [program, str(READ_STACK), str(STACK), *files, *texts(room)]
-            c_programs.count(tally, f"{what}: threads of {READ_STACK} and {STACK} bytes of stack", words)
+            words = [program, str(LARGE), str(SMALL), *files, *texts(room)]
+            c_programs.count(tally, f"{what}: threads of {LARGE} and {SMALL} bytes of stack", words)

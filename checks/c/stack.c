@@ -1,9 +1,10 @@
 /* Runs each call of the library in a thread with so many bytes of stack, below which memory may not be used, and says how many
  * of these it used. A call that needs more ends the program by a signal.
  *
- *     stack BYTES_OF_LBK_READ BYTES LINE_BREAK EAST_ASIAN CATEGORY EMOJI TEXT..
+ *     stack LARGE SMALL LINE_BREAK EAST_ASIAN CATEGORY EMOJI TEXT..
  *
- * The bytes are all that the thread has: its own data, which the C library puts there, count too. The last line is
+ * LARGE bytes are for lbk_read, lbk_read_published and lbk_chunks, SMALL for the others. They are all that the thread has: its own
+ * data, which the C library puts there, count too. The last line is
  * `N passed, M failed`.
  */
 #define _DEFAULT_SOURCE
@@ -17,7 +18,8 @@
 enum { ROOM = 64, PATTERN = 0xA5, PIECE = 100 };
 
 static unsigned passed, failed;
-static size_t stack_size, used_idle;
+/* The bytes of stack of the threads: many for the calls that need them, few for the others. */
+static size_t large, small, stack_size, used_idle;
 static bytes files[4], text;
 static lbk_table table;
 static lbk_break block[ROOM];
@@ -232,7 +234,9 @@ static void try_text(void)
         told("lbk_feed gives as many breaks as lbk_breaks", total == breaks);
         run_in_thread("lbk_marks", do_marks);
         told("lbk_marks sets as many bits as lbk_breaks gives breaks", total == breaks);
+        stack_size = large;
         run_in_thread("lbk_chunks", do_chunks);
+        stack_size = small;
         told("lbk_chunks gives chunks", total > 0 || text.size == 0);
         run_in_thread("lbk_positions", do_positions);
         told("lbk_positions gives positions", total > breaks);
@@ -248,10 +252,12 @@ static void try_text(void)
 int main(int count, char **word)
 {
     if (count < 8) {
-        fprintf(stderr, "usage: stack BYTES_OF_LBK_READ BYTES LINE_BREAK EAST_ASIAN CATEGORY EMOJI TEXT..\n");
+        fprintf(stderr, "usage: stack LARGE SMALL LINE_BREAK EAST_ASIAN CATEGORY EMOJI TEXT..\n");
         return 2;
     }
-    stack_size = strtoul(word[1], NULL, 10);
+    large = strtoul(word[1], NULL, 10);
+    small = strtoul(word[2], NULL, 10);
+    stack_size = large;
     for (int k = 0; k < 4; k++)
         files[k] = load(word[3 + k]);
     used_idle = used_by(do_nothing);
@@ -259,7 +265,7 @@ int main(int count, char **word)
     told("lbk_read takes the files", fault.cause == LBK_CAUSE_NONE);
     run_in_thread("lbk_read_published", do_read_published);
     told("lbk_read_published takes them too, or not", fault.cause == LBK_CAUSE_NONE || fault.cause == LBK_CAUSE_NOT_PUBLISHED);
-    stack_size = strtoul(word[2], NULL, 10);
+    stack_size = small;
     run_in_thread("lbk_check", do_check);
     told("lbk_check holds of the table", total == 1);
     run_in_thread("names", do_names);
