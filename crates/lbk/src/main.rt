@@ -56,7 +56,7 @@ fn run_on_devices<'x>(rt: &'x HostRuntime, words: &'x [&'x str], notes: &'x Note
     let mut writer = Device::new(Noting::new(rt.stdout(), notes));
     let files = SystemFiles::new(rt, notes);
     let mut store = FileStore::new(&files);
-    let mut texts = SystemTexts::new(rt, &output, notes);
+    let mut texts = SystemTexts::new(rt, output, notes);
     let ending = run_over_texts(
         rt.alloc(),
         words,

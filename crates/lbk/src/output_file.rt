@@ -6,7 +6,7 @@ use std::io::{self, ErrorKind, Read};
 use std::os::unix::fs::MetadataExt;
 
 /// The file that standard output is, if it is one, by the numbers of the system.
-#[derive(Drop)]
+#[derive(Clone, Copy)]
 pub struct OutputFile {
     numbers: Option<(u64, u64)>,
 }

@@ -44,14 +44,14 @@ impl<'a> Opens for SystemFiles<'a> {
 #[derive(Drop)]
 pub struct SystemTexts<'a> {
     rt: &'a HostRuntime,
-    output: &'a OutputFile,
+    output: OutputFile,
     /// What the words ask for, once this is known.
     caller: Caller<'a>,
     notes: &'a Notes,
 }
 
 impl<'a> SystemTexts<'a> {
-    pub fn new(rt: &'a HostRuntime, output: &'a OutputFile, notes: &'a Notes) -> SystemTexts<'a> {
+    pub fn new(rt: &'a HostRuntime, output: OutputFile, notes: &'a Notes) -> SystemTexts<'a> {
         SystemTexts {
             rt,
             output,
