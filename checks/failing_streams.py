@@ -19,6 +19,7 @@ from checks.unicode_files import OPTIONS
 LINE_BREAK = b"000A;LF\n0020;SP\n0061..007A;AL\n"
 IN_FAULT = "lbk: standard input: cannot be read"
 OUT_FAULT = "lbk: standard output: cannot be written"
+IS_OUTPUT = f"{IN_FAULT}: input file is output file"
 NO_SPACE = f"{OUT_FAULT}: no storage space"
 NOT_READY = "operation would block"
 INTERRUPTED = b": operation interrupted\n"
@@ -77,8 +78,10 @@ def outputs(runs, name, words, first):
     else:
         runs.tally.leave_out(f"{name}: a full output: /dev/full")
     runs.ends(f"{name}: a reader that closes early", closed_early(runs, words), 1, "", first)
-    read_only = runs.redirected("< two 1< two", words)
+    read_only = runs.redirected("< two 1< /dev/null", words)
     runs.ends(f"{name}: an output that is open for reading only", read_only, 1, OUT_FAULT, first)
+    same = runs.redirected("< two 1< two", words)
+    runs.ends(f"{name}: an output that is the input", same, 1, IS_OUTPUT, first)
     full = not_ready_output(runs, words)
     runs.ends(f"{name}: an output that is not ready", full, 1, f"{OUT_FAULT}: {NOT_READY}", first)
 
