@@ -3,3 +3,4 @@ pub mod ClassLemmas
 pub mod EveryLemmas
 pub mod FoundLemmas
 pub mod KeptLemmas
+pub mod WordLemmas

@@ -1,6 +1,10 @@
--- Bits of a number of 64 bits.
-use Rattle.std.specs.Prelude.{◌≡◌, ◌≢◌, ℕ, ◌<◌, ◌≤◌, true, false}
+-- Bits of a number of 64 bits, and of a row of such numbers.
+use Rattle.std.specs.Prelude.{◌≡◌, ◌≢◌, ℕ, ◌/◌, ◌%◌, ◌<◌, ◌≤◌, Bool, true, false, List, slice_index}
 use Rattle.lbk_masks.specs.Sets.{is_set}
+
+-- bit i of some words: the lowest of the first word comes first
+abbrev pub is_marked : List ℕ → ℕ → Bool
+is_marked words i = is_set (slice_index words (i / 64)) (i % 64)
 
 -- these are the bits of a number below this one
 pub record AreKeptBelow (count bits kept : ℕ) : Type 0 where

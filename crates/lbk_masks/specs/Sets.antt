@@ -44,6 +44,10 @@ abbrev pub left_before : ByteSets → ℕ → List ℕ → ℕ → ℕ
 left_before sets before text zero = before
 left_before sets before text (suc i) = left_in sets (get_or text i 0)
 
--- whether a byte is in one of these sets, by its halves
+-- the sets that a byte is in, by its halves
+abbrev pub sets_in : HalfSets → ℕ → ℕ
+sets_in halves byte = bit_and (picked halves.low byte) (picked halves.high (byte / 16))
+
+-- whether it is in one of these
 abbrev pub is_in : HalfSets → ℕ → ℕ → Bool
-is_in halves sets byte = meets (bit_and (picked halves.low byte) (picked halves.high (byte / 16))) sets
+is_in halves sets byte = meets (sets_in halves byte) sets

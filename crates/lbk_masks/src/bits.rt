@@ -1,7 +1,8 @@
-//! Bits of numbers.
+//! Bits of numbers, and of words side by side.
 
-ghost use Rattle.std.specs.Prelude.{◌≡◌, ℕ, ◌<◌, ◌≤◌};
-ghost use Rattle.lbk_masks.specs.Bits.{AreCleared, AreKeptBelow, AreKeptFrom, IsLowest};
+ghost use Rattle.std.specs.Prelude.{◌≡◌, ℕ, ◌/◌, ◌%◌, ◌<◌, ◌≤◌, ◌==◌, ◌&&◌, ◌||◌, length};
+ghost use Rattle.lbk_masks.specs.Bits.{AreCleared, AreKeptBelow, AreKeptFrom, IsLowest, is_marked};
+ghost use Rattle.lbk_masks.specs.Sets.{is_set};
 
 /// The lowest bit of a number that is set; any, where none is.
 #[inline(always)]
@@ -38,4 +39,13 @@ pub fn kept_below(bits: u64, count: usize) -> u64
     ensures { AreKeptBelow count bits result }
 {
     bits & ((1 << count) - 1)
+}
+
+/// Sets those bits of one word that are set in a number.
+#[inline(always)]
+pub fn join(words: &mut [u64], word: usize, bits: u64)
+    requires { word < length words.old }
+    ensures { (i : ℕ) → is_marked words.new i ≡ (is_marked words.old i || ((i / 64 == word) && is_set bits (i % 64))) }
+{
+    words[word] |= bits;
 }

@@ -1,7 +1,7 @@
 //! Sets of bytes, decided by the halves of a byte.
 
-ghost use Rattle.std.specs.Prelude.{◌≡◌, ℕ, ◌<◌, ◌≤◌, ◌&&◌, length, get_or, nat_le, nat_lt};
-ghost use Rattle.lbk_masks.specs.Sets.{is_in, is_set};
+ghost use Rattle.std.specs.Prelude.{◌≡◌, ℕ, ◌+◌, ◌<◌, ◌≤◌, ◌&&◌, length, get_or, nat_le, nat_lt};
+ghost use Rattle.lbk_masks.specs.Sets.{HasLanes, is_in, is_set, meets, sets_in};
 
 use crate::found::joined;
 use crate::{block_of, both, high_halves, least, meeting, picked};
@@ -29,16 +29,61 @@ impl HalfSets {
         joined(three, 48, self.members_of(sets, block_of(&text[48..])))
     }
 
+    /// Which of the first 63 bytes of a text have a set in common with the byte after them, whose sets are others.
+    #[inline(always)]
+    pub fn pairs(&self, after: &HalfSets, text: &[u8]) -> u64
+        requires { 64 ≤ length text.now }
+        ensures { (i : ℕ) → i < 64 → is_set result i ≡ (nat_lt i 63
+            && meets (sets_in self.now (get_or text.now i 0)) (sets_in after.now (get_or text.now (i + 1) 0))) }
+    {
+        let one = joined(
+            0,
+            0,
+            self.pairs_of(after, block_of(text), block_of(&text[1..])),
+        );
+        let two = joined(
+            one,
+            16,
+            self.pairs_of(after, block_of(&text[16..]), block_of(&text[17..])),
+        );
+        let three = joined(
+            two,
+            32,
+            self.pairs_of(after, block_of(&text[32..]), block_of(&text[33..])),
+        );
+        joined(
+            three,
+            47,
+            self.pairs_of(after, block_of(&text[47..]), block_of(&text[48..])),
+        )
+    }
+
     /// Which of 16 bytes are in one of these sets.
     #[inline(always)]
     fn members_of(&self, sets: u8, block: u8x16) -> u64
         ensures { (i : ℕ) → is_set result i ≡ (nat_lt i 16 && is_in self.now sets (get_or block i 0)) }
     {
-        let common = both(
+        meeting(self.sets_of(block), u8x16::splat(sets))
+    }
+
+    /// Which of 16 bytes have a set in common with another byte, whose sets are others.
+    #[inline(always)]
+    fn pairs_of(&self, after: &HalfSets, block: u8x16, behind: u8x16) -> u64
+        ensures { (i : ℕ) → is_set result i
+            ≡ (nat_lt i 16 && meets (sets_in self.now (get_or block i 0)) (sets_in after.now (get_or behind i 0))) }
+    {
+        meeting(self.sets_of(block), after.sets_of(behind))
+    }
+
+    /// The sets that each byte is in.
+    #[inline(always)]
+    fn sets_of(&self, block: u8x16) -> u8x16
+        ensures { HasLanes result (λ i. sets_in self.now (get_or block i 0)) }
+    {
+        both(
             picked(self.low, block),
             picked(self.high, high_halves(block)),
-        );
-        meeting(common, u8x16::splat(sets))
+        )
     }
 }
 

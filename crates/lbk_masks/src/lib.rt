@@ -14,16 +14,12 @@ ghost use Rattle.lbk_masks.specs.Sets.{right_in};
 ghost use Rattle.lbk_masks.specs.Strays.{is_stray};
 
 mod bits;
-mod covering;
 mod found;
 mod halves;
-mod letters;
 
-pub use bits::{first_set, kept_below, kept_from, without_first};
-pub use covering::{Behind, Bytes, Covering, LETTER, Related, cover};
+pub use bits::{first_set, join, kept_below, kept_from, without_first};
 use found::{Edges, Found, joined};
 pub use halves::{HalfSets, wide};
-pub use letters::{firsts_of_letters, stands_for_all};
 use std::simd::prelude::*;
 
 /// How many bytes at most have a bit.

@@ -13,3 +13,7 @@ and-false false = refl
 pub or_parts : (x y : Bool) → (x || y) ≡ false → (x ≡ false) × (y ≡ false)
 or_parts true y none = absurd (let no : ⊥ = cc in no)
 or_parts false y none = (refl, none)
+
+pub unless : (b : Bool) → (b ≡ true → ⊥) → b ≡ false
+unless true never = absurd (never refl)
+unless false never = refl

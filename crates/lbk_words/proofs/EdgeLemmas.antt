@@ -12,7 +12,7 @@ use Rattle.lbk_masks.specs.Bits.{AreCleared, AreKeptFrom, IsLowest}
 use Rattle.lbk_masks.specs.Sets.{is_in, is_set}
 use Rattle.lbk_words.specs.declared.blocks.Edges.{Edges}
 use Rattle.lbk_words.specs.declared.blocks.TheConstants.{HALVES}
-use Rattle.lbk_words.specs.Blocks.{AreEdges, begins, class_at, class_of, differ, runs_at, runs_before}
+use Rattle.lbk_words.specs.Blocks.{AreEdges, begins_at, class_of, differ, runs_at, runs_before}
 
 -- Bits
 
@@ -169,7 +169,7 @@ differ-true : (a b : Bool) → b ≡ true → differ a b ≡ not a
 differ-true true b e = ap not e
 differ-true false b e = e
 
-before-first : (bytes : List ℕ) (first : ℕ) → runs_before bytes first first ≡ false
+pub before-first : (bytes : List ℕ) (first : ℕ) → runs_before bytes first first ≡ false
 before-first bytes first = and_left (nat_lt first first) (runs_at bytes (first - 1)) (le-ltb first first (omega arith))
 
 before-later : (bytes : List ℕ) (first i : ℕ) → first < i → runs_before bytes first i ≡ runs_at bytes (i - 1)
@@ -202,7 +202,7 @@ pub record IsRun (bytes : List ℕ) (first begin end : ℕ) (found next : Edges)
   pub grows : begin < end
   pub inside : end < found.stop
   pub none : (i : ℕ) → first ≤ i → i < begin → runs_at bytes i ≡ false
-  pub starts : begins (class_at bytes begin) ≡ true
+  pub starts : begins_at bytes begin ≡ true
   pub joined : (i : ℕ) → begin < i → i < end → runs_at bytes i ≡ true
   pub apart : runs_at bytes end ≡ false
   pub others : AreEdges bytes end next
@@ -220,6 +220,7 @@ first-run_found bytes first begin end left behind next stop are some few lowest 
   apart = apart;
   others = record {
     few = are.few;
+    fit = are.fit;
     edges = edges;
     plain = λ i after less. are.plain i (let before = edge.1 in omega (arith, grows, after)) less;
     begins = λ i after less runs not_before. ⊎_elim

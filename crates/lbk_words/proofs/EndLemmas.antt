@@ -1,17 +1,18 @@
 -- The next end of a part, as bits tell it.
-use Rattle.std.proofs.Common.{◌≡◌, ◌⊎◌, inl, inr, ℕ, zero, suc, ◌+◌, ◌-◌, ◌<◌, ◌≤◌, Bool, true, false, not, ◌&&◌, ◌||◌, nat_lt, List, drop, get_or, length, ltb-true, refl, sym, ap, ap₂, subst, ◌∙◌, ⊎_elim, arith}
+use Rattle.std.proofs.Common.{◌≡◌, inl, inr, ℕ, zero, suc, ◌+◌, ◌-◌, ◌<◌, ◌≤◌, Bool, true, false, not, ◌&&◌, ◌||◌, nat_lt, List, drop, get_or, length, slice_index, ltb-true, refl, sym, ap, ap₂, ◌∙◌, ⊎_elim, arith}
 use Rattle.std.proofs.lemmas.Bool.{and_left, and_parts, and_right, cases_lt, le-ltb, lt-ltb, not-true}
 use Rattle.lbk_masks.specs.Bits.{AreCleared, IsLowest}
 use Rattle.lbk_masks.specs.Sets.{is_set}
-use Rattle.lbk_words.specs.Blocks.{begins, class_at, goes_on, is_joined, runs_at}
+use Rattle.lbk_words.specs.Blocks.{begins, class_at, goes_on, is_first, is_joined, is_second, runs_at}
 use Rattle.lbk_words.specs.Ends.{AreEnds, goes_on_at, is_pair}
 use Rattle.lbk_words.specs.Places.{IsFirstPiece}
 use Rattle.lbk_words.proofs.Booleans.{or_parts}
-use Rattle.lbk_words.proofs.ByteLemmas.{first-run, is-byte, run_row}
+use Rattle.lbk_words.proofs.CellLemmas.{AreCells, Reading, cells-there, reading, there}
 use Rattle.lbk_words.proofs.EdgeLemmas.{not-false}
-use Rattle.lbk_words.proofs.PairLemmas.{other-part, pair-first, pair-second}
-use Rattle.lbk_words.proofs.RunLemmas.{IsPlain, byte, class, first-plain, kind, run}
-use Rattle.lbk_words.proofs.TakenLemmas.{class-there, plain-there, runs-there, there}
+use Rattle.lbk_words.proofs.LetterLemmas.{low-class}
+use Rattle.lbk_words.proofs.PairLemmas.{other-part, pair-first, pair-low, pair-second}
+use Rattle.lbk_words.proofs.RunLemmas.{apart-goes, whole-run}
+use Rattle.lbk_words.proofs.TakenLemmas.{runs-there, starts-here}
 
 left-off : (a b : Bool) → (a && b) ≡ false → b ≡ true → a ≡ false
 left-off false b none is = refl
@@ -21,8 +22,20 @@ left-off true b none is = absurd (let e : true ≡ false = sym is ∙ none in le
 pair-behind : (bytes : List ℕ) (i : ℕ) → goes_on_at bytes i ≡ true → runs_at bytes (i - 1) ≡ false → is_pair (get_or bytes (i - 1) 0) (get_or bytes i 0) ≡ true
 pair-behind bytes i goes other = sym (ap (λ b. (b && runs_at bytes i) || is_pair (get_or bytes (i - 1) 0) (get_or bytes i 0)) other) ∙ goes
 
-run-behind : (bytes : List ℕ) (i : ℕ) → goes_on_at bytes i ≡ true → runs_at bytes (i - 1) ≡ true → runs_at bytes i ≡ true
-run-behind bytes i goes run = by (runs_at bytes i) refl
+-- two bytes that are one part are of no run
+pair-apart : (bytes : List ℕ) (i : ℕ) → ((j : ℕ) → get_or bytes j 0 < 256) → is_pair (get_or bytes (i - 1) 0) (get_or bytes i 0) ≡ true
+    → (runs_at bytes (i - 1) ≡ false) × (runs_at bytes i ≡ false)
+pair-apart bytes i fit is =
+    let b = get_or bytes (i - 1) 0 in
+    let c = get_or bytes i 0 in
+    let low = pair-low b c is in (
+      ap (λ x. is_joined (class_at bytes (i - 1 - 1)) x (class_at bytes (i - 1 + 1))) (low-class bytes (i - 1) fit low.0)
+          ∙ pair-first b c is (class_at bytes (i - 1 - 1)) (class_at bytes (i - 1 + 1)),
+      ap (λ x. is_joined (class_at bytes (i - 1)) x (class_at bytes (i + 1))) (low-class bytes i fit low.1) ∙ pair-second b c is (class_at bytes (i - 1)) (class_at bytes (i + 1)),
+    )
+
+run-behind : (bytes : List ℕ) (i : ℕ) → ((j : ℕ) → get_or bytes j 0 < 256) → goes_on_at bytes i ≡ true → runs_at bytes (i - 1) ≡ true → runs_at bytes i ≡ true
+run-behind bytes i fit goes run = by (runs_at bytes i) refl
   where
     pair : Bool
     pair = is_pair (get_or bytes (i - 1) 0) (get_or bytes i 0)
@@ -31,21 +44,21 @@ run-behind bytes i goes run = by (runs_at bytes i) refl
     by true e = e
     by false e =
         let paired : pair ≡ true = sym (ap₂ (λ a b. (a && b) || pair) run e) ∙ goes in
-        absurd (let never : true ≡ false = sym run ∙ pair-first (get_or bytes (i - 1) 0) (get_or bytes i 0) paired (class_at bytes (i - 1 - 1)) (class_at bytes (i - 1 + 1)) in let no : ⊥ = cc in no)
+        absurd (let never : true ≡ false = sym run ∙ (pair-apart bytes i fit paired).0 in let no : ⊥ = cc in no)
 
 -- all bytes of a part are of the run that it begins with, or none is
-runs-on : (n : ℕ) (bytes : List ℕ) (first end i : ℕ) → i ≡ first + n → i < end → runs_at bytes first ≡ true
+runs-on : (n : ℕ) (bytes : List ℕ) (first end i : ℕ) → ((j : ℕ) → get_or bytes j 0 < 256) → i ≡ first + n → i < end → runs_at bytes first ≡ true
     → ((j : ℕ) → first < j → j < end → goes_on_at bytes j ≡ true) → runs_at bytes i ≡ true
-runs-on zero bytes first end i place less run goes = ap (runs_at bytes) (let e : i ≡ first = omega arith in e) ∙ run
-runs-on (suc n) bytes first end i place less run goes =
-    run-behind bytes i (goes i (omega arith) less) (runs-on n bytes first end (i - 1) (omega arith) (omega arith) run goes)
+runs-on zero bytes first end i fit place less run goes = ap (runs_at bytes) (let e : i ≡ first = omega arith in e) ∙ run
+runs-on (suc n) bytes first end i fit place less run goes =
+    run-behind bytes i fit (goes i (omega arith) less) (runs-on n bytes first end (i - 1) fit (omega arith) (omega arith) run goes)
 
-none-on : (n : ℕ) (bytes : List ℕ) (first end i : ℕ) → i ≡ first + n → i < end → runs_at bytes first ≡ false
+none-on : (n : ℕ) (bytes : List ℕ) (first end i : ℕ) → ((j : ℕ) → get_or bytes j 0 < 256) → i ≡ first + n → i < end → runs_at bytes first ≡ false
     → ((j : ℕ) → first < j → j < end → goes_on_at bytes j ≡ true) → runs_at bytes i ≡ false
-none-on zero bytes first end i place less other goes = ap (runs_at bytes) (let e : i ≡ first = omega arith in e) ∙ other
-none-on (suc n) bytes first end i place less other goes =
-    let before = none-on n bytes first end (i - 1) (omega arith) (omega arith) other goes in
-    pair-second (get_or bytes (i - 1) 0) (get_or bytes i 0) (pair-behind bytes i (goes i (omega arith) less) before) (class_at bytes (i - 1)) (class_at bytes (i + 1))
+none-on zero bytes first end i fit place less other goes = ap (runs_at bytes) (let e : i ≡ first = omega arith in e) ∙ other
+none-on (suc n) bytes first end i fit place less other goes =
+    let before = none-on n bytes first end (i - 1) fit (omega arith) (omega arith) other goes in
+    (pair-apart bytes i fit (pair-behind bytes i (goes i (omega arith) less) before)).1
 
 -- the lowest bit is the end of the part, and the others are the ends behind it
 pub record IsEnd (text : List ℕ) (base first stop end next : ℕ) : Type 0 where
@@ -54,14 +67,16 @@ pub record IsEnd (text : List ℕ) (base first stop end next : ℕ) : Type 0 whe
   pub part : (is_word : Bool) × IsFirstPiece text (base + first) (base + end) is_word
   pub rest : AreEnds (drop base text) end stop next
 
-pub next-end : (text : List ℕ) (base first stop left end next : ℕ) → AreEnds (drop base text) first stop left → base + stop < length text → 0 < left → end < 64
+pub next-end : (text : List ℕ) (base first stop left end next : ℕ) → AreEnds (drop base text) first stop left → base + stop < length text
+    → ((i : ℕ) → first ≤ i → i < stop → is_first (drop base text) i ≡ true → base + i + 2 < length text) → 0 < left → end < 64
     → IsLowest left end → AreCleared left end next → IsEnd text base first stop end next
-next-end text base first stop left end next are within some few_end lowest cleared = record {
+next-end text base first stop left end next are within behind some few_end lowest cleared = record {
   grows = grows;
   inside = inside;
   part = by (runs_at bytes first) refl;
   rest = record {
     few = are.few;
+    fit = are.fit;
     told = told;
     plain = λ i after less. are.plain i (omega (arith, grows)) less;
     begins = λ i after less run why. are.begins i (omega (arith, grows)) less run
@@ -94,39 +109,48 @@ next-end text base first stop left end next are within some few_end lowest clear
         (sym (ap₂ (λ a b. a && (b && not (goes_on_at bytes j))) (lt-ltb j stop (omega (arith, inside))) (lt-ltb first j after))
         ∙ sym (are.told j (omega arith)) ∙ lowest.none j less)
 
-    plain : (q : ℕ) → base + first ≤ q → q ≤ base + end → IsPlain text q
-    plain q from upto =
-        let few = are.few in
-        plain-there text base q (omega arith) (omega (arith, inside)) (are.plain (q - base) (omega arith) (omega (arith, inside)))
+    r : Reading
+    r = reading text base
 
-    here : class_at bytes first ≡ class text (base + first)
-    here = class-there text base (base + first) first (omega arith) (omega arith)
+    plain : (q : ℕ) → base + first ≤ q → q ≤ base + end → r.starts q ≡ true → AreCells text r q
+    plain q from upto start =
+        let less : q - base < stop = omega (arith, inside) in
+        cells-there text base q (omega arith) (omega (arith, inside)) (λ is. let two = behind (q - base) (omega arith) less is in omega (arith, two)) are.fit
+        (are.plain (q - base) (omega arith) less) start
+
+    here : base + first - base ≡ first
+    here = omega arith
+
+    place : base + end - base ≡ end
+    place = omega arith
+
+    starts : r.starts (base + first) ≡ true
+    starts = ap (λ i. not (is_second bytes i)) here ∙ ap not (starts-here bytes first (λ is. are.begins first (omega arith) (omega (arith, grows, inside)) is (inl refl)))
 
     by : (is : Bool) → runs_at bytes first ≡ is → (is_word : Bool) × IsFirstPiece text (base + first) (base + end) is_word
     by true is =
-        let p = base + first in
-        let e = base + end in
-        let byte_plain = plain p (omega arith) (omega (arith, grows)) in
-        let b = is-byte (byte text p) byte_plain.one in
-        let starts : begins (class text p) ≡ true = ap begins (sym here) ∙ are.begins first (omega arith) (omega (arith, grows, inside)) is (inl refl) in
-        let part = first-plain text p (run_row (kind text p)) byte_plain (first-run (kind text p) b.plain (ap begins (sym b.class) ∙ starts)) in
-        let last = runs-on (end - 1 - first) bytes first end (end - 1) (omega (arith, grows)) (omega (arith, grows)) is goes in
+        let begun = and_parts (begins (class_at bytes first)) (not (is_second bytes first)) (are.begins first (omega arith) (omega (arith, grows, inside)) is (inl refl)) in
+        let last = runs-on (end - 1 - first) bytes first end (end - 1) are.fit (omega (arith, grows)) (omega (arith, grows)) is goes in
         let apart : runs_at bytes end ≡ false = sym (ap (λ b. b && runs_at bytes end) last) ∙ stops.0 in (
           true,
-          run (e - (p + 1)) (e - (p + 1)) text p p e (omega arith) (omega (arith, grows)) byte_plain.one (λ q after upto. plain q (omega arith) upto)
-              (ap (λ b. b || (class text p).low_line) starts)
-              (λ q after before. sym (runs-there text base q (omega arith)) ∙ runs-on (q - base - first) bytes first end (q - base) (omega arith) (omega arith) is goes)
-              (sym (runs-there text base e (omega (arith, grows))) ∙ ap (runs_at bytes) (let same : e - base ≡ end = omega arith in same) ∙ apart) part,
+          whole-run text r (base + first) (base + end) (omega (arith, grows)) plain starts (ap (λ i. begins (class_at bytes i)) here ∙ begun.0)
+              (λ q after before. sym (runs-there text base q (omega arith)) ∙ runs-on (q - base - first) bytes first end (q - base) are.fit (omega arith) (omega arith) is goes)
+              (sym (runs-there text base (base + end) (omega (arith, grows))) ∙ ap (runs_at bytes) place ∙ apart),
         )
     by false is =
-        other-part text (base + first) (base + end) (omega (arith, grows)) plain (ap goes_on (sym here) ∙ (or_parts _ _ is).0)
+        other-part text r (base + first) (base + end) (omega (arith, grows)) starts plain (ap (λ i. goes_on (class_at bytes i)) here ∙ goes-none first is)
         (λ q after before.
-        ap₂ is_pair (pair-left q (omega arith)) (sym (there text base q (omega arith)))
-        ∙ pair-behind bytes (q - base) (goes (q - base) (omega arith) (omega arith)) (none-on (q - base - 1 - first) bytes first end (q - base - 1) (omega arith) (omega arith) is goes))
+        let pair = pair-behind bytes (q - base) (goes (q - base) (omega arith) (omega arith)) (none-on (q - base - 1 - first) bytes first end (q - base - 1) are.fit (omega arith) (omega arith) is goes) in (
+          ap₂ is_pair (pair-left q (omega arith)) (sym (there text base q (omega arith))) ∙ pair,
+          goes-none (q - base) (pair-apart bytes (q - base) are.fit pair).1,
+        ))
         (ap₂ is_pair (pair-left (base + end) (omega (arith, grows))) (sym (there text base (base + end) (omega arith)))
-        ∙ ap (λ n. is_pair (get_or bytes (n - 1) 0) (get_or bytes n 0)) (let same : base + end - base ≡ end = omega arith in same) ∙ stops.1)
+        ∙ ap (λ n. is_pair (get_or bytes (n - 1) 0) (get_or bytes n 0)) place ∙ stops.1)
       where
-        pair-left : (q : ℕ) → base < q → byte text (q - 1) ≡ get_or bytes (q - base - 1) 0
+        goes-none : (i : ℕ) → runs_at bytes i ≡ false → goes_on (class_at bytes i) ≡ false
+        goes-none i none = apart-goes (class_at bytes (i - 1)) (class_at bytes i) (class_at bytes (i + 1)) none
+
+        pair-left : (q : ℕ) → base < q → slice_index text (q - 1) ≡ get_or bytes (q - base - 1) 0
         pair-left q after = sym (there text base (q - 1) (omega arith)) ∙ ap (λ n. get_or bytes n 0) (let same : q - 1 - base ≡ q - base - 1 = omega arith in same)
 
     told : (i : ℕ) → i < 64 → is_set next i ≡ (nat_lt i stop && (nat_lt end i && not (goes_on_at bytes i)))

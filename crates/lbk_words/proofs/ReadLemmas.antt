@@ -1,8 +1,8 @@
 -- Scalars of few bytes, as they are read.
-use Rattle.std.proofs.Common.{◌≡◌, ℕ, ◌+◌, ◌-◌, ◌<◌, List, drop, length, slice_index, take, sym, ap, ◌∙◌, arith}
+use Rattle.std.proofs.Common.{◌≡◌, ℕ, ◌+◌, ◌-◌, ◌<◌, ◌≤◌, true, List, drop, length, slice_index, take, sym, ap, ap₂, ◌∙◌, arith}
 use Rattle.std.proofs.lemmas.List.{get_or-drop, length-drop}
-use Rattle.bstr.specs.Utf8.{decoded, good, or_replacement}
-use Rattle.bstr.proofs.lemmas.PieceLemmas.{value-1}
+use Rattle.bstr.specs.Utf8.{code_of_2, decoded, good, or_replacement, second}
+use Rattle.bstr.proofs.lemmas.PieceLemmas.{value-1, value-6}
 use Rattle.lbk_words.specs.Places.{IsReadAt}
 use Rattle.lbk_words.proofs.WalkLemmas.{piece-there, rest-of}
 
@@ -21,3 +21,17 @@ pub coded-read : (text : List ℕ) (at code size : ℕ) → at < length text →
 coded-read text at code size inside coded =
     let read : decoded (drop at text) ≡ good code size = ap decoded (sym (rest-of text at)) ∙ coded in
     piece-there text at code size inside (sym (ap (λ d. or_replacement d.char) read)) (sym (ap (λ d. d.size) read))
+
+-- two bytes of a letter are read as one scalar
+pub two-read : (text : List ℕ) (at : ℕ) → at + 1 < length text → 0xC2 ≤ slice_index text at → slice_index text at < 0xE0
+    → second (slice_index text at) (slice_index text (at + 1)) ≡ true
+    → IsReadAt text at (code_of_2 (slice_index text at) (slice_index text (at + 1))) (at + 2)
+two-read text at inside least most goes =
+    let rest = drop at text in
+    let some : 2 ≤ length rest = omega (arith, length-drop at text) in
+    let one : slice_index rest 0 ≡ slice_index text at = get_or-drop at text 0 0 ∙ ap (λ n. slice_index text n) (let e : at + 0 ≡ at = omega arith in e) in
+    let two : slice_index rest 1 ≡ slice_index text (at + 1) = get_or-drop at text 1 0 in
+    let read : decoded rest ≡ good (code_of_2 (slice_index text at) (slice_index text (at + 1))) 2 =
+    value-6 (length rest) (slice_index rest 0) (slice_index rest 1) (slice_index rest 2) (slice_index rest 3) (some, omega (arith, one), omega (arith, one), ap₂ second one two ∙ goes)
+    ∙ ap₂ (λ b c. good (code_of_2 b c) 2) one two in
+    piece-there text at (code_of_2 (slice_index text at) (slice_index text (at + 1))) 2 (omega arith) (sym (ap (λ d. or_replacement d.char) read)) (sym (ap (λ d. d.size) read))

@@ -1,32 +1,28 @@
 -- A run that is found by bits, in a text.
-use Rattle.std.proofs.Common.{◌≡◌, ℕ, ◌+◌, ◌-◌, ◌<◌, ◌≤◌, List, drop, get_or, length, slice_index, sym, ap, ap₂, subst, ◌∙◌, arith}
+use Rattle.std.proofs.Common.{◌≡◌, ℕ, ◌+◌, ◌-◌, ◌<◌, ◌≤◌, true, false, not, List, drop, length, sym, ap, ap₂, ◌∙◌, arith}
 use Rattle.std.proofs.Math.ListN.{set}
-use Rattle.std.proofs.lemmas.List.{get_or-drop}
+use Rattle.std.proofs.lemmas.Bool.{and_parts}
 use Rattle.lbk_words.specs.declared.word.Word.{Word}
-use Rattle.lbk_words.specs.Blocks.{AreEdges, ArePlain, begins, class_at, class_of, goes_on, is_joined, runs_at}
+use Rattle.lbk_words.specs.Blocks.{AreEdges, begins, begins_at, class_at, is_joined, is_second, runs_at}
 use Rattle.lbk_words.specs.Filling.{IsFilled}
-use Rattle.lbk_words.proofs.Booleans.{or_parts}
-use Rattle.lbk_words.proofs.EdgeLemmas.{IsRun}
-use Rattle.lbk_words.proofs.RunLemmas.{IsPlain, run-written}
-
-pub there : (text : List ℕ) (base q : ℕ) → base ≤ q → get_or (drop base text) (q - base) 0 ≡ slice_index text q
-there text base q after = get_or-drop base text (q - base) 0 ∙ ap (λ n. slice_index text n) (let e : base + (q - base) ≡ q = omega arith in e)
-
-pub class-there : (text : List ℕ) (base q i : ℕ) → base ≤ q → i ≡ q - base → class_at (drop base text) i ≡ class_of (slice_index text q)
-class-there text base q i after place = ap (class_at (drop base text)) place ∙ ap class_of (there text base q after)
+use Rattle.lbk_words.proofs.Booleans.{or_parts, unless}
+use Rattle.lbk_words.proofs.CellLemmas.{cells-there, reading}
+use Rattle.lbk_words.proofs.EdgeLemmas.{IsRun, before-first}
+use Rattle.lbk_words.proofs.LetterLemmas.{second-class}
+use Rattle.lbk_words.proofs.RunLemmas.{run-written}
 
 pub runs-there : (text : List ℕ) (base q : ℕ) → base < q
-    → runs_at (drop base text) (q - base) ≡ is_joined (class_of (slice_index text (q - 1))) (class_of (slice_index text q)) (class_of (slice_index text (q + 1)))
+    → runs_at (drop base text) (q - base) ≡ is_joined ((reading text base).class (q - 1)) ((reading text base).class q) ((reading text base).class (q + 1))
 runs-there text base q after =
-    ap₂ (λ a b. is_joined a b (class_at (drop base text) (q - base + 1))) (class-there text base (q - 1) (q - base - 1) (omega arith) (omega arith)) (class-there text base q (q - base) (omega arith) (omega arith))
-    ∙ ap (is_joined (class_of (slice_index text (q - 1))) (class_of (slice_index text q))) (class-there text base (q + 1) (q - base + 1) (omega arith) (omega arith))
+    ap₂ (λ a b. is_joined (class_at (drop base text) a) (class_at (drop base text) (q - base)) (class_at (drop base text) b))
+    (let e : q - base - 1 ≡ q - 1 - base = omega arith in e) (let e : q - base + 1 ≡ q + 1 - base = omega arith in e)
 
-pub plain-there : (text : List ℕ) (base q : ℕ) → base ≤ q → q + 1 < length text → ArePlain (drop base text) (q - base) → IsPlain text q
-plain-there text base q after inside plain = record {
-  within = inside;
-  one = subst (λ b. b < 128) (there text base q after) plain.0;
-  two = subst (λ b. b < 128) (ap (λ n. get_or (drop base text) n 0) (let e : q - base + 1 ≡ q + 1 - base = omega arith in e) ∙ there text base (q + 1) (omega arith)) plain.1;
-}
+-- a second byte would be of a run that begins with it
+pub starts-here : (bytes : List ℕ) (i : ℕ) → (runs_at bytes i ≡ true → begins_at bytes i ≡ true) → is_second bytes i ≡ false
+starts-here bytes i begun = unless (is_second bytes i) (λ is.
+    let run : runs_at bytes i ≡ true = ap (λ c. is_joined (class_at bytes (i - 1)) c (class_at bytes (i + 1))) (second-class bytes i is) in
+    let starts = (and_parts (begins (class_at bytes i)) (not (is_second bytes i)) (begun run)).1 in
+    let never : true ≡ false = sym starts ∙ ap not is in cc)
 
 -- it is a word
 pub run-taken : (text : List ℕ) (start base at begin end count stop left next : ℕ) (out : List Word) → base ≤ at → base + 64 ≤ length text → count < length out
@@ -38,11 +34,16 @@ run-taken text start base at begin end count stop left next out after inside som
     let less = run.inside in
     let grows = run.grows in
     let later = run.after in
-    run-written text start at (base + begin) (base + end) count out f some (omega arith) (omega arith)
-    (λ q from upto. plain-there text base q (omega arith) (omega arith) (are.plain (q - base) (omega arith) (omega arith)))
-    (λ q from before.
-    ap goes_on (sym (class-there text base q (q - base) (omega arith) (omega arith)))
-    ∙ (or_parts _ _ (run.none (q - base) (omega arith) (omega arith))).0)
-    (ap begins (sym (class-there text base (base + begin) begin (omega arith) (omega arith))) ∙ run.starts)
+    let bytes = drop base text in
+    let place : base + begin - base ≡ begin = omega arith in
+    let starts = and_parts (begins (class_at bytes begin)) (not (is_second bytes begin)) run.starts in
+    run-written text (reading text base) start at (base + begin) (base + end) count out f some (omega arith) (omega arith)
+    (ap not (starts-here bytes (at - base) (λ is. are.begins (at - base) (omega arith) (omega arith) is (before-first bytes (at - base)))))
+    (ap (λ i. not (is_second bytes i)) place ∙ starts.1)
+    (λ q from upto start_is.
+    let plain = are.plain (q - base) (omega arith) (omega arith) in
+    cells-there text base q (omega arith) (omega arith) (λ first. let behind = (plain.behind first).0 in omega (arith, behind)) are.fit plain start_is)
+    (λ q from before. (or_parts _ _ (run.none (q - base) (omega arith) (omega arith))).0)
+    (ap (λ i. begins (class_at bytes i)) place ∙ starts.0)
     (λ q from before. sym (runs-there text base q (omega arith)) ∙ run.joined (q - base) (omega arith) (omega arith))
-    (sym (runs-there text base (base + end) (omega arith)) ∙ ap (runs_at (drop base text)) (let e : base + end - base ≡ end = omega arith in e) ∙ run.apart)
+    (sym (runs-there text base (base + end) (omega arith)) ∙ ap (runs_at bytes) (let e : base + end - base ≡ end = omega arith in e) ∙ run.apart)

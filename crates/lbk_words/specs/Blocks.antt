@@ -1,11 +1,13 @@
--- Words among ASCII, as bytes and their neighbours tell them.
-use Rattle.std.specs.Prelude.{◌≡◌, ℕ, ◌+◌, ◌-◌, ◌<◌, ◌≤◌, Bool, true, false, not, ◌&&◌, ◌||◌, ◌==◌, nat_le, nat_lt}
-use Rattle.std.specs.Prelude.{List, get_or, if◌then◌else◌}
-use Rattle.lbk_masks.specs.Sets.{is_set}
+-- Words among ASCII and letters of two bytes, as bytes and their neighbours tell them.
+use Rattle.std.specs.Prelude.{◌≡◌, ◌⊎◌, ℕ, zero, suc, ◌+◌, ◌-◌, ◌<◌, ◌≤◌, Bool, true, false, not, ◌&&◌, ◌||◌, ◌==◌}
+use Rattle.std.specs.Prelude.{nat_le, nat_lt, List, get_or, if◌then◌else◌}
+use Rattle.lbk_masks.specs.Sets.{is_set, meets, sets_in}
+use Rattle.lbk_words.specs.declared.letter_table.TheConstants.{FIRSTS, SECONDS}
 use Rattle.lbk_words.specs.declared.blocks.Marks.{Marks}
 use Rattle.lbk_words.specs.declared.blocks.Edges.{Edges}
+use Rattle.lbk_words.specs.declared.blocks.Wides.{Wides}
 
--- what a byte is to the rules WB5 to WB13b, where all bytes beside it are below 128
+-- what a byte is to the rules WB5 to WB13b, where the bytes beside it are below 128 or of letters of two bytes
 pub record Class : Type 0 where
   pub letter : Bool
   pub digit : Bool
@@ -35,23 +37,55 @@ goes_on c = begins c || c.low_line
 abbrev pub is_joined : Class → Class → Class → Bool
 is_joined before c after = goes_on c || ((c.mid_letter && (before.letter && after.letter)) || (c.mid_digit && (before.digit && after.digit)))
 
+-- byte i of 64 and the next one spell a letter
+abbrev pub is_first : List ℕ → ℕ → Bool
+is_first bytes i = nat_lt i 63 && meets (sets_in FIRSTS (get_or bytes i 0)) (sets_in SECONDS (get_or bytes (i + 1) 0))
+
+abbrev pub is_second : List ℕ → ℕ → Bool
+is_second bytes zero = false
+is_second bytes (suc i) = is_first bytes i
+
+abbrev pub is_either : List ℕ → ℕ → Bool
+is_either bytes i = is_first bytes i || is_second bytes i
+
+abbrev pub letter_class : Class
+letter_class = record { letter = true; digit = false; low_line = false; mid_letter = false; mid_digit = false }
+
 abbrev pub class_at : List ℕ → ℕ → Class
-class_at bytes i = class_of (get_or bytes i 0)
+class_at bytes i = if is_either bytes i then letter_class else class_of (get_or bytes i 0)
+
+-- a letter or a digit begins at a byte
+abbrev pub begins_at : List ℕ → ℕ → Bool
+begins_at bytes i = begins (class_at bytes i) && not (is_second bytes i)
 
 -- a byte is of a run
 abbrev pub runs_at : List ℕ → ℕ → Bool
 runs_at bytes i = is_joined (class_at bytes (i - 1)) (class_at bytes i) (class_at bytes (i + 1))
 
--- a byte and the next one are below 128
-abbrev pub ArePlain : List ℕ → ℕ → Type 0
-ArePlain bytes i = (get_or bytes i 0 < 128) × (get_or bytes (i + 1) 0 < 128)
+-- a byte is below 128, or of a letter of two bytes
+abbrev pub IsPlain : List ℕ → ℕ → Type 0
+IsPlain bytes i = (get_or bytes i 0 < 128) ⊎ (is_either bytes i ≡ true)
+
+-- so are a byte, and what is behind its scalar
+pub record ArePlain (bytes : List ℕ) (i : ℕ) : Type 0 where
+  pub here : IsPlain bytes i
+  pub next : IsPlain bytes (i + 1)
+  pub behind : is_first bytes i ≡ true → (i + 2 < 64) × IsPlain bytes (i + 2)
+
+-- this is what is known of the first 64 bytes from 128 on
+pub record AreWides (bytes : List ℕ) (wides : Wides) : Type 0 where
+  pub letters : (i : ℕ) → i < 64 → is_set wides.letters i ≡ is_either bytes i
+  pub seconds : (i : ℕ) → i < 64 → is_set wides.seconds i ≡ is_second bytes i
+  pub plain : (i : ℕ) → i < 63 → is_set wides.stops i ≡ false → ArePlain bytes i
+  pub ends : is_set wides.stops 63 ≡ true
 
 -- these are the marks of the first 64 bytes
 pub record AreMarks (bytes : List ℕ) (marks : Marks) : Type 0 where
   pub runs : (i : ℕ) → i < 63 → is_set marks.runs i ≡ runs_at bytes i
-  pub begins : (i : ℕ) → i < 63 → is_set marks.begins i ≡ begins (class_at bytes i)
+  pub begins : (i : ℕ) → i < 63 → is_set marks.begins i ≡ begins_at bytes i
   pub plain : (i : ℕ) → i < 63 → is_set marks.stops i ≡ false → ArePlain bytes i
   pub ends : is_set marks.stops 63 ≡ true
+  pub fit : (i : ℕ) → get_or bytes i 0 < 256
 
 -- one of two is so, and not both
 abbrev pub differ : Bool → Bool → Bool
@@ -64,6 +98,7 @@ runs_before bytes first i = nat_lt first i && runs_at bytes (i - 1)
 -- where runs begin and end from the byte `first` on, up to a byte that is left to steps
 pub record AreEdges (bytes : List ℕ) (first : ℕ) (found : Edges) : Type 0 where
   pub few : found.stop < 64
+  pub fit : (i : ℕ) → get_or bytes i 0 < 256
   pub edges : (i : ℕ) → i < 64 → is_set found.edges i ≡ (nat_lt i found.stop && (nat_le first i && differ (runs_at bytes i) (runs_before bytes first i)))
   pub plain : (i : ℕ) → first ≤ i → i < found.stop → ArePlain bytes i
-  pub begins : (i : ℕ) → first ≤ i → i < found.stop → runs_at bytes i ≡ true → runs_before bytes first i ≡ false → begins (class_at bytes i) ≡ true
+  pub begins : (i : ℕ) → first ≤ i → i < found.stop → runs_at bytes i ≡ true → runs_before bytes first i ≡ false → begins_at bytes i ≡ true

@@ -1,10 +1,11 @@
-//! Words among ASCII, found by bits of 64 bytes at a time.
+//! Words among ASCII and letters of two bytes, found by bits of 64 bytes at a time.
 
 ghost use Rattle.std.specs.Prelude.{◌≡◌, ◌⊎◌, ℕ, ◌+◌, ◌-◌, ◌<◌, ◌≤◌, ◌^◌, ◌&&◌, List, drop, length, nat_lt};
 ghost use Rattle.lbk_masks.specs.Sets.{is_set};
-ghost use Rattle.lbk_words.specs.Blocks.{AreEdges, AreMarks};
+ghost use Rattle.lbk_words.specs.Blocks.{AreEdges, AreMarks, AreWides};
 ghost use Rattle.lbk_words.specs.Filling.{IsFilled};
 
+use crate::letter_table::{FIRSTS, SECONDS};
 use crate::parts::fill_by_scalars;
 use crate::word::{Filled, Word};
 use lbk_masks::{HalfSets, first_set, kept_below, kept_from, wide, without_first};
@@ -15,8 +16,14 @@ pub(crate) const BLOCK: usize = 64;
 /// The last of them, whose next byte is not looked at.
 const LAST: usize = 63;
 
+/// The first byte that may be left to steps for the last one: the letter before a letter that the block's end cuts.
+const NEAR_LAST: usize = 61;
+
 /// Where more of 64 bytes than this are left to steps, a block costs more than it saves.
 const MANY: u32 = 20;
+
+/// How often steps go on up to a byte that is none of these. A block that is left more often costs more than it saves.
+const TURNS: u32 = 3;
 
 /// How many bytes then go by steps before a block is tried again.
 const PAUSE: usize = 512;
@@ -37,14 +44,26 @@ const MID_LETTERS: u8 = 80;
 
 const MID_DIGITS: u8 = 176;
 
+/// What is known of those of 64 bytes that are from 128 on, a bit each.
+#[derive(Clone, Copy)]
+pub(crate) struct Wides {
+    /// Which are of letters of two bytes.
+    pub(crate) letters: u64,
+    /// Which are the second of these.
+    pub(crate) seconds: u64,
+    /// Which are left to steps: strays, which are of no letter of two bytes, the last byte, and what is before one of
+    /// these.
+    pub(crate) stops: u64,
+}
+
 /// What is known of 64 bytes, a bit each.
 #[derive(Clone, Copy)]
 pub(crate) struct Marks {
     /// Which are of runs of letters, digits and low lines, or of a mark within one.
     pub(crate) runs: u64,
-    /// Which are letters or digits.
+    /// Which begin letters or digits.
     pub(crate) begins: u64,
-    /// Which are left to steps: those from 128 on, those before one, and the last.
+    /// Which are left to steps.
     pub(crate) stops: u64,
 }
 
@@ -57,22 +76,48 @@ pub(crate) struct Edges {
     pub(crate) stop: usize,
 }
 
+/// What is known of the first 64 bytes from 128 on.
+#[inline(always)]
+pub(crate) fn wides_of(bytes: &[u8]) -> Wides
+    requires { 64 ≤ length bytes.now }
+    ensures { AreWides bytes.now result }
+{
+    let wide = wide(bytes);
+    if wide == 0 {
+        return Wides {
+            letters: 0,
+            seconds: 0,
+            stops: 1 << LAST,
+        };
+    }
+    let firsts = FIRSTS.pairs(&SECONDS, bytes);
+    let seconds = firsts << 1;
+    let letters = firsts | seconds;
+    let strays = wide & !letters;
+    let near = strays | (strays >> 1) | (1 << LAST);
+    Wides {
+        letters,
+        seconds,
+        stops: near | (firsts & (near >> 1)),
+    }
+}
+
 /// The marks of the first 64 bytes.
 #[inline(always)]
-pub(crate) fn marks_of(bytes: &[u8]) -> Marks
-    requires { 64 ≤ length bytes.now }
+pub(crate) fn marks_of(bytes: &[u8], wides: Wides) -> Marks
+    requires length { 64 ≤ length bytes.now }
+    requires wides { AreWides bytes.now wides }
     ensures { AreMarks bytes.now result }
 {
-    let letters = HALVES.members(LETTERS, bytes);
+    let letters = HALVES.members(LETTERS, bytes) | wides.letters;
     let digits = HALVES.members(DIGITS, bytes);
     let low_lines = HALVES.members(LOW_LINES, bytes);
     let mid_letters = between(HALVES.members(MID_LETTERS, bytes), letters);
     let mid_digits = between(HALVES.members(MID_DIGITS, bytes), digits);
-    let wide = wide(bytes);
     Marks {
         runs: letters | digits | low_lines | (mid_letters | mid_digits),
-        begins: letters | digits,
-        stops: wide | (wide >> 1) | (1 << LAST),
+        begins: (letters | digits) & !wides.seconds,
+        stops: wides.stops,
     }
 }
 
@@ -146,22 +191,45 @@ pub(crate) fn fill_by_marks(text: &[u8], start: Filled, out: &mut [Word]) -> Fil
     ensures further { result.count < length out.old → start.at < result.at }
 {
     let base = start.at;
-    let marks = marks_of(&text[base..]);
-    if MANY < marks.stops.count_ones() {
-        return fill_by_scalars(text, start, text.len().min(base.saturating_add(PAUSE)), out);
+    let pause = text.len().min(base.saturating_add(PAUSE));
+    let wides = wides_of(&text[base..]);
+    if MANY < wides.stops.count_ones() {
+        return fill_by_scalars(text, start, pause, out);
     }
+    let marks = marks_of(&text[base..], wides);
     let mut here = start;
+    let mut turns = TURNS;
     while here.count < out.len() && here.at < base + LAST {
         let found = edges_from(marks, here.at - base);
         let there = fill_runs(base, found, here, out);
         if there.count == out.len() {
             return there;
         }
-        if found.stop == LAST && base < there.at {
+        if NEAR_LAST <= found.stop && base < there.at {
             return there;
         }
-        let next = (base + found.stop).max(there.at) + 1;
+        if turns == 0 {
+            return fill_by_scalars(text, there, pause, out);
+        }
+        turns -= 1;
+        let next = (base + behind_stops(marks.stops, found.stop)).max(there.at + 1);
         here = fill_by_scalars(text, there, next, out);
     }
     here
+}
+
+/// The first byte after one that is not left to steps, or the first after the block.
+#[inline(always)]
+fn behind_stops(stops: u64, stop: usize) -> usize
+    requires { stop < 64 }
+    ensures { (stop < result) × (result ≤ 64) }
+{
+    if stop == LAST {
+        return BLOCK;
+    }
+    let others = kept_from(!stops, stop + 1);
+    if others == 0 {
+        return BLOCK;
+    }
+    first_set(others)
 }

@@ -1,13 +1,16 @@
 //! Where the parts of a text end: its cutting at word boundaries (UAX #29, section 4).
 
-ghost use Rattle.std.specs.Prelude.{◌≡◌, ℕ, ◌-◌, ◌<◌, ◌≤◌, Bool, List, get_or, length};
+ghost use Rattle.std.specs.Prelude.{◌≡◌, ℕ, ◌+◌, ◌-◌, ◌<◌, ◌≤◌, ◌++◌, Bool, List, get_or, length, replicate};
 ghost use Rattle.lbk_masks.specs.Sets.{is_set};
 ghost use Rattle.lbk_words.specs.Ends.{AreEnds, AreFound, is_pair};
 ghost use Rattle.lbk_words.specs.Places.{IsFirstPiece};
 
-use crate::blocks::{BLOCK, marks_of};
-use crate::parts::part_end;
+use crate::blocks::{BLOCK, marks_of, wides_of};
+use crate::parts::{First, UNREAD, part_end};
 use lbk_masks::{HalfSets, first_set, kept_below, kept_from, without_first};
+
+/// Fewer bytes than this are left to steps.
+const FEW: usize = 16;
 
 /// The sets of the bytes of which two are one part.
 const PAIRS: HalfSets = HalfSets {
@@ -28,6 +31,8 @@ pub struct PartEnds {
     base: usize,
     /// A bit for each byte at which a part ends.
     ends: u64,
+    /// The first scalar of the next part, if it was read.
+    first: First,
 }
 
 impl PartEnds {
@@ -35,7 +40,11 @@ impl PartEnds {
     pub fn none() -> PartEnds
         ensures { (text : List ℕ) (at : ℕ) → AreFound text at result }
     {
-        PartEnds { base: 0, ends: 0 }
+        PartEnds {
+            base: 0,
+            ends: 0,
+            first: UNREAD,
+        }
     }
 
     /// The end of the part that begins at a byte.
@@ -46,11 +55,15 @@ impl PartEnds {
         ensures part { (is_word : Bool) × IsFirstPiece text.now start result is_word }
         ensures found { AreFound text.now result self.new }
     {
+        let first = self.first;
         if self.ends == 0 {
             *self = ends_from(text, start);
         }
+        self.first = UNREAD;
         if self.ends == 0 {
-            return part_end(text, start);
+            let part = part_end(text, start, first);
+            self.first = part.next;
+            return part.end;
         }
         let end = first_set(self.ends);
         self.ends = without_first(self.ends);
@@ -58,23 +71,59 @@ impl PartEnds {
     }
 }
 
-/// The ends that bits tell of the parts from a byte on.
+/// The ends that bits tell of the parts from a byte on. They tell little where a scalar of three bytes or more comes,
+/// or a few bytes are left.
 fn ends_from(text: &[u8], start: usize) -> PartEnds
     requires { start < length text.now }
     ensures { AreFound text.now start result }
 {
-    if text.len() < BLOCK
-        || text.len() - start < 2
-        || 0x80 <= text[start]
-        || 0x80 <= text[start + 1]
-    {
+    if text.len() - start < FEW || !are_told(text[start], text[start + 1]) {
         return PartEnds::none();
+    }
+    if text.len() < BLOCK {
+        return ends_of_few(text, start);
     }
     let base = start.min(text.len() - BLOCK);
     PartEnds {
         base,
         ends: ends_in(&text[base..], start - base),
+        first: UNREAD,
     }
+}
+
+/// The same of a text of fewer than 64 bytes, of which the last two are left to steps.
+fn ends_of_few(text: &[u8], start: usize) -> PartEnds
+    requires { (start + 2 ≤ length text.now) × (length text.now < 64) }
+    ensures { AreFound text.now start result }
+{
+    PartEnds {
+        base: 0,
+        ends: kept_below(ends_in(&padded(text), start), text.len() - 2),
+        first: UNREAD,
+    }
+}
+
+/// The bytes of a text, and zeros behind them.
+#[inline(always)]
+fn padded(text: &[u8]) -> [u8; BLOCK]
+    requires { length text.now < 64 }
+    ensures { result ≡ text.now ++ replicate (64 - length text.now) 0 }
+{
+    let mut bytes = [0; BLOCK];
+    bytes[..text.len()].copy_from_slice(text);
+    bytes
+}
+
+/// Whether bits are likely to tell the end of a part that begins with these two bytes.
+#[inline(always)]
+fn are_told(first: u8, next: u8) -> bool {
+    is_usual(first) && (0x80 <= first || is_usual(next))
+}
+
+/// Whether a byte is below 128, or one with which most letters of two bytes begin.
+#[inline(always)]
+fn is_usual(byte: u8) -> bool {
+    byte < 0x80 || (0xC3 <= byte && byte <= 0xDB && byte != 0xD7)
 }
 
 /// Where parts end among the first 64 bytes, after one at which one begins.
@@ -83,7 +132,7 @@ fn ends_in(bytes: &[u8], first: usize) -> u64
     requires { (64 ≤ length bytes.now) × (first < 63) }
     ensures { (stop : ℕ) × AreEnds bytes.now first stop result }
 {
-    let marks = marks_of(bytes);
+    let marks = marks_of(bytes, wides_of(bytes));
     let runs = kept_from(marks.runs, first);
     let before = runs << 1;
     let others = (runs & !before) & !marks.begins;

@@ -11,6 +11,7 @@ mod filling;
 mod kind_table;
 mod kinds;
 pub mod laws;
+mod letter_table;
 mod parts;
 mod scalars;
 mod step_table;

@@ -20,6 +20,7 @@ returns-clause-edges c = λ bytes are.
     λ i less. or_parts _ _ (sym (set-or c.kept_from.result others i) ∙ c.first_set-stop.ensures.lowest.none i less) in
     record {
       few = c.first_set-stop.ensures.within;
+      fit = are.fit;
       edges = λ i few. ⊎_elim
           (λ (less : i < stop).
           c.kept_below.ensures.same i less ∙ edge-at bytes first marks.runs kept i are.runs c.kept_from-runs.ensures (omega (arith, c.first_set-stop.ensures.within))

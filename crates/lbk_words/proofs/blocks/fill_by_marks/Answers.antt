@@ -27,6 +27,19 @@ returns-then-base-there-clause-filled c = λ from f.
     let edges = c.edges_from-found.ensures.edges (drop base c.args.text.now) (rest c.args.text.now base c.marks_of-marks.result c.marks_of-marks.ensures) in
     c.fill_runs-there.ensures.filled c.args.text.now from c.requires.1 edges (c.loop-here.invariant.filled from f)
 
+pub returns-then-turns-eq0-clause-filled : goal.returns-then-turns-eq0-clause-filled
+returns-then-turns-eq0-clause-filled c = λ from f.
+    let base = c.args.start.at in
+    let edges = c.edges_from-found.ensures.edges (drop base c.args.text.now) (rest c.args.text.now base c.marks_of-marks.result c.marks_of-marks.ensures) in
+    c.fill_by_scalars-then-turns-eq0.ensures.filled from (c.fill_runs-there.ensures.filled c.args.text.now from c.requires.1 edges (c.loop-here.invariant.filled from f))
+
+pub returns-then-turns-eq0-clause-onward : goal.returns-then-turns-eq0-clause-onward
+returns-then-turns-eq0-clause-onward c =
+    let base = c.args.start.at in
+    let bytes = drop base c.args.text.now in
+    let on = c.fill_runs-there.ensures.onward bytes (c.edges_from-found.ensures.edges bytes (rest c.args.text.now base c.marks_of-marks.result c.marks_of-marks.ensures)) in
+    omega (arith, c.fill_by_scalars-then-turns-eq0.ensures.onward, c.fill_runs-there.ensures.count)
+
 pub loop-here-preserved : goal.loop-here-preserved
 loop-here-preserved c =
     let base = c.args.start.at in

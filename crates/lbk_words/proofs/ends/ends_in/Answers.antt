@@ -1,4 +1,4 @@
-use Rattle.std.proofs.Common.{◌≡◌, ◌⊎◌, ℕ, ◌-◌, ◌*◌, ◌%◌, ◌^◌, ◌<◌, ◌≤◌, Bool, false, not, ◌&&◌, ◌||◌, bit_and, bit_or, nat_lt, sym, ap, ap₂, ◌∙◌, ⊎_elim, arith, w64}
+use Rattle.std.proofs.Common.{◌≡◌, ℕ, ◌-◌, ◌*◌, ◌%◌, ◌^◌, ◌<◌, ◌≤◌, false, not, ◌&&◌, ◌||◌, bit_and, bit_or, nat_lt, sym, ap, ap₂, ◌∙◌, ⊎_elim, arith, w64}
 use Rattle.std.specs.Int.{bit_not}
 use Rattle.std.specs.Int.Bits.{and_lt}
 use Rattle.std.proofs.lemmas.Nat.{or_lt}
@@ -38,6 +38,7 @@ returns c =
       stop,
       record {
         few = below;
+        fit = are.fit;
         told = λ i few. ⊎_elim
             (λ (after : first < i).
             c.kept_from-2.ensures.same i (omega arith) few

@@ -5,20 +5,24 @@ use Rattle.lbk_words.proofs.parts.part_end.Goals as goal
 
 pub loop-at-init : goal.loop-at-init
 loop-at-init c =
-    let first = c.scalar_at-first in
+    let first = c.read_first-first in
+    let read = first.ensures.read first.ensures.some in
     record {
-      few = c.first_row-row.ensures.few;
-      within = first.ensures.read.within;
-      part = first-in_row c.args.text.now c.args.start first.result.code first.result.end c.first_row-row.result first.ensures.read c.first_row-row.ensures;
+      few = read.2.few;
+      within = read.1.within;
+      part = first-in_row c.args.text.now c.args.start read.0 first.result.end first.result.row read.1 read.2;
     }
 
-pub returns-then-step : goal.returns-then-step
-returns-then-step c =
+pub returns-then-step-clause-end : goal.returns-then-step-clause-end
+returns-then-step-clause-end c =
     let l = c.loop-at in
     let next = c.scalar_at-next in (
       row_word l.row,
       row-ends c.args.text.now c.args.start l.at l.row next.result.code next.result.end c.step_of-step.result l.invariant.part next.ensures.read c.step_of-step.ensures c.if-step.true,
     )
+
+pub returns-then-step-clause-next : goal.returns-then-step-clause-next
+returns-then-step-clause-next c = λ _. (c.scalar_at-next.result.code, c.scalar_at-next.ensures.read, c.first_row.ensures)
 
 pub loop-at-preserved : goal.loop-at-preserved
 loop-at-preserved c =
@@ -30,7 +34,7 @@ loop-at-preserved c =
       part = row-goes-on c.args.text.now c.args.start l.at l.row next.result.code next.result.end c.step_of-step.result l.invariant.part next.ensures.read c.step_of-step.ensures c.if-step.false;
     }
 
-pub returns : goal.returns
-returns c =
+pub returns-clause-end : goal.returns-clause-end
+returns-clause-end c =
     let l = c.loop-at in
     let part = l.invariant.part in (row_word l.row, walk-end c.args.text.now c.args.start l.at part.context (row_word l.row) part.walk c.loop-at-test.false)
