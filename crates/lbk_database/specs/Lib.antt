@@ -2,3 +2,4 @@
 pub mod Names
 pub mod Digests
 pub mod Causes
+pub mod Claims

@@ -2,9 +2,11 @@
 #![tactic(auto)]
 
 mod causes;
+mod claims;
 mod digests;
 mod names;
 
 pub use causes::cause_text;
+pub use claims::is_cut;
 pub use digests::{first_unpublished, is_published};
 pub use names::file_name;

@@ -4,4 +4,5 @@ pub mod LawLemmas
 pub mod OverlayLemmas
 pub mod RowLemmas
 pub mod SampleLemmas
+pub mod TakenLemmas
 pub mod Worked

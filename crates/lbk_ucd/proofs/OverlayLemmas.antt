@@ -9,6 +9,7 @@ use Rattle.std.proofs.lemmas.List.Elements.{All-push}
 use Rattle.std.proofs.lemmas.List.Folds.{find-append, list_any-append, list_any_at, list_any_none}
 use Rattle.std.proofs.lemmas.List.Quantifiers.{all_pairs_push}
 use Rattle.lbk_ucd.specs.declared.ranges.Row.{Row}
+use Rattle.lbk_masks.specs.Bits.{is_marked}
 use Rattle.lbk_ucd.specs.Ranges.{AreMarked, IsInOrder, IsOverlay, IsRange}
 use Rattle.lbk_ucd.specs.Rows.{holds, shares, first_value, value_at, AreApart}
 use Rattle.lbk_ucd.proofs.RowLemmas.{elsewhere, fails_each, find_none, shared_code}
@@ -211,9 +212,9 @@ module _ {V : Type 0} where
       false≢true (sym (elsewhere code row (get_or rows k d) there (fails_each (shares row.first row.last) rows none k d lt)) ∙ here))
 
   -- one more row, whose codes are marked
-  pub marked_more : (rows : List (Row V)) (row : Row V) (old new : List Bool) → AreMarked rows old
-      → ((k : ℕ) → row.first ≤ k → k ≤ row.last → get_or new k false ≡ true)
-      → ((k : ℕ) → (k < row.first) ⊎ (row.last < k) → get_or new k false ≡ get_or old k false)
+  pub marked_more : (rows : List (Row V)) (row : Row V) (old new : List ℕ) → AreMarked rows old
+      → ((k : ℕ) → row.first ≤ k → k ≤ row.last → is_marked new k ≡ true)
+      → ((k : ℕ) → (k < row.first) ⊎ (row.last < k) → is_marked new k ≡ is_marked old k)
       → AreMarked (rows ++ row ∷ []) new
   marked_more rows row old new marked inside outside code =
       elim (cases_lt code row.first) [
@@ -224,7 +225,7 @@ module _ {V : Type 0} where
         ]
       ]
     where
-      other : (code < row.first) ⊎ (row.last < code) → holds code row ≡ false → get_or new code false ≡ list_any (holds code) (rows ++ row ∷ [])
+      other : (code < row.first) ⊎ (row.last < code) → holds code row ≡ false → is_marked new code ≡ list_any (holds code) (rows ++ row ∷ [])
       other out none = outside code out ∙ (marked code ∙ sym (any_push (holds code) rows row ∙ (rw none refl)))
 
   -- a list of which an element passes has one that passes a wider test
@@ -237,15 +238,15 @@ module _ {V : Type 0} where
       go false is more = rw (more (rw is at some)) (or_true (q row))
 
   -- a marked code of a range is shared
-  pub shares_marked : (rows : List (Row V)) (marks : List Bool) (first last k : ℕ) → AreMarked rows marks → first ≤ k → k ≤ last
-      → get_or marks k false ≡ true → list_any (shares first last) rows ≡ true
-  shares_marked rows marks first last k marked low high here =
+  pub shares_marked : (rows : List (Row V)) (words : List ℕ) (first last k : ℕ) → AreMarked rows words → first ≤ k → k ≤ last
+      → is_marked words k ≡ true → list_any (shares first last) rows ≡ true
+  shares_marked rows words first last k marked low high here =
       any_wider (holds k) (shares first last) rows (λ row held. grind (arith, nat_tests)) (sym (marked k) ∙ here)
 
   -- and with no marked code none is
-  pub shares_unmarked : (rows : List (Row V)) (marks : List Bool) (first last : ℕ) → All IsRange rows → AreMarked rows marks → first ≤ last
-      → ((k : ℕ) → first ≤ k → k ≤ last → get_or marks k false ≡ false) → list_any (shares first last) rows ≡ false
-  shares_unmarked rows marks first last ranges marked rises none = list_any_none (shares first last) rows (λ k d lt. go k d lt (shares first last (get_or rows k d)) refl)
+  pub shares_unmarked : (rows : List (Row V)) (words : List ℕ) (first last : ℕ) → All IsRange rows → AreMarked rows words → first ≤ last
+      → ((k : ℕ) → first ≤ k → k ≤ last → is_marked words k ≡ false) → list_any (shares first last) rows ≡ false
+  shares_unmarked rows words first last ranges marked rises none = list_any_none (shares first last) rows (λ k d lt. go k d lt (shares first last (get_or rows k d)) refl)
     where
       go : (k : ℕ) (d : Row V) → k < length rows → (meets : Bool) → shares first last (get_or rows k d) ≡ meets → shares first last (get_or rows k d) ≡ false
       go k d lt false is = is

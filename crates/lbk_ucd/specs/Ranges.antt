@@ -1,7 +1,8 @@
 -- Rows in the order of their codes, rows laid over others, and the marks of the codes that rows hold.
-use Rattle.std.specs.Prelude.{ℕ, false, Bool, ◌<◌, ◌≤◌, ◌≡◌, List, slice_index_or}
+use Rattle.std.specs.Prelude.{ℕ, ◌<◌, ◌≤◌, ◌≡◌, List}
 use Rattle.std.specs.Option.{option_or}
 use Rattle.std.specs.List.{All, AllPairs, list_any}
+use Rattle.lbk_masks.specs.Bits.{is_marked}
 use Rattle.lbk_ucd.specs.declared.ranges.Row.{Row}
 use Rattle.lbk_ucd.specs.Rows.{holds, first_value}
 
@@ -19,5 +20,5 @@ abbrev pub IsOverlay : {V : Type 0} → List (Row V) → List (Row V) → List (
 IsOverlay under over result = (code : ℕ) → first_value code result ≡ option_or (first_value code over) (first_value code under)
 
 -- a code is marked exactly if a row holds it
-abbrev pub AreMarked : {V : Type 0} → List (Row V) → List Bool → Type 0
-AreMarked rows marks = (code : ℕ) → slice_index_or marks code false ≡ list_any (holds code) rows
+abbrev pub AreMarked : {V : Type 0} → List (Row V) → List ℕ → Type 0
+AreMarked rows words = (code : ℕ) → is_marked words code ≡ list_any (holds code) rows

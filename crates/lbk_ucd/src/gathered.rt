@@ -25,7 +25,7 @@ pub(crate) struct Gathered<V> {
     ghost ranges: { All IsRange rows.items },
     ghost default_ranges: { All IsRange defaults.items },
     ghost apart: { AllPairs AreApart rows.items },
-    ghost marked: { AreMarked rows.items taken.marks.items },
+    ghost marked: { AreMarked rows.items taken.words.items },
     ghost few: { length rows.items + length defaults.items ≤ MOST_ROWS },
 }
 

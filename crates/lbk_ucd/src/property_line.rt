@@ -1,11 +1,13 @@
 //! What a line of a property file says (UAX #44, section 4.2).
 
-ghost use Rattle.std.specs.Prelude.{◌≡◌, ◌==◌, ◌-◌, ◌≤◌, length};
+ghost use Rattle.std.specs.Prelude.{◌≡◌, ◌==◌, ◌+◌, ◌-◌, ◌≤◌, drop, length};
 ghost use Rattle.std.specs.List.{prefix_len, suffix_len, position_or_len, before_first, after_first, list_all};
 ghost use Rattle.std.specs.Option.{option_map};
 ghost use Rattle.lbk_ucd.specs.PropertyLine.{is_space, is_name_byte, code_of, pair_of, range_of, name_of, entry_of};
 ghost use Rattle.lbk_ucd.specs.PropertyLine.{default_of, meaning_of, trimmed, trimmed_start, without_return};
 ghost use Rattle.lbk_ucd.specs.Shown.{shown_entry, shown_meaning, shown_name};
+
+use memchr::memchr;
 
 /// The codes from `first` to `last`, and the name of a value.
 #[derive(Clone, Copy)]
@@ -57,8 +59,9 @@ fn default_of(comment: &[u8]) -> Option<Entry<'_>>
 fn entry_of(bytes: &[u8], single: bool) -> Option<Entry<'_>>
     ensures { option_map shown_entry result ≡ entry_of single bytes.now }
 {
-    let (first, last) = range_of(trimmed(before(bytes, b';')), single)?;
-    let name = name_of(trimmed(after(bytes, b';')))?;
+    let place = place_of(bytes, b';');
+    let (first, last) = range_of(trimmed(&bytes[..place]), single)?;
+    let name = name_of(trimmed(behind(bytes, place)))?;
     Some(Entry { first, last, name })
 }
 
@@ -198,7 +201,13 @@ fn before(bytes: &[u8], byte: u8) -> &[u8]
 fn after(bytes: &[u8], byte: u8) -> &[u8]
     ensures { result.now ≡ after_first (λ b. b == byte) bytes.now }
 {
-    let place = place_of(bytes, byte);
+    behind(bytes, place_of(bytes, byte))
+}
+
+/// What stands behind a place, or nothing past the end.
+fn behind(bytes: &[u8], place: usize) -> &[u8]
+    ensures { result.now ≡ drop (place + 1) bytes.now }
+{
     if place < bytes.len() {
         &bytes[place + 1..]
     } else {
@@ -211,10 +220,8 @@ pub(crate) fn place_of(bytes: &[u8], byte: u8) -> usize
     ensures within { result ≤ length bytes.now }
     ensures place { result ≡ position_or_len (λ b. b == byte) bytes.now }
 {
-    for (place, b) in bytes.iter().enumerate() {
-        if *b == byte {
-            return place;
-        }
+    match memchr(byte, bytes) {
+        Some(place) => place,
+        None => bytes.len(),
     }
-    bytes.len()
 }

@@ -1,26 +1,32 @@
 //! Which codes rows hold.
-ghost use Rattle.std.specs.Prelude.{◌≡◌, ◌<◌, ◌≤◌, ◌⊎◌, ℕ, true, false, [], length, slice_index_or, OnOk};
-ghost use Rattle.lbk_ucd.specs.declared.taken.TheConstants.{CODES};
+ghost use Rattle.std.specs.Prelude.{◌≡◌, ◌+◌, ◌*◌, ◌^◌, ◌<◌, ◌≤◌, ◌⊎◌, ◌&&◌, ℕ, true, false, [], length, nat_le, OnOk};
+ghost use Rattle.lbk_masks.specs.Bits.{is_marked};
+ghost use Rattle.lbk_masks.specs.Sets.{is_set};
+ghost use Rattle.lbk_ucd.specs.declared.taken.TheConstants.{WORDS};
 
+use lbk_masks::{join, kept_from};
 use std::alloc::{AllocError, Global};
 
-/// How many codes there are.
-const CODES: usize = 0x11_0000;
+/// How many codes a word has bits for.
+const BITS: usize = 64;
 
-/// A mark for each code, or none at all before a code is taken.
+/// How many words have a bit for each code.
+const WORDS: usize = 17_408;
+
+/// A bit for each code, or none at all before a code is taken.
 #[derive(Drop)]
 pub(crate) struct Taken {
-    marks: Vec<bool>,
-    ghost sized: { 0 < length marks.items → length marks.items ≡ CODES },
+    words: Vec<u64>,
+    ghost sized: { 0 < length words.items → length words.items ≡ WORDS },
 }
 
 impl Taken {
     /// No code is taken.
     pub(crate) fn new(alloc: Global) -> Self
-        ensures { result.marks.items ≡ [] }
+        ensures { result.words.items ≡ [] }
     {
         Taken {
-            marks: Vec::new(alloc),
+            words: Vec::new(alloc),
         }
     }
 
@@ -28,22 +34,19 @@ impl Taken {
     pub(crate) fn any(&self, first: u32, last: u32) -> bool
         requires rises { first ≤ last }
         requires within { last ≤ 0x10FFFF }
-        ensures yes { result ≡ true → (k : ℕ) × (first ≤ k) × (k ≤ last)
-            × (slice_index_or self.now.marks.items k false ≡ true) }
-        ensures no { result ≡ false → (k : ℕ) → first ≤ k → k ≤ last → slice_index_or self.now.marks.items k false
-            ≡ false }
+        ensures yes { result ≡ true → (k : ℕ) × (first ≤ k) × (k ≤ last) × (is_marked self.now.words.items k ≡ true) }
+        ensures no { result ≡ false → (k : ℕ) → first ≤ k → k ≤ last → is_marked self.now.words.items k ≡ false }
     {
-        !self.marks.is_empty() && any_marked(&self.marks, first as usize, last as usize)
+        !self.words.is_empty() && any_marked(&self.words, first as usize, last as usize)
     }
 
-    /// Makes room for marks. Which codes are taken stays.
+    /// Makes room for the bits. Which codes are taken stays.
     pub(crate) fn reserve(&mut self) -> Result<(), AllocError>
-        ensures same { (k : ℕ) → slice_index_or self.new.marks.items k false
-            ≡ slice_index_or self.old.marks.items k false }
-        ensures room { OnOk result (length self.new.marks.items ≡ CODES) }
+        ensures same { (k : ℕ) → is_marked self.new.words.items k ≡ is_marked self.old.words.items k }
+        ensures room { OnOk result (length self.new.words.items ≡ WORDS) }
     {
-        if self.marks.is_empty() {
-            self.marks.resize(CODES, false)?;
+        if self.words.is_empty() {
+            self.words.resize(WORDS, 0)?;
         }
         Ok(())
     }
@@ -52,27 +55,61 @@ impl Taken {
     pub(crate) fn add(&mut self, first: u32, last: u32)
         requires rises { first ≤ last }
         requires within { last ≤ 0x10FFFF }
-        requires room { length self.old.marks.items ≡ CODES }
-        ensures inside { (k : ℕ) → first ≤ k → k ≤ last → slice_index_or self.new.marks.items k false ≡ true }
-        ensures outside { (k : ℕ) → (k < first) ⊎ (last < k) → slice_index_or self.new.marks.items k false
-            ≡ slice_index_or self.old.marks.items k false }
+        requires room { length self.old.words.items ≡ WORDS }
+        ensures inside { (k : ℕ) → first ≤ k → k ≤ last → is_marked self.new.words.items k ≡ true }
+        ensures outside { (k : ℕ) → (k < first) ⊎ (last < k) → is_marked self.new.words.items k
+            ≡ is_marked self.old.words.items k }
     {
-        for code in first as usize..last as usize + 1 {
-            self.marks[code] = true;
-        }
+        mark_all(&mut self.words, first as usize, last as usize);
     }
 }
 
-/// Whether one of the marks from `first` to `last` is set.
-fn any_marked(marks: &[bool], first: usize, last: usize) -> bool
+/// Sets the bits of the codes from `first` to `last`.
+fn mark_all(words: &mut [u64], first: usize, last: usize)
+    requires { (last ≤ 0x10FFFF) × (last < 64 * length words.old) }
+    ensures inside { (k : ℕ) → first ≤ k → k ≤ last → is_marked words.new k ≡ true }
+    ensures outside { (k : ℕ) → (k < first) ⊎ (last < k) → is_marked words.new k ≡ is_marked words.old k }
+{
+    for word in first / BITS..last / BITS + 1 {
+        join(words, word, bits_within(word, first, last));
+    }
+}
+
+/// Whether a code from `first` to `last` has its bit set.
+fn any_marked(words: &[u64], first: usize, last: usize) -> bool
     requires rises { first ≤ last }
-    requires within { last < length marks.now }
-    ensures yes { result ≡ true → (k : ℕ) × (first ≤ k) × (k ≤ last) × (slice_index_or marks.now k false ≡ true) }
-    ensures no { result ≡ false → (k : ℕ) → first ≤ k → k ≤ last → slice_index_or marks.now k false ≡ false }
+    requires within { (last ≤ 0x10FFFF) × (last < 64 * length words.now) }
+    ensures yes { result ≡ true → (k : ℕ) × (first ≤ k) × (k ≤ last) × (is_marked words.now k ≡ true) }
+    ensures no { result ≡ false → (k : ℕ) → first ≤ k → k ≤ last → is_marked words.now k ≡ false }
 {
     let mut any = false;
-    for code in first..last + 1 {
-        any |= marks[code];
+    for word in first / BITS..last / BITS + 1 {
+        any |= words[word] & bits_within(word, first, last) != 0;
     }
     any
+}
+
+/// The bits of a word that stand for codes from `first` to `last`.
+#[inline(always)]
+fn bits_within(word: usize, first: usize, last: usize) -> u64
+    requires { (word < 2 ^ 32) × (last < 2 ^ 32) }
+    ensures { (i : ℕ) → i < 64 → is_set result i ≡ (nat_le first (64 * word + i) && nat_le (64 * word + i) last) }
+{
+    bits_from(word, first) & !bits_from(word, last + 1)
+}
+
+/// The bits of a word that stand for codes from `first` on.
+#[inline(always)]
+fn bits_from(word: usize, first: usize) -> u64
+    requires { word < 2 ^ 32 }
+    ensures { (i : ℕ) → i < 64 → is_set result i ≡ nat_le first (64 * word + i) }
+{
+    let start = BITS * word;
+    if first <= start {
+        return u64::MAX;
+    }
+    if start + BITS <= first {
+        return 0;
+    }
+    kept_from(u64::MAX, first - start)
 }

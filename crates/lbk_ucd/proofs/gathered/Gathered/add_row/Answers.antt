@@ -14,5 +14,5 @@ pub invariant_of-self-2-clause-marked : goal.invariant_of-self-2-clause-marked
 invariant_of-self-2-clause-marked g c =
     let self = c.args.self.now in
     rw c.in_ok-push.ensures.items
-    (marked_more self.rows.items c.args.row c.reserve.new.self.marks.items c.add.new.self.marks.items
+    (marked_more self.rows.items c.args.row c.reserve.new.self.words.items c.add.new.self.words.items
     (λ code. c.reserve.ensures.same code ∙ self.marked code) c.add.ensures.inside c.add.ensures.outside)

@@ -1,5 +1,6 @@
-use Rattle.std.proofs.Common.{Bool, true, false, ◌≡◌, ◌≤◌, List, ℕ, refl, sym, get_or}
+use Rattle.std.proofs.Common.{Bool, true, false, ◌≡◌, ◌≤◌, List, ℕ, refl, sym}
 use Rattle.std.specs.List.{All, list_any}
+use Rattle.lbk_masks.specs.Bits.{is_marked}
 use Rattle.lbk_ucd.specs.declared.ranges.Row.{Row}
 use Rattle.lbk_ucd.specs.Ranges.{AreMarked, IsRange}
 use Rattle.lbk_ucd.specs.Rows.{shares}
@@ -7,16 +8,16 @@ use Rattle.lbk_ucd.proofs.OverlayLemmas.{shares_marked, shares_unmarked}
 use Rattle.lbk_ucd.proofs.gathered.Gathered.any_shares.Goals as goal
 
 -- by whether a code of the range is marked
-told : {V : Type 0} (rows : List (Row V)) (marks : List Bool) (first last : ℕ) (found : Bool) → All IsRange rows → AreMarked rows marks → first ≤ last
-    → (found ≡ true → (k : ℕ) × (first ≤ k) × (k ≤ last) × (get_or marks k false ≡ true))
-    → (found ≡ false → (k : ℕ) → first ≤ k → k ≤ last → get_or marks k false ≡ false)
+told : {V : Type 0} (rows : List (Row V)) (words : List ℕ) (first last : ℕ) (found : Bool) → All IsRange rows → AreMarked rows words → first ≤ last
+    → (found ≡ true → (k : ℕ) × (first ≤ k) × (k ≤ last) × (is_marked words k ≡ true))
+    → (found ≡ false → (k : ℕ) → first ≤ k → k ≤ last → is_marked words k ≡ false)
     → found ≡ list_any (shares first last) rows
-told rows marks first last true ranges marked rises one other =
+told rows words first last true ranges marked rises one other =
     let here = one refl in
-    sym (shares_marked rows marks first last here.0 marked here.1 here.2 here.3)
-told rows marks first last false ranges marked rises one other = sym (shares_unmarked rows marks first last ranges marked rises (other refl))
+    sym (shares_marked rows words first last here.0 marked here.1 here.2 here.3)
+told rows words first last false ranges marked rises one other = sym (shares_unmarked rows words first last ranges marked rises (other refl))
 
 pub returns : goal.returns
 returns g c =
     let self = c.args.self.now in
-    told self.rows.items self.taken.marks.items c.args.first c.args.last c.any.result self.ranges self.marked c.requires.rises c.any.ensures.yes c.any.ensures.no
+    told self.rows.items self.taken.words.items c.args.first c.args.last c.any.result self.ranges self.marked c.requires.rises c.any.ensures.yes c.any.ensures.no
