@@ -1,12 +1,10 @@
 -- Bits of numbers of 64 bits.
-use Rattle.std.proofs.Common.{◌≡◌, ◌≢◌, ◌⊎◌, ℕ, zero, suc, ◌+◌, ◌-◌, ◌*◌, ◌/◌, ◌%◌, ◌^◌, ◌==◌, ◌<◌, ◌≤◌, min, true, false, leb, List, length, refl, sym, ap, ◌∙◌, ⊎_elim, inl, inr, arith, w64}
-use Rattle.std.specs.Int.{bit_at, bit_not, trailing_zeros}
+use Rattle.std.proofs.Common.{◌≡◌, ℕ, zero, suc, ◌+◌, ◌-◌, ◌^◌, ◌==◌, ◌<◌, ◌≤◌, true, false, leb, List, length, refl, sym, ap, ◌∙◌, ⊎_elim, arith, w64}
+use Rattle.std.specs.Int.{trailing_zeros}
 use Rattle.std.specs.Int.Count.{trailing_of_zero}
-use Rattle.std.proofs.lemmas.Bool.{cases_lt, eqb-true, le-leb, lt-leb}
-use Rattle.std.proofs.lemmas.Bool.Decides.{eqb_tells}
-use Rattle.std.proofs.lemmas.Nat.{and_mask, and_le_l, and_le_r, pow_below, trailing_le}
-use Rattle.std.proofs.lemmas.Nat.Bits.{bit_at-lt, bit_at-trailing_zeros, bit_at-suc, bit_at-zero, bit_at_and, bit_at_lowest, bit_at_not, bit_at_ones, bit_at_ones_above}
-use lib.Bits.{bit_and}
+use Rattle.std.proofs.lemmas.Bool.{cases_lt, le-leb, lt-leb}
+use Rattle.std.proofs.lemmas.Nat.{trailing_le}
+use Rattle.std.proofs.lemmas.Nat.Bits.{bit_at-trailing_zeros, bit_at_ones}
 use Rattle.lbk_masks.proofs.BitLemmas.{set-none}
 use Rattle.lbk_masks.specs.Sets.{is_set}
 use Rattle.lbk_masks.specs.Bits.{AreKeptBelow, AreKeptFrom}

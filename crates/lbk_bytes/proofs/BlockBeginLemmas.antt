@@ -10,22 +10,21 @@ use Rattle.lbk_masks.proofs.FoundLemmas.{rest-byte}
 use Rattle.lbk_masks.specs.Sets.{is_set, left_before, left_in, meets, right_in}
 use Rattle.lbk_masks.specs.Strays.{is_pair, is_second, is_stray}
 use Rattle.lbk_rules.specs.declared.Cell.{Cell}
-use Rattle.lbk_rules.specs.declared.Left.{Left}
-use Rattle.lbk_rules.specs.declared.FlatStep.{FlatStep}
+use Rattle.lbk_rules.specs.declared.Step.{Step}
 use Rattle.lbk_rules.specs.declared.Neighbours.{Neighbours}
 use Rattle.lbk_values.specs.declared.profile.Profile.{Profile}
-use Rattle.lbk_rules.specs.FlatTable.{AreFlatKinds, no_flat_step}
-use Rattle.lbk_rules.specs.Kinds.{kind_cell}
+use Rattle.lbk_rules.specs.FlatTable.{AreFlatKinds}
+use Rattle.lbk_rules.proofs.FlatLemmas.{place-any}
 use Rattle.lbk_rules.specs.Neighbours.{AreSettled, AreTold, is_special}
-use Rattle.lbk_rules.specs.Steps.{IsStart, left_at}
+use Rattle.lbk_rules.specs.Rows.{IsPlace, steps_in}
 use Rattle.lbk_bytes.specs.declared.fill_state.FillState.{FillState}
 use Rattle.lbk_bytes.specs.declared.blocks.Marks.{Marks}
 use Rattle.lbk_bytes.specs.Blocks.{AreMarks, IsBlock, IsByteTold, Rests, byte_at, row_before, stands_at, stops_at}
-use Rattle.lbk_bytes.specs.Reached.{AreSwift, IsSwiftStep}
 use Rattle.lbk_bytes.proofs.BlockLemmas.{order}
-use Rattle.lbk_bytes.proofs.BlockScalarLemmas.{begins-or, byte-scalar}
+use Rattle.lbk_bytes.proofs.BlockScalarLemmas.{begins-or}
 use Rattle.lbk_bytes.proofs.MarkLemmas.{or-false}
 use Rattle.lbk_bytes.proofs.PieceLemmas.{rest-of}
+use Rattle.lbk_bytes.proofs.StepLemmas.{swift-step}
 
 -- what is left of a text
 abbrev pub rest_at : List ℕ → ℕ → List ℕ
@@ -163,8 +162,8 @@ byte-inside text place some =
     (cases_lt place (length text))
 
 -- the byte before a place has a row, and stands for its scalar if it is the first of two, whose second is then here
-record IsBehind (lefts : List Left) (kinds : List ℕ) (pairs : Neighbours) (text : List ℕ) (place : ℕ) : Type 0 where
-  starts : IsStart lefts (row_before pairs text place)
+record IsBehind (kinds : List ℕ) (pairs : Neighbours) (text : List ℕ) (place : ℕ) : Type 0 where
+  starts : IsPlace (get_or pairs.rows (byte_at text (place - 1)) 0)
   stands : 192 ≤ byte_at text (place - 1) → StandsForAll kinds pairs.rows pairs.sets (byte_at text (place - 1))
   follows : 192 ≤ byte_at text (place - 1) → (128 ≤ byte_at text place) × (byte_at text place < 192)
 
@@ -173,9 +172,9 @@ meets-none left right none =
     not_from_true (bit_and left right == 0) (eq-eqb (bit_and left right) 0 (let most = and_le_r left right in omega arith))
 
 -- the second of two never stands out
-quiet-last : (lefts : List Left) (kinds : List ℕ) (pairs : Neighbours) (text : List ℕ) (place : ℕ) → IsBehind lefts kinds pairs text place
+quiet-last : (kinds : List ℕ) (pairs : Neighbours) (text : List ℕ) (place : ℕ) → IsBehind kinds pairs text place
     → 192 ≤ byte_at text (place - 1) → right_in pairs.sets (byte_at text place) ≡ 0
-quiet-last lefts kinds pairs text place behind high =
+quiet-last kinds pairs text place behind high =
     let last = behind.follows high in
     let least = last.0 in
     let below = last.1 in
@@ -183,11 +182,11 @@ quiet-last lefts kinds pairs text place behind high =
     let same : 128 + (byte - 128) ≡ byte = omega arith in
     ap (right_in pairs.sets) (sym same) ∙ ((behind.stands high).each (byte - 128) (omega arith)).quiet
 
-byte-told : (lefts : List Left) (steps : List FlatStep) (kinds : List ℕ) (pairs : Neighbours) (text : List ℕ) (at i : ℕ)
-    → AreTold steps kinds pairs → byte_at text (at + i) < 256 → IsBehind lefts kinds pairs text (at + i) → IsPlaced text at i
+byte-told : (steps : List (List Step)) (kinds : List ℕ) (pairs : Neighbours) (text : List ℕ) (at i : ℕ)
+    → AreTold steps kinds pairs → byte_at text (at + i) < 256 → IsBehind kinds pairs text (at + i) → IsPlaced text at i
     → is_special pairs (byte_at text (at + i - 1)) (byte_at text (at + i)) ≡ false
     → IsByteTold steps kinds pairs text (at + i)
-byte-told lefts steps kinds pairs text at i told fits behind place plain =
+byte-told steps kinds pairs text at i told fits behind place plain =
     let before = byte_at text (at + i - 1) in
     let byte = byte_at text (at + i) in
     record {
@@ -195,7 +194,7 @@ byte-told lefts steps kinds pairs text at i told fits behind place plain =
           let low : before < 192 = ⊎_elim (λ (l : before < 192). l)
           (λ (high : 192 ≤ before). absurd (let last = behind.follows high in let least = last.0 in let below = last.1 in
           ⊎_elim (λ (a : byte < 128). omega arith) (λ (b : 192 ≤ byte). omega arith) begins)) (cases_lt before 192) in
-          (low, told before byte low fits begins behind.starts.0 plain);
+          (low, told before byte low fits begins behind.starts plain);
       goes_on = λ high.
           let next = place.first high in
           let same : at + suc i ≡ at + i + 1 = omega arith in
@@ -203,38 +202,37 @@ byte-told lefts steps kinds pairs text at i told fits behind place plain =
           record { least = subst (λ n. 128 ≤ byte_at text n) same next.1; below = subst (λ n. byte_at text n < 192) same next.2; within = omega arith };
       quiet = λ least below.
           let high = (place.last least below).1 in
-          (high, meets-none (left_in pairs.sets before) (right_in pairs.sets byte) (quiet-last lefts kinds pairs text (at + i) behind high));
+          (high, meets-none (left_in pairs.sets before) (right_in pairs.sets byte) (quiet-last kinds pairs text (at + i) behind high));
     }
 
 -- a first byte of two that is settled stands for its scalars
-stands-for : (steps : List FlatStep) (kinds : List ℕ) (pairs : Neighbours) (before byte : ℕ) → 192 ≤ byte → AreSettled steps kinds pairs before byte
+stands-for : (steps : List (List Step)) (kinds : List ℕ) (pairs : Neighbours) (before byte : ℕ) → 192 ≤ byte → AreSettled steps kinds pairs before byte
     → StandsForAll kinds pairs.rows pairs.sets byte
 stands-for steps kinds pairs before byte high settled =
     ⊎_elim (λ (low : byte < 128). absurd (omega arith)) (λ (stands : StandsForAll kinds pairs.rows pairs.sets byte). stands) settled.begins
 
-behind-next : (profile : Profile) (cell : ℕ → Cell) (lefts : List Left) (steps : List FlatStep) (kinds : List ℕ) (pairs : Neighbours) (text : List ℕ) (at i : ℕ)
-    → AreSwift profile lefts steps → AreFlatKinds kinds cell → byte_at text (at + i) < 256 → IsBehind lefts kinds pairs text (at + i) → IsPlaced text at i
+behind-next : (profile : Profile) (cell : ℕ → Cell) (steps : List (List Step)) (kinds : List ℕ) (pairs : Neighbours) (text : List ℕ) (at i : ℕ)
+    → steps ≡ steps_in profile → AreFlatKinds kinds cell → byte_at text (at + i) < 256 → IsBehind kinds pairs text (at + i) → IsPlaced text at i
     → IsByteTold steps kinds pairs text (at + i)
-    → IsBehind lefts kinds pairs text (at + suc i)
-behind-next profile cell lefts steps kinds pairs text at i swift are_kinds fits behind place told =
+    → IsBehind kinds pairs text (at + suc i)
+behind-next profile cell steps kinds pairs text at i are are_kinds fits behind place told =
     let byte = byte_at text (at + i) in
     let kind = get_or kinds byte 0 in
     let row = row_before pairs text (at + i) in
-    let is_kind = are_kinds byte (byte-scalar byte fits) in
-    let step : IsSwiftStep profile lefts (left_at lefts row) (kind_cell kind) (get_or steps (row + kind) no_flat_step) = swift row kind behind.starts is_kind.0 in
+    let step = swift-step profile steps row kind are (place-any (get_or pairs.rows (byte_at text (at + i - 1)) 0)) in
     let back : at + i ≡ at + suc i - 1 = omega arith in
-    let starts : IsStart lefts (get_or pairs.rows byte 0) =
-    ⊎_elim (λ (begins : (byte < 128) ⊎ (192 ≤ byte)). subst (IsStart lefts) (told.settled begins).1.leads step.starts)
+    let starts : IsPlace (get_or pairs.rows byte 0) =
+    ⊎_elim (λ (begins : (byte < 128) ⊎ (192 ≤ byte)). subst IsPlace (told.settled begins).1.leads step.begins)
     (λ (last : (128 ≤ byte) × (byte < 192)).
     let high = (place.last last.0 last.1).1 in
     let least = last.0 in
     let below = last.1 in
     let same : 128 + (byte - 128) ≡ byte = omega arith in
     let leads = ((behind.stands high).each (byte - 128) (omega arith)).leads in
-    subst (IsStart lefts) (sym leads ∙ ap (λ n. get_or pairs.rows n 0) same) behind.starts)
+    subst IsPlace (sym leads ∙ ap (λ n. get_or pairs.rows n 0) same) behind.starts)
     (begins-or byte) in
     record {
-      starts = subst (λ n. IsStart lefts (get_or pairs.rows (byte_at text n) 0)) back starts;
+      starts = subst (λ n. IsPlace (get_or pairs.rows (byte_at text n) 0)) back starts;
       stands = λ high.
           let first : 192 ≤ byte = subst (λ n. 192 ≤ byte_at text n) (sym back) high in
           subst (λ n. StandsForAll kinds pairs.rows pairs.sets (byte_at text n)) back (stands-for steps kinds pairs (byte_at text (at + i - 1)) byte first (told.settled (inr first)).1);
@@ -244,34 +242,34 @@ behind-next profile cell lefts steps kinds pairs text at i swift are_kinds fits 
     }
 
 -- what is known of the bytes of a block that are taken
-record Begun (steps : List FlatStep) (kinds : List ℕ) (pairs : Neighbours) (text : List ℕ) (at begin taken : ℕ) : Type 0 where
+record Begun (steps : List (List Step)) (kinds : List ℕ) (pairs : Neighbours) (text : List ℕ) (at begin taken : ℕ) : Type 0 where
   told : AreTold steps kinds pairs
   bytes : (i : ℕ) → byte_at text i < 256
   plain : (i : ℕ) → begin ≤ i → i < taken → is_special pairs (byte_at text (at + i - 1)) (byte_at text (at + i)) ≡ false
   stays : (i : ℕ) → begin ≤ i → i < taken → is_stray (rest_at text at) i ≡ false
 
-behind-each : (profile : Profile) (cell : ℕ → Cell) (lefts : List Left) (steps : List FlatStep) (kinds : List ℕ) (pairs : Neighbours) (text : List ℕ) (at begin taken : ℕ)
-    → AreSwift profile lefts steps → AreFlatKinds kinds cell → Begun steps kinds pairs text at begin taken
-    → IsBehind lefts kinds pairs text (at + begin) → (n : ℕ) → begin + n ≤ taken → IsBehind lefts kinds pairs text (at + (begin + n))
-behind-each profile cell lefts steps kinds pairs text at begin taken swift are_kinds begun begins zero h =
-    subst (IsBehind lefts kinds pairs text) (let e : at + begin ≡ at + (begin + 0) = omega arith in e) begins
-behind-each profile cell lefts steps kinds pairs text at begin taken swift are_kinds begun begins (suc n) h =
+behind-each : (profile : Profile) (cell : ℕ → Cell) (steps : List (List Step)) (kinds : List ℕ) (pairs : Neighbours) (text : List ℕ) (at begin taken : ℕ)
+    → steps ≡ steps_in profile → AreFlatKinds kinds cell → Begun steps kinds pairs text at begin taken
+    → IsBehind kinds pairs text (at + begin) → (n : ℕ) → begin + n ≤ taken → IsBehind kinds pairs text (at + (begin + n))
+behind-each profile cell steps kinds pairs text at begin taken swift are_kinds begun begins zero h =
+    subst (IsBehind kinds pairs text) (let e : at + begin ≡ at + (begin + 0) = omega arith in e) begins
+behind-each profile cell steps kinds pairs text at begin taken swift are_kinds begun begins (suc n) h =
     let i = begin + n in
     let after : begin ≤ i = omega arith in
     let inside : i < taken = omega (arith, h) in
-    let behind = behind-each profile cell lefts steps kinds pairs text at begin taken swift are_kinds begun begins n (omega (arith, h)) in
+    let behind = behind-each profile cell steps kinds pairs text at begin taken swift are_kinds begun begins n (omega (arith, h)) in
     let place = placed text at i (begun.stays i after inside) in
-    subst (IsBehind lefts kinds pairs text) (let e : at + suc (begin + n) ≡ at + (begin + suc n) = omega arith in e)
-    (behind-next profile cell lefts steps kinds pairs text at i swift are_kinds (begun.bytes (at + i)) behind place
-    (byte-told lefts steps kinds pairs text at i begun.told (begun.bytes (at + i)) behind place (begun.plain i after inside)))
+    subst (IsBehind kinds pairs text) (let e : at + suc (begin + n) ≡ at + (begin + suc n) = omega arith in e)
+    (behind-next profile cell steps kinds pairs text at i swift are_kinds (begun.bytes (at + i)) behind place
+    (byte-told steps kinds pairs text at i begun.told (begun.bytes (at + i)) behind place (begun.plain i after inside)))
 
-behind-at : (profile : Profile) (cell : ℕ → Cell) (lefts : List Left) (steps : List FlatStep) (kinds : List ℕ) (pairs : Neighbours) (text : List ℕ) (at begin taken : ℕ)
-    → AreSwift profile lefts steps → AreFlatKinds kinds cell → Begun steps kinds pairs text at begin taken
-    → IsBehind lefts kinds pairs text (at + begin) → (i : ℕ) → begin ≤ i → i ≤ taken → IsBehind lefts kinds pairs text (at + i)
-behind-at profile cell lefts steps kinds pairs text at begin taken swift are_kinds begun begins i after h =
+behind-at : (profile : Profile) (cell : ℕ → Cell) (steps : List (List Step)) (kinds : List ℕ) (pairs : Neighbours) (text : List ℕ) (at begin taken : ℕ)
+    → steps ≡ steps_in profile → AreFlatKinds kinds cell → Begun steps kinds pairs text at begin taken
+    → IsBehind kinds pairs text (at + begin) → (i : ℕ) → begin ≤ i → i ≤ taken → IsBehind kinds pairs text (at + i)
+behind-at profile cell steps kinds pairs text at begin taken swift are_kinds begun begins i after h =
     let same : begin + (i - begin) ≡ i = omega arith in
-    subst (λ n. IsBehind lefts kinds pairs text (at + n)) same
-    (behind-each profile cell lefts steps kinds pairs text at begin taken swift are_kinds begun begins (i - begin) (omega arith))
+    subst (λ n. IsBehind kinds pairs text (at + n)) same
+    (behind-each profile cell steps kinds pairs text at begin taken swift are_kinds begun begins (i - begin) (omega arith))
 
 neither : (one other : Bool) → one ≡ false → other ≡ false → (one || other) ≡ true → ⊥
 neither false false a b is = cc
@@ -279,13 +277,13 @@ neither true other a b is = cc
 neither false true a b is = cc
 
 -- the last byte that is taken is the last of a scalar: the first of two is followed by what is neither special nor stray
-last-ends : (lefts : List Left) (kinds : List ℕ) (pairs : Neighbours) (text : List ℕ) (at begin taken : ℕ) → begin ≤ taken
+last-ends : (kinds : List ℕ) (pairs : Neighbours) (text : List ℕ) (at begin taken : ℕ) → begin ≤ taken
     → byte_at text (at + begin - 1) < 192 → ((i : ℕ) → begin ≤ i → i < taken → is_stray (rest_at text at) i ≡ false) → taken ≤ 64
     → (taken < 64 → at + taken < length text → stops_at pairs text at taken ≡ true)
-    → IsBehind lefts kinds pairs text (at + taken) → byte_at text (at + taken - 1) < 192
-last-ends lefts kinds pairs text at begin zero some low stays few stops behind =
+    → IsBehind kinds pairs text (at + taken) → byte_at text (at + taken - 1) < 192
+last-ends kinds pairs text at begin zero some low stays few stops behind =
     subst (λ n. byte_at text n < 192) (let e : at + begin - 1 ≡ at + 0 - 1 = omega arith in e) low
-last-ends lefts kinds pairs text at begin (suc i) some low stays few stops behind =
+last-ends kinds pairs text at begin (suc i) some low stays few stops behind =
     ⊎_elim (λ (below : byte_at text (at + suc i - 1) < 192). below)
     (λ (high : 192 ≤ byte_at text (at + suc i - 1)).
     ⊎_elim
@@ -297,7 +295,7 @@ last-ends lefts kinds pairs text at begin (suc i) some low stays few stops behin
     let stray = second-is text at i next.0 first next.1 next.2 in
     let special : is_special pairs (byte_at text (at + suc i - 1)) (byte_at text (at + suc i)) ≡ false =
     meets-none (left_in pairs.sets (byte_at text (at + suc i - 1))) (bit_and (right_in pairs.sets (byte_at text (at + suc i))) 3)
-    (ap (λ n. bit_and n 3) (quiet-last lefts kinds pairs text (at + suc i) behind high)) in
+    (ap (λ n. bit_and n 3) (quiet-last kinds pairs text (at + suc i) behind high)) in
     let stopped = stops (omega arith) (byte-inside text (at + suc i) (omega (arith, next.1))) in
     absurd (neither (is_special pairs (byte_at text (at + suc i - 1)) (byte_at text (at + suc i))) (is_stray (rest_at text at) (suc i)) special stray stopped))
     (λ (only : i < begin).
@@ -307,17 +305,17 @@ last-ends lefts kinds pairs text at begin (suc i) some low stays few stops behin
     (cases_lt (byte_at text (at + suc i - 1)) 192)
 
 -- from a place whose row is that of the byte before, the bytes up to the next that is left to steps
-pub is-block : (profile : Profile) (cell : ℕ → Cell) (lefts : List Left) (steps : List FlatStep) (kinds : List ℕ) (pairs : Neighbours) (text : List ℕ) (at begin taken : ℕ) (marks : Marks) (here : FillState)
-    → AreSwift profile lefts steps → AreFlatKinds kinds cell → AreTold steps kinds pairs → ((i : ℕ) → byte_at text i < 256)
+pub is-block : (profile : Profile) (cell : ℕ → Cell) (steps : List (List Step)) (kinds : List ℕ) (pairs : Neighbours) (text : List ℕ) (at begin taken : ℕ) (marks : Marks) (here : FillState)
+    → steps ≡ steps_in profile → AreFlatKinds kinds cell → AreTold steps kinds pairs → ((i : ℕ) → byte_at text i < 256)
     → AreMarks pairs text at marks → Rests pairs here text → here.at ≡ at + begin → begin ≤ taken → taken ≤ 64 → at + taken ≤ length text
-    → IsStart lefts here.row
+    → IsPlace here.row
     → ((i : ℕ) → begin ≤ i → i < taken → is_set marks.stops i ≡ false)
     → (taken < 64 → is_set marks.stops taken ≡ true)
-    → IsBlock profile cell lefts steps kinds pairs text at begin taken
-is-block profile cell lefts steps kinds pairs text at begin taken marks here swift are_kinds told bytes are_marks rests is_at some few within starts none stopped =
+    → IsBlock profile cell steps kinds pairs text at begin taken
+is-block profile cell steps kinds pairs text at begin taken marks here swift are_kinds told bytes are_marks rests is_at some few within starts none stopped =
     let low : byte_at text (at + begin - 1) < 192 = subst (λ n. byte_at text (n - 1) < 192) is_at rests.below in
-    let begins : IsBehind lefts kinds pairs text (at + begin) = record {
-      starts = subst (λ n. IsStart lefts (row_before pairs text n)) is_at (subst (IsStart lefts) rests.row starts);
+    let begins : IsBehind kinds pairs text (at + begin) = record {
+      starts = subst (λ n. IsPlace (get_or pairs.rows (byte_at text (n - 1)) 0)) is_at (subst IsPlace rests.row starts);
       stands = λ high. absurd (omega arith);
       follows = λ high. absurd (omega arith);
     } in
@@ -327,12 +325,12 @@ is-block profile cell lefts steps kinds pairs text at begin taken marks here swi
     (sym (are_marks.stops i (omega arith) (omega arith)) ∙ none i after h) in
     let begun : Begun steps kinds pairs text at begin taken =
     record { told = told; bytes = bytes; plain = λ i after h. (each i after h).0; stays = λ i after h. (each i after h).1 } in
-    let behind = behind-at profile cell lefts steps kinds pairs text at begin taken swift are_kinds begun begins in
+    let behind = behind-at profile cell steps kinds pairs text at begin taken swift are_kinds begun begins in
     record {
-      swift = swift;
+      steps_are = swift;
       kinds_are = are_kinds;
       few = few;
       within = within;
-      told = λ i after h. byte-told lefts steps kinds pairs text at i told (bytes (at + i)) (behind i after (omega (arith, h))) (placed text at i (begun.stays i after h)) (begun.plain i after h);
-      ends = last-ends lefts kinds pairs text at begin taken some low begun.stays few (λ h inside. sym (are_marks.stops taken h inside) ∙ stopped h) (behind taken some (omega arith));
+      told = λ i after h. byte-told steps kinds pairs text at i told (bytes (at + i)) (behind i after (omega (arith, h))) (placed text at i (begun.stays i after h)) (begun.plain i after h);
+      ends = last-ends kinds pairs text at begin taken some low begun.stays few (λ h inside. sym (are_marks.stops taken h inside) ∙ stopped h) (behind taken some (omega arith));
     }

@@ -3,29 +3,27 @@ use Rattle.std.proofs.Common.{◌≡◌, ◌≢◌, ◌⊎◌, ℕ, zero, suc, �
 use Rattle.std.proofs.lemmas.List.{append-nil}
 use Rattle.lbk_masks.specs.Sets.{is_set}
 use Rattle.lbk_rules.specs.declared.Cell.{Cell}
-use Rattle.lbk_rules.specs.declared.Left.{Left}
-use Rattle.lbk_rules.specs.declared.FlatStep.{FlatStep}
+use Rattle.lbk_rules.specs.declared.Step.{Step}
 use Rattle.lbk_rules.specs.declared.Neighbours.{Neighbours}
 use Rattle.lbk_values.specs.declared.profile.Profile.{Profile}
 use Rattle.lbk_rules.specs.Breaks.{break_by, is_no}
-use Rattle.lbk_rules.specs.Codes.{verdict_coded}
 use Rattle.lbk_rules.specs.FlatTable.{AreFlatKinds}
 use Rattle.lbk_rules.specs.Neighbours.{step_behind}
+use Rattle.lbk_rules.specs.Rows.{steps_in, verdict_shown}
 use Rattle.lbk_bytes.specs.declared.blocks.BlockState.{BlockState}
 use Rattle.lbk_bytes.specs.declared.fill_state.FillState.{FillState}
 use Rattle.lbk_bytes.specs.declared.raw_break.RawBreak.{RawBreak}
 use Rattle.lbk_masks.specs.Bits.{AreCleared, AreKeptBelow, AreKeptFrom, IsLowest}
 use Rattle.lbk_bytes.specs.Blocks.{AreLeft, IsBlock, IsByteTold, byte_at, place_at, place_in, row_before, stands_at}
 use Rattle.lbk_bytes.specs.Bytes.{with_break}
-use Rattle.lbk_bytes.specs.Reached.{Ahead, AreSwift, Reached}
+use Rattle.lbk_bytes.specs.Reached.{Ahead, Reached}
 use Rattle.lbk_bytes.specs.Shown.{given_in}
 use Rattle.lbk_masks.proofs.BitLemmas.{set-none}
 use Rattle.lbk_bytes.proofs.BlockScalarLemmas.{begins-or, depart, end-low, scalar-more, stay}
-use Rattle.lbk_bytes.proofs.ShownLemmas.{is-some}
 
 -- a verdict by which no line breaks
-no-break : (at code : ℕ) → is_no (verdict_coded code).kind ≡ true → with_break at (verdict_coded code) [] ≡ []
-no-break at code none = ap (λ b. cond b [] (break_by at (verdict_coded code) ∷ [])) none
+no-break : (at code : ℕ) → is_no (verdict_shown code).kind ≡ true → with_break at (verdict_shown code) [] ≡ []
+no-break at code none = ap (λ b. cond b [] (break_by at (verdict_shown code) ∷ [])) none
 
 -- so it is where the sets do not meet
 not-set : (b no : Bool) → b ≡ not no → b ≡ false → no ≡ true
@@ -33,44 +31,44 @@ not-set b true is none = refl
 not-set b false is none = absurd (let never : ⊥ = cc in never)
 
 -- a byte before which no line breaks
-quiet-byte : (profile : Profile) (cell : ℕ → Cell) (lefts : List Left) (text more : List ℕ) (all : Ahead) (steps : List FlatStep) (kinds : List ℕ) (pairs : Neighbours)
+quiet-byte : (profile : Profile) (cell : ℕ → Cell) (text more : List ℕ) (all : Ahead) (steps : List (List Step)) (kinds : List ℕ) (pairs : Neighbours)
     (out : List RawBreak) (count at : ℕ)
-    → AreSwift profile lefts steps → AreFlatKinds kinds cell → at < length text → IsByteTold steps kinds pairs text at → stands_at pairs text at ≡ false
-    → Reached profile cell lefts (text ++ more) all (place_at pairs text count at) (given_in out count)
-    → Reached profile cell lefts (text ++ more) all (place_at pairs text count (at + 1)) (given_in out count)
-quiet-byte profile cell lefts text more all steps kinds pairs out count at swift are_kinds inside told quiet r =
+    → steps ≡ steps_in profile → AreFlatKinds kinds cell → at < length text → IsByteTold steps kinds pairs text at → stands_at pairs text at ≡ false
+    → Reached profile cell (text ++ more) all (place_at pairs text count at) (given_in out count)
+    → Reached profile cell (text ++ more) all (place_at pairs text count (at + 1)) (given_in out count)
+quiet-byte profile cell text more all steps kinds pairs out count at swift are_kinds inside told quiet r =
     ⊎_elim
     (λ (begins : (byte_at text at < 128) ⊎ (192 ≤ byte_at text at)).
     let step = step_behind steps kinds pairs (byte_at text (at - 1)) (byte_at text at) in
-    let none = not-set (stands_at pairs text at) (is_no (verdict_coded step.code).kind) (told.settled begins).1.breaks quiet in
-    scalar-more profile cell lefts text more all steps kinds pairs out out count count at swift are_kinds inside begins told
-    (λ coded. sym (ap (λ l. given_in out count ++ l) (no-break at step.code none) ∙ append-nil (given_in out count))) r)
-    (λ (last : (128 ≤ byte_at text at) × (byte_at text at < 192)). stay profile cell lefts text more all pairs out count at (told.quiet last.0 last.1).0 last.1 r)
+    let none = not-set (stands_at pairs text at) (is_no (verdict_shown step.shown).kind) (told.settled begins).1.breaks quiet in
+    scalar-more profile cell text more all steps kinds pairs out out count count at swift are_kinds inside begins told
+    (sym (ap (λ l. given_in out count ++ l) (no-break at step.shown none) ∙ append-nil (given_in out count))) r)
+    (λ (last : (128 ≤ byte_at text at) × (byte_at text at < 192)). stay profile cell text more all pairs out count at (told.quiet last.0 last.1).0 last.1 r)
     (begins-or (byte_at text at))
 
 -- bytes before which no line breaks
-quiet-bytes : (profile : Profile) (cell : ℕ → Cell) (lefts : List Left) (text more : List ℕ) (all : Ahead) (steps : List FlatStep) (kinds : List ℕ) (pairs : Neighbours)
+quiet-bytes : (profile : Profile) (cell : ℕ → Cell) (text more : List ℕ) (all : Ahead) (steps : List (List Step)) (kinds : List ℕ) (pairs : Neighbours)
     (out : List RawBreak) (count at n : ℕ)
-    → AreSwift profile lefts steps → AreFlatKinds kinds cell → at + n ≤ length text
+    → steps ≡ steps_in profile → AreFlatKinds kinds cell → at + n ≤ length text
     → ((i : ℕ) → i < n → IsByteTold steps kinds pairs text (at + i) × (stands_at pairs text (at + i) ≡ false))
-    → Reached profile cell lefts (text ++ more) all (place_at pairs text count at) (given_in out count)
-    → Reached profile cell lefts (text ++ more) all (place_at pairs text count (at + n)) (given_in out count)
-quiet-bytes profile cell lefts text more all steps kinds pairs out count at zero swift are_kinds within quiet r =
-    subst (λ p. Reached profile cell lefts (text ++ more) all (place_at pairs text count p) (given_in out count)) (let e : at ≡ at + 0 = omega arith in e) r
-quiet-bytes profile cell lefts text more all steps kinds pairs out count at (suc n) swift are_kinds within quiet r =
-    let before = quiet-bytes profile cell lefts text more all steps kinds pairs out count at n swift are_kinds (omega arith) (λ i h. quiet i (omega (arith, h))) r in
+    → Reached profile cell (text ++ more) all (place_at pairs text count at) (given_in out count)
+    → Reached profile cell (text ++ more) all (place_at pairs text count (at + n)) (given_in out count)
+quiet-bytes profile cell text more all steps kinds pairs out count at zero swift are_kinds within quiet r =
+    subst (λ p. Reached profile cell (text ++ more) all (place_at pairs text count p) (given_in out count)) (let e : at ≡ at + 0 = omega arith in e) r
+quiet-bytes profile cell text more all steps kinds pairs out count at (suc n) swift are_kinds within quiet r =
+    let before = quiet-bytes profile cell text more all steps kinds pairs out count at n swift are_kinds (omega arith) (λ i h. quiet i (omega (arith, h))) r in
     let here = quiet n (omega arith) in
-    let one = quiet-byte profile cell lefts text more all steps kinds pairs out count (at + n) swift are_kinds (omega arith) here.0 here.1 before in
-    subst (λ p. Reached profile cell lefts (text ++ more) all (place_at pairs text count p) (given_in out count)) (let e : at + n + 1 ≡ at + suc n = omega arith in e) one
+    let one = quiet-byte profile cell text more all steps kinds pairs out count (at + n) swift are_kinds (omega arith) here.0 here.1 before in
+    subst (λ p. Reached profile cell (text ++ more) all (place_at pairs text count p) (given_in out count)) (let e : at + n + 1 ≡ at + suc n = omega arith in e) one
 
 -- the bytes from here on up to a break that is left
-up-to : (profile : Profile) (cell : ℕ → Cell) (lefts : List Left) (text more : List ℕ) (all : Ahead) (steps : List FlatStep) (kinds : List ℕ) (pairs : Neighbours)
+up-to : (profile : Profile) (cell : ℕ → Cell) (text more : List ℕ) (all : Ahead) (steps : List (List Step)) (kinds : List ℕ) (pairs : Neighbours)
     (out : List RawBreak) (at begin taken index : ℕ) (here : BlockState)
-    → at + taken ≤ length text → IsBlock profile cell lefts steps kinds pairs text at begin taken → AreLeft pairs text at begin taken here
+    → at + taken ≤ length text → IsBlock profile cell steps kinds pairs text at begin taken → AreLeft pairs text at begin taken here
     → index ≤ taken → here.past ≤ at + index → ((i : ℕ) → i < index → is_set here.left i ≡ false)
-    → Reached profile cell lefts (text ++ more) all (place_in pairs text here) (given_in out here.count)
-    → Reached profile cell lefts (text ++ more) all (place_at pairs text here.count (at + index)) (given_in out here.count)
-up-to profile cell lefts text more all steps kinds pairs out at begin taken index here room block left few after none r =
+    → Reached profile cell (text ++ more) all (place_in pairs text here) (given_in out here.count)
+    → Reached profile cell (text ++ more) all (place_at pairs text here.count (at + index)) (given_in out here.count)
+up-to profile cell text more all steps kinds pairs out at begin taken index here room block left few after none r =
     let n = at + index - here.past in
     let ends : here.past + n ≡ at + index = omega arith in
     let first = here.past - at in
@@ -85,18 +83,18 @@ up-to profile cell lefts text more all steps kinds pairs out at begin taken inde
       ap (stands_at pairs text) (sym same) ∙ sym (left.told (first + i) inside (omega arith)) ∙ none (first + i) below,
     ) in
     let f = block.few in
-    subst (λ p. Reached profile cell lefts (text ++ more) all (place_at pairs text here.count p) (given_in out here.count)) ends
-    (quiet-bytes profile cell lefts text more all steps kinds pairs out here.count here.past n block.swift block.kinds_are (omega arith) quiet r)
+    subst (λ p. Reached profile cell (text ++ more) all (place_at pairs text here.count p) (given_in out here.count)) ends
+    (quiet-bytes profile cell text more all steps kinds pairs out here.count here.past n block.steps_are block.kinds_are (omega arith) quiet r)
 
 -- all bytes of the block that are taken, where no break is left
-pub taken-all : (profile : Profile) (cell : ℕ → Cell) (lefts : List Left) (text more : List ℕ) (all : Ahead) (steps : List FlatStep) (kinds : List ℕ) (pairs : Neighbours)
+pub taken-all : (profile : Profile) (cell : ℕ → Cell) (text more : List ℕ) (all : Ahead) (steps : List (List Step)) (kinds : List ℕ) (pairs : Neighbours)
     (out : List RawBreak) (at begin taken : ℕ) (here : BlockState)
-    → at + taken ≤ length text → IsBlock profile cell lefts steps kinds pairs text at begin taken → AreLeft pairs text at begin taken here → here.left ≡ 0
-    → Reached profile cell lefts (text ++ more) all (place_in pairs text here) (given_in out here.count)
-    → Reached profile cell lefts (text ++ more) all (record { count = here.count; row = row_before pairs text (at + taken); at = at + taken }) (given_in out here.count)
-taken-all profile cell lefts text more all steps kinds pairs out at begin taken here room block left empty r =
-    depart profile cell lefts text more all pairs out here.count (at + taken) (at + taken) (end-low text (at + taken) block.ends)
-    (up-to profile cell lefts text more all steps kinds pairs out at begin taken taken here room block left (omega arith) left.within
+    → at + taken ≤ length text → IsBlock profile cell steps kinds pairs text at begin taken → AreLeft pairs text at begin taken here → here.left ≡ 0
+    → Reached profile cell (text ++ more) all (place_in pairs text here) (given_in out here.count)
+    → Reached profile cell (text ++ more) all (record { count = here.count; row = row_before pairs text (at + taken); at = at + taken }) (given_in out here.count)
+taken-all profile cell text more all steps kinds pairs out at begin taken here room block left empty r =
+    depart profile cell text more all pairs out here.count (at + taken) (at + taken) (end-low text (at + taken) block.ends)
+    (up-to profile cell text more all steps kinds pairs out at begin taken taken here room block left (omega arith) left.within
     (λ i h. ap (λ n. is_set n i) empty ∙ set-none i) r)
 
 -- Where the lowest bit is one that stands out
@@ -120,7 +118,7 @@ stands-first pairs text at begin taken index here left few set =
     record { inside = inside; after = after; stands = sym (left.told index inside after) ∙ set }
 
 -- a byte that stands out begins a scalar
-break-begins : (steps : List FlatStep) (kinds : List ℕ) (pairs : Neighbours) (text : List ℕ) (place : ℕ) → IsByteTold steps kinds pairs text place
+break-begins : (steps : List (List Step)) (kinds : List ℕ) (pairs : Neighbours) (text : List ℕ) (place : ℕ) → IsByteTold steps kinds pairs text place
     → stands_at pairs text place ≡ true → (byte_at text place < 128) ⊎ (192 ≤ byte_at text place)
 break-begins steps kinds pairs text place told stands =
     ⊎_elim (λ (begins : (byte_at text place < 128) ⊎ (192 ≤ byte_at text place)). begins)
@@ -131,27 +129,24 @@ break-begins steps kinds pairs text place told stands =
     (begins-or (byte_at text place))
 
 -- the break that stands first is written, and the others are left
-pub break-taken : (profile : Profile) (cell : ℕ → Cell) (lefts : List Left) (text more : List ℕ) (all : Ahead) (steps : List FlatStep) (kinds : List ℕ) (pairs : Neighbours)
-    (out after : List RawBreak) (at begin taken index : ℕ) (here there : BlockState) (step : FlatStep)
-    → at + taken ≤ length text → IsBlock profile cell lefts steps kinds pairs text at begin taken → AreLeft pairs text at begin taken here → index < 64 → 0 < here.left
+pub break-taken : (profile : Profile) (cell : ℕ → Cell) (text more : List ℕ) (all : Ahead) (steps : List (List Step)) (kinds : List ℕ) (pairs : Neighbours)
+    (out after : List RawBreak) (at begin taken index : ℕ) (here there : BlockState) (step : Step)
+    → at + taken ≤ length text → IsBlock profile cell steps kinds pairs text at begin taken → AreLeft pairs text at begin taken here → index < 64 → 0 < here.left
     → IsLowest here.left index → AreCleared here.left index there.left → there.past ≡ at + index + 1
     → step ≡ step_behind steps kinds pairs (byte_at text (at + index - 1)) (byte_at text (at + index))
-    → (is_no (verdict_coded step.code).kind ≡ false → given_in after there.count ≡ given_in out here.count ++ with_break (at + index) (verdict_coded step.code) [])
-    → Reached profile cell lefts (text ++ more) all (place_in pairs text here) (given_in out here.count)
-    → AreLeft pairs text at begin taken there × Reached profile cell lefts (text ++ more) all (place_in pairs text there) (given_in after there.count)
-break-taken profile cell lefts text more all steps kinds pairs out after at begin taken index here there step room block left few some lowest cleared moved is_step front r =
+    → given_in after there.count ≡ given_in out here.count ++ with_break (at + index) (verdict_shown step.shown) []
+    → Reached profile cell (text ++ more) all (place_in pairs text here) (given_in out here.count)
+    → AreLeft pairs text at begin taken there × Reached profile cell (text ++ more) all (place_in pairs text there) (given_in after there.count)
+break-taken profile cell text more all steps kinds pairs out after at begin taken index here there step room block left few some lowest cleared moved is_step front r =
     let first = stands-first pairs text at begin taken index here left few (lowest.set some) in
     let inside = first.inside in
     let behind = first.after in
-    let up = up-to profile cell lefts text more all steps kinds pairs out at begin taken index here room block left (omega arith) first.after lowest.none r in
+    let up = up-to profile cell text more all steps kinds pairs out at begin taken index here room block left (omega arith) first.after lowest.none r in
     let f = block.few in
     let told = block.told index (omega arith) inside in
     let begins = break-begins steps kinds pairs text (at + index) told first.stands in
-    let breaks = is-some (is_no (verdict_coded (step_behind steps kinds pairs (byte_at text (at + index - 1)) (byte_at text (at + index))).code).kind)
-    (sym (told.settled begins).1.breaks ∙ first.stands) in
-    let one = scalar-more profile cell lefts text more all steps kinds pairs out after here.count there.count (at + index) block.swift block.kinds_are (omega arith) begins told
-    (λ coded.
-    subst (λ (s : FlatStep). is_no (verdict_coded s.code).kind ≡ false → given_in after there.count ≡ given_in out here.count ++ with_break (at + index) (verdict_coded s.code) []) is_step front breaks)
+    let one = scalar-more profile cell text more all steps kinds pairs out after here.count there.count (at + index) block.steps_are block.kinds_are (omega arith) begins told
+    (subst (λ (s : Step). given_in after there.count ≡ given_in out here.count ++ with_break (at + index) (verdict_shown s.shown) []) is_step front)
     up in (
       record {
         after = (let a = left.after in omega arith);
@@ -161,7 +156,7 @@ break-taken profile cell lefts text more all steps kinds pairs out after at begi
             cleared.same i (omega arith) apart ∙ left.told i h (omega arith);
         none = λ i h out_of. left-none i h out_of;
       },
-      subst (λ p. Reached profile cell lefts (text ++ more) all (place_at pairs text there.count p) (given_in after there.count)) (sym moved) one,
+      subst (λ p. Reached profile cell (text ++ more) all (place_at pairs text there.count p) (given_in after there.count)) (sym moved) one,
     )
   where
     below : (i : ℕ) → i < 64 → i < index → is_set there.left i ≡ false
@@ -194,46 +189,46 @@ pub zero-or : (n : ℕ) → (n ≡ 0) ⊎ (0 < n)
 zero-or zero = inl refl
 zero-or (suc n) = inr (omega arith)
 
-pub reached-there : (profile : Profile) (cell : ℕ → Cell) (lefts : List Left) (text more : List ℕ) (all : Ahead) (pairs : Neighbours) (out : List RawBreak) (count at : ℕ) (there : FillState)
+pub reached-there : (profile : Profile) (cell : ℕ → Cell) (text more : List ℕ) (all : Ahead) (pairs : Neighbours) (out : List RawBreak) (count at : ℕ) (there : FillState)
     → there.count ≡ count → there.row ≡ row_before pairs text there.at → there.at ≡ at
-    → Reached profile cell lefts (text ++ more) all (record { count = count; row = row_before pairs text at; at = at }) (given_in out count)
-    → Reached profile cell lefts (text ++ more) all there (given_in out there.count)
-reached-there profile cell lefts text more all pairs out count at there is_count is_row is_at r =
-    subst (λ n. Reached profile cell lefts (text ++ more) all (record { count = n; row = there.row; at = there.at }) (given_in out n)) (sym is_count)
-    (subst (λ w. Reached profile cell lefts (text ++ more) all (record { count = count; row = w; at = there.at }) (given_in out count)) (sym is_row)
-    (subst (λ p. Reached profile cell lefts (text ++ more) all (record { count = count; row = row_before pairs text p; at = p }) (given_in out count)) (sym is_at) r))
+    → Reached profile cell (text ++ more) all (record { count = count; row = row_before pairs text at; at = at }) (given_in out count)
+    → Reached profile cell (text ++ more) all there (given_in out there.count)
+reached-there profile cell text more all pairs out count at there is_count is_row is_at r =
+    subst (λ n. Reached profile cell (text ++ more) all (record { count = n; row = there.row; at = there.at }) (given_in out n)) (sym is_count)
+    (subst (λ w. Reached profile cell (text ++ more) all (record { count = count; row = w; at = there.at }) (given_in out count)) (sym is_row)
+    (subst (λ p. Reached profile cell (text ++ more) all (record { count = count; row = row_before pairs text p; at = p }) (given_in out count)) (sym is_at) r))
 
 -- the bytes up to the next break that is left
-next-break : (profile : Profile) (cell : ℕ → Cell) (lefts : List Left) (text more : List ℕ) (all : Ahead) (steps : List FlatStep) (kinds : List ℕ) (pairs : Neighbours)
+next-break : (profile : Profile) (cell : ℕ → Cell) (text more : List ℕ) (all : Ahead) (steps : List (List Step)) (kinds : List ℕ) (pairs : Neighbours)
     (out : List RawBreak) (at begin taken index : ℕ) (here : BlockState)
-    → at + taken ≤ length text → IsBlock profile cell lefts steps kinds pairs text at begin taken → AreLeft pairs text at begin taken here → index < 64 → 0 < here.left
+    → at + taken ≤ length text → IsBlock profile cell steps kinds pairs text at begin taken → AreLeft pairs text at begin taken here → index < 64 → 0 < here.left
     → IsLowest here.left index
-    → Reached profile cell lefts (text ++ more) all (place_in pairs text here) (given_in out here.count)
-    → Reached profile cell lefts (text ++ more) all (record { count = here.count; row = row_before pairs text (at + index); at = at + index }) (given_in out here.count)
-next-break profile cell lefts text more all steps kinds pairs out at begin taken index here room block left few some lowest r =
+    → Reached profile cell (text ++ more) all (place_in pairs text here) (given_in out here.count)
+    → Reached profile cell (text ++ more) all (record { count = here.count; row = row_before pairs text (at + index); at = at + index }) (given_in out here.count)
+next-break profile cell text more all steps kinds pairs out at begin taken index here room block left few some lowest r =
     let first = stands-first pairs text at begin taken index here left few (lowest.set some) in
     let told = block.told index (let b = left.after in let f = first.after in omega arith) first.inside in
     let inside = first.inside in
-    depart profile cell lefts text more all pairs out here.count (at + index) (at + index)
+    depart profile cell text more all pairs out here.count (at + index) (at + index)
     (end-low text (at + index) (told.settled (break-begins steps kinds pairs text (at + index) told first.stands)).0)
-    (up-to profile cell lefts text more all steps kinds pairs out at begin taken index here room block left (omega arith) first.after lowest.none r)
+    (up-to profile cell text more all steps kinds pairs out at begin taken index here room block left (omega arith) first.after lowest.none r)
 
 -- behind the bytes that are taken if no break is left, else before the next break
-pub stopped-there : (profile : Profile) (cell : ℕ → Cell) (lefts : List Left) (text more : List ℕ) (all : Ahead) (steps : List FlatStep) (kinds : List ℕ) (pairs : Neighbours)
+pub stopped-there : (profile : Profile) (cell : ℕ → Cell) (text more : List ℕ) (all : Ahead) (steps : List (List Step)) (kinds : List ℕ) (pairs : Neighbours)
     (out : List RawBreak) (at begin taken : ℕ) (here : BlockState) (there : FillState)
-    → at + taken ≤ length text → IsBlock profile cell lefts steps kinds pairs text at begin taken
+    → at + taken ≤ length text → IsBlock profile cell steps kinds pairs text at begin taken
     → there.count ≡ here.count → there.row ≡ row_before pairs text there.at → at ≤ there.at → (here.left ≡ 0 → there.at ≡ at + taken)
     → (0 < here.left → IsLowest here.left (there.at - at) × (there.at < at + 64))
-    → AreLeft pairs text at begin taken here × Reached profile cell lefts (text ++ more) all (place_in pairs text here) (given_in out here.count)
-    → Reached profile cell lefts (text ++ more) all there (given_in out there.count)
-stopped-there profile cell lefts text more all steps kinds pairs out at begin taken here there room block is_count is_row onward done stopped known =
+    → AreLeft pairs text at begin taken here × Reached profile cell (text ++ more) all (place_in pairs text here) (given_in out here.count)
+    → Reached profile cell (text ++ more) all there (given_in out there.count)
+stopped-there profile cell text more all steps kinds pairs out at begin taken here there room block is_count is_row onward done stopped known =
     ⊎_elim
     (λ (none : here.left ≡ 0).
-    reached-there profile cell lefts text more all pairs out here.count (at + taken) there is_count is_row (done none)
-    (taken-all profile cell lefts text more all steps kinds pairs out at begin taken here room block known.0 none known.1))
+    reached-there profile cell text more all pairs out here.count (at + taken) there is_count is_row (done none)
+    (taken-all profile cell text more all steps kinds pairs out at begin taken here room block known.0 none known.1))
     (λ (some : 0 < here.left).
     let found = stopped some in
     let few = found.1 in
-    reached-there profile cell lefts text more all pairs out here.count (at + (there.at - at)) there is_count is_row (omega arith)
-    (next-break profile cell lefts text more all steps kinds pairs out at begin taken (there.at - at) here room block known.0 (omega arith) some found.0 known.1))
+    reached-there profile cell text more all pairs out here.count (at + (there.at - at)) there is_count is_row (omega arith)
+    (next-break profile cell text more all steps kinds pairs out at begin taken (there.at - at) here room block known.0 (omega arith) some found.0 known.1))
     (zero-or here.left)

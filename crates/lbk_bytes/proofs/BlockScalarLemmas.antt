@@ -9,20 +9,22 @@ use Rattle.bstr.specs.Utf8.{code_of_2, decoded, good, second}
 use Rattle.bstr.proofs.lemmas.PieceLemmas.{value-1, value-6}
 use Rattle.lbk_masks.specs.Letters.{StandsFor, StandsForAll}
 use Rattle.lbk_rules.specs.declared.Cell.{Cell}
-use Rattle.lbk_rules.specs.declared.Left.{Left}
-use Rattle.lbk_rules.specs.declared.FlatStep.{FlatStep}
+use Rattle.lbk_rules.specs.declared.Step.{Step}
 use Rattle.lbk_rules.specs.declared.Neighbours.{Neighbours}
 use Rattle.lbk_values.specs.declared.profile.Profile.{Profile}
-use Rattle.lbk_rules.specs.Codes.{IsCode, verdict_coded}
-use Rattle.lbk_rules.specs.FlatTable.{AreFlatKinds, no_flat_step}
-use Rattle.lbk_rules.specs.Neighbours.{step_behind}
+use Rattle.lbk_rules.specs.FlatTable.{AreFlatKinds}
+use Rattle.lbk_rules.specs.Neighbours.{row_behind, step_behind}
+use Rattle.lbk_rules.specs.Rows.{IsPlace, place_by, step_by, steps_in, verdict_shown}
+use Rattle.lbk_rules.proofs.FlatLemmas.{place-any, place-same}
+use Rattle.lbk_bytes.specs.declared.fill_state.FillState.{FillState}
 use Rattle.lbk_bytes.specs.declared.raw_break.RawBreak.{RawBreak}
-use Rattle.lbk_bytes.specs.Blocks.{GoesOn, IsByteTold, byte_at, end_at, place_at, row_before}
+use Rattle.lbk_bytes.specs.Blocks.{GoesOn, IsByteTold, Rests, byte_at, end_at, place_at, row_before}
 use Rattle.lbk_bytes.specs.Bytes.{with_break}
-use Rattle.lbk_bytes.specs.Reached.{Ahead, AreSwift, Reached}
+use Rattle.lbk_bytes.specs.Reached.{Ahead, Reached}
 use Rattle.lbk_bytes.specs.Shown.{given_in}
 use Rattle.lbk_bytes.proofs.CutLemmas.{reads-more}
 use Rattle.lbk_bytes.proofs.LoopLemmas.{Reached-swift}
+use Rattle.lbk_bytes.proofs.StepLemmas.{swift-step}
 use Rattle.lbk_bytes.proofs.PieceLemmas.{Reads, reads, rest-of}
 
 -- a number of a byte is the code of a scalar
@@ -79,54 +81,60 @@ begins-or byte =
     (λ (least : 128 ≤ byte). ⊎_elim (λ (below : byte < 192). inr (least, below)) (λ (high : 192 ≤ byte). inl (inr high)) (cases_lt byte 192))
     (cases_lt byte 128)
 
--- a call stands at a place behind whole scalars, with the row of the byte before
-pub arrive : (profile : Profile) (cell : ℕ → Cell) (lefts : List Left) (text more : List ℕ) (all : Ahead) (pairs : Neighbours) (out : List RawBreak) (count row at place : ℕ)
-    → row ≡ row_before pairs text at → end_at text place ≡ at
-    → Reached profile cell lefts (text ++ more) all (record { count = count; row = row; at = at }) (given_in out count)
-    → Reached profile cell lefts (text ++ more) all (place_at pairs text count place) (given_in out count)
-arrive profile cell lefts text more all pairs out count row at place is_row ends r =
-    subst (λ p. Reached profile cell lefts (text ++ more) all (record { count = count; row = row_before pairs text p; at = p }) (given_in out count)) (sym ends)
-    (subst (λ w. Reached profile cell lefts (text ++ more) all (record { count = count; row = w; at = at }) (given_in out count)) is_row r)
+-- the place of the row here is that of the row of the byte before
+pub rest-row : (pairs : Neighbours) (here : FillState) (text : List ℕ) → IsPlace here.row → Rests pairs here text → here.row ≡ row_before pairs text here.at
+rest-row pairs here text is_place rests = place-same here.row is_place ∙ ap place_by rests.row
 
-pub depart : (profile : Profile) (cell : ℕ → Cell) (lefts : List Left) (text more : List ℕ) (all : Ahead) (pairs : Neighbours) (out : List RawBreak) (count at place : ℕ)
+-- a call stands at a place behind whole scalars, with the row of the byte before
+pub arrive : (profile : Profile) (cell : ℕ → Cell) (text more : List ℕ) (all : Ahead) (pairs : Neighbours) (out : List RawBreak) (count row at place : ℕ)
+    → row ≡ row_before pairs text at → end_at text place ≡ at
+    → Reached profile cell (text ++ more) all (record { count = count; row = row; at = at }) (given_in out count)
+    → Reached profile cell (text ++ more) all (place_at pairs text count place) (given_in out count)
+arrive profile cell text more all pairs out count row at place is_row ends r =
+    subst (λ p. Reached profile cell (text ++ more) all (record { count = count; row = row_before pairs text p; at = p }) (given_in out count)) (sym ends)
+    (subst (λ w. Reached profile cell (text ++ more) all (record { count = count; row = w; at = at }) (given_in out count)) is_row r)
+
+pub depart : (profile : Profile) (cell : ℕ → Cell) (text more : List ℕ) (all : Ahead) (pairs : Neighbours) (out : List RawBreak) (count at place : ℕ)
     → end_at text place ≡ at
-    → Reached profile cell lefts (text ++ more) all (place_at pairs text count place) (given_in out count)
-    → Reached profile cell lefts (text ++ more) all (record { count = count; row = row_before pairs text at; at = at }) (given_in out count)
-depart profile cell lefts text more all pairs out count at place ends r =
-    subst (λ p. Reached profile cell lefts (text ++ more) all (record { count = count; row = row_before pairs text p; at = p }) (given_in out count)) ends r
+    → Reached profile cell (text ++ more) all (place_at pairs text count place) (given_in out count)
+    → Reached profile cell (text ++ more) all (record { count = count; row = row_before pairs text at; at = at }) (given_in out count)
+depart profile cell text more all pairs out count at place ends r =
+    subst (λ p. Reached profile cell (text ++ more) all (record { count = count; row = row_before pairs text p; at = p }) (given_in out count)) ends r
 
 -- the byte of a scalar of two that goes on with it
-pub stay : (profile : Profile) (cell : ℕ → Cell) (lefts : List Left) (text more : List ℕ) (all : Ahead) (pairs : Neighbours) (out : List RawBreak) (count place : ℕ)
+pub stay : (profile : Profile) (cell : ℕ → Cell) (text more : List ℕ) (all : Ahead) (pairs : Neighbours) (out : List RawBreak) (count place : ℕ)
     → 192 ≤ byte_at text (place - 1) → byte_at text place < 192
-    → Reached profile cell lefts (text ++ more) all (place_at pairs text count place) (given_in out count)
-    → Reached profile cell lefts (text ++ more) all (place_at pairs text count (place + 1)) (given_in out count)
-stay profile cell lefts text more all pairs out count place high low r =
+    → Reached profile cell (text ++ more) all (place_at pairs text count place) (given_in out count)
+    → Reached profile cell (text ++ more) all (place_at pairs text count (place + 1)) (given_in out count)
+stay profile cell text more all pairs out count place high low r =
     let back : byte_at text (place + 1 - 1) < 192 = subst (λ n. byte_at text n < 192) (let e : place ≡ place + 1 - 1 = omega arith in e) low in
-    arrive profile cell lefts text more all pairs out count (row_before pairs text (place + 1)) (place + 1) (place + 1) refl (end-low text (place + 1) back)
-    (depart profile cell lefts text more all pairs out count (place + 1) place (end-high text place high) r)
+    arrive profile cell text more all pairs out count (row_before pairs text (place + 1)) (place + 1) (place + 1) refl (end-low text (place + 1) back)
+    (depart profile cell text more all pairs out count (place + 1) place (end-high text place high) r)
 
 -- one scalar more, whatever stands before it
-pub scalar-more : (profile : Profile) (cell : ℕ → Cell) (lefts : List Left) (text more : List ℕ) (all : Ahead) (steps : List FlatStep) (kinds : List ℕ) (pairs : Neighbours)
+pub scalar-more : (profile : Profile) (cell : ℕ → Cell) (text more : List ℕ) (all : Ahead) (steps : List (List Step)) (kinds : List ℕ) (pairs : Neighbours)
     (out after : List RawBreak) (count next at : ℕ)
-    → AreSwift profile lefts steps → AreFlatKinds kinds cell → at < length text
+    → steps ≡ steps_in profile → AreFlatKinds kinds cell → at < length text
     → (byte_at text at < 128) ⊎ (192 ≤ byte_at text at) → IsByteTold steps kinds pairs text at
-    → (IsCode (step_behind steps kinds pairs (byte_at text (at - 1)) (byte_at text at)).code
-    → given_in after next ≡ given_in out count ++ with_break at (verdict_coded (step_behind steps kinds pairs (byte_at text (at - 1)) (byte_at text at)).code) [])
-    → Reached profile cell lefts (text ++ more) all (place_at pairs text count at) (given_in out count)
-    → Reached profile cell lefts (text ++ more) all (place_at pairs text next (at + 1)) (given_in after next)
-scalar-more profile cell lefts text more all steps kinds pairs out after count next at swift are_kinds inside begins told front r =
+    → (given_in after next ≡ given_in out count ++ with_break at (verdict_shown (step_behind steps kinds pairs (byte_at text (at - 1)) (byte_at text at)).shown) [])
+    → Reached profile cell (text ++ more) all (place_at pairs text count at) (given_in out count)
+    → Reached profile cell (text ++ more) all (place_at pairs text next (at + 1)) (given_in after next)
+scalar-more profile cell text more all steps kinds pairs out after count next at swift are_kinds inside begins told front r =
     let byte = byte_at text at in
     let step = step_behind steps kinds pairs (byte_at text (at - 1)) byte in
     let back : at ≡ at + 1 - 1 = omega arith in
     let before = told.settled begins in
     let settled = before.1 in
-    let begun = depart profile cell lefts text more all pairs out count at at (end-low text at before.0) r in
+    let row = row_before pairs text at in
+    let begins_row = (swift-step profile steps row (get_or kinds byte 0) swift (place-any (get_or pairs.rows (byte_at text (at - 1)) 0))).begins in
+    let leads = place-same step.next begins_row ∙ ap place_by settled.leads in
+    let begun = depart profile cell text more all pairs out count at at (end-low text at before.0) r in
     ⊎_elim
     (λ (low : byte < 128).
-    let moved = Reached-swift profile cell lefts (text ++ more) all steps kinds out after count next (row_before pairs text at) at byte 1 step swift are_kinds
+    let moved = Reached-swift profile cell (text ++ more) all steps kinds out after count next (row_before pairs text at) at byte 1 step swift are_kinds
     (reads-more text more at byte 1 inside (ascii-reads text at inside low)) (omega (arith, inside, length-append text more)) refl settled.apart front begun in
     let behind : byte_at text (at + 1 - 1) < 192 = subst (λ n. byte_at text n < 192) back (omega arith) in
-    arrive profile cell lefts text more all pairs after next step.next (at + 1) (at + 1) (settled.leads ∙ ap (λ n. get_or pairs.rows (byte_at text n) 0) back)
+    arrive profile cell text more all pairs after next step.next (at + 1) (at + 1) (leads ∙ ap (λ n. row_behind pairs (byte_at text n)) back)
     (end-low text (at + 1) behind) moved)
     (λ (stands : StandsForAll kinds pairs.rows pairs.sets byte).
     let range = stands.begins in
@@ -136,12 +144,12 @@ scalar-more profile cell lefts text more all steps kinds pairs out after count n
     let least = goes_on.least in
     let below = goes_on.below in
     let each : StandsFor kinds pairs.rows pairs.sets byte (last - 128) = stands.each (last - 128) (omega arith) in
-    let moved = Reached-swift profile cell lefts (text ++ more) all steps kinds out after count next (row_before pairs text at) at (code_of_2 byte last) 2 step swift are_kinds
+    let moved = Reached-swift profile cell (text ++ more) all steps kinds out after count next (row_before pairs text at) at (code_of_2 byte last) 2 step swift are_kinds
     (reads-more text more at (code_of_2 byte last) 2 inside (two-reads text at inside range.0 range.1 goes_on)) (omega (arith, inside, length-append text more))
-    (ap (λ k. get_or steps (row_before pairs text at + k) no_flat_step) (sym each.alike)) settled.apart front begun in
+    (ap (λ k. step_by steps (row_before pairs text at) k) (sym each.alike)) settled.apart front begun in
     let last_is : 128 + (last - 128) ≡ last = omega arith in
     let row : step.next ≡ row_before pairs text (at + 2) =
-    settled.leads ∙ sym each.leads ∙ ap (λ n. get_or pairs.rows n 0) last_is ∙ ap (λ n. get_or pairs.rows (byte_at text n) 0) (let e : at + 1 ≡ at + 2 - 1 = omega arith in e) in
-    arrive profile cell lefts text more all pairs after next step.next (at + 2) (at + 1) row
+    leads ∙ ap place_by (sym each.leads) ∙ ap (row_behind pairs) last_is ∙ ap (λ n. row_behind pairs (byte_at text n)) (let e : at + 1 ≡ at + 2 - 1 = omega arith in e) in
+    arrive profile cell text more all pairs after next step.next (at + 2) (at + 1) row
     (end-high text (at + 1) (subst (λ n. 192 ≤ byte_at text n) back high) ∙ (let e : at + 1 + 1 ≡ at + 2 = omega arith in e)) moved)
     settled.begins

@@ -7,12 +7,12 @@ use Rattle.bstr.proofs.lemmas.PieceLemmas.{pieces-nil}
 use Rattle.bstr.specs.Utf8.{Decoded, code_of_2, decoded, pieces}
 use Rattle.lbk_masks.specs.Letters.{StandsForAll}
 use Rattle.lbk_rules.specs.declared.Cell.{Cell}
-use Rattle.lbk_rules.specs.declared.Left.{Left}
-use Rattle.lbk_rules.specs.declared.FlatStep.{FlatStep}
+use Rattle.lbk_rules.specs.declared.Step.{Step}
 use Rattle.lbk_rules.specs.declared.Neighbours.{Neighbours}
 use Rattle.lbk_values.specs.declared.profile.Profile.{Profile}
 use Rattle.lbk_bytes.specs.Blocks.{IsBlock, byte_at, end_at}
 use Rattle.lbk_bytes.specs.Marks.{boundary_among, boundary_from}
+use Rattle.lbk_bytes.proofs.AnyPieceLemmas.{ReadsAs, as-read}
 use Rattle.lbk_bytes.proofs.BlockScalarLemmas.{ascii-reads, begins-or, end-high, end-low, two-reads}
 use Rattle.lbk_bytes.proofs.CutLemmas.{reads-more}
 use Rattle.lbk_bytes.proofs.PieceLemmas.{Reads, piece-within, pieces-on}
@@ -55,19 +55,22 @@ boundary-within text (suc n) at place within few past =
 pub boundary-end : (text : List ℕ) (at place : ℕ) → at ≤ length text → length text ≤ place → boundary_from text at place ≡ length text
 boundary-end text at place within past = boundary-within text (length text) at place within (omega arith) past
 
+pub boundary-read-as : (text : List ℕ) (at code size place : ℕ) → at < length text → at < place → ReadsAs text at code size
+    → boundary_from text (at + size) place ≡ boundary_from text at place
+boundary-read-as text at code size place inside before r = boundary-step text at (at + size) place inside before (ap (λ n. at + n) r.is_size)
+
 pub boundary-read : (text : List ℕ) (at code size place : ℕ) → at < length text → at < place → Reads text at code size
     → boundary_from text (at + size) place ≡ boundary_from text at place
-boundary-read text at code size place inside before r =
-    boundary-step text at (at + size) place inside before (ap (λ n. at + n) (sym (ap (λ (p : Decoded). p.size) r.read)))
+boundary-read text at code size place inside before r = boundary-read-as text at code size place inside before (as-read text at code size r)
 
 -- the bytes of a block that its sets tell
-pub block-boundary : (profile : Profile) (cell : ℕ → Cell) (lefts : List Left) (text more : List ℕ) (steps : List FlatStep) (kinds : List ℕ) (pairs : Neighbours) (at taken n place : ℕ)
-    → at + taken ≤ length text → IsBlock profile cell lefts steps kinds pairs text at 0 taken → byte_at text (at - 1) < 192 → at + taken ≤ place → n ≤ taken
+pub block-boundary : (profile : Profile) (cell : ℕ → Cell) (text more : List ℕ) (steps : List (List Step)) (kinds : List ℕ) (pairs : Neighbours) (at taken n place : ℕ)
+    → at + taken ≤ length text → IsBlock profile cell steps kinds pairs text at 0 taken → byte_at text (at - 1) < 192 → at + taken ≤ place → n ≤ taken
     → boundary_from (text ++ more) (end_at text (at + n)) place ≡ boundary_from (text ++ more) at place
-block-boundary profile cell lefts text more steps kinds pairs at taken zero place room block low few inside =
+block-boundary profile cell text more steps kinds pairs at taken zero place room block low few inside =
     let same : at ≡ at + 0 = omega arith in
     ap (λ m. boundary_from (text ++ more) m place) (ap (end_at text) (sym same) ∙ end-low text at low)
-block-boundary profile cell lefts text more steps kinds pairs at taken (suc n) place room block low few inside =
+block-boundary profile cell text more steps kinds pairs at taken (suc n) place room block low few inside =
     let whole = text ++ more in
     let here = at + n in
     let byte = byte_at text here in
@@ -76,7 +79,7 @@ block-boundary profile cell lefts text more steps kinds pairs at taken (suc n) p
     let longer : here < length whole = omega (arith, length-append text more) in
     let next : here + 1 ≡ at + suc n = omega arith in
     let back : here ≡ here + 1 - 1 = omega arith in
-    let earlier = block-boundary profile cell lefts text more steps kinds pairs at taken n place room block low few (omega arith) in
+    let earlier = block-boundary profile cell text more steps kinds pairs at taken n place room block low few (omega arith) in
     let on : (end : ℕ) → end_at text (here + 1) ≡ end → boundary_from whole end place ≡ boundary_from whole (end_at text here) place
     → boundary_from whole (end_at text (at + suc n)) place ≡ boundary_from whole at place =
     λ end ends step. ap (λ m. boundary_from whole m place) (ap (end_at text) (sym next) ∙ ends) ∙ step ∙ earlier in

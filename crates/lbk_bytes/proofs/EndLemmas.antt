@@ -1,20 +1,20 @@
 -- What comes at the end of a text, or of a part of one.
-use Rattle.std.proofs.Common.{◌≡◌, ℕ, ◌+◌, ◌/◌, ◌<◌, ◌≤◌, Bool, true, false, cond, ◌&&◌, not, List, [], ◌∷◌, ◌++◌, get_or, length, map, take, reverse, lit<, refl, sym, ap, subst, ◌∙◌, ⊎_elim, arith}
-use Rattle.std.proofs.lemmas.Bool.{cases_lt, false≢true}
-use Rattle.std.proofs.lemmas.List.{get_or_past, length-map, length-reverse, map-append}
+use Rattle.std.proofs.Common.{◌≡◌, ℕ, ◌%◌, ◌<◌, Bool, true, false, cond, ◌&&◌, not, List, [], ◌∷◌, ◌++◌, length, map, take, reverse, refl, sym, ap, subst, ◌∙◌, arith}
+use Rattle.std.proofs.lemmas.Bool.{false≢true}
+use Rattle.std.proofs.lemmas.List.{length-map, length-reverse, map-append}
 use Rattle.std.proofs.Math.Seq.{drop-length, take-length}
 use Rattle.lbk_rules.specs.declared.Cell.{Cell}
 use Rattle.lbk_rules.specs.declared.Class.{Class}
 use Rattle.lbk_rules.specs.declared.Left.{Left}
+use Rattle.lbk_rules.specs.declared.Kind.{Kind}
 use Rattle.lbk_rules.specs.declared.Kind.TheVariants.{No, May, Must}
 use Rattle.lbk_rules.specs.declared.Verdict.{Verdict}
 use Rattle.lbk_values.specs.declared.profile.Profile.{Profile}
-use Rattle.lbk_values.specs.declared.profile.Profile.TheVariants.{First}
-use Rattle.lbk_rules.specs.declared.FlatStep.{FlatStep}
-use Rattle.lbk_rules.specs.declared.FlatTable.{FlatTable}
+use Rattle.lbk_values.specs.declared.profile.Profile.TheVariants.{First, Second}
+use Rattle.lbk_rules.specs.declared.Step.{Step}
 use Rattle.lbk_rules.specs.Breaks.{break_by}
 use Rattle.lbk_rules.specs.Classes.{CR, is}
-use Rattle.lbk_rules.specs.Codes.{IsCode, kind_numbered, verdict_coded}
+use Rattle.lbk_rules.specs.Codes.{kind_number, kind_numbered}
 use Rattle.lbk_rules.specs.Ends.{end_after, end_of_text, ends_between, ends_line}
 use Rattle.lbk_rules.specs.Facts.{facts}
 use Rattle.lbk_rules.specs.Normal.{normal, normals}
@@ -22,12 +22,16 @@ use Rattle.lbk_rules.specs.Sides.{Side, is_nothing}
 use Rattle.lbk_rules.specs.Verdict.{verdict_between_in}
 use Rattle.lbk_rules.proofs.EndLemmas.{must_at_length, must_between, no_must_between, start_of_text}
 use Rattle.lbk_rules.proofs.ParagraphLemmas.{is_must}
-use Rattle.lbk_rules.specs.FlatTable.{IsFlatBy, IsFlatStep, KnowsTaken, no_flat_step}
+use Rattle.lbk_rules.specs.FlatTable.{KnowsTaken}
 use Rattle.lbk_rules.specs.Kinds.{kind_cell}
-use Rattle.lbk_rules.specs.Steps.{left_at}
+use Rattle.lbk_rules.specs.Rows.{IsShown, step_by, steps_in, verdict_shown}
 use Rattle.lbk_rules.proofs.AheadLemmas.{ahead-normal}
+use Rattle.lbk_rules.proofs.FlatLemmas.{left-start}
+use Rattle.lbk_rules.proofs.ShownLemmas.{shown-verdict}
+use Rattle.lbk_bytes.specs.declared.ends.TheConstants.{END, START}
+use Rattle.lbk_bytes.proofs.ShownLemmas.{few-kinds}
 use Rattle.lbk_bytes.specs.Bytes.{closed_end, open_end, with_break}
-use Rattle.lbk_bytes.proofs.StepLemmas.{code-known, flat_step_at}
+use Rattle.lbk_bytes.proofs.StepLemmas.{steps-here}
 
 -- The end of a text
 
@@ -40,22 +44,22 @@ empty [] none = refl
 empty (c ∷ cs) none = absurd (omega arith)
 
 -- the first row knows of no scalar
-pub none-known : (cell : ℕ → Cell) (lefts : List Left) (table : FlatTable) (taken : List ℕ) → IsFlatBy lefts table cell → KnowsTaken cell lefts 0 taken → taken ≡ []
+pub none-known : (cell : ℕ → Cell) (taken : List ℕ) → KnowsTaken cell 0 taken → taken ≡ []
 unfolding facts
-none-known cell lefts table taken flat known =
+none-known cell taken known =
     let side = reverse (normals cell taken) in
-    let none = nothing-none side (ap (λ (l : Left). l.empty) (sym known.1 ∙ flat.start)) in
+    let none = nothing-none side (ap (λ (l : Left). l.empty) (sym known.1 ∙ left-start)) in
     let same : length side ≡ length taken =
     length-reverse (normals cell taken) ∙ length-map (map cell taken) normal ∙ length-map taken cell in
     empty taken (omega arith)
 
-pub end-none : (profile : Profile) (cell : ℕ → Cell) (taken : List ℕ) (at : ℕ) → taken ≡ [] → with_break at (verdict_coded 0) [] ≡ closed_end profile cell taken at
-unfolding verdict_coded
+pub end-none : (profile : Profile) (cell : ℕ → Cell) (taken : List ℕ) (at : ℕ) → taken ≡ [] → with_break at (verdict_shown START) [] ≡ closed_end profile cell taken at
+unfolding verdict_shown
 end-none profile cell taken at none =
     sym (ap (λ l. closed_end profile cell l at) none ∙ ap (λ (v : Verdict). with_break at v []) (start_of_text profile []))
 
-pub end-some : (profile : Profile) (cell : ℕ → Cell) (taken : List ℕ) (at : ℕ) → 0 < length taken → with_break at (verdict_coded 77) [] ≡ closed_end profile cell taken at
-unfolding verdict_coded
+pub end-some : (profile : Profile) (cell : ℕ → Cell) (taken : List ℕ) (at : ℕ) → 0 < length taken → with_break at (verdict_shown END) [] ≡ closed_end profile cell taken at
+unfolding verdict_shown
 end-some profile cell taken at some =
     let cells = map cell taken in
     let must : verdict_between_in profile cells [] ≡ end_of_text =
@@ -93,39 +97,29 @@ ends-in c [] = record { front = []; last = c; is = refl }
 ends-in c (d ∷ ds) = let rest = ends-in d ds in record { front = c ∷ rest.front; last = rest.last; is = ap (λ l. c ∷ l) rest.is }
 
 -- the verdict before a letter, as the step of a row has it
-letter-verdict : (cell : ℕ → Cell) (lefts : List Left) (table : FlatTable) (row : ℕ) (taken : List ℕ) (step : FlatStep) → IsFlatBy lefts table cell → KnowsTaken cell lefts row taken
-    → step ≡ get_or table.first (row + 0) no_flat_step
-    → IsCode step.code × (verdict_coded step.code ≡ verdict_between_in First (map cell taken) (kind_cell 0 ∷ []))
+letter-verdict : (cell : ℕ → Cell) (row : ℕ) (taken : List ℕ) (step : Step) → KnowsTaken cell row taken
+    → step ≡ step_by (steps_in First) row 0
+    → verdict_shown step.shown ≡ verdict_between_in First (map cell taken) (kind_cell 0 ∷ [])
 unfolding kind_cell normal is
-letter-verdict cell lefts table row taken step flat known is_step =
-    let there = flat_step_at lefts table.first table.second row 0 flat.steps known.0 (lit< tt) in
-    let here = subst (λ (s : FlatStep). IsFlatStep lefts (left_at lefts row) (kind_cell 0) s (get_or table.second (row + 0) no_flat_step)) (sym is_step) there in (
-      code-known _ here.coded.0,
-      here.decides (reverse (normals cell taken)) [] (sym known.1) ∙ ahead-normal First cell taken (kind_cell 0 ∷ []),
-    )
+letter-verdict cell row taken step known is_step =
+    let here = steps-here row 0 step (step_by (steps_in Second) row 0) known.0 is_step refl in
+    here.decides (reverse (normals cell taken)) [] (sym known.1) ∙ ahead-normal First cell taken (kind_cell 0 ∷ [])
 
 -- numbers of verdicts by which a line must end, and others
-must-within : (code : ℕ) → 76 ≤ code → code < 114 → is_must (verdict_coded code).kind ≡ true
-unfolding verdict_coded
-must-within code low high = ap (λ n. is_must (kind_numbered n)) (let e : code / 38 ≡ 2 = omega (arith, low, high) in e)
+must-shown : (shown : ℕ) → shown % 256 ≡ 2 → is_must (verdict_shown shown).kind ≡ true
+unfolding verdict_shown
+must-shown shown is = ap (λ n. is_must (kind_numbered n)) is
 
-no-must-below : (code : ℕ) → code < 76 → is_must (verdict_coded code).kind ≡ false
-unfolding verdict_coded
-no-must-below code low =
-    ⊎_elim
-    (λ (less : code < 38). ap (λ n. is_must (kind_numbered n)) (let e : code / 38 ≡ 0 = omega (arith, less) in e))
-    (λ (more : 38 ≤ code). ap (λ n. is_must (kind_numbered n)) (let e : code / 38 ≡ 1 = omega (arith, low, more) in e))
-    (cases_lt code 38)
+no-must-kind : (kind : Kind) → ¬ (kind_number kind ≡ 2) → is_must kind ≡ false
+no-must-kind No apart = refl
+no-must-kind May apart = refl
+no-must-kind Must apart = absurd (apart refl)
 
-no-must-past : (code : ℕ) → 114 ≤ code → is_must (verdict_coded code).kind ≡ false
-unfolding verdict_coded
-no-must-past code high = ap is_must (get_or_past (No ∷ May ∷ Must ∷ []) (code / 38) No (omega (arith, high)))
-
-no-must-outside : (code : ℕ) → ¬ ((76 ≤ code) × (code < 114)) → is_must (verdict_coded code).kind ≡ false
-no-must-outside code outside =
-    ⊎_elim (λ (low : code < 76). no-must-below code low)
-    (λ (more : 76 ≤ code). ⊎_elim (λ (few : code < 114). absurd (outside (more, few))) (λ (high : 114 ≤ code). no-must-past code high) (cases_lt code 114))
-    (cases_lt code 76)
+no-must-shown : (shown : ℕ) → ¬ (shown % 256 ≡ 2) → IsShown shown → is_must (verdict_shown shown).kind ≡ false
+no-must-shown shown apart known =
+    let few = few-kinds known.0.kind in
+    ap (λ (v : Verdict). is_must v.kind) (shown-verdict shown known.0 known.1)
+    ∙ no-must-kind known.0.kind (λ two. apart (omega (arith, few, two, known.1)))
 
 -- the end of a part by its last scalar, where this is the verdict before a letter
 open-by : (profile : Profile) (cell : ℕ → Cell) (front : List ℕ) (c at : ℕ) (verdict : Verdict)
@@ -168,17 +162,15 @@ open-at profile cell (c ∷ cs) at verdict is_verdict =
     × (is_must verdict.kind ≡ false → open_end profile cell taken at ≡ [])) (sym l.is)
     (open-by profile cell l.front l.last at verdict (is_verdict ∙ ap (λ (t : List ℕ). verdict_between_in First (map cell t) (kind_cell 0 ∷ [])) l.is))
 
-pub open-must : (profile : Profile) (cell : ℕ → Cell) (lefts : List Left) (table : FlatTable) (row : ℕ) (taken : List ℕ) (step : FlatStep) (at : ℕ)
-    → IsFlatBy lefts table cell → KnowsTaken cell lefts row taken → step ≡ get_or table.first (row + 0) no_flat_step → 76 ≤ step.code → step.code < 114
-    → IsCode step.code × (with_break at (verdict_coded step.code) [] ≡ open_end profile cell taken at)
-open-must profile cell lefts table row taken step at flat known is_step low high =
-    let v = letter-verdict cell lefts table row taken step flat known is_step in
-    (v.0, (open-at profile cell taken at (verdict_coded step.code) v.1).0 (must-within step.code low high))
+pub open-must : (profile : Profile) (cell : ℕ → Cell) (row : ℕ) (taken : List ℕ) (step : Step) (at : ℕ)
+    → KnowsTaken cell row taken → step ≡ step_by (steps_in First) row 0 → step.shown % 256 ≡ 2
+    → with_break at (verdict_shown step.shown) [] ≡ open_end profile cell taken at
+open-must profile cell row taken step at known is_step must =
+    (open-at profile cell taken at (verdict_shown step.shown) (letter-verdict cell row taken step known is_step)).0 (must-shown step.shown must)
 
-pub open-none : (profile : Profile) (cell : ℕ → Cell) (lefts : List Left) (table : FlatTable) (row : ℕ) (taken : List ℕ) (step : FlatStep) (at : ℕ)
-    → IsFlatBy lefts table cell → KnowsTaken cell lefts row taken → step ≡ get_or table.first (row + 0) no_flat_step → ¬ ((76 ≤ step.code) × (step.code < 114))
-    → with_break at (verdict_coded 0) [] ≡ open_end profile cell taken at
-unfolding verdict_coded
-open-none profile cell lefts table row taken step at flat known is_step outside =
-    let v = letter-verdict cell lefts table row taken step flat known is_step in
-    sym ((open-at profile cell taken at (verdict_coded step.code) v.1).1 (no-must-outside step.code outside))
+pub open-none : (profile : Profile) (cell : ℕ → Cell) (row : ℕ) (taken : List ℕ) (step : Step) (at : ℕ)
+    → KnowsTaken cell row taken → step ≡ step_by (steps_in First) row 0 → IsShown step.shown → ¬ (step.shown % 256 ≡ 2)
+    → with_break at (verdict_shown START) [] ≡ open_end profile cell taken at
+unfolding verdict_shown
+open-none profile cell row taken step at known is_step shown apart =
+    sym ((open-at profile cell taken at (verdict_shown step.shown) (letter-verdict cell row taken step known is_step)).1 (no-must-shown step.shown apart shown))

@@ -3,6 +3,7 @@ pub mod LoopLemmas
 pub mod OrderLemmas
 pub mod PieceLemmas
 pub mod CutLemmas
+pub mod AnyPieceLemmas
 pub mod ReachedLemmas
 pub mod PartLemmas
 pub mod EndLemmas

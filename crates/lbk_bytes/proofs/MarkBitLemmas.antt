@@ -4,26 +4,11 @@ use Rattle.std.specs.Int.Bits.{bit_or}
 use Rattle.std.proofs.lemmas.Bool.{and_left, and_right, cases_eq, cases_lt, eq-eqb, le-leb, lt-leb, ne_eqb}
 use Rattle.std.proofs.lemmas.Nat.{shr-shr}
 use Rattle.std.proofs.lemmas.Nat.Bits.{bit_at_above}
+use Rattle.lbk_masks.proofs.WordLemmas.{or-none}
 use Rattle.lbk_masks.proofs.BitLemmas.{set-or, set-raised}
 use Rattle.lbk_masks.specs.Sets.{is_set}
 use Rattle.lbk_bytes.specs.Marks.{is_marked}
-use Rattle.lbk_bytes.proofs.MarkLemmas.{or-assoc, or-none}
-
--- bits of one word more
-pub marked-joined : (words : List ℕ) (word i bits : ℕ) → word < length words
-    → is_marked (set words word (bit_or (get_or words word 0) bits)) i ≡ (is_marked words i || ((i / 64 == word) && is_set bits (i % 64)))
-marked-joined words word i bits within =
-    let joined = bit_or (get_or words word 0) bits in
-    ⊎_elim
-    (λ (same : i / 64 ≡ word).
-    ap (λ q. is_set (get_or (set words word joined) q 0) (i % 64)) same
-    ∙ ap (λ n. is_set n (i % 64)) (get_or-set_same words word joined 0 within)
-    ∙ set-or (get_or words word 0) bits (i % 64)
-    ∙ ap₂ ◌||◌ (ap (λ q. is_set (get_or words q 0) (i % 64)) (sym same)) (ap (λ b. b && is_set bits (i % 64)) (sym (eq-eqb (i / 64) word same))))
-    (λ (apart : i / 64 ≡ word → ⊥).
-    ap (λ n. is_set n (i % 64)) (get_or-set_other words word (i / 64) joined 0 apart)
-    ∙ or-none (is_marked words i) ((i / 64 == word) && is_set bits (i % 64)) (and_left (i / 64 == word) (is_set bits (i % 64)) (ne_eqb (i / 64) word apart)))
-    (cases_eq (i / 64) word)
+use Rattle.lbk_bytes.proofs.MarkLemmas.{or-assoc}
 
 -- no bit past the last
 pub none-past : (n i : ℕ) → n < 2 ^ 64 → 64 ≤ i → is_set n i ≡ false

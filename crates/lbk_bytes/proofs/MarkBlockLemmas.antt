@@ -5,17 +5,16 @@ use Rattle.std.proofs.lemmas.List.{length-map, take_all}
 use Rattle.lbk_masks.specs.Sets.{is_set}
 use Rattle.lbk_rules.specs.declared.Break.{Break}
 use Rattle.lbk_rules.specs.declared.Cell.{Cell}
-use Rattle.lbk_rules.specs.declared.Left.{Left}
 use Rattle.lbk_rules.specs.declared.Verdict.{Verdict}
-use Rattle.lbk_rules.specs.declared.FlatStep.{FlatStep}
+use Rattle.lbk_rules.specs.declared.Step.{Step}
 use Rattle.lbk_rules.specs.declared.Neighbours.{Neighbours}
 use Rattle.lbk_values.specs.declared.profile.Profile.{Profile}
 use Rattle.lbk_rules.specs.Breaks.{break_by, is_no}
-use Rattle.lbk_rules.specs.Codes.{verdict_coded}
 use Rattle.lbk_rules.specs.Neighbours.{step_behind}
+use Rattle.lbk_rules.specs.Rows.{verdict_shown}
 use Rattle.lbk_bytes.specs.declared.fill_state.FillState.{FillState}
-use Rattle.lbk_masks.specs.Bits.{AreKeptBelow}
-use Rattle.lbk_bytes.specs.Blocks.{IsBlock, byte_at, place_at, row_before, stands_at}
+use Rattle.lbk_masks.specs.Bits.{AreKeptBelow, AreKeptFrom}
+use Rattle.lbk_bytes.specs.Blocks.{IsBlock, IsByteTold, byte_at, place_at, row_before, stands_at}
 use Rattle.lbk_bytes.specs.Bytes.{with_break}
 use Rattle.lbk_bytes.specs.Marking.{AreBelow, AreFrom}
 use Rattle.lbk_bytes.specs.Marks.{stands_among}
@@ -38,13 +37,13 @@ as-given given =
     ap (map shown) (take_all (length given) (map raw_of given) (let same = length-map given raw_of in omega arith)) ∙ shown-all given
 
 -- a state counts what it will
-pub recount : (profile : Profile) (cell : ℕ → Cell) (lefts : List Left) (text : List ℕ) (all : Ahead) (here there : FillState) (given same : List Break)
+pub recount : (profile : Profile) (cell : ℕ → Cell) (text : List ℕ) (all : Ahead) (here there : FillState) (given same : List Break)
     → there.row ≡ here.row → there.at ≡ here.at → given ≡ same
-    → Reached profile cell lefts text all here given → Reached profile cell lefts text all there same
-recount profile cell lefts text all here there given same is_row is_at is r =
-    subst (λ g. Reached profile cell lefts text all there g) is
-    (subst (λ n. Reached profile cell lefts text all (record { count = there.count; row = n; at = there.at }) given) (sym is_row)
-    (subst (λ n. Reached profile cell lefts text all (record { count = there.count; row = here.row; at = n }) given) (sym is_at)
+    → Reached profile cell text all here given → Reached profile cell text all there same
+recount profile cell text all here there given same is_row is_at is r =
+    subst (λ g. Reached profile cell text all there g) is
+    (subst (λ n. Reached profile cell text all (record { count = there.count; row = n; at = there.at }) given) (sym is_row)
+    (subst (λ n. Reached profile cell text all (record { count = there.count; row = here.row; at = n }) given) (sym is_at)
     (record { taken = r.taken; knows = r.knows; some = r.some; joined = r.joined })))
 
 -- the break of one place
@@ -59,34 +58,34 @@ from-append place [] ys from also = also
 from-append place (b ∷ bs) ys from also = (from.0, from-append place bs ys from.1 also)
 
 -- the first bytes of a block were taken, and these are their breaks
-pub record Taken (profile : Profile) (cell : ℕ → Cell) (lefts : List Left) (text : List ℕ) (all : Ahead) (pairs : Neighbours) (front : List ℕ) (at n : ℕ) : Type 0 where
+pub record Taken (profile : Profile) (cell : ℕ → Cell) (text : List ℕ) (all : Ahead) (pairs : Neighbours) (front : List ℕ) (at n : ℕ) : Type 0 where
   pub given : List Break
-  pub reached : Reached profile cell lefts text all (place_at pairs front 0 (at + n)) given
+  pub reached : Reached profile cell text all (place_at pairs front 0 (at + n)) given
   pub from : AreFrom at given
   pub below : AreBelow (at + n) given
   pub told : (i : ℕ) → i < n → stands_among (at + i) given ≡ stands_at pairs front (at + i)
 
-none-taken : (profile : Profile) (cell : ℕ → Cell) (lefts : List Left) (text more : List ℕ) (all : Ahead) (pairs : Neighbours) (at : ℕ)
-    → Reached profile cell lefts (text ++ more) all (place_at pairs text 0 at) [] → Taken profile cell lefts (text ++ more) all pairs text at 0
-none-taken profile cell lefts text more all pairs at r = record {
+none-taken : (profile : Profile) (cell : ℕ → Cell) (text more : List ℕ) (all : Ahead) (pairs : Neighbours) (at : ℕ)
+    → Reached profile cell (text ++ more) all (place_at pairs text 0 at) [] → Taken profile cell (text ++ more) all pairs text at 0
+none-taken profile cell text more all pairs at r = record {
   given = [];
-  reached = subst (λ n. Reached profile cell lefts (text ++ more) all (place_at pairs text 0 n) []) (let e : at ≡ at + 0 = omega arith in e) r;
+  reached = subst (λ n. Reached profile cell (text ++ more) all (place_at pairs text 0 n) []) (let e : at ≡ at + 0 = omega arith in e) r;
   from = tt;
   below = tt;
   told = λ i h. absurd (omega arith);
 }
 
 -- a byte more, of which these are the breaks before it
-byte-taken : (profile : Profile) (cell : ℕ → Cell) (lefts : List Left) (text : List ℕ) (all : Ahead) (pairs : Neighbours) (front : List ℕ) (at n : ℕ) (more : List Break)
-    → (t : Taken profile cell lefts text all pairs front at n)
-    → Reached profile cell lefts text all (place_at pairs front 0 (at + n + 1)) (t.given ++ more)
+byte-taken : (profile : Profile) (cell : ℕ → Cell) (text : List ℕ) (all : Ahead) (pairs : Neighbours) (front : List ℕ) (at n : ℕ) (more : List Break)
+    → (t : Taken profile cell text all pairs front at n)
+    → Reached profile cell text all (place_at pairs front 0 (at + n + 1)) (t.given ++ more)
     → AreFrom (at + n) more → AreBelow (at + n + 1) more → stands_among (at + n) more ≡ stands_at pairs front (at + n)
-    → Taken profile cell lefts text all pairs front at (suc n)
-byte-taken profile cell lefts text all pairs front at n more t r from below told =
+    → Taken profile cell text all pairs front at (suc n)
+byte-taken profile cell text all pairs front at n more t r from below told =
     let next : at + n + 1 ≡ at + suc n = omega arith in
     record {
       given = t.given ++ more;
-      reached = subst (λ p. Reached profile cell lefts text all (place_at pairs front 0 p) (t.given ++ more)) next r;
+      reached = subst (λ p. Reached profile cell text all (place_at pairs front 0 p) (t.given ++ more)) next r;
       from = from-append at t.given more t.from (from-wider at (at + n) more (omega arith) from);
       below = subst (λ p. AreBelow p (t.given ++ more)) next
           (below-append (at + n + 1) t.given more (below-wider (at + n) (at + n + 1) t.given (omega arith) t.below) below);
@@ -103,10 +102,10 @@ byte-taken profile cell lefts text all pairs front at n more t r from below told
     }
 
 -- the next byte of a block: it begins a scalar, whose break is the one that its sets tell, or goes on with one
-one-taken : (profile : Profile) (cell : ℕ → Cell) (lefts : List Left) (text more : List ℕ) (all : Ahead) (steps : List FlatStep) (kinds : List ℕ) (pairs : Neighbours) (at taken n : ℕ)
-    → at + taken ≤ length text → IsBlock profile cell lefts steps kinds pairs text at 0 taken → n < taken
-    → Taken profile cell lefts (text ++ more) all pairs text at n → Taken profile cell lefts (text ++ more) all pairs text at (suc n)
-one-taken profile cell lefts text more all steps kinds pairs at taken n room block inside t =
+one-taken : (profile : Profile) (cell : ℕ → Cell) (text more : List ℕ) (all : Ahead) (steps : List (List Step)) (kinds : List ℕ) (pairs : Neighbours) (at taken n : ℕ)
+    → at + taken ≤ length text → IsBlock profile cell steps kinds pairs text at 0 taken → n < taken
+    → Taken profile cell (text ++ more) all pairs text at n → Taken profile cell (text ++ more) all pairs text at (suc n)
+one-taken profile cell text more all steps kinds pairs at taken n room block inside t =
     let place = at + n in
     let whole = text ++ more in
     let told = block.told n (omega arith) inside in
@@ -114,76 +113,106 @@ one-taken profile cell lefts text more all steps kinds pairs at taken n room blo
     ⊎_elim
     (λ (begins : (byte_at text place < 128) ⊎ (192 ≤ byte_at text place)).
     let step = step_behind steps kinds pairs (byte_at text (place - 1)) (byte_at text place) in
-    let verdict = verdict_coded step.code in
+    let verdict = verdict_shown step.shown in
     let given = t.given ++ with_break place verdict [] in
-    let start = recount profile cell lefts whole all (place_at pairs text 0 place) (place_at pairs text (length t.given) place) t.given (given_in (map raw_of t.given) (length t.given))
+    let start = recount profile cell whole all (place_at pairs text 0 place) (place_at pairs text (length t.given) place) t.given (given_in (map raw_of t.given) (length t.given))
     refl refl (sym (as-given t.given)) t.reached in
-    let next = scalar-more profile cell lefts text more all steps kinds pairs (map raw_of t.given) (map raw_of given) (length t.given) (length given) place
-    block.swift block.kinds_are (omega arith) begins told
-    (λ coded. as-given given ∙ ap (λ l. l ++ with_break place verdict []) (sym (as-given t.given))) start in
-    byte-taken profile cell lefts whole all pairs text at n (with_break place verdict []) t
-    (recount profile cell lefts whole all (place_at pairs text (length given) (place + 1)) (place_at pairs text 0 (place + 1)) (given_in (map raw_of given) (length given)) given refl refl (as-given given) next)
+    let next = scalar-more profile cell text more all steps kinds pairs (map raw_of t.given) (map raw_of given) (length t.given) (length given) place
+    block.steps_are block.kinds_are (omega arith) begins told
+    (as-given given ∙ ap (λ l. l ++ with_break place verdict []) (sym (as-given t.given))) start in
+    byte-taken profile cell whole all pairs text at n (with_break place verdict []) t
+    (recount profile cell whole all (place_at pairs text (length given) (place + 1)) (place_at pairs text 0 (place + 1)) (given_in (map raw_of given) (length given)) given refl refl (as-given given) next)
     (break-from place place verdict [] (omega arith) tt) (break-below (place + 1) place verdict (omega arith))
     (among-one place verdict ∙ sym (told.settled begins).1.breaks))
     (λ (last : (128 ≤ byte_at text place) × (byte_at text place < 192)).
     let quiet = told.quiet last.0 last.1 in
-    let start = recount profile cell lefts whole all (place_at pairs text 0 place) (place_at pairs text (length t.given) place) t.given (given_in (map raw_of t.given) (length t.given))
+    let start = recount profile cell whole all (place_at pairs text 0 place) (place_at pairs text (length t.given) place) t.given (given_in (map raw_of t.given) (length t.given))
     refl refl (sym (as-given t.given)) t.reached in
-    let next = stay profile cell lefts text more all pairs (map raw_of t.given) (length t.given) place quiet.0 last.1 start in
-    byte-taken profile cell lefts whole all pairs text at n [] t
-    (recount profile cell lefts whole all (place_at pairs text (length t.given) (place + 1)) (place_at pairs text 0 (place + 1)) (given_in (map raw_of t.given) (length t.given)) (t.given ++ []) refl refl
+    let next = stay profile cell text more all pairs (map raw_of t.given) (length t.given) place quiet.0 last.1 start in
+    byte-taken profile cell whole all pairs text at n [] t
+    (recount profile cell whole all (place_at pairs text (length t.given) (place + 1)) (place_at pairs text 0 (place + 1)) (given_in (map raw_of t.given) (length t.given)) (t.given ++ []) refl refl
     (as-given t.given ∙ sym (append-nil t.given)) next)
     tt tt (sym quiet.1))
     (begins-or (byte_at text place))
 
-many-taken : (profile : Profile) (cell : ℕ → Cell) (lefts : List Left) (text more : List ℕ) (all : Ahead) (steps : List FlatStep) (kinds : List ℕ) (pairs : Neighbours) (at taken n : ℕ)
-    → at + taken ≤ length text → IsBlock profile cell lefts steps kinds pairs text at 0 taken → n ≤ taken
-    → Reached profile cell lefts (text ++ more) all (place_at pairs text 0 at) []
-    → Taken profile cell lefts (text ++ more) all pairs text at n
-many-taken profile cell lefts text more all steps kinds pairs at taken zero room block inside r = none-taken profile cell lefts text more all pairs at r
-many-taken profile cell lefts text more all steps kinds pairs at taken (suc n) room block inside r =
-    one-taken profile cell lefts text more all steps kinds pairs at taken n room block (omega arith)
-    (many-taken profile cell lefts text more all steps kinds pairs at taken n room block (omega arith) r)
+many-taken : (profile : Profile) (cell : ℕ → Cell) (text more : List ℕ) (all : Ahead) (steps : List (List Step)) (kinds : List ℕ) (pairs : Neighbours) (at taken n : ℕ)
+    → at + taken ≤ length text → IsBlock profile cell steps kinds pairs text at 0 taken → n ≤ taken
+    → Reached profile cell (text ++ more) all (place_at pairs text 0 at) []
+    → Taken profile cell (text ++ more) all pairs text at n
+many-taken profile cell text more all steps kinds pairs at taken zero room block inside r = none-taken profile cell text more all pairs at r
+many-taken profile cell text more all steps kinds pairs at taken (suc n) room block inside r =
+    one-taken profile cell text more all steps kinds pairs at taken n room block (omega arith)
+    (many-taken profile cell text more all steps kinds pairs at taken n room block (omega arith) r)
 
--- the bits of a block are those of its breaks
-pub record BlockTaken (profile : Profile) (cell : ℕ → Cell) (lefts : List Left) (text : List ℕ) (all : Ahead) (pairs : Neighbours) (front : List ℕ) (at taken kept : ℕ) : Type 0 where
+-- the bytes of a block from one on are a block, too
+pub block-from : (profile : Profile) (cell : ℕ → Cell) (steps : List (List Step)) (kinds : List ℕ) (pairs : Neighbours) (text : List ℕ) (at begin taken : ℕ)
+    → begin ≤ taken → IsBlock profile cell steps kinds pairs text at begin taken → IsBlock profile cell steps kinds pairs text (at + begin) 0 (taken - begin)
+block-from profile cell steps kinds pairs text at begin taken some block =
+    let same : at + taken ≡ at + begin + (taken - begin) = omega arith in
+    record {
+      steps_are = block.steps_are;
+      kinds_are = block.kinds_are;
+      few = (let few = block.few in omega arith);
+      within = (let within = block.within in omega arith);
+      told = λ i after h.
+          subst (IsByteTold steps kinds pairs text) (let e : at + (begin + i) ≡ at + begin + i = omega arith in e) (block.told (begin + i) (omega arith) (omega arith));
+      ends = subst (λ p. byte_at text (p - 1) < 192) same block.ends;
+    }
+
+-- the bits of a block from one on are those of its breaks
+pub record BlockTaken (profile : Profile) (cell : ℕ → Cell) (text : List ℕ) (all : Ahead) (pairs : Neighbours) (front : List ℕ) (at taken kept : ℕ) : Type 0 where
   pub given : List Break
-  pub reached : Reached profile cell lefts text all (record { count = 0; row = row_before pairs front (at + taken); at = at + taken }) given
+  pub reached : Reached profile cell text all (record { count = 0; row = row_before pairs front (at + taken); at = at + taken }) given
   pub below : AreBelow (at + taken) given
   pub bits : (from i : ℕ) → from ≤ at → kept < 2 ^ 64 → (leb (at - from) i && is_set kept (i - (at - from))) ≡ stands_among (from + i) given
 
-pub block-taken : (profile : Profile) (cell : ℕ → Cell) (lefts : List Left) (text more : List ℕ) (all : Ahead) (steps : List FlatStep) (kinds : List ℕ) (pairs : Neighbours) (row at taken standing kept : ℕ)
-    → at + taken ≤ length text → IsBlock profile cell lefts steps kinds pairs text at 0 taken
-    → ((i : ℕ) → i < 64 → is_set standing i ≡ stands_at pairs text (at + i)) → AreKeptBelow taken standing kept
-    → row ≡ row_before pairs text at → byte_at text (at - 1) < 192
-    → Reached profile cell lefts (text ++ more) all (record { count = 0; row = row; at = at }) []
-    → BlockTaken profile cell lefts (text ++ more) all pairs text at taken kept
-block-taken profile cell lefts text more all steps kinds pairs row at taken standing kept room block stands are_kept is_row low r =
-    let begun = arrive profile cell lefts text more all pairs [] 0 row at at is_row (end-low text at low) r in
-    let t = many-taken profile cell lefts text more all steps kinds pairs at taken taken room block (omega arith) begun in
+pub block-taken : (profile : Profile) (cell : ℕ → Cell) (text more : List ℕ) (all : Ahead) (steps : List (List Step)) (kinds : List ℕ) (pairs : Neighbours) (row at begin taken standing since kept : ℕ)
+    → begin ≤ taken → IsBlock profile cell steps kinds pairs text at begin taken
+    → ((i : ℕ) → i < 64 → is_set standing i ≡ stands_at pairs text (at + i)) → AreKeptFrom begin standing since → AreKeptBelow taken since kept
+    → row ≡ row_before pairs text (at + begin) → byte_at text (at + begin - 1) < 192
+    → Reached profile cell (text ++ more) all (record { count = 0; row = row; at = at + begin }) []
+    → BlockTaken profile cell (text ++ more) all pairs text at taken kept
+block-taken profile cell text more all steps kinds pairs row at begin taken standing since kept some block stands are_since are_kept is_row low r =
+    let here = at + begin in
+    let left = taken - begin in
+    let room = block.within in
+    let begun = arrive profile cell text more all pairs [] 0 row here here is_row (end-low text here low) r in
+    let t = many-taken profile cell text more all steps kinds pairs here left left (omega arith)
+    (block-from profile cell steps kinds pairs text at begin taken some block) (omega arith) begun in
     let few = block.few in
     let place = at + taken in
-    let start = recount profile cell lefts (text ++ more) all (place_at pairs text 0 place) (place_at pairs text (length t.given) place) t.given (given_in (map raw_of t.given) (length t.given))
-    refl refl (sym (as-given t.given)) t.reached in
-    let left = depart profile cell lefts text more all pairs (map raw_of t.given) (length t.given) place place (end-low text place block.ends) start in
+    let whole : here + left ≡ place = omega arith in
+    let reached = subst (λ n. Reached profile cell (text ++ more) all (place_at pairs text 0 n) t.given) whole t.reached in
+    let below = subst (λ n. AreBelow n t.given) whole t.below in
+    let start = recount profile cell (text ++ more) all (place_at pairs text 0 place) (place_at pairs text (length t.given) place) t.given (given_in (map raw_of t.given) (length t.given))
+    refl refl (sym (as-given t.given)) reached in
+    let gone = depart profile cell text more all pairs (map raw_of t.given) (length t.given) place place (end-low text place block.ends) start in
     record {
       given = t.given;
-      reached = recount profile cell lefts (text ++ more) all (record { count = length t.given; row = row_before pairs text place; at = place }) (record { count = 0; row = row_before pairs text place; at = place })
-          (given_in (map raw_of t.given) (length t.given)) t.given refl refl (as-given t.given) left;
-      below = t.below;
+      reached = recount profile cell (text ++ more) all (record { count = length t.given; row = row_before pairs text place; at = place }) (record { count = 0; row = row_before pairs text place; at = place })
+          (given_in (map raw_of t.given) (length t.given)) t.given refl refl (as-given t.given) gone;
+      below = below;
       bits = λ from i after fits.
           ⊎_elim
           (λ (before : i < at - from).
-          and_left (leb (at - from) i) (is_set kept (i - (at - from))) (lt-leb (at - from) i before) ∙ sym (from-none at (from + i) t.given t.from (omega arith)))
+          and_left (leb (at - from) i) (is_set kept (i - (at - from))) (lt-leb (at - from) i before) ∙ sym (from-none here (from + i) t.given t.from (omega arith)))
           (λ (behind : at - from ≤ i).
           let k = i - (at - from) in
           let same : at + k ≡ from + i = omega arith in
           ap (λ b. b && is_set kept k) (le-leb (at - from) i behind)
           ∙ ⊎_elim
           (λ (inside : k < taken).
-          are_kept.same k inside ∙ stands k (omega arith) ∙ sym (t.told k inside) ∙ ap (λ p. stands_among p t.given) same)
+          are_kept.same k inside
+          ∙ ⊎_elim
+          (λ (earlier : k < begin). are_since.none k earlier ∙ sym (from-none here (from + i) t.given t.from (omega arith)))
+          (λ (later : begin ≤ k).
+          let on : here + (k - begin) ≡ at + k = omega arith in
+          are_since.same k later (omega arith) ∙ stands k (omega arith)
+          ∙ sym (subst (λ p. stands_among p t.given ≡ stands_at pairs text p) on (t.told (k - begin) (omega arith)))
+          ∙ ap (λ p. stands_among p t.given) same)
+          (cases_lt k begin))
           (λ (outside : taken ≤ k).
-          none-from kept taken k fits are_kept.none outside ∙ sym (below-none place (from + i) t.given t.below (omega arith)))
+          none-from kept taken k fits are_kept.none outside ∙ sym (below-none place (from + i) t.given below (omega arith)))
           (cases_lt k taken))
           (cases_lt i (at - from));
     }

@@ -11,7 +11,6 @@ use Rattle.lbk_masks.proofs.BitLemmas.{set-or}
 use Rattle.lbk_masks.specs.Sets.{is_set}
 use Rattle.lbk_rules.specs.declared.Break.{Break}
 use Rattle.lbk_rules.specs.declared.Cell.{Cell}
-use Rattle.lbk_rules.specs.declared.Left.{Left}
 use Rattle.lbk_rules.specs.declared.Verdict.{Verdict}
 use Rattle.lbk_rules.specs.Breaks.{break_by, is_no}
 use Rattle.lbk_values.specs.declared.profile.Profile.{Profile}
@@ -24,12 +23,9 @@ use Rattle.lbk_bytes.specs.Order.{AreInOrder, no_break}
 use Rattle.lbk_bytes.specs.Reached.{Ahead, Reached, onward_to}
 use Rattle.lbk_bytes.specs.Shown.{given_in, shown}
 use Rattle.lbk_masks.proofs.BitLemmas.{set-none}
+use Rattle.lbk_masks.proofs.WordLemmas.{or-none}
 
 -- A bit
-
-pub or-none : (x y : Bool) → y ≡ false → x ≡ (x || y)
-or-none true y none = refl
-or-none false y none = sym none
 
 pub or-assoc : (x y z : Bool) → ((x || y) || z) ≡ (x || (y || z))
 or-assoc true y z = refl
@@ -105,27 +101,27 @@ below-given block count from to few order =
 -- Further
 
 -- what comes from a state on is what is left of all
-later : (profile : Profile) (cell : ℕ → Cell) (lefts : List Left) (text : List ℕ) (all : Ahead) (here : FillState) (given : List Break)
-    → (r : Reached profile cell lefts text all here given)
-    → Reached profile cell lefts text (record { breaks = onward_to all.end profile cell r.taken here.at (pieces (drop here.at text)); end = all.end }) here []
-later profile cell lefts text all here given r = record { taken = r.taken; knows = r.knows; some = r.some; joined = refl }
+later : (profile : Profile) (cell : ℕ → Cell) (text : List ℕ) (all : Ahead) (here : FillState) (given : List Break)
+    → (r : Reached profile cell text all here given)
+    → Reached profile cell text (record { breaks = onward_to all.end profile cell r.taken here.at (pieces (drop here.at text)); end = all.end }) here []
+later profile cell text all here given r = record { taken = r.taken; knows = r.knows; some = r.some; joined = refl }
 
 -- some breaks more
-pub record Adds (profile : Profile) (cell : ℕ → Cell) (lefts : List Left) (text : List ℕ) (all : Ahead) (from stop : ℕ) (here there : FillState) (old new : List ℕ) : Type 0 where
+pub record Adds (profile : Profile) (cell : ℕ → Cell) (text : List ℕ) (all : Ahead) (from stop : ℕ) (here there : FillState) (old new : List ℕ) : Type 0 where
   pub given : List Break
-  pub reached : Reached profile cell lefts text all (uncounted there) given
+  pub reached : Reached profile cell text all (uncounted there) given
   pub below : AreBelow stop given
   pub marked : (i : ℕ) → is_marked new i ≡ (is_marked old i || stands_among (from + i) given)
   pub boundary : boundary_from text there.at stop ≡ boundary_from text here.at stop
 
-pub Marked-more : (profile : Profile) (cell : ℕ → Cell) (lefts : List Left) (text : List ℕ) (all : Ahead) (from stop : ℕ) (here there : FillState) (old new : List ℕ)
+pub Marked-more : (profile : Profile) (cell : ℕ → Cell) (text : List ℕ) (all : Ahead) (from stop : ℕ) (here there : FillState) (old new : List ℕ)
     → length new ≡ length old
-    → ((rest : Ahead) → Reached profile cell lefts text rest (uncounted here) [] → Adds profile cell lefts text rest from stop here there old new)
-    → Marked profile cell lefts text all from stop here old → Marked profile cell lefts text all from stop there new
-Marked-more profile cell lefts text all from stop here there old new same adds m =
+    → ((rest : Ahead) → Reached profile cell text rest (uncounted here) [] → Adds profile cell text rest from stop here there old new)
+    → Marked profile cell text all from stop here old → Marked profile cell text all from stop there new
+Marked-more profile cell text all from stop here there old new same adds m =
     let r = m.reached in
     let rest : Ahead = record { breaks = onward_to all.end profile cell r.taken here.at (pieces (drop here.at text)); end = all.end } in
-    let more = adds rest (later profile cell lefts text all (uncounted here) m.given r) in
+    let more = adds rest (later profile cell text all (uncounted here) m.given r) in
     let after = onward_to all.end profile cell more.reached.taken there.at (pieces (drop there.at text)) in
     record {
       given = m.given ++ more.given;
@@ -181,27 +177,27 @@ break-below stop at verdict below =
     elim (is_no verdict.kind) as (λ no. AreBelow stop (cond no [] (break_by at verdict ∷ []))) [ true ↦ tt | false ↦ (below, tt) ]
 
 -- a state, whatever it counts
-pub Reached-uncounted : (profile : Profile) (cell : ℕ → Cell) (lefts : List Left) (text : List ℕ) (all : Ahead) (here : FillState) (given : List Break)
-    → Reached profile cell lefts text all here given → Reached profile cell lefts text all (uncounted here) given
-Reached-uncounted profile cell lefts text all here given r = record { taken = r.taken; knows = r.knows; some = r.some; joined = r.joined }
+pub Reached-uncounted : (profile : Profile) (cell : ℕ → Cell) (text : List ℕ) (all : Ahead) (here : FillState) (given : List Break)
+    → Reached profile cell text all here given → Reached profile cell text all (uncounted here) given
+Reached-uncounted profile cell text all here given r = record { taken = r.taken; knows = r.knows; some = r.some; joined = r.joined }
 
 -- the front of a text, and what is behind it
-pub Marked-front : (profile : Profile) (cell : ℕ → Cell) (lefts : List Left) (text : List ℕ) (all : Ahead) (from stop : ℕ) (here : FillState) (words : List ℕ) → stop ≤ length text
-    → Marked profile cell lefts text all from stop here words
-    → Marked profile cell lefts (take stop text ++ drop stop text) all from (length (take stop text)) here words
-Marked-front profile cell lefts text all from stop here words within m =
-    subst (λ n. Marked profile cell lefts (take stop text ++ drop stop text) all from n here words) (sym (length-take-le stop text within))
-    (subst (λ t. Marked profile cell lefts t all from stop here words) (sym (take-append-drop stop text)) m)
+pub Marked-front : (profile : Profile) (cell : ℕ → Cell) (text : List ℕ) (all : Ahead) (from stop : ℕ) (here : FillState) (words : List ℕ) → stop ≤ length text
+    → Marked profile cell text all from stop here words
+    → Marked profile cell (take stop text ++ drop stop text) all from (length (take stop text)) here words
+Marked-front profile cell text all from stop here words within m =
+    subst (λ n. Marked profile cell (take stop text ++ drop stop text) all from n here words) (sym (length-take-le stop text within))
+    (subst (λ t. Marked profile cell t all from stop here words) (sym (take-append-drop stop text)) m)
 
-pub Marked-whole : (profile : Profile) (cell : ℕ → Cell) (lefts : List Left) (text : List ℕ) (all : Ahead) (from stop : ℕ) (here : FillState) (words : List ℕ) → stop ≤ length text
-    → Marked profile cell lefts (take stop text ++ drop stop text) all from (length (take stop text)) here words
-    → Marked profile cell lefts text all from stop here words
-Marked-whole profile cell lefts text all from stop here words within m =
-    subst (λ t. Marked profile cell lefts t all from stop here words) (take-append-drop stop text)
-    (subst (λ n. Marked profile cell lefts (take stop text ++ drop stop text) all from n here words) (length-take-le stop text within) m)
+pub Marked-whole : (profile : Profile) (cell : ℕ → Cell) (text : List ℕ) (all : Ahead) (from stop : ℕ) (here : FillState) (words : List ℕ) → stop ≤ length text
+    → Marked profile cell (take stop text ++ drop stop text) all from (length (take stop text)) here words
+    → Marked profile cell text all from stop here words
+Marked-whole profile cell text all from stop here words within m =
+    subst (λ t. Marked profile cell t all from stop here words) (take-append-drop stop text)
+    (subst (λ n. Marked profile cell (take stop text ++ drop stop text) all from n here words) (length-take-le stop text within) m)
 
 -- where nothing was given yet
-pub Marked-none : (profile : Profile) (cell : ℕ → Cell) (lefts : List Left) (text : List ℕ) (all : Ahead) (stop : ℕ) (here : FillState) (words : List ℕ)
-    → ((i : ℕ) → is_marked words i ≡ false) → Reached profile cell lefts text all (uncounted here) []
-    → Marked profile cell lefts text all here.at stop here words
-Marked-none profile cell lefts text all stop here words none r = record { given = []; reached = r; below = tt; marked = λ i h. none i; boundary = refl }
+pub Marked-none : (profile : Profile) (cell : ℕ → Cell) (text : List ℕ) (all : Ahead) (stop : ℕ) (here : FillState) (words : List ℕ)
+    → ((i : ℕ) → is_marked words i ≡ false) → Reached profile cell text all (uncounted here) []
+    → Marked profile cell text all here.at stop here words
+Marked-none profile cell text all stop here words none r = record { given = []; reached = r; below = tt; marked = λ i h. none i; boundary = refl }

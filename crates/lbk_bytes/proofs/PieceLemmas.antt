@@ -30,7 +30,7 @@ pub rest-of : (text : List ℕ) (at : ℕ) → take (length text - at) (drop at 
 rest-of text at = take_all (length text - at) (drop at text) (omega (arith, length-drop at text))
 
 -- a scalar is a code
-scalar-below : (code : ℕ) → IsScalar code → code < 0x110000
+pub scalar-below : (code : ℕ) → IsScalar code → code < 0x110000
 scalar-below code scalar = ⊎_elim (λ low. omega arith) (λ high. omega arith) (scalar_cases code scalar)
 
 -- a scalar stands there

@@ -6,7 +6,6 @@ use Rattle.std.proofs.lemmas.List.{append-nil, length-append, length-map, length
 use Rattle.bstr.specs.Utf8.{Decoded, decoded, lossy_chars, or_replacement, pieces}
 use Rattle.lbk_rules.specs.declared.Break.{Break}
 use Rattle.lbk_rules.specs.declared.Cell.{Cell}
-use Rattle.lbk_rules.specs.declared.Left.{Left}
 use Rattle.lbk_values.specs.declared.profile.Profile.{Profile}
 use Rattle.lbk_values.specs.declared.profile.Profile.TheVariants.{First, Second}
 use Rattle.lbk_rules.specs.declared.Verdict.{Verdict}
@@ -30,15 +29,15 @@ with_break-more at verdict more =
     [ true ↦ refl | false ↦ refl ]
 
 -- one more scalar
-pub Reached-step : (profile : Profile) (cell : ℕ → Cell) (lefts : List Left) (text : List ℕ) (all : Ahead) (here there : FillState) (given after : List Break)
+pub Reached-step : (profile : Profile) (cell : ℕ → Cell) (text : List ℕ) (all : Ahead) (here there : FillState) (given after : List Break)
     (p : Decoded) (verdict : Verdict)
     → decoded (drop here.at text) ≡ p → here.at < length text → there.at ≡ here.at + p.size
-    → ((taken : List ℕ) → KnowsTaken cell lefts here.row taken → KnowsTaken cell lefts there.row (taken ++ or_replacement p.char ∷ []))
-    → ((taken : List ℕ) → KnowsTaken cell lefts here.row taken
+    → ((taken : List ℕ) → KnowsTaken cell here.row taken → KnowsTaken cell there.row (taken ++ or_replacement p.char ∷ []))
+    → ((taken : List ℕ) → KnowsTaken cell here.row taken
     → verdict ≡ verdict_between_in profile (map cell taken) (cell (or_replacement p.char) ∷ map cell (lossy_chars (drop there.at text))))
     → after ≡ given ++ with_break here.at verdict []
-    → Reached profile cell lefts text all here given → Reached profile cell lefts text all there after
-Reached-step profile cell lefts text all here there given after p verdict is within moved knows decides grown r =
+    → Reached profile cell text all here given → Reached profile cell text all there after
+Reached-step profile cell text all here there given after p verdict is within moved knows decides grown r =
     let c = or_replacement p.char in
     let rest = pieces (drop there.at text) in
     let on = r.taken ++ c ∷ [] in
@@ -66,13 +65,13 @@ Reached-step profile cell lefts text all here there given after p verdict is wit
     }
 
 -- where nothing follows a text
-pub Reached-alone : (profile : Profile) (cell : ℕ → Cell) (lefts : List Left) (text : List ℕ) (all : Ahead) (here : FillState) (given : List Break)
-    → Reached profile cell lefts (text ++ []) all here given → Reached profile cell lefts text all here given
-Reached-alone profile cell lefts text all here given r = subst (λ t. Reached profile cell lefts t all here given) (append-nil text) r
+pub Reached-alone : (profile : Profile) (cell : ℕ → Cell) (text : List ℕ) (all : Ahead) (here : FillState) (given : List Break)
+    → Reached profile cell (text ++ []) all here given → Reached profile cell text all here given
+Reached-alone profile cell text all here given r = subst (λ t. Reached profile cell t all here given) (append-nil text) r
 
-pub Reached-nothing : (profile : Profile) (cell : ℕ → Cell) (lefts : List Left) (text : List ℕ) (all : Ahead) (here : FillState) (given : List Break)
-    → Reached profile cell lefts text all here given → Reached profile cell lefts (text ++ []) all here given
-Reached-nothing profile cell lefts text all here given r = subst (λ t. Reached profile cell lefts t all here given) (sym (append-nil text)) r
+pub Reached-nothing : (profile : Profile) (cell : ℕ → Cell) (text : List ℕ) (all : Ahead) (here : FillState) (given : List Break)
+    → Reached profile cell text all here given → Reached profile cell (text ++ []) all here given
+Reached-nothing profile cell text all here given r = subst (λ t. Reached profile cell t all here given) (sym (append-nil text)) r
 
 -- a break written behind the others counts where it is one
 pub written-more : (block : List RawBreak) (count : ℕ) (found : RawBreak) (at : ℕ) (verdict : Verdict) → count < length block

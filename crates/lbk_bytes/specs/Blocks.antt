@@ -1,32 +1,31 @@
 -- A block of up to 64 bytes whose breaks the sets of its bytes tell.
-use Rattle.std.specs.Prelude.{◌≡◌, ◌≢◌, ◌⊎◌, ℕ, ◌+◌, ◌-◌, ◌<◌, ◌≤◌, ◌||◌, Bool, true, false, List, length, take, drop}
+use Rattle.std.specs.Prelude.{◌≡◌, ◌⊎◌, ℕ, ◌+◌, ◌-◌, ◌<◌, ◌≤◌, ◌||◌, Bool, true, false, List, length, take, drop}
 use Rattle.std.specs.Prelude.{slice_index_or, nat_le, if◌then◌else◌}
 use Rattle.lbk_masks.specs.Sets.{is_set, left_in, meets, right_in}
 use Rattle.lbk_masks.specs.Strays.{is_stray}
 use Rattle.lbk_rules.specs.declared.Cell.{Cell}
-use Rattle.lbk_rules.specs.declared.Left.{Left}
-use Rattle.lbk_rules.specs.declared.FlatStep.{FlatStep}
+use Rattle.lbk_rules.specs.declared.Step.{Step}
 use Rattle.lbk_rules.specs.declared.Neighbours.{Neighbours}
 use Rattle.lbk_values.specs.declared.profile.Profile.{Profile}
 use Rattle.lbk_rules.specs.FlatTable.{AreFlatKinds}
-use Rattle.lbk_rules.specs.Neighbours.{AreSettled, is_special}
+use Rattle.lbk_rules.specs.Neighbours.{AreSettled, is_special, row_behind}
+use Rattle.lbk_rules.specs.Rows.{steps_in}
 use Rattle.lbk_bytes.specs.declared.blocks.BlockState.{BlockState}
 use Rattle.lbk_bytes.specs.declared.blocks.Marks.{Marks}
 use Rattle.lbk_bytes.specs.declared.fill_state.FillState.{FillState}
-use Rattle.lbk_bytes.specs.Reached.{AreSwift}
 
 -- the byte at a place
 abbrev pub byte_at : List ℕ → ℕ → ℕ
 byte_at text place = slice_index_or text place 0
 
--- the row of the byte before a place
+-- the place of the row of the byte before a place
 abbrev pub row_before : Neighbours → List ℕ → ℕ → ℕ
-row_before pairs text place = slice_index_or pairs.rows (byte_at text (place - 1)) 0
+row_before pairs text place = row_behind pairs (byte_at text (place - 1))
 
 -- the row here is that of the byte before, which is the last of a scalar of one byte or two, if of one
 pub record Rests (pairs : Neighbours) (here : FillState) (text : List ℕ) : Type 0 where
   pub below : byte_at text (here.at - 1) < 192
-  pub row : here.row ≡ row_before pairs text here.at
+  pub row : here.row ≡ slice_index_or pairs.rows (byte_at text (here.at - 1)) 0
 
 -- whether the byte at a place stands out behind the one before it
 abbrev pub stands_at : Neighbours → List ℕ → ℕ → Bool
@@ -60,15 +59,15 @@ pub record GoesOn (text : List ℕ) (place : ℕ) : Type 0 where
 
 -- a byte of a scalar of one byte or two: with the byte before it the first of a scalar tells the step by it, and the
 -- second stands behind the first and does not stand out
-pub record IsByteTold (steps : List FlatStep) (kinds : List ℕ) (pairs : Neighbours) (text : List ℕ) (place : ℕ) : Type 0 where
+pub record IsByteTold (steps : List (List Step)) (kinds : List ℕ) (pairs : Neighbours) (text : List ℕ) (place : ℕ) : Type 0 where
   pub settled : (byte_at text place < 128) ⊎ (192 ≤ byte_at text place)
       → (byte_at text (place - 1) < 192) × AreSettled steps kinds pairs (byte_at text (place - 1)) (byte_at text place)
   pub goes_on : 192 ≤ byte_at text place → GoesOn text (place + 1)
   pub quiet : 128 ≤ byte_at text place → byte_at text place < 192 → (192 ≤ byte_at text (place - 1)) × (stands_at pairs text place ≡ false)
 
 -- from one on the first bytes of the block are scalars of one byte or two, whose last is there too
-pub record IsBlock (profile : Profile) (cell : ℕ → Cell) (lefts : List Left) (steps : List FlatStep) (kinds : List ℕ) (pairs : Neighbours) (text : List ℕ) (at begin taken : ℕ) : Type 0 where
-  pub swift : AreSwift profile lefts steps
+pub record IsBlock (profile : Profile) (cell : ℕ → Cell) (steps : List (List Step)) (kinds : List ℕ) (pairs : Neighbours) (text : List ℕ) (at begin taken : ℕ) : Type 0 where
+  pub steps_are : steps ≡ steps_in profile
   pub kinds_are : AreFlatKinds kinds cell
   pub few : taken ≤ 64
   pub within : at + taken ≤ length text

@@ -2,7 +2,6 @@
 use Rattle.std.specs.Prelude.{◌≡◌, ℕ, ◌+◌, ◌*◌, ◌<◌, ◌≤◌, List, [], ◌∷◌, length}
 use Rattle.lbk_rules.specs.declared.Break.{Break}
 use Rattle.lbk_rules.specs.declared.Cell.{Cell}
-use Rattle.lbk_rules.specs.declared.Left.{Left}
 use Rattle.lbk_values.specs.declared.profile.Profile.{Profile}
 use Rattle.lbk_bytes.specs.declared.fill_state.FillState.{FillState}
 use Rattle.lbk_bytes.specs.Marks.{boundary_from, is_marked, stands_among}
@@ -24,9 +23,9 @@ uncounted here = record { count = 0; row = here.row; at = here.at }
 
 -- some breaks were given, all before byte `stop`: their bits are set, counted from byte `from` on, and no others; the
 -- call stands between two scalars, of which the one before began before that byte
-pub record Marked (profile : Profile) (cell : ℕ → Cell) (lefts : List Left) (text : List ℕ) (all : Ahead) (from stop : ℕ) (here : FillState) (words : List ℕ) : Type 0 where
+pub record Marked (profile : Profile) (cell : ℕ → Cell) (text : List ℕ) (all : Ahead) (from stop : ℕ) (here : FillState) (words : List ℕ) : Type 0 where
   pub given : List Break
-  pub reached : Reached profile cell lefts text all (uncounted here) given
+  pub reached : Reached profile cell text all (uncounted here) given
   pub below : AreBelow stop given
   pub marked : (i : ℕ) → i < 64 * length words → is_marked words i ≡ stands_among (from + i) given
   pub boundary : boundary_from text here.at stop ≡ boundary_from text from stop

@@ -1,13 +1,9 @@
 -- Breaks as bits: one for each byte of a text from a place on.
-use Rattle.std.specs.Prelude.{ℕ, ◌+◌, ◌/◌, ◌%◌, ◌==◌, ◌||◌, Bool, false, List, [], ◌∷◌, drop, nat_le, slice_index}
+use Rattle.std.specs.Prelude.{ℕ, ◌+◌, ◌==◌, ◌||◌, Bool, false, List, [], ◌∷◌, drop, nat_le}
 use Rattle.std.specs.Prelude.{if◌then◌else◌}
-use Rattle.std.specs.Int.{bit_at}
 use Rattle.bstr.specs.Utf8.{Decoded, pieces}
 use Rattle.lbk_rules.specs.declared.Break.{Break}
-
--- bit i of some words: the lowest of the first word comes first
-abbrev pub is_marked : List ℕ → ℕ → Bool
-is_marked words i = bit_at (slice_index words (i / 64)) (i % 64) == 1
+pub use Rattle.lbk_masks.specs.Bits.{is_marked}
 
 -- whether one of the breaks stands before this byte
 abbrev pub stands_among : ℕ → List Break → Bool

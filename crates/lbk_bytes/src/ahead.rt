@@ -3,58 +3,58 @@
 ghost use Rattle.std.specs.Prelude.{◌≡◌, ℕ, ◌<◌, ◌∷◌, List, map};
 ghost use Rattle.bstr.specs.Utf8.{lossy_chars};
 ghost use Rattle.lbk_rules.specs.declared.Cell.{Cell};
-ghost use Rattle.lbk_rules.specs.declared.Left.{Left};
 ghost use Rattle.lbk_values.specs.declared.profile.Profile.TheVariants.{Second};
 ghost use Rattle.lbk_rules.specs.Classes.{hard};
-ghost use Rattle.lbk_rules.specs.Codes.{IsCode, verdict_coded};
-ghost use Rattle.lbk_rules.specs.FlatTable.{AreFlatKinds, IsFlatBy, KnowsTaken};
+ghost use Rattle.lbk_rules.specs.FlatTable.{AreFlatKinds, IsFlatOf, KnowsTaken};
 ghost use Rattle.lbk_rules.specs.Normal.{normal};
 ghost use Rattle.lbk_rules.specs.Sides.{leaves_closed};
 ghost use Rattle.lbk_rules.specs.Units.{units_after};
 ghost use Rattle.lbk_rules.specs.Verdict.{verdict_between_in};
+ghost use Rattle.lbk_rules.specs.Rows.{IsPlace, IsShown, verdict_shown};
 
-use crate::steps::step_at;
 use bstr::decode_lossy;
-use lbk_rules::{FlatTable, HELD, Profile};
+use lbk_rules::{FlatTable, HELD, Profile, step_in};
 
 /// The number of the verdict before `c`, by the table's row at this place, where `rest` is the text after `c` up to its
 /// end.
-pub(crate) fn code_ahead(
+pub(crate) fn shown_ahead(
     table: &FlatTable,
     profile: Profile,
     row: usize,
     c: char,
     rest: &[u8],
 ) -> u16
-    requires { row < 65536 }
-    ensures { (cell : ℕ → Cell) (lefts : List Left) (taken : List ℕ) → IsFlatBy lefts table.now cell
-        → KnowsTaken cell lefts row taken
-        → IsCode result × (verdict_coded result
-        ≡ verdict_between_in profile (map cell taken) (cell c ∷ map cell (lossy_chars rest.now))) }
+    requires { IsPlace row }
+    ensures shown { IsShown result }
+    ensures decides { (cell : ℕ → Cell) (taken : List ℕ) → IsFlatOf table.now cell
+        → KnowsTaken cell row taken
+        → verdict_shown result
+        ≡ verdict_between_in profile (map cell taken) (cell c ∷ map cell (lossy_chars rest.now)) }
 {
     match profile {
-        Profile::First => step_at(&table.first, row, table.kinds[c as usize]).code,
-        Profile::Second => second_code(table, row, c, rest),
+        Profile::First => step_in(Profile::First, row, table.kinds[c as usize]).shown,
+        Profile::Second => second_shown(table, row, c, rest),
     }
 }
 
 /// The same in the second profile.
-fn second_code(table: &FlatTable, row: usize, c: char, rest: &[u8]) -> u16
-    requires { row < 65536 }
-    ensures { (cell : ℕ → Cell) (lefts : List Left) (taken : List ℕ) → IsFlatBy lefts table.now cell
-        → KnowsTaken cell lefts row taken
-        → IsCode result × (verdict_coded result
-        ≡ verdict_between_in Second (map cell taken) (cell c ∷ map cell (lossy_chars rest.now))) }
+fn second_shown(table: &FlatTable, row: usize, c: char, rest: &[u8]) -> u16
+    requires { IsPlace row }
+    ensures shown { IsShown result }
+    ensures decides { (cell : ℕ → Cell) (taken : List ℕ) → IsFlatOf table.now cell
+        → KnowsTaken cell row taken
+        → verdict_shown result
+        ≡ verdict_between_in Second (map cell taken) (cell c ∷ map cell (lossy_chars rest.now)) }
 {
     let kind = table.kinds[c as usize];
-    let second = step_at(&table.second, row, kind);
-    if second.code != HELD {
-        return second.code;
+    let second = step_in(Profile::Second, row, kind);
+    if second.shown != HELD {
+        return second.shown;
     }
     if closes_ahead(table, c, rest) {
-        return second.code;
+        return second.shown;
     }
-    step_at(&table.first, row, kind).code
+    step_in(Profile::First, row, kind).shown
 }
 
 /// Whether the unit after `c` leaves a closing quotation mark closed, where `rest` is the text after `c`: also where

@@ -2,24 +2,26 @@
 
 ghost use Rattle.std.specs.Prelude.{◌≡◌, ℕ, ◌+◌, ◌-◌, ◌<◌, ◌≤◌, ◌++◌, List, length, nat_le, IfSome};
 ghost use Rattle.lbk_rules.specs.declared.Cell.{Cell};
-ghost use Rattle.lbk_rules.specs.declared.Left.{Left};
 ghost use Rattle.lbk_values.specs.declared.profile.Profile.{Profile};
 ghost use Rattle.lbk_rules.specs.FlatTable.{AreFlatKinds};
 ghost use Rattle.lbk_rules.specs.Neighbours.{AreTold};
+ghost use Rattle.lbk_rules.specs.Rows.{AreSteps, IsPlace, steps_in};
 ghost use Rattle.lbk_masks.specs.Sets.{is_set};
 ghost use Rattle.lbk_masks.specs.Bits.{AreKeptBelow, IsLowest};
 ghost use Rattle.lbk_bytes.specs.Blocks.{AreEnded, AreInside, AreLeft, AreMarks, IsAhead, IsBlock, place_in};
 ghost use Rattle.lbk_bytes.specs.Blocks.{row_before};
-ghost use Rattle.lbk_bytes.specs.Reached.{Ahead, AreSwift, IsInOrder, Reached};
+ghost use Rattle.lbk_bytes.specs.Reached.{Ahead, IsInOrder, Reached};
 ghost use Rattle.lbk_bytes.specs.Shown.{given_in};
 
 use crate::fill_state::FillState;
-use crate::filling::{put_break, runs};
+use crate::filling::{put, runs};
 use crate::raw_break::RawBreak;
-use crate::steps::{CODES, step_at};
 use crate::tries::are_many;
 use lbk_masks::{first_set, kept_below, kept_from, without_first};
-use lbk_rules::{FlatStep, Neighbours, STEPS};
+use lbk_rules::{Neighbours, Rows, place_by, step_at};
+
+/// How many codes there are.
+pub(crate) const CODES: usize = 0x11_0000;
 
 /// How many bytes at most are examined together.
 pub(crate) const BLOCK: usize = 64;
@@ -55,21 +57,22 @@ pub(crate) struct BlockState {
 pub(crate) fn blocks<const MASKS: bool>(
     pairs: &Neighbours,
     kinds: &[u8; CODES],
-    steps: &[FlatStep; STEPS],
+    steps: &Rows,
     start: FillState,
     text: &[u8],
     out: &mut [RawBreak],
 ) -> FillState
-    requires { (start.count ≤ length out.old) × (start.row < 65536) × (start.at ≤ length text.now) }
-    ensures within { (result.count ≤ length out.old) × (result.row < 65536) × (result.at ≤ length text.now) }
+    requires place { (start.count ≤ length out.old) × IsPlace start.row × (start.at ≤ length text.now) }
+    requires steps { AreSteps steps.now }
+    ensures within { (result.count ≤ length out.old) × IsPlace result.row × (result.at ≤ length text.now) }
     ensures onward { (start.at ≤ result.at) × (start.count ≤ result.count) }
     ensures in_order { (from : ℕ) → IsInOrder out.old start.count from start.at
         → IsInOrder out.new result.count from result.at }
-    ensures reached { (profile : Profile) (cell : ℕ → Cell) (lefts : List Left) (more : List ℕ) (all : Ahead)
-        → AreSwift profile lefts steps.now → AreFlatKinds kinds.now cell
+    ensures reached { (profile : Profile) (cell : ℕ → Cell) (more : List ℕ) (all : Ahead)
+        → steps.now ≡ steps_in profile → AreFlatKinds kinds.now cell
         → AreTold steps.now kinds.now pairs.now
-        → Reached profile cell lefts (text.now ++ more) all start (given_in out.old start.count)
-        → Reached profile cell lefts (text.now ++ more) all result (given_in out.new result.count) }
+        → Reached profile cell (text.now ++ more) all start (given_in out.old start.count)
+        → Reached profile cell (text.now ++ more) all result (given_in out.new result.count) }
 {
     if !MASKS {
         return start;
@@ -88,20 +91,21 @@ pub(crate) fn blocks<const MASKS: bool>(
 #[inline(always)]
 fn begun(
     kinds: &[u8; CODES],
-    steps: &[FlatStep; STEPS],
+    steps: &Rows,
     start: FillState,
     text: &[u8],
     out: &mut [RawBreak],
 ) -> FillState
-    requires { (start.count ≤ length out.old) × (start.row < 65536) × (start.at ≤ length text.now) }
-    ensures within { (result.count ≤ length out.old) × (result.row < 65536) × (result.at ≤ length text.now) }
+    requires place { (start.count ≤ length out.old) × IsPlace start.row × (start.at ≤ length text.now) }
+    requires steps { AreSteps steps.now }
+    ensures within { (result.count ≤ length out.old) × IsPlace result.row × (result.at ≤ length text.now) }
     ensures onward { (start.at ≤ result.at) × (start.count ≤ result.count) }
     ensures in_order { (from : ℕ) → IsInOrder out.old start.count from start.at
         → IsInOrder out.new result.count from result.at }
-    ensures reached { (profile : Profile) (cell : ℕ → Cell) (lefts : List Left) (more : List ℕ) (all : Ahead)
-        → AreSwift profile lefts steps.now → AreFlatKinds kinds.now cell
-        → Reached profile cell lefts (text.now ++ more) all start (given_in out.old start.count)
-        → Reached profile cell lefts (text.now ++ more) all result (given_in out.new result.count) }
+    ensures reached { (profile : Profile) (cell : ℕ → Cell) (more : List ℕ) (all : Ahead)
+        → steps.now ≡ steps_in profile → AreFlatKinds kinds.now cell
+        → Reached profile cell (text.now ++ more) all start (given_in out.old start.count)
+        → Reached profile cell (text.now ++ more) all result (given_in out.new result.count) }
 {
     if start.at != 0 || text.is_empty() {
         return start;
@@ -114,21 +118,22 @@ fn begun(
 fn block(
     pairs: &Neighbours,
     kinds: &[u8; CODES],
-    steps: &[FlatStep; STEPS],
+    steps: &Rows,
     start: FillState,
     text: &[u8],
     out: &mut [RawBreak],
 ) -> FillState
-    requires { (start.count ≤ length out.old) × (start.row < 65536) × (start.at ≤ length text.now) }
-    ensures within { (result.count ≤ length out.old) × (result.row < 65536) × (result.at ≤ length text.now) }
+    requires place { (start.count ≤ length out.old) × IsPlace start.row × (start.at ≤ length text.now) }
+    requires steps { AreSteps steps.now }
+    ensures within { (result.count ≤ length out.old) × IsPlace result.row × (result.at ≤ length text.now) }
     ensures onward { (start.at ≤ result.at) × (start.count ≤ result.count) }
     ensures in_order { (from : ℕ) → IsInOrder out.old start.count from start.at
         → IsInOrder out.new result.count from result.at }
-    ensures reached { (profile : Profile) (cell : ℕ → Cell) (lefts : List Left) (more : List ℕ) (all : Ahead)
-        → AreSwift profile lefts steps.now → AreFlatKinds kinds.now cell
+    ensures reached { (profile : Profile) (cell : ℕ → Cell) (more : List ℕ) (all : Ahead)
+        → steps.now ≡ steps_in profile → AreFlatKinds kinds.now cell
         → AreTold steps.now kinds.now pairs.now
-        → Reached profile cell lefts (text.now ++ more) all start (given_in out.old start.count)
-        → Reached profile cell lefts (text.now ++ more) all result (given_in out.new result.count) }
+        → Reached profile cell (text.now ++ more) all start (given_in out.old start.count)
+        → Reached profile cell (text.now ++ more) all result (given_in out.new result.count) }
 {
     let Some(marks) = marks_ahead(pairs, start.at, text) else {
         return start;
@@ -189,25 +194,26 @@ fn past_end(length: usize) -> u64
 fn told(
     pairs: &Neighbours,
     kinds: &[u8; CODES],
-    steps: &[FlatStep; STEPS],
+    steps: &Rows,
     at: usize,
     marks: Marks,
     here: FillState,
     text: &[u8],
     out: &mut [RawBreak],
 ) -> FillState
-    requires place { (here.count ≤ length out.old) × (here.row < 65536) × (0 < at) × (at ≤ here.at)
+    requires place { (here.count ≤ length out.old) × IsPlace here.row × (0 < at) × (at ≤ here.at)
         × (here.at < at + 64) × (here.at < length text.now) }
     requires ends { AreEnded text.now at marks.stops }
-    ensures within { (result.count ≤ length out.old) × (result.row < 65536) × (result.at ≤ length text.now) }
+    requires steps { AreSteps steps.now }
+    ensures within { (result.count ≤ length out.old) × IsPlace result.row × (result.at ≤ length text.now) }
     ensures onward { (here.at ≤ result.at) × (here.count ≤ result.count) }
     ensures in_order { (from : ℕ) → IsInOrder out.old here.count from here.at
         → IsInOrder out.new result.count from result.at }
-    ensures reached { (profile : Profile) (cell : ℕ → Cell) (lefts : List Left) (more : List ℕ) (all : Ahead)
-        → AreSwift profile lefts steps.now → AreFlatKinds kinds.now cell
+    ensures reached { (profile : Profile) (cell : ℕ → Cell) (more : List ℕ) (all : Ahead)
+        → steps.now ≡ steps_in profile → AreFlatKinds kinds.now cell
         → AreTold steps.now kinds.now pairs.now → AreMarks pairs.now text.now at marks
-        → Reached profile cell lefts (text.now ++ more) all here (given_in out.old here.count)
-        → Reached profile cell lefts (text.now ++ more) all result (given_in out.new result.count) }
+        → Reached profile cell (text.now ++ more) all here (given_in out.old here.count)
+        → Reached profile cell (text.now ++ more) all result (given_in out.new result.count) }
 {
     let byte = text[here.at - 1];
     if byte >= 192 {
@@ -243,7 +249,7 @@ pub(crate) fn kept_up_to(bits: u64, count: usize) -> u64
 fn finish(
     pairs: &Neighbours,
     kinds: &[u8; CODES],
-    steps: &[FlatStep; STEPS],
+    steps: &Rows,
     at: usize,
     taken: usize,
     start: BlockState,
@@ -253,17 +259,18 @@ fn finish(
     requires place { (start.count ≤ length out.old) × (0 < at) × (at + taken ≤ length text.now) × (taken ≤ 64)
         × (at ≤ start.past) }
     requires ahead { IsAhead at taken start }
-    ensures within { (result.count ≤ length out.old) × (result.row < 65536) × (result.at ≤ length text.now) }
+    requires steps { AreSteps steps.now }
+    ensures within { (result.count ≤ length out.old) × IsPlace result.row × (result.at ≤ length text.now) }
     ensures onward { (start.past ≤ result.at) × (start.count ≤ result.count) }
     ensures in_order { (from : ℕ) → IsInOrder out.old start.count from start.past
         → IsInOrder out.new result.count from result.at }
-    ensures reached { (profile : Profile) (cell : ℕ → Cell) (lefts : List Left) (more : List ℕ) (all : Ahead)
+    ensures reached { (profile : Profile) (cell : ℕ → Cell) (more : List ℕ) (all : Ahead)
         (begin : ℕ)
-        → IsBlock profile cell lefts steps.now kinds.now pairs.now text.now at begin taken
+        → IsBlock profile cell steps.now kinds.now pairs.now text.now at begin taken
         → AreLeft pairs.now text.now at begin taken start
-        → Reached profile cell lefts (text.now ++ more) all (place_in pairs.now text.now start)
+        → Reached profile cell (text.now ++ more) all (place_in pairs.now text.now start)
         (given_in out.old start.count)
-        → Reached profile cell lefts (text.now ++ more) all result (given_in out.new result.count) }
+        → Reached profile cell (text.now ++ more) all result (given_in out.new result.count) }
 {
     let mut here = start;
     while here.left != 0 && here.count < out.len() {
@@ -277,7 +284,7 @@ fn finish(
 fn stopped(pairs: &Neighbours, at: usize, taken: usize, here: BlockState, text: &[u8]) -> FillState
     requires place { (0 < at) × (at + taken ≤ length text.now) }
     requires inside { AreInside text.now at here.left }
-    ensures within { (result.row < 65536) × (at ≤ result.at) × (result.at ≤ length text.now) }
+    ensures within { IsPlace result.row × (at ≤ result.at) × (result.at ≤ length text.now) }
     ensures count { result.count ≡ here.count }
     ensures row { result.row ≡ row_before pairs.now text.now result.at }
     ensures all { here.left ≡ 0 → result.at ≡ at + taken }
@@ -293,23 +300,24 @@ fn stopped(pairs: &Neighbours, at: usize, taken: usize, here: BlockState, text: 
 #[inline(always)]
 pub(crate) fn behind_byte(pairs: &Neighbours, count: usize, at: usize, text: &[u8]) -> FillState
     requires { (0 < at) × (at ≤ length text.now) }
-    ensures within { result.row < 65536 }
+    ensures within { IsPlace result.row }
     ensures place { (result.count ≡ count) × (result.at ≡ at) }
     ensures row { result.row ≡ row_before pairs.now text.now at }
 {
     FillState {
         count,
-        row: pairs.rows[text[at - 1] as usize] as usize,
+        row: place_by(pairs.rows[text[at - 1] as usize]),
         at,
     }
 }
 
-/// Writes the next break that is left.
+/// Writes the next break that is left, as its step says: where the sets are made up and a line does not break there,
+/// nothing.
 #[inline(always)]
 fn take_break(
     pairs: &Neighbours,
     kinds: &[u8; CODES],
-    steps: &[FlatStep; STEPS],
+    steps: &Rows,
     at: usize,
     here: BlockState,
     text: &[u8],
@@ -317,27 +325,28 @@ fn take_break(
 ) -> BlockState
     requires place { (here.count < length out.old) × (0 < here.left) × (0 < at) }
     requires inside { AreInside text.now at here.left }
+    requires steps { AreSteps steps.now }
     ensures ahead { (taken : ℕ) → IsAhead at taken here → IsAhead at taken result × (here.past ≤ result.past) }
     ensures in_order { (taken from : ℕ) → IsAhead at taken here → IsInOrder out.old here.count from here.past
         → IsInOrder out.new result.count from result.past }
     ensures within { (result.count ≤ length out.old) × (at ≤ result.past) }
     ensures onward { (here.count ≤ result.count) × (result.left < here.left) }
-    ensures reached { (profile : Profile) (cell : ℕ → Cell) (lefts : List Left) (more : List ℕ) (all : Ahead)
+    ensures reached { (profile : Profile) (cell : ℕ → Cell) (more : List ℕ) (all : Ahead)
         (begin taken : ℕ)
-        → IsBlock profile cell lefts steps.now kinds.now pairs.now text.now at begin taken
+        → IsBlock profile cell steps.now kinds.now pairs.now text.now at begin taken
         → AreLeft pairs.now text.now at begin taken here
-        → Reached profile cell lefts (text.now ++ more) all (place_in pairs.now text.now here)
+        → Reached profile cell (text.now ++ more) all (place_in pairs.now text.now here)
         (given_in out.old here.count)
         → AreLeft pairs.now text.now at begin taken result
-        × Reached profile cell lefts (text.now ++ more) all (place_in pairs.now text.now result)
+        × Reached profile cell (text.now ++ more) all (place_in pairs.now text.now result)
         (given_in out.new result.count) }
 {
     let index = first_set(here.left);
     let place = at + index;
-    let row = pairs.rows[text[place - 1] as usize] as usize;
+    let row = place_by(pairs.rows[text[place - 1] as usize]);
     let step = step_at(steps, row, kinds[text[place] as usize]);
     BlockState {
-        count: put_break(out, here.count, place, step.code),
+        count: put(out, here.count, place, step.shown),
         past: place + 1,
         left: without_first(here.left),
     }

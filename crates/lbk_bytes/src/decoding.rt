@@ -1,8 +1,8 @@
-//! The scalars of one, two and three bytes, read without a call.
+//! Scalars and ill-formed bytes, read without a call.
 
 ghost use Rattle.std.specs.Prelude.{◌≡◌, ◌<◌, ◌≤◌, ◌⊎◌, true, length, IfSome};
-ghost use Rattle.bstr.specs.Utf8.{code_of_2, code_of_3, continues, decoded, good};
-ghost use Rattle.lbk_bytes.specs.Widths.{more_of};
+ghost use Rattle.bstr.specs.Utf8.{code_of_2, code_of_3, code_of_4, continues, decoded, good, or_replacement, second};
+ghost use Rattle.lbk_bytes.specs.Widths.{longer_by, more_of};
 
 /// A scalar value and how many bytes it takes.
 #[derive(Clone, Copy)]
@@ -114,6 +114,93 @@ fn scalar_of_three(bytes: &[u8]) -> Option<Scalar>
     Some(Scalar { code, size: 3 })
 }
 
+/// What ill-formed bytes are read as: U+FFFD.
+pub(crate) const REPLACEMENT: u32 = 0xFFFD;
+
+/// How many bytes decide what stands at their front.
+pub(crate) const ENOUGH: usize = 4;
+
+/// The scalar at the front of some bytes, or U+FFFD for the longest piece that begins none (Unicode Standard, section
+/// 3.9, table 3-7).
+#[inline(always)]
+pub(crate) fn piece_of(bytes: &[u8]) -> Scalar
+    requires { 3 < length bytes.now }
+    ensures code { result.code ≡ or_replacement (decoded bytes.now).char }
+    ensures size { result.size ≡ (decoded bytes.now).size }
+{
+    let first = bytes[0];
+    if first < 0xC2 || 0xF4 < first {
+        let code = if first < 0x80 {
+            u32::from(first)
+        } else {
+            REPLACEMENT
+        };
+        return Scalar { code, size: 1 };
+    }
+    let next = bytes[1];
+    if !is_second(first, next) {
+        return ill_formed(1);
+    }
+    if first < 0xE0 {
+        return Scalar {
+            code: code_of_two(first, next),
+            size: 2,
+        };
+    }
+    longer_piece(first, next, bytes[2], bytes[3])
+}
+
+/// The same where the first two bytes begin a scalar of more.
+#[inline(always)]
+fn longer_piece(first: u8, next: u8, third: u8, last: u8) -> Scalar
+    requires first { (0xE0 ≤ first) × (first ≤ 0xF4) }
+    requires next { second first next ≡ true }
+    ensures code { result.code ≡ or_replacement (longer_by first next third last).char }
+    ensures size { result.size ≡ (longer_by first next third last).size }
+{
+    if !is_continuation(third) {
+        return ill_formed(2);
+    }
+    if first < 0xF0 {
+        return Scalar {
+            code: code_of_three(first, next, third),
+            size: 3,
+        };
+    }
+    if !is_continuation(last) {
+        return ill_formed(3);
+    }
+    Scalar {
+        code: code_of_four(first, next, third, last),
+        size: 4,
+    }
+}
+
+/// So many bytes that begin no scalar.
+#[inline(always)]
+fn ill_formed(size: usize) -> Scalar
+    ensures { (result.code ≡ 0xFFFD) × (result.size ≡ size) }
+{
+    Scalar {
+        code: REPLACEMENT,
+        size,
+    }
+}
+
+/// Whether a byte may stand second after this first of a scalar.
+#[inline(always)]
+fn is_second(first: u8, next: u8) -> bool
+    ensures { result ≡ second first next }
+{
+    match first {
+        0xE0 => 0x9F < next && next < 0xC0,
+        0xED => 0x7F < next && next < 0xA0,
+        0xF0 => 0x8F < next && next < 0xC0,
+        0xF4 => 0x7F < next && next < 0x90,
+        _ => is_continuation(next),
+    }
+}
+
 /// Whether a byte may stand after the first of a scalar.
 #[inline(always)]
 fn is_continuation(byte: u8) -> bool
@@ -147,4 +234,17 @@ fn code_of_three(first: u8, next: u8, last: u8) -> u32
     ensures { result ≡ code_of_3 first next last }
 {
     ((u32::from(first) - 0xE0) * 64 + (u32::from(next) - 0x80)) * 64 + (u32::from(last) - 0x80)
+}
+
+#[inline(always)]
+fn code_of_four(first: u8, next: u8, third: u8, last: u8) -> u32
+    requires first { (0xF0 ≤ first) × (first ≤ 0xF4) }
+    requires next { 0x80 ≤ next }
+    requires third { continues third ≡ true }
+    requires last { continues last ≡ true }
+    ensures { result ≡ code_of_4 first next third last }
+{
+    (((u32::from(first) - 0xF0) * 64 + (u32::from(next) - 0x80)) * 64 + (u32::from(third) - 0x80))
+        * 64
+        + (u32::from(last) - 0x80)
 }

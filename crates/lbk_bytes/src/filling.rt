@@ -2,27 +2,25 @@
 
 ghost use Rattle.std.specs.Prelude.{◌≡◌, ℕ, ◌+◌, ◌<◌, ◌≤◌, ◌++◌, [], List, false, length, take};
 ghost use Rattle.lbk_rules.specs.declared.Cell.{Cell};
-ghost use Rattle.lbk_rules.specs.declared.Left.{Left};
 ghost use Rattle.lbk_values.specs.declared.profile.Profile.{Profile};
-ghost use Rattle.lbk_rules.specs.Breaks.{is_no};
-ghost use Rattle.lbk_rules.specs.Codes.{IsCode, verdict_coded};
-ghost use Rattle.lbk_rules.specs.FlatTable.{AreFlatKinds, IsFlatBy};
+ghost use Rattle.lbk_rules.specs.FlatTable.{AreFlatKinds, IsFlatOf};
 ghost use Rattle.lbk_rules.specs.Neighbours.{AreTold};
+ghost use Rattle.lbk_rules.specs.Rows.{AreSteps, IsPlace, IsShown, steps_in, verdict_shown};
 ghost use Rattle.lbk_bytes.specs.Bytes.{with_break};
 ghost use Rattle.lbk_bytes.specs.Marks.{boundary_from};
 ghost use Rattle.lbk_bytes.specs.Order.{AreBreaks, AreInOrder};
-ghost use Rattle.lbk_bytes.specs.Reached.{Ahead, AreSwift, IsInOrder, Reached, steps_in};
+ghost use Rattle.lbk_bytes.specs.Reached.{Ahead, IsInOrder, Reached};
 ghost use Rattle.lbk_bytes.specs.Shown.{given_in};
 
-use crate::blocks::{BLOCK, LEAST, blocks};
+use crate::blocks::{BLOCK, CODES, LEAST, blocks};
 use crate::deciding::decide_one;
 use crate::decoding::{Width, scalar_of};
 use crate::fill_state::FillState;
+use crate::held::take_ones;
+use crate::pieces::pieces;
 use crate::raw_break::RawBreak;
-use crate::shown::{shown_of, shown_of_break};
-use crate::steps::{CODES, pairs_of, step_at, steps_of};
 use crate::tries::{are_short, next_try};
-use lbk_rules::{FlatStep, FlatTable, Neighbours, Profile, STEPS, VERDICTS, is_break};
+use lbk_rules::{FlatTable, HELD, Neighbours, Profile, Rows, rows_of, shows_break, step_at};
 
 /// Goes on until the block is full or the text ends, and writes the breaks before the scalars taken after those in
 /// the front of the block. In a text of fewer than 64 bytes the scalars that no block takes are gone over here, with
@@ -36,15 +34,15 @@ pub fn fill<const MASKS: bool>(
     text: &[u8],
     out: &mut [RawBreak],
 ) -> FillState
-    requires { (start.count ≤ length out.old) × (start.row < 65536) × (start.at ≤ length text.now) }
-    ensures within { (result.count ≤ length out.old) × (result.row < 65536) × (result.at ≤ length text.now) }
+    requires { (start.count ≤ length out.old) × IsPlace start.row × (start.at ≤ length text.now) }
+    ensures within { (result.count ≤ length out.old) × IsPlace result.row × (result.at ≤ length text.now) }
     ensures stops { result.count < length out.old → result.at ≡ length text.now }
     ensures no_room { length out.old ≡ 0 → result ≡ start }
     ensures in_order { (from : ℕ) → IsInOrder out.old start.count from start.at
         → IsInOrder out.new result.count from result.at }
-    ensures reached { (cell : ℕ → Cell) (lefts : List Left) (all : Ahead) → IsFlatBy lefts table.now cell
-        → Reached profile cell lefts text.now all start (given_in out.old start.count)
-        → Reached profile cell lefts text.now all result (given_in out.new result.count) }
+    ensures reached { (cell : ℕ → Cell) (all : Ahead) → IsFlatOf table.now cell
+        → Reached profile cell text.now all start (given_in out.old start.count)
+        → Reached profile cell text.now all result (given_in out.new result.count) }
 {
     if start.count == out.len() {
         return start;
@@ -52,7 +50,7 @@ pub fn fill<const MASKS: bool>(
     if BLOCK <= text.len() - start.at {
         return copied(fill_on::<MASKS>(table, profile, start, text, out));
     }
-    let steps = steps_of(table, profile);
+    let steps = rows_of(profile);
     let begun = few::<MASKS>(table, profile, steps, start, text, out);
     let here = scalars(&table.kinds, steps, begun, text.len(), text, out);
     if here.count == out.len() || here.at == text.len() {
@@ -66,21 +64,21 @@ pub fn fill<const MASKS: bool>(
 fn few<const MASKS: bool>(
     table: &FlatTable,
     profile: Profile,
-    steps: &[FlatStep; STEPS],
+    steps: &Rows,
     start: FillState,
     text: &[u8],
     out: &mut [RawBreak],
 ) -> FillState
-    requires place { (start.count ≤ length out.old) × (start.row < 65536) × (start.at ≤ length text.now) }
-    requires steps { steps.now ≡ steps_in table.now profile }
-    ensures within { (result.count ≤ length out.old) × (result.row < 65536) × (result.at ≤ length text.now) }
+    requires place { (start.count ≤ length out.old) × IsPlace start.row × (start.at ≤ length text.now) }
+    requires steps { steps.now ≡ steps_in profile }
+    ensures within { (result.count ≤ length out.old) × IsPlace result.row × (result.at ≤ length text.now) }
     ensures onward { (start.at ≤ result.at) × (start.count ≤ result.count) }
     ensures in_order { (from : ℕ) → IsInOrder out.old start.count from start.at
         → IsInOrder out.new result.count from result.at }
-    ensures reached { (cell : ℕ → Cell) (lefts : List Left) (more : List ℕ) (all : Ahead)
-        → IsFlatBy lefts table.now cell
-        → Reached profile cell lefts (text.now ++ more) all start (given_in out.old start.count)
-        → Reached profile cell lefts (text.now ++ more) all result (given_in out.new result.count) }
+    ensures reached { (cell : ℕ → Cell) (more : List ℕ) (all : Ahead)
+        → IsFlatOf table.now cell
+        → Reached profile cell (text.now ++ more) all start (given_in out.old start.count)
+        → Reached profile cell (text.now ++ more) all result (given_in out.new result.count) }
 {
     if !MASKS || text.len() - start.at < LEAST {
         return start;
@@ -88,8 +86,7 @@ fn few<const MASKS: bool>(
     if !are_short(&text[start.at..]) {
         return start;
     }
-    let pairs = pairs_of(table, profile);
-    copied(blocks::<MASKS>(pairs, &table.kinds, steps, start, text, out))
+    copied(blocks::<MASKS>(&table.pairs, &table.kinds, steps, start, text, out))
 }
 
 /// The same state, field by field. A state that a call takes or returns stands in memory, and a copy of it in
@@ -114,15 +111,15 @@ fn fill_on<const MASKS: bool>(
     text: &[u8],
     out: &mut [RawBreak],
 ) -> FillState
-    requires { (start.count ≤ length out.old) × (start.row < 65536) × (start.at ≤ length text.now) }
-    ensures within { (result.count ≤ length out.old) × (result.row < 65536) × (result.at ≤ length text.now) }
+    requires { (start.count ≤ length out.old) × IsPlace start.row × (start.at ≤ length text.now) }
+    ensures within { (result.count ≤ length out.old) × IsPlace result.row × (result.at ≤ length text.now) }
     ensures stops { result.count < length out.old → result.at ≡ length text.now }
     ensures no_room { length out.old ≡ 0 → result ≡ start }
     ensures in_order { (from : ℕ) → IsInOrder out.old start.count from start.at
         → IsInOrder out.new result.count from result.at }
-    ensures reached { (cell : ℕ → Cell) (lefts : List Left) (all : Ahead) → IsFlatBy lefts table.now cell
-        → Reached profile cell lefts text.now all start (given_in out.old start.count)
-        → Reached profile cell lefts text.now all result (given_in out.new result.count) }
+    ensures reached { (cell : ℕ → Cell) (all : Ahead) → IsFlatOf table.now cell
+        → Reached profile cell text.now all start (given_in out.old start.count)
+        → Reached profile cell text.now all result (given_in out.new result.count) }
 {
     let mut here = start;
     while here.count < out.len() && here.at < text.len() {
@@ -131,8 +128,8 @@ fn fill_on<const MASKS: bool>(
     here
 }
 
-/// Takes blocks of bytes and common scalars until another comes, the block is full or the text ends, whatever may
-/// follow the text.
+/// Takes blocks of bytes, scalars and ill-formed bytes until a held position comes, the block is full or the last
+/// bytes of the text come, whatever may follow the text.
 #[inline(never)]
 pub fn fill_common(
     table: &FlatTable,
@@ -141,15 +138,15 @@ pub fn fill_common(
     text: &[u8],
     out: &mut [RawBreak],
 ) -> FillState
-    requires { (start.count ≤ length out.old) × (start.row < 65536) × (start.at ≤ length text.now) }
-    ensures within { (result.count ≤ length out.old) × (result.row < 65536) × (result.at ≤ length text.now) }
+    requires { (start.count ≤ length out.old) × IsPlace start.row × (start.at ≤ length text.now) }
+    ensures within { (result.count ≤ length out.old) × IsPlace result.row × (result.at ≤ length text.now) }
     ensures onward { (start.at ≤ result.at) × (start.count ≤ result.count) }
     ensures in_order { (from : ℕ) → IsInOrder out.old start.count from start.at
         → IsInOrder out.new result.count from result.at }
-    ensures reached { (cell : ℕ → Cell) (lefts : List Left) (more : List ℕ) (all : Ahead)
-        → IsFlatBy lefts table.now cell
-        → Reached profile cell lefts (text.now ++ more) all start (given_in out.old start.count)
-        → Reached profile cell lefts (text.now ++ more) all result (given_in out.new result.count) }
+    ensures reached { (cell : ℕ → Cell) (more : List ℕ) (all : Ahead)
+        → IsFlatOf table.now cell
+        → Reached profile cell (text.now ++ more) all start (given_in out.old start.count)
+        → Reached profile cell (text.now ++ more) all result (given_in out.new result.count) }
 {
     if start.at == text.len() {
         return start;
@@ -170,28 +167,30 @@ fn further<const MASKS: bool>(
     text: &[u8],
     out: &mut [RawBreak],
 ) -> FillState
-    requires { (here.count < length out.old) × (here.row < 65536) × (here.at < length text.now) }
-    ensures within { (result.count ≤ length out.old) × (result.row < 65536) × (result.at ≤ length text.now) }
+    requires { (here.count < length out.old) × IsPlace here.row × (here.at < length text.now) }
+    ensures within { (result.count ≤ length out.old) × IsPlace result.row × (result.at ≤ length text.now) }
     ensures onward { here.count + here.at < result.count + result.at }
     ensures in_order { (from : ℕ) → IsInOrder out.old here.count from here.at
         → IsInOrder out.new result.count from result.at }
     ensures both { (here.count ≤ result.count) × (here.at ≤ result.at) }
-    ensures reached { (cell : ℕ → Cell) (lefts : List Left) (all : Ahead) → IsFlatBy lefts table.now cell
-        → Reached profile cell lefts text.now all here (given_in out.old here.count)
-        → Reached profile cell lefts text.now all result (given_in out.new result.count) }
+    ensures reached { (cell : ℕ → Cell) (all : Ahead) → IsFlatOf table.now cell
+        → Reached profile cell text.now all here (given_in out.old here.count)
+        → Reached profile cell text.now all result (given_in out.new result.count) }
 {
     let part = common_part::<MASKS>(table, profile, here, text, out);
     if part.here.at < part.until && part.here.count < out.len() {
-        return take_one(table, profile, part.here, text, out);
+        return take_ones(table, profile, part.here, text, out);
     }
     part.here
 }
 
 /// How far a part of a text was taken, and up to where it goes.
 #[derive(Clone, Copy)]
-struct Part {
-    here: FillState,
-    until: usize,
+pub(crate) struct Part {
+    /// How far a call has come.
+    pub(crate) here: FillState,
+    /// Where blocks are tried again.
+    pub(crate) until: usize,
 }
 
 /// Takes blocks of bytes and then common scalars, up to the first that begins where blocks are tried again or after
@@ -204,20 +203,19 @@ fn common_part<const MASKS: bool>(
     text: &[u8],
     out: &mut [RawBreak],
 ) -> Part
-    requires { (here.count ≤ length out.old) × (here.row < 65536) × (here.at < length text.now) }
-    ensures within { (result.here.count ≤ length out.old) × (result.here.row < 65536)
+    requires { (here.count ≤ length out.old) × IsPlace here.row × (here.at < length text.now) }
+    ensures within { (result.here.count ≤ length out.old) × IsPlace result.here.row
         × (result.here.at ≤ length text.now) × (result.until ≤ length text.now) }
     ensures onward { (here.count ≤ result.here.count) × (here.at ≤ result.here.at) × (here.at < result.until) }
     ensures in_order { (from : ℕ) → IsInOrder out.old here.count from here.at
         → IsInOrder out.new result.here.count from result.here.at }
-    ensures reached { (cell : ℕ → Cell) (lefts : List Left) (more : List ℕ) (all : Ahead)
-        → IsFlatBy lefts table.now cell
-        → Reached profile cell lefts (text.now ++ more) all here (given_in out.old here.count)
-        → Reached profile cell lefts (text.now ++ more) all result.here (given_in out.new result.here.count) }
+    ensures reached { (cell : ℕ → Cell) (more : List ℕ) (all : Ahead)
+        → IsFlatOf table.now cell
+        → Reached profile cell (text.now ++ more) all here (given_in out.old here.count)
+        → Reached profile cell (text.now ++ more) all result.here (given_in out.new result.here.count) }
 {
-    let steps = steps_of(table, profile);
-    let pairs = pairs_of(table, profile);
-    let there = blocks::<MASKS>(pairs, &table.kinds, steps, here, text, out);
+    let steps = rows_of(profile);
+    let there = blocks::<MASKS>(&table.pairs, &table.kinds, steps, here, text, out);
     let until = next_try::<MASKS>(there.at, text);
     Part {
         here: quick(&table.kinds, steps, there, until, text, out),
@@ -225,55 +223,68 @@ fn common_part<const MASKS: bool>(
     }
 }
 
-/// Takes scalars that begin before a byte, as long as none of four bytes, no ill-formed bytes and no held position
-/// come, whatever may follow the text. It calls nothing, so that all it has stays in registers.
+/// Takes scalars and ill-formed bytes that begin before a byte, up to a held position or the text's last bytes,
+/// whatever may follow the text. The loop for common scalars calls nothing, so that all it has stays in registers.
 #[inline(never)]
 pub(crate) fn quick(
     kinds: &[u8; CODES],
-    steps: &[FlatStep; STEPS],
+    steps: &Rows,
     start: FillState,
     stop: usize,
     text: &[u8],
     out: &mut [RawBreak],
 ) -> FillState
-    requires { (start.count ≤ length out.old) × (start.row < 65536) × (start.at ≤ length text.now)
+    requires place { (start.count ≤ length out.old) × IsPlace start.row × (start.at ≤ length text.now)
         × (stop ≤ length text.now) }
-    ensures within { (result.count ≤ length out.old) × (result.row < 65536) × (result.at ≤ length text.now) }
+    requires steps { AreSteps steps.now }
+    ensures within { (result.count ≤ length out.old) × IsPlace result.row × (result.at ≤ length text.now) }
     ensures onward { (start.at ≤ result.at) × (start.count ≤ result.count) }
     ensures in_order { (from : ℕ) → IsInOrder out.old start.count from start.at
         → IsInOrder out.new result.count from result.at }
     ensures boundary { (more : List ℕ) (place : ℕ) → stop ≤ place
         → boundary_from (text.now ++ more) result.at place ≡ boundary_from (text.now ++ more) start.at place }
-    ensures reached { (profile : Profile) (cell : ℕ → Cell) (lefts : List Left) (more : List ℕ) (all : Ahead)
-        → AreSwift profile lefts steps.now → AreFlatKinds kinds.now cell
-        → Reached profile cell lefts (text.now ++ more) all start (given_in out.old start.count)
-        → Reached profile cell lefts (text.now ++ more) all result (given_in out.new result.count) }
+    ensures reached { (profile : Profile) (cell : ℕ → Cell) (more : List ℕ) (all : Ahead)
+        → steps.now ≡ steps_in profile → AreFlatKinds kinds.now cell
+        → Reached profile cell (text.now ++ more) all start (given_in out.old start.count)
+        → Reached profile cell (text.now ++ more) all result (given_in out.new result.count) }
 {
-    scalars(kinds, steps, start, stop, text, out)
+    let mut here = start;
+    while here.at < stop {
+        let common = scalars(kinds, steps, here, stop, text, out);
+        if stop <= common.at || common.count == out.len() {
+            return common;
+        }
+        here = pieces(kinds, steps, common, stop, text, out);
+        if here.at == common.at {
+            return here;
+        }
+    }
+    here
 }
 
-/// The same, where it is called from.
+/// Takes common scalars that begin before a byte: of at most three bytes, and where no position is held.
 #[inline(always)]
 fn scalars(
     kinds: &[u8; CODES],
-    steps: &[FlatStep; STEPS],
+    steps: &Rows,
     start: FillState,
     stop: usize,
     text: &[u8],
     out: &mut [RawBreak],
 ) -> FillState
-    requires { (start.count ≤ length out.old) × (start.row < 65536) × (start.at ≤ length text.now)
+    requires place { (start.count ≤ length out.old) × IsPlace start.row × (start.at ≤ length text.now)
         × (stop ≤ length text.now) }
-    ensures within { (result.count ≤ length out.old) × (result.row < 65536) × (result.at ≤ length text.now) }
+    requires steps { AreSteps steps.now }
+    ensures within { (result.count ≤ length out.old) × IsPlace result.row × (result.at ≤ length text.now) }
     ensures onward { (start.at ≤ result.at) × (start.count ≤ result.count) }
     ensures in_order { (from : ℕ) → IsInOrder out.old start.count from start.at
         → IsInOrder out.new result.count from result.at }
     ensures boundary { (more : List ℕ) (place : ℕ) → stop ≤ place
         → boundary_from (text.now ++ more) result.at place ≡ boundary_from (text.now ++ more) start.at place }
-    ensures reached { (profile : Profile) (cell : ℕ → Cell) (lefts : List Left) (more : List ℕ) (all : Ahead)
-        → AreSwift profile lefts steps.now → AreFlatKinds kinds.now cell
-        → Reached profile cell lefts (text.now ++ more) all start (given_in out.old start.count)
-        → Reached profile cell lefts (text.now ++ more) all result (given_in out.new result.count) }
+    ensures reached { (profile : Profile) (cell : ℕ → Cell) (more : List ℕ) (all : Ahead)
+        → steps.now ≡ steps_in profile → AreFlatKinds kinds.now cell
+        → Reached profile cell (text.now ++ more) all start (given_in out.old start.count)
+        → Reached profile cell (text.now ++ more) all result (given_in out.new result.count) }
 {
     let mut here = start;
     while here.at < stop {
@@ -290,24 +301,25 @@ fn scalars(
 #[inline(always)]
 pub(crate) fn runs(
     kinds: &[u8; CODES],
-    steps: &[FlatStep; STEPS],
+    steps: &Rows,
     start: FillState,
     stop: usize,
     text: &[u8],
     out: &mut [RawBreak],
 ) -> FillState
-    requires { (start.count ≤ length out.old) × (start.row < 65536) × (start.at ≤ length text.now)
+    requires place { (start.count ≤ length out.old) × IsPlace start.row × (start.at ≤ length text.now)
         × (stop ≤ length text.now) }
-    ensures within { (result.count ≤ length out.old) × (result.row < 65536) × (result.at ≤ length text.now) }
+    requires steps { AreSteps steps.now }
+    ensures within { (result.count ≤ length out.old) × IsPlace result.row × (result.at ≤ length text.now) }
     ensures onward { (start.at ≤ result.at) × (start.count ≤ result.count) }
     ensures in_order { (from : ℕ) → IsInOrder out.old start.count from start.at
         → IsInOrder out.new result.count from result.at }
     ensures boundary { (more : List ℕ) (place : ℕ) → stop ≤ place
         → boundary_from (text.now ++ more) result.at place ≡ boundary_from (text.now ++ more) start.at place }
-    ensures reached { (profile : Profile) (cell : ℕ → Cell) (lefts : List Left) (more : List ℕ) (all : Ahead)
-        → AreSwift profile lefts steps.now → AreFlatKinds kinds.now cell
-        → Reached profile cell lefts (text.now ++ more) all start (given_in out.old start.count)
-        → Reached profile cell lefts (text.now ++ more) all result (given_in out.new result.count) }
+    ensures reached { (profile : Profile) (cell : ℕ → Cell) (more : List ℕ) (all : Ahead)
+        → steps.now ≡ steps_in profile → AreFlatKinds kinds.now cell
+        → Reached profile cell (text.now ++ more) all start (given_in out.old start.count)
+        → Reached profile cell (text.now ++ more) all result (given_in out.new result.count) }
 {
     let behind_one = run(Width::One, kinds, steps, start, stop, text, out);
     if stop <= behind_one.at {
@@ -325,24 +337,25 @@ pub(crate) fn runs(
 fn run(
     width: Width,
     kinds: &[u8; CODES],
-    steps: &[FlatStep; STEPS],
+    steps: &Rows,
     start: FillState,
     stop: usize,
     text: &[u8],
     out: &mut [RawBreak],
 ) -> FillState
-    requires { (start.count ≤ length out.old) × (start.row < 65536) × (start.at ≤ length text.now)
+    requires place { (start.count ≤ length out.old) × IsPlace start.row × (start.at ≤ length text.now)
         × (stop ≤ length text.now) }
-    ensures within { (result.count ≤ length out.old) × (result.row < 65536) × (result.at ≤ length text.now) }
+    requires steps { AreSteps steps.now }
+    ensures within { (result.count ≤ length out.old) × IsPlace result.row × (result.at ≤ length text.now) }
     ensures onward { (start.at ≤ result.at) × (start.count ≤ result.count) }
     ensures in_order { (from : ℕ) → IsInOrder out.old start.count from start.at
         → IsInOrder out.new result.count from result.at }
     ensures boundary { (more : List ℕ) (place : ℕ) → stop ≤ place
         → boundary_from (text.now ++ more) result.at place ≡ boundary_from (text.now ++ more) start.at place }
-    ensures reached { (profile : Profile) (cell : ℕ → Cell) (lefts : List Left) (more : List ℕ) (all : Ahead)
-        → AreSwift profile lefts steps.now → AreFlatKinds kinds.now cell
-        → Reached profile cell lefts (text.now ++ more) all start (given_in out.old start.count)
-        → Reached profile cell lefts (text.now ++ more) all result (given_in out.new result.count) }
+    ensures reached { (profile : Profile) (cell : ℕ → Cell) (more : List ℕ) (all : Ahead)
+        → steps.now ≡ steps_in profile → AreFlatKinds kinds.now cell
+        → Reached profile cell (text.now ++ more) all start (given_in out.old start.count)
+        → Reached profile cell (text.now ++ more) all result (given_in out.new result.count) }
 {
     let mut count = start.count;
     let mut row = start.row;
@@ -353,10 +366,10 @@ fn run(
             break;
         };
         let step = step_at(steps, row, kinds[scalar.code as usize]);
-        if VERDICTS <= step.code {
+        if step.shown == HELD {
             break;
         }
-        count = put(out, count, at, step.code);
+        count = put(out, count, at, step.shown);
         row = step.next as usize;
         at += scalar.size;
     }
@@ -364,24 +377,24 @@ fn run(
 }
 
 /// Takes one scalar, whatever it is, and writes the break before it.
-fn take_one(
+pub(crate) fn take_one(
     table: &FlatTable,
     profile: Profile,
     here: FillState,
     text: &[u8],
     out: &mut [RawBreak],
 ) -> FillState
-    requires { (here.count < length out.old) × (here.row < 65536) × (here.at < length text.now) }
-    ensures within { (result.count ≤ length out.old) × (result.row < 65536) × (result.at ≤ length text.now) }
+    requires { (here.count < length out.old) × IsPlace here.row × (here.at < length text.now) }
+    ensures within { (result.count ≤ length out.old) × IsPlace result.row × (result.at ≤ length text.now) }
     ensures onward { (here.at < result.at) × (here.count ≤ result.count) }
     ensures in_order { (from : ℕ) → IsInOrder out.old here.count from here.at
         → IsInOrder out.new result.count from result.at }
-    ensures reached { (cell : ℕ → Cell) (lefts : List Left) (all : Ahead) → IsFlatBy lefts table.now cell
-        → Reached profile cell lefts text.now all here (given_in out.old here.count)
-        → Reached profile cell lefts text.now all result (given_in out.new result.count) }
+    ensures reached { (cell : ℕ → Cell) (all : Ahead) → IsFlatOf table.now cell
+        → Reached profile cell text.now all here (given_in out.old here.count)
+        → Reached profile cell text.now all result (given_in out.new result.count) }
 {
     let decided = decide_one(table, profile, here.row, here.at, text);
-    let count = put(out, here.count, here.at, decided.code);
+    let count = put(out, here.count, here.at, decided.shown);
     FillState {
         count,
         row: decided.row,
@@ -392,37 +405,18 @@ fn take_one(
 /// Writes the verdict of a number after the breaks in the front of the block, and returns how many these are now: one
 /// more, if it is a break.
 #[inline(always)]
-pub fn put(out: &mut [RawBreak], count: usize, at: usize, code: u16) -> usize
-    requires { count < length out.old }
+pub fn put(out: &mut [RawBreak], count: usize, at: usize, shown: u16) -> usize
+    requires room { count < length out.old }
+    requires shown { IsShown shown }
     ensures within { (result ≤ length out.old) × (count ≤ result) × (result ≤ count + 1) }
     ensures kept { take count out.new ≡ take count out.old }
     ensures breaks { AreBreaks out.old count → AreBreaks out.new result }
     ensures in_order { (from to : ℕ) → at < to → IsInOrder out.old count from at → AreInOrder out.new result from to }
-    ensures front { IsCode code → given_in out.new result ≡ given_in out.old count
-        ++ with_break at (verdict_coded code) [] }
+    ensures front { given_in out.new result ≡ given_in out.old count ++ with_break at (verdict_shown shown) [] }
 {
-    let shown = shown_of(code);
     let place = &mut out[count];
     place.at = at;
     place.kind = (shown % 256) as u8;
     place.rule = (shown / 256) as u8;
-    count + usize::from(is_break(code))
-}
-
-/// Writes the break of a number after those in the front of the block, whatever its verdict is, and returns how many
-/// these are now.
-#[inline(always)]
-pub(crate) fn put_break(out: &mut [RawBreak], count: usize, at: usize, code: u16) -> usize
-    requires { count < length out.old }
-    ensures more { result ≡ count + 1 }
-    ensures in_order { (from to : ℕ) → at < to → IsInOrder out.old count from at → AreInOrder out.new result from to }
-    ensures front { is_no (verdict_coded code).kind ≡ false → given_in out.new result ≡ given_in out.old count
-        ++ with_break at (verdict_coded code) [] }
-{
-    let shown = shown_of_break(code);
-    let entry = &mut out[count];
-    entry.at = at;
-    entry.kind = (shown % 256) as u8;
-    entry.rule = (shown / 256) as u8;
-    count + 1
+    count + usize::from(shows_break(shown))
 }

@@ -1,97 +1,148 @@
 //! Blocks of 64 bytes whose bits the sets of their bytes tell at once.
 
-ghost use Rattle.std.specs.Prelude.{◌≡◌, ℕ, ◌+◌, ◌*◌, ◌<◌, ◌≤◌, ◌++◌, List, length, IfSome};
+ghost use Rattle.std.specs.Prelude.{◌≡◌, ℕ, ◌+◌, ◌*◌, ◌<◌, ◌≤◌, ◌++◌, List, length};
 ghost use Rattle.lbk_rules.specs.declared.Cell.{Cell};
-ghost use Rattle.lbk_rules.specs.declared.Left.{Left};
 ghost use Rattle.lbk_values.specs.declared.profile.Profile.{Profile};
-ghost use Rattle.lbk_rules.specs.declared.FlatStep.{FlatStep};
+ghost use Rattle.lbk_rules.specs.declared.Step.{Step};
 ghost use Rattle.lbk_rules.specs.FlatTable.{AreFlatKinds};
 ghost use Rattle.lbk_rules.specs.Neighbours.{AreTold};
-ghost use Rattle.lbk_bytes.specs.Blocks.{AreMarks, Rests};
+ghost use Rattle.lbk_rules.specs.Rows.{AreSteps, IsPlace, steps_in};
+ghost use Rattle.lbk_bytes.specs.Blocks.{AreMarks};
 ghost use Rattle.lbk_bytes.specs.Marking.{Marked};
 ghost use Rattle.lbk_bytes.specs.Marks.{is_marked};
-ghost use Rattle.lbk_bytes.specs.Reached.{Ahead, AreSwift};
+ghost use Rattle.lbk_bytes.specs.Reached.{Ahead};
 
-use crate::blocks::{BLOCK, Marks, behind_byte, kept_up_to, marks_ahead};
+use crate::blocks::{BLOCK, CODES, Marks, behind_byte, kept_up_to, marks_ahead};
 use crate::fill_state::FillState;
+use crate::mark_runs::mark_left;
 use crate::marks::mark_bits;
-use lbk_rules::Neighbours;
+use crate::raw_break::RawBreak;
+use lbk_masks::kept_from;
+use lbk_rules::{Neighbours, Rows};
 
-/// Takes blocks of bytes, as many as come one after the other, and the front of one in which a byte is special or of
-/// no scalar of one or two bytes in the block.
+/// Takes blocks of bytes, as many as come one after the other, up to a scalar that no step takes, or from which on
+/// fewer than 64 bytes are left, or many of them to steps.
 #[inline(never)]
 pub(crate) fn mark_blocks(
     pairs: &Neighbours,
+    kinds: &[u8; CODES],
+    steps: &Rows,
     start: FillState,
     from: usize,
     text: &[u8],
+    block: &mut [RawBreak],
     words: &mut [u64],
 ) -> FillState
-    requires { (start.row < 65536) × (from ≤ start.at) × (start.at ≤ length text.now)
+    requires place { IsPlace start.row × (from ≤ start.at) × (start.at ≤ length text.now)
         × (length text.now ≤ from + 64 * length words.old) }
-    ensures within { (result.row < 65536) × (start.at ≤ result.at) × (result.at ≤ length text.now) }
+    requires steps { AreSteps steps.now }
+    ensures within { IsPlace result.row × (start.at ≤ result.at) × (result.at ≤ length text.now) }
     ensures after { (i : ℕ) → result.at ≤ from + i → is_marked words.new i ≡ is_marked words.old i }
-    ensures marked { (profile : Profile) (cell : ℕ → Cell) (lefts : List Left) (steps : List FlatStep)
-        (kinds : List ℕ) (more : List ℕ) (all : Ahead) → AreSwift profile lefts steps
-        → AreFlatKinds kinds cell → AreTold steps kinds pairs.now
-        → Marked profile cell lefts (text.now ++ more) all from (length text.now) start words.old
-        → Marked profile cell lefts (text.now ++ more) all from (length text.now) result words.new }
+    ensures marked { (profile : Profile) (cell : ℕ → Cell) (more : List ℕ) (all : Ahead)
+        → steps.now ≡ steps_in profile → AreFlatKinds kinds.now cell → AreTold steps.now kinds.now pairs.now
+        → Marked profile cell (text.now ++ more) all from (length text.now) start words.old
+        → Marked profile cell (text.now ++ more) all from (length text.now) result words.new }
 {
     let mut behind = start.at;
-    let mut here = mark_block(pairs, start, from, text, words);
-    while here.at - behind == BLOCK {
+    let mut here = mark_block(pairs, kinds, steps, start, from, text, block, words);
+    while BLOCK <= here.at - behind {
         behind = here.at;
-        here = mark_block(pairs, here, from, text, words);
+        here = mark_block(pairs, kinds, steps, here, from, text, block, words);
     }
     here
 }
 
-/// Takes the front of one block, up to the first such byte.
+/// Takes the bytes of one block: those that its marks tell by them, and the others by steps.
 #[inline(always)]
 fn mark_block(
     pairs: &Neighbours,
+    kinds: &[u8; CODES],
+    steps: &Rows,
+    start: FillState,
+    from: usize,
+    text: &[u8],
+    block: &mut [RawBreak],
+    words: &mut [u64],
+) -> FillState
+    requires place { IsPlace start.row × (from ≤ start.at) × (start.at ≤ length text.now)
+        × (length text.now ≤ from + 64 * length words.old) }
+    requires steps { AreSteps steps.now }
+    ensures within { IsPlace result.row × (start.at ≤ result.at) × (result.at ≤ length text.now) }
+    ensures after { (i : ℕ) → result.at ≤ from + i → is_marked words.new i ≡ is_marked words.old i }
+    ensures marked { (profile : Profile) (cell : ℕ → Cell) (more : List ℕ) (all : Ahead)
+        → steps.now ≡ steps_in profile → AreFlatKinds kinds.now cell → AreTold steps.now kinds.now pairs.now
+        → Marked profile cell (text.now ++ more) all from (length text.now) start words.old
+        → Marked profile cell (text.now ++ more) all from (length text.now) result words.new }
+{
+    if text.len() - start.at < BLOCK {
+        return start;
+    }
+    let Some(marks) = marks_ahead(pairs, start.at, text) else {
+        return start;
+    };
+    let end = start.at + BLOCK;
+    let mut here = start;
+    while here.at < end {
+        let there = mark_told(pairs, start.at, marks, here, from, text, words);
+        if end <= there.at {
+            return there;
+        }
+        let stop = behind_stops(marks.stops, start.at, there.at, end);
+        here = mark_left(kinds, steps, there, stop, from, text, block, words);
+        if here.at == there.at {
+            return here;
+        }
+    }
+    here
+}
+
+/// Up to where the bytes of a block are left to steps from one on, and such as go on with a scalar: the next byte, or a
+/// later one.
+#[inline(always)]
+fn behind_stops(stops: u64, at: usize, here: usize, end: usize) -> usize
+    requires { (at ≤ here) × (here < at + 64) × (here < end) }
+    ensures { (here < result) × (result ≤ end) }
+{
+    let told = !(stops | (stops << 1));
+    let many = (told >> (here - at)).trailing_zeros() as usize;
+    (here + 1).max(here.saturating_add(many)).min(end)
+}
+
+/// Takes bytes of a block up to the first that is left to steps, if the row here is that of the byte before.
+#[inline(always)]
+fn mark_told(
+    pairs: &Neighbours,
+    at: usize,
+    marks: Marks,
     here: FillState,
     from: usize,
     text: &[u8],
     words: &mut [u64],
 ) -> FillState
-    requires { (here.row < 65536) × (from ≤ here.at) × (here.at ≤ length text.now)
-        × (length text.now ≤ from + 64 * length words.old) }
-    ensures within { (result.row < 65536) × (here.at ≤ result.at) × (result.at ≤ length text.now) }
+    requires place { IsPlace here.row × (0 < at) × (from ≤ at) × (at ≤ here.at) × (here.at < at + 64)
+        × (at + 64 ≤ length text.now) × (length text.now ≤ from + 64 * length words.old) }
+    ensures within { IsPlace result.row × (here.at ≤ result.at) × (result.at ≤ length text.now) }
     ensures after { (i : ℕ) → result.at ≤ from + i → is_marked words.new i ≡ is_marked words.old i }
-    ensures marked { (profile : Profile) (cell : ℕ → Cell) (lefts : List Left) (steps : List FlatStep)
-        (kinds : List ℕ) (more : List ℕ) (all : Ahead) → AreSwift profile lefts steps
+    ensures marked { (profile : Profile) (cell : ℕ → Cell) (steps : List (List Step))
+        (kinds : List ℕ) (more : List ℕ) (all : Ahead) → steps ≡ steps_in profile
         → AreFlatKinds kinds cell → AreTold steps kinds pairs.now
-        → Marked profile cell lefts (text.now ++ more) all from (length text.now) here words.old
-        → Marked profile cell lefts (text.now ++ more) all from (length text.now) result words.new }
+        → AreMarks pairs.now text.now at marks
+        → Marked profile cell (text.now ++ more) all from (length text.now) here words.old
+        → Marked profile cell (text.now ++ more) all from (length text.now) result words.new }
 {
-    let Some(marks) = marks_here(pairs, here, text) else {
-        return here;
-    };
-    let taken = marks.stops.trailing_zeros() as usize;
-    mark_bits(words, here.at - from, kept_up_to(marks.standing, taken));
-    behind_byte(pairs, 0, here.at + taken, text)
-}
-
-/// The marks of the next 64 bytes, if the row here is that of the byte before.
-#[inline(always)]
-fn marks_here(pairs: &Neighbours, here: FillState, text: &[u8]) -> Option<Marks>
-    requires { here.at ≤ length text.now }
-    ensures { IfSome result (λ marks. AreMarks pairs.now text.now here.at marks × Rests pairs.now here text.now
-        × (here.at + 64 ≤ length text.now)) }
-{
-    if here.at == 0 {
-        return None;
-    }
-    if text.len() - here.at < BLOCK {
-        return None;
-    }
     let byte = text[here.at - 1];
     if byte >= 192 {
-        return None;
+        return here;
     }
     if here.row != pairs.rows[byte as usize] as usize {
-        return None;
+        return here;
     }
-    marks_ahead(pairs, here.at, text)
+    let begin = here.at - at;
+    let taken = kept_from(marks.stops, begin).trailing_zeros() as usize;
+    mark_bits(
+        words,
+        at - from,
+        kept_up_to(kept_from(marks.standing, begin), taken),
+    );
+    behind_byte(pairs, 0, at + taken, text)
 }

@@ -8,6 +8,7 @@ ghost use Rattle.lbk_bytes.specs.Order.{no_break};
 ghost use Rattle.lbk_bytes.specs.Shown.{shown};
 
 use crate::raw_break::RawBreak;
+use lbk_masks::join;
 
 /// How many bits a word has.
 pub(crate) const BITS: usize = 64;
@@ -42,15 +43,6 @@ pub(crate) fn mark_bits(words: &mut [u64], index: usize, bits: u64)
     if shift != 0 {
         join(words, word + 1, bits >> (BITS - shift));
     }
-}
-
-/// Sets the bits of one word that are set in a number.
-#[inline(always)]
-fn join(words: &mut [u64], word: usize, bits: u64)
-    requires { word < length words.old }
-    ensures { (i : ℕ) → is_marked words.new i ≡ (is_marked words.old i || ((i / 64 == word) && is_set bits (i % 64))) }
-{
-    words[word] |= bits;
 }
 
 /// Sets the bit of each break, counted from a byte on.

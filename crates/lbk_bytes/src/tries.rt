@@ -43,7 +43,7 @@ pub(crate) fn next_try<const MASKS: bool>(at: usize, text: &[u8]) -> usize
 }
 
 /// How many bytes are taken one by one at the front of these: many where scalars that blocks leave to steps are
-/// usual, and else as few as can be.
+/// usual, and else as many as a block has.
 #[inline(always)]
 fn pause(text: &[u8]) -> usize
     requires { 64 ≤ length text.now }
@@ -52,6 +52,6 @@ fn pause(text: &[u8]) -> usize
     if are_many(strays(text), BLOCK) {
         MANY
     } else {
-        1
+        BLOCK
     }
 }

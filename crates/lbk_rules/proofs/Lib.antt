@@ -24,3 +24,5 @@ pub use Rattle.lbk_steps.proofs.LeftLemmas
 pub use Rattle.lbk_steps.proofs.RowMachineLemmas
 pub use Rattle.lbk_steps.proofs.HoldsLemmas
 pub use Rattle.lbk_steps.proofs.NeighboursLemmas
+pub use Rattle.lbk_steps.proofs.ShownLemmas
+pub use Rattle.lbk_steps.proofs.FlatLemmas

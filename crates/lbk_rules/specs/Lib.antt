@@ -27,10 +27,10 @@ pub use Rattle.lbk_uax14.specs.LateFits
 pub use Rattle.lbk_steps.specs.CellOfTables
 pub use Rattle.lbk_steps.specs.CellPages
 pub use Rattle.lbk_steps.specs.FirstBytes
-pub use Rattle.lbk_steps.specs.FlatStep
 pub use Rattle.lbk_steps.specs.FlatTable
--- (the constants of its layout)
+-- (the constants of its layout and of steps)
 pub use Rattle.lbk_steps.specs.declared.flat_table
+pub use Rattle.lbk_steps.specs.declared.steps
 pub use Rattle.lbk_steps.specs.KindTable
 pub use Rattle.lbk_steps.specs.Kinds
 pub use Rattle.lbk_steps.specs.Neighbours
@@ -38,4 +38,3 @@ pub use Rattle.lbk_steps.specs.Pages
 pub use Rattle.lbk_steps.specs.RowMachineFits
 pub use Rattle.lbk_steps.specs.Rows
 pub use Rattle.lbk_steps.specs.StepperFits
-pub use Rattle.lbk_steps.specs.Steps

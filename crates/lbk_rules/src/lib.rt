@@ -21,7 +21,8 @@ pub use lbk_uax14::{
 
 // What `lbk_breaks` and `lbk_c` step by.
 pub use lbk_steps::{
-    FlatStep, FlatTable, HELD, LAYOUT, Neighbours, RowMachine, Rows, STEPS, Step, WIDTH, is_held,
-    rows_of, step_from, verdict_of,
+    FlatTable, HELD, KINDS, LAYOUT, Neighbours, RowMachine, Rows, Step, WIDTH, digest_of_bytes,
+    number_at, place_by, rows_of, shown_by, shows_break, step_at, step_in, steps_decide,
+    verdict_of,
 };
 pub use lbk_uax14::{Before, Left, RULES, VERDICTS, code_of, is_break, is_second, unless_held};

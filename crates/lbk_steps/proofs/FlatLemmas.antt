@@ -1,128 +1,110 @@
--- The steps of the code are those of a flat table.
-use Rattle.std.proofs.Common.{◌≡◌, ℕ, ◌*◌, ◌/◌, ◌%◌, ◌<◌, ◌≤◌, true, false, List, [], ◌∷◌, length, get_or, refl, sym, ap, subst, ◌∙◌, arith}
-use Rattle.std.proofs.lemmas.Bool.{false≢true}
-use Rattle.std.proofs.lemmas.List.{get_or-map}
+-- What the steps from a row tell of a text.
+use Rattle.std.proofs.Common.{◌≡◌, ℕ, ◌/◌, ◌%◌, true, false, List, [], ◌∷◌, refl, sym, ap, subst, ◌∙◌, arith}
 use Rattle.lbk_values.specs.declared.profile.Profile.{Profile}
 use Rattle.lbk_values.specs.declared.profile.Profile.TheVariants.{First, Second}
 use Rattle.lbk_uax14.specs.Chain.{from_cells}
-use Rattle.lbk_uax14.specs.Codes.{verdict_coded}
 use Rattle.lbk_uax14.specs.Facts.{facts}
 use Rattle.lbk_uax14.specs.Held.{is_15b}
 use Rattle.lbk_uax14.specs.Sides.{Side}
-use Rattle.lbk_uax14.proofs.HeldLemmas.{from_cells-15b, from_cells-first, from_cells-open, from_cells-settled}
+use Rattle.lbk_uax14.proofs.HeldLemmas.{from_cells-15b, from_cells-open, from_cells-settled}
 use Rattle.lbk_uax14.proofs.LookAheadLemmas.{from_cells-right}
-use Rattle.lbk_steps.specs.declared.flat_table.FlatStep.{FlatStep}
-use Rattle.lbk_steps.specs.declared.flat_table.TheConstants.{HELD}
-use Rattle.lbk_steps.specs.declared.row_steps.TheConstants.{SAMPLES}
 use Rattle.lbk_steps.specs.declared.steps.Step.{Step}
-use Rattle.lbk_steps.specs.FlatTable.{AreFlatSteps, AreNumbered, IsFlatStep, IsNumbered, no_flat_step, row_lefts}
-use Rattle.lbk_steps.specs.Kinds.{kind_cell}
-use Rattle.lbk_steps.specs.Rows.{IsStepFrom, cells_of, no_step, row_left, sample, step_of, steps_in}
-use Rattle.lbk_steps.specs.Rows.{left_at as left_of_place}
-use Rattle.lbk_steps.proofs.RowLemmas.{next-same, step-of}
+use Rattle.lbk_steps.specs.declared.steps.TheConstants.{HELD}
+use Rattle.lbk_steps.specs.FlatTable.{IsFlatStep}
+use Rattle.lbk_steps.specs.Kinds.{kind_cell, real_kind}
+use Rattle.lbk_steps.specs.Rows.{IsPlace, IsShown, IsStepFrom, left_at, place_by, row_left, sample, shown_of, step_by, steps_in, verdict_shown}
+use Rattle.lbk_steps.proofs.RowLemmas.{next-same, step-by, step-copied}
+use Rattle.lbk_steps.proofs.ShownLemmas.{shown-verdict}
 
-rows_many : length row_lefts ≡ 114
-rows_many = refl
+-- the step by a number is one from the row by its kind
+pub step-here : (profile : Profile) (place number : ℕ) → IsPlace place
+    → IsStepFrom profile place (real_kind number) (step_by (steps_in profile) place number)
+step-here First place number is_place = step-by First place (number % 128) is_place (omega arith)
+step-here Second place number is_place = step-by Second place (number % 128) is_place (omega arith)
 
-samples_many : length SAMPLES ≡ 114
-samples_many = refl
+-- so it is where it is read of the profile's steps
+pub step-made : (profile : Profile) (rows : List (List Step)) (place number : ℕ) (step : Step) → rows ≡ steps_in profile → IsPlace place → step ≡ step_by rows place number
+    → IsStepFrom profile place (real_kind number) step
+step-made profile rows place number step is is_place read =
+    subst (IsStepFrom profile place (real_kind number)) (sym (read ∙ ap (λ r. step_by r place number) is)) (step-here profile place number is_place)
 
-left-of-row : (row : ℕ) → row < 114 → get_or row_lefts row (facts []) ≡ row_left row
-unfolding row_left
-left-of-row row few =
-    let many = samples_many in
-    get_or-map (λ kinds. facts (cells_of kinds)) SAMPLES row [] (facts []) (omega arith)
+-- some cells that the row at a place knows of
+abbrev known : ℕ → Side
+known place = sample (place / 128)
 
--- the step of a row by a kind, as the number of the row
-of-row : (profile : Profile) (row kind : ℕ) → row < 114 → kind < 84 → IsStepFrom profile (128 * row) kind (step_of profile row kind)
-of-row profile row kind few low =
-    let back : 128 * row / 128 ≡ row = omega arith in
-    subst (λ r. IsStepFrom profile (128 * row) kind (step_of profile r kind)) back (step-of profile (128 * row) kind (omega arith) low)
+knows : (place : ℕ) → facts (known place) ≡ left_at place
+unfolding left_at row_left
+knows place = refl
 
-known-at : (row : ℕ) → left_of_place (128 * row) ≡ row_left row
-unfolding left_of_place
-known-at row = let back : 128 * row / 128 ≡ row = omega arith in ap row_left back
+-- what is shown where nothing follows
+told-alone : (profile : Profile) (place kind : ℕ) (step : Step) (side : Side) → IsStepFrom profile place kind step → facts side ≡ left_at place
+    → verdict_shown step.shown ≡ from_cells profile side (kind_cell kind ∷ [])
+told-alone profile place kind step side from alike = shown-verdict step.shown (from_cells profile side (kind_cell kind ∷ [])) (from.shows side alike)
 
-known-place : (place : ℕ) → left_of_place place ≡ row_left (place / 128)
-unfolding left_of_place
-known-place place = refl
+pub held-15b : is_15b (verdict_shown HELD).rule ≡ true
+unfolding verdict_shown
+held-15b = refl
 
--- in the first profile the number tells the verdict, whatever follows
-first-told : (row kind : ℕ) (flat : FlatStep) (side more : Side) → row < 114 → kind < 84 → IsNumbered (step_of First row kind) flat
-    → facts side ≡ row_left row → verdict_coded flat.code ≡ from_cells First side (kind_cell kind ∷ more)
-first-told row kind flat side more few low numbered known =
-    let verdict = from_cells First side (kind_cell kind ∷ []) in
-    let shows = (of-row First row kind few low).shows side (known ∙ sym (known-at row)) in
-    numbered.told verdict shows (from_cells-first side (kind_cell kind ∷ [])) ∙ from_cells-right First side (kind_cell kind) [] more refl
-
--- in the second it tells the verdict where nothing follows
-second-told : (row kind : ℕ) (flat : FlatStep) (side : Side) → row < 114 → kind < 84 → IsNumbered (step_of Second row kind) flat
-    → facts side ≡ row_left row → verdict_coded flat.code ≡ from_cells Second side (kind_cell kind ∷ [])
-unfolding verdict_coded
-second-told row kind flat side few low numbered known =
+-- rule 15b alone is shown where a position is held
+apart-15b : (place kind : ℕ) (step : Step) (side : Side) → IsStepFrom Second place kind step → facts side ≡ left_at place → ¬ (step.shown ≡ HELD)
+    → is_15b (from_cells Second side (kind_cell kind ∷ [])).rule ≡ false
+apart-15b place kind step side from alike apart =
     let verdict = from_cells Second side (kind_cell kind ∷ []) in
-    let shows = (of-row Second row kind few low).shows side (known ∙ sym (known-at row)) in
-    elim (is_15b verdict.rule) as (λ b. is_15b verdict.rule ≡ b → verdict_coded flat.code ≡ verdict) [
-      | true ↦ λ by. ap verdict_coded (numbered.held verdict shows by) ∙ sym (from_cells-15b side (kind_cell kind) by)
-      | false ↦ λ calm. numbered.told verdict shows calm
+    elim (is_15b verdict.rule) as (λ b. is_15b verdict.rule ≡ b → b ≡ false) [
+      | true ↦ λ by. absurd (apart (from.shows side alike ∙ ap shown_of (from_cells-15b side (kind_cell kind) by)))
+      | false ↦ λ _. refl
     ] refl
 
--- the number of a verdict by rule 15b
-number-held : (row kind : ℕ) (flat : FlatStep) → row < 114 → kind < 84 → IsNumbered (step_of Second row kind) flat
-    → is_15b (verdict_coded flat.code).rule ≡ true → flat.code ≡ HELD
-unfolding row_left
-number-held row kind flat few low numbered by =
-    let verdict = from_cells Second (sample row) (kind_cell kind ∷ []) in
-    let shows = (of-row Second row kind few low).shows (sample row) (sym (known-at row)) in
-    elim (is_15b verdict.rule) as (λ b. is_15b verdict.rule ≡ b → flat.code ≡ HELD) [
-      | true ↦ λ held. numbered.held verdict shows held
-      | false ↦ λ calm. absurd (false≢true (sym calm ∙ ap (λ v. is_15b v.rule) (sym (numbered.told verdict shows calm)) ∙ by))
-    ] refl
+next-alike : (place number : ℕ) → IsPlace place → (step_by (steps_in Second) place number).next ≡ (step_by (steps_in First) place number).next
+next-alike place number is_place =
+    let row = place / 128 in
+    let few = is_place.1 in
+    ap (λ (s : Step). s.next) (step-copied Second row (number % 128) few (omega arith))
+    ∙ next-same Second row (real_kind number) few (omega arith)
+    ∙ sym (ap (λ (s : Step). s.next) (step-copied First row (number % 128) few (omega arith)))
 
-flat-step : (row kind : ℕ) (one other : FlatStep) → row < 114 → kind < 84 → IsNumbered (step_of First row kind) one
-    → IsNumbered (step_of Second row kind) other → IsFlatStep row_lefts (row_left row) (kind_cell kind) one other
-unfolding row_left
-flat-step row kind one other few low first second =
+pub flat-step : (place number : ℕ) → IsPlace place
+    → IsFlatStep (left_at place) (kind_cell (real_kind number)) (step_by (steps_in First) place number) (step_by (steps_in Second) place number)
+flat-step place number is_place =
+    let kind = real_kind number in
     let cell = kind_cell kind in
-    let step = of-row First row kind few low in
-    let step_2 = of-row Second row kind few low in
-    let next = (step_of First row kind).next / 128 in
-    let next_few : next < 114 = step.begins.1 in
-    let many = rows_many in
-    let same = first.same in
-    let place : one.next / 84 ≡ next = omega arith in
-    let so_far : (side : Side) → facts side ≡ row_left row → verdict_coded other.code ≡ from_cells Second side (cell ∷ []) =
-    λ side known. second-told row kind other side few low second known in
+    let one = step_by (steps_in First) place number in
+    let other = step_by (steps_in Second) place number in
+    let first = step-here First place number is_place in
+    let second = step-here Second place number is_place in
     record {
-      starts = (omega arith, omega arith);
-      same = second.same ∙ ap (λ n. 84 * (n / 128)) (next-same Second row kind few low) ∙ sym first.same;
-      coded = (
-        first.coded (from_cells First (sample row) (cell ∷ [])) (step.shows (sample row) (sym (known-at row))),
-        second.coded (from_cells Second (sample row) (cell ∷ [])) (step_2.shows (sample row) (sym (known-at row))),
+      begins = first.begins;
+      same = next-alike place number is_place;
+      shows = (
+        (from_cells First (known place) (cell ∷ []), first.shows (known place) (knows place)),
+        (from_cells Second (known place) (cell ∷ []), second.shows (known place) (knows place)),
       );
-      leads = λ side known.
-          step.leads side (known ∙ sym (known-at row)) ∙ known-place (step_of First row kind).next
-          ∙ sym (left-of-row next next_few) ∙ ap (λ n. get_or row_lefts n (facts [])) (sym place);
-      decides = λ side more known. first-told row kind one side more few low first known;
-      closes = λ side more known closed. so_far side known ∙ sym (from_cells-right Second side cell more [] closed);
-      settled = λ calm side more known.
-          so_far side known ∙ sym (from_cells-settled Second side cell more (ap (λ v. is_15b v.rule) (sym (so_far side known)) ∙ calm));
-      opens = λ by side more known left_open.
-          first-told row kind one side more few low first known
-          ∙ from_cells-open side cell more left_open (ap (λ v. is_15b v.rule) (sym (so_far side known)) ∙ by);
-      held = number-held row kind other few low second;
+      leads = first.leads;
+      decides = λ side more alike. told-alone First place kind one side first alike ∙ from_cells-right First side cell [] more refl;
+      closes = λ side more alike closed. told-alone Second place kind other side second alike ∙ sym (from_cells-right Second side cell more [] closed);
+      settled = λ apart side more alike.
+          told-alone Second place kind other side second alike
+          ∙ sym (from_cells-settled Second side cell more (apart-15b place kind other side second alike apart));
+      opens = λ held side more alike left_open.
+          told-alone First place kind one side first alike
+          ∙ from_cells-right First side cell [] more refl
+          ∙ from_cells-open side cell more left_open
+          (ap (λ v. is_15b v.rule) (sym (told-alone Second place kind other side second alike)) ∙ ap (λ n. is_15b (verdict_shown n).rule) held ∙ held-15b);
     }
 
--- all steps
-pub flat-steps : (rows rows_2 : List (List Step)) (one other : List FlatStep) → rows ≡ steps_in First → rows_2 ≡ steps_in Second
-    → AreNumbered rows one → AreNumbered rows_2 other → 9576 ≤ length one → 9576 ≤ length other → AreFlatSteps row_lefts one other
-flat-steps rows rows_2 one other is is_2 numbered numbered_2 long long_2 place below =
-    let many = rows_many in
-    let row = place / 84 in
-    let kind = place % 84 in
-    let few : row < 114 = omega arith in
-    let low : kind < 84 = omega arith in
-    let first = subst (λ r. IsNumbered (get_or (get_or r row []) kind no_step) (get_or one place no_flat_step)) is ((numbered place (omega arith)).here (omega arith)) in
-    let second = subst (λ r. IsNumbered (get_or (get_or r row []) kind no_step) (get_or other place no_flat_step)) is_2 ((numbered_2 place (omega arith)).here (omega arith)) in
-    subst (λ l. IsFlatStep row_lefts l (kind_cell kind) (get_or one place no_flat_step) (get_or other place no_flat_step)) (sym (left-of-row row few))
-    (flat-step row kind (get_or one place no_flat_step) (get_or other place no_flat_step) few low first second)
+-- its number is that of a verdict
+pub shown-by : (profile : Profile) (place kind : ℕ) (step : Step) → IsStepFrom profile place kind step → IsShown step.shown
+shown-by profile place kind step from = (from_cells profile (known place) (kind_cell kind ∷ []), from.shows (known place) (knows place))
+
+-- the first row knows of no cell
+pub left-start : left_at 0 ≡ facts []
+unfolding left_at row_left
+left-start = refl
+
+-- Places
+
+pub place-any : (number : ℕ) → IsPlace (place_by number)
+place-any number = (omega arith, omega arith)
+
+pub place-same : (number : ℕ) → IsPlace number → number ≡ place_by number
+place-same number is_place = (let aligned = is_place.0 in let few = is_place.1 in omega arith)

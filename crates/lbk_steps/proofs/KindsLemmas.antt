@@ -1,5 +1,7 @@
 -- Kinds: a cell's kind leads back to the normal cell.
-use Rattle.std.proofs.Common.{◌≡◌, ℕ, ◌+◌, ◌*◌, ◌%◌, ◌<◌, Bool, true, false, ◌&&◌, leb, ap, refl, ◌∙◌, arith, lit<}
+use Rattle.std.proofs.Common.{◌≡◌, ℕ, zero, suc, ◌+◌, ◌*◌, ◌%◌, ◌<◌, Bool, true, false, ◌&&◌, leb, ltb, List, [], ◌∷◌, ltb-true, ap, ap₂, refl, ◌∙◌, arith, lit<}
+use Rattle.std.specs.List.{list_all}
+use Rattle.std.proofs.lemmas.Bool.{and_parts, lt-ltb}
 use Rattle.std.proofs.lemmas.Bool.Decides.{nat_tests}
 use Rattle.std.specs.Int.{from_bool}
 use Rattle.lbk_uax14.specs.declared.cells.Cell.{Cell}
@@ -8,7 +10,9 @@ use Rattle.lbk_uax14.specs.declared.classes.Class.TheVariants.{Alphabetic, Break
 use Rattle.lbk_uax14.specs.declared.classes.Quote.{Quote}
 use Rattle.lbk_uax14.specs.declared.classes.Quote.TheVariants.{Neither, Initial, Final}
 use Rattle.lbk_uax14.specs.Classes.{is, mark, none_of}
-use Rattle.lbk_steps.specs.Kinds.{kind_cell, kind_of, slot_cell, slot_of}
+use Rattle.lbk_steps.specs.declared.kinds.TheConstants.{KINDS}
+use Rattle.lbk_steps.specs.FlatTable.{AreKinds}
+use Rattle.lbk_steps.specs.Kinds.{kind_cell, kind_of, real_kind, slot_cell, slot_of}
 use Rattle.lbk_uax14.specs.Normal.{normal}
 
 -- a place leads back to the cell, but for what no rule asks of it
@@ -89,3 +93,17 @@ unfolding kind_of
 kind-few cell =
     few_digits (slot_of cell) (none_of mark cell.class && cell.pict_cn)
     (leads_back cell.class cell.wide cell.pict_cn cell.quote cell.letter).0
+
+-- a kind stands for itself
+pub real-kind : (kind : ℕ) → kind < 84 → real_kind kind ≡ kind
+real-kind kind few = omega arith
+
+-- numbers that are tested one by one
+pub all-kinds : (kinds : List ℕ) → list_all (λ kind. ltb kind KINDS) kinds ≡ true → AreKinds kinds
+all-kinds [] all i = lit< tt
+all-kinds (kind ∷ kinds) all zero = ltb-true kind KINDS (and_parts (ltb kind KINDS) (list_all (λ k. ltb k KINDS) kinds) all).0
+all-kinds (kind ∷ kinds) all (suc i) = all-kinds kinds (and_parts (ltb kind KINDS) (list_all (λ k. ltb k KINDS) kinds) all).1 i
+
+pub kinds-all : (kinds : List ℕ) → AreKinds kinds → list_all (λ kind. ltb kind KINDS) kinds ≡ true
+kinds-all [] are = refl
+kinds-all (kind ∷ kinds) are = ap₂ (λ a b. a && b) (lt-ltb kind KINDS (are 0)) (kinds-all kinds (λ i. are (suc i)))

@@ -1,13 +1,13 @@
 -- Where a step stands among all steps, and what is read there.
-use Rattle.std.proofs.Common.{◌≡◌, ℕ, zero, suc, ◌+◌, ◌-◌, ◌*◌, ◌/◌, ◌%◌, ◌<◌, Bool, true, List, [], ◌∷◌, ◌++◌, ◌==◌, length, get_or, take, drop, refl, sym, ap, subst, ◌∙◌, arith, eqb-true}
+use Rattle.std.proofs.Common.{◌≡◌, ℕ, zero, suc, ◌+◌, ◌-◌, ◌*◌, ◌/◌, ◌%◌, ◌<◌, Bool, true, List, [], ◌∷◌, ◌++◌, ◌==◌, length, get_or, take, drop, refl, ap, ◌∙◌, arith, eqb-true}
 use Rattle.std.specs.List.{flat_map}
 use Rattle.std.proofs.lemmas.List.{get_or-append-add, get_or-drop, get_or_append_left, take_rest}
 use Rattle.lbk_values.specs.declared.profile.Profile.{Profile}
 use Rattle.lbk_values.specs.declared.profile.Profile.TheVariants.{First, Second}
 use Rattle.lbk_steps.specs.declared.steps.Step.{Step}
-use Rattle.lbk_steps.specs.Rows.{IsPlace, IsStepFrom, no_step, step_of, steps_in}
+use Rattle.lbk_steps.specs.Rows.{IsPlace, no_step, steps_in}
 use Rattle.lbk_steps.proofs.RowChecks.{each_below}
-use Rattle.lbk_steps.proofs.RowLemmas.{each_below-at, step-by}
+use Rattle.lbk_steps.proofs.RowLemmas.{each_below-at}
 
 -- where a step stands, if all rows are as long
 pub flat-at : (rows : List (List Step)) (row k : ℕ) → ((r : ℕ) → r < length rows → length (get_or rows r []) ≡ 128) → row < length rows → k < 128
@@ -28,23 +28,23 @@ flat-at (steps ∷ rows) (suc row) k each few low =
 whole_row : Profile → ℕ → Bool
 whole_row profile row = length (get_or (steps_in profile) row []) == 128
 
-whole_first : each_below (whole_row First) 114 ≡ true
+whole_first : each_below (whole_row First) 128 ≡ true
 unfolding each_below whole_row
 whole_first = refl
 
-whole_second : each_below (whole_row Second) 114 ≡ true
+whole_second : each_below (whole_row Second) 128 ≡ true
 unfolding each_below whole_row
 whole_second = refl
 
-row-whole : (profile : Profile) (row : ℕ) → row < 114 → length (get_or (steps_in profile) row []) ≡ 128
+row-whole : (profile : Profile) (row : ℕ) → row < 128 → length (get_or (steps_in profile) row []) ≡ 128
 unfolding whole_row
-row-whole First row few = eqb-true _ _ (each_below-at (whole_row First) 114 row whole_first few)
-row-whole Second row few = eqb-true _ _ (each_below-at (whole_row Second) 114 row whole_second few)
+row-whole First row few = eqb-true _ _ (each_below-at (whole_row First) 128 row whole_first few)
+row-whole Second row few = eqb-true _ _ (each_below-at (whole_row Second) 128 row whole_second few)
 
-pub row-long : (profile : Profile) (rows : List (List Step)) → rows ≡ steps_in profile → (row : ℕ) → row < 114 → length (get_or rows row []) ≡ 128
+pub row-long : (profile : Profile) (rows : List (List Step)) → rows ≡ steps_in profile → (row : ℕ) → row < 128 → length (get_or rows row []) ≡ 128
 row-long profile rows is row few = ap (λ r. length (get_or r row [])) is ∙ row-whole profile row few
 
-rows-many : (profile : Profile) → length (steps_in profile) ≡ 114
+rows-many : (profile : Profile) → length (steps_in profile) ≡ 128
 rows-many First = refl
 rows-many Second = refl
 
@@ -61,9 +61,3 @@ step-read profile rows all place kind is whole begins =
     ∙ ap (λ l. get_or l (kind % 128 + place) no_step) whole
     ∙ ap (λ n. get_or (flat_map (λ steps. steps) rows) n no_step) at
     ∙ flat-at rows (place / 128) (kind % 128) (λ r below. row-long profile rows is r (omega (arith, below, many))) (omega (arith, few, many)) (omega arith)
-
--- what is read there tells what a step does
-pub step-told : (profile : Profile) (rows : List (List Step)) (place kind : ℕ) (step : Step) → rows ≡ steps_in profile → IsPlace place → step ≡ get_or (get_or rows (place / 128) []) (kind % 128) no_step
-    → IsStepFrom profile place (kind % 128 % 84) step
-step-told profile rows place kind step is begins read =
-    subst (IsStepFrom profile place (kind % 128 % 84)) (ap (λ (r : List (List Step)). get_or (get_or r (place / 128) []) (kind % 128) no_step) (sym is) ∙ sym read) (step-by profile place (kind % 128) begins (omega arith))

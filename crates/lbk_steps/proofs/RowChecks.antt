@@ -22,7 +22,7 @@ each_below p (suc n) = p n && each_below p n
 abbrev pub leads_right : ℕ → ℕ → Bool
 leads_right row kind =
     let next = (step_of First row kind).next in
-    (next == 128 * (next / 128)) && (nat_lt (next / 128) 114 && left_eq.it (facts (kind_cell kind ∷ sample row)) (row_left (next / 128)))
+    (next == 128 * (next / 128)) && (nat_lt (next / 128) 128 && left_eq.it (facts (kind_cell kind ∷ sample row)) (row_left (next / 128)))
 
 -- it shows the verdict before the cell
 abbrev pub shows_right : Profile → ℕ → ℕ → Bool
@@ -67,3 +67,7 @@ rows_from_76 = refl
 pub rows_from_95 : each_below (λ j. row_right (95 + j)) 19 ≡ true
 unfolding each_below facts is asked_before_spaces asked_class asked_of_cell asked_of_unit from_11 from_14 from_15 from_16 from_19 from_23 from_25 from_26 from_28 from_cells cell_rules joining_rules opening_rules quotation_rules space_rules hyphen_rules affix_rules number_rules syllable_rules letter_rules at_odd_run before_spaces opens_quotation kind_cell row_left
 rows_from_95 = refl
+
+pub rows_from_114 : each_below (λ j. row_right (114 + j)) 14 ≡ true
+unfolding each_below facts is asked_before_spaces asked_class asked_of_cell asked_of_unit from_11 from_14 from_15 from_16 from_19 from_23 from_25 from_26 from_28 from_cells cell_rules joining_rules opening_rules quotation_rules space_rules hyphen_rules affix_rules number_rules syllable_rules letter_rules at_odd_run before_spaces opens_quotation kind_cell row_left
+rows_from_114 = refl

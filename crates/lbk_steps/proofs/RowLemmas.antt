@@ -13,7 +13,7 @@ use Rattle.lbk_steps.specs.Rows.{IsPlace, IsStepFrom, left_at, row_left, sample,
 use Rattle.lbk_steps.proofs.AlikeLemmas.{facts-alike, from_cells-alike}
 use Rattle.lbk_steps.proofs.KindsLemmas.{kind-cell, kind-few}
 use Rattle.lbk_steps.proofs.LeftLemmas.{left_Decides}
-use Rattle.lbk_steps.proofs.RowChecks.{each_below, is_copy, leads_right, row_right, rows_from_0, rows_from_19, rows_from_38, rows_from_57, rows_from_76, rows_from_95, same_next, shows_right}
+use Rattle.lbk_steps.proofs.RowChecks.{each_below, is_copy, leads_right, row_right, rows_from_0, rows_from_114, rows_from_19, rows_from_38, rows_from_57, rows_from_76, rows_from_95, same_next, shows_right}
 
 pub each_below-at : (p : ℕ → Bool) (n j : ℕ) → each_below p n ≡ true → j < n → p j ≡ true
 unfolding each_below
@@ -25,25 +25,28 @@ each_below-at p (suc n) j h lt =
       | inr last ↦ let at : n ≡ j = omega arith in subst (λ k. p k ≡ true) at parts.0
     ]
 
--- 19 rows from one on
-block : (from row : ℕ) → each_below (λ j. row_right (from + j)) 19 ≡ true → from ≤ row → row < from + 19 → row_right row ≡ true
-block from row all least below =
+-- some rows from one on
+block : (from many row : ℕ) → each_below (λ j. row_right (from + j)) many ≡ true → from ≤ row → row < from + many → row_right row ≡ true
+block from many row all least below =
     let same : from + (row - from) ≡ row = omega arith in
-    subst (λ k. row_right k ≡ true) same (each_below-at (λ j. row_right (from + j)) 19 (row - from) all (omega arith))
+    subst (λ k. row_right k ≡ true) same (each_below-at (λ j. row_right (from + j)) many (row - from) all (omega arith))
 
-all_right : (row : ℕ) → row < 114 → row_right row ≡ true
+all_right : (row : ℕ) → row < 128 → row_right row ≡ true
 all_right row few =
     elim (cases_lt row 19) [
-      | inl below ↦ block 0 row rows_from_0 (omega arith) (omega arith)
+      | inl below ↦ block 0 19 row rows_from_0 (omega arith) (omega arith)
       | inr from_19 ↦ elim (cases_lt row 38) [
-        | inl below ↦ block 19 row rows_from_19 (omega arith) (omega arith)
+        | inl below ↦ block 19 19 row rows_from_19 (omega arith) (omega arith)
         | inr from_38 ↦ elim (cases_lt row 57) [
-          | inl below ↦ block 38 row rows_from_38 (omega arith) (omega arith)
+          | inl below ↦ block 38 19 row rows_from_38 (omega arith) (omega arith)
           | inr from_57 ↦ elim (cases_lt row 76) [
-            | inl below ↦ block 57 row rows_from_57 (omega arith) (omega arith)
+            | inl below ↦ block 57 19 row rows_from_57 (omega arith) (omega arith)
             | inr from_76 ↦ elim (cases_lt row 95) [
-              | inl below ↦ block 76 row rows_from_76 (omega arith) (omega arith)
-              | inr from_95 ↦ block 95 row rows_from_95 (omega arith) (omega arith)
+              | inl below ↦ block 76 19 row rows_from_76 (omega arith) (omega arith)
+              | inr from_95 ↦ elim (cases_lt row 114) [
+                | inl below ↦ block 95 19 row rows_from_95 (omega arith) (omega arith)
+                | inr from_114 ↦ block 114 14 row rows_from_114 (omega arith) (omega arith)
+              ]
             ]
           ]
         ]
@@ -59,7 +62,7 @@ record IsRight (row : ℕ) : Type 0 where
   first_copies : each_below (is_copy First row) 44 ≡ true
   second_copies : each_below (is_copy Second row) 44 ≡ true
 
-is-right : (row : ℕ) → row < 114 → IsRight row
+is-right : (row : ℕ) → row < 128 → IsRight row
 is-right row few =
     let p = and_parts _ _ (all_right row few) in
     let q = and_parts _ _ p.1 in
@@ -68,17 +71,17 @@ is-right row few =
     let t = and_parts _ _ s.1 in
     record { leads = p.0; first = q.0; second = r.0; same = s.0; first_copies = t.0; second_copies = t.1 }
 
-shows : (profile : Profile) (row kind : ℕ) → row < 114 → kind < 84
+shows : (profile : Profile) (row kind : ℕ) → row < 128 → kind < 84
     → (step_of profile row kind).shown ≡ shown_of (from_cells profile (sample row) (kind_cell kind ∷ []))
 shows First row kind few is_kind = eqb-true _ _ (each_below-at (shows_right First row) 84 kind (is-right row few).first is_kind)
 shows Second row kind few is_kind = eqb-true _ _ (each_below-at (shows_right Second row) 84 kind (is-right row few).second is_kind)
 
-pub next-same : (profile : Profile) (row kind : ℕ) → row < 114 → kind < 84 → (step_of profile row kind).next ≡ (step_of First row kind).next
+pub next-same : (profile : Profile) (row kind : ℕ) → row < 128 → kind < 84 → (step_of profile row kind).next ≡ (step_of First row kind).next
 next-same First row kind few is_kind = refl
 next-same Second row kind few is_kind = eqb-true _ _ (each_below-at (same_next row) 84 kind (is-right row few).same is_kind)
 
 -- the step by a kind, for these cells and for all that are like them
-pub step-of : (profile : Profile) (place kind : ℕ) → place / 128 < 114 → kind < 84 → IsStepFrom profile place kind (step_of profile (place / 128) kind)
+pub step-of : (profile : Profile) (place kind : ℕ) → place / 128 < 128 → kind < 84 → IsStepFrom profile place kind (step_of profile (place / 128) kind)
 unfolding left_at row_left
 step-of profile place kind few is_kind =
     let row = place / 128 in
@@ -87,7 +90,7 @@ step-of profile place kind few is_kind =
     let right = and_parts _ _ (each_below-at (leads_right row) 84 kind (is-right row few).leads is_kind) in
     let more = and_parts _ _ right.1 in
     let begins : next ≡ 128 * (next / 128) = eqb-true _ _ right.0 in
-    let low : next / 128 < 114 = ltb-true _ 114 more.0 in
+    let low : next / 128 < 128 = ltb-true _ 128 more.0 in
     let place_first : IsPlace next = (omega arith, low) in
     let known : facts (kind_cell kind ∷ sample row) ≡ row_left (next / 128) = (left_Decides (facts (kind_cell kind ∷ sample row)) (row_left (next / 128))).0 more.1 in
     record {
@@ -99,31 +102,30 @@ step-of profile place kind few is_kind =
 step_from_fields : (one other : Step) → one.shown ≡ other.shown → one.next ≡ other.next → one ≡ other
 step_from_fields one other shown next = λ i. record { shown = shown i; next = next i }
 
-copies : (profile : Profile) (row : ℕ) → row < 114 → each_below (is_copy profile row) 44 ≡ true
+copies : (profile : Profile) (row : ℕ) → row < 128 → each_below (is_copy profile row) 44 ≡ true
 copies First row few = (is-right row few).first_copies
 copies Second row few = (is-right row few).second_copies
 
-copy : (profile : Profile) (row kind : ℕ) → row < 114 → kind < 44 → step_of profile row (84 + kind) ≡ step_of profile row kind
+copy : (profile : Profile) (row kind : ℕ) → row < 128 → kind < 44 → step_of profile row (84 + kind) ≡ step_of profile row kind
 copy profile row kind few low =
     let same = and_parts _ _ (each_below-at (is_copy profile row) 44 kind (copies profile row few) low) in
     step_from_fields _ _ (eqb-true _ _ same.0) (eqb-true _ _ same.1)
 
 -- whatever the number is, it is that of a kind
+pub step-copied : (profile : Profile) (row number : ℕ) → row < 128 → number < 128 → step_of profile row number ≡ step_of profile row (number % 84)
+step-copied profile row number low few =
+    elim (cases_lt number 84) [
+      | inl below ↦ let is : number ≡ number % 84 = omega arith in ap (step_of profile row) is
+      | inr past ↦
+          let back : number ≡ 84 + number % 84 = omega arith in
+          ap (step_of profile row) back ∙ copy profile row (number % 84) low (omega arith)
+    ]
+
 pub step-by : (profile : Profile) (place number : ℕ) → IsPlace place → number < 128
     → IsStepFrom profile place (number % 84) (step_of profile (place / 128) number)
 step-by profile place number is_place few =
-    elim (cases_lt number 84) [
-      | inl low ↦
-          let is : number ≡ number % 84 = omega arith in
-          subst (λ kind. IsStepFrom profile place kind (step_of profile (place / 128) number)) is (step-of profile place number is_place.1 low)
-      | inr high ↦
-          let is : number - 84 ≡ number % 84 = omega arith in
-          let back : 84 + (number - 84) ≡ number = omega arith in
-          let same : step_of profile (place / 128) number ≡ step_of profile (place / 128) (number - 84) =
-          ap (step_of profile (place / 128)) (sym back) ∙ copy profile (place / 128) (number - 84) is_place.1 (omega arith) in
-          subst (λ kind. IsStepFrom profile place kind (step_of profile (place / 128) number)) is
-          (subst (λ step. IsStepFrom profile place (number - 84) step) (sym same) (step-of profile place (number - 84) is_place.1 (omega arith)))
-    ]
+    subst (λ step. IsStepFrom profile place (number % 84) step) (sym (step-copied profile (place / 128) number is_place.1 few))
+    (step-of profile place (number % 84) is_place.1 (omega arith))
 
 -- whatever the cells are, some row knows of them what the rules ask
 pub row-of : (side : List Cell) → (place : ℕ) × IsPlace place × (facts (map normal side) ≡ left_at place)

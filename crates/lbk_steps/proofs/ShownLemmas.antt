@@ -1,14 +1,14 @@
 -- The number of a verdict leads back to it.
-use Rattle.std.proofs.Common.{◌≡◌, ℕ, ◌/◌, ◌%◌, ◌<◌, ◌==◌, refl, slice_index_or, ap, ◌∙◌, arith, lit<}
+use Rattle.std.proofs.Common.{◌≡◌, ℕ, zero, suc, Bool, true, false, cond, List, [], ◌∷◌, eqb-true, ◌/◌, ◌%◌, ◌<◌, ◌==◌, Some, find, unwrap_or, not, refl, sym, subst, slice_index_or, ap, ◌∙◌, arith, lit<}
 use Rattle.lbk_uax14.specs.declared.verdicts.Kind.{Kind}
 use Rattle.lbk_uax14.specs.declared.verdicts.Kind.TheVariants.{No, May, Must}
 use Rattle.lbk_uax14.specs.declared.verdicts.Rule.{Rule}
 use Rattle.lbk_uax14.specs.declared.verdicts.Rule.TheVariants.{Lb2, Lb3, Lb4, Lb5, Lb6, Lb7, Lb8, Lb8a, Lb9, Lb11, Lb12, Lb12a, Lb13, Lb14, Lb15, Lb15a, Lb15b, Lb16, Lb17, Lb18, Lb19, Lb20, Lb21, Lb21a, Lb21b, Lb22, Lb23, Lb23a, Lb24, Lb25, Lb26, Lb27, Lb28, Lb29, Lb30, Lb30a, Lb30b, Lb31}
 use Rattle.lbk_uax14.specs.declared.verdicts.Verdict.{Verdict}
-use Rattle.lbk_uax14.specs.Codes.{kind_number, rule_number}
-use Rattle.lbk_uax14.specs.Held.{is_15b}
+use Rattle.lbk_uax14.specs.Breaks.{is_no}
+use Rattle.lbk_uax14.specs.Codes.{kind_number, kind_numbered, rule_number, rule_numbered, rules}
 use Rattle.lbk_steps.specs.declared.steps.TheConstants.{KINDS_BY_NUMBER, RULES}
-use Rattle.lbk_steps.specs.Rows.{shown_of}
+use Rattle.lbk_steps.specs.Rows.{IsShown, shown_of, verdict_shown}
 
 few-kinds : (kind : Kind) → kind_number kind < 256
 few-kinds No = lit< tt
@@ -68,48 +68,110 @@ verdict-shown shown kind rule verdict of_kind of_rule is =
     let rules = of_rule verdict.rule (let number : shown / 256 ≡ rule_number verdict.rule = omega (arith, few, is) in number) in
     λ i. record { kind = kinds i; rule = rules i }
 
-number-15b : (rule : Rule) → (rule_number rule == 122) ≡ is_15b rule
-number-15b Lb2 = refl
-number-15b Lb3 = refl
-number-15b Lb4 = refl
-number-15b Lb5 = refl
-number-15b Lb6 = refl
-number-15b Lb7 = refl
-number-15b Lb8 = refl
-number-15b Lb8a = refl
-number-15b Lb9 = refl
-number-15b Lb11 = refl
-number-15b Lb12 = refl
-number-15b Lb12a = refl
-number-15b Lb13 = refl
-number-15b Lb14 = refl
-number-15b Lb15 = refl
-number-15b Lb15a = refl
-number-15b Lb15b = refl
-number-15b Lb16 = refl
-number-15b Lb17 = refl
-number-15b Lb18 = refl
-number-15b Lb19 = refl
-number-15b Lb20 = refl
-number-15b Lb21 = refl
-number-15b Lb21a = refl
-number-15b Lb21b = refl
-number-15b Lb22 = refl
-number-15b Lb23 = refl
-number-15b Lb23a = refl
-number-15b Lb24 = refl
-number-15b Lb25 = refl
-number-15b Lb26 = refl
-number-15b Lb27 = refl
-number-15b Lb28 = refl
-number-15b Lb29 = refl
-number-15b Lb30 = refl
-number-15b Lb30a = refl
-number-15b Lb30b = refl
-number-15b Lb31 = refl
+pub kind-back : (kind : Kind) → kind_numbered (kind_number kind) ≡ kind
+kind-back No = refl
+kind-back May = refl
+kind-back Must = refl
 
-pub held-shown : (shown : ℕ) (verdict : Verdict) → shown ≡ shown_of verdict → (shown / 256 == 122) ≡ is_15b verdict.rule
-held-shown shown verdict is =
+pub rule-found : (rule : Rule) → find (λ r. rule_number r == rule_number rule) rules ≡ Some rule
+rule-found Lb2 = refl
+rule-found Lb3 = refl
+rule-found Lb4 = refl
+rule-found Lb5 = refl
+rule-found Lb6 = refl
+rule-found Lb7 = refl
+rule-found Lb8 = refl
+rule-found Lb8a = refl
+rule-found Lb9 = refl
+rule-found Lb11 = refl
+rule-found Lb12 = refl
+rule-found Lb12a = refl
+rule-found Lb13 = refl
+rule-found Lb14 = refl
+rule-found Lb15 = refl
+rule-found Lb15a = refl
+rule-found Lb15b = refl
+rule-found Lb16 = refl
+rule-found Lb17 = refl
+rule-found Lb18 = refl
+rule-found Lb19 = refl
+rule-found Lb20 = refl
+rule-found Lb21 = refl
+rule-found Lb21a = refl
+rule-found Lb21b = refl
+rule-found Lb22 = refl
+rule-found Lb23 = refl
+rule-found Lb23a = refl
+rule-found Lb24 = refl
+rule-found Lb25 = refl
+rule-found Lb26 = refl
+rule-found Lb27 = refl
+rule-found Lb28 = refl
+rule-found Lb29 = refl
+rule-found Lb30 = refl
+rule-found Lb30a = refl
+rule-found Lb30b = refl
+rule-found Lb31 = refl
+
+pub rule-back : (rule : Rule) → rule_numbered (rule_number rule) ≡ rule
+rule-back rule = ap (λ r. unwrap_or r Lb2) (rule-found rule)
+
+-- the number leads back to the verdict
+pub shown-verdict : (shown : ℕ) (verdict : Verdict) → shown ≡ shown_of verdict → verdict_shown shown ≡ verdict
+unfolding verdict_shown
+shown-verdict shown verdict is =
     let few = few-kinds verdict.kind in
-    let rule_number_is : shown / 256 ≡ rule_number verdict.rule = omega (arith, few, is) in
-    ap (λ n. n == 122) rule_number_is ∙ number-15b verdict.rule
+    let kind : shown % 256 ≡ kind_number verdict.kind = omega (arith, few, is) in
+    let rule : shown / 256 ≡ rule_number verdict.rule = omega (arith, few, is) in
+    let kinds = ap kind_numbered kind ∙ kind-back verdict.kind in
+    let rules = ap rule_numbered rule ∙ rule-back verdict.rule in
+    λ i. record { kind = kinds i; rule = rules i }
+
+kind-breaks : (kind : Kind) → not (kind_number kind == 0) ≡ not (is_no kind)
+kind-breaks No = refl
+kind-breaks May = refl
+kind-breaks Must = refl
+
+-- no line breaks where the number of the kind is 0
+pub shown-breaks : (shown : ℕ) (verdict : Verdict) → shown ≡ shown_of verdict → not (shown % 256 == 0) ≡ not (is_no (verdict_shown shown).kind)
+shown-breaks shown verdict is =
+    let few = few-kinds verdict.kind in
+    let kind : shown % 256 ≡ kind_number verdict.kind = omega (arith, few, is) in
+    ap (λ n. not (n == 0)) kind ∙ kind-breaks verdict.kind ∙ ap (λ (v : Verdict). not (is_no v.kind)) (sym (shown-verdict shown verdict is))
+
+kind-number : (number : ℕ) → number < 3 → kind_number (kind_numbered number) ≡ number
+kind-number zero few = refl
+kind-number (suc zero) few = refl
+kind-number (suc (suc zero)) few = refl
+kind-number (suc (suc (suc number))) few = absurd (omega arith)
+
+-- what is found passes
+find-some : (p : Rule → Bool) (all : List Rule) (rule : Rule) → find p all ≡ Some rule → p rule ≡ true
+find-some p [] rule found = absurd (let no : ⊥ = cc in no)
+find-some p (r ∷ rs) rule found =
+    elim (p r) as (λ b. p r ≡ b → cond b (Some r) (find p rs) ≡ Some rule → p rule ≡ true) [
+      | true ↦ λ is same. let at : r ≡ rule = cc in subst (λ x. p x ≡ true) at is
+      | false ↦ λ _ later. find-some p rs rule later
+    ] refl found
+
+-- a number whose high half is a rule's and whose low half a kind's
+pub shown-made : (shown : ℕ) (rule : Rule) → Some rule ≡ find (λ r. rule_number r == shown / 256) rules → shown % 256 < 3 → IsShown shown
+shown-made shown rule found few =
+    let is : rule_number rule ≡ shown / 256 = eqb-true _ _ (find-some (λ r. rule_number r == shown / 256) rules rule (sym found)) in
+    let kind = kind-number (shown % 256) few in
+    (record { kind = kind_numbered (shown % 256); rule = rule }, omega (arith, is, kind))
+
+kind-below : (kind : Kind) → kind_number kind < 3
+kind-below No = lit< tt
+kind-below May = lit< tt
+kind-below Must = lit< tt
+
+-- a verdict's number has a rule and a kind
+pub shown-rule : (shown : ℕ) (known : IsShown shown) → find (λ r. rule_number r == shown / 256) rules ≡ Some known.0.rule
+shown-rule shown known =
+    let few = few-kinds known.0.kind in
+    let rule : shown / 256 ≡ rule_number known.0.rule = omega (arith, few, known.1) in
+    ap (λ n. find (λ r. rule_number r == n) rules) rule ∙ rule-found known.0.rule
+
+pub shown-kind : (shown : ℕ) → IsShown shown → shown % 256 < 3
+shown-kind shown known = (let few = kind-below known.0.kind in omega (arith, few, known.1))

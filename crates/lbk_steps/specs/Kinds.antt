@@ -21,6 +21,11 @@ slot_of cell =
     else (if closing cell then 41
     else place cell.class)))
 
+-- the kind that a number stands for: itself below 84, and of others what is left when 128 and then 84 are taken off as
+-- often as can be
+abbrev pub real_kind : ℕ → ℕ
+real_kind number = number % 128 % 84
+
 -- the kind of a cell
 unfoldable pub kind_of : Cell → ℕ
 kind_of cell = slot_of cell + 42 * from_bool (none_of mark cell.class && cell.pict_cn)

@@ -5,7 +5,6 @@ pub mod ClassLabels
 pub mod CellOfTables
 pub mod CellPages
 pub mod FirstBytes
-pub mod FlatStep
 pub mod FlatTable
 pub mod KindTable
 pub mod Kinds
@@ -14,4 +13,3 @@ pub mod Pages
 pub mod RowMachineFits
 pub mod Rows
 pub mod StepperFits
-pub mod Steps

@@ -1,12 +1,13 @@
 -- Pages of cells: each holds the cells of 256 codes that follow one another.
-use Rattle.std.specs.Prelude.{◌≡◌, ◌≢◌, ℕ, ◌+◌, ◌*◌, ◌/◌, ◌%◌, ◌^◌, ◌<◌, ◌≤◌, List, [], bit_xor, fold, AllPairs}
-use Rattle.std.specs.Prelude.{slice_index, slice_index_or}
+use Rattle.std.specs.Prelude.{◌≡◌, ◌≢◌, ℕ, ◌+◌, ◌*◌, ◌/◌, ◌%◌, ◌^◌, ◌<◌, ◌≤◌, ◌==◌, List, [], bit_xor, fold, AllPairs}
+use Rattle.std.specs.Prelude.{slice_index, slice_index_or, if◌then◌else◌}
 use Rattle.std.specs.Int.{from_bool}
 use Rattle.lbk_uax14.specs.declared.cells.Cell.{Cell}
 use Rattle.lbk_uax14.specs.declared.classes.Quote.{Quote}
 use Rattle.lbk_uax14.specs.declared.classes.Quote.TheVariants.{Neither, Initial, Final}
 use Rattle.lbk_uax14.specs.Classes.{place}
 use Rattle.lbk_uax14.specs.Units.{letter}
+use Rattle.lbk_steps.specs.declared.pages.kept.CellSum.{CellSum}
 
 -- the page holds the cells of the 256 codes from `first` on
 abbrev pub IsPageOf : (ℕ → Cell) → ℕ → List Cell → Type 0
@@ -44,10 +45,23 @@ cell_number cell =
     + 8 * quote_place cell.quote
     + 32 * place cell.class
 
--- a digest after one more cell
-abbrev pub digest_with : ℕ → Cell → ℕ
-digest_with digest cell = ((bit_xor digest (digest / 2 ^ 64) * 0x2360_ed05_1fc6_5da4_4385_df64_9fcc_f645) % 2 ^ 128 + cell_number cell) % 2 ^ 128
+-- a digest with one number more
+abbrev pub mixed : ℕ → ℕ → ℕ
+mixed sum number = ((bit_xor sum (sum / 2 ^ 32) * 0x5851_f42d_4c95_7f2d) % 2 ^ 64 + number) % 2 ^ 64
+
+-- with the run of equal cells that is told so far
+abbrev pub with_run : CellSum → ℕ
+with_run d = mixed d.sum ((d.number * 1024 % 2 ^ 64 + d.count) % 2 ^ 64)
+
+-- after one more cell
+abbrev pub digest_with : CellSum → Cell → CellSum
+digest_with d cell =
+    if cell_number cell == d.number then record { sum = d.sum; number = d.number; count = (d.count + 1) % 2 ^ 64 }
+    else record { sum = with_run d; number = cell_number cell; count = 1 }
+
+abbrev pub no_cells : CellSum
+no_cells = record { sum = 0; number = 0; count = 0 }
 
 -- the digest of a page: pages that are equal have the same
 unfoldable pub digest_of : List Cell → ℕ
-digest_of page = fold digest_with 0 page
+digest_of page = with_run (fold digest_with no_cells page)

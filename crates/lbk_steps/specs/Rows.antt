@@ -8,7 +8,7 @@ use Rattle.lbk_steps.specs.declared.steps.TheConstants.{WIDTH}
 use Rattle.lbk_values.specs.declared.profile.Profile.{Profile}
 use Rattle.lbk_values.specs.declared.profile.Profile.TheVariants.{First, Second}
 use Rattle.lbk_uax14.specs.Chain.{from_cells}
-use Rattle.lbk_uax14.specs.Codes.{kind_number, rule_number}
+use Rattle.lbk_uax14.specs.Codes.{kind_number, kind_numbered, rule_number, rule_numbered}
 use Rattle.lbk_uax14.specs.Facts.{facts}
 use Rattle.lbk_uax14.specs.Sides.{Side}
 use Rattle.lbk_steps.specs.Kinds.{kind_cell}
@@ -34,6 +34,14 @@ row_left row = facts (sample row)
 abbrev pub shown_of : Verdict → ℕ
 shown_of verdict = 256 * rule_number verdict.rule + kind_number verdict.kind
 
+-- the verdict of such a number
+unfoldable pub verdict_shown : ℕ → Verdict
+verdict_shown shown = record { kind = kind_numbered (shown % 256); rule = rule_numbered (shown / 256) }
+
+-- the number is that of a verdict
+abbrev pub IsShown : ℕ → Type 0
+IsShown shown = (verdict : Verdict) × (shown ≡ shown_of verdict)
+
 -- a step that stands nowhere
 abbrev pub no_step : Step
 no_step = record { shown = 0; next = 0 }
@@ -47,9 +55,21 @@ steps_in Second = SECOND_STEPS
 abbrev pub step_of : Profile → ℕ → ℕ → Step
 step_of profile row kind = slice_index_or (slice_index_or (steps_in profile) row []) kind no_step
 
+-- these are the steps of some profile
+abbrev pub AreSteps : List (List Step) → Type 0
+AreSteps steps = (profile : Profile) × (steps ≡ steps_in profile)
+
+-- the step from the row at a place by a number of 8 bits, of which the lowest 7 count
+abbrev pub step_by : List (List Step) → ℕ → ℕ → Step
+step_by steps place kind = slice_index_or (slice_index_or steps (place / 128) []) (kind % 128) no_step
+
 -- a row begins at this place
 abbrev pub IsPlace : ℕ → Type 0
 IsPlace place = (place % WIDTH ≡ 0) × (place / WIDTH < ROWS)
+
+-- the place of a row by a number of 16 bits: it, if a row begins there
+abbrev pub place_by : ℕ → ℕ
+place_by number = number % 16384 / 128 * 128
 
 -- what the row at a place knows
 unfoldable pub left_at : ℕ → Left

@@ -1,37 +1,30 @@
-//! The table of steps as plain numbers in one block, which a caller may keep where it likes.
+//! A table as plain numbers in one block, which a caller may keep where it likes: what the property files say. What the
+//! rules say stands in the code.
 
-ghost use Rattle.std.specs.Prelude.{◌≡◌, ◌+◌, ◌*◌, ◌/◌, ◌%◌, ◌^◌, ◌<◌, ◌≤◌, ℕ, ◌↔◌, IsTrue, IfOk, OnErr, fold};
-ghost use Rattle.std.specs.Prelude.{length, slice_index};
+ghost use Rattle.std.specs.Prelude.{◌≡◌, ℕ, ◌↔◌, false, nat_lt, IsTrue, IfOk, OnErr, fold};
+ghost use Rattle.std.specs.List.{list_all};
+ghost use Rattle.lbk_steps.specs.declared.kinds.TheConstants.{KINDS};
 ghost use Rattle.lbk_uax14.specs.declared.cells.Cell.{Cell};
-ghost use Rattle.lbk_steps.specs.FlatTable.{AreFlatKinds, AreKindsAlone, AreNumbered, AreStepsAlone, IsFlatOf};
-ghost use Rattle.lbk_steps.specs.FlatTable.{IsNumbered, IsNumberedAt, IsWhole, digest_of, digest_with};
-ghost use Rattle.lbk_steps.specs.FlatTable.{digest_with_step};
+ghost use Rattle.lbk_steps.specs.FlatTable.{AreFlatKinds, AreKinds, AreKindsAlone, IsFlatOf, IsWhole, digest_of};
+ghost use Rattle.lbk_steps.specs.FlatTable.{digest_of_bytes, digest_with};
+ghost use Rattle.lbk_steps.specs.Neighbours.{AreNeighboursOf};
 ghost use Rattle.lbk_uax14.specs.Normal.{normal};
 ghost use Rattle.lbk_steps.specs.CellOfTables.{cell_of_tables};
 
 use crate::kind_table::KindTable;
 use crate::kinds::{KINDS, cell_of_kind};
 use crate::neighbours::Neighbours;
-use crate::row_steps::ROWS;
 use crate::runs::CellRuns;
-use crate::steps::{Rows, Step, WIDTH, is_held, rows_of, verdict_of};
-use lbk_uax14::{Cell, Profile, VERDICTS, code_of};
+use crate::steps::WIDTH;
+use lbk_uax14::Cell;
 use lbk_ucd::Tables;
 use std::alloc::{AllocError, Global};
 
-/// How many steps a table has for each profile: as many as a `u8` has kinds, after each place that a `u16` has. So a
-/// step is there whatever the row and the kind are.
-pub const STEPS: usize = 65_792;
-
-/// The number of this layout of a table. It changes with the layout, the rules and the numbers of verdicts.
-pub const LAYOUT: u64 = 3;
+/// The number of this layout of a table. It changes with the layout, the rules and the numbers of kinds.
+pub const LAYOUT: u64 = 4;
 
 /// How many codes there are.
 pub(crate) const CODES: usize = 0x11_0000;
-
-/// The number of a verdict by rule 15b. It is none of the first [`VERDICTS`], so that a loop that goes by these
-/// leaves at a held position too.
-pub const HELD: u16 = VERDICTS + 16;
 
 /// What a digest begins with: the offset basis of FNV-1a for 64 bits.
 const DIGEST_START: u64 = 0xcbf2_9ce4_8422_2325;
@@ -39,34 +32,16 @@ const DIGEST_START: u64 = 0xcbf2_9ce4_8422_2325;
 /// What a digest is multiplied by: the prime of FNV-1a for 64 bits.
 const DIGEST_PRIME: u64 = 0x100_0000_01b3;
 
-/// What happens at a cell of some kind after some cells.
-#[repr(C)]
-#[derive(Clone, Copy, PartialEq, Eq, Debug)]
-pub struct FlatStep {
-    /// The number of the verdict before the cell, as `lbk_uax14::code_of` counts them. In the second profile, of that
-    /// where what follows leaves a closing quotation mark closed.
-    pub code: u16,
-    /// The place at which the row after the cell begins.
-    pub next: u16,
-}
-
-/// The kinds of all scalar values, and for both profiles what happens at a cell of each kind: plain numbers, without
-/// pointers. Each row of steps has one for each kind, and is named by the place of its first step; the row at 0 knows
-/// of no cell.
+/// The kinds of all scalar values, and what the steps tell of bytes side by side: plain numbers,
+/// without pointers.
 #[repr(C)]
 pub struct FlatTable {
     /// The number of the layout, [`LAYOUT`].
     pub layout: u64,
     /// The digest of all that follows.
     pub digest: u64,
-    /// The steps in the first profile.
-    pub first: [FlatStep; STEPS],
-    /// The steps in the second profile.
-    pub second: [FlatStep; STEPS],
-    /// What the steps tell of bytes side by side, in the first profile.
-    pub first_pairs: Neighbours,
-    /// The same in the second profile.
-    pub second_pairs: Neighbours,
+    /// What the steps tell of bytes side by side, in either profile.
+    pub pairs: Neighbours,
     /// The kind of each code.
     pub kinds: [u8; CODES],
 }
@@ -77,8 +52,8 @@ impl FlatTable {
     pub fn fill(&mut self, alloc: Global, tables: &Tables) -> Result<(), AllocError>
         ensures table { IfOk result (λ _. IsFlatOf self.new (cell_of_tables tables.now)) }
         ensures whole { IfOk result (λ _. IsWhole self.new) }
-        ensures steps { IfOk result (λ _. AreStepsAlone self.new) }
         ensures kinds { IfOk result (λ _. AreKindsAlone self.new (cell_of_tables tables.now)) }
+        ensures neighbours { IfOk result (λ _. AreNeighboursOf self.new.kinds self.new.pairs) }
         ensures untouched { OnErr result (self.new ≡ self.old) }
     {
         self.fill_over(alloc, tables)
@@ -88,19 +63,33 @@ impl FlatTable {
     fn fill_over<C: CellRuns>(&mut self, alloc: Global, source: &C) -> Result<(), AllocError>
         ensures table { IfOk result (λ _. IsFlatOf self.new (C.cell_at source.now)) }
         ensures whole { IfOk result (λ _. IsWhole self.new) }
-        ensures steps { IfOk result (λ _. AreStepsAlone self.new) }
         ensures kinds { IfOk result (λ _. AreKindsAlone self.new (C.cell_at source.now)) }
+        ensures neighbours { IfOk result (λ _. AreNeighboursOf self.new.kinds self.new.pairs) }
         ensures untouched { OnErr result (self.new ≡ self.old) }
     {
         let kinds = KindTable::build(alloc, source)?;
-        number_steps(rows_of(Profile::First), &mut self.first);
-        number_steps(rows_of(Profile::Second), &mut self.second);
         self.kinds.copy_from_slice(&kinds.kinds);
-        self.first_pairs = Neighbours::of_steps(&self.first, &self.kinds);
-        self.second_pairs = Neighbours::of_steps(&self.second, &self.kinds);
+        self.complete();
+        Ok(())
+    }
+
+    /// Makes it the whole table of the kinds that it has, whatever else it had, and returns whether they are kinds. If
+    /// one of them is none the table stays as it was.
+    pub fn complete(&mut self) -> bool
+        ensures kinds { IsTrue result ↔ AreKinds self.old.kinds }
+        ensures table { IsTrue result → (cell : ℕ → Cell) → AreFlatKinds self.old.kinds cell → IsFlatOf self.new cell }
+        ensures whole { IsTrue result → IsWhole self.new }
+        ensures neighbours { IsTrue result → AreNeighboursOf self.new.kinds self.new.pairs }
+        ensures same { self.new.kinds ≡ self.old.kinds }
+        ensures untouched { result ≡ false → self.new ≡ self.old }
+    {
+        if !are_kinds(&self.kinds) {
+            return false;
+        }
+        self.pairs = Neighbours::of_kinds(&self.kinds);
         self.layout = LAYOUT;
         self.digest = self.digest_now();
-        Ok(())
+        true
     }
 
     /// Whether its layout is that of this version and its digest is that of its numbers. So it is of each table that
@@ -111,79 +100,37 @@ impl FlatTable {
         self.layout == LAYOUT && self.digest == self.digest_now()
     }
 
-    /// The digest of its steps, neighbours and kinds as they are now.
+    /// The digest of its neighbours and kinds as they are now.
     #[tactic(auto, unfolding(crate::specs::FlatTable::digest_of))]
     fn digest_now(&self) -> u64
         ensures { result ≡ digest_of self.now }
     {
-        let first = digest_steps(DIGEST_START, &self.first);
-        let second = digest_steps(first, &self.second);
-        let neighbours = self.second_pairs.digest(self.first_pairs.digest(second));
+        let neighbours = self.pairs.digest(DIGEST_START);
         digest_kinds(neighbours, &self.kinds)
     }
 
-    /// The cell of the kind of `c`, with nothing that no rule asks of it.
+    /// The cell of the kind of `c`, with nothing that no rule asks of it. A number that is no kind's is masked, as
+    /// steps mask it.
     pub fn cell(&self, c: char) -> Cell
         ensures { (cell : ℕ → Cell) → AreFlatKinds self.now.kinds cell → result ≡ normal (cell c) }
     {
-        cell_of_kind(self.kinds[c as usize] % KINDS as u8)
+        cell_of_kind(self.kinds[c as usize] % WIDTH as u8 % KINDS as u8)
     }
 }
 
-/// What stands after the steps of the last row.
-const NO_STEP: FlatStep = FlatStep { code: 0, next: 0 };
-
-/// Puts the steps of a profile with the numbers of their verdicts.
-fn number_steps(rows: &Rows, flat: &mut [FlatStep])
-    ensures numbered { AreNumbered rows.now flat.new }
-    ensures whole { length flat.new ≡ length flat.old }
+/// Whether each number is that of a kind.
+fn are_kinds(kinds: &[u8]) -> bool
+    ensures { result ≡ list_all (λ kind. nat_lt kind KINDS) kinds.now }
 {
-    for (place, step) in flat.iter_mut().enumerate() {
-        *step = numbered_at(rows, place);
-    }
+    kinds.iter().all(|kind| (*kind as usize) < KINDS)
 }
 
-/// The step at a place, with the number of its verdict.
-fn numbered_at(rows: &Rows, place: usize) -> FlatStep
-    ensures { IsNumberedAt rows.now place result }
+/// The digest of some bytes: FNV-1a, by which no two bytes lead from one digest to the same.
+#[tactic(auto, unfolding(crate::specs::FlatTable::digest_of_bytes))]
+pub fn digest_of_bytes(bytes: &[u8]) -> u64
+    ensures { result ≡ digest_of_bytes bytes.now }
 {
-    if place < KINDS * ROWS {
-        numbered(rows[place / KINDS][place % KINDS])
-    } else {
-        NO_STEP
-    }
-}
-
-/// The step with the number of its verdict.
-fn numbered(step: Step) -> FlatStep
-    ensures { IsNumbered step result }
-{
-    let code = if is_held(step.shown) {
-        HELD
-    } else {
-        code_of(verdict_of(step.shown))
-    };
-    let row = usize::from(step.next) / WIDTH;
-    FlatStep {
-        code,
-        next: (KINDS * row) as u16,
-    }
-}
-
-/// A digest after some steps more.
-fn digest_steps(digest: u64, steps: &[FlatStep]) -> u64
-    ensures { result ≡ fold digest_with_step digest steps.now }
-{
-    steps
-        .iter()
-        .fold(digest, |digest, step| digest_with_step(digest, *step))
-}
-
-/// A digest after one step more.
-fn digest_with_step(digest: u64, step: FlatStep) -> u64
-    ensures { result ≡ digest_with_step digest step }
-{
-    digest_with(digest, u64::from(step.code) + 65_536 * u64::from(step.next))
+    digest_kinds(DIGEST_START, bytes)
 }
 
 /// A digest after some kinds more.

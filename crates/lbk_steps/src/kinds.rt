@@ -7,7 +7,7 @@ use lbk_uax14::{Cell, Class, Quote};
 
 /// How many kinds there are. Two of them no cell has, the marks that are unassigned pictographs: no
 /// rule asks a mark for that.
-pub(crate) const KINDS: usize = 84;
+pub const KINDS: usize = 84;
 
 /// How many places of cells there are, each once for an unassigned pictograph and once for others.
 const SLOTS: u8 = 42;

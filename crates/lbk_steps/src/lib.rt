@@ -1,4 +1,4 @@
-//! Texts decided by a table of steps, as the rules of `lbk_uax14` decide them; sources of cells.
+//! Texts decided by tables of steps, as the rules of `lbk_uax14` decide them; sources of cells.
 //!
 //! A [`CellSource`] knows the cells of all scalars: the tables of the property files, or [`CellPages`] made of them,
 //! which is fast. [`Stepper`] decides a text scalar by scalar by such a source; the crate `lbk_breaks` finds the
@@ -27,7 +27,11 @@ pub use source::CellSource;
 pub use stepper::Stepper;
 
 // What `lbk_breaks` and `lbk_c` step by.
-pub use flat_table::{FlatStep, FlatTable, HELD, LAYOUT, STEPS};
+pub use flat_table::{FlatTable, LAYOUT, digest_of_bytes};
+pub use kinds::KINDS;
 pub use neighbours::Neighbours;
 pub use row_machine::RowMachine;
-pub use steps::{Rows, Step, WIDTH, each_side_has_a_row, is_held, rows_of, step_from, verdict_of};
+pub use steps::{
+    HELD, Rows, Step, WIDTH, each_side_has_a_row, number_at, place_by, rows_of, shown_by,
+    shows_break, step_at, step_in, steps_decide, verdict_of,
+};

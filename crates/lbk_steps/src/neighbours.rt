@@ -1,23 +1,55 @@
 //! What two sets of each byte tell of the steps: whether a line may break between two bytes that are scalars, and where
-//! the steps themselves have to be asked.
+//! the steps themselves have to be asked. Both profiles have the same, since these bytes are no quotation marks that
+//! open or close.
 
-ghost use Rattle.std.specs.Prelude.{◌≡◌, ◌<◌, ◌%◌, ℕ, true, fold};
-ghost use Rattle.lbk_masks.specs.Sets.{left_in, meets, right_in};
-ghost use Rattle.lbk_steps.specs.Neighbours.{AreTold, IsTold, digest_of_neighbours, is_special};
-ghost use Rattle.lbk_steps.specs.FlatTable.{digest_with};
+ghost use Rattle.std.specs.Prelude.{◌≡◌, ◌+◌, ◌*◌, ◌<◌, [], ℕ, fold, slice_index_or};
+ghost use Rattle.lbk_steps.specs.declared.kinds.TheConstants.{KINDS};
+ghost use Rattle.lbk_steps.specs.declared.neighbours.TheConstants.{CLASS_OF_KIND};
+ghost use Rattle.lbk_steps.specs.Neighbours.{AreNeighboursOf, AreTold, are_letters, begins_letters, class_of_byte};
+ghost use Rattle.lbk_steps.specs.Neighbours.{digest_of_neighbours, digest_with, row_of_byte, row_of_kind};
+ghost use Rattle.lbk_steps.specs.Rows.{steps_in};
+ghost use Rattle.lbk_values.specs.declared.profile.Profile.{Profile};
 
-use crate::flat_table::{CODES, FlatStep, HELD, STEPS, digest_kinds, digest_with};
+use crate::flat_table::{CODES, digest_kinds, digest_with};
 use crate::kinds::KINDS;
-use lbk_masks::{ByteSets, LETTER, Related, SPECIAL, cover, firsts_of_letters, stands_for_all};
-use lbk_uax14::is_break;
+use crate::steps::step_in;
+use lbk_masks::ByteSets;
+use lbk_uax14::Profile;
 
-/// How many bytes are scalars.
-const ASCII: usize = 128;
+/// The kind of a letter.
+const LETTER: u8 = 0;
 
-/// The place of no row, since rows begin at multiples of the number of kinds.
+/// The place of the row after a letter.
+const BEHIND_A_LETTER: usize = 128;
+
+/// The place of no row, since rows begin at multiples of 128.
 const NO_ROW: u16 = 1;
 
-/// What is known in one profile of bytes that stand side by side.
+/// The class of the bytes that are special after each other: those of kinds that are rare below 128.
+const OTHER: u8 = 0;
+
+/// The class of the bytes that go on with a scalar. As the left of two neighbours each is what a letter is, and none
+/// stands out.
+const CONTINUING: u8 = 1;
+
+/// The class of each kind's bytes.
+const CLASS_OF_KIND: [u8; KINDS] = [
+    7, 0, 2, 0, 0, 0, 15, 0, 10, 0, 0, 0, 5, 0, 0, 0, 0, 12, 0, 0, 11, 0, 0, 0, 3, 0, 0, 14, 9, 8,
+    8, 6, 0, 4, 13, 0, 0, 0, 0, 0, 0, 0, 0, 0, 0, 0, 0, 0, 0, 0, 0, 0, 0, 0, 0, 0, 0, 0, 0, 0, 0,
+    0, 0, 0, 0, 0, 0, 0, 0, 0, 0, 0, 0, 0, 0, 0, 0, 0, 0, 0, 0, 0, 0, 0,
+];
+
+/// The set of each class on the left of two neighbours. The first thing is that by which a byte is special after each
+/// other, the second that by which it is after some, and the others are rectangles that cover the breaks: all of some
+/// classes after all of some others.
+const LEFT: [u8; 16] = [
+    0, 1, 181, 253, 245, 181, 3, 1, 17, 3, 131, 145, 149, 149, 1, 163,
+];
+
+/// The set of each class on the right of two neighbours.
+const RIGHT: [u8; 16] = [1, 0, 72, 8, 10, 8, 72, 108, 92, 236, 8, 8, 72, 8, 104, 8];
+
+/// What is known of bytes that stand side by side.
 #[repr(C)]
 #[derive(Clone, Copy)]
 pub struct Neighbours {
@@ -29,86 +61,23 @@ pub struct Neighbours {
     pub rows: [u16; 256],
 }
 
-/// Of no byte anything is known: each is special.
-const NOTHING_KNOWN: Neighbours = Neighbours {
-    sets: ByteSets {
-        classes: [[0; 16]; 8],
-        left: [1; 16],
-        right: [1; 16],
-    },
-    rows: [0; 256],
-};
-
 impl Neighbours {
-    /// What these steps tell of neighbours. Where sets cannot tell it of all, more bytes are special.
-    pub(crate) fn of_steps(steps: &[FlatStep; STEPS], kinds: &[u8; CODES]) -> Neighbours
-        ensures { AreTold steps.now kinds.now result }
+    /// What the steps tell of neighbours, where codes have these kinds.
+    pub(crate) fn of_kinds(kinds: &[u8; CODES]) -> Neighbours
+        requires { (code : ℕ) → slice_index_or kinds.now code 0 < KINDS }
+        ensures are { AreNeighboursOf kinds.now result }
+        ensures told { (profile : Profile) → AreTold (steps_in profile) kinds.now result }
     {
-        let found = neighbours_found(steps, kinds);
-        if found.are_told(steps, kinds) {
-            return found;
-        }
-        NOTHING_KNOWN
-    }
-
-    /// Whether a byte is special after another.
-    pub(crate) fn is_special(&self, before: u8, byte: u8) -> bool
-        ensures { result ≡ is_special self.now before byte }
-    {
-        self.sets.left_of(before) & (self.sets.right_of(byte) & SPECIAL) != 0
-    }
-
-    /// Whether a byte stands out after another.
-    fn stands_out(&self, before: u8, byte: u8) -> bool
-        ensures { result ≡ meets (left_in self.now.sets before) (right_in self.now.sets byte) }
-    {
-        self.sets.left_of(before) & self.sets.right_of(byte) != 0
-    }
-
-    /// Whether the sets tell what the steps tell, of each byte after one that may stand last in a scalar.
-    fn are_told(&self, steps: &[FlatStep; STEPS], kinds: &[u8; CODES]) -> bool
-        ensures { result ≡ true → AreTold steps.now kinds.now self.now }
-    {
-        for before in 0..192_usize {
-            if !self.are_told_behind(before as u8, steps, kinds) {
-                return false;
-            }
-        }
-        true
-    }
-
-    /// Whether they tell it of each byte after this one.
-    fn are_told_behind(&self, before: u8, steps: &[FlatStep; STEPS], kinds: &[u8; CODES]) -> bool
-        requires { before < 192 }
-        ensures { result ≡ true → (byte : ℕ) → byte < 256 → IsTold steps.now kinds.now self.now before byte }
-    {
-        for byte in 0..256_usize {
-            if !self.is_told(before, byte as u8, steps, kinds) {
-                return false;
-            }
-        }
-        true
-    }
-
-    /// Whether they tell it of a byte after another.
-    fn is_told(&self, before: u8, byte: u8, steps: &[FlatStep; STEPS], kinds: &[u8; CODES]) -> bool
-        requires { before < 192 }
-        ensures { result ≡ true → IsTold steps.now kinds.now self.now before byte }
-    {
-        if self.rows[before as usize] as usize % KINDS != 0 || self.is_special(before, byte) {
-            return true;
-        }
-        if byte >= 128 && byte < 192 {
-            return true;
-        }
-        if byte >= 192 && !stands_for_all(byte, kinds, &self.rows, &self.sets) {
-            return false;
-        }
-        let step = steps[self.rows[before as usize] as usize + kinds[byte as usize] as usize];
-        if step.code == HELD || step.next != self.rows[byte as usize] {
-            return false;
-        }
-        self.stands_out(before, byte) == is_break(step.code)
+        let classes = classes_of_bytes(kinds);
+        let rows = rows_of_bytes(kinds);
+        let left = LEFT;
+        let right = RIGHT;
+        let sets = ByteSets {
+            classes,
+            left,
+            right,
+        };
+        Neighbours { sets, rows }
     }
 
     /// A digest after these numbers too.
@@ -123,50 +92,107 @@ impl Neighbours {
     }
 }
 
-/// Sets and rows that may be those of these steps.
-fn neighbours_found(steps: &[FlatStep; STEPS], kinds: &[u8; CODES]) -> Neighbours {
-    let mut rows = rows_behind_letters(steps, kinds);
-    let covering = cover(&relations(steps, kinds, &rows));
-    for byte in 0..256_usize {
-        let like = if byte < ASCII { byte } else { LETTER };
-        if covering.known >> like & 1 == 0 {
-            rows[byte] = NO_ROW;
-        }
+/// The classes of all bytes, in rows of 16: of those below 128 in the low half of a number, and of the others in the
+/// high half.
+fn classes_of_bytes(kinds: &[u8; CODES]) -> [[u8; 16]; 8]
+    requires { (code : ℕ) → slice_index_or kinds.now code 0 < KINDS }
+    ensures { (row place : ℕ) → row < 8 → place < 16 → slice_index_or (slice_index_or result row []) place 0
+        ≡ class_of_byte kinds.now (16 * row + place) + 16 * class_of_byte kinds.now (128 + (16 * row + place)) }
+{
+    let mut classes = [[0; 16]; 8];
+    for row in 0..8_usize {
+        classes[row] = classes_of_row(row, kinds);
     }
-    let sets = covering.sets;
-    Neighbours { sets, rows }
+    classes
 }
 
-/// The row after each byte below 128, where it stands after a letter, and for all others the row after letters.
-fn rows_behind_letters(steps: &[FlatStep; STEPS], kinds: &[u8; CODES]) -> [u16; 256] {
-    let letter = steps[kinds[LETTER] as usize].next as usize;
-    let mut rows = [steps[letter + kinds[LETTER] as usize].next; 256];
-    for byte in 0..ASCII {
-        rows[byte] = steps[letter + kinds[byte] as usize].next;
+/// The classes of 16 bytes below 128, and of those that are greater by 128.
+fn classes_of_row(row: usize, kinds: &[u8; CODES]) -> [u8; 16]
+    requires row { row < 8 }
+    requires kinds { (code : ℕ) → slice_index_or kinds.now code 0 < KINDS }
+    ensures { (place : ℕ) → place < 16 → slice_index_or result place 0
+        ≡ class_of_byte kinds.now (16 * row + place) + 16 * class_of_byte kinds.now (128 + (16 * row + place)) }
+{
+    let mut classes = [0; 16];
+    for place in 0..16_usize {
+        let byte = (16 * row + place) as u8;
+        classes[place] = class_of_byte(byte, kinds) + 16 * class_of_byte(128 + byte, kinds);
+    }
+    classes
+}
+
+/// The class of a byte.
+fn class_of_byte(byte: u8, kinds: &[u8; CODES]) -> u8
+    requires { (code : ℕ) → slice_index_or kinds.now code 0 < KINDS }
+    ensures class { result ≡ class_of_byte kinds.now byte }
+    ensures few { result < 16 }
+{
+    if byte < 128 {
+        return class_of_kind(kinds[byte as usize]);
+    }
+    if byte < 192 {
+        return CONTINUING;
+    }
+    if begins_letters(byte, kinds) {
+        return class_of_kind(LETTER);
+    }
+    OTHER
+}
+
+/// The class of a kind's bytes.
+fn class_of_kind(kind: u8) -> u8
+    requires { kind < KINDS }
+    ensures class { result ≡ slice_index_or CLASS_OF_KIND kind 0 }
+    ensures few { result < 16 }
+{
+    CLASS_OF_KIND[kind as usize]
+}
+
+/// Whether a byte begins only letters, of two bytes each, and the code that is its number is a letter.
+fn begins_letters(byte: u8, kinds: &[u8; CODES]) -> bool
+    ensures { result ≡ begins_letters kinds.now byte }
+{
+    if byte < 0xC2 || 0xDF < byte {
+        return false;
+    }
+    kinds[byte as usize] == LETTER && are_letters((byte as usize - 192) * 64, kinds)
+}
+
+/// Whether 64 codes are letters.
+fn are_letters(from: usize, kinds: &[u8; CODES]) -> bool
+    requires { from < 2048 }
+    ensures { result ≡ are_letters kinds.now from 64 }
+{
+    for more in 0..64_usize {
+        if kinds[from + more] != LETTER {
+            return false;
+        }
+    }
+    true
+}
+
+/// The places of the rows after all bytes.
+fn rows_of_bytes(kinds: &[u8; CODES]) -> [u16; 256]
+    requires { (code : ℕ) → slice_index_or kinds.now code 0 < KINDS }
+    ensures { (byte : ℕ) → byte < 256 → slice_index_or result byte 0 ≡ row_of_byte kinds.now byte }
+{
+    let mut rows = [NO_ROW; 256];
+    for byte in 0..256_usize {
+        let kind = if byte < 128 { kinds[byte] } else { LETTER };
+        rows[byte] = row_of_kind(kind);
     }
     rows
 }
 
-/// What the steps from these rows tell.
-fn relations(steps: &[FlatStep; STEPS], kinds: &[u8; CODES], rows: &[u16; 256]) -> Related {
-    let mut related = Related {
-        special: [0; ASCII],
-        breaks: [0; ASCII],
-        kinds: [0; ASCII],
-        firsts: firsts_of_letters(kinds),
-    };
-    for before in 0..ASCII {
-        related.kinds[before] = kinds[before];
-        for byte in 0..ASCII {
-            let step = steps[rows[before] as usize + kinds[byte] as usize];
-            if step.code == HELD || step.next != rows[byte] {
-                related.special[before] |= 1 << byte;
-            } else if is_break(step.code) {
-                related.breaks[before] |= 1 << byte;
-            }
-        }
+/// The place of the row after a letter and a cell of a kind, or of no row where the steps are asked.
+fn row_of_kind(kind: u8) -> u16
+    requires { kind < KINDS }
+    ensures { result ≡ row_of_kind kind }
+{
+    if class_of_kind(kind) == OTHER {
+        return NO_ROW;
     }
-    related
+    step_in(Profile::First, BEHIND_A_LETTER, kind).next
 }
 
 /// A digest after some rows of numbers more.

@@ -8,7 +8,7 @@ ghost use Rattle.lbk_steps.specs.Rows.{IsPlace, steps_in};
 use crate::ahead::closes_in;
 use crate::kinds::cell_of_kind;
 use crate::source::CellSource;
-use crate::steps::{Rows, Step, left_of, rows_of, step_from, verdict_of};
+use crate::steps::{Rows, Step, left_of, rows_of, step_at, verdict_of};
 use lbk_uax14::{Cell, Left, Profile, Verdict};
 use std::alloc::AllocError;
 
@@ -127,7 +127,7 @@ impl<'a, C: CellSource> RowMachine<'a, C> {
             → RowMachineFits C.cell_of self.now profile cell taken
             → result.shown ≡ shown_of (from_cells profile (reverse (map cell taken)) (cell c ∷ [])) }
     {
-        step_from(self.row.steps, self.row.place, self.kind(c))
+        *step_at(self.row.steps, self.row.place, self.kind(c))
     }
 
     /// The kind of `c`.

@@ -1,18 +1,22 @@
 //! Steps: what happens at a cell of some kind after some cells, in either profile.
 
-ghost use Rattle.std.specs.Prelude.{◌≡◌, ◌%◌, ℕ, map};
+ghost use Rattle.std.specs.Prelude.{◌≡◌, ◌%◌, ◌/◌, ◌==◌, ℕ, Some, find, map, not};
 ghost use Rattle.lbk_uax14.specs.declared.verdicts.Verdict.{Verdict};
-ghost use Rattle.lbk_uax14.specs.Codes.{kind_number, rule_number};
+ghost use Rattle.lbk_uax14.specs.Codes.{kind_number, rule_number, rules};
 ghost use Rattle.lbk_uax14.specs.declared.verdicts.Kind.{Kind};
 ghost use Rattle.lbk_uax14.specs.declared.verdicts.Rule.{Rule};
 ghost use Rattle.lbk_uax14.specs.Facts.{facts};
-ghost use Rattle.lbk_uax14.specs.Held.{is_15b};
 ghost use Rattle.lbk_uax14.specs.Normal.{normal};
 ghost use Rattle.lbk_uax14.specs.Sides.{Side};
 ghost use Rattle.lbk_steps.specs.declared.kinds.TheConstants.{KINDS};
 ghost use Rattle.lbk_steps.specs.declared.steps.TheConstants.{WIDTH};
-ghost use Rattle.lbk_steps.specs.Rows.{IsPlace, IsStepFrom, cells_of, left_at, shown_of, steps_in, with_kind};
+ghost use Rattle.lbk_steps.specs.FlatTable.{IsFlatStep};
+ghost use Rattle.lbk_steps.specs.Kinds.{kind_cell, real_kind};
+ghost use Rattle.lbk_steps.specs.Rows.{AreSteps, IsPlace, IsShown, IsStepFrom, cells_of, left_at, place_by, shown_of};
+ghost use Rattle.lbk_steps.specs.Rows.{step_by, steps_in, verdict_shown, with_kind};
 ghost use Rattle.lbk_values.specs.declared.profile.Profile.{Profile};
+ghost use Rattle.lbk_values.specs.declared.profile.Profile.TheVariants.{First, Second};
+ghost use Rattle.lbk_uax14.specs.Breaks.{is_no};
 
 use crate::kinds::{KINDS, cell_of_kind};
 use crate::row_steps::{FIRST_STEPS, ROWS, SAMPLES, SECOND_STEPS};
@@ -24,6 +28,9 @@ pub const WIDTH: usize = 128;
 
 /// The number of rule 15b.
 const RULE_15B: u16 = 8 * 15 + 2;
+
+/// The number of the verdict by rule 15b, by which no line breaks: where it is shown the position is held.
+pub const HELD: u16 = 256 * RULE_15B;
 
 /// What happens at a cell of some kind after some cells. Each row of steps knows what the rules ask of some cells,
 /// and is named by its place: 128 times its number among the rows. The row at 0 knows of no cell.
@@ -50,16 +57,61 @@ pub fn rows_of(profile: Profile) -> &'static Rows
     }
 }
 
-/// The step from the row at a place by a kind. A number that is no kind's is masked, and then is that of one.
+/// The step from the row at a place by a kind, of either profile. A number that is no kind's is masked, and then is
+/// that of one. It is counted first, so that only the read itself waits for the row; and the step is not copied, since
+/// the place of the next row would be cut out of a number of 32 bits.
 #[inline(always)]
-pub fn step_from(rows: &Rows, place: usize, kind: u8) -> Step
-    requires { IsPlace place }
-    ensures { (profile : Profile) → rows.now ≡ steps_in profile
-        → IsStepFrom profile place (kind % WIDTH % KINDS) result }
+pub fn step_at(rows: &Rows, place: usize, kind: u8) -> &Step
+    requires place { IsPlace place }
+    requires steps { AreSteps rows.now }
+    ensures begins { IsPlace result.now.next }
+    ensures shows { IsShown result.now.shown }
+    ensures read { result.now ≡ step_by rows.now place kind }
 {
     let all = rows.as_flattened();
-    all[usize::from(kind) % WIDTH..][place]
+    &all[usize::from(kind) % WIDTH..][place]
 }
+
+/// The step of a profile from the row at a place by a kind.
+#[inline(always)]
+pub fn step_in(profile: Profile, place: usize, kind: u8) -> Step
+    requires { IsPlace place }
+    ensures begins { IsPlace result.next }
+    ensures shows { IsShown result.shown }
+    ensures read { result ≡ step_by (steps_in profile) place kind }
+{
+    *step_at(rows_of(profile), place, kind)
+}
+
+/// The place of a row by a number of 16 bits: the number, if a row begins there, and else the place of some row.
+#[inline(always)]
+pub fn place_by(number: u16) -> usize
+    ensures place { IsPlace result }
+    ensures number { result ≡ place_by number }
+    ensures same { IsPlace number → result ≡ number }
+{
+    usize::from(number) % (WIDTH * ROWS) / WIDTH * WIDTH
+}
+
+/// The number of 16 bits for a place: the one that stood there before, if it names the place.
+#[inline(always)]
+pub fn number_at(place: usize, before: u16) -> u16
+    requires { IsPlace place }
+    ensures same { IsPlace before → result ≡ place }
+    ensures kept { place ≡ place_by before → result ≡ before }
+{
+    if place_by(before) == place {
+        return before;
+    }
+    place as u16
+}
+
+/// What the steps by a kind from the row at a place tell, in both profiles.
+pub fn steps_decide()
+    ensures { (place kind : ℕ) → IsPlace place
+        → IsFlatStep (left_at place) (kind_cell (real_kind kind)) (step_by (steps_in First) place kind)
+        (step_by (steps_in Second) place kind) }
+{}
 
 /// What the row at a place knows. It is asked for seldom, and is found from the row's sample.
 pub(crate) fn left_of(place: usize) -> Left
@@ -104,12 +156,43 @@ pub fn verdict_of(shown: u16) -> Verdict
     }
 }
 
-/// Whether it is the number of a verdict by rule 15b.
+/// Whether a line may or must break by the verdict of a number.
 #[inline(always)]
-pub fn is_held(shown: u16) -> bool
-    ensures { (verdict : Verdict) → shown ≡ shown_of verdict → result ≡ is_15b verdict.rule }
+pub fn shows_break(shown: u16) -> bool
+    requires { IsShown shown }
+    ensures { result ≡ not (is_no (verdict_shown shown).kind) }
 {
-    shown / 256 == RULE_15B
+    shown % 256 != 0
+}
+
+/// How many kinds of verdicts there are.
+const KINDS_OF_VERDICTS: u16 = 3;
+
+/// The number of the verdict by which a line may break by the last rule.
+const BY_THE_LAST_RULE: u16 = 256 * (8 * 31) + 1;
+
+/// The number of a verdict: this one, if it is one, and else that by which a line may break by rule 31.
+pub fn shown_by(number: u16) -> u16
+    ensures shown { IsShown result }
+    ensures same { IsShown number → result ≡ number }
+{
+    match Rule::numbered((number / 256) as u8) {
+        Some(rule) => with_rule(number, rule),
+        None => BY_THE_LAST_RULE,
+    }
+}
+
+/// The same of a number whose high half is that of this rule.
+fn with_rule(number: u16, rule: Rule) -> u16
+    requires { Some rule ≡ find (λ r. rule_number r == number / 256) rules }
+    ensures shown { IsShown result }
+    ensures same { IsShown number → result ≡ number }
+{
+    let _rule = rule;
+    if number % 256 < KINDS_OF_VERDICTS {
+        return number;
+    }
+    BY_THE_LAST_RULE
 }
 
 /// The kinds by their numbers, and Must again, so that any number is that of one, once it is masked, and 0 alone that

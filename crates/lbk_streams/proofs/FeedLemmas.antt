@@ -7,7 +7,6 @@ use Rattle.bstr.specs.Utf8.{decoded, or_replacement}
 use Rattle.bstr.proofs.lemmas.PieceLemmas.{piece-bounds}
 use Rattle.lbk_rules.specs.declared.Break.{Break}
 use Rattle.lbk_rules.specs.declared.Cell.{Cell}
-use Rattle.lbk_rules.specs.declared.Left.{Left}
 use Rattle.lbk_values.specs.declared.profile.Profile.{Profile}
 use Rattle.lbk_bytes.specs.declared.raw_break.RawBreak.{RawBreak}
 use Rattle.lbk_streams.specs.declared.stream.Cut.{Cut}
@@ -31,15 +30,15 @@ not-false false fails = absurd (false≢true (sym fails))
 pub none-cut : (cut : Cut) (rest : List ℕ) → cut.size ≡ 0 → front_of cut ++ rest ≡ rest
 none-cut cut rest zero = ap (λ n. take n cut.bytes ++ rest) zero
 
-module _ (profile : Profile) (cell : ℕ → Cell) (lefts : List Left) (base : ℕ) (piece more : List ℕ) where
+module _ (profile : Profile) (cell : ℕ → Cell) (base : ℕ) (piece more : List ℕ) where
   -- the scalar in front of the bytes that were cut is taken
   pub Feeds-cut : (here : Feeding) (place : Place) (cut : Cut) (count size : ℕ) (passed : Bool) (all : Ahead) (given after : List Break)
       → size ≤ length (front_of here.cut) → passed ≡ true → front_of cut ≡ drop size (front_of here.cut) → cut.size + size ≡ here.cut.size
       → place.at ≡ cond passed ((here.place.at + size) % 2 ^ 64) here.place.at
-      → Stands profile cell lefts place
+      → Stands profile cell place
       (cond passed (drop size (front_of here.cut ++ (drop here.taken piece ++ more))) (front_of here.cut ++ (drop here.taken piece ++ more))) all after
-      → Feeds profile cell lefts base piece more here all given
-      → Feeds profile cell lefts base piece more (record { place = place; cut = cut; taken = here.taken; count = count }) all after
+      → Feeds profile cell base piece more here all given
+      → Feeds profile cell base piece more (record { place = place; cut = cut; taken = here.taken; count = count }) all after
   Feeds-cut here place cut count size passed all given after within passes left sizes moved stands f =
       let rest = drop here.taken piece ++ more in
       let whole = front_of here.cut ++ rest in
@@ -50,31 +49,31 @@ module _ (profile : Profile) (cell : ℕ → Cell) (lefts : List Left) (base : �
       let bytes : cond passed (drop size whole) whole ≡ front_of cut ++ rest =
       ap (λ b. cond b (drop size whole) whole) passes ∙ drop-append-le size (front_of here.cut) rest within ∙ ap (λ l. l ++ rest) (sym left) in
       record {
-        stands = subst (λ l. Stands profile cell lefts place l all after) bytes stands;
+        stands = subst (λ l. Stands profile cell place l all after) bytes stands;
         seen = omega arith;
       }
 
   -- it is not, as the block is full
   pub Feeds-stay : (here : Feeding) (place : Place) (count : ℕ) (size : ℕ) (passed : Bool) (all : Ahead) (given after : List Break)
       → passed ≡ false → place.at ≡ cond passed ((here.place.at + size) % 2 ^ 64) here.place.at
-      → Stands profile cell lefts place
+      → Stands profile cell place
       (cond passed (drop size (front_of here.cut ++ (drop here.taken piece ++ more))) (front_of here.cut ++ (drop here.taken piece ++ more))) all after
-      → Feeds profile cell lefts base piece more here all given
-      → Feeds profile cell lefts base piece more (record { place = place; cut = here.cut; taken = here.taken; count = count }) all after
+      → Feeds profile cell base piece more here all given
+      → Feeds profile cell base piece more (record { place = place; cut = here.cut; taken = here.taken; count = count }) all after
   Feeds-stay here place count size passed all given after stays moved stands f =
       let whole = front_of here.cut ++ (drop here.taken piece ++ more) in
       let seen = f.seen in
       let at : place.at ≡ here.place.at = moved ∙ ap (λ b. cond b ((here.place.at + size) % 2 ^ 64) here.place.at) stays in
       record {
-        stands = subst (λ l. Stands profile cell lefts place l all after) (ap (λ b. cond b (drop size whole) whole) stays) stands;
+        stands = subst (λ l. Stands profile cell place l all after) (ap (λ b. cond b (drop size whole) whole) stays) stands;
         seen = omega arith;
       }
 
   -- a byte of the piece is put behind those that were cut
   pub Feeds-byte : (here : Feeding) (cut : Cut) (byte : ℕ) (all : Ahead) (given : List Break)
       → here.taken < length piece → byte ≡ get_or piece here.taken 0 → front_of cut ≡ front_of here.cut ++ byte ∷ [] → cut.size ≡ here.cut.size + 1
-      → Feeds profile cell lefts base piece more here all given
-      → Feeds profile cell lefts base piece more (record { place = here.place; cut = cut; taken = here.taken + 1; count = here.count }) all given
+      → Feeds profile cell base piece more here all given
+      → Feeds profile cell base piece more (record { place = here.place; cut = cut; taken = here.taken + 1; count = here.count }) all given
   Feeds-byte here cut byte all given inside is longer sizes f =
       let next = drop (here.taken + 1) piece in
       let seen = f.seen in
@@ -83,7 +82,7 @@ module _ (profile : Profile) (cell : ℕ → Cell) (lefts : List Left) (base : �
       let bytes : front_of here.cut ++ (drop here.taken piece ++ more) ≡ front_of cut ++ (next ++ more) =
       ap (λ l. front_of here.cut ++ (l ++ more)) begins ∙ sym (append_assoc (front_of here.cut) (byte ∷ []) (next ++ more)) ∙ ap (λ l. l ++ (next ++ more)) (sym longer) in
       record {
-        stands = subst (λ l. Stands profile cell lefts here.place l all given) bytes f.stands;
+        stands = subst (λ l. Stands profile cell here.place l all given) bytes f.stands;
         seen = omega arith;
       }
 
@@ -91,9 +90,9 @@ module _ (profile : Profile) (cell : ℕ → Cell) (lefts : List Left) (base : �
   pub Feeds-run : (here : Feeding) (place : Place) (count size : ℕ) (passed : Bool) (all : Ahead) (given after : List Break)
       → here.cut.size ≡ 0 → here.taken + size ≤ length piece → passed ≡ true
       → place.at ≡ cond passed ((here.place.at + size) % 2 ^ 64) here.place.at
-      → Stands profile cell lefts place (cond passed (drop size (drop here.taken piece ++ more)) (drop here.taken piece ++ more)) all after
-      → Feeds profile cell lefts base piece more here all given
-      → Feeds profile cell lefts base piece more (record { place = place; cut = here.cut; taken = here.taken + size; count = count }) all after
+      → Stands profile cell place (cond passed (drop size (drop here.taken piece ++ more)) (drop here.taken piece ++ more)) all after
+      → Feeds profile cell base piece more here all given
+      → Feeds profile cell base piece more (record { place = place; cut = here.cut; taken = here.taken + size; count = count }) all after
   Feeds-run here place count size passed all given after none within passes moved stands f =
       let rest = drop here.taken piece ++ more in
       let next = drop (here.taken + size) piece ++ more in
@@ -107,7 +106,7 @@ module _ (profile : Profile) (cell : ℕ → Cell) (lefts : List Left) (base : �
       ap (λ b. cond b (drop size rest) rest) passes ∙ drop-append-le size (drop here.taken piece) more (omega arith)
       ∙ ap (λ l. l ++ more) (drop-drop size here.taken piece) ∙ sym (none-cut here.cut next none) in
       record {
-        stands = subst (λ l. Stands profile cell lefts place l all after) bytes stands;
+        stands = subst (λ l. Stands profile cell place l all after) bytes stands;
         seen = omega arith;
       }
 
@@ -115,9 +114,9 @@ module _ (profile : Profile) (cell : ℕ → Cell) (lefts : List Left) (base : �
   pub Feeds-kept : (here : Feeding) (place : Place) (cut : Cut) (count size : ℕ) (passed : Bool) (all : Ahead) (given after : List Break)
       → here.cut.size ≡ 0 → here.taken + size ≤ length piece → passed ≡ false → front_of cut ≡ take size (drop here.taken piece) → cut.size ≡ size
       → place.at ≡ cond passed ((here.place.at + size) % 2 ^ 64) here.place.at
-      → Stands profile cell lefts place (cond passed (drop size (drop here.taken piece ++ more)) (drop here.taken piece ++ more)) all after
-      → Feeds profile cell lefts base piece more here all given
-      → Feeds profile cell lefts base piece more (record { place = place; cut = cut; taken = here.taken + size; count = count }) all after
+      → Stands profile cell place (cond passed (drop size (drop here.taken piece ++ more)) (drop here.taken piece ++ more)) all after
+      → Feeds profile cell base piece more here all given
+      → Feeds profile cell base piece more (record { place = place; cut = cut; taken = here.taken + size; count = count }) all after
   Feeds-kept here place cut count size passed all given after none within stays is sizes moved stands f =
       let rest = drop here.taken piece ++ more in
       let next = drop (here.taken + size) piece in
@@ -129,7 +128,7 @@ module _ (profile : Profile) (cell : ℕ → Cell) (lefts : List Left) (base : �
       let bytes : cond passed (drop size rest) rest ≡ front_of cut ++ (next ++ more) =
       ap (λ b. cond b (drop size rest) rest) stays ∙ ap (λ l. l ++ more) split ∙ append_assoc (front_of cut) next more in
       record {
-        stands = subst (λ l. Stands profile cell lefts place l all after) bytes stands;
+        stands = subst (λ l. Stands profile cell place l all after) bytes stands;
         seen = omega arith;
       }
 

@@ -5,7 +5,6 @@ use Rattle.bstr.specs.Utf8.{Decoded, or_replacement, pieces}
 use Rattle.bstr.proofs.lemmas.PieceLemmas.{pieces-sizes, sizes}
 use Rattle.lbk_rules.specs.declared.Break.{Break}
 use Rattle.lbk_rules.specs.declared.Cell.{Cell}
-use Rattle.lbk_rules.specs.declared.Left.{Left}
 use Rattle.lbk_values.specs.declared.profile.Profile.{Profile}
 use Rattle.lbk_rules.specs.declared.Verdict.{Verdict}
 use Rattle.lbk_rules.specs.Breaks.{break_by, is_no}
@@ -62,15 +61,15 @@ onward-bytes all profile cell taken at by bytes fits =
     onward-moved all profile cell taken at by (pieces bytes) (omega arith)
 
 -- a run over a piece is one over the stream
-pub Stands-skim : (profile : Profile) (cell : ℕ → Cell) (lefts : List Left) (piece more : List ℕ) (all : Ahead) (given front : List Break) (place next : Place) (from : ℕ) (end : FillState)
+pub Stands-skim : (profile : Profile) (cell : ℕ → Cell) (piece more : List ℕ) (all : Ahead) (given front : List Break) (place next : Place) (from : ℕ) (end : FillState)
     → from ≤ end.at → end.at ≤ length piece → place.held_code ≡ 0 → 0 < from → from ≤ place.at
     → next.at ≡ place.at + (end.at - from) → next.row ≡ end.row → next.held_code ≡ 0
-    → ((breaks : List Break) → ReachedBy (onward_of all) profile cell lefts (piece ++ more) breaks (record { count = 0; row = place.row; at = from }) []
-    → ReachedBy (onward_of all) profile cell lefts (piece ++ more) breaks end given)
+    → ((breaks : List Break) → ReachedBy (onward_of all) profile cell (piece ++ more) breaks (record { count = 0; row = place.row; at = from }) []
+    → ReachedBy (onward_of all) profile cell (piece ++ more) breaks end given)
     → front ≡ map (moved (place.at - from)) given
-    → Stands profile cell lefts place (drop from piece ++ more) all []
-    → Stands profile cell lefts next (drop end.at piece ++ more) all front
-Stands-skim profile cell lefts piece more all given front place next from end on within free some behind at_same row_same none_waits reached shown s =
+    → Stands profile cell place (drop from piece ++ more) all []
+    → Stands profile cell next (drop end.at piece ++ more) all front
+Stands-skim profile cell piece more all given front place next from end on within free some behind at_same row_same none_waits reached shown s =
     let by = place.at - from in
     let bytes = drop from piece ++ more in
     let rest = drop end.at piece ++ more in
@@ -89,7 +88,7 @@ Stands-skim profile cell lefts piece more all given front place next from end on
     }) in
     record {
       taken = r.taken;
-      knows = subst (λ n. KnowsTaken cell lefts n r.taken) (sym row_same) r.knows;
+      knows = subst (λ n. KnowsTaken cell n r.taken) (sym row_same) r.knows;
       some = λ more. r.some (omega arith);
       fits = omega arith;
       waits = λ waits. absurd (omega arith);
@@ -109,11 +108,11 @@ Stands-skim profile cell lefts piece more all given front place next from end on
     }
 
 -- the breaks of a call, and those before it
-pub Stands-behind : (profile : Profile) (cell : ℕ → Cell) (lefts : List Left) (place next : Place) (bytes rest : List ℕ) (all : Ahead) (given front after : List Break)
-    → ((all : Ahead) → Stands profile cell lefts place bytes all [] → Stands profile cell lefts next rest all front)
+pub Stands-behind : (profile : Profile) (cell : ℕ → Cell) (place next : Place) (bytes rest : List ℕ) (all : Ahead) (given front after : List Break)
+    → ((all : Ahead) → Stands profile cell place bytes all [] → Stands profile cell next rest all front)
     → after ≡ given ++ front
-    → Stands profile cell lefts place bytes all given → Stands profile cell lefts next rest all after
-Stands-behind profile cell lefts place next bytes rest all given front after step grown s =
+    → Stands profile cell place bytes all given → Stands profile cell next rest all after
+Stands-behind profile cell place next bytes rest all given front after step grown s =
     let coming = late_break cell place bytes ++ onward_of all profile cell s.taken place.at (pieces bytes) in
     let on = step (record { breaks = coming; goes_on = all.goes_on }) (record { taken = s.taken; knows = s.knows; some = s.some; fits = s.fits; waits = s.waits; joined = refl }) in
     let more = late_break cell next rest ++ onward_of all profile cell on.taken next.at (pieces rest) in
@@ -128,15 +127,15 @@ Stands-behind profile cell lefts place next bytes rest all given front after ste
     }
 
 -- a run over a piece, in the place behind the breaks that were given
-pub Feeds-skim : (profile : Profile) (cell : ℕ → Cell) (lefts : List Left) (base : ℕ) (piece more : List ℕ) (here : Feeding) (next : Place) (end : FillState) (count : ℕ)
+pub Feeds-skim : (profile : Profile) (cell : ℕ → Cell) (base : ℕ) (piece more : List ℕ) (here : Feeding) (next : Place) (end : FillState) (count : ℕ)
     (all : Ahead) (given front after : List Break)
     → here.cut.size ≡ 0 → here.taken ≤ end.at → end.at ≤ length piece → next.at ≡ (here.place.at + (end.at - here.taken)) % 2 ^ 64
     → ((all : Ahead) → next.at ≡ here.place.at + (end.at - here.taken) → here.taken ≤ here.place.at
-    → Stands profile cell lefts here.place (drop here.taken piece ++ more) all [] → Stands profile cell lefts next (drop end.at piece ++ more) all front)
+    → Stands profile cell here.place (drop here.taken piece ++ more) all [] → Stands profile cell next (drop end.at piece ++ more) all front)
     → after ≡ given ++ front
-    → Feeds profile cell lefts base piece more here all given
-    → Feeds profile cell lefts base piece more (record { place = next; cut = here.cut; taken = end.at; count = count }) all after
-Feeds-skim profile cell lefts base piece more here next end count all given front after none on within moved step grown f =
+    → Feeds profile cell base piece more here all given
+    → Feeds profile cell base piece more (record { place = next; cut = here.cut; taken = end.at; count = count }) all after
+Feeds-skim profile cell base piece more here next end count all given front after none on within moved step grown f =
     let bytes = drop here.taken piece ++ more in
     let rest = drop end.at piece ++ more in
     let long : length (front_of here.cut ++ bytes) ≡ length bytes = ap length (none-cut here.cut bytes none) in
@@ -145,10 +144,10 @@ Feeds-skim profile cell lefts base piece more here next end count all given fron
     let fits = f.stands.fits in
     let seen = f.seen in
     let at : next.at ≡ here.place.at + (end.at - here.taken) = omega arith in
-    let stands = subst (λ l. Stands profile cell lefts here.place l all given) (none-cut here.cut bytes none) f.stands in
+    let stands = subst (λ l. Stands profile cell here.place l all given) (none-cut here.cut bytes none) f.stands in
     record {
       stands =
-          subst (λ l. Stands profile cell lefts next l all after) (sym (none-cut here.cut rest none))
-          (Stands-behind profile cell lefts here.place next bytes rest all given front after (λ (coming : Ahead). step coming at (omega arith)) grown stands);
+          subst (λ l. Stands profile cell next l all after) (sym (none-cut here.cut rest none))
+          (Stands-behind profile cell here.place next bytes rest all given front after (λ (coming : Ahead). step coming at (omega arith)) grown stands);
       seen = omega arith;
     }

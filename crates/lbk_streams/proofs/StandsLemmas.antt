@@ -10,13 +10,11 @@ use Rattle.lbk_rules.specs.declared.Break.{Break}
 use Rattle.lbk_rules.specs.declared.Cell.{Cell}
 use Rattle.lbk_rules.specs.declared.Class.{Class}
 use Rattle.lbk_rules.specs.declared.Class.TheVariants.{CombiningMark, Quotation, ZWJ}
-use Rattle.lbk_rules.specs.declared.Left.{Left}
 use Rattle.lbk_values.specs.declared.profile.Profile.{Profile}
 use Rattle.lbk_values.specs.declared.profile.Profile.TheVariants.{First, Second}
 use Rattle.lbk_rules.specs.declared.Verdict.{Verdict}
 use Rattle.lbk_rules.specs.Breaks.{break_by, is_no}
 use Rattle.lbk_rules.specs.Classes.{QU, closes_before, hard, is, mark}
-use Rattle.lbk_rules.specs.Codes.{IsCode, verdict_coded}
 use Rattle.lbk_rules.specs.Held.{is_15b, is_held}
 use Rattle.lbk_rules.specs.Normal.{normal}
 use Rattle.lbk_rules.specs.Sides.{leaves_closed}
@@ -24,20 +22,21 @@ use Rattle.lbk_rules.specs.Units.{heads, unit, units_after}
 use Rattle.lbk_rules.specs.Verdict.{verdict_between_in}
 use Rattle.lbk_rules.proofs.EndLemmas.{heads-joins, joins_no_break}
 use Rattle.lbk_rules.proofs.HeldLemmas.{is_held-chain}
-use Rattle.lbk_rules.specs.declared.FlatStep.{FlatStep}
+use Rattle.lbk_rules.specs.declared.Step.{Step}
 use Rattle.lbk_rules.specs.declared.FlatTable.{FlatTable}
-use Rattle.lbk_rules.specs.flat_table.TheConstants.{HELD}
-use Rattle.lbk_rules.specs.FlatTable.{IsFlatBy, KnowsTaken, no_flat_step}
-use Rattle.lbk_rules.specs.Kinds.{kind_cell}
+use Rattle.lbk_rules.specs.steps.TheConstants.{HELD}
+use Rattle.lbk_rules.specs.FlatTable.{IsFlatOf, KnowsTaken}
+use Rattle.lbk_rules.specs.Kinds.{kind_cell, real_kind}
 use Rattle.lbk_rules.specs.RowMachineFits.{normals}
+use Rattle.lbk_rules.specs.Rows.{IsPlace, IsShown, step_by, steps_in, verdict_shown}
 use Rattle.lbk_streams.specs.declared.stream.Place.{Place}
 use Rattle.lbk_bytes.specs.Bytes.{with_break}
-use Rattle.lbk_bytes.specs.Reached.{steps_in}
 use Rattle.lbk_streams.specs.Stands.{Ahead, Stands, Waits, onward_of}
 use Rattle.lbk_streams.specs.Streams.{cells_of, late_break}
 use Rattle.lbk_bytes.proofs.AheadLemmas.{heads-tells, joins-leaves, told_by}
 use Rattle.lbk_bytes.proofs.ReachedLemmas.{with_break-more}
-use Rattle.lbk_bytes.proofs.StepLemmas.{code-known, decides-apart, decides-closed, decides-first, decides-open, held-15b, knows-more, steps-here}
+use Rattle.lbk_bytes.proofs.StepLemmas.{decides-apart, decides-closed, decides-first, decides-open, knows-more, steps-here}
+use Rattle.lbk_rules.proofs.FlatLemmas.{held-15b}
 
 -- What stands before a position that waits
 
@@ -53,21 +52,21 @@ mark-soft ZWJ _ = refl
 mark-soft _ h = absurd (false≢true h)
 
 -- a position that rule 15b decides stands before a quotation mark
-held-soft : (cell : ℕ → Cell) (lefts : List Left) (table : FlatTable) (taken : List ℕ) (row c : ℕ) (other : FlatStep)
-    → IsFlatBy lefts table cell → KnowsTaken cell lefts row taken → IsScalar c
-    → other ≡ get_or table.second (row + get_or table.kinds c 0) no_flat_step → other.code ≡ HELD
+held-soft : (cell : ℕ → Cell) (table : FlatTable) (taken : List ℕ) (row c : ℕ) (other : Step)
+    → IsFlatOf table cell → KnowsTaken cell row taken → IsScalar c
+    → (IsPlace row → other ≡ step_by (steps_in Second) row (get_or table.kinds c 0)) → other.shown ≡ HELD
     → hard (normal (cell c)).class ≡ false
 unfolding is_held
-held-soft cell lefts table taken row c other flat known scalar is_other held =
-    let kind = get_or table.kinds c 0 in
-    let one = get_or table.first (row + kind) no_flat_step in
-    let same = (flat.kinds c scalar).1 in
-    let step = steps-here lefts table cell row c one other flat scalar known.0 refl is_other in
+held-soft cell table taken row c other flat known scalar is_other held =
+    let number = get_or table.kinds c 0 in
+    let kind = real_kind number in
+    let same = flat.kinds c scalar in
+    let step = steps-here row number (step_by (steps_in First) row number) other known.0 refl (is_other known.0) in
     let left = normals cell taken in
     let at_15b : is_held Second left (kind_cell kind ∷ []) ≡ true =
     is_held-chain Second left (kind_cell kind) []
     ∙ ap (λ (v : Verdict). is_15b v.rule) (sym (step.closes (reverse left) [] (sym known.1) refl))
-    ∙ ap (λ n. is_15b (verdict_coded n).rule) held ∙ held-15b in
+    ∙ ap (λ n. is_15b (verdict_shown n).rule) held ∙ held-15b in
     let quotes = (and_parts _ _ (and_parts _ _ at_15b).0).0 in
     ap (λ (x : Cell). hard x.class) (sym same) ∙ QU-soft (kind_cell kind).class quotes
 
@@ -112,27 +111,27 @@ onward-first all profile cell taken at bytes c size some is_char is_size =
 
 pub late-none : (cell : ℕ → Cell) (place : Place) (bytes : List ℕ) → place.held_code ≡ 0 → late_break cell place bytes ≡ []
 late-none cell place bytes zero =
-    ap (λ n. cond (n == 0 || leaves_closed (units_after false (cells_of cell bytes))) [] (with_break place.held_at (verdict_coded n) [])) zero
+    ap (λ n. cond (n == 0 || leaves_closed (units_after false (cells_of cell bytes))) [] (with_break place.held_at (verdict_shown n) [])) zero
 
 late-some : (cell : ℕ → Cell) (place : Place) (bytes : List ℕ) (closes : Bool) → (place.held_code == 0) ≡ false
     → leaves_closed (units_after false (cells_of cell bytes)) ≡ closes
-    → late_break cell place bytes ≡ cond closes [] (with_break place.held_at (verdict_coded place.held_code) [])
+    → late_break cell place bytes ≡ cond closes [] (with_break place.held_at (verdict_shown place.held_code) [])
 late-some cell place bytes closes held is =
-    let late = with_break place.held_at (verdict_coded place.held_code) [] in
+    let late = with_break place.held_at (verdict_shown place.held_code) [] in
     ap (λ b. cond (b || leaves_closed (units_after false (cells_of cell bytes))) [] late) held ∙ ap (λ b. cond b [] late) is
 
 -- the next scalar decides it
-pub Stands-settle : (profile : Profile) (cell : ℕ → Cell) (lefts : List Left) (place : Place) (bytes : List ℕ) (all : Ahead) (given after : List Break)
+pub Stands-settle : (profile : Profile) (cell : ℕ → Cell) (place : Place) (bytes : List ℕ) (all : Ahead) (given after : List Break)
     (c : ℕ) (closes : Bool)
     → 0 < length bytes → c ≡ or_replacement (decoded bytes).char → (place.held_code == 0) ≡ false
     → told_by false (normal (cell c)) ≡ Some closes
-    → after ≡ given ++ cond closes [] (with_break place.held_at (verdict_coded place.held_code) [])
-    → Stands profile cell lefts place bytes all given
-    → Stands profile cell lefts (record { at = place.at; held_at = place.held_at; row = place.row; held_code = 0 }) bytes all after
-Stands-settle profile cell lefts place bytes all given after c closes some is_char held told grown s =
+    → after ≡ given ++ cond closes [] (with_break place.held_at (verdict_shown place.held_code) [])
+    → Stands profile cell place bytes all given
+    → Stands profile cell (record { at = place.at; held_at = place.held_at; row = place.row; held_code = 0 }) bytes all after
+Stands-settle profile cell place bytes all given after c closes some is_char held told grown s =
     let size = (decoded bytes).size in
     let on = onward_of all profile cell s.taken place.at (pieces bytes) in
-    let front = cond closes [] (with_break place.held_at (verdict_coded place.held_code) []) in
+    let front = cond closes [] (with_break place.held_at (verdict_shown place.held_code) []) in
     let is : leaves_closed (units_after false (cells_of cell bytes)) ≡ closes =
     ap (λ cs. leaves_closed (units_after false cs)) (cells-first cell bytes c size some is_char refl)
     ∙ heads-tells false (normal (cell c)) (cells_of cell (drop size bytes)) closes told in
@@ -150,15 +149,15 @@ Stands-settle profile cell lefts place bytes all given after c closes some is_ch
     }
 
 -- a mark that joins leaves it waiting
-pub Stands-join : (profile : Profile) (cell : ℕ → Cell) (lefts : List Left) (place next : Place) (bytes : List ℕ) (all : Ahead) (given : List Break)
+pub Stands-join : (profile : Profile) (cell : ℕ → Cell) (place next : Place) (bytes : List ℕ) (all : Ahead) (given : List Break)
     (c size : ℕ)
     → 0 < length bytes → c ≡ or_replacement (decoded bytes).char → size ≡ (decoded bytes).size
     → 0 < place.held_code → mark (normal (cell c)).class ≡ true
     → next.at ≡ (place.at + size) % 2 ^ 64 → next.held_at ≡ place.held_at → next.held_code ≡ place.held_code
-    → ((taken : List ℕ) → KnowsTaken cell lefts place.row taken → KnowsTaken cell lefts next.row (taken ++ c ∷ []))
-    → Stands profile cell lefts place bytes all given
-    → Stands profile cell lefts next (drop size bytes) all given
-Stands-join profile cell lefts place next bytes all given c size some is_char is_size held is_mark moved held_same code_same knows s =
+    → ((taken : List ℕ) → KnowsTaken cell place.row taken → KnowsTaken cell next.row (taken ++ c ∷ []))
+    → Stands profile cell place bytes all given
+    → Stands profile cell next (drop size bytes) all given
+Stands-join profile cell place next bytes all given c size some is_char is_size held is_mark moved held_same code_same knows s =
     let rest = drop size bytes in
     let bounds = piece-bounds bytes some in
     let left = length-drop size bytes in
@@ -172,9 +171,9 @@ Stands-join profile cell lefts place next bytes all given c size some is_char is
     ∙ joins-leaves false x (cells_of cell rest) told
     ∙ ap (λ b. leaves_closed (units_after b (cells_of cell rest))) soft in
     let late : late_break cell place bytes ≡ late_break cell next rest =
-    ap (λ b. cond (place.held_code == 0 || b) [] (with_break place.held_at (verdict_coded place.held_code) [])) closes
-    ∙ ap (λ n. cond (n == 0 || leaves_closed (units_after false (cells_of cell rest))) [] (with_break place.held_at (verdict_coded n) [])) (sym code_same)
-    ∙ ap (λ n. cond (next.held_code == 0 || leaves_closed (units_after false (cells_of cell rest))) [] (with_break n (verdict_coded next.held_code) [])) (sym held_same) in
+    ap (λ b. cond (place.held_code == 0 || b) [] (with_break place.held_at (verdict_shown place.held_code) [])) closes
+    ∙ ap (λ n. cond (n == 0 || leaves_closed (units_after false (cells_of cell rest))) [] (with_break place.held_at (verdict_shown n) [])) (sym code_same)
+    ∙ ap (λ n. cond (next.held_code == 0 || leaves_closed (units_after false (cells_of cell rest))) [] (with_break n (verdict_shown next.held_code) [])) (sym held_same) in
     let right = map cell (lossy_chars rest) in
     let verdict = verdict_between_in profile (map cell s.taken) (cell c ∷ right) in
     let on = onward_of all profile cell (s.taken ++ c ∷ []) (place.at + size) (pieces rest) in
@@ -187,8 +186,8 @@ Stands-join profile cell lefts place next bytes all given c size some is_char is
       fits = (let fits = s.fits in omega arith);
       waits = λ _. record {
         second = w.second;
-        coded = subst IsCode (sym code_same) w.coded;
-        breaks = ap (λ n. is_no (verdict_coded n).kind) code_same ∙ w.breaks;
+        coded = subst IsShown (sym code_same) w.coded;
+        breaks = ap (λ n. is_no (verdict_shown n).kind) code_same ∙ w.breaks;
         before = (let before = w.before in omega arith);
         front = s.taken;
         last = c;
@@ -208,19 +207,19 @@ same-test : (a b : ℕ) → a ≡ b → (a == b) ≡ true
 same-test a b same = grind (arith, nat_tests)
 
 -- a scalar is taken where none waits: of its position this comes now, and this waits
-pub Stands-on : (profile : Profile) (cell : ℕ → Cell) (lefts : List Left) (place next : Place) (bytes : List ℕ) (all : Ahead) (given front after : List Break)
+pub Stands-on : (profile : Profile) (cell : ℕ → Cell) (place next : Place) (bytes : List ℕ) (all : Ahead) (given front after : List Break)
     (c size : ℕ)
     → 0 < length bytes → c ≡ or_replacement (decoded bytes).char → size ≡ (decoded bytes).size
     → place.held_code ≡ 0 → next.at ≡ (place.at + size) % 2 ^ 64
-    → ((taken : List ℕ) → KnowsTaken cell lefts place.row taken → KnowsTaken cell lefts next.row (taken ++ c ∷ []))
-    → ((taken : List ℕ) → KnowsTaken cell lefts place.row taken
+    → ((taken : List ℕ) → KnowsTaken cell place.row taken → KnowsTaken cell next.row (taken ++ c ∷ []))
+    → ((taken : List ℕ) → KnowsTaken cell place.row taken
     → front ++ late_break cell next (drop size bytes)
     ≡ with_break place.at (verdict_between_in profile (map cell taken) (cell c ∷ map cell (lossy_chars (drop size bytes)))) [])
-    → ((taken : List ℕ) → KnowsTaken cell lefts place.row taken → place.at < next.at → 0 < next.held_code → Waits profile cell (taken ++ c ∷ []) next)
+    → ((taken : List ℕ) → KnowsTaken cell place.row taken → place.at < next.at → 0 < next.held_code → Waits profile cell (taken ++ c ∷ []) next)
     → after ≡ given ++ front
-    → Stands profile cell lefts place bytes all given
-    → Stands profile cell lefts next (drop size bytes) all after
-Stands-on profile cell lefts place next bytes all given front after c size some is_char is_size none_waits moved knows decides waits grown s =
+    → Stands profile cell place bytes all given
+    → Stands profile cell next (drop size bytes) all after
+Stands-on profile cell place next bytes all given front after c size some is_char is_size none_waits moved knows decides waits grown s =
     let rest = drop size bytes in
     let bounds = piece-bounds bytes some in
     let left = length-drop size bytes in
@@ -245,113 +244,110 @@ Stands-on profile cell lefts place next bytes all given front after c size some 
     }
 
 -- the row that a step leads to
-pub knows-next : (cell : ℕ → Cell) (lefts : List Left) (table : FlatTable) (row c : ℕ) (one : FlatStep) → IsFlatBy lefts table cell → IsScalar c
-    → one ≡ get_or table.first (row + get_or table.kinds c 0) no_flat_step
-    → (taken : List ℕ) → KnowsTaken cell lefts row taken → KnowsTaken cell lefts one.next (taken ++ c ∷ [])
-knows-next cell lefts table row c one flat scalar is_one taken known =
-    let kind = get_or table.kinds c 0 in
-    let other = get_or table.second (row + kind) no_flat_step in
-    let step = steps-here lefts table cell row c one other flat scalar known.0 is_one refl in
-    knows-more cell lefts row one.next c kind (flat.kinds c scalar).1 step.starts step.leads taken known
+pub knows-next : (cell : ℕ → Cell) (table : FlatTable) (row c : ℕ) (one : Step) → IsFlatOf table cell → IsScalar c
+    → (IsPlace row → one ≡ step_by (steps_in First) row (get_or table.kinds c 0))
+    → (taken : List ℕ) → KnowsTaken cell row taken → KnowsTaken cell one.next (taken ++ c ∷ [])
+knows-next cell table row c one flat scalar is_one taken known =
+    let number = get_or table.kinds c 0 in
+    let step = steps-here row number one (step_by (steps_in Second) row number) known.0 (is_one known.0) refl in
+    knows-more cell row one.next c (real_kind number) (flat.kinds c scalar) step.begins step.leads taken known
 
 -- the number of a verdict by which no line breaks
-silent-code : (at code : ℕ) → is_no (verdict_coded code).kind ≡ true → with_break at (verdict_coded code) [] ≡ []
-silent-code at code none = ap (λ b. cond b [] (break_by at (verdict_coded code) ∷ [])) none
+silent-code : (at code : ℕ) → is_no (verdict_shown code).kind ≡ true → with_break at (verdict_shown code) [] ≡ []
+silent-code at code none = ap (λ b. cond b [] (break_by at (verdict_shown code) ∷ [])) none
 
 -- so it is by rule 15b
-silent-held : (at code : ℕ) → code ≡ HELD → with_break at (verdict_coded code) [] ≡ []
-unfolding verdict_coded
-silent-held at code held = silent-code at code (ap (λ n. is_no (verdict_coded n).kind) held)
+silent-held : (at code : ℕ) → code ≡ HELD → with_break at (verdict_shown code) [] ≡ []
+unfolding verdict_shown
+silent-held at code held = silent-code at code (ap (λ n. is_no (verdict_shown n).kind) held)
 
 -- the number of a verdict by which a line breaks is not 0
-loud-code : (code : ℕ) → is_no (verdict_coded code).kind ≡ false → (code == 0) ≡ false
-unfolding verdict_coded
+loud-code : (code : ℕ) → is_no (verdict_shown code).kind ≡ false → (code == 0) ≡ false
+unfolding verdict_shown
 loud-code code loud =
     elim (code == 0) as (λ b. (code == 0) ≡ b → b ≡ false) [
       | true ↦ λ same.
           let first : code ≡ 0 = grind (arith, nat_tests) in
-          absurd (false≢true (sym loud ∙ ap (λ n. is_no (verdict_coded n).kind) first))
+          absurd (false≢true (sym loud ∙ ap (λ n. is_no (verdict_shown n).kind) first))
       | false ↦ λ apart. refl
     ] refl
 
 -- what a number decides that waits for nothing
-pub decides-now : (profile : Profile) (cell : ℕ → Cell) (lefts : List Left) (table : FlatTable) (taken : List ℕ) (at row c : ℕ) (one other : FlatStep)
+pub decides-now : (profile : Profile) (cell : ℕ → Cell) (table : FlatTable) (taken : List ℕ) (at row c : ℕ) (one other : Step)
     (right : List Cell)
-    → IsFlatBy lefts table cell → KnowsTaken cell lefts row taken → IsScalar c
-    → one ≡ get_or table.first (row + get_or table.kinds c 0) no_flat_step
-    → other ≡ get_or (steps_in table profile) (row + get_or table.kinds c 0) no_flat_step
-    → (profile ≡ Second → other.code ≡ HELD → is_no (verdict_coded one.code).kind ≡ true)
-    → IsCode other.code
-    × (with_break at (verdict_coded other.code) [] ≡ with_break at (verdict_between_in profile (map cell taken) (cell c ∷ right)) [])
-decides-now First cell lefts table taken at row c one other right flat known scalar is_one is_other quiet =
-    let decided = decides-first lefts table cell taken row c other right flat known scalar is_other in
-    (decided.0, ap (λ (v : Verdict). with_break at v []) decided.1)
-decides-now Second cell lefts table taken at row c one other right flat known scalar is_one is_other quiet =
-    (elim (other.code == HELD)
-    as (λ b. (other.code == HELD) ≡ b → IsCode other.code
-    × (with_break at (verdict_coded other.code) [] ≡ with_break at (verdict_between_in Second (map cell taken) (cell c ∷ right)) [])) [
+    → IsFlatOf table cell → KnowsTaken cell row taken → IsScalar c
+    → (IsPlace row → one ≡ step_by (steps_in First) row (get_or table.kinds c 0))
+    → (IsPlace row → other ≡ step_by (steps_in profile) row (get_or table.kinds c 0))
+    → (profile ≡ Second → other.shown ≡ HELD → is_no (verdict_shown one.shown).kind ≡ true)
+    → with_break at (verdict_shown other.shown) [] ≡ with_break at (verdict_between_in profile (map cell taken) (cell c ∷ right)) []
+decides-now First cell table taken at row c one other right flat known scalar is_one is_other quiet =
+    ap (λ (v : Verdict). with_break at v []) (decides-first table.kinds cell taken row c other right flat.kinds known scalar (is_other known.0))
+decides-now Second cell table taken at row c one other right flat known scalar is_one is_other quiet =
+    (elim (other.shown == HELD)
+    as (λ b. (other.shown == HELD) ≡ b
+    → with_break at (verdict_shown other.shown) [] ≡ with_break at (verdict_between_in Second (map cell taken) (cell c ∷ right)) []) [
       | true ↦ λ same.
-          let held : other.code ≡ HELD = grind (arith, nat_tests) in
-          let none : with_break at (verdict_coded other.code) [] ≡ [] = silent-held at other.code held in
+          let held : other.shown ≡ HELD = grind (arith, nat_tests) in
+          let none : with_break at (verdict_shown other.shown) [] ≡ [] = silent-held at other.shown held in
           (elim (leaves_closed (units_after (hard (normal (cell c)).class) (map normal right)))
-          as (λ b. leaves_closed (units_after (hard (normal (cell c)).class) (map normal right)) ≡ b → IsCode other.code
-          × (with_break at (verdict_coded other.code) [] ≡ with_break at (verdict_between_in Second (map cell taken) (cell c ∷ right)) [])) [
+          as (λ b. leaves_closed (units_after (hard (normal (cell c)).class) (map normal right)) ≡ b
+          → with_break at (verdict_shown other.shown) [] ≡ with_break at (verdict_between_in Second (map cell taken) (cell c ∷ right)) []) [
             | true ↦ λ closed.
-                let decided = decides-closed lefts table cell taken row c other right flat known scalar is_other closed in
-                (decided.0, ap (λ (v : Verdict). with_break at v []) decided.1)
+                ap (λ (v : Verdict). with_break at v [])
+                (decides-closed table.kinds cell taken row c other right flat.kinds known scalar (is_other known.0) closed)
             | false ↦ λ stays.
-                let decided = decides-open lefts table cell taken row c one other right flat known scalar is_one is_other held stays in
-                let step = steps-here lefts table cell row c one other flat scalar known.0 is_one is_other in
-                (code-known _ step.coded.1, none ∙ sym (silent-code at one.code (quiet refl held)) ∙ ap (λ (v : Verdict). with_break at v []) decided.1)
+                none ∙ sym (silent-code at one.shown (quiet refl held))
+                ∙ ap (λ (v : Verdict). with_break at v [])
+                (decides-open table.kinds cell taken row c one other right flat.kinds known scalar (is_one known.0) (is_other known.0) held stays)
           ]) refl
       | false ↦ λ apart.
-          let unheld : ¬ (other.code ≡ HELD) = λ held. absurd (false≢true (sym apart ∙ same-test other.code HELD held)) in
-          let decided = decides-apart lefts table cell taken row c other right flat known scalar is_other unheld in
-          (decided.0, ap (λ (v : Verdict). with_break at v []) decided.1)
+          let unheld : ¬ (other.shown ≡ HELD) = λ held. absurd (false≢true (sym apart ∙ same-test other.shown HELD held)) in
+          ap (λ (v : Verdict). with_break at v [])
+          (decides-apart table.kinds cell taken row c other right flat.kinds known scalar (is_other known.0) unheld)
     ]) refl
 
 -- what waits where rule 15b decides
-pub decides-late : (cell : ℕ → Cell) (lefts : List Left) (table : FlatTable) (taken : List ℕ) (place next : Place) (rest : List ℕ) (c : ℕ) (one other : FlatStep)
-    → IsFlatBy lefts table cell → KnowsTaken cell lefts place.row taken → IsScalar c
-    → one ≡ get_or table.first (place.row + get_or table.kinds c 0) no_flat_step
-    → other ≡ get_or table.second (place.row + get_or table.kinds c 0) no_flat_step
-    → other.code ≡ HELD → is_no (verdict_coded one.code).kind ≡ false → next.held_at ≡ place.at → next.held_code ≡ one.code
+pub decides-late : (cell : ℕ → Cell) (table : FlatTable) (taken : List ℕ) (place next : Place) (rest : List ℕ) (c : ℕ) (one other : Step)
+    → IsFlatOf table cell → KnowsTaken cell place.row taken → IsScalar c
+    → (IsPlace place.row → one ≡ step_by (steps_in First) place.row (get_or table.kinds c 0))
+    → (IsPlace place.row → other ≡ step_by (steps_in Second) place.row (get_or table.kinds c 0))
+    → other.shown ≡ HELD → is_no (verdict_shown one.shown).kind ≡ false → next.held_at ≡ place.at → next.held_code ≡ one.shown
     → late_break cell next rest
     ≡ with_break place.at (verdict_between_in Second (map cell taken) (cell c ∷ map cell (lossy_chars rest))) []
-decides-late cell lefts table taken place next rest c one other flat known scalar is_one is_other held breaks held_same code_same =
+decides-late cell table taken place next rest c one other flat known scalar is_one is_other held breaks held_same code_same =
     let right = map cell (lossy_chars rest) in
-    let soft = held-soft cell lefts table taken place.row c other flat known scalar is_other held in
-    let some : (next.held_code == 0) ≡ false = ap (λ n. n == 0) code_same ∙ loud-code one.code breaks in
-    let same : with_break next.held_at (verdict_coded next.held_code) [] ≡ with_break place.at (verdict_coded one.code) [] =
-    ap (λ n. with_break n (verdict_coded next.held_code) []) held_same ∙ ap (λ n. with_break place.at (verdict_coded n) []) code_same in
+    let soft = held-soft cell table taken place.row c other flat known scalar is_other held in
+    let some : (next.held_code == 0) ≡ false = ap (λ n. n == 0) code_same ∙ loud-code one.shown breaks in
+    let same : with_break next.held_at (verdict_shown next.held_code) [] ≡ with_break place.at (verdict_shown one.shown) [] =
+    ap (λ n. with_break n (verdict_shown next.held_code) []) held_same ∙ ap (λ n. with_break place.at (verdict_shown n) []) code_same in
     (elim (leaves_closed (units_after false (cells_of cell rest)))
     as (λ b. leaves_closed (units_after false (cells_of cell rest)) ≡ b
     → late_break cell next rest ≡ with_break place.at (verdict_between_in Second (map cell taken) (cell c ∷ right)) []) [
       | true ↦ λ is.
           let closed = ap (λ b. leaves_closed (units_after b (cells_of cell rest))) soft ∙ is in
-          let decided = decides-closed lefts table cell taken place.row c other right flat known scalar is_other closed in
-          late-some cell next rest true some is ∙ sym (silent-held place.at other.code held)
-          ∙ ap (λ (v : Verdict). with_break place.at v []) decided.1
+          let decided = decides-closed table.kinds cell taken place.row c other right flat.kinds known scalar (is_other known.0) closed in
+          late-some cell next rest true some is ∙ sym (silent-held place.at other.shown held)
+          ∙ ap (λ (v : Verdict). with_break place.at v []) decided
       | false ↦ λ is.
           let stays = ap (λ b. leaves_closed (units_after b (cells_of cell rest))) soft ∙ is in
-          let decided = decides-open lefts table cell taken place.row c one other right flat known scalar is_one is_other held stays in
-          late-some cell next rest false some is ∙ same ∙ ap (λ (v : Verdict). with_break place.at v []) decided.1
+          let decided = decides-open table.kinds cell taken place.row c one other right flat.kinds known scalar (is_one known.0) (is_other known.0) held stays in
+          late-some cell next rest false some is ∙ same ∙ ap (λ (v : Verdict). with_break place.at v []) decided
     ]) refl
 
 -- that it waits
-pub waits-now : (cell : ℕ → Cell) (lefts : List Left) (table : FlatTable) (taken : List ℕ) (place next : Place) (c : ℕ) (one other : FlatStep)
-    → IsFlatBy lefts table cell → KnowsTaken cell lefts place.row taken → IsScalar c
-    → one ≡ get_or table.first (place.row + get_or table.kinds c 0) no_flat_step
-    → other ≡ get_or table.second (place.row + get_or table.kinds c 0) no_flat_step
-    → other.code ≡ HELD → is_no (verdict_coded one.code).kind ≡ false → next.held_at ≡ place.at → next.held_code ≡ one.code → place.at < next.at
+pub waits-now : (cell : ℕ → Cell) (table : FlatTable) (taken : List ℕ) (place next : Place) (c : ℕ) (one other : Step)
+    → IsFlatOf table cell → KnowsTaken cell place.row taken → IsScalar c
+    → (IsPlace place.row → one ≡ step_by (steps_in First) place.row (get_or table.kinds c 0))
+    → (IsPlace place.row → other ≡ step_by (steps_in Second) place.row (get_or table.kinds c 0))
+    → other.shown ≡ HELD → is_no (verdict_shown one.shown).kind ≡ false → next.held_at ≡ place.at → next.held_code ≡ one.shown → place.at < next.at
     → Waits Second cell (taken ++ c ∷ []) next
-waits-now cell lefts table taken place next c one other flat known scalar is_one is_other held is_break held_same code_same onward = record {
+waits-now cell table taken place next c one other flat known scalar is_one is_other held shows_break held_same code_same onward = record {
   second = refl;
-  breaks = ap (λ n. is_no (verdict_coded n).kind) code_same ∙ is_break;
-  coded = subst IsCode (sym code_same) (code-known _ (steps-here lefts table cell place.row c one other flat scalar known.0 is_one is_other).coded.0);
+  breaks = ap (λ n. is_no (verdict_shown n).kind) code_same ∙ shows_break;
+  coded = subst IsShown (sym code_same) (steps-here place.row (get_or table.kinds c 0) one other known.0 (is_one known.0) (is_other known.0)).shows.0;
   before = omega arith;
   front = taken;
   last = c;
   joined = refl;
-  soft = held-soft cell lefts table taken place.row c other flat known scalar is_other held;
+  soft = held-soft cell table taken place.row c other flat known scalar is_other held;
 }

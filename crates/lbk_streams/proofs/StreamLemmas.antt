@@ -1,5 +1,5 @@
 -- The breaks of a stream from its start on, and some of them given.
-use Rattle.std.proofs.Common.{◌≡◌, ℕ, zero, suc, ◌==◌, ◌||◌, ◌+◌, ◌^◌, ◌<◌, ◌≤◌, Bool, true, false, cond, ◌⊎◌, inl, inr, ⊎_elim, Some, None, List, [], ◌∷◌, ◌++◌, length, map, drop, take, refl, sym, ap, subst, ◌∙◌, arith}
+use Rattle.std.proofs.Common.{◌≡◌, ℕ, zero, suc, ◌==◌, ◌||◌, ◌+◌, ◌^◌, ◌<◌, ◌≤◌, Bool, true, false, cond, ◌⊎◌, inl, inr, ⊎_elim, Some, None, List, [], ◌∷◌, ◌++◌, length, map, drop, take, refl, sym, ap, subst, ◌∙◌, arith, lit<}
 use Rattle.std.specs.List.{AllByRecursion}
 use Rattle.std.proofs.lemmas.Bool.{cases_lt}
 use Rattle.std.proofs.lemmas.List.{take_at}
@@ -8,12 +8,10 @@ use Rattle.bstr.specs.Utf8.{Decoded, or_replacement, pieces}
 use Rattle.bstr.proofs.lemmas.PieceLemmas.{lossy_chars-nil, pieces-nil}
 use Rattle.lbk_rules.specs.declared.Break.{Break}
 use Rattle.lbk_rules.specs.declared.Cell.{Cell}
-use Rattle.lbk_rules.specs.declared.Left.{Left}
 use Rattle.lbk_values.specs.declared.profile.Profile.{Profile}
 use Rattle.lbk_values.specs.declared.profile.Profile.TheVariants.{First, Second}
 use Rattle.lbk_rules.specs.declared.Verdict.{Verdict}
 use Rattle.lbk_rules.specs.Breaks.{break_by, is_no}
-use Rattle.lbk_rules.specs.Codes.{verdict_coded}
 use Rattle.lbk_rules.specs.Ends.{end_after, ends_line}
 use Rattle.lbk_rules.specs.Normal.{normal}
 use Rattle.lbk_rules.specs.Sides.{leaves_closed}
@@ -21,7 +19,9 @@ use Rattle.lbk_rules.specs.Units.{units_after}
 use Rattle.lbk_rules.specs.Verdict.{verdict_between_in}
 use Rattle.lbk_rules.proofs.ParagraphLemmas.{or-true}
 use Rattle.lbk_rules.specs.declared.FlatTable.{FlatTable}
-use Rattle.lbk_rules.specs.FlatTable.{IsFlatBy, IsFlatOf, KnowsTaken}
+use Rattle.lbk_rules.specs.FlatTable.{IsFlatOf, KnowsTaken}
+use Rattle.lbk_rules.specs.Rows.{verdict_shown}
+use Rattle.lbk_rules.proofs.FlatLemmas.{left-start}
 use Rattle.lbk_streams.specs.declared.stream.Feeding.{Feeding}
 use Rattle.lbk_streams.specs.declared.stream.Place.{Place}
 use Rattle.lbk_streams.specs.declared.stream.Stream.{Stream}
@@ -42,10 +42,10 @@ Streams-part cell table goes_on profile at text stream to_come flat short starts
     subst (λ s. Streams cell table s text to_come) (sym starts) (flagged goes_on profile whole)
   where
     begun : (goes_on : Bool) (profile : Profile) → to_come ≡ onward_to (end_in goes_on) profile cell [] at (pieces text)
-        → Stands profile cell flat.0 (place_of (part_stream goes_on profile at)) text (record { breaks = to_come; goes_on = goes_on }) []
+        → Stands profile cell (place_of (part_stream goes_on profile at)) text (record { breaks = to_come; goes_on = goes_on }) []
     begun goes_on profile whole = record {
       taken = [];
-      knows = (flat.1.begins, flat.1.start);
+      knows = ((refl, lit< tt), left-start);
       some = λ more. absurd (omega arith);
       fits = short;
       waits = λ more. absurd (omega arith);
@@ -57,32 +57,28 @@ Streams-part cell table goes_on profile at text stream to_come flat short starts
     flagged true First whole = record {
       profile = First;
       named = refl;
-      lefts = flat.0;
-      flat = flat.1;
+      flat = flat;
       goes_on = λ _. begun true First whole;
       none_come = λ more. absurd (omega arith);
     }
     flagged true Second whole = record {
       profile = Second;
       named = refl;
-      lefts = flat.0;
-      flat = flat.1;
+      flat = flat;
       goes_on = λ _. begun true Second whole;
       none_come = λ more. absurd (omega arith);
     }
     flagged false First whole = record {
       profile = First;
       named = refl;
-      lefts = flat.0;
-      flat = flat.1;
+      flat = flat;
       goes_on = λ _. begun false First whole;
       none_come = λ more. absurd (omega arith);
     }
     flagged false Second whole = record {
       profile = Second;
       named = refl;
-      lefts = flat.0;
-      flat = flat.1;
+      flat = flat;
       goes_on = λ _. begun false Second whole;
       none_come = λ more. absurd (omega arith);
     }
@@ -93,10 +89,10 @@ Streams-start cell table profile text stream flat short starts =
     Streams-part cell table false profile 0 text stream (breaks_of_bytes profile cell text) flat (omega arith) starts (onward-start profile cell (pieces text))
 
 -- of the breaks to come these were given, and the others come
-pub Stands-rest : (profile : Profile) (cell : ℕ → Cell) (lefts : List Left) (place : Place) (bytes : List ℕ) (all : Ahead) (given : List Break) (count : ℕ)
-    → length given ≡ count → Stands profile cell lefts place bytes all given
-    → (given ≡ take count all.breaks) × Stands profile cell lefts place bytes (record { breaks = drop count all.breaks; goes_on = all.goes_on }) []
-Stands-rest profile cell lefts place bytes all given count many s =
+pub Stands-rest : (profile : Profile) (cell : ℕ → Cell) (place : Place) (bytes : List ℕ) (all : Ahead) (given : List Break) (count : ℕ)
+    → length given ≡ count → Stands profile cell place bytes all given
+    → (given ≡ take count all.breaks) × Stands profile cell place bytes (record { breaks = drop count all.breaks; goes_on = all.goes_on }) []
+Stands-rest profile cell place bytes all given count many s =
     let more = late_break cell place bytes ++ onward_of all profile cell s.taken place.at (pieces bytes) in (
       sym (ap (take count) s.joined ∙ take_at given more count many),
       record {
@@ -110,17 +106,17 @@ Stands-rest profile cell lefts place bytes all given count many s =
     )
 
 -- where a call begins
-pub Feeds-start : (profile : Profile) (cell : ℕ → Cell) (lefts : List Left) (stream : Stream) (piece more : List ℕ) (start : Feeding) (all : Ahead)
+pub Feeds-start : (profile : Profile) (cell : ℕ → Cell) (stream : Stream) (piece more : List ℕ) (start : Feeding) (all : Ahead)
     → start.place ≡ place_of stream → front_of start.cut ≡ cut_bytes stream → start.taken ≡ 0 → start.cut.size ≡ length (cut_bytes stream)
-    → Stands profile cell lefts (place_of stream) (cut_bytes stream ++ (piece ++ more)) all []
-    → Feeds profile cell lefts (stream.at + length (cut_bytes stream)) piece more start all []
-Feeds-start profile cell lefts stream piece more start all place_same cut_same none size s =
+    → Stands profile cell (place_of stream) (cut_bytes stream ++ (piece ++ more)) all []
+    → Feeds profile cell (stream.at + length (cut_bytes stream)) piece more start all []
+Feeds-start profile cell stream piece more start all place_same cut_same none size s =
     let at : start.place.at ≡ stream.at = ap (λ (p : Place). p.at) place_same in
     record {
       stands =
-          subst (λ n. Stands profile cell lefts start.place (front_of start.cut ++ (drop n piece ++ more)) all []) (sym none)
-          (subst (λ l. Stands profile cell lefts start.place (l ++ (piece ++ more)) all []) (sym cut_same)
-          (subst (λ p. Stands profile cell lefts p (cut_bytes stream ++ (piece ++ more)) all []) (sym place_same) s));
+          subst (λ n. Stands profile cell start.place (front_of start.cut ++ (drop n piece ++ more)) all []) (sym none)
+          (subst (λ l. Stands profile cell start.place (l ++ (piece ++ more)) all []) (sym cut_same)
+          (subst (λ p. Stands profile cell p (cut_bytes stream ++ (piece ++ more)) all []) (sym place_same) s));
       seen = omega arith;
     }
 
@@ -151,14 +147,14 @@ onward-onward all profile cell taken least at (p ∷ ps) high =
 -- at the end a quotation is closed
 late-end : (cell : ℕ → Cell) (place : Place) → late_break cell place [] ≡ []
 late-end cell place =
-    let late = with_break place.held_at (verdict_coded place.held_code) [] in
+    let late = with_break place.held_at (verdict_shown place.held_code) [] in
     ap (λ cs. cond (place.held_code == 0 || leaves_closed (units_after false (map normal (map cell cs)))) [] late) lossy_chars-nil
     ∙ ap (λ b. cond b [] late) (or-true (place.held_code == 0))
 
 -- where nothing is left, the end comes
-pub Stands-end : (profile : Profile) (cell : ℕ → Cell) (lefts : List Left) (place : Place) (bytes : List ℕ) (all : Ahead) (given : List Break)
-    → bytes ≡ [] → (s : Stands profile cell lefts place bytes all given) → all.breaks ≡ given ++ end_in all.goes_on profile cell s.taken place.at
-Stands-end profile cell lefts place bytes all given empty s =
+pub Stands-end : (profile : Profile) (cell : ℕ → Cell) (place : Place) (bytes : List ℕ) (all : Ahead) (given : List Break)
+    → bytes ≡ [] → (s : Stands profile cell place bytes all given) → all.breaks ≡ given ++ end_in all.goes_on profile cell s.taken place.at
+Stands-end profile cell place bytes all given empty s =
     let at = place.at in
     let none_left : pieces bytes ≡ [] = ap pieces empty ∙ pieces-nil in
     let none_late : late_break cell place bytes ≡ [] = ap (late_break cell place) empty ∙ late-end cell place in
@@ -175,50 +171,49 @@ pub Feeds-streams : (profile : Profile) (cell : ℕ → Cell) (table : FlatTable
     → profile_numbered (plain_number old.profile) ≡ Some profile → old.ended ≡ 0
     → start.place ≡ place_of old → front_of start.cut ≡ cut_bytes old → start.taken ≡ 0 → start.cut.size ≡ length (cut_bytes old) → given ≡ []
     → (s : Streams cell table old (piece ++ more) to_come)
-    → Feeds profile cell s.lefts (old.at + length (cut_bytes old)) piece more start (ahead old.profile to_come) given
+    → Feeds profile cell (old.at + length (cut_bytes old)) piece more start (ahead old.profile to_come) given
 Feeds-streams profile cell table old piece more to_come given start named unended place_same cut_same none size nothing s =
     let same : s.profile ≡ profile = named-one s.profile profile old s.named named in
-    subst (λ g. Feeds profile cell s.lefts (old.at + length (cut_bytes old)) piece more start (ahead old.profile to_come) g) (sym nothing)
-    (Feeds-start profile cell s.lefts old piece more start (ahead old.profile to_come) place_same cut_same none size
-    (subst (λ p. Stands p cell s.lefts (place_of old) (cut_bytes old ++ (piece ++ more)) (ahead old.profile to_come) []) same (s.goes_on unended)))
+    subst (λ g. Feeds profile cell (old.at + length (cut_bytes old)) piece more start (ahead old.profile to_come) g) (sym nothing)
+    (Feeds-start profile cell old piece more start (ahead old.profile to_come) place_same cut_same none size
+    (subst (λ p. Stands p cell (place_of old) (cut_bytes old ++ (piece ++ more)) (ahead old.profile to_come) []) same (s.goes_on unended)))
 
 -- the others come from where it ends
-pub Streams-next : (profile : Profile) (cell : ℕ → Cell) (table : FlatTable) (lefts : List Left) (base : ℕ) (old new : Stream) (piece more : List ℕ) (to_come given : List Break)
+pub Streams-next : (profile : Profile) (cell : ℕ → Cell) (table : FlatTable) (base : ℕ) (old new : Stream) (piece more : List ℕ) (to_come given : List Break)
     (here : Feeding) (count : ℕ)
-    → profile_numbered (plain_number old.profile) ≡ Some profile → old.ended ≡ 0 → IsFlatBy lefts table cell
+    → profile_numbered (plain_number old.profile) ≡ Some profile → old.ended ≡ 0 → IsFlatOf table cell
     → place_of new ≡ here.place → cut_bytes new ≡ front_of here.cut → new.profile ≡ old.profile → new.ended ≡ old.ended
-    → length given ≡ count → Feeds profile cell lefts base piece more here (ahead old.profile to_come) given
+    → length given ≡ count → Feeds profile cell base piece more here (ahead old.profile to_come) given
     → Streams cell table new (drop here.taken piece ++ more) (drop count to_come)
-Streams-next profile cell table lefts base old new piece more to_come given here count named unended flat place_same cut_same kept ended_same many f =
+Streams-next profile cell table base old new piece more to_come given here count named unended flat place_same cut_same kept ended_same many f =
     let bytes = drop here.taken piece ++ more in
     record {
       profile = profile;
       named = ap (λ n. profile_numbered (plain_number n)) kept ∙ named;
-      lefts = lefts;
       flat = flat;
       goes_on = λ _.
-          subst (λ n. Stands profile cell lefts (place_of new) (cut_bytes new ++ bytes) (ahead n (drop count to_come)) []) (sym kept)
-          (subst (λ p. Stands profile cell lefts p (cut_bytes new ++ bytes) (ahead old.profile (drop count to_come)) []) (sym place_same)
-          (subst (λ l. Stands profile cell lefts here.place (l ++ bytes) (ahead old.profile (drop count to_come)) []) (sym cut_same)
-          (Stands-rest profile cell lefts here.place (front_of here.cut ++ bytes) (ahead old.profile to_come) given count many f.stands).1));
+          subst (λ n. Stands profile cell (place_of new) (cut_bytes new ++ bytes) (ahead n (drop count to_come)) []) (sym kept)
+          (subst (λ p. Stands profile cell p (cut_bytes new ++ bytes) (ahead old.profile (drop count to_come)) []) (sym place_same)
+          (subst (λ l. Stands profile cell here.place (l ++ bytes) (ahead old.profile (drop count to_come)) []) (sym cut_same)
+          (Stands-rest profile cell here.place (front_of here.cut ++ bytes) (ahead old.profile to_come) given count many f.stands).1));
       none_come = λ ended. absurd (omega arith);
     }
 
 -- the breaks that a call gave are the first of those to come
-pub Feeds-front : (number : ℕ) (profile : Profile) (cell : ℕ → Cell) (lefts : List Left) (base : ℕ) (piece more : List ℕ) (to_come given : List Break) (here : Feeding) (count : ℕ)
-    → length given ≡ count → Feeds profile cell lefts base piece more here (ahead number to_come) given → given ≡ take count to_come
-Feeds-front number profile cell lefts base piece more to_come given here count many f =
-    (Stands-rest profile cell lefts here.place (front_of here.cut ++ (drop here.taken piece ++ more)) (ahead number to_come) given count many f.stands).0
+pub Feeds-front : (number : ℕ) (profile : Profile) (cell : ℕ → Cell) (base : ℕ) (piece more : List ℕ) (to_come given : List Break) (here : Feeding) (count : ℕ)
+    → length given ≡ count → Feeds profile cell base piece more here (ahead number to_come) given → given ≡ take count to_come
+Feeds-front number profile cell base piece more to_come given here count many f =
+    (Stands-rest profile cell here.place (front_of here.cut ++ (drop here.taken piece ++ more)) (ahead number to_come) given count many f.stands).0
 
 -- what a call leaves that was not full
-pub Feeds-unsettled : (number : ℕ) (profile : Profile) (cell : ℕ → Cell) (lefts : List Left) (base : ℕ) (new : Stream) (piece more : List ℕ) (to_come given : List Break) (here : Feeding) (count : ℕ)
+pub Feeds-unsettled : (number : ℕ) (profile : Profile) (cell : ℕ → Cell) (base : ℕ) (new : Stream) (piece more : List ℕ) (to_come given : List Break) (here : Feeding) (count : ℕ)
     → place_of new ≡ here.place → cut_bytes new ≡ front_of here.cut
     → (here.cut.size ≡ 0) ⊎ (could_go_on (front_of here.cut) ≡ true) → here.taken ≡ length piece
-    → length given ≡ count → Feeds profile cell lefts base piece more here (ahead number to_come) given
+    → length given ≡ count → Feeds profile cell base piece more here (ahead number to_come) given
     → AreUnsettled cell new more (drop count to_come)
-Feeds-unsettled number profile cell lefts base new piece more to_come given here count place_same cut_same unfinished all many f =
+Feeds-unsettled number profile cell base new piece more to_come given here count place_same cut_same unfinished all many f =
     let bytes = front_of here.cut ++ (drop here.taken piece ++ more) in
-    let s = (Stands-rest profile cell lefts here.place bytes (ahead number to_come) given count many f.stands).1 in
+    let s = (Stands-rest profile cell here.place bytes (ahead number to_come) given count many f.stands).1 in
     let at : new.at ≡ here.place.at = ap (λ (p : Place). p.at) place_same in
     let rest : drop here.taken piece ++ more ≡ more = ap (λ n. drop n piece ++ more) all ∙ ap (λ l. l ++ more) (drop-length piece) in
     let same : bytes ≡ cut_bytes new ++ more = ap (λ l. front_of here.cut ++ l) rest ∙ ap (λ l. l ++ more) (sym cut_same) in
@@ -234,28 +229,27 @@ Feeds-unsettled number profile cell lefts base new piece more to_come given here
           let code : new.held_code ≡ here.place.held_code = ap (λ (p : Place). p.held_code) place_same in
           let held_same : new.held_at ≡ here.place.held_at = ap (λ (p : Place). p.held_at) place_same in
           let w = s.waits (omega arith) in
-          (omega (arith, w.before), ap (λ n. is_no (verdict_coded n).kind) code ∙ w.breaks);
+          (omega (arith, w.before), ap (λ n. is_no (verdict_shown n).kind) code ∙ w.breaks);
     }
 
 -- after the last piece, all were given
-pub Feeds-ended : (number : ℕ) (profile : Profile) (cell : ℕ → Cell) (lefts : List Left) (base : ℕ) (piece : List ℕ) (to_come given after : List Break) (here : Feeding)
+pub Feeds-ended : (number : ℕ) (profile : Profile) (cell : ℕ → Cell) (base : ℕ) (piece : List ℕ) (to_come given after : List Break) (here : Feeding)
     → here.cut.size ≡ 0 → here.taken ≡ length piece
-    → ((taken : List ℕ) → KnowsTaken cell lefts here.place.row taken → (0 < here.place.row → 0 < length taken)
+    → ((taken : List ℕ) → KnowsTaken cell here.place.row taken → (0 < here.place.row → 0 < length taken)
     → after ≡ given ++ end_in (goes_on number) profile cell taken here.place.at)
-    → Feeds profile cell lefts base piece [] here (ahead number to_come) given → to_come ≡ after
-Feeds-ended number profile cell lefts base piece to_come given after here none all end f =
+    → Feeds profile cell base piece [] here (ahead number to_come) given → to_come ≡ after
+Feeds-ended number profile cell base piece to_come given after here none all end f =
     let bytes = front_of here.cut ++ (drop here.taken piece ++ []) in
     let nothing : bytes ≡ [] =
     ap (λ n. take n here.cut.bytes ++ (drop here.taken piece ++ [])) none ∙ ap (λ n. drop n piece ++ []) all ∙ ap (λ l. l ++ []) (drop-length piece) in
-    Stands-end profile cell lefts here.place bytes (ahead number to_come) given nothing f.stands ∙ sym (end f.stands.taken f.stands.knows f.stands.some)
+    Stands-end profile cell here.place bytes (ahead number to_come) given nothing f.stands ∙ sym (end f.stands.taken f.stands.knows f.stands.some)
 
-pub Streams-end : (profile : Profile) (cell : ℕ → Cell) (table : FlatTable) (lefts : List Left) (old new : Stream) (bytes : List ℕ) (to_come after : List Break) (count : ℕ)
-    → profile_numbered (plain_number old.profile) ≡ Some profile → IsFlatBy lefts table cell → new.profile ≡ old.profile → new.ended ≡ 1
+pub Streams-end : (profile : Profile) (cell : ℕ → Cell) (table : FlatTable) (old new : Stream) (bytes : List ℕ) (to_come after : List Break) (count : ℕ)
+    → profile_numbered (plain_number old.profile) ≡ Some profile → IsFlatOf table cell → new.profile ≡ old.profile → new.ended ≡ 1
     → to_come ≡ after → length after ≡ count → Streams cell table new bytes (drop count to_come)
-Streams-end profile cell table lefts old new bytes to_come after count named flat kept ended all many = record {
+Streams-end profile cell table old new bytes to_come after count named flat kept ended all many = record {
   profile = profile;
   named = ap (λ n. profile_numbered (plain_number n)) kept ∙ named;
-  lefts = lefts;
   flat = flat;
   goes_on = λ unended. absurd (omega arith);
   none_come = λ _. ap (drop count) all ∙ ap (λ n. drop n after) (sym many) ∙ drop-length after;
@@ -275,7 +269,6 @@ ended-stays cell table old more other to_come spent s =
     record {
       profile = s.profile;
       named = s.named;
-      lefts = s.lefts;
       flat = s.flat;
       goes_on = λ unended. absurd (let ended = none.1 in omega arith);
       none_come = λ _. none.0;
@@ -296,7 +289,7 @@ pub record IsClosed (cell : ℕ → Cell) (table : FlatTable) (new : Stream) (by
   pub end : count < room → count ≡ length to_come
 
 -- how the call ends: with a full block, or with the end of the stream
-pub record Closes (profile : Profile) (cell : ℕ → Cell) (lefts : List Left) (old new : Stream) (done : Feeding) (piece : List ℕ) (given after : List Break) (count room : ℕ) : Type 0 where
+pub record Closes (profile : Profile) (cell : ℕ → Cell) (old new : Stream) (done : Feeding) (piece : List ℕ) (given after : List Break) (count room : ℕ) : Type 0 where
   pub within : done.count ≤ room
   pub many : length given ≡ done.count
   pub counted : length after ≡ count
@@ -306,22 +299,22 @@ pub record Closes (profile : Profile) (cell : ℕ → Cell) (lefts : List Left) 
   pub taken : done.count < room → done.taken ≡ length piece
   pub cut : done.count < room → done.cut.size ≡ 0
   pub ended : done.count < room → new.ended ≡ 1
-  pub end : done.count < room → (taken : List ℕ) → KnowsTaken cell lefts done.place.row taken → (0 < done.place.row → 0 < length taken)
+  pub end : done.count < room → (taken : List ℕ) → KnowsTaken cell done.place.row taken → (0 < done.place.row → 0 < length taken)
       → after ≡ given ++ end_in (goes_on old.profile) profile cell taken done.place.at
 
-pub Feeds-closed : (profile : Profile) (cell : ℕ → Cell) (table : FlatTable) (lefts : List Left) (base : ℕ) (old new : Stream) (piece : List ℕ) (to_come given after : List Break)
+pub Feeds-closed : (profile : Profile) (cell : ℕ → Cell) (table : FlatTable) (base : ℕ) (old new : Stream) (piece : List ℕ) (to_come given after : List Break)
     (done : Feeding) (count room : ℕ)
-    → profile_numbered (plain_number old.profile) ≡ Some profile → old.ended ≡ 0 → IsFlatBy lefts table cell → Closes profile cell lefts old new done piece given after count room
-    → Feeds profile cell lefts base piece [] done (ahead old.profile to_come) given
+    → profile_numbered (plain_number old.profile) ≡ Some profile → old.ended ≡ 0 → IsFlatOf table cell → Closes profile cell old new done piece given after count room
+    → Feeds profile cell base piece [] done (ahead old.profile to_come) given
     → IsClosed cell table new (drop done.taken piece ++ []) to_come after count room
-Feeds-closed profile cell table lefts base old new piece to_come given after done count room named unended flat x f =
+Feeds-closed profile cell table base old new piece to_come given after done count room named unended flat x f =
     ⊎_elim
     (λ (free : done.count < room).
     let all : to_come ≡ after =
-    Feeds-ended old.profile profile cell lefts base piece to_come given after done (x.cut free) (x.taken free) (x.end free) f in
+    Feeds-ended old.profile profile cell base piece to_come given after done (x.cut free) (x.taken free) (x.end free) f in
     record {
       front = sym (ap (take count) all ∙ ap (λ n. take n after) (sym x.counted) ∙ take-length after);
-      rest = Streams-end profile cell table lefts old new (drop done.taken piece ++ []) to_come after count named flat x.kept (x.ended free) all x.counted;
+      rest = Streams-end profile cell table old new (drop done.taken piece ++ []) to_come after count named flat x.kept (x.ended free) all x.counted;
       end = λ _. sym x.counted ∙ ap length (sym all);
     })
     (λ (no_room : room ≤ done.count).
@@ -330,9 +323,9 @@ Feeds-closed profile cell table lefts base old new piece to_come given after don
     let same : count ≡ done.count = sym x.counted ∙ ap length full.0 ∙ x.many in
     let many : length given ≡ count = x.many ∙ sym same in
     record {
-      front = full.0 ∙ Feeds-front old.profile profile cell lefts base piece [] to_come given done count many f;
+      front = full.0 ∙ Feeds-front old.profile profile cell base piece [] to_come given done count many f;
       rest =
-          Streams-next profile cell table lefts base old new piece [] to_come given done count named unended flat full.1 full.2 x.kept full.3 many f;
+          Streams-next profile cell table base old new piece [] to_come given done count named unended flat full.1 full.2 x.kept full.3 many f;
       end = λ free. absurd (omega arith);
     })
     (cases_lt done.count room)

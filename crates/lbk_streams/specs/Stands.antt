@@ -4,15 +4,14 @@ use Rattle.std.specs.Prelude.{length, drop, take}
 use Rattle.bstr.specs.Utf8.{pieces}
 use Rattle.lbk_rules.specs.declared.Break.{Break}
 use Rattle.lbk_rules.specs.declared.Cell.{Cell}
-use Rattle.lbk_rules.specs.declared.Left.{Left}
 use Rattle.lbk_values.specs.declared.profile.Profile.{Profile}
 use Rattle.lbk_values.specs.declared.profile.Profile.TheVariants.{Second}
 use Rattle.lbk_rules.specs.Classes.{hard}
 use Rattle.lbk_rules.specs.Breaks.{is_no}
-use Rattle.lbk_rules.specs.Codes.{IsCode, verdict_coded}
 use Rattle.lbk_rules.specs.Normal.{normal}
 use Rattle.lbk_rules.specs.declared.FlatTable.{FlatTable}
-use Rattle.lbk_rules.specs.FlatTable.{IsFlatBy, KnowsTaken}
+use Rattle.lbk_rules.specs.FlatTable.{IsFlatOf, KnowsTaken}
+use Rattle.lbk_rules.specs.Rows.{IsShown, verdict_shown}
 use Rattle.lbk_streams.specs.declared.stream.Cut.{Cut}
 use Rattle.lbk_streams.specs.declared.stream.Fed.{Fed}
 use Rattle.lbk_streams.specs.declared.stream.Feeding.{Feeding}
@@ -30,8 +29,8 @@ front_of cut = take cut.size cut.bytes
 -- a position waits: it stands before a quotation mark and the marks that join it
 pub record Waits (profile : Profile) (cell : ℕ → Cell) (taken : List ℕ) (place : Place) : Type 0 where
   pub second : profile ≡ Second
-  pub coded : IsCode place.held_code
-  pub breaks : is_no (verdict_coded place.held_code).kind ≡ false
+  pub coded : IsShown place.held_code
+  pub breaks : is_no (verdict_shown place.held_code).kind ≡ false
   pub before : place.held_at < place.at
   pub front : List ℕ
   pub last : ℕ
@@ -48,17 +47,17 @@ abbrev pub onward_of : Ahead → Onward
 onward_of all = onward_to (end_in all.goes_on)
 
 -- of all breaks these were given, and the others come from here on, where these bytes follow
-pub record Stands (profile : Profile) (cell : ℕ → Cell) (lefts : List Left) (place : Place) (bytes : List ℕ) (all : Ahead) (given : List Break) : Type 0 where
+pub record Stands (profile : Profile) (cell : ℕ → Cell) (place : Place) (bytes : List ℕ) (all : Ahead) (given : List Break) : Type 0 where
   pub taken : List ℕ
-  pub knows : KnowsTaken cell lefts place.row taken
+  pub knows : KnowsTaken cell place.row taken
   pub some : 0 < place.row → 0 < length taken
   pub fits : place.at + length bytes < 2 ^ 64
   pub waits : 0 < place.held_code → Waits profile cell taken place
   pub joined : all.breaks ≡ given ++ (late_break cell place bytes ++ onward_of all profile cell taken place.at (pieces bytes))
 
 -- how far a call has come with a piece, behind which these bytes follow; base: the place of the piece in the stream
-pub record Feeds (profile : Profile) (cell : ℕ → Cell) (lefts : List Left) (base : ℕ) (piece more : List ℕ) (here : Feeding) (all : Ahead) (given : List Break) : Type 0 where
-  pub stands : Stands profile cell lefts here.place (front_of here.cut ++ (drop here.taken piece ++ more)) all given
+pub record Feeds (profile : Profile) (cell : ℕ → Cell) (base : ℕ) (piece more : List ℕ) (here : Feeding) (all : Ahead) (given : List Break) : Type 0 where
+  pub stands : Stands profile cell here.place (front_of here.cut ++ (drop here.taken piece ++ more)) all given
   pub seen : here.place.at + here.cut.size ≡ base + here.taken
 
 -- a call gave no more breaks from one place to another than bytes were taken between them, and a position waited
@@ -89,9 +88,8 @@ ahead number to_come = record { breaks = to_come; goes_on = goes_on number }
 pub record Streams (cell : ℕ → Cell) (table : FlatTable) (stream : Stream) (more : List ℕ) (to_come : List Break) : Type 0 where
   pub profile : Profile
   pub named : profile_numbered (plain_number stream.profile) ≡ Some profile
-  pub lefts : List Left
-  pub flat : IsFlatBy lefts table cell
-  pub goes_on : stream.ended ≡ 0 → Stands profile cell lefts (place_of stream) (cut_bytes stream ++ more) (ahead stream.profile to_come) []
+  pub flat : IsFlatOf table cell
+  pub goes_on : stream.ended ≡ 0 → Stands profile cell (place_of stream) (cut_bytes stream ++ more) (ahead stream.profile to_come) []
   pub none_come : 0 < stream.ended → to_come ≡ []
 
 -- what a call does with a piece, behind which these bytes follow

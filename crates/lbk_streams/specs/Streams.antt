@@ -7,10 +7,10 @@ use Rattle.lbk_rules.specs.declared.Break.{Break}
 use Rattle.lbk_rules.specs.declared.Cell.{Cell}
 use Rattle.lbk_values.specs.declared.profile.Profile.{Profile}
 use Rattle.lbk_rules.specs.Breaks.{is_no}
-use Rattle.lbk_rules.specs.Codes.{verdict_coded}
 use Rattle.lbk_rules.specs.Normal.{normal}
 use Rattle.lbk_rules.specs.Sides.{leaves_closed}
 use Rattle.lbk_rules.specs.Units.{units_after}
+use Rattle.lbk_rules.specs.Rows.{verdict_shown}
 use Rattle.lbk_streams.specs.declared.stream.Place.{Place}
 use Rattle.lbk_streams.specs.declared.stream.Stream.{Stream}
 use Rattle.lbk_bytes.specs.Bytes.{with_break}
@@ -68,7 +68,7 @@ abbrev pub late_break : (ℕ → Cell) → Place → List ℕ → List Break
 late_break cell place bytes =
     if place.held_code == 0 || leaves_closed (units_after false (cells_of cell bytes))
     then []
-    else with_break place.held_at (verdict_coded place.held_code) []
+    else with_break place.held_at (verdict_shown place.held_code) []
 
 -- These breaks are to come, and the bytes so far settle none of them: all stand where the last bytes could be part of a
 -- scalar yet, or behind all bytes, but for one at most that waits for the next unit
@@ -77,4 +77,4 @@ pub record AreUnsettled (cell : ℕ → Cell) (stream : Stream) (more : List ℕ
   pub later : List Break
   pub onward : AllByRecursion (λ found. stream.at ≤ found.at) later
   pub joined : to_come ≡ late_break cell (place_of stream) (cut_bytes stream ++ more) ++ later
-  pub waits : 0 < stream.held_code → (stream.held_at < stream.at) × (is_no (verdict_coded stream.held_code).kind ≡ false)
+  pub waits : 0 < stream.held_code → (stream.held_at < stream.at) × (is_no (verdict_shown stream.held_code).kind ≡ false)

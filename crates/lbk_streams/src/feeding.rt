@@ -3,8 +3,7 @@
 ghost use Rattle.std.specs.Prelude.{◌≡◌, ◌⊎◌, ℕ, ◌+◌, ◌-◌, ◌^◌, ◌<◌, ◌≤◌, ◌++◌, true, false, List, drop, length};
 ghost use Rattle.bstr.specs.Utf8.{decoded};
 ghost use Rattle.lbk_rules.specs.declared.Cell.{Cell};
-ghost use Rattle.lbk_rules.specs.declared.Left.{Left};
-ghost use Rattle.lbk_rules.specs.FlatTable.{IsFlatBy};
+ghost use Rattle.lbk_rules.specs.FlatTable.{IsFlatOf};
 ghost use Rattle.lbk_bytes.specs.Order.{AreBreaks};
 ghost use Rattle.lbk_bytes.specs.Shown.{given_in};
 ghost use Rattle.lbk_streams.specs.Stands.{Ahead, AreFew, Feeds, IsOrdered, front_of};
@@ -36,10 +35,10 @@ pub(crate) fn take_piece(
     ensures counted { AreFew start result }
     ensures ordered { (base from : ℕ) → base + length piece.now < 2 ^ 64 → IsOrdered out.old base from start
         → IsOrdered out.new base from result }
-    ensures feeds { (cell : ℕ → Cell) (lefts : List Left) (base : ℕ) (more : List ℕ) (all : Ahead)
-        → IsFlatBy lefts table.now cell
-        → Feeds profile cell lefts base piece.now more start all (given_in out.old start.count)
-        → Feeds profile cell lefts base piece.now more result all (given_in out.new result.count) }
+    ensures feeds { (cell : ℕ → Cell) (base : ℕ) (more : List ℕ) (all : Ahead)
+        → IsFlatOf table.now cell
+        → Feeds profile cell base piece.now more start all (given_in out.old start.count)
+        → Feeds profile cell base piece.now more result all (given_in out.new result.count) }
 {
     let mut here = drain(table, profile, start, out);
     while here.count < out.len() && here.taken < piece.len() {
@@ -59,10 +58,10 @@ fn drain(table: &FlatTable, profile: Profile, start: Feeding, out: &mut [RawBrea
     ensures counted { AreFew start result }
     ensures ordered { (base from : ℕ) → base + start.taken < 2 ^ 64 → IsOrdered out.old base from start
         → IsOrdered out.new base from result }
-    ensures feeds { (cell : ℕ → Cell) (lefts : List Left) (base : ℕ) (piece more : List ℕ) (all : Ahead)
-        → IsFlatBy lefts table.now cell
-        → Feeds profile cell lefts base piece more start all (given_in out.old start.count)
-        → Feeds profile cell lefts base piece more result all (given_in out.new result.count) }
+    ensures feeds { (cell : ℕ → Cell) (base : ℕ) (piece more : List ℕ) (all : Ahead)
+        → IsFlatOf table.now cell
+        → Feeds profile cell base piece more start all (given_in out.old start.count)
+        → Feeds profile cell base piece more result all (given_in out.new result.count) }
 {
     let mut here = start;
     while here.count < out.len() && is_whole(&here.cut) {
@@ -99,11 +98,11 @@ pub(crate) fn take_cut(
     ensures counted { AreFew here result }
     ensures ordered { (base from : ℕ) → base + here.taken < 2 ^ 64 → IsOrdered out.old base from here
         → IsOrdered out.new base from result }
-    ensures feeds { (cell : ℕ → Cell) (lefts : List Left) (base : ℕ) (piece more : List ℕ) (all : Ahead)
-        → IsFlatBy lefts table.now cell
+    ensures feeds { (cell : ℕ → Cell) (base : ℕ) (piece more : List ℕ) (all : Ahead)
+        → IsFlatOf table.now cell
         → decoded (front_of here.cut ++ (drop here.taken piece ++ more)) ≡ decoded (front_of here.cut)
-        → Feeds profile cell lefts base piece more here all (given_in out.old here.count)
-        → Feeds profile cell lefts base piece more result all (given_in out.new result.count) }
+        → Feeds profile cell base piece more here all (given_in out.old here.count)
+        → Feeds profile cell base piece more result all (given_in out.new result.count) }
 {
     let front = front_of(&here.cut);
     let (c, size) = decode_lossy(front);
@@ -143,10 +142,10 @@ fn take_more(
     ensures counted { AreFew here result }
     ensures ordered { (base from : ℕ) → base + length piece.now < 2 ^ 64 → IsOrdered out.old base from here
         → IsOrdered out.new base from result }
-    ensures feeds { (cell : ℕ → Cell) (lefts : List Left) (base : ℕ) (more : List ℕ) (all : Ahead)
-        → IsFlatBy lefts table.now cell
-        → Feeds profile cell lefts base piece.now more here all (given_in out.old here.count)
-        → Feeds profile cell lefts base piece.now more result all (given_in out.new result.count) }
+    ensures feeds { (cell : ℕ → Cell) (base : ℕ) (more : List ℕ) (all : Ahead)
+        → IsFlatOf table.now cell
+        → Feeds profile cell base piece.now more here all (given_in out.old here.count)
+        → Feeds profile cell base piece.now more result all (given_in out.new result.count) }
 {
     if here.cut.size == 0 {
         if 3 < piece.len() - here.taken {
@@ -179,10 +178,10 @@ fn take_run(
     ensures counted { AreFew here result }
     ensures ordered { (base from : ℕ) → base + length piece.now < 2 ^ 64 → IsOrdered out.old base from here
         → IsOrdered out.new base from result }
-    ensures feeds { (cell : ℕ → Cell) (lefts : List Left) (base : ℕ) (more : List ℕ) (all : Ahead)
-        → IsFlatBy lefts table.now cell
-        → Feeds profile cell lefts base piece.now more here all (given_in out.old here.count)
-        → Feeds profile cell lefts base piece.now more result all (given_in out.new result.count) }
+    ensures feeds { (cell : ℕ → Cell) (base : ℕ) (more : List ℕ) (all : Ahead)
+        → IsFlatOf table.now cell
+        → Feeds profile cell base piece.now more here all (given_in out.old here.count)
+        → Feeds profile cell base piece.now more result all (given_in out.new result.count) }
 {
     let rest = &piece[here.taken..];
     let (c, size) = decode_lossy(rest);

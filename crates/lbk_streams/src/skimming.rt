@@ -2,8 +2,8 @@
 
 ghost use Rattle.std.specs.Prelude.{◌≡◌, ℕ, ◌+◌, ◌-◌, ◌^◌, ◌<◌, ◌≤◌, ◌++◌, [], List, drop, length, map};
 ghost use Rattle.lbk_rules.specs.declared.Cell.{Cell};
-ghost use Rattle.lbk_rules.specs.declared.Left.{Left};
-ghost use Rattle.lbk_rules.specs.FlatTable.{IsFlatBy};
+ghost use Rattle.lbk_rules.specs.FlatTable.{IsFlatOf};
+ghost use Rattle.lbk_rules.specs.Rows.{IsPlace};
 ghost use Rattle.lbk_streams.specs.declared.stream.Place.{Place};
 ghost use Rattle.lbk_bytes.specs.Order.{AreBreaks, AreInOrder};
 ghost use Rattle.lbk_bytes.specs.Shown.{given_in};
@@ -11,7 +11,7 @@ ghost use Rattle.lbk_streams.specs.Stands.{Ahead, AreFew, Feeds, IsOrdered, Stan
 
 use crate::stream::{Feeding, Place};
 use lbk_bytes::{FillState, RawBreak, fill_common};
-use lbk_rules::{FlatTable, Profile};
+use lbk_rules::{FlatTable, Profile, place_by};
 
 /// Goes on until a scalar needs care, the block is full or the piece ends.
 pub(crate) fn skim(
@@ -29,10 +29,10 @@ pub(crate) fn skim(
     ensures counted { AreFew here result }
     ensures ordered { (base from : ℕ) → base + length piece.now < 2 ^ 64 → IsOrdered out.old base from here
         → IsOrdered out.new base from result }
-    ensures feeds { (cell : ℕ → Cell) (lefts : List Left) (base : ℕ) (more : List ℕ) (all : Ahead)
-        → IsFlatBy lefts table.now cell
-        → Feeds profile cell lefts base piece.now more here all (given_in out.old here.count)
-        → Feeds profile cell lefts base piece.now more result all (given_in out.new result.count) }
+    ensures feeds { (cell : ℕ → Cell) (base : ℕ) (more : List ℕ) (all : Ahead)
+        → IsFlatOf table.now cell
+        → Feeds profile cell base piece.now more here all (given_in out.old here.count)
+        → Feeds profile cell base piece.now more result all (given_in out.new result.count) }
 {
     let end = skim_into(
         table,
@@ -65,22 +65,22 @@ fn skim_into(
     room: &mut [RawBreak],
 ) -> FillState
     requires { from ≤ length piece.now }
-    ensures within { (result.count ≤ length room.old) × (result.row < 65536) × (from ≤ result.at)
+    ensures within { (result.count ≤ length room.old) × IsPlace result.row × (from ≤ result.at)
         × (result.at ≤ length piece.now) }
     ensures breaks { AreBreaks room.new result.count }
     ensures few { result.count + from ≤ result.at }
     ensures in_order { from ≤ place.at → place.at + (result.at - from) < 2 ^ 64
         → AreInOrder room.new result.count place.at (place.at + (result.at - from)) }
-    ensures stands { (cell : ℕ → Cell) (lefts : List Left) (more : List ℕ) (all : Ahead) (next : Place)
-        → IsFlatBy lefts table.now cell
+    ensures stands { (cell : ℕ → Cell) (more : List ℕ) (all : Ahead) (next : Place)
+        → IsFlatOf table.now cell
         → place.held_code ≡ 0 → 0 < from → from ≤ place.at
         → next.at ≡ place.at + (result.at - from) → next.row ≡ result.row → next.held_code ≡ 0
-        → Stands profile cell lefts place (drop from piece.now ++ more) all []
-        → Stands profile cell lefts next (drop result.at piece.now ++ more) all (given_in room.new result.count) }
+        → Stands profile cell place (drop from piece.now ++ more) all []
+        → Stands profile cell next (drop result.at piece.now ++ more) all (given_in room.new result.count) }
 {
     let start = FillState {
         count: 0,
-        row: place.row as usize,
+        row: place_by(place.row),
         at: from,
     };
     let end = fill_common(table, profile, start, piece, room);

@@ -4,10 +4,9 @@ ghost use Rattle.std.specs.Prelude.{◌≡◌, ◌⊎◌, ℕ, Bool, suc, min, �
 ghost use Rattle.std.specs.Prelude.{List, MatchOption, None, Some, drop, length, map, take};
 ghost use Rattle.lbk_rules.specs.declared.Break.{Break};
 ghost use Rattle.lbk_rules.specs.declared.Cell.{Cell};
-ghost use Rattle.lbk_rules.specs.declared.Left.{Left};
 ghost use Rattle.lbk_values.specs.declared.profile.Profile.{Profile};
 ghost use Rattle.lbk_rules.specs.Joins.{moved};
-ghost use Rattle.lbk_rules.specs.FlatTable.{IsFlatBy, IsFlatOf, KnowsTaken};
+ghost use Rattle.lbk_rules.specs.FlatTable.{IsFlatOf, KnowsTaken};
 ghost use Rattle.lbk_bytes.specs.Bytes.{breaks_of_bytes, breaks_of_part, end_in};
 ghost use Rattle.lbk_bytes.specs.Order.{AreBreaks, AreInOrder};
 ghost use Rattle.lbk_bytes.specs.Shown.{given_in};
@@ -20,7 +19,7 @@ use crate::cutting::cut_of;
 use crate::feeding::{take_cut, take_piece};
 use crate::stream::{Fed, Feeding, Place, Stream};
 use lbk_bytes::{RawBreak, goes_on, plain_number, profile_numbered, put_end};
-use lbk_rules::{FlatTable, Profile};
+use lbk_rules::{FlatTable, Profile, place_by};
 
 /// Takes the next piece of a stream, and puts the breaks that it settles (UAX #14, section 3) into the front of the
 /// block, as many as that holds. All bytes of the piece are taken, unless the block is full. Where `last`, nothing
@@ -142,7 +141,7 @@ fn go_with(
     let here = take_piece(table, profile, start, piece, out);
     if last {
         let done = finish(table, profile, here, out);
-        return close(table, stream, done, out);
+        return close(stream, done, out);
     }
     keep(stream, here);
     Fed {
@@ -209,11 +208,11 @@ fn finish(table: &FlatTable, profile: Profile, start: Feeding, out: &mut [RawBre
     ensures counted { AreFew start result }
     ensures ordered { (base from : ℕ) → base + start.taken < 2 ^ 64 → IsOrdered out.old base from start
         → IsOrdered out.new base from result }
-    ensures feeds { (cell : ℕ → Cell) (lefts : List Left) (base : ℕ) (piece : List ℕ) (all : Ahead)
-        → IsFlatBy lefts table.now cell
+    ensures feeds { (cell : ℕ → Cell) (base : ℕ) (piece : List ℕ) (all : Ahead)
+        → IsFlatOf table.now cell
         → (start.count < length out.old → start.taken ≡ length piece)
-        → Feeds profile cell lefts base piece [] start all (given_in out.old start.count)
-        → Feeds profile cell lefts base piece [] result all (given_in out.new result.count) }
+        → Feeds profile cell base piece [] start all (given_in out.old start.count)
+        → Feeds profile cell base piece [] result all (given_in out.new result.count) }
 {
     let mut here = start;
     while here.count < out.len() && 0 < here.cut.size {
@@ -223,7 +222,7 @@ fn finish(table: &FlatTable, profile: Profile, start: Feeding, out: &mut [RawBre
 }
 
 /// Writes how far a call has come into the stream, and the break at its end, where the block has room for it.
-fn close(table: &FlatTable, stream: &mut Stream, here: Feeding, out: &mut [RawBreak]) -> Fed
+fn close(stream: &mut Stream, here: Feeding, out: &mut [RawBreak]) -> Fed
     requires { (here.cut.size ≤ 4) × (here.count ≤ length out.old) }
     ensures within { (result.count ≤ length out.old) × (result.taken ≡ here.taken) }
     ensures breaks { AreBreaks out.old here.count → AreBreaks out.new result.count }
@@ -242,8 +241,8 @@ fn close(table: &FlatTable, stream: &mut Stream, here: Feeding, out: &mut [RawBr
     ensures seen { (stream.new.at ≡ here.place.at) × (length (cut_bytes stream.new) ≡ here.cut.size)
         × (stream.new.cut_size ≡ here.cut.size) }
     ensures end { here.count < length out.old
-        → (profile : Profile) (cell : ℕ → Cell) (lefts : List Left) (taken : List ℕ) → IsFlatBy lefts table.now cell
-        → KnowsTaken cell lefts here.place.row taken → (0 < here.place.row → 0 < length taken)
+        → (profile : Profile) (cell : ℕ → Cell) (taken : List ℕ)
+        → KnowsTaken cell here.place.row taken → (0 < here.place.row → 0 < length taken)
         → given_in out.new result.count ≡ given_in out.old here.count
         ++ end_in (goes_on stream.old.profile) profile cell taken here.place.at }
 {
@@ -257,8 +256,8 @@ fn close(table: &FlatTable, stream: &mut Stream, here: Feeding, out: &mut [RawBr
     }
     stream.ended = 1;
     stream.held_code = 0;
-    let row = here.place.row as usize;
-    let count = put_end(table, goes_on, row, out, here.count, here.place.at as usize);
+    let row = place_by(here.place.row);
+    let count = put_end(goes_on, row, out, here.count, here.place.at as usize);
     Fed {
         taken: here.taken,
         count,

@@ -4,21 +4,20 @@ ghost use Rattle.std.specs.Prelude.{◌≡◌, ℕ, min, ◌+◌, ◌<◌, ◌�
 ghost use Rattle.std.specs.Prelude.{if◌then◌else◌};
 ghost use Rattle.bstr.specs.Utf8.{decoded, or_replacement};
 ghost use Rattle.lbk_rules.specs.declared.Cell.{Cell};
-ghost use Rattle.lbk_rules.specs.declared.Left.{Left};
 ghost use Rattle.lbk_values.specs.declared.profile.Profile.{Profile};
 ghost use Rattle.lbk_values.specs.declared.profile.Profile.TheVariants.{Second};
 ghost use Rattle.lbk_rules.specs.Breaks.{is_no};
 ghost use Rattle.lbk_rules.specs.Classes.{mark};
-ghost use Rattle.lbk_rules.specs.Codes.{verdict_coded};
 ghost use Rattle.lbk_rules.specs.Normal.{normal};
-ghost use Rattle.lbk_rules.specs.FlatTable.{AreFlatKinds, IsFlatBy};
+ghost use Rattle.lbk_rules.specs.FlatTable.{AreFlatKinds, IsFlatOf};
+ghost use Rattle.lbk_rules.specs.Rows.{IsShown, verdict_shown};
 ghost use Rattle.lbk_bytes.specs.Order.{AreBreaks};
 ghost use Rattle.lbk_bytes.specs.Shown.{given_in};
 ghost use Rattle.lbk_streams.specs.Stands.{Ahead, IsPlaced, Stands};
 
 use crate::stream::Place;
-use lbk_bytes::{RawBreak, put, step_at, steps_of};
-use lbk_rules::{FlatTable, HELD, Profile, is_break};
+use lbk_bytes::{RawBreak, put};
+use lbk_rules::{FlatTable, HELD, Profile, place_by, shown_by, shows_break, step_in};
 
 /// A place, and how many breaks stand in the front of the block.
 #[derive(Clone, Copy)]
@@ -48,11 +47,11 @@ pub(crate) fn take_scalar(
     ensures at { result.place.at ≡ (if result.passed then (place.at + size) % 2 ^ 64 else place.at) }
     ensures placed { (from : ℕ) → 0 < size → place.at + size < 2 ^ 64 → IsPlaced out.old count from place
         → IsPlaced out.new result.count from result.place }
-    ensures stands { (cell : ℕ → Cell) (lefts : List Left) (bytes : List ℕ) (all : Ahead)
-        → IsFlatBy lefts table.now cell
+    ensures stands { (cell : ℕ → Cell) (bytes : List ℕ) (all : Ahead)
+        → IsFlatOf table.now cell
         → 0 < length bytes → c ≡ or_replacement (decoded bytes).char → size ≡ (decoded bytes).size
-        → Stands profile cell lefts place bytes all (given_in out.old count)
-        → Stands profile cell lefts result.place (if result.passed then drop size bytes else bytes) all
+        → Stands profile cell place bytes all (given_in out.old count)
+        → Stands profile cell result.place (if result.passed then drop size bytes else bytes) all
         (given_in out.new result.count) }
 {
     let met = meet(table, place, c, out, count);
@@ -73,11 +72,11 @@ fn meet(table: &FlatTable, place: Place, c: char, out: &mut [RawBreak], count: u
     ensures placed { (from : ℕ) → IsPlaced out.old count from place → IsPlaced out.new result.count from result.place }
     ensures joins { (cell : ℕ → Cell) → AreFlatKinds table.now.kinds cell → 0 < result.place.held_code
         → mark (normal (cell c)).class ≡ true }
-    ensures stands { (profile : Profile) (cell : ℕ → Cell) (lefts : List Left) (bytes : List ℕ) (all : Ahead)
-        → IsFlatBy lefts table.now cell
+    ensures stands { (profile : Profile) (cell : ℕ → Cell) (bytes : List ℕ) (all : Ahead)
+        → IsFlatOf table.now cell
         → 0 < length bytes → c ≡ or_replacement (decoded bytes).char
-        → Stands profile cell lefts place bytes all (given_in out.old count)
-        → Stands profile cell lefts result.place bytes all (given_in out.new result.count) }
+        → Stands profile cell place bytes all (given_in out.old count)
+        → Stands profile cell result.place bytes all (given_in out.new result.count) }
 {
     if place.held_code == 0 {
         return Step {
@@ -107,7 +106,8 @@ fn meet(table: &FlatTable, place: Place, c: char, out: &mut [RawBreak], count: u
             passed: false,
         };
     }
-    let more = put(out, count, place.held_at as usize, place.held_code);
+    let shown = shown_by(place.held_code);
+    let more = put(out, count, place.held_at as usize, shown);
     Step {
         place: free,
         count: more,
@@ -133,16 +133,16 @@ fn pass(
     ensures at { result.place.at ≡ (place.at + size) % 2 ^ 64 }
     ensures placed { (from : ℕ) → 0 < size → place.at + size < 2 ^ 64 → IsPlaced out.old count from place
         → IsPlaced out.new result.count from result.place }
-    ensures stands { (cell : ℕ → Cell) (lefts : List Left) (bytes : List ℕ) (all : Ahead)
-        → IsFlatBy lefts table.now cell
+    ensures stands { (cell : ℕ → Cell) (bytes : List ℕ) (all : Ahead)
+        → IsFlatOf table.now cell
         → 0 < length bytes → c ≡ or_replacement (decoded bytes).char → size ≡ (decoded bytes).size
         → (0 < place.held_code → mark (normal (cell c)).class ≡ true)
-        → Stands profile cell lefts place bytes all (given_in out.old count)
-        → Stands profile cell lefts result.place (drop size bytes) all (given_in out.new result.count) }
+        → Stands profile cell place bytes all (given_in out.old count)
+        → Stands profile cell result.place (drop size bytes) all (given_in out.new result.count) }
 {
     let kind = table.kinds[c as usize];
-    let row = place.row as usize;
-    let first = step_at(&table.first, row, kind);
+    let row = place_by(place.row);
+    let first = step_in(Profile::First, row, kind);
     let at = place.at.wrapping_add(size as u64);
     if place.held_code != 0 {
         return Step {
@@ -156,21 +156,20 @@ fn pass(
             passed: true,
         };
     }
-    let steps = steps_of(table, profile);
-    let step = step_at(steps, row, kind);
-    if waits(profile, step.code, first.code) {
+    let step = step_in(profile, row, kind);
+    if waits(profile, step.shown, first.shown) {
         return Step {
             place: Place {
                 at,
                 held_at: place.at,
                 row: first.next,
-                held_code: first.code,
+                held_code: first.shown,
             },
             count,
             passed: true,
         };
     }
-    let more = put(out, count, place.at as usize, step.code);
+    let more = put(out, count, place.at as usize, step.shown);
     Step {
         place: Place {
             at,
@@ -185,12 +184,14 @@ fn pass(
 
 /// Whether a position waits for what follows: by rule 15b it is no break where the quotation is closed, and where it
 /// stays open the first profile decides.
-fn waits(profile: Profile, code: u16, otherwise: u16) -> bool
-    ensures held { result ≡ true → (profile ≡ Second) × (code ≡ HELD) × (is_no (verdict_coded otherwise).kind ≡ false) }
-    ensures decided { result ≡ false → profile ≡ Second → code ≡ HELD → is_no (verdict_coded otherwise).kind ≡ true }
+fn waits(profile: Profile, shown: u16, otherwise: u16) -> bool
+    requires { IsShown otherwise }
+    ensures held { result ≡ true
+        → (profile ≡ Second) × (shown ≡ HELD) × (is_no (verdict_shown otherwise).kind ≡ false) }
+    ensures decided { result ≡ false → profile ≡ Second → shown ≡ HELD → is_no (verdict_shown otherwise).kind ≡ true }
 {
     match profile {
         Profile::First => false,
-        Profile::Second => code == HELD && is_break(otherwise),
+        Profile::Second => shown == HELD && shows_break(otherwise),
     }
 }

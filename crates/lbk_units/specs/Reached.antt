@@ -3,11 +3,10 @@ use Rattle.std.specs.Prelude.{◌≡◌, ℕ, ◌+◌, ◌<◌, List, [], ◌∷
 use Rattle.bstr.specs.Utf8.{Decoded, or_replacement}
 use Rattle.lbk_rules.specs.declared.Break.{Break}
 use Rattle.lbk_rules.specs.declared.Cell.{Cell}
-use Rattle.lbk_rules.specs.declared.Left.{Left}
 use Rattle.lbk_values.specs.declared.profile.Profile.{Profile}
-use Rattle.lbk_rules.specs.Codes.{IsCode, verdict_coded}
 use Rattle.lbk_rules.specs.Verdict.{verdict_between_in}
 use Rattle.lbk_rules.specs.FlatTable.{KnowsTaken}
+use Rattle.lbk_rules.specs.Rows.{verdict_shown}
 use Rattle.lbk_bytes.specs.declared.deciding.Decided.{Decided}
 use Rattle.lbk_bytes.specs.declared.fill_state.FillState.{FillState}
 use Rattle.lbk_bytes.specs.Reached.{Onward, onward, scalars_of}
@@ -17,23 +16,22 @@ abbrev pub on_from : {A : Type 0} → (List A → List Decoded) → List A → �
 on_from pieces_of text at = pieces_of (drop at text)
 
 -- after the scalars taken, the position at this unit is decided, and what begins there is taken
-pub record IsUnitDecided (profile : Profile) (cell : ℕ → Cell) (lefts : List Left) (on : ℕ → List Decoded) (at : ℕ) (taken : List ℕ) (found : Decided) : Type 0 where
+pub record IsUnitDecided (profile : Profile) (cell : ℕ → Cell) (on : ℕ → List Decoded) (at : ℕ) (taken : List ℕ) (found : Decided) : Type 0 where
   pub piece : Decoded
   pub begins : on at ≡ piece ∷ on found.at
   pub moved : found.at ≡ at + piece.size
   pub some : 0 < piece.size
-  pub knows : KnowsTaken cell lefts found.row (taken ++ or_replacement piece.char ∷ [])
-  pub coded : IsCode found.code
-  pub decides : verdict_coded found.code
+  pub knows : KnowsTaken cell found.row (taken ++ or_replacement piece.char ∷ [])
+  pub decides : verdict_shown found.shown
       ≡ verdict_between_in profile (map cell taken) (cell (or_replacement piece.char) ∷ map cell (scalars_of (on found.at)))
 
 -- of all these some were given, and the others come from here on
-pub record UnitsReachedBy (from : Onward) (profile : Profile) (cell : ℕ → Cell) (lefts : List Left) (on : ℕ → List Decoded) (all : List Break) (here : FillState) (given : List Break) : Type 0 where
+pub record UnitsReachedBy (from : Onward) (profile : Profile) (cell : ℕ → Cell) (on : ℕ → List Decoded) (all : List Break) (here : FillState) (given : List Break) : Type 0 where
   pub taken : List ℕ
-  pub knows : KnowsTaken cell lefts here.row taken
+  pub knows : KnowsTaken cell here.row taken
   pub some : 0 < here.row → 0 < length taken
   pub joined : all ≡ given ++ from profile cell taken here.at (on here.at)
 
 -- the same of breaks
-abbrev pub UnitsReached : Profile → (ℕ → Cell) → List Left → (ℕ → List Decoded) → List Break → FillState → List Break → Type 0
+abbrev pub UnitsReached : Profile → (ℕ → Cell) → (ℕ → List Decoded) → List Break → FillState → List Break → Type 0
 UnitsReached = UnitsReachedBy onward

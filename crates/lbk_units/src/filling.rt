@@ -3,17 +3,17 @@
 ghost use Rattle.std.specs.Prelude.{◌≡◌, ℕ, ◌+◌, ◌<◌, ◌≤◌, List, length};
 ghost use Rattle.lbk_rules.specs.declared.Break.{Break};
 ghost use Rattle.lbk_rules.specs.declared.Cell.{Cell};
-ghost use Rattle.lbk_rules.specs.declared.Left.{Left};
 ghost use Rattle.lbk_values.specs.declared.profile.Profile.{Profile};
-ghost use Rattle.lbk_rules.specs.FlatTable.{AreFlatKinds, IsFlatBy};
-ghost use Rattle.lbk_bytes.specs.Reached.{AreSwift, IsInOrder};
+ghost use Rattle.lbk_rules.specs.FlatTable.{AreFlatKinds, IsFlatOf};
+ghost use Rattle.lbk_rules.specs.Rows.{AreSteps, IsPlace, steps_in};
+ghost use Rattle.lbk_bytes.specs.Reached.{IsInOrder};
 ghost use Rattle.lbk_bytes.specs.Shown.{given_in};
 ghost use Rattle.lbk_units.specs.Reached.{UnitsReached, on_from};
 
 use crate::deciding::decide_unit;
 use crate::unit::Unit;
-use lbk_bytes::{FillState, RawBreak, put, step_at, steps_of};
-use lbk_rules::{FlatStep, FlatTable, HELD, Profile, STEPS};
+use lbk_bytes::{FillState, RawBreak, put};
+use lbk_rules::{FlatTable, HELD, Profile, Rows, rows_of, step_at};
 
 /// How many codes there are.
 const CODES: usize = 0x11_0000;
@@ -27,15 +27,15 @@ pub fn fill_units<U: Unit>(
     text: &[U],
     out: &mut [RawBreak],
 ) -> FillState
-    requires { (start.count ≤ length out.old) × (start.row < 65536) × (start.at ≤ length text.now) }
-    ensures within { (result.count ≤ length out.old) × (result.row < 65536) × (result.at ≤ length text.now) }
+    requires { (start.count ≤ length out.old) × IsPlace start.row × (start.at ≤ length text.now) }
+    ensures within { (result.count ≤ length out.old) × IsPlace result.row × (result.at ≤ length text.now) }
     ensures stops { result.count < length out.old → result.at ≡ length text.now }
     ensures no_room { length out.old ≡ 0 → result ≡ start }
     ensures in_order { (from : ℕ) → IsInOrder out.old start.count from start.at
         → IsInOrder out.new result.count from result.at }
-    ensures reached { (cell : ℕ → Cell) (lefts : List Left) (all : List Break) → IsFlatBy lefts table.now cell
-        → UnitsReached profile cell lefts (on_from U.pieces_of text.now) all start (given_in out.old start.count)
-        → UnitsReached profile cell lefts (on_from U.pieces_of text.now) all result (given_in out.new result.count) }
+    ensures reached { (cell : ℕ → Cell) (all : List Break) → IsFlatOf table.now cell
+        → UnitsReached profile cell (on_from U.pieces_of text.now) all start (given_in out.old start.count)
+        → UnitsReached profile cell (on_from U.pieces_of text.now) all result (given_in out.new result.count) }
 {
     let mut here = start;
     while here.count < out.len() && here.at < text.len() {
@@ -53,41 +53,43 @@ fn further<U: Unit>(
     text: &[U],
     out: &mut [RawBreak],
 ) -> FillState
-    requires { (here.count < length out.old) × (here.row < 65536) × (here.at < length text.now) }
-    ensures within { (result.count ≤ length out.old) × (result.row < 65536) × (result.at ≤ length text.now) }
+    requires { (here.count < length out.old) × IsPlace here.row × (here.at < length text.now) }
+    ensures within { (result.count ≤ length out.old) × IsPlace result.row × (result.at ≤ length text.now) }
     ensures onward { here.count + here.at < result.count + result.at }
     ensures in_order { (from : ℕ) → IsInOrder out.old here.count from here.at
         → IsInOrder out.new result.count from result.at }
     ensures both { (here.count ≤ result.count) × (here.at ≤ result.at) }
-    ensures reached { (cell : ℕ → Cell) (lefts : List Left) (all : List Break) → IsFlatBy lefts table.now cell
-        → UnitsReached profile cell lefts (on_from U.pieces_of text.now) all here (given_in out.old here.count)
-        → UnitsReached profile cell lefts (on_from U.pieces_of text.now) all result (given_in out.new result.count) }
+    ensures reached { (cell : ℕ → Cell) (all : List Break) → IsFlatOf table.now cell
+        → UnitsReached profile cell (on_from U.pieces_of text.now) all here (given_in out.old here.count)
+        → UnitsReached profile cell (on_from U.pieces_of text.now) all result (given_in out.new result.count) }
 {
-    let past = run(&table.kinds, steps_of(table, profile), here, text, out);
+    let past = run(&table.kinds, rows_of(profile), here, text, out);
     if past.at < text.len() && past.count < out.len() {
         return take_one(table, profile, past, text, out);
     }
     past
 }
 
-/// Takes scalars as long as no held position comes. It calls nothing, so that all it has stays in registers.
-#[inline(always)]
+/// Takes scalars as long as no held position comes. It calls nothing and stands apart, so that all it has stays in
+/// registers.
+#[inline(never)]
 fn run<U: Unit>(
     kinds: &[u8; CODES],
-    steps: &[FlatStep; STEPS],
+    steps: &Rows,
     start: FillState,
     text: &[U],
     out: &mut [RawBreak],
 ) -> FillState
-    requires { (start.count ≤ length out.old) × (start.row < 65536) × (start.at ≤ length text.now) }
-    ensures within { (result.count ≤ length out.old) × (result.row < 65536) × (result.at ≤ length text.now) }
+    requires place { (start.count ≤ length out.old) × IsPlace start.row × (start.at ≤ length text.now) }
+    requires steps { AreSteps steps.now }
+    ensures within { (result.count ≤ length out.old) × IsPlace result.row × (result.at ≤ length text.now) }
     ensures onward { (start.at ≤ result.at) × (start.count ≤ result.count) }
     ensures in_order { (from : ℕ) → IsInOrder out.old start.count from start.at
         → IsInOrder out.new result.count from result.at }
-    ensures reached { (profile : Profile) (cell : ℕ → Cell) (lefts : List Left) (all : List Break)
-        → AreSwift profile lefts steps.now → AreFlatKinds kinds.now cell
-        → UnitsReached profile cell lefts (on_from U.pieces_of text.now) all start (given_in out.old start.count)
-        → UnitsReached profile cell lefts (on_from U.pieces_of text.now) all result (given_in out.new result.count) }
+    ensures reached { (profile : Profile) (cell : ℕ → Cell) (all : List Break)
+        → steps.now ≡ steps_in profile → AreFlatKinds kinds.now cell
+        → UnitsReached profile cell (on_from U.pieces_of text.now) all start (given_in out.old start.count)
+        → UnitsReached profile cell (on_from U.pieces_of text.now) all result (given_in out.new result.count) }
 {
     let mut count = start.count;
     let mut row = start.row;
@@ -95,10 +97,10 @@ fn run<U: Unit>(
     while count < out.len() && at < text.len() {
         let piece = U::front(&text[at..]);
         let step = step_at(steps, row, kinds[piece.scalar as usize]);
-        if step.code == HELD {
+        if step.shown == HELD {
             break;
         }
-        count = put(out, count, at, step.code);
+        count = put(out, count, at, step.shown);
         row = step.next as usize;
         at += piece.size;
     }
@@ -113,17 +115,17 @@ fn take_one<U: Unit>(
     text: &[U],
     out: &mut [RawBreak],
 ) -> FillState
-    requires { (here.count < length out.old) × (here.row < 65536) × (here.at < length text.now) }
-    ensures within { (result.count ≤ length out.old) × (result.row < 65536) × (result.at ≤ length text.now) }
+    requires { (here.count < length out.old) × IsPlace here.row × (here.at < length text.now) }
+    ensures within { (result.count ≤ length out.old) × IsPlace result.row × (result.at ≤ length text.now) }
     ensures onward { (here.at < result.at) × (here.count ≤ result.count) }
     ensures in_order { (from : ℕ) → IsInOrder out.old here.count from here.at
         → IsInOrder out.new result.count from result.at }
-    ensures reached { (cell : ℕ → Cell) (lefts : List Left) (all : List Break) → IsFlatBy lefts table.now cell
-        → UnitsReached profile cell lefts (on_from U.pieces_of text.now) all here (given_in out.old here.count)
-        → UnitsReached profile cell lefts (on_from U.pieces_of text.now) all result (given_in out.new result.count) }
+    ensures reached { (cell : ℕ → Cell) (all : List Break) → IsFlatOf table.now cell
+        → UnitsReached profile cell (on_from U.pieces_of text.now) all here (given_in out.old here.count)
+        → UnitsReached profile cell (on_from U.pieces_of text.now) all result (given_in out.new result.count) }
 {
     let decided = decide_unit(table, profile, here.row, here.at, text);
-    let count = put(out, here.count, here.at, decided.code);
+    let count = put(out, here.count, here.at, decided.shown);
     FillState {
         count,
         row: decided.row,

@@ -2,7 +2,7 @@
 
 ghost use Rattle.std.specs.Prelude.{◌≡◌, ◌≢◌, ℕ, ◌+◌, ◌<◌, ◌≤◌, ◌^◌, length, map, slice_index_or, [], ◌∷◌, ◌++◌};
 ghost use Rattle.std.specs.Prelude.{IfOk, MatchOption, All};
-ghost use Rattle.lbk_steps.specs.Pages.{AreDistinct, cell_number, digest_of, digest_with};
+ghost use Rattle.lbk_steps.specs.Pages.{AreDistinct, cell_number, digest_of, digest_with, mixed, with_run};
 
 use super::Page;
 use lbk_uax14::Cell;
@@ -12,7 +12,7 @@ use std::alloc::{AllocError, Global};
 #[derive(Drop)]
 pub(super) struct Kept {
     pages: Vec<Page>,
-    digests: Vec<u128>,
+    digests: Vec<u64>,
     ghost digested: { digests.items ≡ map digest_of pages.items },
     ghost distinct: { AreDistinct pages.items },
 }
@@ -47,7 +47,7 @@ impl Kept {
     }
 
     /// The number of the kept page that equals this one.
-    fn find(&self, page: &Page, digest: u128) -> Option<usize>
+    fn find(&self, page: &Page, digest: u64) -> Option<usize>
         requires { digest ≡ digest_of page.now }
         ensures { MatchOption result (All (λ other. other ≢ page.now) self.now.pages.items)
             (λ n. (n < length self.now.pages.items)
@@ -62,7 +62,7 @@ impl Kept {
     }
 
     /// Keeps a page that is not among those kept.
-    fn add(&mut self, page: &Page, digest: u128) -> Result<(), AllocError>
+    fn add(&mut self, page: &Page, digest: u64) -> Result<(), AllocError>
         requires digested { digest ≡ digest_of page.now }
         requires fresh { All (λ other. other ≢ page.now) self.old.pages.items }
         ensures { IfOk result (λ _. self.new.pages.items ≡ self.old.pages.items ++ page.now ∷ []) }
@@ -87,26 +87,71 @@ impl Kept {
     }
 }
 
-/// A multiplier of good spectral quality for 128 bits (PCG's).
-const MULTIPLIER: u128 = 0x2360_ed05_1fc6_5da4_4385_df64_9fcc_f645;
+/// A multiplier of good spectral quality for 64 bits (PCG's).
+const MULTIPLIER: u64 = 0x5851_f42d_4c95_7f2d;
+
+/// A number for the cells of a page so far, and how many of the last are equal.
+#[derive(Clone, Copy)]
+struct CellSum {
+    sum: u64,
+    number: u64,
+    count: u64,
+}
+
+/// Before all cells.
+const NO_CELLS: CellSum = CellSum {
+    sum: 0,
+    number: 0,
+    count: 0,
+};
 
 /// A number of the page, the same for equal pages, so that pages are seldom compared cell by cell.
 #[tactic(auto, unfolding(crate::specs::Pages::digest_of))]
-fn digest(page: &Page) -> u128
+fn digest(page: &Page) -> u64
     ensures { result ≡ digest_of page.now }
 {
-    page.iter()
-        .fold(0, |digest, cell| digest_with(digest, *cell))
+    with_run(
+        page.iter()
+            .fold(NO_CELLS, |digest, cell| digest_with(digest, *cell)),
+    )
 }
 
-/// The digest after one more cell. The upper half goes into the lower, since a plain sum of multiples can be made to
-/// come out the same for thousands of pages.
-fn digest_with(digest: u128, cell: Cell) -> u128
+/// The digest after one more cell. Only a cell that differs from the one before takes a multiplication.
+fn digest_with(digest: CellSum, cell: Cell) -> CellSum
     ensures { result ≡ digest_with digest cell }
 {
-    (digest ^ (digest >> 64))
+    let number = number(cell);
+    if number == digest.number {
+        return CellSum {
+            count: digest.count.wrapping_add(1),
+            ..digest
+        };
+    }
+    CellSum {
+        sum: with_run(digest),
+        number,
+        count: 1,
+    }
+}
+
+/// The number with the run of equal cells at the end.
+fn with_run(digest: CellSum) -> u64
+    ensures { result ≡ with_run digest }
+{
+    mixed(
+        digest.sum,
+        digest.number.wrapping_mul(1024).wrapping_add(digest.count),
+    )
+}
+
+/// A sum with one number more. The upper half goes into the lower, since a plain sum of multiples can be made to come
+/// out the same for thousands of pages.
+fn mixed(sum: u64, number: u64) -> u64
+    ensures { result ≡ mixed sum number }
+{
+    (sum ^ (sum >> 32))
         .wrapping_mul(MULTIPLIER)
-        .wrapping_add(u128::from(number(cell)))
+        .wrapping_add(number)
 }
 
 /// A number of its own for each cell.

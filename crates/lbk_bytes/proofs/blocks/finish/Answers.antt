@@ -14,9 +14,9 @@ loop-here-preserved c =
       ahead = next.0;
       onward = omega (arith, l.invariant.onward, next.1);
       in_order = λ from order. some.in_order c.args.taken from l.invariant.ahead (l.invariant.in_order from order);
-      reached = λ profile cell lefts more all begin block left start.
-          let here = l.invariant.reached profile cell lefts more all begin block left start in
-          some.reached profile cell lefts more all begin c.args.taken block here.0 here.1;
+      reached = λ profile cell more all begin block left start.
+          let here = l.invariant.reached profile cell more all begin block left start in
+          some.reached profile cell more all begin c.args.taken block here.0 here.1;
     }
 
 pub returns-clause-within : goal.returns-clause-within
@@ -25,11 +25,11 @@ returns-clause-within c =
     (omega (arith, stopped.count), stopped.within.0, stopped.within.2)
 
 pub returns-clause-reached : goal.returns-clause-reached
-returns-clause-reached c = λ profile cell lefts more all begin block left start.
+returns-clause-reached c = λ profile cell more all begin block left start.
     let l = c.loop-here in
     let stopped = c.stopped.ensures in
-    stopped-there profile cell lefts c.args.text.now more all c.args.steps.now c.args.kinds.now c.args.pairs.now l.out c.args.at begin c.args.taken l.here c.stopped.result
-    block.within block stopped.count stopped.row stopped.within.1 stopped.all stopped.some (l.invariant.reached profile cell lefts more all begin block left start)
+    stopped-there profile cell c.args.text.now more all c.args.steps.now c.args.kinds.now c.args.pairs.now l.out c.args.at begin c.args.taken l.here c.stopped.result
+    block.within block stopped.count stopped.row stopped.within.1 stopped.all stopped.some (l.invariant.reached profile cell more all begin block left start)
 
 pub returns-clause-in_order : goal.returns-clause-in_order
 returns-clause-in_order c = λ from order.

@@ -1,6 +1,5 @@
 use Rattle.std.proofs.Common.{◌++◌, ◌≤◌, ℕ, List, length}
 use Rattle.lbk_rules.specs.declared.Cell.{Cell}
-use Rattle.lbk_rules.specs.declared.Left.{Left}
 use Rattle.lbk_values.specs.declared.profile.Profile.{Profile}
 use Rattle.lbk_bytes.specs.Blocks.{AreLeft, IsAhead, IsBlock, place_in}
 use Rattle.lbk_bytes.specs.Reached.{Ahead, IsInOrder, Reached}
@@ -14,11 +13,11 @@ invariant-loop-here l = record {
   ahead : IsAhead l.at l.taken l.here;
   onward : l.fn.start.past ≤ l.here.past;
   in_order : (from : ℕ) → IsInOrder l.fn.out l.fn.start.count from l.fn.start.past → IsInOrder l.out l.here.count from l.here.past;
-  reached : (profile : Profile) (cell : ℕ → Cell) (lefts : List Left) (more : List ℕ) (all : Ahead) (begin : ℕ)
-      → IsBlock profile cell lefts l.steps l.kinds l.pairs l.text l.at begin l.taken
+  reached : (profile : Profile) (cell : ℕ → Cell) (more : List ℕ) (all : Ahead) (begin : ℕ)
+      → IsBlock profile cell l.steps l.kinds l.pairs l.text l.at begin l.taken
       → AreLeft l.pairs l.text l.at begin l.taken l.fn.start
-      → Reached profile cell lefts (l.text ++ more) all (place_in l.pairs l.text l.fn.start) (given_in l.fn.out l.fn.start.count)
-      → AreLeft l.pairs l.text l.at begin l.taken l.here × Reached profile cell lefts (l.text ++ more) all (place_in l.pairs l.text l.here) (given_in l.out l.here.count);
+      → Reached profile cell (l.text ++ more) all (place_in l.pairs l.text l.fn.start) (given_in l.fn.out l.fn.start.count)
+      → AreLeft l.pairs l.text l.at begin l.taken l.here × Reached profile cell (l.text ++ more) all (place_in l.pairs l.text l.here) (given_in l.out l.here.count);
 }
 
 abbrev pub decreases-loop-here : goal.decreases-loop-here

@@ -1,23 +1,25 @@
-use Rattle.std.proofs.Common.{◌+◌, refl, arith}
+use Rattle.std.proofs.Common.{◌+◌, get_or, refl, ap, ◌∙◌, arith}
+use Rattle.lbk_rules.specs.Rows.{step_by}
 use Rattle.lbk_bytes.specs.declared.blocks.BlockState.{BlockState}
 use Rattle.lbk_bytes.proofs.BlockLemmas.{break-taken}
 use Rattle.lbk_bytes.proofs.BlockOrderLemmas.{ahead-taken, lowest-ahead, order-taken}
 use Rattle.lbk_bytes.proofs.blocks.take_break.Goals as goal
 
 pub returns-clause-reached : goal.returns-clause-reached
-returns-clause-reached c = λ profile cell lefts more all begin taken block left start.
+returns-clause-reached c = λ profile cell more all begin taken block left start.
     let first = c.first_set-index in
-    let there : BlockState = record { count = c.put_break.result; past = c.args.at + first.result + 1; left = c.without_first.result } in
+    let there : BlockState = record { count = c.put.result; past = c.args.at + first.result + 1; left = c.without_first.result } in
     let cleared = c.without_first.ensures.cleared first.result first.ensures.within first.ensures.lowest in
-    break-taken profile cell lefts c.args.text.now more all c.args.steps.now c.args.kinds.now c.args.pairs.now c.args.out.now c.put_break.new.out
+    break-taken profile cell c.args.text.now more all c.args.steps.now c.args.kinds.now c.args.pairs.now c.args.out.now c.put.new.out
     c.args.at begin taken first.result c.args.here there c.step_at-step.result.now
-    block.within block left first.ensures.within c.requires.place.1 first.ensures.lowest cleared refl c.step_at-step.ensures
-    c.put_break.ensures.front start
+    block.within block left first.ensures.within c.requires.place.1 first.ensures.lowest cleared refl
+    (c.step_at-step.ensures.read ∙ ap (λ r. step_by c.args.steps.now r (get_or c.args.kinds.now (get_or c.args.text.now (c.args.at + first.result) 0) 0)) c.place_by-row.ensures.number)
+    c.put.ensures.front start
 
 pub returns-clause-ahead : goal.returns-clause-ahead
 returns-clause-ahead c = λ taken ahead.
     let first = c.first_set-index in
-    let there : BlockState = record { count = c.put_break.result; past = c.args.at + first.result + 1; left = c.without_first.result } in
+    let there : BlockState = record { count = c.put.result; past = c.args.at + first.result + 1; left = c.without_first.result } in
     let cleared = c.without_first.ensures.cleared first.result first.ensures.within first.ensures.lowest in
     let lowest = lowest-ahead c.args.at taken first.result c.args.here ahead first.ensures.within (first.ensures.lowest.set c.requires.place.1) in
     (ahead-taken c.args.at taken first.result c.args.here there ahead first.ensures.within c.requires.place.1 first.ensures.lowest cleared refl, omega (arith, lowest.1))
@@ -25,5 +27,5 @@ returns-clause-ahead c = λ taken ahead.
 pub returns-clause-in_order : goal.returns-clause-in_order
 returns-clause-in_order c = λ taken from ahead order.
     let first = c.first_set-index in
-    order-taken c.args.out.now c.put_break.new.out c.args.at taken first.result c.put_break.result from c.args.here ahead first.ensures.within c.requires.place.1 first.ensures.lowest
-    c.put_break.ensures.in_order order
+    order-taken c.args.out.now c.put.new.out c.args.at taken first.result c.put.result from c.args.here ahead first.ensures.within c.requires.place.1 first.ensures.lowest
+    c.put.ensures.in_order order

@@ -6,7 +6,7 @@ use Rattle.lbk_bytes.proofs.BitLemmas.{lowest-from, lowest-inside, zeros-below, 
 use Rattle.lbk_bytes.proofs.BlockBeginLemmas.{is-block}
 use Rattle.lbk_bytes.proofs.BlockLemmas.{are-left}
 use Rattle.lbk_bytes.proofs.BlockOrderLemmas.{ahead-begins}
-use Rattle.lbk_bytes.proofs.BlockScalarLemmas.{arrive, end-low}
+use Rattle.lbk_bytes.proofs.BlockScalarLemmas.{arrive, end-low, rest-row}
 use Rattle.lbk_bytes.proofs.blocks.told.Goals as goal
 
 pub finish-requires-clause-place : goal.finish-requires-clause-place
@@ -31,7 +31,7 @@ finish-requires-clause-ahead c =
     some (zeros-few stops) is_at c.kept_from-2.ensures c.kept_up_to.ensures
 
 pub returns-clause-reached : goal.returns-clause-reached
-returns-clause-reached c = λ profile cell lefts more all swift are_kinds told are_marks start.
+returns-clause-reached c = λ profile cell more all swift are_kinds told are_marks start.
     let text = c.args.text.now in
     let pairs = c.args.pairs.now in
     let here = c.args.here in
@@ -45,11 +45,11 @@ returns-clause-reached c = λ profile cell lefts more all swift are_kinds told a
     let few = zeros-few stops in
     let inside : at + taken ≤ length text = lowest-inside text at c.args.marks.stops begin stops fits (omega arith) (omega arith) c.requires.ends c.kept_from.ensures in
     let rests : Rests pairs here text = record { below = omega arith; row = omega arith } in
-    let block = is-block profile cell lefts c.args.steps.now c.args.kinds.now pairs text at begin taken c.args.marks here swift are_kinds told (λ i. (c.type_inv.text i).fits)
+    let block = is-block profile cell c.args.steps.now c.args.kinds.now pairs text at begin taken c.args.marks here swift are_kinds told (λ i. (c.type_inv.text i).fits)
     are_marks rests is_at some few inside start.knows.0
     (λ i after h. sym (c.kept_from.ensures.same i after (omega arith)) ∙ zeros-below stops fits i h)
     (λ h. sym (c.kept_from.ensures.same taken some h) ∙ zeros-end stops fits h) in
     let marked : BlockState = record { count = here.count; past = here.at; left = c.kept_up_to.result } in
     let left = are-left pairs text at begin taken c.args.marks.standing c.kept_from-2.result marked few inside some is_at c.kept_from-2.ensures c.kept_up_to.ensures are_marks.standing in
-    c.finish.ensures.reached profile cell lefts more all begin block left
-    (arrive profile cell lefts text more all pairs c.args.out.now here.count here.row here.at here.at rests.row (end-low text here.at rests.below) start)
+    c.finish.ensures.reached profile cell more all begin block left
+    (arrive profile cell text more all pairs c.args.out.now here.count here.row here.at here.at (rest-row pairs here text c.requires.place.1 rests) (end-low text here.at rests.below) start)

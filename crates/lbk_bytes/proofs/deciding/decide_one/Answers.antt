@@ -7,8 +7,8 @@ use Rattle.lbk_bytes.proofs.LoopLemmas.{Decided-one}
 use Rattle.lbk_bytes.proofs.PieceLemmas.{piece-within, read-scalar, rest-behind, rest-of}
 use Rattle.lbk_bytes.proofs.deciding.decide_one.Goals as goal
 
-pub slice_bounds-code_ahead-count : goal.slice_bounds-code_ahead-count
-slice_bounds-code_ahead-count c =
+pub slice_bounds-shown_ahead-count : goal.slice_bounds-shown_ahead-count
+slice_bounds-shown_ahead-count c =
     let text = c.args.text.now in
     let at = c.args.at in
     let whole = rest-of text at in
@@ -17,8 +17,8 @@ slice_bounds-code_ahead-count c =
     let left = ap length whole in
     omega (arith, bounds.1, is_size, left, length-drop at text)
 
-pub slice_bounds-code_ahead-start : goal.slice_bounds-code_ahead-start
-slice_bounds-code_ahead-start c =
+pub slice_bounds-shown_ahead-start : goal.slice_bounds-shown_ahead-start
+slice_bounds-shown_ahead-start c =
     let text = c.args.text.now in
     let at = c.args.at in
     let whole = rest-of text at in
@@ -44,7 +44,7 @@ returns-clause-within c =
     (omega arith, omega (arith, bounds.0, is_size), omega (arith, bounds.1, is_size))
 
 pub returns-clause-decided : goal.returns-clause-decided
-returns-clause-decided c = λ cell lefts taken flat known.
+returns-clause-decided c = λ cell taken flat known.
     let text = c.args.text.now in
     let at = c.args.at in
     let x = c.decode_lossy-c.result.0 in
@@ -54,9 +54,9 @@ returns-clause-decided c = λ cell lefts taken flat known.
     let is_size : size ≡ (decoded (drop at text)).size = c.decode_lossy-c.ensures.size ∙ ap (λ bs. (decoded bs).size) whole in
     let scalar : IsScalar x = subst IsScalar (sym is_char) (read-scalar (drop at text)) in
     let rest = take (length (take (length text - at) (drop at text)) - size) (drop size (take (length text - at) (drop at text))) in
-    Decided-one c.args.profile cell lefts text taken c.args.table.now c.args.row at x size
-    c.code_ahead-code.result rest c.step_at-step.result.now flat scalar is_char is_size (rest-behind text at size c.requires.1 is_size)
-    c.step_at-step.ensures (c.code_ahead-code.ensures cell lefts taken flat known) known
+    Decided-one c.args.profile cell text taken c.args.table.now.kinds c.args.row at x size
+    c.shown_ahead-shown.result rest c.step_in-step.result flat.kinds scalar is_char is_size (rest-behind text at size c.requires.1 is_size)
+    c.step_in-step.ensures.read (c.shown_ahead-shown.ensures.decides cell taken flat known) known
 
 pub returns-clause-near : goal.returns-clause-near
 returns-clause-near c =

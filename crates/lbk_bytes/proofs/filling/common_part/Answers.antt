@@ -1,12 +1,16 @@
-use Rattle.lbk_bytes.proofs.StepLemmas.{swift-as, told-as}
+use Rattle.lbk_bytes.proofs.StepLemmas.{told-as}
 use Rattle.lbk_bytes.proofs.filling.common_part.Goals as goal
 
+pub blocks-there-requires-clause-steps : goal.blocks-there-requires-clause-steps
+blocks-there-requires-clause-steps g c = (c.args.profile, c.rows_of-steps.ensures)
+
+pub quick-requires-clause-steps : goal.quick-requires-clause-steps
+quick-requires-clause-steps g c = (c.args.profile, c.rows_of-steps.ensures)
+
 pub returns-clause-reached : goal.returns-clause-reached
-returns-clause-reached g c = λ cell lefts more all flat start.
-    let table = c.args.table.now in
+returns-clause-reached g c = λ cell more all flat start.
     let profile = c.args.profile in
-    let steps = c.steps_of-steps in
+    let steps = c.rows_of-steps in
     let there = c.blocks-there in
-    let swift = swift-as profile lefts table cell steps.result.now flat steps.ensures in
-    let told = told-as profile lefts table cell steps.result.now c.pairs_of-pairs.result.now flat steps.ensures c.pairs_of-pairs.ensures in
-    c.quick.ensures.reached profile cell lefts more all swift flat.kinds (there.ensures.reached profile cell lefts more all swift flat.kinds told start)
+    let told = told-as profile c.args.table.now cell steps.result.now flat steps.ensures in
+    c.quick.ensures.reached profile cell more all steps.ensures flat.kinds (there.ensures.reached profile cell more all steps.ensures flat.kinds told start)

@@ -1,7 +1,7 @@
-use Rattle.std.proofs.Common.{◌≡◌, ◌+◌, ◌-◌, ◌<◌, ◌≤◌, ℕ, List, length}
+use Rattle.std.proofs.Common.{◌≡◌, ◌+◌, ◌-◌, ◌≤◌, ℕ, length}
 use Rattle.lbk_rules.specs.declared.Cell.{Cell}
-use Rattle.lbk_rules.specs.declared.Left.{Left}
-use Rattle.lbk_rules.specs.FlatTable.{IsFlatBy}
+use Rattle.lbk_rules.specs.FlatTable.{IsFlatOf}
+use Rattle.lbk_rules.specs.Rows.{IsPlace}
 use Rattle.lbk_bytes.specs.Reached.{Ahead, IsInOrder, Reached}
 use Rattle.lbk_bytes.specs.Shown.{given_in}
 use Rattle.lbk_bytes.proofs.filling.fill_on.Given as goal
@@ -9,13 +9,13 @@ use Rattle.lbk_bytes.proofs.filling.fill_on.Given as goal
 abbrev pub invariant-loop-here : goal.invariant-loop-here
 invariant-loop-here g l = record {
   room : l.here.count ≤ length l.out;
-  row : l.here.row < 65536;
+  row : IsPlace l.here.row;
   within : l.here.at ≤ length l.text;
   no_room : length l.out ≡ 0 → l.here ≡ l.fn.start;
   in_order : (from : ℕ) → IsInOrder l.fn.out l.fn.start.count from l.fn.start.at → IsInOrder l.out l.here.count from l.here.at;
-  reached : (cell : ℕ → Cell) (lefts : List Left) (all : Ahead) → IsFlatBy lefts l.fn.table cell
-      → Reached l.fn.profile cell lefts l.text all l.fn.start (given_in l.fn.out l.fn.start.count)
-      → Reached l.fn.profile cell lefts l.text all l.here (given_in l.out l.here.count);
+  reached : (cell : ℕ → Cell) (all : Ahead) → IsFlatOf l.fn.table cell
+      → Reached l.fn.profile cell l.text all l.fn.start (given_in l.fn.out l.fn.start.count)
+      → Reached l.fn.profile cell l.text all l.here (given_in l.out l.here.count);
 }
 
 abbrev pub decreases-loop-here : goal.decreases-loop-here

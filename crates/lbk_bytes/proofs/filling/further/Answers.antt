@@ -4,22 +4,22 @@ use Rattle.lbk_bytes.proofs.ReachedLemmas.{Reached-alone, Reached-nothing}
 use Rattle.lbk_bytes.proofs.filling.further.Goals as goal
 
 pub returns-then-part-out-clause-reached : goal.returns-then-part-out-clause-reached
-returns-then-part-out-clause-reached g c = λ cell lefts all flat start.
+returns-then-part-out-clause-reached g c = λ cell all flat start.
     let profile = c.args.profile in
     let text = c.args.text.now in
     let part = c.common_part-part in
     let past = part.result.here in
-    c.take_one.ensures.reached cell lefts all flat
-    (Reached-alone profile cell lefts text all past (given_in part.new.out past.count)
-    (part.ensures.reached cell lefts [] all flat
-    (Reached-nothing profile cell lefts text all c.args.here (given_in c.args.out.now c.args.here.count) start)))
+    c.take_ones.ensures.reached cell all flat
+    (Reached-alone profile cell text all past (given_in part.new.out past.count)
+    (part.ensures.reached cell [] all flat
+    (Reached-nothing profile cell text all c.args.here (given_in c.args.out.now c.args.here.count) start)))
 
 pub returns-clause-reached : goal.returns-clause-reached
-returns-clause-reached g c = λ cell lefts all flat start.
+returns-clause-reached g c = λ cell all flat start.
     let profile = c.args.profile in
     let text = c.args.text.now in
     let part = c.common_part-part in
     let past = part.result.here in
-    Reached-alone profile cell lefts text all past (given_in part.new.out past.count)
-    (part.ensures.reached cell lefts [] all flat
-    (Reached-nothing profile cell lefts text all c.args.here (given_in c.args.out.now c.args.here.count) start))
+    Reached-alone profile cell text all past (given_in part.new.out past.count)
+    (part.ensures.reached cell [] all flat
+    (Reached-nothing profile cell text all c.args.here (given_in c.args.out.now c.args.here.count) start))

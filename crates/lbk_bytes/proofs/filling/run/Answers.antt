@@ -1,5 +1,4 @@
-use Rattle.std.proofs.Common.{◌≡◌, ◌+◌, ◌<◌, ◌++◌, ◌∙◌, length, length-append, arith}
-use Rattle.lbk_rules.specs.flat_table.TheConstants.{HELD}
+use Rattle.std.proofs.Common.{◌+◌, ◌<◌, ◌++◌, ◌∙◌, length, length-append, arith}
 use Rattle.lbk_bytes.proofs.BoundaryLemmas.{boundary-read}
 use Rattle.lbk_bytes.proofs.CutLemmas.{reads-more}
 use Rattle.lbk_bytes.proofs.LoopLemmas.{Reached-swift}
@@ -30,7 +29,7 @@ loop-count-preserved c =
     let r = reads c.args.text.now l.at s.code s.size inside c.in-Some.ensures in
     record {
       room = omega (arith, put.ensures.within);
-      row = omega arith;
+      row = c.step_at-step.ensures.begins;
       within = r.within;
       onward = omega (arith, l.invariant.onward);
       more = omega (arith, l.invariant.more);
@@ -41,10 +40,9 @@ loop-count-preserved c =
           boundary-read (c.args.text.now ++ more) l.at s.code s.size place (omega (arith, length-append c.args.text.now more)) (omega arith)
           (reads-more c.args.text.now more l.at s.code s.size inside r)
           ∙ l.invariant.boundary more place before;
-      reached = λ profile cell lefts more all swift are_kinds start.
+      reached = λ profile cell more all swift are_kinds start.
           let text = c.args.text.now in
-          let apart : ¬ (step.code ≡ HELD) = λ held. absurd (omega (arith, held, c.if-step-ge-VERDICTS.false)) in
-          Reached-swift profile cell lefts (text ++ more) all c.args.steps.now c.args.kinds.now l.out put.new.out l.count put.result l.row l.at s.code s.size step
-          swift are_kinds (reads-more text more l.at s.code s.size inside r) (omega (arith, length-append text more)) c.step_at-step.ensures apart
-          put.ensures.front (l.invariant.reached profile cell lefts more all swift are_kinds start);
+          Reached-swift profile cell (text ++ more) all c.args.steps.now c.args.kinds.now l.out put.new.out l.count put.result l.row l.at s.code s.size step
+          swift are_kinds (reads-more text more l.at s.code s.size inside r) (omega (arith, length-append text more)) c.step_at-step.ensures.read c.if-step-eq-HELD.false
+          put.ensures.front (l.invariant.reached profile cell more all swift are_kinds start);
     }

@@ -3,10 +3,10 @@ use Rattle.lbk_bytes.proofs.LoopLemmas.{Reached-decided}
 use Rattle.lbk_bytes.proofs.filling.take_one.Goals as goal
 
 pub returns-clause-reached : goal.returns-clause-reached
-returns-clause-reached c = λ cell lefts all flat reached.
+returns-clause-reached c = λ cell all flat reached.
     let here = c.args.here in
-    Reached-decided c.args.profile cell lefts c.args.text.now all c.args.out.now c.put-count.new.out here c.put-count.result c.decide_one-decided.result
-    c.requires.2 (λ taken known. c.decide_one-decided.ensures.decided cell lefts taken flat known) c.put-count.ensures.front reached
+    Reached-decided c.args.profile cell c.args.text.now all c.args.out.now c.put-count.new.out here c.put-count.result c.decide_one-decided.result
+    c.requires.2 (λ taken known. c.decide_one-decided.ensures.decided cell taken flat known) c.put-count.ensures.front reached
 
 pub returns-clause-in_order : goal.returns-clause-in_order
 returns-clause-in_order c = λ from order.

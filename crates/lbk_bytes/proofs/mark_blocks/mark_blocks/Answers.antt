@@ -11,6 +11,6 @@ loop-here-preserved c =
       onward = omega arith;
       ahead = block.within.1;
       after = λ i past. block.after i past ∙ l.invariant.after i (omega (arith, block.within.1));
-      marked = λ profile cell lefts steps kinds more all swift are_kinds told start.
-          block.marked profile cell lefts steps kinds more all swift are_kinds told (l.invariant.marked profile cell lefts steps kinds more all swift are_kinds told start);
+      marked = λ profile cell more all swift are_kinds told start.
+          block.marked profile cell more all swift are_kinds told (l.invariant.marked profile cell more all swift are_kinds told start);
     }

@@ -12,5 +12,5 @@ loop-here-preserved c =
       near = more.near;
       no_room = λ none. absurd (omega arith);
       after = λ i past. more.after i past ∙ l.invariant.after i (omega (arith, more.within.1));
-      marked = λ cell lefts all flat start. more.marked cell lefts all flat (l.invariant.marked cell lefts all flat start);
+      marked = λ cell all flat start. more.marked cell all flat (l.invariant.marked cell all flat start);
     }

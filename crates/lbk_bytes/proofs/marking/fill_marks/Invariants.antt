@@ -1,7 +1,7 @@
-use Rattle.std.proofs.Common.{◌≡◌, ◌+◌, ◌-◌, ◌<◌, ◌≤◌, ℕ, false, List, [], length}
+use Rattle.std.proofs.Common.{◌≡◌, ◌+◌, ◌-◌, ◌≤◌, ℕ, false, [], length}
 use Rattle.lbk_rules.specs.declared.Cell.{Cell}
-use Rattle.lbk_rules.specs.declared.Left.{Left}
-use Rattle.lbk_rules.specs.FlatTable.{IsFlatBy}
+use Rattle.lbk_rules.specs.FlatTable.{IsFlatOf}
+use Rattle.lbk_rules.specs.Rows.{IsPlace}
 use Rattle.lbk_bytes.specs.Marking.{Marked, uncounted}
 use Rattle.lbk_bytes.specs.Marks.{is_marked}
 use Rattle.lbk_bytes.specs.Reached.{Ahead, Reached}
@@ -9,15 +9,15 @@ use Rattle.lbk_bytes.proofs.marking.fill_marks.Given as goal
 
 abbrev pub invariant-loop-here : goal.invariant-loop-here
 invariant-loop-here l = record {
-  row : l.here.row < 65536;
+  row : IsPlace l.here.row;
   onward : l.fn.start.at ≤ l.here.at;
   within : l.here.at ≤ length l.text;
   near : l.here.at ≤ l.stop + 3;
   no_room : length l.words ≡ 0 → l.here ≡ l.fn.start;
   after : (i : ℕ) → l.here.at ≤ l.fn.start.at + i → is_marked l.words i ≡ false;
-  marked : (cell : ℕ → Cell) (lefts : List Left) (all : Ahead) → IsFlatBy lefts l.fn.table cell
-      → Reached l.fn.profile cell lefts l.text all (uncounted l.fn.start) []
-      → Marked l.fn.profile cell lefts l.text all l.fn.start.at l.stop l.here l.words;
+  marked : (cell : ℕ → Cell) (all : Ahead) → IsFlatOf l.fn.table cell
+      → Reached l.fn.profile cell l.text all (uncounted l.fn.start) []
+      → Marked l.fn.profile cell l.text all l.fn.start.at l.stop l.here l.words;
 }
 
 abbrev pub decreases-loop-here : goal.decreases-loop-here

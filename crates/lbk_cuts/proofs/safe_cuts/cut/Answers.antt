@@ -13,13 +13,13 @@ returns-clause-first c = λ cell flat.
     record {
       within = found.within;
       behind = omega arith;
-      safe = found.safe cell flat.1.kinds;
-      least = λ place from less. found.least cell place flat.1.kinds (omega arith) less;
+      safe = found.safe cell flat.kinds;
+      least = λ place from less. found.least cell place flat.kinds (omega arith) less;
     }
 
 pub returns-clause-joined : goal.returns-clause-joined
 returns-clause-joined c = λ cell profile flat some inside.
-    joins-safe profile cell c.args.text.now c.first_cut.result some inside (c.first_cut.ensures.safe cell flat.1.kinds)
+    joins-safe profile cell c.args.text.now c.first_cut.result some inside (c.first_cut.ensures.safe cell flat.kinds)
 
 pub returns-then-text-at-clause-begins : goal.returns-then-text-at-clause-begins
 returns-then-text-at-clause-begins c = starts_last c.args.text.now

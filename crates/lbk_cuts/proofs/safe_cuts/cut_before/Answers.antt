@@ -14,16 +14,16 @@ returns-clause-last c = λ cell flat.
     let inside = c.if-text-at.false in
     record {
       before = omega arith;
-      safe = c.last_cut.ensures.safe cell flat.1.kinds;
+      safe = c.last_cut.ensures.safe cell flat.kinds;
       greatest = λ place later last within.
           ⊎_elim (λ behind. unsafe-within cell text start place behind (omega arith) (omega arith) c.piece_start.ensures.begins)
-          (λ not_behind. c.last_cut.ensures.greatest cell place flat.1.kinds later not_behind)
+          (λ not_behind. c.last_cut.ensures.greatest cell place flat.kinds later not_behind)
           (cases_lt start place);
     }
 
 pub returns-clause-joined : goal.returns-clause-joined
 returns-clause-joined c = λ cell profile flat some inside.
-    joins-safe profile cell c.args.text.now c.last_cut.result some inside (c.last_cut.ensures.safe cell flat.1.kinds)
+    joins-safe profile cell c.args.text.now c.last_cut.result some inside (c.last_cut.ensures.safe cell flat.kinds)
 
 pub returns-then-text-at-clause-begins : goal.returns-then-text-at-clause-begins
 returns-then-text-at-clause-begins c = starts_last c.args.text.now

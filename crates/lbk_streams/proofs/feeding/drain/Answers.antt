@@ -16,7 +16,7 @@ loop-here-preserved c =
       breaks = λ all. take.ensures.breaks (c.loop-here.invariant.breaks all);
       counted = omega (arith, take.ensures.counted, c.loop-here.invariant.counted);
       ordered = λ base from fits o. take.ensures.ordered base from (omega (arith, c.loop-here.invariant.taken)) (c.loop-here.invariant.ordered base from fits o);
-      feeds = λ cell lefts base piece more all flat start.
-          take.ensures.feeds cell lefts base piece more all flat (closed-more (front_of here.cut) (drop here.taken piece ++ more) whole.1 whole.2)
-          (c.loop-here.invariant.feeds cell lefts base piece more all flat start);
+      feeds = λ cell base piece more all flat start.
+          take.ensures.feeds cell base piece more all flat (closed-more (front_of here.cut) (drop here.taken piece ++ more) whole.1 whole.2)
+          (c.loop-here.invariant.feeds cell base piece more all flat start);
     }

@@ -1,7 +1,6 @@
 use Rattle.std.proofs.Common.{◌≡◌, ◌+◌, ◌-◌, ◌^◌, ◌<◌, ◌≤◌, ℕ, List, length}
 use Rattle.lbk_rules.specs.declared.Cell.{Cell}
-use Rattle.lbk_rules.specs.declared.Left.{Left}
-use Rattle.lbk_rules.specs.FlatTable.{IsFlatBy}
+use Rattle.lbk_rules.specs.FlatTable.{IsFlatOf}
 use Rattle.lbk_bytes.specs.Order.{AreBreaks}
 use Rattle.lbk_bytes.specs.Shown.{given_in}
 use Rattle.lbk_streams.specs.Stands.{Ahead, AreFew, Feeds, IsOrdered}
@@ -15,9 +14,9 @@ invariant-loop-here l = record {
   breaks : AreBreaks l.fn.out l.fn.start.count → AreBreaks l.out l.here.count;
   counted : AreFew l.fn.start l.here;
   ordered : (base from : ℕ) → base + l.fn.start.taken < 2 ^ 64 → IsOrdered l.fn.out base from l.fn.start → IsOrdered l.out base from l.here;
-  feeds : (cell : ℕ → Cell) (lefts : List Left) (base : ℕ) (piece more : List ℕ) (all : Ahead) → IsFlatBy lefts l.fn.table cell
-      → Feeds l.fn.profile cell lefts base piece more l.fn.start all (given_in l.fn.out l.fn.start.count)
-      → Feeds l.fn.profile cell lefts base piece more l.here all (given_in l.out l.here.count);
+  feeds : (cell : ℕ → Cell) (base : ℕ) (piece more : List ℕ) (all : Ahead) → IsFlatOf l.fn.table cell
+      → Feeds l.fn.profile cell base piece more l.fn.start all (given_in l.fn.out l.fn.start.count)
+      → Feeds l.fn.profile cell base piece more l.here all (given_in l.out l.here.count);
 }
 
 abbrev pub decreases-loop-here : goal.decreases-loop-here

@@ -25,7 +25,7 @@ returns-then-step-clause-onward c =
     omega (arith, bounds.0, within.0, within.1)
 
 pub returns-then-step-clause-feeds : goal.returns-then-step-clause-feeds
-returns-then-step-clause-feeds c = λ cell lefts base piece more all flat same feeds.
+returns-then-step-clause-feeds c = λ cell base piece more all flat same feeds.
     let here = c.args.here in
     let front = c.front_of-front.result.now in
     let is_front = c.front_of-front.ensures.bytes in
@@ -39,14 +39,14 @@ returns-then-step-clause-feeds c = λ cell lefts base piece more all flat same f
     let step = c.take_scalar-step in
     let size = c.decode_lossy-c.result.1 in
     let size_same = c.decode_lossy-c.ensures.size in
-    Feeds-cut c.args.profile cell lefts base piece more here step.result.place c.behind-cut.result step.result.count size step.result.passed all
+    Feeds-cut c.args.profile cell base piece more here step.result.place c.behind-cut.result step.result.count size step.result.passed all
     (given_in c.args.out.now here.count) (given_in step.new.out step.result.count)
     (omega (arith, bounds.2)) c.if-step.true c.behind-cut.ensures.bytes c.behind-cut.ensures.size step.ensures.at
-    (step.ensures.stands cell lefts whole all flat (omega (arith, length-append (front_of here.cut) rest)) is_char is_size feeds.stands)
+    (step.ensures.stands cell whole all flat (omega (arith, length-append (front_of here.cut) rest)) is_char is_size feeds.stands)
     feeds
 
 pub returns-clause-feeds : goal.returns-clause-feeds
-returns-clause-feeds c = λ cell lefts base piece more all flat same feeds.
+returns-clause-feeds c = λ cell base piece more all flat same feeds.
     let here = c.args.here in
     let is_front = c.front_of-front.ensures.bytes in
     let long = c.front_of-front.ensures.length in
@@ -57,10 +57,10 @@ returns-clause-feeds c = λ cell lefts base piece more all flat same feeds.
     let is_char = c.decode_lossy-c.ensures.char ∙ ap (λ l. or_replacement (decoded l).char) is_front ∙ ap (λ p. or_replacement p.char) (sym same) in
     let step = c.take_scalar-step in
     let size = c.decode_lossy-c.result.1 in
-    Feeds-stay c.args.profile cell lefts base piece more here step.result.place step.result.count size step.result.passed all
+    Feeds-stay c.args.profile cell base piece more here step.result.place step.result.count size step.result.passed all
     (given_in c.args.out.now here.count) (given_in step.new.out step.result.count)
     c.if-step.false step.ensures.at
-    (step.ensures.stands cell lefts whole all flat (omega (arith, length-append (front_of here.cut) rest)) is_char is_size feeds.stands)
+    (step.ensures.stands cell whole all flat (omega (arith, length-append (front_of here.cut) rest)) is_char is_size feeds.stands)
     feeds
 
 pub returns-then-step-clause-counted : goal.returns-then-step-clause-counted

@@ -14,7 +14,7 @@ loop-here-init c =
       breaks = drain.ensures.breaks;
       counted = drain.ensures.counted;
       ordered = λ base from fits o. drain.ensures.ordered base from (omega (arith, c.requires.2)) o;
-      feeds = λ cell lefts base more all flat start. drain.ensures.feeds cell lefts base c.args.piece.now more all flat start;
+      feeds = λ cell base more all flat start. drain.ensures.feeds cell base c.args.piece.now more all flat start;
     }
 
 pub take_more-here-requires : goal.take_more-here-requires
@@ -34,5 +34,5 @@ loop-here-preserved c =
       breaks = λ all. take.ensures.breaks (l.invariant.breaks all);
       counted = omega (arith, take.ensures.counted, l.invariant.counted);
       ordered = λ base from fits o. take.ensures.ordered base from fits (l.invariant.ordered base from fits o);
-      feeds = λ cell lefts base more all flat start. take.ensures.feeds cell lefts base more all flat (l.invariant.feeds cell lefts base more all flat start);
+      feeds = λ cell base more all flat start. take.ensures.feeds cell base more all flat (l.invariant.feeds cell base more all flat start);
     }

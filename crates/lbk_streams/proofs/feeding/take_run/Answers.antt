@@ -38,7 +38,7 @@ returns-then-not-step-clause-within c =
     (omega (arith, read.few, c.kept-cut.ensures.within), c.take_scalar-step.ensures.within.1, omega (arith, read.some), omega (arith, read.few, c.requires.2))
 
 pub returns-then-not-step-clause-feeds : goal.returns-then-not-step-clause-feeds
-returns-then-not-step-clause-feeds c = λ cell lefts base more all flat feeds.
+returns-then-not-step-clause-feeds c = λ cell base more all flat feeds.
     let piece = c.args.piece.now in
     let here = c.args.here in
     let at = here.taken in
@@ -50,11 +50,11 @@ returns-then-not-step-clause-feeds c = λ cell lefts base more all flat feeds.
     let read = is-read piece more at x size c.requires.2 c.decode_lossy-c.ensures.char c.decode_lossy-c.ensures.size in
     let left : length (take (length piece - at) (drop at piece)) ≡ length piece - at = ap length (rest-of piece at) ∙ length-drop at piece in
     let long = length-take-le size (take (length piece - at) (drop at piece)) (omega (arith, read.few, c.requires.2)) in
-    let stands = subst (λ l. Stands c.args.profile cell lefts here.place l all given) (none-cut here.cut bytes c.requires.0) feeds.stands in
-    Feeds-kept c.args.profile cell lefts base piece more here step.result.place c.kept-cut.result step.result.count size step.result.passed all given
+    let stands = subst (λ l. Stands c.args.profile cell here.place l all given) (none-cut here.cut bytes c.requires.0) feeds.stands in
+    Feeds-kept c.args.profile cell base piece more here step.result.place c.kept-cut.result step.result.count size step.result.passed all given
     (given_in step.new.out step.result.count) c.requires.0 (omega (arith, read.few, c.requires.2)) (not-true step.result.passed c.if-not-step.true)
     (c.kept-cut.ensures.bytes ∙ ap (take size) (rest-of piece at)) (c.kept-cut.ensures.within ∙ long) step.ensures.at
-    (step.ensures.stands cell lefts bytes all flat read.bytes read.char read.is_size stands) feeds
+    (step.ensures.stands cell bytes all flat read.bytes read.char read.is_size stands) feeds
 
 pub returns-then-past-ne0-clause-within : goal.returns-then-past-ne0-clause-within
 returns-then-past-ne0-clause-within c =
@@ -62,7 +62,7 @@ returns-then-past-ne0-clause-within c =
     (omega (arith, c.requires.0), c.take_scalar-step.ensures.within.1, omega (arith, read.some), omega (arith, read.few, c.requires.2))
 
 pub returns-then-past-ne0-clause-feeds : goal.returns-then-past-ne0-clause-feeds
-returns-then-past-ne0-clause-feeds c = λ cell lefts base more all flat feeds.
+returns-then-past-ne0-clause-feeds c = λ cell base more all flat feeds.
     let piece = c.args.piece.now in
     let here = c.args.here in
     let at = here.taken in
@@ -72,10 +72,10 @@ returns-then-past-ne0-clause-feeds c = λ cell lefts base more all flat feeds.
     let bytes = drop at piece ++ more in
     let given = given_in c.args.out.now here.count in
     let read = is-read piece more at x size c.requires.2 c.decode_lossy-c.ensures.char c.decode_lossy-c.ensures.size in
-    let stands = subst (λ l. Stands c.args.profile cell lefts here.place l all given) (none-cut here.cut bytes c.requires.0) feeds.stands in
-    Feeds-run c.args.profile cell lefts base piece more here step.result.place step.result.count size step.result.passed all given
+    let stands = subst (λ l. Stands c.args.profile cell here.place l all given) (none-cut here.cut bytes c.requires.0) feeds.stands in
+    Feeds-run c.args.profile cell base piece more here step.result.place step.result.count size step.result.passed all given
     (given_in step.new.out step.result.count) c.requires.0 (omega (arith, read.few, c.requires.2)) (not-false step.result.passed c.if-not-step.false) step.ensures.at
-    (step.ensures.stands cell lefts bytes all flat read.bytes read.char read.is_size stands) feeds
+    (step.ensures.stands cell bytes all flat read.bytes read.char read.is_size stands) feeds
 
 pub skim-requires : goal.skim-requires
 skim-requires c =
@@ -89,7 +89,7 @@ returns-clause-within c =
     (omega (arith, within.0), omega (arith, within.1), omega (arith, within.2, read.some), within.3)
 
 pub returns-clause-feeds : goal.returns-clause-feeds
-returns-clause-feeds c = λ cell lefts base more all flat feeds.
+returns-clause-feeds c = λ cell base more all flat feeds.
     let piece = c.args.piece.now in
     let here = c.args.here in
     let at = here.taken in
@@ -99,11 +99,11 @@ returns-clause-feeds c = λ cell lefts base more all flat feeds.
     let bytes = drop at piece ++ more in
     let given = given_in c.args.out.now here.count in
     let read = is-read piece more at x size c.requires.2 c.decode_lossy-c.ensures.char c.decode_lossy-c.ensures.size in
-    let stands = subst (λ l. Stands c.args.profile cell lefts here.place l all given) (none-cut here.cut bytes c.requires.0) feeds.stands in
-    c.skim.ensures.feeds cell lefts base more all flat
-    (Feeds-run c.args.profile cell lefts base piece more here step.result.place step.result.count size step.result.passed all given
+    let stands = subst (λ l. Stands c.args.profile cell here.place l all given) (none-cut here.cut bytes c.requires.0) feeds.stands in
+    c.skim.ensures.feeds cell base more all flat
+    (Feeds-run c.args.profile cell base piece more here step.result.place step.result.count size step.result.passed all given
     (given_in step.new.out step.result.count) c.requires.0 (omega (arith, read.few, c.requires.2)) (not-false step.result.passed c.if-not-step.false) step.ensures.at
-    (step.ensures.stands cell lefts bytes all flat read.bytes read.char read.is_size stands) feeds)
+    (step.ensures.stands cell bytes all flat read.bytes read.char read.is_size stands) feeds)
 
 pub returns-then-not-step-clause-counted : goal.returns-then-not-step-clause-counted
 returns-then-not-step-clause-counted c =

@@ -1,4 +1,4 @@
-use Rattle.std.proofs.Common.{◌≡◌, ◌+◌, ◌-◌, ◌%◌, ◌^◌, ◌++◌, [], List, map, ap, subst, ◌∙◌, arith}
+use Rattle.std.proofs.Common.{◌≡◌, ◌+◌, ◌-◌, ◌%◌, ◌^◌, ◌++◌, [], List, map, sym, ap, subst, ◌∙◌, arith}
 use Rattle.lbk_rules.specs.declared.Break.{Break}
 use Rattle.lbk_bytes.specs.Bytes.{end_in}
 use Rattle.lbk_bytes.specs.declared.fill_state.FillState.{FillState}
@@ -12,7 +12,7 @@ use Rattle.lbk_streams.proofs.SkimLemmas.{Stands-skim}
 use Rattle.lbk_streams.proofs.skimming.skim_into.Goals as goal
 
 pub returns-clause-stands : goal.returns-clause-stands
-returns-clause-stands c = λ cell lefts more all next flat free some behind at_same row_same none_waits stands.
+returns-clause-stands c = λ cell more all next flat free some behind at_same row_same none_waits stands.
     let profile = c.args.profile in
     let piece = c.args.piece.now in
     let place = c.args.place in
@@ -23,9 +23,11 @@ returns-clause-stands c = λ cell lefts more all next flat free some behind at_s
     let fits = stands.fits in
     let by_same : by ≡ place.at - from = omega arith in
     let start : FillState = record { count = 0; row = place.row; at = from } in
-    let reached = λ (coming : List Break) (r : ReachedBy (onward_of all) profile cell lefts (piece ++ more) coming start []).
-    end.ensures.reached cell lefts more (record { breaks = coming; end = end_in all.goes_on }) flat r in
-    Stands-skim profile cell lefts piece more all given (given_in c.move_by.new.out end.result.count) place next from end.result
+    let reached = λ (coming : List Break) (r : ReachedBy (onward_of all) profile cell (piece ++ more) coming start []).
+    end.ensures.reached cell more (record { breaks = coming; end = end_in all.goes_on }) flat
+    (subst (λ n. ReachedBy (onward_of all) profile cell (piece ++ more) coming (record { count = 0; row = n; at = from }) [])
+    (sym (c.place_by.ensures.same r.knows.0)) r) in
+    Stands-skim profile cell piece more all given (given_in c.move_by.new.out end.result.count) place next from end.result
     end.ensures.onward.0 end.ensures.within.2 free some behind at_same row_same none_waits reached
     (c.move_by.ensures.moved ∙ ap (λ n. map (moved n) given) by_same) stands
 

@@ -1,4 +1,5 @@
 use Rattle.std.proofs.Common.{suc, ◌<◌, ◌++◌, sym, ap, subst, ◌∙◌, arith}
+use Rattle.lbk_rules.specs.FlatTable.{KnowsTaken}
 use Rattle.lbk_bytes.specs.Bytes.{end_in}
 use Rattle.lbk_bytes.specs.Shown.{given_in}
 use Rattle.lbk_bytes.proofs.OrderLemmas.{AreInOrder-wider}
@@ -9,8 +10,9 @@ use Rattle.lbk_streams.proofs.PlaceLemmas.{IsInOrder-at, next-within}
 use Rattle.lbk_streams.proofs.streaming.close.Goals as goal
 
 pub returns-clause-end : goal.returns-clause-end
-returns-clause-end c = λ free profile cell lefts taken flat knows some.
-    c.put_end-count.ensures.front profile cell lefts taken flat knows some
+returns-clause-end c = λ free profile cell taken knows some.
+    let same = c.place_by-row.ensures.same knows.0 in
+    c.put_end-count.ensures.front profile cell taken (subst (λ n. KnowsTaken cell n taken) (sym same) knows) (λ more. some (subst (λ n. 0 < n) same more))
     ∙ ap (λ g. given_in c.args.out.now c.args.here.count ++ end_in g profile cell taken c.args.here.place.at) c.goes_on-goes_on.ensures
 
 pub returns-then-here-out-clause-in_order : goal.returns-then-here-out-clause-in_order

@@ -26,9 +26,9 @@ loop-here-preserved c =
       breaks = λ all. take.ensures.breaks (c.loop-here.invariant.breaks all);
       counted = omega (arith, take.ensures.counted, c.loop-here.invariant.counted);
       ordered = λ base from fits o. take.ensures.ordered base from (omega (arith, taken)) (c.loop-here.invariant.ordered base from fits o);
-      feeds = λ cell lefts base piece all flat whole start.
+      feeds = λ cell base piece all flat whole start.
           let nothing : front_of here.cut ++ (drop here.taken piece ++ []) ≡ front_of here.cut =
           ap (λ n. front_of here.cut ++ (drop n piece ++ [])) (taken ∙ whole below) ∙ ap (λ l. front_of here.cut ++ (l ++ [])) (drop-length piece) ∙ append-nil (front_of here.cut) in
-          take.ensures.feeds cell lefts base piece [] all flat (ap decoded nothing)
-          (c.loop-here.invariant.feeds cell lefts base piece all flat whole start);
+          take.ensures.feeds cell base piece [] all flat (ap decoded nothing)
+          (c.loop-here.invariant.feeds cell base piece all flat whole start);
     }

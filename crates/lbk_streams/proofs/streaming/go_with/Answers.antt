@@ -27,17 +27,17 @@ returns-clause-gives c = λ cell more to_come s lasts.
     let nothing : given_in c.args.out.now start.result.count ≡ [] = ap (given_in c.args.out.now) start.ensures.fresh.1 in
     let first = Feeds-streams profile cell table old piece more to_come (given_in c.args.out.now start.result.count) start.result c.requires.1 c.requires.0 start.ensures.place
     start.ensures.cut.1 start.ensures.fresh.0 start.ensures.cut.2 nothing s in
-    let feeds = take.ensures.feeds cell s.lefts base more (ahead old.profile to_come) s.flat first in
+    let feeds = take.ensures.feeds cell base more (ahead old.profile to_come) s.flat first in
     let many : length given ≡ here.count = given-many take.new.out here.count (omega (arith, take.ensures.within.1)) in
     let kept = c.keep.ensures in
     let at : new.at ≡ here.place.at = ap (λ (p : Place). p.at) kept.place in
     record {
-      front = Feeds-front old.profile profile cell s.lefts base piece more to_come given here here.count many feeds;
+      front = Feeds-front old.profile profile cell base piece more to_come given here here.count many feeds;
       rest =
-          Streams-next profile cell table s.lefts base old new piece more to_come given here here.count c.requires.1 c.requires.0 s.flat kept.place kept.cut.0
+          Streams-next profile cell table base old new piece more to_come given here here.count c.requires.1 c.requires.0 s.flat kept.place kept.cut.0
           kept.same.0 kept.same.1 many feeds;
       settled = λ _ free.
-          Feeds-unsettled old.profile profile cell s.lefts base new piece more to_come given here here.count kept.place kept.cut.0 (take.ensures.unfinished free)
+          Feeds-unsettled old.profile profile cell base new piece more to_come given here here.count kept.place kept.cut.0 (take.ensures.unfinished free)
           (take.ensures.all free) many feeds;
       seen = (let seen = feeds.seen in let size = kept.cut.1 in omega arith);
       end = λ is_last free. absurd (false≢true (sym c.if-last.false ∙ is_last));
@@ -65,10 +65,10 @@ returns-then-last-clause-gives c = λ cell more to_come s lasts.
     let nothing : given_in c.args.out.now start.result.count ≡ [] = ap (given_in c.args.out.now) start.ensures.fresh.1 in
     let first = Feeds-streams profile cell table old piece [] to_come (given_in c.args.out.now start.result.count) start.result c.requires.1 c.requires.0 start.ensures.place
     start.ensures.cut.1 start.ensures.fresh.0 start.ensures.cut.2 nothing whole in
-    let feeds = take.ensures.feeds cell whole.lefts base [] (ahead old.profile to_come) whole.flat first in
-    let ends = finish.ensures.feeds cell whole.lefts base piece (ahead old.profile to_come) whole.flat (λ free. take.ensures.all (omega arith)) feeds in
+    let feeds = take.ensures.feeds cell base [] (ahead old.profile to_come) whole.flat first in
+    let ends = finish.ensures.feeds cell base piece (ahead old.profile to_come) whole.flat (λ free. take.ensures.all (omega arith)) feeds in
     let taken : close.result.taken ≡ done.taken = close.ensures.within.1 in
-    let closed = Feeds-closed profile cell table whole.lefts base old new piece to_come given after done close.result.count room c.requires.1 c.requires.0 whole.flat
+    let closed = Feeds-closed profile cell table base old new piece to_come given after done close.result.count room c.requires.1 c.requires.0 whole.flat
     (record {
       within = omega (arith, finish.ensures.within.1);
       many = given-many finish.new.out done.count (omega (arith, finish.ensures.within.1));
@@ -84,7 +84,7 @@ returns-then-last-clause-gives c = λ cell more to_come s lasts.
           (cases_lt here.count room);
       cut = λ free. finish.ensures.done (omega arith);
       ended = λ free. (close.ensures.ended (omega arith)).0;
-      end = λ free taken. close.ensures.end (omega arith) profile cell whole.lefts taken whole.flat;
+      end = λ free taken. close.ensures.end (omega arith) profile cell taken;
     }) ends in
     record {
       front = closed.front;

@@ -1,7 +1,9 @@
-use Rattle.std.proofs.Common.{◌≡◌, ◌<◌, ◌==◌, true, false, Some, refl, sym, ap, subst, ◌∙◌, arith}
+use Rattle.std.proofs.Common.{◌≡◌, ◌<◌, ◌==◌, ◌++◌, [], true, false, Some, refl, sym, ap, subst, ◌∙◌, arith}
 use Rattle.std.proofs.lemmas.Bool.Decides.{nat_tests}
 use Rattle.std.proofs.lemmas.List.{append-nil}
 use Rattle.lbk_rules.specs.Normal.{normal}
+use Rattle.lbk_rules.specs.Rows.{verdict_shown}
+use Rattle.lbk_bytes.specs.Bytes.{with_break}
 use Rattle.lbk_bytes.specs.Shown.{given_in}
 use Rattle.lbk_bytes.proofs.AheadLemmas.{told_by}
 use Rattle.lbk_bytes.specs.Reached.{IsInOrder}
@@ -11,24 +13,25 @@ use Rattle.lbk_streams.proofs.StandsLemmas.{Stands-settle}
 use Rattle.lbk_streams.proofs.taking.meet.Goals as goal
 
 pub returns-then-closes-clause-stands : goal.returns-then-closes-clause-stands
-returns-then-closes-clause-stands c = λ profile cell lefts bytes all flat some is_char stands.
+returns-then-closes-clause-stands c = λ profile cell bytes all flat some is_char stands.
     let place = c.args.place in
     let given = given_in c.args.out.now c.args.count in
     let held : (place.held_code == 0) ≡ false = grind (arith, nat_tests) in
     let told : told_by false (normal (cell c.args.c)) ≡ Some true =
     ap (told_by false) (sym (c.cell-cell.ensures cell flat.kinds)) ∙ sym c.unit_closes.ensures ∙ c.in-Some.is ∙ ap Some c.if-closes.true in
-    Stands-settle profile cell lefts place bytes all given given c.args.c true some is_char held told (sym (append-nil given)) stands
+    Stands-settle profile cell place bytes all given given c.args.c true some is_char held told (sym (append-nil given)) stands
 
 pub returns-clause-stands : goal.returns-clause-stands
-returns-clause-stands c = λ profile cell lefts bytes all flat some is_char stands.
+returns-clause-stands c = λ profile cell bytes all flat some is_char stands.
     let place = c.args.place in
     let given = given_in c.args.out.now c.args.count in
     let waits : 0 < place.held_code = omega arith in
     let held : (place.held_code == 0) ≡ false = grind (arith, nat_tests) in
     let told : told_by false (normal (cell c.args.c)) ≡ Some false =
     ap (told_by false) (sym (c.cell-cell.ensures cell flat.kinds)) ∙ sym c.unit_closes.ensures ∙ c.in-Some.is ∙ ap Some c.if-closes.false in
-    Stands-settle profile cell lefts place bytes all given (given_in c.put-more.new.out c.put-more.result) c.args.c false some is_char held told
-    (c.put-more.ensures.front (stands.waits waits).coded) stands
+    Stands-settle profile cell place bytes all given (given_in c.put-more.new.out c.put-more.result) c.args.c false some is_char held told
+    (c.put-more.ensures.front
+    ∙ ap (λ n. given ++ with_break place.held_at (verdict_shown n) []) (c.shown_by-shown.ensures.same (stands.waits waits).coded)) stands
 
 pub returns-then-closes-clause-placed : goal.returns-then-closes-clause-placed
 returns-then-closes-clause-placed c = λ from p.

@@ -1,12 +1,12 @@
 use Rattle.std.proofs.Common.{◌+◌, ◌%◌, ◌^◌, ◌<◌, ◌++◌, [], ◌∷◌, drop, get_or, map, sym, ap, subst, ◌∙◌, refl, arith}
 use Rattle.std.proofs.lemmas.List.{append-nil}
 use Rattle.bstr.specs.Utf8.{lossy_chars}
-use Rattle.lbk_rules.specs.Codes.{verdict_coded}
 use Rattle.lbk_rules.specs.Verdict.{verdict_between_in}
-use Rattle.lbk_rules.specs.FlatTable.{no_flat_step}
+use Rattle.lbk_rules.specs.Rows.{IsPlace, step_by, steps_in, verdict_shown}
+use Rattle.lbk_values.specs.declared.profile.Profile.TheVariants.{First}
 use Rattle.lbk_streams.specs.declared.stream.Place.{Place}
 use Rattle.lbk_bytes.specs.Bytes.{with_break}
-use Rattle.lbk_bytes.specs.Reached.{IsInOrder, steps_in}
+use Rattle.lbk_bytes.specs.Reached.{IsInOrder}
 use Rattle.lbk_bytes.specs.Shown.{given_in}
 use Rattle.lbk_streams.specs.Stands.{Waits}
 use Rattle.lbk_streams.proofs.PlaceLemmas.{IsInOrder-at, IsPlaced-free, IsPlaced-held, next-held}
@@ -14,91 +14,94 @@ use Rattle.lbk_streams.proofs.StandsLemmas.{Stands-join, Stands-on, decides-late
 use Rattle.lbk_streams.proofs.taking.pass.Goals as goal
 
 pub returns-then-place-ne0-clause-stands : goal.returns-then-place-ne0-clause-stands
-returns-then-place-ne0-clause-stands c = λ cell lefts bytes all flat some is_char is_size joins stands.
+returns-then-place-ne0-clause-stands c = λ cell bytes all flat some is_char is_size joins stands.
     let place = c.args.place in
-    let first = c.step_at-first.result.now in
+    let first = c.step_in-first.result in
     let next : Place = record { at = (place.at + c.args.size) % 2 ^ 64; held_at = place.held_at; row = first.next; held_code = place.held_code } in
     let held : 0 < place.held_code = omega arith in
-    Stands-join c.args.profile cell lefts place next bytes all (given_in c.args.out.now c.args.count) c.args.c c.args.size some is_char is_size held (joins held)
-    refl refl refl (knows-next cell lefts c.args.table.now place.row c.args.c first flat c.ranges.c.0 c.step_at-first.ensures) stands
+    Stands-join c.args.profile cell place next bytes all (given_in c.args.out.now c.args.count) c.args.c c.args.size some is_char is_size held (joins held)
+    refl refl refl
+    (knows-next cell c.args.table.now place.row c.args.c first flat c.ranges.c.0
+    (λ at. c.step_in-first.ensures.read ∙ ap (λ r. step_by (steps_in First) r (get_or c.args.table.now.kinds c.args.c 0)) (c.place_by-row.ensures.same at))) stands
 
 pub returns-then-waits-clause-stands : goal.returns-then-waits-clause-stands
-returns-then-waits-clause-stands c = λ cell lefts bytes all flat some is_char is_size joins stands.
+returns-then-waits-clause-stands c = λ cell bytes all flat some is_char is_size joins stands.
     let place = c.args.place in
     let profile = c.args.profile in
     let table = c.args.table.now in
     let x = c.args.c in
-    let first = c.step_at-first.result.now in
-    let step = c.step_at-step.result.now in
+    let first = c.step_in-first.result in
+    let step = c.step_in-step.result in
     let kind = get_or table.kinds x 0 in
     let scalar = c.ranges.c.0 in
     let told = c.waits.ensures.held c.if-waits.true in
     let second = told.0 in
     let held = told.1 in
-    let is_first = c.step_at-first.ensures in
-    let is_step = c.step_at-step.ensures ∙ ap (λ l. get_or l (place.row + kind) no_flat_step) c.steps_of-steps.ensures
-    ∙ ap (λ p. get_or (steps_in table p) (place.row + kind) no_flat_step) second in
-    let next : Place = record { at = (place.at + c.args.size) % 2 ^ 64; held_at = place.at; row = first.next; held_code = first.code } in
+    let is_first = λ (at : IsPlace place.row). c.step_in-first.ensures.read ∙ ap (λ r. step_by (steps_in First) r kind) (c.place_by-row.ensures.same at) in
+    let is_step = λ (at : IsPlace place.row).
+    c.step_in-step.ensures.read ∙ ap (λ r. step_by (steps_in profile) r kind) (c.place_by-row.ensures.same at)
+    ∙ ap (λ p. step_by (steps_in p) place.row kind) second in
+    let next : Place = record { at = (place.at + c.args.size) % 2 ^ 64; held_at = place.at; row = first.next; held_code = first.shown } in
     let rest = drop c.args.size bytes in
     let given = given_in c.args.out.now c.args.count in
-    Stands-on profile cell lefts place next bytes all given [] given x c.args.size some is_char is_size c.if-place-ne0.false
-    refl (knows-next cell lefts table place.row x first flat scalar is_first)
+    Stands-on profile cell place next bytes all given [] given x c.args.size some is_char is_size c.if-place-ne0.false
+    refl (knows-next cell table place.row x first flat scalar is_first)
     (λ taken known.
-    decides-late cell lefts table taken place next rest x first step flat known scalar is_first is_step held told.2 refl refl
+    decides-late cell table taken place next rest x first step flat known scalar is_first is_step held told.2 refl refl
     ∙ ap (λ p. with_break place.at (verdict_between_in p (map cell taken) (cell x ∷ map cell (lossy_chars rest))) []) (sym second))
     (λ taken known onward _.
     subst (λ p. Waits p cell (taken ++ x ∷ []) next) (sym second)
-    (waits-now cell lefts table taken place next x first step flat known scalar is_first is_step held told.2 refl refl onward))
+    (waits-now cell table taken place next x first step flat known scalar is_first is_step held told.2 refl refl onward))
     (sym (append-nil given)) stands
 
 pub returns-clause-stands : goal.returns-clause-stands
-returns-clause-stands c = λ cell lefts bytes all flat some is_char is_size joins stands.
+returns-clause-stands c = λ cell bytes all flat some is_char is_size joins stands.
     let place = c.args.place in
     let profile = c.args.profile in
     let table = c.args.table.now in
     let x = c.args.c in
-    let first = c.step_at-first.result.now in
-    let step = c.step_at-step.result.now in
+    let first = c.step_in-first.result in
+    let step = c.step_in-step.result in
     let kind = get_or table.kinds x 0 in
     let scalar = c.ranges.c.0 in
-    let is_first = c.step_at-first.ensures in
-    let is_step = c.step_at-step.ensures ∙ ap (λ l. get_or l (place.row + kind) no_flat_step) c.steps_of-steps.ensures in
+    let is_first = λ (at : IsPlace place.row). c.step_in-first.ensures.read ∙ ap (λ r. step_by (steps_in First) r kind) (c.place_by-row.ensures.same at) in
+    let is_step = λ (at : IsPlace place.row). c.step_in-step.ensures.read ∙ ap (λ r. step_by (steps_in profile) r kind) (c.place_by-row.ensures.same at) in
     let quiet = c.waits.ensures.decided c.if-waits.false in
     let none = c.if-place-ne0.false in
     let next : Place = record { at = (place.at + c.args.size) % 2 ^ 64; held_at = place.held_at; row = first.next; held_code = place.held_code } in
     let rest = drop c.args.size bytes in
     let right = map cell (lossy_chars rest) in
-    let front = with_break place.at (verdict_coded step.code) [] in
-    Stands-on profile cell lefts place next bytes all (given_in c.args.out.now c.args.count) front (given_in c.put-more.new.out c.put-more.result)
+    let front = with_break place.at (verdict_shown step.shown) [] in
+    Stands-on profile cell place next bytes all (given_in c.args.out.now c.args.count) front (given_in c.put-more.new.out c.put-more.result)
     x c.args.size some is_char is_size none
-    refl (knows-next cell lefts table place.row x first flat scalar is_first)
+    refl (knows-next cell table place.row x first flat scalar is_first)
     (λ taken known.
     ap (λ l. front ++ l) (late-none cell next rest none) ∙ append-nil front
-    ∙ (decides-now profile cell lefts table taken place.at place.row x first step right flat known scalar is_first is_step quiet).1)
+    ∙ decides-now profile cell table taken place.at place.row x first step right flat known scalar is_first is_step quiet)
     (λ taken known onward waits. absurd (omega arith))
-    (c.put-more.ensures.front (decides-now profile cell lefts table stands.taken place.at place.row x first step right flat stands.knows scalar is_first is_step quiet).0)
+    c.put-more.ensures.front
     stands
 
 pub returns-then-place-ne0-clause-placed : goal.returns-then-place-ne0-clause-placed
 returns-then-place-ne0-clause-placed c = λ from some fits p.
     let place = c.args.place in
     let held : 0 < place.held_code = omega arith in
-    let next : Place = record { at = (place.at + c.args.size) % 2 ^ 64; held_at = place.held_at; row = c.step_at-first.result.now.next; held_code = place.held_code } in
+    let next : Place = record { at = (place.at + c.args.size) % 2 ^ 64; held_at = place.held_at; row = c.step_in-first.result.next; held_code = place.held_code } in
     IsPlaced-held c.args.out.now c.args.count from next (omega (arith, p.waits held))
     (subst (λ n. IsInOrder c.args.out.now c.args.count from n) (next-held place held) p.order)
 
 pub returns-then-waits-clause-placed : goal.returns-then-waits-clause-placed
 returns-then-waits-clause-placed c = λ from some fits p.
     let place = c.args.place in
-    let first = c.step_at-first.result.now in
-    let next : Place = record { at = (place.at + c.args.size) % 2 ^ 64; held_at = place.at; row = first.next; held_code = first.code } in
+    let first = c.step_in-first.result in
+    let next : Place = record { at = (place.at + c.args.size) % 2 ^ 64; held_at = place.at; row = first.next; held_code = first.shown } in
     IsPlaced-held c.args.out.now c.args.count from next (omega arith) (IsInOrder-at c.args.out.now c.args.count from place p)
 
 pub returns-clause-placed : goal.returns-clause-placed
 returns-clause-placed c = λ from some fits p.
     let place = c.args.place in
     let put = c.put-more in
-    let next : Place = record { at = (place.at + c.args.size) % 2 ^ 64; held_at = place.held_at; row = c.step_at-first.result.now.next; held_code = place.held_code } in
+    let next : Place = record { at = (place.at + c.args.size) % 2 ^ 64; held_at = place.held_at; row = c.step_in-first.result.next; held_code = place.held_code } in
     let later : place.at < next.at = omega arith in
     let order = IsInOrder-at c.args.out.now c.args.count from place p in
     IsPlaced-free put.new.out put.result from next.at next c.if-place-ne0.false (omega arith)

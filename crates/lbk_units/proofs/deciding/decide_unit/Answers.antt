@@ -9,11 +9,11 @@ overflow_add-next g c =
     omega (arith, front.within)
 
 pub returns-clause-decided : goal.returns-clause-decided
-returns-clause-decided g c = λ cell lefts taken flat known.
+returns-clause-decided g c = λ cell taken flat known.
     let text = c.args.text.now in
     let at = c.args.at in
     let of = g.U.Unit.pieces_of in
     let found = c.front-piece.result in
     let front = front-at of text at found c.requires.1 c.front-piece.ensures in
-    unit-decided of text _ at found c.args.profile cell lefts taken c.args.table.now c.args.row c.code_ahead-code.result c.step_at-step.result.now
-    front flat c.front-piece.type_inv.1.1.0.1 (rest-of text (at + found.size)) c.step_at-step.ensures (c.code_ahead-code.ensures cell lefts taken flat known) known
+    unit-decided of text _ at found c.args.profile cell taken c.args.table.now.kinds c.args.row c.shown_ahead-shown.result c.step_in-step.result
+    front flat.kinds c.front-piece.type_inv.1.1.0.1 (rest-of text (at + found.size)) c.step_in-step.ensures.read (c.shown_ahead-shown.ensures.decides cell taken flat known) known

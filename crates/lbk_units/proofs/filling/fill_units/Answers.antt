@@ -12,5 +12,5 @@ loop-here-preserved g c =
       within = within.2;
       no_room = λ none. absurd (omega arith);
       in_order = λ from order. further.ensures.in_order from (l.invariant.in_order from order);
-      reached = λ cell lefts all flat start. further.ensures.reached cell lefts all flat (l.invariant.reached cell lefts all flat start);
+      reached = λ cell all flat start. further.ensures.reached cell all flat (l.invariant.reached cell all flat start);
     }

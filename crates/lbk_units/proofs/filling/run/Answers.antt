@@ -24,15 +24,15 @@ loop-count-preserved g c =
     let front = front-at of c.args.text.now l.at found (omega arith) c.front-piece.ensures in
     record {
       room = omega (arith, put.ensures.within);
-      row = omega arith;
+      row = c.step_at-step.ensures.begins;
       within = front.within;
       onward = omega (arith, l.invariant.onward);
       more = omega (arith, l.invariant.more);
       in_order = λ from order.
           let here = l.invariant.in_order from order in
           (omega (arith, here.0), put.ensures.in_order from (l.at + found.size) (omega (arith, front.some)) here);
-      reached = λ profile cell lefts all swift are_kinds start.
-          reached-swift profile cell lefts (on_from of c.args.text.now) all c.args.steps.now c.args.kinds.now l.out put.new.out l.count put.result l.row l.at
+      reached = λ profile cell all swift are_kinds start.
+          reached-swift profile cell (on_from of c.args.text.now) all c.args.steps.now c.args.kinds.now l.out put.new.out l.count put.result l.row l.at
           found.scalar found.size front.piece step swift are_kinds c.front-piece.type_inv.1.1.0.1 front.begins front.reads front.sized front.some
-          c.step_at-step.ensures c.if-step-eq-HELD.false put.ensures.front (l.invariant.reached profile cell lefts all swift are_kinds start);
+          c.step_at-step.ensures.read c.if-step-eq-HELD.false put.ensures.front (l.invariant.reached profile cell all swift are_kinds start);
     }

@@ -1,10 +1,10 @@
-use Rattle.std.proofs.Common.{◌-◌, ◌<◌, ◌≤◌, ℕ, List, length}
+use Rattle.std.proofs.Common.{◌≡◌, ◌-◌, ◌≤◌, ℕ, List, length}
 use Rattle.lbk_rules.specs.declared.Break.{Break}
 use Rattle.lbk_rules.specs.declared.Cell.{Cell}
-use Rattle.lbk_rules.specs.declared.Left.{Left}
 use Rattle.lbk_values.specs.declared.profile.Profile.{Profile}
 use Rattle.lbk_rules.specs.FlatTable.{AreFlatKinds}
-use Rattle.lbk_bytes.specs.Reached.{AreSwift, IsInOrder}
+use Rattle.lbk_rules.specs.Rows.{IsPlace, steps_in}
+use Rattle.lbk_bytes.specs.Reached.{IsInOrder}
 use Rattle.lbk_bytes.specs.Shown.{given_in}
 use Rattle.lbk_units.specs.Reached.{UnitsReached, on_from}
 use Rattle.lbk_units.proofs.filling.run.Given as goal
@@ -12,15 +12,15 @@ use Rattle.lbk_units.proofs.filling.run.Given as goal
 abbrev pub invariant-loop-count : goal.invariant-loop-count
 invariant-loop-count g l = record {
   room : l.count ≤ length l.out;
-  row : l.row < 65536;
+  row : IsPlace l.row;
   within : l.at ≤ length l.text;
   onward : l.initial.at ≤ l.at;
   more : l.initial.count ≤ l.count;
   in_order : (from : ℕ) → IsInOrder l.initial.out l.initial.count from l.initial.at → IsInOrder l.out l.count from l.at;
-  reached : (profile : Profile) (cell : ℕ → Cell) (lefts : List Left) (all : List Break) → AreSwift profile lefts l.steps → AreFlatKinds l.kinds cell
-      → UnitsReached profile cell lefts (on_from g.U.Unit.pieces_of l.text) all
+  reached : (profile : Profile) (cell : ℕ → Cell) (all : List Break) → l.steps ≡ steps_in profile → AreFlatKinds l.kinds cell
+      → UnitsReached profile cell (on_from g.U.Unit.pieces_of l.text) all
       (record { count = l.initial.count; row = l.initial.row; at = l.initial.at }) (given_in l.initial.out l.initial.count)
-      → UnitsReached profile cell lefts (on_from g.U.Unit.pieces_of l.text) all (record { count = l.count; row = l.row; at = l.at }) (given_in l.out l.count);
+      → UnitsReached profile cell (on_from g.U.Unit.pieces_of l.text) all (record { count = l.count; row = l.row; at = l.at }) (given_in l.out l.count);
 }
 
 abbrev pub decreases-loop-count : goal.decreases-loop-count

@@ -5,12 +5,12 @@ use Rattle.lbk_units.proofs.ReachedLemmas.{reached-decided}
 use Rattle.lbk_units.proofs.filling.take_one.Goals as goal
 
 pub returns-clause-reached : goal.returns-clause-reached
-returns-clause-reached g c = λ cell lefts all flat reached.
+returns-clause-reached g c = λ cell all flat reached.
     let here = c.args.here in
     let decided = c.decide_unit-decided in
-    reached-decided c.args.profile cell lefts (on_from g.U.Unit.pieces_of c.args.text.now) all here c.put-count.result
+    reached-decided c.args.profile cell (on_from g.U.Unit.pieces_of c.args.text.now) all here c.put-count.result
     (given_in c.args.out.now here.count) (given_in c.put-count.new.out c.put-count.result) decided.result
-    (λ taken known. decided.ensures.decided cell lefts taken flat known) c.put-count.ensures.front reached
+    (λ taken known. decided.ensures.decided cell taken flat known) c.put-count.ensures.front reached
 
 pub returns-clause-in_order : goal.returns-clause-in_order
 returns-clause-in_order g c = λ from order.

@@ -18,8 +18,8 @@ loop-here-preserved g c =
       in_order = λ from order.
           let here = l.invariant.in_order from order in
           (omega (arith, here.0, within.1), put.ensures.in_order from decided.result.at within.1 here);
-      reached = λ cell lefts all flat start.
-          position-decided c.args.profile cell lefts (on_from g.U.Unit.pieces_of c.args.text.now) all l.here put.result (given_in l.out l.here.count) (given_in put.new.out put.result)
-          decided.result (λ taken known. decided.ensures.decided cell lefts taken flat known) put.ensures.front
-          (l.invariant.reached cell lefts all flat start);
+      reached = λ cell all flat start.
+          position-decided c.args.profile cell (on_from g.U.Unit.pieces_of c.args.text.now) all l.here put.result (given_in l.out l.here.count) (given_in put.new.out put.result)
+          decided.result (λ taken known. decided.ensures.decided cell taken flat known) put.ensures.front
+          (l.invariant.reached cell all flat start);
     }

@@ -1,0 +1,23 @@
+use Rattle.std.proofs.Common.{◌-◌, ◌<◌, ◌≤◌, ℕ, length}
+use Rattle.lbk_rules.specs.declared.Cell.{Cell}
+use Rattle.lbk_rules.specs.FlatTable.{IsFlatOf}
+use Rattle.lbk_rules.specs.Rows.{IsPlace}
+use Rattle.lbk_bytes.specs.Reached.{Ahead, IsInOrder, Reached}
+use Rattle.lbk_bytes.specs.Shown.{given_in}
+use Rattle.lbk_bytes.proofs.held.take_ones.Given as goal
+
+abbrev pub invariant-loop-here : goal.invariant-loop-here
+invariant-loop-here l = record {
+  room : l.here.count ≤ length l.out;
+  row : IsPlace l.here.row;
+  within : l.here.at ≤ length l.text;
+  onward : l.fn.start.at < l.here.at;
+  more : l.fn.start.count ≤ l.here.count;
+  in_order : (from : ℕ) → IsInOrder l.fn.out l.fn.start.count from l.fn.start.at → IsInOrder l.out l.here.count from l.here.at;
+  reached : (cell : ℕ → Cell) (all : Ahead) → IsFlatOf l.fn.table cell
+      → Reached l.fn.profile cell l.text all l.fn.start (given_in l.fn.out l.fn.start.count)
+      → Reached l.fn.profile cell l.text all l.here (given_in l.out l.here.count);
+}
+
+abbrev pub decreases-loop-here : goal.decreases-loop-here
+decreases-loop-here l = length l.text - l.here.at

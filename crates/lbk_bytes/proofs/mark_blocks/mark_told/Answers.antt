@@ -1,0 +1,79 @@
+use Rattle.std.proofs.Common.{◌≡◌, [], ◌<◌, ◌≤◌, ◌^◌, ◌+◌, ◌-◌, ◌&&◌, ◌||◌, ◌++◌, false, leb, length, refl, sym, ap, subst, ◌∙◌, ⊎_elim, arith, w64}
+use Rattle.std.specs.Int.{trailing_zeros}
+use Rattle.std.proofs.lemmas.Bool.{and_right, cases_lt}
+use Rattle.lbk_masks.specs.Sets.{is_set}
+use Rattle.lbk_bytes.specs.Blocks.{Rests, byte_at, end_at, row_before}
+use Rattle.lbk_bytes.specs.Marking.{uncounted}
+use Rattle.lbk_bytes.specs.Marks.{boundary_from, is_marked}
+use Rattle.lbk_bytes.specs.Reached.{Reached}
+use Rattle.lbk_bytes.proofs.BitLemmas.{lowest-from, zeros-below, zeros-end, zeros-few}
+use Rattle.lbk_bytes.proofs.BlockBeginLemmas.{is-block}
+use Rattle.lbk_bytes.proofs.BlockScalarLemmas.{end-low, rest-row}
+use Rattle.lbk_bytes.proofs.BoundaryLemmas.{block-boundary}
+use Rattle.lbk_bytes.proofs.MarkBitLemmas.{none-past}
+use Rattle.lbk_bytes.proofs.MarkBlockLemmas.{block-from, block-taken, recount}
+use Rattle.lbk_bytes.proofs.MarkLemmas.{Marked-more, below-wider, or-false}
+use Rattle.lbk_bytes.proofs.mark_blocks.mark_told.Goals as goal
+
+pub returns-clause-within : goal.returns-clause-within
+returns-clause-within c =
+    let stops = c.kept_from.result in
+    let some = lowest-from c.args.marks.stops (c.args.here.at - c.args.at) stops (omega arith) (omega arith) c.kept_from.ensures in
+    let few = zeros-few stops in
+    let place = c.behind_byte.ensures.place.1 in
+    (omega arith, omega (arith, some, place), omega (arith, few, place))
+
+pub returns-clause-after : goal.returns-clause-after
+returns-clause-after c = λ i past.
+    let index = c.args.at - c.args.from in
+    let kept = c.kept_up_to.result in
+    let is_at = c.behind_byte.ensures.place.1 in
+    let none : is_set kept (i - index) ≡ false =
+    ⊎_elim (λ (few : i - index < 64). c.kept_up_to.ensures.none (i - index) (omega arith) few) (λ (far : 64 ≤ i - index). none-past kept (i - index) (omega arith) far) (cases_lt (i - index) 64) in
+    c.mark_bits.ensures i ∙ or-false (is_marked c.args.words.now i) (leb index i && is_set kept (i - index)) (and_right (leb index i) (is_set kept (i - index)) none)
+
+pub returns-clause-marked : goal.returns-clause-marked
+returns-clause-marked c = λ profile cell steps kinds more all swift are_kinds told are_marks m.
+    let text = c.args.text.now in
+    let pairs = c.args.pairs.now in
+    let at = c.args.at in
+    let here = c.args.here in
+    let there = c.behind_byte.result in
+    let marks = c.args.marks in
+    let begin = here.at - at in
+    let is_at : here.at ≡ at + begin = omega arith in
+    let stops = c.kept_from.result in
+    let fits : stops < 2 ^ 64 = omega arith in
+    let taken = trailing_zeros w64 stops in
+    let some = lowest-from marks.stops begin stops fits (omega arith) c.kept_from.ensures in
+    let few = zeros-few stops in
+    let kept = c.kept_up_to.result in
+    let room : at + taken ≤ length text = omega arith in
+    let rests : Rests pairs here text = record { below = omega arith; row = omega arith } in
+    Marked-more profile cell (text ++ more) all c.args.from (length text) here there c.args.words.now c.mark_bits.new.words (omega arith)
+    (λ rest start.
+    let block = is-block profile cell steps kinds pairs text at begin taken marks here swift are_kinds told (λ i. (c.type_inv.text i).fits)
+    are_marks rests is_at some few room start.knows.0
+    (λ i after h. sym (c.kept_from.ensures.same i after (omega arith)) ∙ zeros-below stops fits i h)
+    (λ h. sym (c.kept_from.ensures.same taken some h) ∙ zeros-end stops fits h) in
+    let low : byte_at text (at + begin - 1) < 192 = subst (λ n. byte_at text (n - 1) < 192) is_at rests.below in
+    let is_row : here.row ≡ row_before pairs text (at + begin) = subst (λ n. here.row ≡ row_before pairs text n) is_at (rest-row pairs here text start.knows.0 rests) in
+    let begun = subst (λ n. Reached profile cell (text ++ more) rest (record { count = 0; row = here.row; at = n }) []) is_at start in
+    let all_taken = block-taken profile cell text more rest steps kinds pairs here.row at begin taken marks.standing c.kept_from-2.result kept some block
+    (λ i h. are_marks.standing i h (omega arith)) c.kept_from-2.ensures c.kept_up_to.ensures is_row low begun in
+    let place = c.behind_byte.ensures.place.1 in
+    let left = taken - begin in
+    let whole : at + taken ≡ at + begin + left = omega arith in
+    let further = block-from profile cell steps kinds pairs text at begin taken some block in
+    record {
+      given = all_taken.given;
+      reached = recount profile cell (text ++ more) rest _ (uncounted there) all_taken.given all_taken.given
+          (c.behind_byte.ensures.row) place refl all_taken.reached;
+      below = below-wider (at + taken) (length text) all_taken.given (omega arith) all_taken.below;
+      marked = λ i. c.mark_bits.ensures i ∙ ap (λ b. is_marked c.args.words.now i || b) (all_taken.bits c.args.from i (omega arith) (omega arith));
+      boundary =
+          ap (λ n. boundary_from (text ++ more) n (length text)) (place ∙ sym (end-low text (at + taken) block.ends))
+          ∙ ap (λ n. boundary_from (text ++ more) (end_at text n) (length text)) whole
+          ∙ block-boundary profile cell text more steps kinds pairs (at + begin) left left (length text) (omega arith) further low (omega arith) (omega arith)
+          ∙ ap (λ n. boundary_from (text ++ more) n (length text)) (sym is_at);
+    }) m

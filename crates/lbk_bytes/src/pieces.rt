@@ -1,0 +1,78 @@
+//! Scalars of any width and ill-formed bytes, where they are mixed.
+
+ghost use Rattle.std.specs.Prelude.{◌≡◌, ℕ, ◌<◌, ◌≤◌, ◌++◌, List, length};
+ghost use Rattle.lbk_rules.specs.declared.Cell.{Cell};
+ghost use Rattle.lbk_values.specs.declared.profile.Profile.{Profile};
+ghost use Rattle.lbk_rules.specs.FlatTable.{AreFlatKinds};
+ghost use Rattle.lbk_rules.specs.Rows.{AreSteps, IsPlace, steps_in};
+ghost use Rattle.lbk_bytes.specs.Marks.{boundary_from};
+ghost use Rattle.lbk_bytes.specs.Reached.{Ahead, IsInOrder, Reached};
+ghost use Rattle.lbk_bytes.specs.Shown.{given_in};
+
+use crate::blocks::CODES;
+use crate::decoding::{ENOUGH, REPLACEMENT, piece_of};
+use crate::fill_state::FillState;
+use crate::filling::put;
+use crate::raw_break::RawBreak;
+use lbk_rules::{HELD, Rows, step_at};
+
+/// How many common scalars are taken here behind one that is not. Behind more of them the loops for scalars of one
+/// width are faster.
+const PATIENCE: usize = 4;
+
+/// Takes scalars and ill-formed bytes that begin before a byte, whatever may follow the text, until some common
+/// scalars come one after another, or a held position. Those in the last bytes of a text may go on behind it, and
+/// are left.
+#[cold]
+#[inline(never)]
+pub(crate) fn pieces(
+    kinds: &[u8; CODES],
+    steps: &Rows,
+    start: FillState,
+    stop: usize,
+    text: &[u8],
+    out: &mut [RawBreak],
+) -> FillState
+    requires place { (start.count ≤ length out.old) × IsPlace start.row × (start.at ≤ length text.now)
+        × (stop ≤ length text.now) }
+    requires steps { AreSteps steps.now }
+    ensures within { (result.count ≤ length out.old) × IsPlace result.row × (result.at ≤ length text.now) }
+    ensures onward { (start.at ≤ result.at) × (start.count ≤ result.count) }
+    ensures in_order { (from : ℕ) → IsInOrder out.old start.count from start.at
+        → IsInOrder out.new result.count from result.at }
+    ensures boundary { (more : List ℕ) (place : ℕ) → stop ≤ place
+        → boundary_from (text.now ++ more) result.at place ≡ boundary_from (text.now ++ more) start.at place }
+    ensures reached { (profile : Profile) (cell : ℕ → Cell) (more : List ℕ) (all : Ahead)
+        → steps.now ≡ steps_in profile → AreFlatKinds kinds.now cell
+        → Reached profile cell (text.now ++ more) all start (given_in out.old start.count)
+        → Reached profile cell (text.now ++ more) all result (given_in out.new result.count) }
+{
+    let mut count = start.count;
+    let mut row = start.row;
+    let mut at = start.at;
+    let mut patience = PATIENCE;
+    let end = stop.min(text.len().saturating_sub(ENOUGH - 1));
+    while count < out.len() && at < end && 0 < patience {
+        let piece = piece_of(&text[at..]);
+        let step = step_at(steps, row, kinds[piece.code as usize]);
+        if step.shown == HELD {
+            break;
+        }
+        count = put(out, count, at, step.shown);
+        row = step.next as usize;
+        at += piece.size;
+        patience = patience_behind(piece.code, patience);
+    }
+    FillState { count, row, at }
+}
+
+/// How many common scalars more are taken behind this one.
+#[inline(always)]
+fn patience_behind(code: u32, patience: usize) -> usize
+    requires { 0 < patience }
+{
+    if REPLACEMENT <= code {
+        return PATIENCE;
+    }
+    patience - 1
+}
