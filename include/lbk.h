@@ -2,7 +2,7 @@
  *
  * The library finds where a line of text may break and where it must, and says which rule decided.
  *
- *     static lbk_table table;                                  1.6 MB: not on a small stack
+ *     static lbk_table table;                                  1.1 MB: not on a small stack
  *     lbk_fault fault = lbk_read(&table, line_break, line_break_size, ..);
  *     if (fault.cause != LBK_CAUSE_NONE) ..                    once, from four files of the Unicode Character Database
  *
@@ -25,7 +25,8 @@
  *
  * Everything else is memory-safe: any bytes in the files, the text, the table, the state and the stream. Each call
  * then returns, and reads and writes only what it was given. A corrupt table, state or stream gives wrong breaks,
- * nothing worse.
+ * nothing worse: the rules are in the library and not in the table, so each break of lbk_breaks is by the rule that
+ * they give before a character of its class, after some text.
  *
  * Memory. The caller owns all memory. The library keeps no pointers, and there is nothing to free. Only lbk_read and
  * lbk_read_published allocate, and they free what they allocated before they return.
@@ -59,11 +60,10 @@ extern "C" {
 #define LBK_WORDS_UNICODE_VERSION "18.0"
 
 /* The table layout of this version: lbk_table.layout of each table that it fills. */
-#define LBK_LAYOUT 3
+#define LBK_LAYOUT 4
 
-/* How many code points Unicode has, 0 to 10FFFF, and how many steps each array of a table has. */
+/* How many code points Unicode has, 0 to 10FFFF. */
 #define LBK_CODES 0x110000
-#define LBK_STEPS 65792
 
 /* lbk_break.kind. Of these, lbk_breaks gives LBK_MAY and LBK_MUST, and lbk_positions gives all three. */
 enum {
@@ -74,7 +74,7 @@ enum {
 
 /* lbk_break.rule: the rules of UAX #14, section 6, in their order. A rule's number is 8 times its number in the
  * standard, plus the place of its letter, so a later version of Unicode changes no number. lbk_label returns its
- * name. */
+ * name, lbk_rule_text what it says. */
 enum {
     LBK_RULE_2 = 8 * 2,
     LBK_RULE_3 = 8 * 3,
@@ -132,7 +132,7 @@ enum {
     LBK_EMOJI = 4       /* emoji/emoji-data.txt */
 };
 
-/* lbk_fault.cause */
+/* lbk_fault.cause, and what lbk_unpack returns */
 enum {
     LBK_CAUSE_NONE = 0,          /* no fault: the table is filled */
     LBK_CAUSE_FILE_TOO_LONG = 1, /* the file has more than 8,388,608 bytes; line is 0 */
@@ -144,13 +144,12 @@ enum {
     LBK_CAUSE_TOO_MANY_ROWS = 7, /* the line is the 65,537th row or default of the file */
     LBK_CAUSE_OUT_OF_MEMORY = 8, /* out of memory at this line, or after all files were read (file and line are 0) */
     /* 9 is unused */
-    LBK_CAUSE_NOT_PUBLISHED = 10 /* only from lbk_read_published: not Unicode 15.0.0's file; line is 0 */
+    LBK_CAUSE_NOT_PUBLISHED = 10, /* only from lbk_read_published: not Unicode 15.0.0's file; line is 0 */
+    /* only from lbk_unpack */
+    LBK_CAUSE_NOT_PACKED = 11,   /* the bytes do not begin as a packed table does */
+    LBK_CAUSE_OTHER_LAYOUT = 12, /* the table was packed by a version with another LBK_LAYOUT */
+    LBK_CAUSE_DAMAGED = 13       /* the packed table was changed or cut */
 };
-
-/* One step of a table: numbers of the library's own. */
-typedef struct lbk_step {
-    uint16_t code, next;
-} lbk_step;
 
 /* What a table knows of bytes that stand side by side: numbers of the library's own. */
 typedef struct lbk_neighbours {
@@ -161,12 +160,15 @@ typedef struct lbk_neighbours {
 /* The properties of all code points: lbk_read fills it, and the other calls decide by it. It has no pointers, only
  * numbers in the machine's byte order, so it can be copied, saved, mapped by other processes, and shared.
  *
- * Callers read only `layout`. The other fields differ between layouts. */
+ * Callers read only `layout`. The other fields differ between layouts.
+ *
+ * Any bytes in `kinds` are the classes of some characters, so the calls give the breaks of a text with these. Corrupt
+ * `pairs` may hide breaks from lbk_breaks and lbk_marks, make lbk_breaks take a break for one after other text, and
+ * make lbk_marks set the bits of other offsets. Time grows no faster than a text in any case (measured). */
 typedef struct lbk_table {
     uint64_t layout; /* LBK_LAYOUT in a table that lbk_read filled */
     uint64_t digest; /* of all that follows, for lbk_check */
-    lbk_step first[LBK_STEPS], second[LBK_STEPS];
-    lbk_neighbours first_pairs, second_pairs;
+    lbk_neighbours pairs;
     uint8_t kinds[LBK_CODES];
 } lbk_table;
 
@@ -291,6 +293,11 @@ lbk_fault lbk_read(lbk_table *table, const void *line_break, size_t line_break_s
 lbk_fault lbk_read_published(lbk_table *table, const void *line_break, size_t line_break_size,
                              const void *east_asian, size_t east_asian_size, const void *category,
                              size_t category_size, const void *emoji, size_t emoji_size);
+
+/* Returns whether a file was cut: its first line claims a name that Unicode published, as `# LineBreak-15.0.0.txt`, and
+ * its last line, without white space at the end, is not `# EOF`. lbk_read takes such a file: the code points that were
+ * cut off then have the property's default value. Allocates nothing. */
+bool lbk_is_cut(const void *file, size_t size);
 
 /* Returns what a cause (lbk_fault.cause) means, in English; an empty text for any other number. */
 lbk_text lbk_cause_text(uint32_t cause);
@@ -505,6 +512,9 @@ size_t lbk_cut_before(const lbk_table *table, const char *text, size_t size, siz
 /* Returns the name of a rule by its number; an empty name for any other number. */
 lbk_rule_label lbk_label(uint8_t rule);
 
+/* Returns what a rule says, in one line of English, by its number; an empty text for any other number. */
+lbk_text lbk_rule_text(uint8_t rule);
+
 /* Returns the line breaking class of a scalar value, as rule LB1 resolves it (UAX #14, section 5.1); an empty name for
  * a surrogate, and for a number over 10FFFF. */
 lbk_class_label lbk_class(const lbk_table *table, uint32_t scalar);
@@ -519,6 +529,23 @@ lbk_text lbk_version(void);
  * 2^64. It is no protection against deliberate changes. A corrupt table is safe to use, but gives wrong breaks. */
 bool lbk_check(const lbk_table *table);
 
+/* Writes a table in a packed form of a few kilobytes to the front of `bytes`, for example to ship it with a program,
+ * and returns how many bytes that form has, at most 12 + 2 * LBK_CODES. If they are more than `room`, and for a corrupt
+ * table (0), nothing is written.
+ *
+ * The form is the same on every machine: `lbk` and LBK_LAYOUT as a byte, FNV-1a of what follows (8 bytes, the low one
+ * first), and for each run of code points of one kind the kind and how many code points follow the first of them.
+ * Allocates nothing. */
+size_t lbk_pack(const lbk_table *table, void *bytes, size_t room);
+
+/* Fills a table from its packed form, and returns LBK_CAUSE_NONE. The table has the kinds that were packed, and the
+ * call computes the rest from them anew; it is intact, and gives the same breaks. All other bytes are refused:
+ *
+ *   - LBK_CAUSE_NOT_PACKED and LBK_CAUSE_OTHER_LAYOUT leave the table unchanged.
+ *   - LBK_CAUSE_DAMAGED leaves a table that lbk_check calls corrupt.
+ *   - Kinds that no lbk_read made, packed on purpose, give wrong breaks, nothing worse. Allocates nothing. */
+uint32_t lbk_unpack(lbk_table *table, const void *bytes, size_t size);
+
 #if defined(__cplusplus)
 #define LBK_ASSERT(name, holds) static_assert(holds, #name)
 #elif defined(__STDC_VERSION__) && __STDC_VERSION__ >= 201112L
@@ -528,7 +555,6 @@ bool lbk_check(const lbk_table *table);
 #endif
 
 LBK_ASSERT(a_size_has_64_bits, sizeof(size_t) == 8);
-LBK_ASSERT(a_step_has_4_bytes, sizeof(lbk_step) == 4);
 LBK_ASSERT(a_state_has_16_bytes, sizeof(lbk_state) == 16);
 LBK_ASSERT(a_stream_has_32_bytes, sizeof(lbk_stream) == 32);
 LBK_ASSERT(a_fed_has_16_bytes, sizeof(lbk_fed) == 16);
@@ -543,9 +569,9 @@ LBK_ASSERT(a_label_has_4_bytes, sizeof(lbk_rule_label) == 4);
 LBK_ASSERT(a_class_label_has_4_bytes, sizeof(lbk_class_label) == 4);
 LBK_ASSERT(a_text_has_96_bytes, sizeof(lbk_text) == 96);
 LBK_ASSERT(neighbours_have_672_bytes, sizeof(lbk_neighbours) == 672);
-LBK_ASSERT(a_table_has_no_gaps, sizeof(lbk_table) == 16 + 8 * LBK_STEPS + 2 * 672 + LBK_CODES);
-LBK_ASSERT(steps_stand_where_they_should, offsetof(lbk_table, first) == 16);
-LBK_ASSERT(kinds_stand_where_they_should, offsetof(lbk_table, kinds) == 16 + 8 * LBK_STEPS + 2 * 672);
+LBK_ASSERT(a_table_has_no_gaps, sizeof(lbk_table) == 16 + 672 + LBK_CODES);
+LBK_ASSERT(neighbours_stand_where_they_should, offsetof(lbk_table, pairs) == 16);
+LBK_ASSERT(kinds_stand_where_they_should, offsetof(lbk_table, kinds) == 16 + 672);
 
 #undef LBK_ASSERT
 

@@ -79,6 +79,8 @@ struct error {
         case reason::refused:
             if (fault.line != 0)
                 file += ':' + std::to_string(fault.line);
+            if (fault.cause >= LBK_CAUSE_NOT_PACKED)
+                return lbk_cause_text(fault.cause).text;
             return file + ": " + (claim[0] != 0 ? claim : lbk_cause_text(fault.cause).text);
         case reason::unreadable:
             return file + ": " + std::generic_category().message(system);
@@ -169,18 +171,6 @@ private:
 /// What the first lines of published files begin with.
 inline constexpr std::string_view published[] = {"# LineBreak-", "# EastAsianWidth-", "# DerivedGeneralCategory-", "# emoji-data."};
 
-/// Whether the first line of a file claims a name that Unicode published, and the last is not its end.
-inline bool is_cut(std::string_view file) noexcept
-{
-    bool is_claimed = false;
-    for (std::string_view name : published)
-        is_claimed = is_claimed || file.substr(0, name.size()) == name;
-    // (npos + 1 is 0)
-    file = file.substr(0, file.find_last_not_of(" \t\r\n") + 1);
-    const std::string_view last = file.substr(file.rfind('\n') + 1);
-    return is_claimed && last != "# EOF" && last != "#EOF";
-}
-
 /// Says in English what a file is, by its number in a fault, that is not the one that Unicode published.
 inline void say_claim(std::uint32_t file, std::string_view bytes, char *to, std::size_t room) noexcept
 {
@@ -247,7 +237,7 @@ public:
     {
         const std::string_view files[] = {line_break, east_asian, category, emoji};
         for (std::uint32_t k = 0; is_strict && k < 4; k++)
-            if (detail::is_cut(files[k]))
+            if (lbk_is_cut(files[k].data(), files[k].size()))
                 return none(why, error::reason::refused, 0, {k + 1, 0, LBK_CAUSE_NOT_PUBLISHED});
         return read_by(lbk_read, line_break, east_asian, category, emoji, why);
     }
@@ -319,6 +309,20 @@ public:
         return held;
     }
 
+    /// From the bytes of a packed table, as pack() gave them. Where they are none, `why` has the reason `refused` and the cause.
+    static std::optional<table> try_unpack(std::string_view bytes, error &why) noexcept
+    {
+        lbk_table *made = new (std::nothrow) lbk_table;
+        if (made == nullptr)
+            return none(why, error::reason::out_of_memory);
+        table held(made, freed);
+        const std::uint32_t cause = lbk_unpack(made, bytes.data(), bytes.size());
+        if (cause != LBK_CAUSE_NONE)
+            return none(why, error::reason::refused, 0, {LBK_NO_FILE, 0, cause});
+        why = {};
+        return held;
+    }
+
     /// From a file with the bytes of a table, which is mapped: all processes that map it share its memory.
     static std::optional<table> try_map(const std::string &name, error &why) noexcept
     {
@@ -373,6 +377,12 @@ public:
         return or_throw(try_copy(bytes, why), why);
     }
 
+    static table unpack(std::string_view bytes)
+    {
+        error why;
+        return or_throw(try_unpack(bytes, why), why);
+    }
+
     static table map(const std::string &name)
     {
         error why;
@@ -388,6 +398,14 @@ public:
     /// The bytes of the table, to be kept in a file. They depend on the order of bytes of the machine.
     std::string_view bytes() const & noexcept { return {reinterpret_cast<const char *>(held_.get()), sizeof(lbk_table)}; }
     std::string_view bytes() const && = delete;
+
+    /// The table in a packed form of a few kilobytes, for unpack().
+    std::string pack() const
+    {
+        std::string packed(lbk_pack(held_.get(), nullptr, 0), '\0');
+        lbk_pack(held_.get(), packed.data(), packed.size());
+        return packed;
+    }
 
 private:
     static constexpr const char *REMEDY = "; Debian 12's package unicode-data has the files, and so has "
@@ -1032,6 +1050,9 @@ private:
 
 /// The name of a rule without `LB`, as "8a"; empty for a number that no rule has.
 inline std::string label(std::uint8_t rule) { return lbk_label(rule).text; }
+
+/// What a rule says, in one line of English; empty for a number that no rule has.
+inline std::string rule_text(std::uint8_t rule) { return lbk_rule_text(rule).text; }
 
 /// The name of a scalar's line breaking class once rule LB1 has resolved it, as "AL"; empty for what is no scalar.
 inline std::string class_of(const lbk_table &by, char32_t scalar) { return lbk_class(&by, scalar).text; }

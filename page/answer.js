@@ -3,7 +3,6 @@ import { characterAt, characterBefore } from "./characters.js";
 import { CLASSES } from "./classes.js";
 import { element } from "./elements.js";
 import { SAYS, codeOf, hiddenName, signOf } from "./notation.js";
-import { RULES } from "./rules.js";
 
 /** After these classes a mark stands for itself (rule LB10). */
 const HARD = ["BK", "CR", "LF", "NL", "SP", "ZW"];
@@ -19,13 +18,13 @@ function characterElement(character) {
 export class AnswerView {
   #panel;
   #decided;
-  #classOf;
+  #table;
 
-  /** `classOf` gives the line breaking class of a code point. */
-  constructor(panel, decided, classOf) {
+  /** The table gives the line breaking class of a code point, and what a rule says. */
+  constructor(panel, decided, table) {
     this.#panel = panel;
     this.#decided = decided;
-    this.#classOf = classOf;
+    this.#table = table;
   }
 
   /** Says what decides at a position, or at two. */
@@ -39,7 +38,7 @@ export class AnswerView {
     const [one, other] = [this.#side(before, "the start of the text"), this.#side(after, "the end of the text")];
     const sign = element("span", `sign ${kind}`, signOf(kind));
     const what = element("p", "what", sign, element("strong", "", ` ${SAYS[kind]}`), " between ", ...one, " and ", ...other, ".");
-    const why = element("p", "why", element("span", "rule", `Rule LB${rule}`), ` ${RULES[rule]}`);
+    const why = element("p", "why", element("span", "rule", `Rule LB${rule}`), ` ${this.#table.ruleText(rule)}`);
     const where = element("span", "where", `At offset ${at} (UTF-16 units).`);
     return element("div", "answer", what, why, element("p", "classes", ...this.#classes(at), where));
   }
@@ -62,7 +61,7 @@ export class AnswerView {
   }
 
   #class(character) {
-    return character && this.#classOf(character.codePointAt(0));
+    return character && this.#table.classOf(character.codePointAt(0));
   }
 
   /** Whether the character at a place is a mark that joins the one before it (rule LB9). */

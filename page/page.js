@@ -112,7 +112,7 @@ class Views {
   constructor(table) {
     this.#table = table;
     this.#decided = new DecidedText(table);
-    const answer = new AnswerView(find("detail"), this.#decided, (scalar) => table.classOf(scalar));
+    const answer = new AnswerView(find("detail"), this.#decided, table);
     this.#positions = new PositionsView(find("positions"), this.#decided, (before, after) => {
       answer.show(before, after);
       this.#showPassage(before.at);

@@ -50,8 +50,7 @@ export type Source = ArrayBuffer | ArrayBufferView | Response | URL | string;
 /** The tables made from the files of the Unicode Character Database, with the module that decides by them. */
 export class Table {
   /**
-   * A table saved by `save_table` of the C library, or one that `pack.js` made, compressed by gzip or not. The module
-   * checks its digest.
+   * A table that the library saved or packed in any language, compressed by gzip or not. The module checks its digest.
    * @param saved The bytes of the table, or where they are.
    * @param module The module `lbk.wasm`; the one beside this file unless given.
    * @throws RangeError if the bytes are not a whole table of this version.
@@ -91,6 +90,10 @@ export class Table {
   positionColumns(text: Text, options?: Options): Columns;
   /** The number of a rule as it is written, without `LB`, as "8a"; "" for a number that no rule has. */
   ruleLabel(rule: number): string;
+  /** What a rule says, in one line, by its number or label; "" for one that there is not. */
+  ruleText(rule: number | string): string;
+  /** The table in a packed form of a few kilobytes, the same in each language, for {@link Table.fromBytes}. */
+  pack(): Uint8Array;
   /**
    * The line breaking class of a code point, as "AL", once rule LB1 has resolved it (UAX #14, section 5.1); "" for a surrogate.
    * @throws RangeError if the number is not a code point.

@@ -78,12 +78,12 @@ export class Table {
   }
 
   static async fromFiles(files, module) {
-    const { refusalOf, tableOf } = await import("./property_files.js");
+    const { packedFrom, refusalOf } = await import("./property_files.js");
     const sources = await Table.#sources(files);
-    const steps = new URL("lbk.steps.gz", import.meta.url);
-    const [known, ...given] = await Promise.all([steps, ...sources].map((it) => bytesOf(it).then(unzipped)));
+    const kinds = new URL("lbk.kinds.gz", import.meta.url);
+    const [known, ...given] = await Promise.all([kinds, ...sources].map((it) => bytesOf(it).then(unzipped)));
     try {
-      return await Table.fromBytes(tableOf(given, known), module);
+      return await Table.fromBytes(packedFrom(given, known), module);
     } catch (error) {
       if (!(error instanceof RangeError)) throw error;
       throw new RangeError(refusalOf(given, Array.isArray(files) ? undefined : files), { cause: error });
@@ -96,6 +96,15 @@ export class Table {
 
   ruleLabel(rule) {
     return this.#labels[rule] ?? "";
+  }
+
+  ruleText(rule) {
+    const number = typeof rule === "string" ? this.#labels.indexOf(rule) : rule;
+    return this.ruleLabel(number) && this.#machine.ruleText(number);
+  }
+
+  pack() {
+    return this.#machine.packedTable;
   }
 
   classOf(scalar) {

@@ -1,6 +1,5 @@
 // An instance of lbk.wasm with a table, and the columns that it finds.
 import { ModuleMemory, isAscii } from "./module_memory.js";
-import { TABLE_SIZE, unpackTable } from "./packed_table.js";
 
 /** How many breaks or positions a call of the module has room for. */
 export const ROOM = 2048;
@@ -8,8 +7,12 @@ export const ROOM = 2048;
 const WINDOW = 262144;
 /** For how many positions columns get room before these are found. */
 const MOST_EXPECTED = 1 << 22;
+/** How many bytes an lbk_table of include/lbk.h has. */
+const TABLE_SIZE = 16 + 672 + 0x110000;
 const STATE_SIZE = 16;
 const POSITION_SIZE = 16;
+/** How many bytes an lbk_text has; names have fewer. */
+const TEXT_SIZE = 96;
 const COLUMNS = ["at", "kind", "rule"];
 /** The name of what a Table has for parts.js. */
 export const goOn = Symbol("goOn");
@@ -76,25 +79,38 @@ export class Machine {
   /** Puts a table, packed or not, into memory that is zeros yet. */
   loadTable(saved) {
     if (saved.length === TABLE_SIZE) this.tableBytes.set(saved);
-    else unpackTable(saved, this.tableBytes);
+    else this.memory.exports.lbk_unpack(this.big.table, this.big.text, BigInt(this.memory.loadAll(saved, this.text)));
     if (this.memory.exports.lbk_check(this.big.table) === 0) {
       throw new RangeError("these bytes are not a whole table of this version");
     }
   }
 
-  /** The label that a call of the module writes into the block. */
-  #label(write) {
+  /** The packed form of the table. */
+  get packedTable() {
+    const { exports } = this.memory;
+    const size = exports.lbk_pack(this.big.table, this.big.text, 0n);
+    this.memory.loadAll(new Uint8Array(Number(size)), this.text);
+    exports.lbk_pack(this.big.table, this.big.text, size);
+    return this.memory.bytes(this.text, Number(size)).slice();
+  }
+
+  /** The text that a call of the module writes into the block, up to the zeros at its end. */
+  #text(write) {
     write(this.big.block);
-    const label = this.memory.bytes(this.block, 4);
-    return String.fromCharCode(...label.subarray(0, label.indexOf(0)));
+    const text = this.memory.bytes(this.block, TEXT_SIZE);
+    return String.fromCharCode(...text.subarray(0, text.indexOf(0)));
   }
 
   ruleLabel(number) {
-    return this.#label((to) => this.memory.exports.lbk_label(to, number));
+    return this.#text((to) => this.memory.exports.lbk_label(to, number));
+  }
+
+  ruleText(number) {
+    return this.#text((to) => this.memory.exports.lbk_rule_text(to, number));
   }
 
   classLabel(scalar) {
-    return this.#label((to) => this.memory.exports.lbk_class(to, this.big.table, scalar));
+    return this.#text((to) => this.memory.exports.lbk_class(to, this.big.table, scalar));
   }
 
   /** The state at the start of a text in a profile. */

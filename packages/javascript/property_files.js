@@ -1,10 +1,10 @@
 // A table out of the four property files of Unicode 15.0 (UAX #44, section 4.2).
 //
-// What the rules make of a character is not decided here. lbk.steps.gz, which pack.js made of a table of the library for C, has
-// that table without its characters: the steps of the rules, its digest, and which kind goes with which values. So a character
-// gets the kind that the library gave to one with the same values; and as the module compares the digest, files of which the
-// library makes another table are refused, and so is whatever is read wrongly here.
-import { CODES, KINDS_AT, TABLE_SIZE, packedSize, unpackTable } from "./packed_table.js";
+// What the rules make of a character is not decided here. lbk.kinds.gz, which pack.js made of a table of the library for C, has
+// the head of that table when it is packed, in which its digest is, and which kind goes with which values. So a character gets the
+// kind that the library gave to one with the same values; and as the module compares the digest, files of which the library makes
+// another table are refused, and so is whatever is read wrongly here.
+import { CODES, HEAD_SIZE, packedOf } from "./packed_table.js";
 
 /** Where the files are below a folder, in the order in which they are given. */
 export const FILES = ["LineBreak.txt", "EastAsianWidth.txt", "extracted/DerivedGeneralCategory.txt", "emoji/emoji-data.txt"];
@@ -13,12 +13,12 @@ export const FILES = ["LineBreak.txt", "EastAsianWidth.txt", "extracted/DerivedG
 const NAMES = ["# LineBreak-", "# EastAsianWidth-", "# DerivedGeneralCategory-", "# emoji-data"];
 const EMOJI = 3;
 const EMOJI_VERSION = "\n# Used with Emoji Version ";
-const HEAD_SIZE = 4096;
+const TITLE_SIZE = 4096;
 const REMEDY = "Debian 12's package unicode-data has the files, and so has https://www.unicode.org/Public/15.0.0/ucd/UCD.zip";
 
 /** The version of Unicode, or of emoji, that a file names as files of its name do. */
 function versionOf(bytes, k) {
-  const head = new TextDecoder("latin1").decode(bytes.subarray(0, HEAD_SIZE));
+  const head = new TextDecoder("latin1").decode(bytes.subarray(0, TITLE_SIZE));
   const words = k === EMOJI ? EMOJI_VERSION : NAMES[k];
   const at = head.startsWith(NAMES[k]) ? head.indexOf(words) : -1;
   const found = at < 0 ? null : /^(\d+)\.(\d+)(?:\.(\d+))?/.exec(head.slice(at + words.length));
@@ -75,16 +75,13 @@ export function* runsOfValues(files) {
   }
 }
 
-/** The table of the four files, from what is known of tables without their characters. */
-export function tableOf(files, known) {
+/** The packed table of the four files, from what is known of tables: the head of the packed one, and the kinds of values. */
+export function packedFrom(files, known) {
   if (files.length !== FILES.length) throw new RangeError(`there are ${FILES.length} property files`);
-  const table = new Uint8Array(TABLE_SIZE);
-  const size = packedSize(known);
-  unpackTable(known.subarray(0, size), table);
-  const kinds = new Map(JSON.parse(new TextDecoder().decode(known.subarray(size))));
-  for (const { values, first, end } of runsOfValues(files)) {
+  const kinds = new Map(JSON.parse(new TextDecoder().decode(known.subarray(HEAD_SIZE))));
+  const runs = Array.from(runsOfValues(files), ({ values, first, end }) => {
     if (!kinds.has(values)) throw new RangeError(`no code has the values of U+${first.toString(16)}: ${values}`);
-    table.fill(kinds.get(values), KINDS_AT + first, KINDS_AT + end);
-  }
-  return table;
+    return { kind: kinds.get(values), size: end - first };
+  });
+  return packedOf(known.subarray(0, HEAD_SIZE), runs);
 }

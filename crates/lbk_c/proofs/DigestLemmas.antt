@@ -2,14 +2,12 @@
 use Rattle.std.proofs.Common.{◌≡◌, ℕ, ◌*◌, ◌%◌, ◌^◌, ◌<◌, List, [], ◌∷◌, ◌++◌, map, refl, sym, ap, subst, ◌∙◌, arith}
 use Rattle.std.specs.List.{AllByRecursion, flat_map, fold}
 use Rattle.std.proofs.lemmas.List.Sums.{fold-append}
-use Rattle.std.proofs.lemmas.List.Folds.{fold-map}
 use lib.Bits.{bit_xor, xor_assoc, xor_comm, xor_lt, xor_self, xor_zero_r}
 use Rattle.lbk_rules.specs.declared.FlatTable.{FlatTable}
 use Rattle.lbk_rules.specs.declared.Neighbours.{Neighbours}
-use Rattle.lbk_rules.specs.FlatStep.{digest_with}
-use Rattle.lbk_rules.specs.FlatTable.{IsWhole, digest_of}
+use Rattle.lbk_rules.specs.FlatTable.{IsWhole, digest_of, digest_with}
 use Rattle.lbk_rules.specs.Neighbours.{digest_of_neighbours}
-use Rattle.lbk_c.specs.Checked.{DifferInOne, number_of_step, numbers_of, numbers_of_neighbours}
+use Rattle.lbk_c.specs.Checked.{DifferInOne, numbers_of, numbers_of_neighbours}
 
 twice : (a d : ℕ) → bit_xor (bit_xor a d) d ≡ a
 twice a d = xor_assoc a d d ∙ ap (bit_xor a) (xor_self d) ∙ xor_zero_r a
@@ -78,25 +76,8 @@ start = 0xcbf2_9ce4_8422_2325
 all-joined : (table : FlatTable) → digest_of table ≡ fold digest_with start (numbers_of table)
 unfolding digest_of
 all-joined table =
-    let first = map number_of_step table.first in
-    let second = map number_of_step table.second in
-    let one = numbers_of_neighbours table.first_pairs in
-    let two = numbers_of_neighbours table.second_pairs in
-    let steps = fold digest_with (fold digest_with start first) second in
-    ap (λ d. fold digest_with (digest_of_neighbours (digest_of_neighbours (fold (λ sum step. digest_with sum (number_of_step step)) d table.second) table.first_pairs) table.second_pairs) table.kinds)
-    (sym (fold-map digest_with number_of_step start table.first))
-    ∙ ap (λ d. fold digest_with (digest_of_neighbours (digest_of_neighbours d table.first_pairs) table.second_pairs) table.kinds)
-    (sym (fold-map digest_with number_of_step (fold digest_with start first) table.second))
-    ∙ ap (λ d. fold digest_with (digest_of_neighbours d table.second_pairs) table.kinds) (neighbours-joined steps table.first_pairs)
-    ∙ ap (λ d. fold digest_with d table.kinds) (neighbours-joined (fold digest_with steps one) table.second_pairs)
-    ∙ sym (
-    fold-append digest_with start (first ++ second ++ one ++ two) table.kinds
-    ∙ ap (λ d. fold digest_with d table.kinds)
-    (fold-append digest_with start (first ++ second ++ one) two
-    ∙ ap (λ d. fold digest_with d two)
-    (fold-append digest_with start (first ++ second) one
-    ∙ ap (λ d. fold digest_with d one) (fold-append digest_with start first second)))
-    )
+    ap (λ d. fold digest_with d table.kinds) (neighbours-joined start table.pairs)
+    ∙ sym (fold-append digest_with start (numbers_of_neighbours table.pairs) table.kinds)
 
 pub one-changed : (table other : FlatTable) (one changed : ℕ) → IsWhole table → IsWhole other → other.digest ≡ table.digest
     → DifferInOne table other one changed → changed ≡ one

@@ -5,10 +5,9 @@ use Rattle.bstr.specs.Utf8.{pieces}
 use Rattle.bstr.proofs.lemmas.PieceLemmas.{pieces-nil}
 use Rattle.lbk_rules.specs.declared.Break.{Break}
 use Rattle.lbk_rules.specs.declared.Cell.{Cell}
-use Rattle.lbk_rules.specs.declared.Left.{Left}
 use Rattle.lbk_values.specs.declared.profile.Profile.{Profile}
 use Rattle.lbk_rules.specs.declared.FlatTable.{FlatTable}
-use Rattle.lbk_rules.specs.FlatTable.{IsFlatBy, KnowsTaken}
+use Rattle.lbk_rules.specs.FlatTable.{IsFlatOf, KnowsTaken}
 use Rattle.lbk_bytes.specs.declared.fill_state.FillState.{FillState}
 use Rattle.lbk_bytes.specs.Bytes.{end_in}
 use Rattle.lbk_bytes.specs.Marking.{Marked}
@@ -23,12 +22,12 @@ use Rattle.lbk_calls.specs.State.{plain, profile_numbered}
 use Rattle.lbk_calls.proofs.ComingLemmas.{same-profile, spent-ended}
 
 -- the words are told before the text's end
-pub Marks-full : (goes_on : Bool) (profile : Profile) (cell : ℕ → Cell) (lefts : List Left) (text : List ℕ) (to_come : List Break) (place stop : ℕ) (here : FillState) (state : State) (words : List ℕ)
-    → Marked profile cell lefts text (record { breaks = to_come; end = end_in goes_on }) place stop here words
+pub Marks-full : (goes_on : Bool) (profile : Profile) (cell : ℕ → Cell) (text : List ℕ) (to_come : List Break) (place stop : ℕ) (here : FillState) (state : State) (words : List ℕ)
+    → Marked profile cell text (record { breaks = to_come; end = end_in goes_on }) place stop here words
     → stop ≡ place + 64 * length words → place + 64 * length words ≤ here.at → here.at ≤ length text
     → state.at ≡ here.at → state.row ≡ here.row → state.ended ≡ 0
-    → MarksBy (onward_to (end_in goes_on)) profile cell lefts text to_come place state words
-Marks-full goes_on profile cell lefts text to_come place stop here state words m is_stop past within at_same row_same unended =
+    → MarksBy (onward_to (end_in goes_on)) profile cell text to_come place state words
+Marks-full goes_on profile cell text to_come place stop here state words m is_stop past within at_same row_same unended =
     let end = end_in goes_on in
     let r = m.reached in
     let room = place + 64 * length words in
@@ -44,7 +43,7 @@ Marks-full goes_on profile cell lefts text to_come place stop here state words m
         within = omega arith;
         goes_on = λ _. record {
           taken = r.taken;
-          knows = subst (λ n. KnowsTaken cell lefts n r.taken) (sym row_same) r.knows;
+          knows = subst (λ n. KnowsTaken cell n r.taken) (sym row_same) r.knows;
           some = λ more. r.some (omega arith);
           joined =
               ap (from_on room) r.joined
@@ -58,14 +57,14 @@ Marks-full goes_on profile cell lefts text to_come place stop here state words m
     }
 
 -- they are told up to the end, and it too
-pub Marks-ended : (goes_on : Bool) (profile : Profile) (cell : ℕ → Cell) (lefts : List Left) (text : List ℕ) (to_come : List Break) (place stop : ℕ) (here : FillState) (state : State) (old new : List ℕ)
-    → Marked profile cell lefts text (record { breaks = to_come; end = end_in goes_on }) place stop here old
+pub Marks-ended : (goes_on : Bool) (profile : Profile) (cell : ℕ → Cell) (text : List ℕ) (to_come : List Break) (place stop : ℕ) (here : FillState) (state : State) (old new : List ℕ)
+    → Marked profile cell text (record { breaks = to_come; end = end_in goes_on }) place stop here old
     → length new ≡ length old → stop ≤ place + 64 * length new → here.at ≡ length text → place ≤ length text → length text < place + 64 * length new
-    → ((taken : List ℕ) → KnowsTaken cell lefts here.row taken → (0 < here.row → 0 < length taken)
+    → ((taken : List ℕ) → KnowsTaken cell here.row taken → (0 < here.row → 0 < length taken)
     → (i : ℕ) → is_marked new i ≡ (is_marked old i || stands_among (place + i) (end_in goes_on profile cell taken (length text))))
     → state.at ≡ here.at → state.ended ≡ 1
-    → MarksBy (onward_to (end_in goes_on)) profile cell lefts text to_come place state new
-Marks-ended goes_on profile cell lefts text to_come place stop here state old new m same few ends within inside put at_same ended =
+    → MarksBy (onward_to (end_in goes_on)) profile cell text to_come place state new
+Marks-ended goes_on profile cell text to_come place stop here state old new m same few ends within inside put at_same ended =
     let end = end_in goes_on in
     let r = m.reached in
     let room = place + 64 * length new in
@@ -92,25 +91,24 @@ Marks-ended goes_on profile cell lefts text to_come place stop here state old ne
 
 -- what a call tells of the breaks to come
 pub Comes-marks : (from : Onward) (profile : Profile) (cell : ℕ → Cell) (table : FlatTable) (text : List ℕ) (place : ℕ) (old new : State) (to_come : List Break) (words : List ℕ)
-    → ((cell : ℕ → Cell) (lefts : List Left) (to_come : List Break) → IsFlatBy lefts table cell
-    → ReachedBy from profile cell lefts text to_come (from_state old) []
-    → MarksBy from profile cell lefts text to_come place new words)
+    → ((cell : ℕ → Cell) (to_come : List Break) → IsFlatOf table cell
+    → ReachedBy from profile cell text to_come (from_state old) []
+    → MarksBy from profile cell text to_come place new words)
     → IsGoing profile old (length text) → (c : ComesBy from cell table text old to_come)
-    → MarksBy from profile cell c.lefts text to_come place new words
+    → MarksBy from profile cell text to_come place new words
 Comes-marks from profile cell table text place old new to_come words marks going c =
     let same = same-profile c.profile profile old c.named going.named in
-    marks cell c.lefts to_come c.flat
-    (subst (λ p. ReachedBy from p cell c.lefts text to_come (from_state old) []) same (c.onto.goes_on going.unended))
+    marks cell to_come c.flat
+    (subst (λ p. ReachedBy from p cell text to_come (from_state old) []) same (c.onto.goes_on going.unended))
 
 -- and the others come from the next state on
 pub Comes-behind : (from : Onward) (profile : Profile) (cell : ℕ → Cell) (table : FlatTable) (text : List ℕ) (place : ℕ) (old new : State) (to_come : List Break) (words : List ℕ)
     → IsGoing profile old (length text) → new.profile ≡ old.profile → (c : ComesBy from cell table text old to_come)
-    → MarksBy from profile cell c.lefts text to_come place new words
+    → MarksBy from profile cell text to_come place new words
     → ComesBy from cell table text new (from_on (place + 64 * length words) to_come)
 Comes-behind from profile cell table text place old new to_come words going kept c marks = record {
   profile = profile;
   named = ap profile_numbered kept ∙ going.named;
-  lefts = c.lefts;
   flat = c.flat;
   onto = marks.onto;
 }

@@ -16,17 +16,10 @@ use Rattle.lbk_rules.specs.CellOfTables.{cell_of_tables}
 
 -- a table over some cells is one over the same cells
 pub flat-same : (cell other : ℕ → Cell) (table : FlatTable) → ((code : ℕ) → IsScalar code → cell code ≡ other code) → IsFlatOf table cell → IsFlatOf table other
-flat-same cell other table same flat = (
-  flat.0,
-  record {
-    begins = flat.1.begins;
-    start = flat.1.start;
-    steps = flat.1.steps;
-    first_told = flat.1.first_told;
-    second_told = flat.1.second_told;
-    kinds = λ code scalar. (let kind = flat.1.kinds code scalar in (kind.0, kind.1 ∙ ap normal (same code scalar)));
-  },
-)
+flat-same cell other table same flat = record {
+  kinds = λ code scalar. flat.kinds code scalar ∙ ap normal (same code scalar);
+  told = flat.told;
+}
 
 -- tables that give the properties of some files give their cells
 pub cells-of-files : (tables : Tables) (files : Files) (code : ℕ)

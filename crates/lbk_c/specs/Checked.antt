@@ -1,13 +1,8 @@
 -- The numbers of a table that its digest is of.
-use Rattle.std.specs.Prelude.{◌≡◌, ℕ, ◌+◌, ◌*◌, ◌^◌, ◌<◌, List, ◌∷◌, ◌++◌, map}
+use Rattle.std.specs.Prelude.{◌≡◌, ℕ, ◌^◌, ◌<◌, List, ◌∷◌, ◌++◌}
 use Rattle.std.specs.List.{AllByRecursion, flat_map}
-use Rattle.lbk_rules.specs.declared.FlatStep.{FlatStep}
 use Rattle.lbk_rules.specs.declared.FlatTable.{FlatTable}
 use Rattle.lbk_rules.specs.declared.Neighbours.{Neighbours}
-
--- those of a step, as one
-abbrev pub number_of_step : FlatStep → ℕ
-number_of_step step = step.code + 65536 * step.next
 
 -- those of neighbours
 abbrev pub numbers_of_neighbours : Neighbours → List ℕ
@@ -15,9 +10,7 @@ numbers_of_neighbours pairs = flat_map (λ row. row) pairs.sets.classes ++ pairs
 
 -- all, in their order
 abbrev pub numbers_of : FlatTable → List ℕ
-numbers_of table =
-    map number_of_step table.first ++ map number_of_step table.second
-    ++ numbers_of_neighbours table.first_pairs ++ numbers_of_neighbours table.second_pairs ++ table.kinds
+numbers_of table = numbers_of_neighbours table.pairs ++ table.kinds
 
 -- of two tables the numbers are the same but for one, where they have these two, and each has at most 64 bits
 pub record DifferInOne (table other : FlatTable) (one changed : ℕ) : Type 0 where

@@ -1,15 +1,13 @@
 -- The texts that cross to C: what causes say, the names of the files, and the version.
-use Rattle.std.specs.Prelude.{ℕ, ◌-◌, ◌==◌, List, [], ◌++◌, length, replicate, codes, if◌then◌else◌}
+use Rattle.std.specs.Prelude.{ℕ, ◌==◌, List, [], codes, if◌then◌else◌}
 use Rattle.lbk_ucd.specs.declared.faults.UcdCause.TheVariants.{FileTooLong, LineTooLong, RowSyntax, Range}
 use Rattle.lbk_ucd.specs.declared.faults.UcdCause.TheVariants.{UnknownValue, Overlap, TooManyRows, Memory}
 use Rattle.lbk_ucd.specs.declared.which.Which.TheVariants.{LineBreak, EastAsianWidth, Category, Emoji}
 use Rattle.lbk_database.specs.Causes.{cause_text}
 use Rattle.lbk_database.specs.Names.{file_name}
+use Rattle.lbk_packing.specs.declared.unpacking.Refusal.TheVariants.{Foreign, Version, Damaged}
+use Rattle.lbk_calls.specs.Refused.{refusal_number}
 use Rattle.lbk_c.specs.Faults.{cause_number, file_number}
-
--- 96 bytes: those of a text, and zeros behind them
-abbrev pub padded : List ℕ → List ℕ
-padded text = text ++ replicate (96 - length text) 0
 
 -- what the cause of a number says
 abbrev pub cause_numbered : ℕ → List ℕ
@@ -24,6 +22,9 @@ cause_numbered number =
     else if number == cause_number TooManyRows then cause_text TooManyRows
     else if number == cause_number Memory then cause_text Memory
     else if number == 10 then codes "the file is not the one that Unicode 15.0.0 published"
+    else if number == refusal_number Foreign then codes "these bytes are not a packed table"
+    else if number == refusal_number Version then codes "the table was packed by another version of lbk"
+    else if number == refusal_number Damaged then codes "the packed table was changed or cut"
     else []
 
 -- the name of the file of a number

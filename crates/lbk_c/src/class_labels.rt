@@ -6,7 +6,7 @@ ghost use Rattle.lbk_rules.specs.declared.Cell.{Cell};
 ghost use Rattle.lbk_rules.specs.declared.Class.{Class};
 ghost use Rattle.lbk_rules.specs.FlatTable.{IsFlatOf};
 ghost use Rattle.lbk_rules.specs.ClassLabels.{class_label};
-ghost use Rattle.lbk_calls.specs.Labels.{filled};
+ghost use Rattle.lbk_calls.specs.Padding.{padded};
 
 use lbk_calls::ClassLabel;
 use lbk_rules::FlatTable;
@@ -17,9 +17,9 @@ use lbk_rules::FlatTable;
 #[unsafe(no_mangle)]
 pub extern "C" fn lbk_class(table: &FlatTable, scalar: u32) -> ClassLabel
     ensures class { (cell : ℕ → Cell) → IsFlatOf table.now cell → IsScalar scalar
-        → result.text ≡ filled (class_label (cell scalar).class) }
-    ensures named { IsScalar scalar → (class : Class) × (result.text ≡ filled (class_label class)) }
-    ensures none { ¬ IsScalar scalar → result.text ≡ filled [] }
+        → result.text ≡ padded 4 (class_label (cell scalar).class) }
+    ensures named { IsScalar scalar → (class : Class) × (result.text ≡ padded 4 (class_label class)) }
+    ensures none { ¬ IsScalar scalar → result.text ≡ padded 4 [] }
 {
     lbk_calls::lbk_class(table, scalar)
 }

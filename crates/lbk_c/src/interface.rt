@@ -11,10 +11,3 @@ pub struct Fault {
     /// The number of the cause, from 1, or 0 where there is no fault.
     pub cause: u32,
 }
-
-/// A text of at most 95 bytes: ASCII, filled up by zeros.
-#[repr(C)]
-#[derive(Clone, Copy)]
-pub struct Text {
-    pub text: [u8; 96],
-}

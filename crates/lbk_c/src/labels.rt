@@ -1,7 +1,7 @@
 //! The label of a rule.
 
 ghost use Rattle.std.specs.Prelude.{◌≡◌};
-ghost use Rattle.lbk_calls.specs.Labels.{filled, label_numbered};
+ghost use Rattle.lbk_calls.specs.Labels.{label_numbered};
 
 use lbk_calls::RuleLabel;
 

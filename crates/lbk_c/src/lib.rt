@@ -9,6 +9,7 @@
 mod breaking;
 mod checking;
 mod chunking;
+mod claims;
 mod class_labels;
 mod cuts;
 mod faults;
@@ -16,6 +17,7 @@ mod interface;
 mod labels;
 mod laws;
 mod marking;
+mod packing;
 mod positions;
 mod streaming;
 mod table_reading;
@@ -26,25 +28,27 @@ mod words;
 pub use breaking::lbk_breaks;
 pub use checking::lbk_check;
 pub use chunking::lbk_chunks;
+pub use claims::lbk_is_cut;
 pub use class_labels::lbk_class;
 pub use cuts::{lbk_cut, lbk_cut_before};
-pub use interface::{Fault, Text};
+pub use interface::Fault;
 pub use labels::lbk_label;
 pub use laws::{
     empty_files_list_no_code, no_step_leads_two_to_one, one_changed_number_is_found,
     only_bytes_from_a_state_on,
 };
 pub use lbk_bytes::RawBreak;
-pub use lbk_calls::{ClassLabel, RuleLabel, State};
+pub use lbk_calls::{ClassLabel, RuleLabel, State, Text};
 pub use lbk_chunks::{Chunk, ChunkState, Limits, Place, chunks_of_cuts};
 pub use lbk_cuts::{joined_parts, only_bytes_near_a_cut};
 pub use lbk_streams::{Fed, Stream, bytes_that_could_go_on};
 pub use lbk_units::same_in_each_encoding;
 pub use lbk_words::WordState;
 pub use marking::lbk_marks;
+pub use packing::{lbk_pack, lbk_unpack};
 pub use positions::{lbk_positions, lbk_positions_utf16, lbk_positions_utf32};
 pub use streaming::lbk_feed;
 pub use table_reading::{lbk_read, lbk_read_published};
-pub use texts::{lbk_cause_text, lbk_file_name, lbk_version};
+pub use texts::{lbk_cause_text, lbk_file_name, lbk_rule_text, lbk_version};
 pub use unit_breaking::{lbk_breaks_utf16, lbk_breaks_utf32};
 pub use words::lbk_words;

@@ -4,10 +4,9 @@ ghost use Rattle.std.specs.Prelude.{◌≡◌, ℕ, Bool, false, suc, ◌+◌, �
 ghost use Rattle.std.specs.Prelude.{map, min};
 ghost use Rattle.lbk_rules.specs.declared.Break.{Break};
 ghost use Rattle.lbk_rules.specs.declared.Cell.{Cell};
-ghost use Rattle.lbk_rules.specs.declared.Left.{Left};
 ghost use Rattle.lbk_values.specs.declared.profile.Profile.{Profile};
 ghost use Rattle.lbk_rules.specs.Joins.{moved};
-ghost use Rattle.lbk_rules.specs.FlatTable.{IsFlatBy, IsFlatOf};
+ghost use Rattle.lbk_rules.specs.FlatTable.{IsFlatOf};
 ghost use Rattle.lbk_bytes.specs.Bytes.{breaks_of_bytes, breaks_of_part};
 ghost use Rattle.lbk_bytes.specs.Marks.{boundary_from, from_on, is_marked, stands_among};
 ghost use Rattle.lbk_bytes.specs.Reached.{ReachedBy};
@@ -16,7 +15,7 @@ ghost use Rattle.lbk_calls.specs.State.{part_start, plain, start_in};
 
 use lbk_bytes::{FillState, clear, fill_marks, goes_on, mark_end};
 use lbk_calls::{State, going_profile, plain};
-use lbk_rules::{FlatTable, Profile};
+use lbk_rules::{FlatTable, Profile, number_at, place_by};
 
 /// How many bits a word has.
 const BITS: usize = 64;
@@ -99,26 +98,26 @@ fn go_on(
     ensures all { length text.now < state.old.at + 64 * length words.old → 0 < state.new.ended }
     ensures more { state.old.at + 64 * length words.old ≤ length text.now
         → (state.new.ended ≡ 0) × (state.old.at + 64 * length words.old ≤ state.new.at) }
-    ensures marks { (cell : ℕ → Cell) (lefts : List Left) (to_come : List Break) → IsFlatBy lefts table.now cell
-        → ReachedBy (onward_in state.old.profile) profile cell lefts text.now to_come (from_state (plain state.old)) []
-        → MarksBy (onward_in state.old.profile) profile cell lefts text.now to_come state.old.at (plain state.new)
+    ensures marks { (cell : ℕ → Cell) (to_come : List Break) → IsFlatOf table.now cell
+        → ReachedBy (onward_in state.old.profile) profile cell text.now to_come (from_state (plain state.old)) []
+        → MarksBy (onward_in state.old.profile) profile cell text.now to_come state.old.at (plain state.new)
         words.new }
     ensures no_room { length words.old ≡ 0 → state.new ≡ state.old }
 {
     let from = state.at;
     let start = FillState {
         count: 0,
-        row: state.row as usize,
+        row: place_by(state.row),
         at: from,
     };
     let here = fill_marks(table, profile, start, text, words);
-    state.row = here.row as u16;
+    state.row = number_at(here.row, state.row);
     state.at = here.at;
     let left = text.len() - from;
     if words.len() <= left / BITS {
         return BITS * words.len();
     }
     state.ended = 1;
-    mark_end(table, goes_on(state.profile), here.row, words, left);
+    mark_end(goes_on(state.profile), here.row, words, left);
     left + 1
 }

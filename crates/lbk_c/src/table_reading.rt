@@ -4,7 +4,8 @@ ghost use Rattle.std.specs.Prelude.{◌≡◌, ◌<◌, ℕ};
 ghost use Rattle.lbk_ucd.specs.Files.{AreLawful};
 ghost use Rattle.lbk_rules.specs.Cells.{AreCellsOf, cell_of_files};
 ghost use Rattle.lbk_rules.specs.declared.Cell.{Cell};
-ghost use Rattle.lbk_rules.specs.FlatTable.{AreKindsAlone, AreStepsAlone, IsFlatOf, IsWhole};
+ghost use Rattle.lbk_rules.specs.FlatTable.{AreKindsAlone, IsFlatOf, IsWhole};
+ghost use Rattle.lbk_rules.specs.Neighbours.{AreNeighboursOf};
 ghost use Rattle.lbk_database.specs.Digests.{ArePublished};
 ghost use Rattle.lbk_c.specs.Faults.{IsFaultOf, IsFaultOfPublished, files_of, no_fault};
 
@@ -35,7 +36,7 @@ pub extern "C" fn lbk_read(
         → AreCellsOf (files_of line_break.entry east_asian.entry category.entry emoji.entry) cell
         → IsFlatOf table.new cell }
     ensures whole { result.cause ≡ 0 → IsWhole table.new }
-    ensures steps { result.cause ≡ 0 → AreStepsAlone table.new }
+    ensures neighbours { result.cause ≡ 0 → AreNeighboursOf table.new.kinds table.new.pairs }
     ensures kinds { result.cause ≡ 0
         → AreKindsAlone table.new (cell_of_files
         (files_of line_break.entry east_asian.entry category.entry emoji.entry)) }
@@ -79,7 +80,7 @@ pub extern "C" fn lbk_read_published(
         → AreCellsOf (files_of line_break.entry east_asian.entry category.entry emoji.entry) cell
         → IsFlatOf table.new cell }
     ensures whole { result.cause ≡ 0 → IsWhole table.new }
-    ensures steps { result.cause ≡ 0 → AreStepsAlone table.new }
+    ensures neighbours { result.cause ≡ 0 → AreNeighboursOf table.new.kinds table.new.pairs }
     ensures kinds { result.cause ≡ 0
         → AreKindsAlone table.new (cell_of_files
         (files_of line_break.entry east_asian.entry category.entry emoji.entry)) }

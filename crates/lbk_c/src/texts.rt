@@ -1,39 +1,50 @@
-//! The texts of causes, the names of the files, and the version.
+//! The texts of causes and rules, the names of the files, and the version.
 
 ghost use Rattle.std.specs.Prelude.{◌≡◌, ◌≤◌, length};
-ghost use Rattle.lbk_c.specs.Texts.{cause_numbered, file_numbered, padded, version};
+ghost use Rattle.lbk_calls.specs.Padding.{padded};
+ghost use Rattle.lbk_calls.specs.RuleTexts.{rule_text_numbered};
+ghost use Rattle.lbk_c.specs.Texts.{cause_numbered, file_numbered, version};
 
-use crate::interface::Text;
+use lbk_calls::{Text, padded};
 use lbk_database::{cause_text, file_name};
 use lbk_ucd::{UcdCause, Which};
 
 /// What the cause of a number says: ASCII, filled up by zeros. For a number that no cause has it is zeros.
 #[unsafe(no_mangle)]
 pub extern "C" fn lbk_cause_text(cause: u32) -> Text
-    ensures { result.text ≡ padded (cause_numbered cause) }
+    ensures { result.text ≡ padded 96 (cause_numbered cause) }
 {
     Text {
-        text: padded(cause_numbered(cause)),
+        text: padded(cause_numbered(cause).as_bytes()),
     }
+}
+
+/// What the rule that has a number says, in one line: ASCII, filled up by zeros. For a number that no rule has it is
+/// zeros.
+#[unsafe(no_mangle)]
+pub extern "C" fn lbk_rule_text(rule: u8) -> Text
+    ensures { result.text ≡ rule_text_numbered rule }
+{
+    lbk_calls::lbk_rule_text(rule)
 }
 
 /// The name of the file of a number, `the four files` for 0, and zeros for a number that no file has.
 #[unsafe(no_mangle)]
 pub extern "C" fn lbk_file_name(file: u32) -> Text
-    ensures { result.text ≡ padded (file_numbered file) }
+    ensures { result.text ≡ padded 96 (file_numbered file) }
 {
     Text {
-        text: padded(file_numbered(file)),
+        text: padded(file_numbered(file).as_bytes()),
     }
 }
 
 /// The version of the library, as `0.1.0`.
 #[unsafe(no_mangle)]
 pub extern "C" fn lbk_version() -> Text
-    ensures { result.text ≡ padded version }
+    ensures { result.text ≡ padded 96 version }
 {
     Text {
-        text: padded("0.1.0"),
+        text: padded(b"0.1.0"),
     }
 }
 
@@ -53,6 +64,9 @@ fn cause_numbered(number: u32) -> &'static str
         7 => cause_text(UcdCause::TooManyRows),
         8 => cause_text(UcdCause::Memory),
         10 => "the file is not the one that Unicode 15.0.0 published",
+        11 => "these bytes are not a packed table",
+        12 => "the table was packed by another version of lbk",
+        13 => "the packed table was changed or cut",
         _ => "",
     }
 }
@@ -70,15 +84,4 @@ fn file_numbered(number: u32) -> &'static str
         4 => file_name(Which::Emoji),
         _ => "",
     }
-}
-
-/// The bytes of a text, and zeros after them.
-fn padded(text: &str) -> [u8; 96]
-    requires { length text.now ≤ 95 }
-    ensures { result ≡ padded text.now }
-{
-    let bytes = text.as_bytes();
-    let mut filled = [0; 96];
-    filled[..bytes.len()].copy_from_slice(bytes);
-    filled
 }

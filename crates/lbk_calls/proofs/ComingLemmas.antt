@@ -1,5 +1,5 @@
 -- The breaks of a text from its start on, and some of them given.
-use Rattle.std.proofs.Common.{Bool, false, ◌≡◌, ℕ, zero, suc, ◌+◌, ◌<◌, ◌≤◌, min, true, ◌⊎◌, inl, inr, ⊎_elim, Some, None, List, [], ◌∷◌, ◌++◌, length, map, drop, take, refl, sym, ap, subst, ◌∙◌, arith}
+use Rattle.std.proofs.Common.{Bool, false, ◌≡◌, ℕ, zero, suc, ◌+◌, ◌<◌, ◌≤◌, min, true, ◌⊎◌, inl, inr, ⊎_elim, Some, None, List, [], ◌∷◌, ◌++◌, length, map, drop, take, refl, sym, ap, subst, ◌∙◌, arith, lit<}
 use Rattle.std.specs.Char.{encode_utf8}
 use Rattle.std.specs.Str.{IsUtf8, chars, encode_utf8_all}
 use Rattle.std.proofs.lemmas.List.{append-nil, length-append, take_at}
@@ -10,14 +10,14 @@ use Rattle.bstr.specs.Utf8.{pieces}
 use Rattle.bstr.proofs.lemmas.PieceLemmas.{pieces-nil}
 use Rattle.lbk_rules.specs.declared.Break.{Break}
 use Rattle.lbk_rules.specs.declared.Cell.{Cell}
-use Rattle.lbk_rules.specs.declared.Left.{Left}
 use Rattle.lbk_rules.specs.declared.FlatTable.{FlatTable}
 use Rattle.lbk_values.specs.declared.profile.Profile.{Profile}
 use Rattle.lbk_values.specs.declared.profile.Profile.TheVariants.{First, Second}
 use Rattle.lbk_rules.specs.Breaks.{breaks, breaks_from}
-use Rattle.lbk_rules.specs.FlatTable.{IsFlatBy, IsFlatOf, KnowsTaken}
+use Rattle.lbk_rules.specs.FlatTable.{IsFlatOf, KnowsTaken}
 use Rattle.lbk_rules.specs.Marks.{marks, marks_behind}
 use Rattle.lbk_rules.specs.Verdict.{verdict_between_in}
+use Rattle.lbk_rules.proofs.FlatLemmas.{left-start}
 use Rattle.lbk_words.proofs.WellFormedLemmas.{good_of, pieces-encode, scalars-good}
 use Rattle.lbk_bytes.specs.declared.raw_break.RawBreak.{RawBreak}
 use Rattle.lbk_calls.specs.declared.interface.State.{State}
@@ -39,13 +39,12 @@ Comes-by-start from cell table text profile at state to_come flat within starts 
     subst (λ s. ComesBy from cell table text s to_come) (sym starts) (record {
       profile = profile;
       named = profile-same profile;
-      lefts = flat.0;
-      flat = flat.1;
+      flat = flat;
       onto = record {
         within = within;
         goes_on = λ _. record {
           taken = [];
-          knows = (flat.1.begins, flat.1.start);
+          knows = ((refl, lit< tt), left-start);
           some = λ more. absurd (omega arith);
           joined = whole;
         };
@@ -115,11 +114,11 @@ gives to_come front more count room joined many within full = record {
 
 -- how many are in the front of a block
 -- the block is full
-pub Goes-full : (from : Onward) (profile : Profile) (cell : ℕ → Cell) (lefts : List Left) (text : List ℕ) (to_come : List Break) (here : FillState) (state : State) (block : List RawBreak) (room : ℕ)
-    → ReachedBy from profile cell lefts text to_come here (given_in block here.count) → here.at ≤ length text → state.at ≡ here.at → state.row ≡ here.row → state.ended ≡ 0
+pub Goes-full : (from : Onward) (profile : Profile) (cell : ℕ → Cell) (text : List ℕ) (to_come : List Break) (here : FillState) (state : State) (block : List RawBreak) (room : ℕ)
+    → ReachedBy from profile cell text to_come here (given_in block here.count) → here.at ≤ length text → state.at ≡ here.at → state.row ≡ here.row → state.ended ≡ 0
     → here.count ≤ length block → here.count ≡ room
-    → GoesBy from profile cell lefts text to_come state (given_in block here.count) here.count room
-Goes-full from profile cell lefts text to_come here state block room r within at_same row_same unended few full =
+    → GoesBy from profile cell text to_come state (given_in block here.count) here.count room
+Goes-full from profile cell text to_come here state block room r within at_same row_same unended few full =
     let more = from profile cell r.taken here.at (pieces (drop here.at text)) in
     let g = gives to_come (given_in block here.count) more here.count room r.joined (given-many block here.count few) (omega arith) (inl full) in
     record {
@@ -129,7 +128,7 @@ Goes-full from profile cell lefts text to_come here state block room r within at
         within = omega arith;
         goes_on = λ _. record {
           taken = r.taken;
-          knows = subst (λ n. KnowsTaken cell lefts n r.taken) (sym row_same) r.knows;
+          knows = subst (λ n. KnowsTaken cell n r.taken) (sym row_same) r.knows;
           some = λ more. r.some (omega arith);
           joined = g.left ∙ ap (λ n. from profile cell r.taken n (pieces (drop n text))) (sym at_same);
         };
@@ -138,10 +137,10 @@ Goes-full from profile cell lefts text to_come here state block room r within at
     }
 
 -- all were given, and the text is at its end
-pub Goes-all : (from : Onward) (profile : Profile) (cell : ℕ → Cell) (lefts : List Left) (text : List ℕ) (to_come : List Break) (state : State) (block : List RawBreak) (count room : ℕ)
+pub Goes-all : (from : Onward) (profile : Profile) (cell : ℕ → Cell) (text : List ℕ) (to_come : List Break) (state : State) (block : List RawBreak) (count room : ℕ)
     → to_come ≡ given_in block count → state.at ≡ length text → state.ended ≡ 1 → count ≤ length block → length block ≡ room
-    → GoesBy from profile cell lefts text to_come state (given_in block count) count room
-Goes-all from profile cell lefts text to_come state block count room all ends ended few same_room =
+    → GoesBy from profile cell text to_come state (given_in block count) count room
+Goes-all from profile cell text to_come state block count room all ends ended few same_room =
     let g = gives to_come (given_in block count) [] count room (all ∙ sym (append-nil (given_in block count))) (given-many block count few) (omega arith) (inr refl) in
     record {
       counted = g.counted;
@@ -154,20 +153,20 @@ Goes-all from profile cell lefts text to_come state block count room all ends en
     }
 
 -- the same of breaks, of which what comes at the end is the last
-pub Goes-ended : (end : AtEnd) (profile : Profile) (cell : ℕ → Cell) (lefts : List Left) (text : List ℕ) (to_come : List Break) (here : FillState) (state : State)
+pub Goes-ended : (end : AtEnd) (profile : Profile) (cell : ℕ → Cell) (text : List ℕ) (to_come : List Break) (here : FillState) (state : State)
     (before block : List RawBreak) (count room : ℕ)
-    → ReachedBy (onward_to end) profile cell lefts text to_come here (given_in before here.count) → here.at ≡ length text → state.at ≡ here.at → state.ended ≡ 1
-    → ((taken : List ℕ) → KnowsTaken cell lefts here.row taken → (0 < here.row → 0 < length taken)
+    → ReachedBy (onward_to end) profile cell text to_come here (given_in before here.count) → here.at ≡ length text → state.at ≡ here.at → state.ended ≡ 1
+    → ((taken : List ℕ) → KnowsTaken cell here.row taken → (0 < here.row → 0 < length taken)
     → given_in block count ≡ given_in before here.count ++ end profile cell taken (length text))
     → count ≤ length block → length block ≡ room
-    → GoesBy (onward_to end) profile cell lefts text to_come state (given_in block count) count room
-Goes-ended end profile cell lefts text to_come here state before block count room r ends at_same ended put few same_room =
+    → GoesBy (onward_to end) profile cell text to_come state (given_in block count) count room
+Goes-ended end profile cell text to_come here state before block count room r ends at_same ended put few same_room =
     let at = here.at in
     let none_left : pieces (drop at text) ≡ [] = ap (λ n. pieces (drop n text)) ends ∙ ap pieces (drop-length text) ∙ pieces-nil in
     let all : to_come ≡ given_in block count =
     r.joined ∙ ap (λ ps. given_in before here.count ++ onward_to end profile cell r.taken at ps) none_left
     ∙ ap (λ n. given_in before here.count ++ end profile cell r.taken n) ends ∙ sym (put r.taken r.knows r.some) in
-    Goes-all (onward_to end) profile cell lefts text to_come state block count room all (at_same ∙ ends) ended few same_room
+    Goes-all (onward_to end) profile cell text to_come state block count room all (at_same ∙ ends) ended few same_room
 
 -- Between the calls
 
@@ -206,25 +205,24 @@ spent-plain state len (inr (inr past)) few within = absurd (omega arith)
 
 -- what a call gives of the breaks to come
 pub Comes-goes : (from : Onward) (profile : Profile) (cell : ℕ → Cell) (table : FlatTable) (text : List ℕ) (old new : State) (to_come given : List Break) (count room : ℕ)
-    → ((cell : ℕ → Cell) (lefts : List Left) (to_come : List Break) → IsFlatBy lefts table cell
-    → ReachedBy from profile cell lefts text to_come (from_state old) []
-    → GoesBy from profile cell lefts text to_come new given count room)
+    → ((cell : ℕ → Cell) (to_come : List Break) → IsFlatOf table cell
+    → ReachedBy from profile cell text to_come (from_state old) []
+    → GoesBy from profile cell text to_come new given count room)
     → IsGoing profile old (length text) → (c : ComesBy from cell table text old to_come)
-    → GoesBy from profile cell c.lefts text to_come new given count room
+    → GoesBy from profile cell text to_come new given count room
 Comes-goes from profile cell table text old new to_come given count room goes going c =
     let same = same-profile c.profile profile old c.named going.named in
-    goes cell c.lefts to_come c.flat
-    (subst (λ p. ReachedBy from p cell c.lefts text to_come (from_state old) []) same (c.onto.goes_on going.unended))
+    goes cell to_come c.flat
+    (subst (λ p. ReachedBy from p cell text to_come (from_state old) []) same (c.onto.goes_on going.unended))
 
 -- and the others come from the next state on
 pub Comes-next : (from : Onward) (profile : Profile) (cell : ℕ → Cell) (table : FlatTable) (text : List ℕ) (old new : State) (to_come given : List Break) (count room : ℕ)
     → IsGoing profile old (length text) → new.profile ≡ old.profile → (c : ComesBy from cell table text old to_come)
-    → GoesBy from profile cell c.lefts text to_come new given count room
+    → GoesBy from profile cell text to_come new given count room
     → ComesBy from cell table text new (drop count to_come)
 Comes-next from profile cell table text old new to_come given count room going kept c goes = record {
   profile = profile;
   named = ap profile_numbered kept ∙ going.named;
-  lefts = c.lefts;
   flat = c.flat;
   onto = goes.onto;
 }

@@ -1,5 +1,5 @@
 -- The breaks or the positions of a text of units from its start on, and some of them given.
-use Rattle.std.proofs.Common.{◌≡◌, ℕ, ◌+◌, ◌<◌, ◌≤◌, false, true, inl, inr, List, [], ◌++◌, length, map, drop, refl, sym, ap, subst, ◌∙◌, arith}
+use Rattle.std.proofs.Common.{◌≡◌, ℕ, ◌+◌, ◌<◌, ◌≤◌, false, true, inl, inr, List, [], ◌++◌, length, map, drop, refl, sym, ap, subst, ◌∙◌, arith, lit<}
 use Rattle.std.specs.Str.{encode_utf8_all}
 use Rattle.std.proofs.lemmas.List.{append-nil}
 use Rattle.std.proofs.lemmas.Str.{chars-encodes}
@@ -8,12 +8,12 @@ use lib.Utf8.{scalars}
 use Rattle.bstr.specs.Utf8.{Decoded}
 use Rattle.lbk_rules.specs.declared.Break.{Break}
 use Rattle.lbk_rules.specs.declared.Cell.{Cell}
-use Rattle.lbk_rules.specs.declared.Left.{Left}
 use Rattle.lbk_rules.specs.declared.FlatTable.{FlatTable}
 use Rattle.lbk_values.specs.declared.profile.Profile.{Profile}
 use Rattle.lbk_rules.specs.Breaks.{breaks}
 use Rattle.lbk_rules.specs.Joins.{moved}
-use Rattle.lbk_rules.specs.FlatTable.{IsFlatBy, IsFlatOf, KnowsTaken}
+use Rattle.lbk_rules.specs.FlatTable.{IsFlatOf, KnowsTaken}
+use Rattle.lbk_rules.proofs.FlatLemmas.{left-start}
 use Rattle.lbk_bytes.specs.declared.fill_state.FillState.{FillState}
 use Rattle.lbk_bytes.specs.declared.raw_break.RawBreak.{RawBreak}
 use Rattle.lbk_bytes.specs.Reached.{Onward, onward}
@@ -38,13 +38,12 @@ module _ {A : Type 0} (from : Onward) (pieces_of : List A → List Decoded) wher
       subst (λ s. UnitsComeBy from pieces_of cell table text s to_come) (sym starts) (record {
         profile = profile;
         named = profile-same profile;
-        lefts = flat.0;
-        flat = flat.1;
+        flat = flat;
         onto = record {
           within = within;
           goes_on = λ _. record {
             taken = [];
-            knows = (flat.1.begins, flat.1.start);
+            knows = ((refl, lit< tt), left-start);
             some = λ more. absurd (omega arith);
             joined = whole;
           };
@@ -64,7 +63,6 @@ module _ {A : Type 0} (from : Onward) (pieces_of : List A → List Decoded) wher
   units-other cell table text other state to_come comes within same = record {
     profile = comes.profile;
     named = comes.named;
-    lefts = comes.lefts;
     flat = comes.flat;
     onto = record {
       within = within;
@@ -81,11 +79,11 @@ module _ {A : Type 0} (from : Onward) (pieces_of : List A → List Decoded) wher
   }
 
   -- the block is full
-  pub units-full : (profile : Profile) (cell : ℕ → Cell) (lefts : List Left) (text : List A) (to_come : List Break) (here : FillState) (state : State) (block : List RawBreak) (room : ℕ)
-      → UnitsReachedBy from profile cell lefts (on_from pieces_of text) to_come here (given_in block here.count) → here.at ≤ length text → state.at ≡ here.at → state.row ≡ here.row
+  pub units-full : (profile : Profile) (cell : ℕ → Cell) (text : List A) (to_come : List Break) (here : FillState) (state : State) (block : List RawBreak) (room : ℕ)
+      → UnitsReachedBy from profile cell (on_from pieces_of text) to_come here (given_in block here.count) → here.at ≤ length text → state.at ≡ here.at → state.row ≡ here.row
       → state.ended ≡ 0 → here.count ≤ length block → here.count ≡ room
-      → UnitsGo from pieces_of profile cell lefts text to_come state (given_in block here.count) here.count room
-  units-full profile cell lefts text to_come here state block room r within at_same row_same unended few full =
+      → UnitsGo from pieces_of profile cell text to_come state (given_in block here.count) here.count room
+  units-full profile cell text to_come here state block room r within at_same row_same unended few full =
       let on = on_from pieces_of text in
       let more = from profile cell r.taken here.at (on here.at) in
       let g = gives to_come (given_in block here.count) more here.count room r.joined (given-many block here.count few) (omega arith) (inl full) in
@@ -96,7 +94,7 @@ module _ {A : Type 0} (from : Onward) (pieces_of : List A → List Decoded) wher
           within = omega arith;
           goes_on = λ _. record {
             taken = r.taken;
-            knows = subst (λ n. KnowsTaken cell lefts n r.taken) (sym row_same) r.knows;
+            knows = subst (λ n. KnowsTaken cell n r.taken) (sym row_same) r.knows;
             some = λ more. r.some (omega arith);
             joined = g.left ∙ ap (λ n. from profile cell r.taken n (on n)) (sym at_same);
           };
@@ -105,14 +103,14 @@ module _ {A : Type 0} (from : Onward) (pieces_of : List A → List Decoded) wher
       }
 
   -- all were given, and the text is at its end
-  pub units-ended : (profile : Profile) (cell : ℕ → Cell) (lefts : List Left) (text : List A) (to_come : List Break) (here : FillState) (state : State) (before block : List RawBreak)
+  pub units-ended : (profile : Profile) (cell : ℕ → Cell) (text : List A) (to_come : List Break) (here : FillState) (state : State) (before block : List RawBreak)
       (count room : ℕ)
-      → pieces_of [] ≡ [] → UnitsReachedBy from profile cell lefts (on_from pieces_of text) to_come here (given_in before here.count) → here.at ≡ length text → state.at ≡ here.at → state.ended ≡ 1
-      → ((taken : List ℕ) → KnowsTaken cell lefts here.row taken → (0 < here.row → 0 < length taken)
+      → pieces_of [] ≡ [] → UnitsReachedBy from profile cell (on_from pieces_of text) to_come here (given_in before here.count) → here.at ≡ length text → state.at ≡ here.at → state.ended ≡ 1
+      → ((taken : List ℕ) → KnowsTaken cell here.row taken → (0 < here.row → 0 < length taken)
       → given_in block count ≡ given_in before here.count ++ from profile cell taken (length text) [])
       → count ≤ length block → length block ≡ room
-      → UnitsGo from pieces_of profile cell lefts text to_come state (given_in block count) count room
-  units-ended profile cell lefts text to_come here state before block count room empty r ends at_same ended put few same_room =
+      → UnitsGo from pieces_of profile cell text to_come state (given_in block count) count room
+  units-ended profile cell text to_come here state before block count room empty r ends at_same ended put few same_room =
       let at = here.at in
       let none_left : pieces_of (drop at text) ≡ [] = ap (λ n. pieces_of (drop n text)) ends ∙ ap pieces_of (drop-length text) ∙ empty in
       let all : to_come ≡ given_in block count =
@@ -138,25 +136,24 @@ module _ {A : Type 0} (from : Onward) (pieces_of : List A → List Decoded) wher
 
   -- what a call gives of the breaks to come
   pub units-go : (profile : Profile) (cell : ℕ → Cell) (table : FlatTable) (text : List A) (old new : State) (to_come given : List Break) (count room : ℕ)
-      → ((cell : ℕ → Cell) (lefts : List Left) (to_come : List Break) → IsFlatBy lefts table cell
-      → UnitsReachedBy from profile cell lefts (on_from pieces_of text) to_come (from_state old) []
-      → UnitsGo from pieces_of profile cell lefts text to_come new given count room)
+      → ((cell : ℕ → Cell) (to_come : List Break) → IsFlatOf table cell
+      → UnitsReachedBy from profile cell (on_from pieces_of text) to_come (from_state old) []
+      → UnitsGo from pieces_of profile cell text to_come new given count room)
       → IsGoing profile old (length text) → (c : UnitsComeBy from pieces_of cell table text old to_come)
-      → UnitsGo from pieces_of profile cell c.lefts text to_come new given count room
+      → UnitsGo from pieces_of profile cell text to_come new given count room
   units-go profile cell table text old new to_come given count room goes going c =
       let same = same-profile c.profile profile old c.named going.named in
-      goes cell c.lefts to_come c.flat
-      (subst (λ p. UnitsReachedBy from p cell c.lefts (on_from pieces_of text) to_come (from_state old) []) same (c.onto.goes_on going.unended))
+      goes cell to_come c.flat
+      (subst (λ p. UnitsReachedBy from p cell (on_from pieces_of text) to_come (from_state old) []) same (c.onto.goes_on going.unended))
 
   -- and the others come from the next state on
   pub units-next : (profile : Profile) (cell : ℕ → Cell) (table : FlatTable) (text : List A) (old new : State) (to_come given : List Break) (count room : ℕ)
       → IsGoing profile old (length text) → new.profile ≡ old.profile → (c : UnitsComeBy from pieces_of cell table text old to_come)
-      → UnitsGo from pieces_of profile cell c.lefts text to_come new given count room
+      → UnitsGo from pieces_of profile cell text to_come new given count room
       → UnitsComeBy from pieces_of cell table text new (drop count to_come)
   units-next profile cell table text old new to_come given count room going kept c goes = record {
     profile = profile;
     named = ap profile_numbered kept ∙ going.named;
-    lefts = c.lefts;
     flat = c.flat;
     onto = goes.onto;
   }

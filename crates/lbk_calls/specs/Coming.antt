@@ -2,10 +2,9 @@
 use Rattle.std.specs.Prelude.{◌≡◌, ℕ, ◌+◌, ◌*◌, ◌<◌, ◌≤◌, List, [], length, drop, take, min, ◌⊎◌, Some, None}
 use Rattle.lbk_rules.specs.declared.Break.{Break}
 use Rattle.lbk_rules.specs.declared.Cell.{Cell}
-use Rattle.lbk_rules.specs.declared.Left.{Left}
 use Rattle.lbk_rules.specs.declared.FlatTable.{FlatTable}
 use Rattle.lbk_values.specs.declared.profile.Profile.{Profile}
-use Rattle.lbk_rules.specs.FlatTable.{IsFlatBy}
+use Rattle.lbk_rules.specs.FlatTable.{IsFlatOf}
 use Rattle.lbk_bytes.specs.declared.fill_state.FillState.{FillState}
 use Rattle.lbk_calls.specs.declared.interface.State.{State}
 use Rattle.lbk_calls.specs.State.{goes_on, plain, profile_numbered}
@@ -18,18 +17,17 @@ abbrev pub from_state : State → FillState
 from_state state = record { count = 0; row = state.row; at = state.at }
 
 -- from the state on these come of this text, if it has not given all
-pub record OntoBy (from : Onward) (profile : Profile) (cell : ℕ → Cell) (lefts : List Left) (text : List ℕ) (state : State) (to_come : List Break) : Type 0 where
+pub record OntoBy (from : Onward) (profile : Profile) (cell : ℕ → Cell) (text : List ℕ) (state : State) (to_come : List Break) : Type 0 where
   pub within : state.at ≤ length text
-  pub goes_on : state.ended ≡ 0 → ReachedBy from profile cell lefts text to_come (from_state state) []
+  pub goes_on : state.ended ≡ 0 → ReachedBy from profile cell text to_come (from_state state) []
   pub none_come : 0 < state.ended → to_come ≡ []
 
 -- the state came of the start of this text, and these are to come
 pub record ComesBy (from : Onward) (cell : ℕ → Cell) (table : FlatTable) (text : List ℕ) (state : State) (to_come : List Break) : Type 0 where
   pub profile : Profile
   pub named : profile_numbered state.profile ≡ Some profile
-  pub lefts : List Left
-  pub flat : IsFlatBy lefts table cell
-  pub onto : OntoBy from profile cell lefts text state to_come
+  pub flat : IsFlatOf table cell
+  pub onto : OntoBy from profile cell text state to_come
 
 -- no break comes from the state on: it names no profile, has given all, or is past the text
 abbrev pub IsSpent : State → ℕ → Type 0
@@ -42,16 +40,16 @@ pub record IsGoing (profile : Profile) (state : State) (len : ℕ) : Type 0 wher
   pub within : state.at ≤ len
 
 -- of those to come as many were given as there was room for, and the others come from the state on
-pub record GoesBy (from : Onward) (profile : Profile) (cell : ℕ → Cell) (lefts : List Left) (text : List ℕ) (to_come : List Break) (state : State) (given : List Break) (count room : ℕ) : Type 0 where
+pub record GoesBy (from : Onward) (profile : Profile) (cell : ℕ → Cell) (text : List ℕ) (to_come : List Break) (state : State) (given : List Break) (count room : ℕ) : Type 0 where
   pub counted : count ≡ min room (length to_come)
   pub front : given ≡ take count to_come
-  pub onto : OntoBy from profile cell lefts text state (drop count to_come)
+  pub onto : OntoBy from profile cell text state (drop count to_come)
 
 -- of the places from a byte on the bits tell at which those to come stand, and those behind come from the state on,
 -- which stands at the first scalar behind the places, or at the text's end
-pub record MarksBy (from : Onward) (profile : Profile) (cell : ℕ → Cell) (lefts : List Left) (text : List ℕ) (to_come : List Break) (place : ℕ) (state : State) (words : List ℕ) : Type 0 where
+pub record MarksBy (from : Onward) (profile : Profile) (cell : ℕ → Cell) (text : List ℕ) (to_come : List Break) (place : ℕ) (state : State) (words : List ℕ) : Type 0 where
   pub bits : (i : ℕ) → i < 64 * length words → is_marked words i ≡ stands_among (place + i) to_come
-  pub onto : OntoBy from profile cell lefts text state (from_on (place + 64 * length words) to_come)
+  pub onto : OntoBy from profile cell text state (from_on (place + 64 * length words) to_come)
   pub boundary : state.at ≡ boundary_from text place (place + 64 * length words)
 
 -- the breaks from a byte on, by what the number of a profile says of the text's end

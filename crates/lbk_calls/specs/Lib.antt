@@ -1,6 +1,9 @@
 -- What a reader has to believe.
 pub mod Columns
 pub mod Labels
+pub mod Padding
+pub mod Refused
+pub mod RuleTexts
 pub mod State
 -- What only carries proofs.
 pub mod Coming

@@ -3,10 +3,9 @@ use Rattle.std.specs.Prelude.{◌≡◌, ℕ, ◌<◌, ◌≤◌, List, [], leng
 use Rattle.bstr.specs.Utf8.{Decoded}
 use Rattle.lbk_rules.specs.declared.Break.{Break}
 use Rattle.lbk_rules.specs.declared.Cell.{Cell}
-use Rattle.lbk_rules.specs.declared.Left.{Left}
 use Rattle.lbk_rules.specs.declared.FlatTable.{FlatTable}
 use Rattle.lbk_values.specs.declared.profile.Profile.{Profile}
-use Rattle.lbk_rules.specs.FlatTable.{IsFlatBy}
+use Rattle.lbk_rules.specs.FlatTable.{IsFlatOf}
 use Rattle.lbk_bytes.specs.Reached.{Onward, onward, onward_all}
 use Rattle.lbk_units.specs.Reached.{UnitsReachedBy, on_from}
 use Rattle.lbk_calls.specs.declared.interface.State.{State}
@@ -14,18 +13,17 @@ use Rattle.lbk_calls.specs.Coming.{from_state}
 use Rattle.lbk_calls.specs.State.{profile_numbered}
 
 -- from the state on these come of this text, if it has not given all
-pub record UnitsOnto {A : Type 0} (from : Onward) (pieces_of : List A → List Decoded) (profile : Profile) (cell : ℕ → Cell) (lefts : List Left) (text : List A) (state : State) (to_come : List Break) : Type 0 where
+pub record UnitsOnto {A : Type 0} (from : Onward) (pieces_of : List A → List Decoded) (profile : Profile) (cell : ℕ → Cell) (text : List A) (state : State) (to_come : List Break) : Type 0 where
   pub within : state.at ≤ length text
-  pub goes_on : state.ended ≡ 0 → UnitsReachedBy from profile cell lefts (on_from pieces_of text) to_come (from_state state) []
+  pub goes_on : state.ended ≡ 0 → UnitsReachedBy from profile cell (on_from pieces_of text) to_come (from_state state) []
   pub none_come : 0 < state.ended → to_come ≡ []
 
 -- the state came of the start of this text, and these are to come
 pub record UnitsComeBy {A : Type 0} (from : Onward) (pieces_of : List A → List Decoded) (cell : ℕ → Cell) (table : FlatTable) (text : List A) (state : State) (to_come : List Break) : Type 0 where
   pub profile : Profile
   pub named : profile_numbered state.profile ≡ Some profile
-  pub lefts : List Left
-  pub flat : IsFlatBy lefts table cell
-  pub onto : UnitsOnto from pieces_of profile cell lefts text state to_come
+  pub flat : IsFlatOf table cell
+  pub onto : UnitsOnto from pieces_of profile cell text state to_come
 
 -- the same of breaks
 abbrev pub UnitsCome : {A : Type 0} → (List A → List Decoded) → (ℕ → Cell) → FlatTable → List A → State → List Break → Type 0
@@ -36,7 +34,7 @@ abbrev pub PositionsCome : {A : Type 0} → (List A → List Decoded) → (ℕ �
 PositionsCome pieces_of = UnitsComeBy onward_all pieces_of
 
 -- of those to come as many were given as there was room for, and the others come from the state on
-pub record UnitsGo {A : Type 0} (from : Onward) (pieces_of : List A → List Decoded) (profile : Profile) (cell : ℕ → Cell) (lefts : List Left) (text : List A) (to_come : List Break) (state : State) (given : List Break) (count room : ℕ) : Type 0 where
+pub record UnitsGo {A : Type 0} (from : Onward) (pieces_of : List A → List Decoded) (profile : Profile) (cell : ℕ → Cell) (text : List A) (to_come : List Break) (state : State) (given : List Break) (count room : ℕ) : Type 0 where
   pub counted : count ≡ min room (length to_come)
   pub front : given ≡ take count to_come
-  pub onto : UnitsOnto from pieces_of profile cell lefts text state (drop count to_come)
+  pub onto : UnitsOnto from pieces_of profile cell text state (drop count to_come)

@@ -5,11 +5,10 @@ ghost use Rattle.std.specs.Prelude.{take};
 ghost use Rattle.std.specs.Str.{IsUtf8, chars};
 ghost use Rattle.lbk_rules.specs.declared.Break.{Break};
 ghost use Rattle.lbk_rules.specs.declared.Cell.{Cell};
-ghost use Rattle.lbk_rules.specs.declared.Left.{Left};
 ghost use Rattle.lbk_values.specs.declared.profile.Profile.{Profile};
 ghost use Rattle.lbk_rules.specs.Breaks.{breaks};
 ghost use Rattle.lbk_rules.specs.Joins.{moved};
-ghost use Rattle.lbk_rules.specs.FlatTable.{IsFlatBy, IsFlatOf};
+ghost use Rattle.lbk_rules.specs.FlatTable.{IsFlatOf};
 ghost use Rattle.lbk_bytes.specs.Bytes.{breaks_of_bytes, breaks_of_part};
 ghost use Rattle.lbk_bytes.specs.Order.{AreInOrder};
 ghost use Rattle.lbk_bytes.specs.Reached.{ReachedBy};
@@ -19,7 +18,7 @@ ghost use Rattle.lbk_calls.specs.State.{part_start, plain, profile_numbered, sta
 
 use crate::interface::State;
 use lbk_bytes::{FillState, RawBreak, fill, goes_on, plain_number, profile_numbered, put_end};
-use lbk_rules::{FlatTable, Profile};
+use lbk_rules::{FlatTable, Profile, number_at, place_by};
 
 /// Puts the next breaks of a text (UAX #14, section 3) into the front of the block, from the state on, and returns
 /// how many: as many as the block holds, or all that are left. The text may be any bytes: each longest piece that
@@ -161,24 +160,24 @@ fn go_on<const MASKS: bool>(
     ensures onward { (state.old.at ≤ state.new.at) × (state.new.at ≤ length text.now) }
     ensures at_end { 0 < state.new.ended → state.new.at ≡ length text.now }
     ensures all { result < length out.old → 0 < state.new.ended }
-    ensures goes { (cell : ℕ → Cell) (lefts : List Left) (to_come : List Break) → IsFlatBy lefts table.now cell
-        → ReachedBy (onward_in state.old.profile) profile cell lefts text.now to_come (from_state (plain state.old)) []
-        → GoesBy (onward_in state.old.profile) profile cell lefts text.now to_come (plain state.new)
+    ensures goes { (cell : ℕ → Cell) (to_come : List Break) → IsFlatOf table.now cell
+        → ReachedBy (onward_in state.old.profile) profile cell text.now to_come (from_state (plain state.old)) []
+        → GoesBy (onward_in state.old.profile) profile cell text.now to_come (plain state.new)
         (given_in out.new result) result (length out.old) }
     ensures no_room { length out.old ≡ 0 → (result ≡ 0) × (state.new ≡ state.old) }
 {
     let start = FillState {
         count: 0,
-        row: state.row as usize,
+        row: place_by(state.row),
         at: state.at,
     };
     let here = fill::<MASKS>(table, profile, start, text, out);
-    state.row = here.row as u16;
+    state.row = number_at(here.row, state.row);
     state.at = here.at;
     if here.count == out.len() {
         return here.count;
     }
     state.ended = 1;
     let goes_on = goes_on(state.profile);
-    put_end(table, goes_on, here.row, out, here.count, text.len())
+    put_end(goes_on, here.row, out, here.count, text.len())
 }

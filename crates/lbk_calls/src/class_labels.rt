@@ -6,10 +6,10 @@ ghost use Rattle.lbk_rules.specs.declared.Cell.{Cell};
 ghost use Rattle.lbk_rules.specs.declared.Class.{Class};
 ghost use Rattle.lbk_rules.specs.FlatTable.{IsFlatOf};
 ghost use Rattle.lbk_rules.specs.ClassLabels.{class_label};
-ghost use Rattle.lbk_calls.specs.Labels.{filled};
+ghost use Rattle.lbk_calls.specs.Padding.{padded};
 
 use crate::interface::ClassLabel;
-use crate::labels::filled;
+use crate::padding::padded;
 use lbk_rules::{FlatTable, class_label};
 
 /// The line breaking class of a scalar value once rule LB1 has resolved it (UAX #14, sections 5.1 and 6.1), as `AL`:
@@ -18,13 +18,13 @@ use lbk_rules::{FlatTable, class_label};
 #[unsafe(no_mangle)]
 pub extern "C" fn lbk_class(table: &FlatTable, scalar: u32) -> ClassLabel
     ensures class { (cell : ℕ → Cell) → IsFlatOf table.now cell → IsScalar scalar
-        → result.text ≡ filled (class_label (cell scalar).class) }
-    ensures named { IsScalar scalar → (class : Class) × (result.text ≡ filled (class_label class)) }
-    ensures none { ¬ IsScalar scalar → result.text ≡ filled [] }
+        → result.text ≡ padded 4 (class_label (cell scalar).class) }
+    ensures named { IsScalar scalar → (class : Class) × (result.text ≡ padded 4 (class_label class)) }
+    ensures none { ¬ IsScalar scalar → result.text ≡ padded 4 [] }
 {
     match char::from_u32(scalar) {
         Some(c) => ClassLabel {
-            text: filled(class_label(table.cell(c).class).as_bytes()),
+            text: padded(class_label(table.cell(c).class).as_bytes()),
         },
         None => ClassLabel { text: [0; 4] },
     }

@@ -27,3 +27,10 @@ pub struct RuleLabel {
 pub struct ClassLabel {
     pub text: [u8; 4],
 }
+
+/// A text of at most 95 bytes: ASCII, filled up by zeros.
+#[repr(C)]
+#[derive(Clone, Copy)]
+pub struct Text {
+    pub text: [u8; 96],
+}

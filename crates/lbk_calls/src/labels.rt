@@ -1,9 +1,10 @@
 //! The label of a rule.
 
-ghost use Rattle.std.specs.Prelude.{◌≡◌, ◌≤◌, length};
-ghost use Rattle.lbk_calls.specs.Labels.{filled, label_numbered};
+ghost use Rattle.std.specs.Prelude.{◌≡◌};
+ghost use Rattle.lbk_calls.specs.Labels.{label_numbered};
 
 use crate::interface::RuleLabel;
+use crate::padding::padded;
 use lbk_rules::Rule;
 
 /// The name of the rule that has a number, without `LB`, as `8a` for 65: ASCII, filled up by zeros. For a number that
@@ -14,18 +15,8 @@ pub extern "C" fn lbk_label(rule: u8) -> RuleLabel
 {
     match Rule::numbered(rule) {
         Some(rule) => RuleLabel {
-            text: filled(rule.label().as_bytes()),
+            text: padded(rule.label().as_bytes()),
         },
         None => RuleLabel { text: [0; 4] },
     }
-}
-
-/// The bytes of a label, and zeros after them.
-pub(crate) fn filled(label: &[u8]) -> [u8; 4]
-    requires { length label.now ≤ 4 }
-    ensures { result ≡ filled label.now }
-{
-    let mut text = [0; 4];
-    text[..label.len()].copy_from_slice(label);
-    text
 }

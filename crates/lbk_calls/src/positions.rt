@@ -5,10 +5,9 @@ ghost use Rattle.std.specs.Str.{all_scalars, encode_utf8_all};
 ghost use Rattle.bstr.specs.Utf8.{pieces};
 ghost use Rattle.lbk_rules.specs.declared.Break.{Break};
 ghost use Rattle.lbk_rules.specs.declared.Cell.{Cell};
-ghost use Rattle.lbk_rules.specs.declared.Left.{Left};
 ghost use Rattle.lbk_values.specs.declared.profile.Profile.{Profile};
 ghost use Rattle.lbk_rules.specs.Joins.{moved};
-ghost use Rattle.lbk_rules.specs.FlatTable.{IsFlatBy, IsFlatOf};
+ghost use Rattle.lbk_rules.specs.FlatTable.{IsFlatOf};
 ghost use Rattle.lbk_bytes.specs.Bytes.{breaks_of_bytes};
 ghost use Rattle.lbk_bytes.specs.Order.{ArePositionsInOrder};
 ghost use Rattle.lbk_bytes.specs.Reached.{onward_all};
@@ -22,12 +21,9 @@ ghost use Rattle.lbk_calls.specs.UnitsComing.{PositionsCome, UnitsGo};
 
 use crate::breaking::going_profile;
 use crate::interface::State;
-use lbk_bytes::{END, FillState, RawBreak};
-use lbk_rules::{FlatTable, Profile};
+use lbk_bytes::{END, FillState, RawBreak, START};
+use lbk_rules::{FlatTable, Profile, number_at, place_by};
 use lbk_units::{Unit, fill_positions, put_position};
-
-/// The number of the verdict at the start of a text, by rule 2.
-const START: u16 = 0;
 
 /// Puts the next positions of a text into the front of the block, from the state on, and returns how many: as many as
 /// the block holds, or all that are left. A text of n scalars has n + 1 positions (UAX #14, section 6): one before
@@ -147,25 +143,25 @@ fn go_on<U: Unit>(
     ensures onward { (state.old.at ≤ state.new.at) × (state.new.at ≤ length text.now) }
     ensures at_end { 0 < state.new.ended → state.new.at ≡ length text.now }
     ensures all { result < length out.old → 0 < state.new.ended }
-    ensures goes { (cell : ℕ → Cell) (lefts : List Left) (to_come : List Break) → IsFlatBy lefts table.now cell
-        → UnitsReachedBy onward_all profile cell lefts (on_from U.pieces_of text.now) to_come (from_state state.old) []
-        → UnitsGo onward_all U.pieces_of profile cell lefts text.now to_come state.new (given_in out.new result)
+    ensures goes { (cell : ℕ → Cell) (to_come : List Break) → IsFlatOf table.now cell
+        → UnitsReachedBy onward_all profile cell (on_from U.pieces_of text.now) to_come (from_state state.old) []
+        → UnitsGo onward_all U.pieces_of profile cell text.now to_come state.new (given_in out.new result)
         result (length out.old) }
     ensures no_room { length out.old ≡ 0 → (result ≡ 0) × (state.new ≡ state.old) }
 {
     let start = FillState {
         count: 0,
-        row: state.row as usize,
+        row: place_by(state.row),
         at: state.at,
     };
     let here = fill_positions(table, profile, start, text, out);
-    state.row = here.row as u16;
+    state.row = number_at(here.row, state.row);
     state.at = here.at;
     if here.count == out.len() {
         return here.count;
     }
     state.ended = 1;
     let row = here.row;
-    let code = if row == 0 { START } else { END };
-    put_position(out, here.count, text.len(), code)
+    let shown = if row == 0 { START } else { END };
+    put_position(out, here.count, text.len(), shown)
 }

@@ -4,11 +4,10 @@ ghost use Rattle.std.specs.Prelude.{◌≡◌, ℕ, suc, ◌<◌, ◌≤◌, ◌
 ghost use Rattle.std.specs.Str.{all_scalars};
 ghost use Rattle.lbk_rules.specs.declared.Break.{Break};
 ghost use Rattle.lbk_rules.specs.declared.Cell.{Cell};
-ghost use Rattle.lbk_rules.specs.declared.Left.{Left};
 ghost use Rattle.lbk_values.specs.declared.profile.Profile.{Profile};
 ghost use Rattle.lbk_rules.specs.Breaks.{breaks};
 ghost use Rattle.lbk_rules.specs.Joins.{moved};
-ghost use Rattle.lbk_rules.specs.FlatTable.{IsFlatBy, IsFlatOf};
+ghost use Rattle.lbk_rules.specs.FlatTable.{IsFlatOf};
 ghost use Rattle.lbk_bytes.specs.Order.{AreInOrder};
 ghost use Rattle.lbk_bytes.specs.Reached.{onward};
 ghost use Rattle.lbk_bytes.specs.Shown.{given_in};
@@ -22,7 +21,7 @@ ghost use Rattle.lbk_calls.specs.UnitsComing.{UnitsCome, UnitsGo};
 use crate::breaking::going_profile;
 use crate::interface::State;
 use lbk_bytes::{FillState, RawBreak, put_end};
-use lbk_rules::{FlatTable, Profile};
+use lbk_rules::{FlatTable, Profile, number_at, place_by};
 use lbk_units::{Unit, fill_units};
 
 /// Puts the next breaks of a text in UTF-16 into the front of the block, as `lbk_breaks` does of one in UTF-8, and
@@ -139,23 +138,23 @@ fn go_on<U: Unit>(
     ensures onward { (state.old.at ≤ state.new.at) × (state.new.at ≤ length text.now) }
     ensures at_end { 0 < state.new.ended → state.new.at ≡ length text.now }
     ensures all { result < length out.old → 0 < state.new.ended }
-    ensures goes { (cell : ℕ → Cell) (lefts : List Left) (to_come : List Break) → IsFlatBy lefts table.now cell
-        → UnitsReached profile cell lefts (on_from U.pieces_of text.now) to_come (from_state state.old) []
-        → UnitsGo onward U.pieces_of profile cell lefts text.now to_come state.new (given_in out.new result) result
+    ensures goes { (cell : ℕ → Cell) (to_come : List Break) → IsFlatOf table.now cell
+        → UnitsReached profile cell (on_from U.pieces_of text.now) to_come (from_state state.old) []
+        → UnitsGo onward U.pieces_of profile cell text.now to_come state.new (given_in out.new result) result
         (length out.old) }
     ensures no_room { length out.old ≡ 0 → (result ≡ 0) × (state.new ≡ state.old) }
 {
     let start = FillState {
         count: 0,
-        row: state.row as usize,
+        row: place_by(state.row),
         at: state.at,
     };
     let here = fill_units(table, profile, start, text, out);
-    state.row = here.row as u16;
+    state.row = number_at(here.row, state.row);
     state.at = here.at;
     if here.count == out.len() {
         return here.count;
     }
     state.ended = 1;
-    put_end(table, false, here.row, out, here.count, text.len())
+    put_end(false, here.row, out, here.count, text.len())
 }

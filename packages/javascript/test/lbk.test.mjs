@@ -12,7 +12,7 @@ import { runInNewContext } from "node:vm";
 import { fileURLToPath } from "node:url";
 import { gunzipSync } from "node:zlib";
 import { Table } from "../lbk.js";
-import { FILES, tableOf } from "../property_files.js";
+import { FILES, packedFrom } from "../property_files.js";
 import { Words } from "../words.js";
 
 const saved = readFileSync(process.env.LBK_TABLE);
@@ -102,8 +102,8 @@ test("the words of a string", () => {
 
 test("the table of four property files is the one of the library, byte for byte", async () => {
   const files = FILES.map((name) => readFileSync(join(process.env.LBK_UNICODE, name)));
-  const known = gunzipSync(readFileSync(new URL("../lbk.steps.gz", import.meta.url)));
-  assert.equal(Buffer.compare(tableOf(files, known), saved), 0);
+  const known = gunzipSync(readFileSync(new URL("../lbk.kinds.gz", import.meta.url)));
+  assert.equal(Buffer.compare(packedFrom(files, known), table.pack()), 0);
   for (const given of [process.env.LBK_UNICODE, `${process.env.LBK_UNICODE}/`, files]) {
     assert.deepEqual([...(await Table.fromFiles(given)).breaks("a « b »")], [...table.breaks("a « b »")]);
   }
@@ -164,6 +164,12 @@ test("the class of a code point, as rule LB1 resolves it", () => {
   for (const wrong of [-1, 0x110000, 1.5, "a", undefined]) assert.throws(() => table.classOf(wrong), RangeError);
 });
 
+test("what a rule says, by its number and its label", () => {
+  assert.equal(table.ruleText(144), "A break is allowed after spaces.");
+  for (const { rule } of table.positions("a b")) assert.ok(table.ruleText(rule).endsWith("."), rule);
+  for (const wrong of [0, 255, 256, -1, 1.5, "99", "", undefined]) assert.equal(table.ruleText(wrong), "");
+});
+
 test("the second profile", () => {
   const rules = (profile) => [...table.positions("a « b », c", { profile })].map((it) => it.rule).join(" ");
   assert.notEqual(rules(1), rules(2));
@@ -201,7 +207,8 @@ function pack(table) {
 test("a packed table gives the positions that the table gives", async () => {
   const { status, packed } = pack(saved);
   assert.equal(status, 0);
-  assert.ok(packed.length < 5000);
+  assert.ok(packed.length < 2500);
+  assert.deepEqual(new Uint8Array(gunzipSync(packed)), table.pack());
   assert.deepEqual(pack(process.env.LBK_UNICODE).packed, packed);
   const text = "a « b », 「きょう」 1 234,50 € 👩🏽\r\n";
   for (const source of [packed, gunzipSync(packed)]) {

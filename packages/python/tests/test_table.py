@@ -200,6 +200,22 @@ class Kept(unittest.TestCase):
         self.assertRaises(TypeError, Table.from_bytes, 3)
         self.assertRaises(FileNotFoundError, Table.open, self.name + ".nowhere")
 
+    def test_a_packed_table_is_unpacked(self):
+        packed = self.table.pack()
+        self.assertLess(len(packed), 200)
+        for form in (packed, bytearray(packed), memoryview(packed)):
+            self.assertEqual(Table.unpack(form), self.table)
+        other_layout = packed[:3] + bytes([packed[3] + 1]) + packed[4:]
+        for wrong, said in (
+            (b"", "are not a packed table"),
+            (self.table.to_bytes(), "are not a packed table"),
+            (other_layout, "by another version"),
+            (packed[:-1], "changed or cut"),
+            (packed[:-1] + b"x", "changed or cut"),
+        ):
+            self.assertRaisesRegex(ValueError, said, Table.unpack, wrong)
+        self.assertRaises(TypeError, Table.unpack, "text")
+
     def test_a_table_can_be_pickled(self):
         self.table.save(self.name)
         for table, most in ((self.table, len(self.table.to_bytes()) + 1000), (Table.open(self.name), 1000)):

@@ -1,5 +1,6 @@
 //! Breaks of a text, and the segments between them.
 
+use alloc::string::String;
 use core::fmt;
 use core::iter::FusedIterator;
 use core::str;
@@ -32,6 +33,13 @@ impl Rule {
     /// The rule's number, which is that of the header's constants.
     pub fn number(self) -> u8 {
         self.0
+    }
+
+    /// What the rule says, in one line of English.
+    pub fn text(self) -> String {
+        // SAFETY: the call takes any number.
+        let text = unsafe { calls::lbk_rule_text(self.0) };
+        calls::shown(&text.text).into()
     }
 }
 

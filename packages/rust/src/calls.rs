@@ -3,7 +3,7 @@
 use core::mem::size_of;
 
 /// `sizeof(lbk_table)`, in numbers of 8 bytes.
-const TABLE_WORDS: usize = 205_226;
+const TABLE_WORDS: usize = 139_350;
 
 /// `LBK_NO`
 pub const NO: u8 = 0;
@@ -166,6 +166,7 @@ pub fn shown(text: &[u8]) -> &str {
 }
 
 #[repr(C)]
+#[derive(Clone, Copy)]
 pub struct Text {
     pub text: [u8; 96],
 }
@@ -230,6 +231,7 @@ extern "C" {
         emoji: *const u8,
         emoji_size: usize,
     ) -> Fault;
+    pub fn lbk_is_cut(file: *const u8, size: usize) -> bool;
     pub fn lbk_cause_text(cause: u32) -> Text;
     pub fn lbk_file_name(file: u32) -> Text;
     pub fn lbk_breaks(
@@ -276,6 +278,9 @@ extern "C" {
         room: usize,
     ) -> usize;
     pub fn lbk_label(rule: u8) -> RuleLabel;
+    pub fn lbk_rule_text(rule: u8) -> Text;
+    pub fn lbk_pack(table: *const Table, bytes: *mut u8, room: usize) -> usize;
+    pub fn lbk_unpack(table: *mut Table, bytes: *const u8, size: usize) -> u32;
     pub fn lbk_class(table: *const Table, scalar: u32) -> ClassLabel;
     pub fn lbk_check(table: *const Table) -> bool;
     pub fn lbk_breaks_utf16(

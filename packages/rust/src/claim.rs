@@ -3,7 +3,7 @@
 use core::fmt;
 
 use crate::calls::{self, shown};
-use crate::fault::{File, PUBLISHED};
+use crate::fault::File;
 
 /// What a file is that is not the one of its name that Unicode 15.0.0 published.
 #[derive(Clone, Copy, PartialEq, Eq, Debug)]
@@ -28,8 +28,10 @@ impl Claim {
 /// What a file of any version begins with, and what stands before its version.
 fn words_before_version(file: File) -> (&'static [u8], &'static [u8]) {
     match file {
+        File::LineBreak => (b"# LineBreak-", b"# LineBreak-"),
+        File::EastAsian => (b"# EastAsianWidth-", b"# EastAsianWidth-"),
+        File::Category => (b"# DerivedGeneralCategory-", b"# DerivedGeneralCategory-"),
         File::Emoji => (b"# emoji-data", b"\n# Used with Emoji Version "),
-        file => (PUBLISHED[file as usize], PUBLISHED[file as usize]),
     }
 }
 

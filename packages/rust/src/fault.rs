@@ -24,7 +24,10 @@ impl Fault {
             (File::Category, files.category),
             (File::Emoji, files.emoji),
         ];
-        let (file, _) = all.into_iter().find(|(_, bytes)| is_cut(bytes))?;
+        let (file, _) = all.into_iter().find(|(_, bytes)| {
+            // SAFETY: the slice is as long as is said.
+            unsafe { calls::lbk_is_cut(bytes.as_ptr(), bytes.len()) }
+        })?;
         Some(Fault {
             file: Some(file),
             line: 0,
@@ -40,26 +43,6 @@ impl Fault {
             cause: Cause::numbered(fault.cause)?,
         })
     }
-}
-
-/// What the first lines of published files begin with.
-pub(crate) const PUBLISHED: [&[u8]; 4] = [
-    b"# LineBreak-",
-    b"# EastAsianWidth-",
-    b"# DerivedGeneralCategory-",
-    b"# emoji-data.",
-];
-
-/// Whether the first line claims a name that Unicode published, and the last is not its end.
-fn is_cut(bytes: &[u8]) -> bool {
-    let blank = |byte: &u8| byte.is_ascii_whitespace();
-    let size = bytes
-        .iter()
-        .rposition(|byte| !blank(byte))
-        .map_or(0, |at| at + 1);
-    let last = bytes[..size].rsplit(|&byte| byte == b'\n').next();
-    let is_end = last == Some(b"# EOF") || last == Some(b"#EOF");
-    PUBLISHED.iter().any(|name| bytes.starts_with(name)) && !is_end
 }
 
 /// One of the four files.
@@ -143,3 +126,39 @@ impl fmt::Display for Fault {
 
 #[cfg(feature = "std")]
 impl std::error::Error for Fault {}
+
+/// Why bytes are not unpacked.
+#[derive(Clone, Copy, PartialEq, Eq, Debug)]
+pub enum NotPacked {
+    /// They do not begin as a packed table does.
+    Foreign,
+    /// A version with another layout packed them.
+    OtherLayout,
+    /// They were changed or cut.
+    Damaged,
+}
+
+/// The cause of lbk.h that is `NotPacked::Foreign`. The others follow it.
+const NOT_PACKED: u32 = 11;
+
+impl NotPacked {
+    pub(crate) fn numbered(cause: u32) -> Option<NotPacked> {
+        match cause {
+            0 => None,
+            NOT_PACKED => Some(NotPacked::Foreign),
+            12 => Some(NotPacked::OtherLayout),
+            _ => Some(NotPacked::Damaged),
+        }
+    }
+}
+
+impl fmt::Display for NotPacked {
+    fn fmt(&self, f: &mut fmt::Formatter<'_>) -> fmt::Result {
+        // SAFETY: the call takes any number.
+        let text = unsafe { calls::lbk_cause_text(NOT_PACKED + *self as u32) };
+        f.write_str(shown(&text.text))
+    }
+}
+
+#[cfg(feature = "std")]
+impl std::error::Error for NotPacked {}

@@ -50,7 +50,7 @@ pub use breaks::{
 pub use chunks::{Chunk, ChunkText, Chunks, LimitError, Limits};
 #[cfg(feature = "std")]
 pub use claim::Claim;
-pub use fault::{Cause, Fault, File};
+pub use fault::{Cause, Fault, File, NotPacked};
 #[cfg(feature = "std")]
 pub use find::NotFound;
 #[cfg(feature = "std")]

@@ -2,13 +2,15 @@
 
 use alloc::alloc::{alloc_zeroed, handle_alloc_error, Layout};
 use alloc::boxed::Box;
+use alloc::vec;
+use alloc::vec::Vec;
 use core::fmt;
 use core::mem::{align_of, size_of};
-use core::slice;
+use core::{ptr, slice};
 
 use crate::breaks::{Breaks, Positions, Profile, Segments};
 use crate::calls;
-use crate::fault::Fault;
+use crate::fault::{Fault, NotPacked};
 use crate::processor;
 
 /// The bytes of four files of the Unicode Character Database.
@@ -51,16 +53,7 @@ impl Table {
     }
 
     fn read_by(call: calls::Reading, files: Files<'_>) -> Result<Box<Table>, Fault> {
-        processor::require();
-        let layout = Layout::new::<Table>();
-        // SAFETY: the layout has a size, and zeros are a value of each field, which are numbers.
-        let mut table = unsafe {
-            let place = alloc_zeroed(layout) as *mut Table;
-            if place.is_null() {
-                handle_alloc_error(layout);
-            }
-            Box::from_raw(place)
-        };
+        let mut table = Table::zeros();
         // SAFETY: the slices are as long as is said, and the table is borrowed by nobody else.
         let fault = unsafe {
             call(
@@ -78,6 +71,40 @@ impl Table {
         match Fault::from_c(fault) {
             None => Ok(table),
             Some(fault) => Err(fault),
+        }
+    }
+
+    fn zeros() -> Box<Table> {
+        processor::require();
+        let layout = Layout::new::<Table>();
+        // SAFETY: the layout has a size, and zeros are a value of each field, which are numbers.
+        unsafe {
+            let place = alloc_zeroed(layout) as *mut Table;
+            if place.is_null() {
+                handle_alloc_error(layout);
+            }
+            Box::from_raw(place)
+        }
+    }
+
+    /// The table in a packed form of a few kilobytes, for [`Table::unpack`]: the same on every machine.
+    pub fn pack(&self) -> Vec<u8> {
+        // SAFETY: the table is borrowed for reading, and there is no room.
+        let size = unsafe { calls::lbk_pack(&self.0, ptr::null_mut(), 0) };
+        let mut packed = vec![0; size];
+        // SAFETY: the room is as large as is said.
+        unsafe { calls::lbk_pack(&self.0, packed.as_mut_ptr(), size) };
+        packed
+    }
+
+    /// The table that [`Table::pack`] packed.
+    pub fn unpack(packed: &[u8]) -> Result<Box<Table>, NotPacked> {
+        let mut table = Table::zeros();
+        // SAFETY: the slice is as long as is said, and the table is borrowed by nobody else.
+        let cause = unsafe { calls::lbk_unpack(&mut table.0, packed.as_ptr(), packed.len()) };
+        match NotPacked::numbered(cause) {
+            None => Ok(table),
+            Some(why) => Err(why),
         }
     }
 

@@ -1,6 +1,6 @@
 //! The crate over small files of its own.
 
-use lbk::{Break, Cause, Fault, File, Files, Kind, LoadError, Profile, Segment, Table};
+use lbk::{Break, Cause, Fault, File, Files, Kind, LoadError, NotPacked, Profile, Segment, Table};
 use std::{env, fs, thread};
 
 const FILES: Files = Files {
@@ -35,6 +35,44 @@ fn breaks_of_a_text() {
         ["3 May 18", "6 Must 5", "9 May 31", "10 Must 3"]
     );
     assert_eq!(table().breaks("").count(), 0);
+}
+
+#[test]
+fn a_rule_says_what_it_says() {
+    let texts: Vec<_> = table()
+        .breaks("a b")
+        .map(|found| found.rule.text())
+        .collect();
+    assert_eq!(
+        texts,
+        [
+            "A break is allowed after spaces.",
+            "Always break at the end of the text."
+        ]
+    );
+}
+
+#[test]
+fn a_packed_table_is_unpacked() {
+    let table = table();
+    let mut packed = table.pack();
+    assert!(packed.len() < 200);
+    let unpacked = Table::unpack(&packed).expect("it was packed");
+    assert!(unpacked.as_bytes() == table.as_bytes());
+    let refusal = |bytes: &[u8]| Table::unpack(bytes).expect_err("it is refused");
+    assert_eq!(refusal(b""), NotPacked::Foreign);
+    assert_eq!(refusal(table.as_bytes()), NotPacked::Foreign);
+    assert_eq!(refusal(&packed[..packed.len() - 1]), NotPacked::Damaged);
+    packed[3] += 1;
+    assert_eq!(refusal(&packed), NotPacked::OtherLayout);
+    assert_eq!(
+        refusal(b"").to_string(),
+        "these bytes are not a packed table"
+    );
+    assert_eq!(
+        NotPacked::Damaged.to_string(),
+        "the packed table was changed or cut"
+    );
 }
 
 #[test]

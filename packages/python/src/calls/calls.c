@@ -53,6 +53,18 @@ static PyObject *check(PyObject *Py_UNUSED(module), PyObject *memory)
     return PyBool_FromLong(whole);
 }
 
+/* is_cut(file): whether its first line claims a published name, and its last is not the end. */
+static PyObject *is_cut(PyObject *Py_UNUSED(module), PyObject *file)
+{
+    Py_buffer view;
+    utf8_text bytes;
+    if (!hold_bytes(file, &bytes, &view))
+        return NULL;
+    bool found = lbk_is_cut(bytes.bytes, bytes.size);
+    PyBuffer_Release(&view);
+    return PyBool_FromLong(found);
+}
+
 /* label(rule): its name without LB, or an empty str. */
 static PyObject *label(PyObject *Py_UNUSED(module), PyObject *rule)
 {
@@ -60,6 +72,52 @@ static PyObject *label(PyObject *Py_UNUSED(module), PyObject *rule)
     if (PyErr_Occurred())
         return NULL;
     return PyUnicode_FromString(number > UINT8_MAX ? "" : lbk_label((uint8_t)number).text);
+}
+
+/* rule_text(rule): what it says in English, or an empty str. */
+static PyObject *rule_text(PyObject *Py_UNUSED(module), PyObject *rule)
+{
+    unsigned long number = PyLong_AsUnsignedLong(rule);
+    if (PyErr_Occurred())
+        return NULL;
+    return PyUnicode_FromString(number > UINT8_MAX ? "" : lbk_rule_text((uint8_t)number).text);
+}
+
+/* pack(table): its packed form, as bytes. */
+static PyObject *pack(PyObject *Py_UNUSED(module), PyObject *memory)
+{
+    Py_buffer view;
+    const lbk_table *table = hold_table(memory, false, &view);
+    if (table == NULL)
+        return NULL;
+    size_t size = lbk_pack(table, NULL, 0);
+    PyObject *packed = PyBytes_FromStringAndSize(NULL, (Py_ssize_t)size);
+    if (packed != NULL)
+        lbk_pack(table, PyBytes_AsString(packed), size);
+    PyBuffer_Release(&view);
+    return packed;
+}
+
+/* unpack(table, data): fills a writable table of its packed form, and returns a cause. */
+static PyObject *unpack(PyObject *Py_UNUSED(module), PyObject *const *given, Py_ssize_t count)
+{
+    Py_buffer table_view, view;
+    utf8_text packed;
+    if (!has_arguments(count, 2))
+        return NULL;
+    lbk_table *table = hold_table(given[0], true, &table_view);
+    if (table == NULL)
+        return NULL;
+    bool is_held = hold_bytes(given[1], &packed, &view);
+    uint32_t cause = LBK_CAUSE_NONE;
+    if (is_held) {
+        PyThreadState *unlocked = PyEval_SaveThread();
+        cause = lbk_unpack(table, packed.bytes, packed.size);
+        PyEval_RestoreThread(unlocked);
+        PyBuffer_Release(&view);
+    }
+    PyBuffer_Release(&table_view);
+    return is_held ? PyLong_FromUnsignedLong(cause) : NULL;
 }
 
 /* cause_text(cause): what it says in English, or an empty str. */
@@ -179,7 +237,11 @@ static PyObject *name_numbers(PyObject *module, PyObject *const *given, Py_ssize
 static PyMethodDef methods[] = {
     {"read", (PyCFunction)(void (*)(void))read_files, METH_FASTCALL, NULL},
     {"check", check, METH_O, NULL},
+    {"is_cut", is_cut, METH_O, NULL},
     {"label", label, METH_O, NULL},
+    {"rule_text", rule_text, METH_O, NULL},
+    {"pack", pack, METH_O, NULL},
+    {"unpack", (PyCFunction)(void (*)(void))unpack, METH_FASTCALL, NULL},
     {"cause_text", cause_text, METH_O, NULL},
     {"file_name", file_name, METH_O, NULL},
     {"name_numbers", (PyCFunction)(void (*)(void))name_numbers, METH_FASTCALL, NULL},

@@ -18,12 +18,6 @@ _EMOJI_VERSION = b"\n# Used with Emoji Version "
 _NUMBERS = re.compile(rb"(\d+)\.(\d+)(?:\.(\d+))?")
 
 
-def is_cut(data: bytes) -> bool:
-    """Whether the first line claims a name that Unicode published, and the last is not its end."""
-    last = data.rstrip().rpartition(b"\n")[2]
-    return data.startswith((*_NAMES[:3], _NAMES[3] + b".")) and last not in (b"# EOF", b"#EOF")
-
-
 def _version_in(name: bytes, data: bytes) -> "str | None":
     words = _EMOJI_VERSION if name == _NAMES[3] else name
     at = data.find(words)

@@ -3,7 +3,6 @@
 import enum
 
 from . import _calls
-from ._rule_texts import TEXTS
 
 
 class Labelled(enum.IntEnum):
@@ -17,7 +16,7 @@ class Labelled(enum.IntEnum):
     @property
     def text(self) -> str:
         """What the rule says, in one line."""
-        return TEXTS[self.label]
+        return _calls.rule_text(self)
 
     def __str__(self) -> str:
         return self.label

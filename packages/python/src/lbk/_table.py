@@ -13,7 +13,7 @@ from typing import Any, Protocol, Self, TypeAlias, overload
 from . import _calls, _database
 from ._calls import Break
 from ._chunks import Chunks, Unit, is_in_bytes, limits_of
-from ._claims import CUT, WHERE, claim_text, is_cut
+from ._claims import CUT, WHERE, claim_text
 from ._fault import Fault
 from ._numbers import Cause
 from ._passages import Passages
@@ -109,7 +109,7 @@ class Table:
         (NOT_PUBLISHED), too: its first line claims a name that Unicode published, as
         `# LineBreak-15.0.0.txt`, and its last is not `# EOF`."""
         files = [_unchanging(one) for one in (line_break, east_asian, category, emoji)]
-        cut = next((number for number, one in enumerate(files, 1) if is_cut(one)), None) if strict else None
+        cut = next((number for number, one in enumerate(files, 1) if _calls.is_cut(one)), None) if strict else None
         if cut is not None:
             raise Fault(cut, 0, Cause.NOT_PUBLISHED, "", CUT)
         return cls._of(_read(files, False))
@@ -141,6 +141,21 @@ class Table:
     def to_bytes(self) -> bytes:
         """The bytes of the table, for `from_bytes`."""
         return bytes(self._memory)
+
+    def pack(self) -> bytes:
+        """The table in a packed form of a few kilobytes, for `unpack`: the same on every
+        machine."""
+        return _calls.pack(self._memory)
+
+    @classmethod
+    def unpack(cls, data: Bytes) -> Self:
+        """The table that `pack` packed. Raises ValueError where the bytes are no packed table of
+        this version."""
+        memory = bytearray(_calls.TABLE_SIZE)
+        cause = _calls.unpack(memory, _unchanging(data))
+        if cause != Cause.NONE:
+            raise ValueError(_calls.cause_text(cause))
+        return cls._of(memory)
 
     def save(self, name: Name) -> None:
         """Puts the table into a file, for `open`. A file of this name is replaced in one step."""

@@ -11,7 +11,6 @@ pub returns-clause-breaks : goal.returns-clause-breaks
 returns-clause-breaks c = λ cell table text other state to_come comes within same. record {
   profile = comes.profile;
   named = comes.named;
-  lefts = comes.lefts;
   flat = comes.flat;
   onto = record {
     within = within;

@@ -1,30 +1,34 @@
-use Rattle.std.proofs.Common.{length, refl, subst, inl, arith}
+use Rattle.std.proofs.Common.{[], length, refl, sym, subst, inl, arith}
 use Rattle.lbk_calls.specs.declared.interface.State.{State}
 use Rattle.lbk_bytes.specs.Reached.{IsInOrder, onward}
+use Rattle.lbk_units.specs.Reached.{UnitsReached, on_from}
 use Rattle.lbk_calls.proofs.UnitsComingLemmas.{units-ended, units-full}
 use Rattle.lbk_bytes.proofs.OrderLemmas.{AreInOrder-none, AreInOrder-wider}
 use Rattle.lbk_calls.proofs.unit_breaking.go_on.Goals as goal
 
 pub returns-then-here-out-clause-goes : goal.returns-then-here-out-clause-goes
-returns-then-here-out-clause-goes g c = λ cell lefts to_come flat start.
+returns-then-here-out-clause-goes g c = λ cell to_come flat start.
     let fill = c.fill_units-here in
     let within = fill.ensures.within in
     let old = c.args.state.now in
-    let state : State = record { at = fill.result.at; row = fill.result.row; profile = old.profile; ended = old.ended } in
-    units-full onward g.U.Unit.pieces_of c.args.profile cell lefts c.args.text.now to_come fill.result state fill.new.out (length c.args.out.now)
-    (fill.ensures.reached cell lefts to_come flat start) within.2 refl refl c.requires.unended (omega (arith, within.0)) (omega arith)
+    let state : State = record { at = fill.result.at; row = c.number_at-state.result; profile = old.profile; ended = old.ended } in
+    units-full onward g.U.Unit.pieces_of c.args.profile cell c.args.text.now to_come fill.result state fill.new.out (length c.args.out.now)
+    (fill.ensures.reached cell to_come flat
+    (subst (λ n. UnitsReached c.args.profile cell (on_from g.U.Unit.pieces_of c.args.text.now) to_come (record { count = 0; row = n; at = old.at }) []) (sym (c.place_by.ensures.same start.knows.0)) start)) within.2 refl
+    (c.number_at-state.ensures.same start.knows.0) c.requires.unended (omega (arith, within.0)) (omega arith)
 
 pub returns-clause-goes : goal.returns-clause-goes
-returns-clause-goes g c = λ cell lefts to_come flat start.
+returns-clause-goes g c = λ cell to_come flat start.
     let fill = c.fill_units-here in
     let within = fill.ensures.within in
     let put = c.put_end in
     let old = c.args.state.now in
-    let state : State = record { at = fill.result.at; row = fill.result.row; profile = old.profile; ended = 1 } in
+    let state : State = record { at = fill.result.at; row = c.number_at-state.result; profile = old.profile; ended = 1 } in
     let ends = fill.ensures.stops (omega arith) in
-    units-ended onward g.U.Unit.pieces_of c.args.profile cell lefts c.args.text.now to_come fill.result state fill.new.out put.new.out put.result (length c.args.out.now)
-    g.met.U.Unit.ends (fill.ensures.reached cell lefts to_come flat start) ends refl refl
-    (λ taken knows some. put.ensures.front c.args.profile cell lefts taken flat knows some)
+    units-ended onward g.U.Unit.pieces_of c.args.profile cell c.args.text.now to_come fill.result state fill.new.out put.new.out put.result (length c.args.out.now)
+    g.met.U.Unit.ends (fill.ensures.reached cell to_come flat
+    (subst (λ n. UnitsReached c.args.profile cell (on_from g.U.Unit.pieces_of c.args.text.now) to_come (record { count = 0; row = n; at = old.at }) []) (sym (c.place_by.ensures.same start.knows.0)) start)) ends refl refl
+    (λ taken knows some. put.ensures.front c.args.profile cell taken knows some)
     (omega (arith, put.ensures.within)) (omega arith)
 
 pub returns-then-here-out-clause-in_order : goal.returns-then-here-out-clause-in_order

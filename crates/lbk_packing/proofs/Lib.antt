@@ -1,0 +1,3 @@
+mod FillingLemmas
+mod PackingLemmas
+mod RunsLemmas
